@@ -1,0 +1,21 @@
+use Rattle.std.specs.Prelude.{◌≡◌, Result, Err, Ok}
+use Rattle.parallel_fault.specs.declared.fault.Fault.{Fault}
+use Rattle.parallel_fault.specs.declared.fault.Trouble.{Trouble}
+use Rattle.parallel_fault.specs.declared.fault.Fault.TheVariants.{Memory}
+use Rattle.parallel_fault.specs.declared.fault.Trouble.TheVariants.{Closure}
+use Rattle.parallel_fault.specs.declared.fault.Trouble.TheVariants.{Fault as OfFault}
+
+-- a fact of the closure's error, where the trouble is one
+abbrev pub IfClosure : {E : Type 0} → Trouble E → (E → Type 0) → Type 0
+IfClosure (Closure e) P = P e
+IfClosure (OfFault f) P = Unit {0}
+
+-- a fact of the refusal, where the trouble is one
+abbrev pub IfFault : {E : Type 0} → Trouble E → (Fault → Type 0) → Type 0
+IfFault (Closure e) P = Unit {0}
+IfFault (OfFault f) P = P f
+
+-- no fault but want of memory
+abbrev pub IsMemoryOnErr : {T : Type 0} → Result T Fault → Type 0
+IsMemoryOnErr (Ok _) = Unit {0}
+IsMemoryOnErr (Err f) = f ≡ Memory

@@ -1,0 +1,81 @@
+ghost use Rattle.std.specs.Prelude.{◌≡◌};
+ghost use Rattle.parallel_fault.specs.declared.fault.Fault.TheVariants.{Memory};
+ghost use Rattle.parallel_fault.specs.declared.fault.Trouble.TheVariants.{Fault as OfFault};
+
+use std::alloc::{AllocError, AllocFailed};
+use std::fmt::Display;
+use thiserror::Error;
+
+/// Why a call could not be carried out, for a reason that is none of its caller's closures.
+///
+/// Each call that answers one says what it leaves behind. `Memory` and `Worker` come only where a
+/// growth or a start was really refused.
+#[derive(Clone, Copy, Debug, PartialEq, Eq, Error)]
+pub enum Fault {
+    /// A growth of a list, a table or a queue was refused.
+    #[error("out of memory")]
+    Memory,
+    /// The start of an offloaded job's worker was refused.
+    #[error("a worker could not be started")]
+    Worker,
+    /// A job was to be handed off, and the pool has the one thread that waits for it.
+    #[error("a handed-off job needs a pool of two threads")]
+    HandOff,
+}
+
+/// What a call answers whose closures may fail by an error of their own.
+#[derive(Debug, PartialEq, Eq, Drop, Error)]
+#[error_bound(E: Display)]
+pub enum Trouble<E> {
+    /// The error that a closure of the caller's answered.
+    #[error("{0}")]
+    Closure(E),
+    /// A refusal of the call itself.
+    #[error(transparent)]
+    Fault(Fault),
+}
+
+/// A refused growth is `Fault::Memory`.
+impl From<AllocError> for Fault {
+    ghost from_gives = { λ _ fault. fault ≡ Memory };
+
+    fn from(_error: AllocError) -> Fault {
+        Fault::Memory
+    }
+}
+
+/// A refused growth that hands a value back is `Fault::Memory`, and the value is dropped.
+impl<T: Drop> From<AllocFailed<T>> for Fault {
+    ghost from_gives = { λ _ fault. fault ≡ Memory };
+
+    fn from(_error: AllocFailed<T>) -> Fault {
+        Fault::Memory
+    }
+}
+
+/// A refusal is the trouble that holds it.
+impl<E> From<Fault> for Trouble<E> {
+    ghost from_gives = { λ fault trouble. trouble ≡ OfFault fault };
+
+    fn from(fault: Fault) -> Trouble<E> {
+        Trouble::Fault(fault)
+    }
+}
+
+/// A refused growth is `Fault::Memory`.
+impl<E> From<AllocError> for Trouble<E> {
+    ghost from_gives = { λ _ trouble. trouble ≡ OfFault Memory };
+
+    fn from(_error: AllocError) -> Trouble<E> {
+        Trouble::Fault(Fault::Memory)
+    }
+}
+
+/// A refused growth that hands a value back is `Fault::Memory`, and the value is dropped.
+impl<T: Drop, E> From<AllocFailed<T>> for Trouble<E> {
+    ghost from_gives = { λ _ trouble. trouble ≡ OfFault Memory };
+
+    fn from(_error: AllocFailed<T>) -> Trouble<E> {
+        Trouble::Fault(Fault::Memory)
+    }
+}
