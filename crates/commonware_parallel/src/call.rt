@@ -1,0 +1,83 @@
+ghost use Rattle.std.specs.Prelude.{◌≡◌, ◌≤◌};
+ghost use Rattle.std.specs.Int.NonZero.{non_zero_usize_get};
+ghost use Rattle.commonware_parallel.specs.Calls.{batches_call, body_call};
+
+use std::num::NonZeroUsize;
+use std::sync::Wait;
+
+/// What a call runs, and so what its pick means.
+#[derive(Clone, Copy, Debug, PartialEq, Eq, Hash)]
+pub enum Kind {
+    /// A serial body at pick 0, a parallel one at pick 1: `run`, folds, maps and sorts.
+    Body,
+    /// One range more than the pick.
+    Batches,
+    /// One worker more than the pick.
+    Tiles,
+    /// Run at once at pick 0, handed off at pick 1.
+    Spawn,
+    /// One after the other at pick 0, side by side at pick 1.
+    Join,
+}
+
+/// A call that a strategy is asked to choose for.
+#[derive(Clone, Copy, Debug, PartialEq, Eq, Hash)]
+pub struct Call {
+    pub kind: Kind,
+    /// The number of items.
+    pub len: usize,
+    /// The work that the items stand for, by which a policy tells calls apart.
+    pub work: usize,
+    /// The number of picks, which are the numbers below it.
+    pub options: usize,
+}
+
+impl Call {
+    /// The choice between a serial and a parallel body over `len` items.
+    pub fn body(len: usize) -> Call
+        ensures { result ≡ body_call len }
+    {
+        Call {
+            kind: Kind::Body,
+            len,
+            work: len,
+            options: 2,
+        }
+    }
+
+    /// The choice among numbers of ranges of `0..len` for a strategy planned for `parallelism`: no
+    /// range is to be shorter than `minimum`, and there is one range at least. The work is `len *
+    /// multiplier`, which stops at the greatest `usize`.
+    pub fn batches(
+        parallelism: NonZeroUsize,
+        len: usize,
+        minimum: NonZeroUsize,
+        multiplier: usize,
+    ) -> Call
+        ensures { result ≡ batches_call (non_zero_usize_get parallelism) len (non_zero_usize_get minimum) multiplier }
+    {
+        Call {
+            kind: Kind::Batches,
+            len,
+            work: len.saturating_mul(multiplier),
+            options: parallelism.get().min(len / minimum).max(1),
+        }
+    }
+}
+
+/// Measures a run that goes on after its strategy chose.
+pub trait Meter: Drop {
+    fn begin(&mut self);
+
+    fn end<Rt: Wait>(self, rt: &Rt);
+}
+
+/// Takes no time.
+#[derive(Clone, Copy, Debug, PartialEq, Eq)]
+pub struct Unmeasured;
+
+impl Meter for Unmeasured {
+    fn begin(&mut self) {}
+
+    fn end<Rt: Wait>(self, _rt: &Rt) {}
+}

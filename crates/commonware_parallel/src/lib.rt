@@ -1,0 +1,27 @@
+//! Folds, maps and batches that are written once and run through any strategy.
+//!
+//! A program is written over `S: Strategy` and run through `Sequential`, on the caller's thread, or
+//! through `Rayon`, on a pool. Whatever the strategy, the number of its threads and the order in
+//! which they end, a call that isn't refused gives the list's own answer: a map the answers in input
+//! order, a fold a reduction of neighbouring segments, a batch each index once.
+#![tactic(auto)]
+
+mod call;
+mod items;
+mod plan;
+mod rayon_strategy;
+mod sequential;
+mod strategy;
+
+pub use call::{Call, Kind, Meter, Unmeasured};
+pub use parallel_bridge as bridge;
+pub use parallel_fault::{Fault, Trouble};
+pub use parallel_policy as policy;
+pub use parallel_policy::{Clock, MonotonicClock, Place, Site};
+pub use parallel_pool::{ThreadPool, rayon};
+pub use parallel_shares as shares;
+pub use parallel_shares::{Grid, cut};
+pub use plan::Batches;
+pub use rayon_strategy::Rayon;
+pub use sequential::Sequential;
+pub use strategy::Strategy;

@@ -1,0 +1,96 @@
+ghost use Rattle.std.specs.Prelude.{◌≡◌, ◌↔◌, ◌+◌, ◌/◌, ◌<◌, ◌≤◌, [], ◌∷◌, length, All, IfOk, IfErr, IsTrue, max};
+ghost use Rattle.std.specs.Int.NonZero.{non_zero_usize_get};
+ghost use Rattle.parallel_fault.specs.declared.fault.Fault.TheVariants.{Memory};
+ghost use Rattle.parallel_shares.specs.Cut.{BalancedCut, range_length};
+
+use crate::strategy::Strategy;
+use parallel_fault::Fault;
+use parallel_policy::Place;
+use parallel_shares::cut;
+use std::alloc::Global;
+use std::num::NonZeroUsize;
+use std::ops::Range;
+
+/// The ranges of indices that a batch is run over, with the strategy and the call site that run it.
+#[derive(Debug, Drop)]
+pub struct Batches<'scope, S, P> {
+    strategy: &'scope S,
+    site: P,
+    ranges: Vec<Range<usize>>,
+}
+
+impl<'scope, S: Strategy, P: Place> Batches<'scope, S, P> {
+    ghost use Rattle.commonware_parallel.specs.Batches.{IsBatch, ranges_of};
+
+    /// One range, `0..len`. An empty input has one range too, which is `0..0`.
+    pub fn whole(
+        alloc: Global,
+        strategy: &'scope S,
+        site: P,
+        len: usize,
+    ) -> Result<Batches<'scope, S, P>, Fault>
+        ensures one { IfOk result (λ batches. ranges_of batches ≡ record { start = 0; end = len } ∷ []) }
+        ensures fault { IfErr result (λ fault. fault ≡ Memory) }
+    {
+        let mut ranges = Vec::with_capacity(alloc, 1)?;
+        ranges.push(0..len)?;
+        Ok(Batches {
+            strategy,
+            site,
+            ranges,
+        })
+    }
+
+    /// The balanced ranges of `0..len`, `count` of them.
+    pub fn balanced(
+        alloc: Global,
+        strategy: &'scope S,
+        site: P,
+        len: usize,
+        count: NonZeroUsize,
+    ) -> Result<Batches<'scope, S, P>, Fault>
+        ensures balanced { IfOk result (λ batches. BalancedCut len (ranges_of batches)) }
+        ensures count { IfOk result (λ batches. length (ranges_of batches) ≡ non_zero_usize_get count) }
+        ensures least { IfOk result (λ batches. All (λ range. len / non_zero_usize_get count ≤ range_length range) (ranges_of batches)) }
+        ensures fault { IfErr result (λ fault. fault ≡ Memory) }
+    {
+        let ranges = cut(alloc, len, count)?;
+        Ok(Batches {
+            strategy,
+            site,
+            ranges,
+        })
+    }
+
+    /// The ranges, in order and without a gap.
+    pub fn ranges(&self) -> &[Range<usize>]
+        ensures { result.now ≡ ranges_of self.now }
+    {
+        self.ranges.as_slice()
+    }
+
+    /// Whether there is one range alone, as an empty input has it too.
+    pub fn is_whole(&self) -> bool
+        ensures { IsTrue result ↔ (length (ranges_of self.now) ≡ 1) }
+    {
+        self.ranges.len() == 1
+    }
+
+    // The batch of a pick: one range more, and of two or more none shorter than the minimum.
+    pub(crate) fn picked(
+        alloc: Global,
+        strategy: &'scope S,
+        site: P,
+        len: usize,
+        pick: usize,
+        minimum: NonZeroUsize,
+    ) -> Result<Batches<'scope, S, P>, Fault>
+        requires { pick < max 1 (len / non_zero_usize_get minimum) }
+        ensures batch { IfOk result (λ batches. IsBatch len (pick + 1) (non_zero_usize_get minimum) (ranges_of batches)) }
+        ensures fault { IfErr result (λ fault. fault ≡ Memory) }
+    {
+        let count = NonZeroUsize::MIN.saturating_add(pick);
+        let batches = Batches::balanced(alloc, strategy, site, len, count)?;
+        Ok(batches)
+    }
+}

@@ -1,0 +1,140 @@
+ghost use Rattle.std.specs.Prelude.{◌≡◌, ℕ, List, All, true, IfOk, IfErr};
+ghost use Rattle.std.specs.Iterator.{IsFinite, Drains};
+ghost use Rattle.parallel_fault.specs.declared.fault.Fault.TheVariants.{Memory};
+ghost use Rattle.parallel_bridge.specs.Lists.{FoldSegment, MapOf};
+
+use crate::call::{Call, Unmeasured};
+use crate::items::gather;
+use crate::strategy::Strategy;
+use parallel_bridge::serial::{fold_serial, map_serial};
+use parallel_fault::{Fault, Trouble};
+use parallel_policy::Place;
+use std::alloc::Global;
+use std::num::NonZeroUsize;
+use std::sync::Wait;
+
+/// Runs each call on the caller's own thread, in one piece.
+///
+/// Its own functions have the names of the trait's, take no right to wait or to start threads, and
+/// say the one answer that there is. In code that is generic over `Strategy` the trait's are called.
+#[derive(Clone, Copy, Debug, Default)]
+pub struct Sequential;
+
+impl Sequential {
+    /// An answer of the serial body. The parallel one isn't called. Takes no memory.
+    pub fn run<P: Place, R, A: FnOnce() -> R, B: FnOnce() -> R + Drop>(
+        &self,
+        _site: P,
+        _len: usize,
+        serial: A,
+        _parallel: B,
+    ) -> R
+        requires { A.pre serial }
+        ensures { A.post serial result }
+    {
+        serial()
+    }
+
+    /// The answers of `map_op` for the items, in their order. The one refusal is `Fault::Memory`,
+    /// and the items are then gone.
+    pub fn map_collect_vec<P: Place, I: Iterator, T: Drop, F: Fn(I::Item) -> T + Drop>(
+        &self,
+        alloc: Global,
+        _site: P,
+        iter: I,
+        map_op: F,
+    ) -> Result<Vec<T>, Fault>
+    where
+        I::Item: Drop,
+        requires can { I.can_next iter }
+        requires ends { IsFinite (I.remaining iter) }
+        requires accepts { (xs : List I.Item) → Drains I.next_gives iter xs → All (F.pre map_op) xs }
+        ensures answers { IfOk result (λ ys. (xs : List I.Item) × Drains I.next_gives iter xs × MapOf (F.post map_op) xs ys.items) }
+        ensures fault { IfErr result (λ fault. fault ≡ Memory) }
+    {
+        map_serial(alloc, gather(alloc, iter)?, &map_op)
+    }
+
+    /// The items folded from an identity, from left to right, in one segment (`FoldSegment`).
+    /// Nothing is reduced. The one refusal is `Fault::Memory`, and the items are then gone.
+    pub fn fold<
+        P: Place,
+        I: Iterator,
+        R: Drop,
+        ID: Fn() -> R + Drop,
+        F: Fn(R, I::Item) -> R + Drop,
+        G: Fn(R, R) -> R + Drop,
+    >(
+        &self,
+        alloc: Global,
+        _site: P,
+        iter: I,
+        identity: ID,
+        fold_op: F,
+        _reduce_op: G,
+    ) -> Result<R, Fault>
+    where
+        I::Item: Drop,
+        requires can { I.can_next iter }
+        requires ends { IsFinite (I.remaining iter) }
+        requires identity_accepts { ID.IsAlwaysCallable identity }
+        requires fold_accepts { F.IsAlwaysCallable fold_op }
+        ensures segment { IfOk result (λ r. (xs : List I.Item) × Drains I.next_gives iter xs
+            × FoldSegment (ID.post identity) (λ a x b. F.post fold_op a x b) xs r) }
+        ensures fault { IfErr result (λ fault. fault ≡ Memory) }
+    {
+        let items = gather(alloc, iter)?;
+        Ok(fold_serial(items, &identity, &fold_op))
+    }
+}
+
+impl Strategy for Sequential {
+    ghost takes = { λ _ _ _ pick. pick ≡ 0 };
+
+    ghost refuses = { λ _ _ _ _. ⊥ };
+
+    ghost plans = { λ _. 1 };
+
+    ghost threads = { λ _. 1 };
+
+    ghost starts = { λ _. true };
+
+    type Measure = Unmeasured;
+
+    fn planning(&self) -> NonZeroUsize {
+        NonZeroUsize::MIN
+    }
+
+    fn thread_number(&self) -> NonZeroUsize {
+        NonZeroUsize::MIN
+    }
+
+    fn starts_workers(&self) -> bool {
+        true
+    }
+
+    fn inner(&self) -> Result<Sequential, Fault> {
+        Ok(Sequential)
+    }
+
+    fn dispatch<Rt: Wait, P: Place, R, E, B: FnOnce(usize) -> Result<R, E>>(
+        &self,
+        _rt: &Rt,
+        _alloc: Global,
+        _site: P,
+        _call: Call,
+        body: B,
+    ) -> Result<R, Trouble<E>> {
+        body(0).map_err(Trouble::Closure)
+    }
+
+    fn choose<Rt: Wait, P: Place>(
+        &self,
+        _rt: &Rt,
+        _alloc: Global,
+        _site: P,
+        _call: Call,
+    ) -> Result<(usize, Unmeasured), Fault> {
+        Ok((0, Unmeasured))
+    }
+}

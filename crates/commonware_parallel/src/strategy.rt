@@ -1,0 +1,331 @@
+ghost use Rattle.std.specs.Prelude.{◌≡◌, ◌≢◌, ℕ, ◌+◌, ◌/◌, ◌<◌, Bool, List, All, IfOk, IfErr, MatchResult, length, max};
+ghost use Rattle.std.specs.Int.NonZero.{non_zero_usize_get};
+ghost use Rattle.std.specs.Iterator.{IsFinite, Drains};
+ghost use Rattle.parallel_bridge.specs.Lists.{MapOf, FoldSegment, Bracketing};
+ghost use Rattle.parallel_bridge.specs.Shapes.{FoldsAs, cutdepth};
+ghost use Rattle.commonware_parallel.specs.Calls.{batches_call, body_call};
+ghost use Rattle.commonware_parallel.specs.Answers.{AnswersAs, OneOf};
+ghost use Rattle.commonware_parallel.specs.Batches.{IsBatch, ranges_of};
+ghost use Rattle.parallel_fault.specs.Trouble.{IfFault};
+
+use crate::call::{Call, Kind, Meter};
+use crate::items::{count, fold_installed, gather, map_installed};
+use crate::plan::Batches;
+use parallel_bridge::serial::{fold_serial, map_serial};
+use parallel_fault::{Fault, Trouble};
+use parallel_policy::Place;
+use std::alloc::Global;
+use std::fmt::Debug;
+use std::num::NonZeroUsize;
+use std::sync::Wait;
+use std::thread::Threads;
+
+/// Runs a program's folds, maps and batches, which are written once for all strategies.
+///
+/// A strategy chooses and does nothing else. It is asked about a `Call`, which has a number of
+/// options, and answers a pick, a number below that. What the call then does is one of the `final`
+/// functions below, proved here once for every strategy: an implementation can't break what they say.
+///
+/// An implementation writes two functions that choose, `dispatch` and `choose`, readers of its
+/// numbers, and five ghost members, in which it says what it may pick. Code that is generic over
+/// `S: Strategy` may rest on the clauses here alone; code at one strategy sees through its ghost
+/// members, and so learns from the clause `along` of a fold in which segments it went.
+///
+/// Every call takes the runtime, then the allocator, then the place of the call. A list call takes an
+/// iterator that ends, and its list is what the iterator gives (`Drains`). A map's closure has to
+/// accept the items of that list; the closures of a fold have to accept every value.
+pub trait Strategy: Clone + Send + Sync + Debug + 'static {
+    ghost use Rattle.commonware_parallel.specs.declared.plan.Batches.{Batches};
+    ghost use Rattle.parallel_policy.specs.declared.Site.{Site};
+    ghost use Rattle.parallel_fault.specs.declared.fault.Fault.{Fault};
+    ghost use Rattle.parallel_fault.specs.declared.fault.Fault.TheVariants.{Memory};
+    ghost use Rattle.commonware_parallel.specs.declared.call.Call.{Call};
+    ghost use Rattle.commonware_parallel.specs.declared.call.Kind.TheVariants.{Spawn};
+
+    /// Whether a call at a site may be given a pick.
+    ghost takes: { Self → Site → Call → ℕ → Type 0 };
+
+    /// Whether a call at a site may meet a refusal before its body runs.
+    ghost refuses: { Self → Site → Call → Fault → Type 0 };
+
+    /// The planning number, at least 1: how many parts batches and tiles are planned for.
+    ghost plans: { Self → ℕ };
+
+    /// The pool's thread number, at least 1: a parallel list goes along its shape of that number's
+    /// `cutdepth`.
+    ghost threads: { Self → ℕ };
+
+    /// Whether a job that is handed off gets a worker; a pool of unstarted workers gives it none.
+    ghost starts: { Self → Bool };
+
+    /// The planning number.
+    fn planning(&self) -> NonZeroUsize
+        ensures { non_zero_usize_get result ≡ plans self.now };
+
+    /// The pool's thread number.
+    fn thread_number(&self) -> NonZeroUsize
+        ensures { non_zero_usize_get result ≡ threads self.now };
+
+    /// Whether a job that is handed off gets a worker.
+    fn starts_workers(&self) -> bool
+        ensures { result ≡ starts self.now };
+
+    /// The strategy that the parts of a batch go through: a strategy like this one that asks no policy.
+    ///
+    /// # Errors
+    ///
+    /// `Fault::Memory` alone.
+    fn inner(&self) -> Result<Self, Fault>
+        ensures { IfErr result (λ fault. fault ≡ Memory) };
+
+    /// Runs a body at a pick for the call, on the caller's thread, and answers what it answered.
+    ///
+    /// The body runs inside, so that an implementation can time it and tell an error of it apart.
+    /// An answer or an error of the body's own is one that it allows at a pick below the call's
+    /// options that the strategy may take (`AnswersAs`).
+    ///
+    /// # Errors
+    ///
+    /// `Trouble::Closure` with the body's own error. `Trouble::Fault` with a refusal that `refuses`
+    /// allows, which is `Fault::Memory`; the body wasn't called then, or its answer is gone.
+    fn dispatch<Rt: Wait, P: Place, R, E, B: FnOnce(usize) -> Result<R, E>>(
+        &self,
+        rt: &Rt,
+        alloc: Global,
+        site: P,
+        call: Call,
+        body: B,
+    ) -> Result<R, Trouble<E>>
+        requires options { 0 < call.options }
+        requires kind { call.kind ≢ Spawn }
+        requires accepts { (pick : ℕ) → pick < call.options → takes self.now (P.site_of site) call pick → B.pre body pick }
+        ensures answers { AnswersAs (λ pick. (pick < call.options) × takes self.now (P.site_of site) call pick) (refuses self.now (P.site_of site) call) (λ pick answer. B.post body pick answer) result }
+        ensures memory { IfErr result (λ trouble. IfFault trouble (λ fault. fault ≡ Memory)) };
+
+    /// Measures what goes on after a choice was handed out.
+    type Measure: Meter + Send + 'static;
+
+    /// Hands out a pick for the call, with a meter of the run to come, where the body can't run inside:
+    /// for a job that goes on on a worker, and for a body that writes through a `&mut`.
+    ///
+    /// # Errors
+    ///
+    /// A refusal that `refuses` allows; `Fault::Memory` alone for every call but a spawn.
+    fn choose<Rt: Wait, P: Place>(
+        &self,
+        rt: &Rt,
+        alloc: Global,
+        site: P,
+        call: Call,
+    ) -> Result<(usize, Self::Measure), Fault>
+        requires options { 0 < call.options }
+        ensures takes { IfOk result (λ chosen. (chosen.0 < call.options) × takes self.now (P.site_of site) call chosen.0) }
+        ensures refused { IfErr result (refuses self.now (P.site_of site) call) }
+        ensures memory { call.kind ≢ Spawn → IfErr result (λ fault. fault ≡ Memory) };
+
+    /// An answer of one of two bodies: of the serial one at pick 0, of the parallel one at pick 1.
+    ///
+    /// `len` is the number of items that the bodies stand for, by which a policy tells calls apart.
+    ///
+    /// # Errors
+    ///
+    /// What `refuses` allows, before a body was called; no strategy without a policy refuses a run.
+    final fn run<Rt: Wait, P: Place, R, A: FnOnce() -> R + Drop, B: FnOnce() -> R + Drop>(
+        &self,
+        rt: &Rt,
+        alloc: Global,
+        site: P,
+        len: usize,
+        serial: A,
+        parallel: B,
+    ) -> Result<R, Fault>
+        requires serial_runs { A.pre serial }
+        requires parallel_runs { B.pre parallel }
+        ensures answers { IfOk result (λ answer. (pick : ℕ) × ((pick < 2) × takes self.now (P.site_of site) (body_call len) pick) × OneOf (A.post serial answer) (B.post parallel answer) pick) }
+        ensures refused { IfErr result (refuses self.now (P.site_of site) (body_call len)) }
+    {
+        let body = move |pick: usize| -> Result<R, ()>
+            requires { A.pre serial × B.pre parallel }
+            ensures { MatchResult result (λ answer. OneOf (A.post serial answer) (B.post parallel answer) pick) (λ _. ⊥) }
+        {
+            if pick == 0 {
+                Ok(serial())
+            } else {
+                Ok(parallel())
+            }
+        };
+        match self.dispatch(rt, alloc, site, Call::body(len), body) {
+            Ok(answer) => Ok(answer),
+            Err(Trouble::Fault(fault)) => Err(fault),
+            Err(Trouble::Closure(())) => unreachable!(),
+        }
+    }
+
+    /// An answer of a body over `len` items that may itself be refused memory: what the list calls
+    /// stand on.
+    ///
+    /// # Errors
+    ///
+    /// `Fault::Memory` alone, the strategy's or the body's.
+    final fn dispatch_body<Rt: Wait, P: Place, R, B: FnOnce(usize) -> Result<R, Fault>>(
+        &self,
+        rt: &Rt,
+        alloc: Global,
+        site: P,
+        len: usize,
+        body: B,
+    ) -> Result<R, Fault>
+        requires accepts { (pick : ℕ) → pick < 2 → takes self.now (P.site_of site) (body_call len) pick → B.pre body pick }
+        requires memory { (pick : ℕ) (fault : Fault) → B.post body pick (Err fault) → fault ≡ Memory }
+        ensures answers { IfOk result (λ answer. (pick : ℕ) × (pick < 2) × takes self.now (P.site_of site) (body_call len) pick × B.post body pick (Ok answer)) }
+        ensures fault { IfErr result (λ fault. fault ≡ Memory) }
+    {
+        match self.dispatch(rt, alloc, site, Call::body(len), body) {
+            Ok(answer) => Ok(answer),
+            Err(Trouble::Closure(fault)) => Err(fault),
+            Err(Trouble::Fault(fault)) => Err(fault),
+        }
+    }
+
+    /// The answers of `map_op` for the items, in the items' order (`MapOf`).
+    ///
+    /// # Errors
+    ///
+    /// `Fault::Memory` alone; the items are then gone. Where the items themselves could not be gathered
+    /// no closure was called.
+    final fn map_collect_vec<
+        Rt: Threads + Wait + Sync,
+        P: Place,
+        I: Iterator,
+        T: Send + Drop,
+        F: Fn(I::Item) -> T + Send + Sync + Drop,
+    >(&self, rt: &Rt, alloc: Global, site: P, iter: I, map_op: F) -> Result<Vec<T>, Fault>
+    where
+        I::Item: Send + Drop,
+        requires can { I.can_next iter }
+        requires ends { IsFinite (I.remaining iter) }
+        requires accepts { (xs : List I.Item) → Drains I.next_gives iter xs → All (F.pre map_op) xs }
+        ensures answers { IfOk result (λ ys. (xs : List I.Item) × Drains I.next_gives iter xs × MapOf (F.post map_op) xs ys.items) }
+        ensures fault { IfErr result (λ fault. fault ≡ Memory) }
+    {
+        let items = gather(alloc, iter)?;
+        let len = count(&items);
+        let threads = self.thread_number();
+        let body = move |pick: usize| -> Result<Vec<T>, Fault>
+            requires { All (F.pre map_op) items.items }
+            ensures answers { IfOk result (λ ys. MapOf (F.post map_op) items.items ys.items) }
+            ensures fault { IfErr result (λ fault. fault ≡ Memory) }
+        {
+            if pick == 0 {
+                map_serial(alloc, items, &map_op)
+            } else {
+                map_installed(rt, alloc, threads, items, &map_op)
+            }
+        };
+        self.dispatch_body(rt, alloc, site, len, body)
+    }
+
+    /// The items folded in neighbouring segments, each from an identity of its own, and the segments'
+    /// results reduced, left before right (`Bracketing`).
+    ///
+    /// At pick 0 the list is one segment and nothing is reduced. At pick 1 it goes along the list's
+    /// shape for the pool's thread number, and each leaf is reduced behind a further identity
+    /// (`FoldsAs`). `parallel_bridge::fold_law` says when every such answer is the plain fold from the
+    /// left.
+    ///
+    /// # Errors
+    ///
+    /// `Fault::Memory` alone; the items are then gone.
+    final fn fold<
+        Rt: Threads + Wait + Sync,
+        P: Place,
+        I: Iterator,
+        R: Send + Drop,
+        ID: Fn() -> R + Send + Sync + Drop,
+        F: Fn(R, I::Item) -> R + Send + Sync + Drop,
+        G: Fn(R, R) -> R + Send + Sync + Drop,
+    >(
+        &self,
+        rt: &Rt,
+        alloc: Global,
+        site: P,
+        iter: I,
+        identity: ID,
+        fold_op: F,
+        reduce_op: G,
+    ) -> Result<R, Fault>
+    where
+        I::Item: Send + Drop,
+        requires can { I.can_next iter }
+        requires ends { IsFinite (I.remaining iter) }
+        requires identity_accepts { ID.IsAlwaysCallable identity }
+        requires fold_accepts { F.IsAlwaysCallable fold_op }
+        requires reduce_accepts { G.IsAlwaysCallable reduce_op }
+        ensures brackets { IfOk result (λ r. (xs : List I.Item) × Drains I.next_gives iter xs
+            × Bracketing (ID.post identity) (λ a x b. F.post fold_op a x b) (λ a b c. G.post reduce_op a b c) xs r) }
+        ensures along { IfOk result (λ r. (xs : List I.Item) × Drains I.next_gives iter xs × (pick : ℕ) × (pick < 2)
+            × takes self.now (P.site_of site) (body_call (length xs)) pick
+            × FoldsAs (ID.post identity) (FoldSegment (ID.post identity) (λ a x b. F.post fold_op a x b)) (λ a b c. G.post reduce_op a b c) (cutdepth (threads self.now)) pick xs r) }
+        ensures fault { IfErr result (λ fault. fault ≡ Memory) }
+    {
+        let items = gather(alloc, iter)?;
+        let len = count(&items);
+        let threads = self.thread_number();
+        let body = move |pick: usize| -> Result<R, Fault>
+            requires { ID.IsAlwaysCallable identity × F.IsAlwaysCallable fold_op × G.IsAlwaysCallable reduce_op }
+            ensures along { IfOk result (λ r. FoldsAs (ID.post identity) (FoldSegment (ID.post identity) (λ a x b. F.post fold_op a x b)) (λ a b c. G.post reduce_op a b c) (cutdepth (non_zero_usize_get threads)) pick items.items r) }
+            ensures fault { IfErr result (λ fault. fault ≡ Memory) }
+        {
+            if pick == 0 {
+                Ok(fold_serial(items, &identity, &fold_op))
+            } else {
+                fold_installed(rt, alloc, threads, items, &identity, &fold_op, &reduce_op)
+            }
+        };
+        let answer = self.dispatch_body(rt, alloc, site, len, body)?;
+        Ok(answer)
+    }
+
+    /// An answer of `run` over a batch of `0..len`: balanced ranges, as many as the pick says and one
+    /// more. Of two or more none is shorter than `minimum` (`IsBatch`); a whole one may be.
+    ///
+    /// There are at most as many ranges as the strategy is planned for. The work, by which a policy
+    /// tells calls apart, is `len * multiplier`, which stops at the greatest `usize`. The batch goes
+    /// through the strategy's `inner`.
+    ///
+    /// # Errors
+    ///
+    /// `Fault::Memory` alone.
+    final fn run_batches<Rt: Wait, P: Place, R, F: FnOnce(Batches<'_, Self, P>) -> R + Drop>(
+        &self,
+        rt: &Rt,
+        alloc: Global,
+        site: P,
+        len: usize,
+        minimum: NonZeroUsize,
+        multiplier: usize,
+        run: F,
+    ) -> Result<R, Fault>
+        requires { F.IsAlwaysCallable run }
+        ensures answers { IfOk result (λ answer. (pick : ℕ) × (pick < (batches_call (plans self.now) len (non_zero_usize_get minimum) multiplier).options)
+            × takes self.now (P.site_of site) (batches_call (plans self.now) len (non_zero_usize_get minimum) multiplier) pick
+            × (batches : Batches Self P) × IsBatch len (pick + 1) (non_zero_usize_get minimum) (ranges_of batches) × F.post run batches answer) }
+        ensures fault { IfErr result (λ fault. fault ≡ Memory) }
+    {
+        let inner = self.inner()?;
+        let call = Call::batches(self.planning(), len, minimum, multiplier);
+        let body = move |pick: usize| -> Result<R, Fault>
+            requires { F.IsAlwaysCallable run × (pick < max 1 (len / non_zero_usize_get minimum)) }
+            ensures answers { IfOk result (λ answer. (batches : Batches Self P) × IsBatch len (pick + 1) (non_zero_usize_get minimum) (ranges_of batches) × F.post run batches answer) }
+            ensures fault { IfErr result (λ fault. fault ≡ Memory) }
+        {
+            let batches = Batches::picked(alloc, &inner, site, len, pick, minimum)?;
+            Ok(run(batches))
+        };
+        match self.dispatch(rt, alloc, site, call, body) {
+            Ok(answer) => Ok(answer),
+            Err(Trouble::Closure(fault)) => Err(fault),
+            Err(Trouble::Fault(fault)) => Err(fault),
+        }
+    }
+}

@@ -1,0 +1,64 @@
+-- Under the laws of `FoldLaws` a fold by segments is the plain fold from the left.
+use Rattle.std.proofs.Common.{◌≡◌, Bool, IsTrue, List, [], ◌∷◌, ◌++◌, refl, sym, ◌∙◌, ap, subst, fold}
+use Rattle.std.specs.List.{All, Contains}
+use Rattle.std.proofs.lemmas.List.Sums.{fold-append}
+use Rattle.std.proofs.lemmas.List.Elements.{All-nil, All-cons, All-head, All-tail, All-contains_itself}
+use Rattle.parallel_bridge.specs.Lists.{Chain, FoldSegment, Brackets, of_segment, of_parts, Bracketing}
+use Rattle.parallel_bridge.specs.Folds.{FoldLaws, IsPlainFold}
+
+-- what holds of all items of two parts holds of each part's
+all_left : {X : Type 0} (P : X → Type 0) (xs ys : List X) → All P (xs ++ ys) → All P xs
+all_left P [] ys h = All-nil P
+all_left P (x ∷ xs) ys h = All-cons P x xs (All-head P x (xs ++ ys) h) (all_left P xs ys (All-tail P x (xs ++ ys) h))
+
+all_right : {X : Type 0} (P : X → Type 0) (xs ys : List X) → All P (xs ++ ys) → All P ys
+all_right P [] ys h = h
+all_right P (x ∷ xs) ys h = all_right P xs ys (All-tail P x (xs ++ ys) h)
+
+module _ {X R : Type 0} (identity : R → Type 0) (step : R → X → R → Type 0) (reduce : R → R → R → Type 0) (unit : R) (f : R → X → R) (g : R → R → R) (good : R → Bool) (all : List X) (laws : FoldLaws identity step reduce unit f g good all) where
+  -- a fold of good values is good
+  fold_good : (ys : List X) → All (Contains all) ys → (a : R) → IsTrue (good a) → IsTrue (good (fold f a ys))
+  fold_good [] within a h = h
+  fold_good (y ∷ ys) within a h = fold_good ys (All-tail (Contains all) y ys within) (f a y) (laws.good_step a y h (All-head (Contains all) y ys within))
+
+  -- a reduction's left side may go into the fold of its right side
+  fold_out : (ys : List X) → All (Contains all) ys → (a b : R) → IsTrue (good a) → IsTrue (good b) → g a (fold f b ys) ≡ fold f (g a b) ys
+  fold_out [] within a b h i = refl
+  fold_out (y ∷ ys) within a b h i =
+      let one = All-head (Contains all) y ys within in
+      fold_out ys (All-tail (Contains all) y ys within) a (f b y) h (laws.good_step b y i one)
+      ∙ ap (λ v. fold f v ys) (sym (laws.passes a b y h i one))
+
+  -- a chain of steps is the plain fold
+  chain_plain : (ys : List X) → All (Contains all) ys → (a r : R) → IsTrue (good a) → Chain step a ys r → r ≡ fold f a ys
+  chain_plain [] within a r h e = sym e
+  chain_plain (y ∷ ys) within a r h (m, s, rest) =
+      let one = All-head (Contains all) y ys within in
+      let same : m ≡ f a y = laws.steps a y m h one s in
+      let next : IsTrue (good m) = subst (λ v. IsTrue (good v)) (sym same) (laws.good_step a y h one) in
+      chain_plain ys (All-tail (Contains all) y ys within) m r next rest ∙ ap (λ v. fold f v ys) same
+
+  -- each way of folding by neighbouring segments gives the plain fold
+  brackets_plain : {ys : List X} {r : R} → All (Contains all) ys → Brackets (FoldSegment identity step) reduce ys r → r ≡ fold f unit ys
+  brackets_plain {ys} {r} within (of_segment (e, i, chain)) =
+      let same : e ≡ unit = laws.starts e i in
+      chain_plain ys within unit r laws.good_unit (subst (λ v. Chain step v ys r) same chain)
+  brackets_plain {ys = zs} {r} within (of_parts {xs = xs} {ys = ys} {p = p} {q = q} split left right reduced) =
+      let both : All (Contains all) (xs ++ ys) = subst (All (Contains all)) split within in
+      let in_left = all_left (Contains all) xs ys both in
+      let in_right = all_right (Contains all) xs ys both in
+      let p_is : p ≡ fold f unit xs = brackets_plain in_left left in
+      let q_is : q ≡ fold f unit ys = brackets_plain in_right right in
+      let p_good : IsTrue (good p) = subst (λ v. IsTrue (good v)) (sym p_is) (fold_good xs in_left unit laws.good_unit) in
+      let q_good : IsTrue (good q) = subst (λ v. IsTrue (good v)) (sym q_is) (fold_good ys in_right unit laws.good_unit) in
+      laws.reduces p q r p_good q_good reduced
+      ∙ ap (λ v. g p v) q_is
+      ∙ fold_out ys in_right p unit p_good laws.good_unit
+      ∙ ap (λ v. fold f v ys) (laws.neutral p p_good ∙ p_is)
+      ∙ sym (fold-append f unit xs ys)
+      ∙ ap (fold f unit) (sym split)
+
+module _ {X R : Type 0} (identity : R → Type 0) (step : R → X → R → Type 0) (reduce : R → R → R → Type 0) where
+  -- the law as its public function states it
+  pub plain_from_bracketing : (xs : List X) (r : R) → Bracketing identity step reduce xs r → IsPlainFold identity step reduce xs r
+  plain_from_bracketing xs r h unit f g good laws = brackets_plain identity step reduce unit f g good xs laws (All-contains_itself xs) h

@@ -1,0 +1,5 @@
+pub mod Shapes
+pub mod Bracketings
+pub mod Chains
+pub mod SegmentLengths
+pub mod Laws

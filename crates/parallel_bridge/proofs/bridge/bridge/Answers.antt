@@ -1,0 +1,11 @@
+-- The list is cut into few segments.
+use Rattle.std.proofs.Common.{arith}
+use Rattle.parallel_bridge.specs.Shapes.{cutdepth}
+use Rattle.parallel_bridge.proofs.SegmentLengths.{shape_by_threads, shape_by_items}
+use Rattle.parallel_bridge.proofs.bridge.bridge.Goals as goal
+
+pub returns-clause-by_threads : goal.returns-clause-by_threads
+returns-clause-by_threads g c = shape_by_threads c.args.threads.value c.args.items.items (omega arith) (omega arith)
+
+pub returns-clause-by_items : goal.returns-clause-by_items
+returns-clause-by_items g c some = shape_by_items (cutdepth c.args.threads.value) c.args.items.items some

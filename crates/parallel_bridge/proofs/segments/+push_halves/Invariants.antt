@@ -1,0 +1,5 @@
+-- each call goes one level deeper
+use Rattle.parallel_bridge.proofs.segments.+push_halves.Given as goal
+
+abbrev pub decreases-push_halves : goal.decreases-push_halves
+decreases-push_halves l = l.depth

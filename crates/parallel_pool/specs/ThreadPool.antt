@@ -1,0 +1,7 @@
+use Rattle.std.specs.Prelude.{ℕ}
+use Rattle.std.specs.NonZero.{non_zero_usize_get}
+use Rattle.parallel_pool.specs.declared.rayon.thread_pool.ThreadPool.{ThreadPool}
+
+-- the number of a pool's threads, which is 1 to 65535
+abbrev pub thread_count : ThreadPool → ℕ
+thread_count pool = non_zero_usize_get pool.num_threads

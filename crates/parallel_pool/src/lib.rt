@@ -1,0 +1,6 @@
+//! The pool on whose threads the calls of a strategy run.
+#![tactic(auto)]
+
+pub mod rayon;
+
+pub use rayon::ThreadPool;

@@ -1,0 +1,108 @@
+//! How work is cut before it is handed out: balanced ranges of indices, and grids of tiles.
+ghost use Rattle.std.specs.Prelude.{◌≡◌, ◌↔◌, ◌<◌, ◌≤◌, ◌*◌, length, vec_len, IfOk, IfErr, IsTrue, IsFalse, HoldsAt};
+ghost use Rattle.std.specs.Int.NonZero.{non_zero_usize_get};
+ghost use Rattle.parallel_shares.specs.Cut.{BalancedCut};
+
+use parallel_fault::Fault;
+use std::alloc::Global;
+use std::num::NonZeroUsize;
+use std::ops::Range;
+
+/// Cuts the indices from 0 up to `len` into `count` ranges, in order and without a gap.
+///
+/// The lengths of the ranges differ by at most one, and the longer ones come first, as
+/// `BalancedCut` says. Where `count` is above `len` the last ranges are empty. The one refusal is
+/// `Fault::Memory`, where the list could not be reserved.
+pub fn cut(alloc: Global, len: usize, count: NonZeroUsize) -> Result<Vec<Range<usize>>, Fault>
+    ensures balanced { IfOk result (λ ranges. BalancedCut len ranges.items) }
+    ensures count { IfOk result (λ ranges. vec_len ranges ≡ non_zero_usize_get count) }
+    ensures fault { IfErr result (λ refusal. refusal ≡ Fault.Memory) }
+{
+    let shorter = len / count;
+    let longer_ranges = len % count;
+    let mut ranges = Vec::with_capacity(alloc, count.get())?;
+    let mut start = 0;
+    for index in 0..count.get() {
+        let end = start + shorter + usize::from(index < longer_ranges);
+        ranges.push(start..end)?;
+        start = end;
+    }
+    Ok(ranges)
+}
+
+/// A way to lay work out as rows of equal length, on which workers fill tiles.
+///
+/// A tile is a run of indices of one row. Beginning one costs as much as `tile_cost` indices.
+#[derive(Clone, Copy, Debug, PartialEq, Eq)]
+pub struct Grid {
+    /// The number of rows.
+    pub rows: usize,
+    /// What a tile costs besides its indices, counted in indices.
+    pub tile_cost: NonZeroUsize,
+}
+
+impl Grid {
+    ghost use Rattle.parallel_shares.specs.Grid.{critical_cost, stays_whole, Fits, IsChosenGrid};
+
+    /// What the longest chain of work costs on rows of `len` indices among `workers` workers, and
+    /// whether rows stay whole.
+    ///
+    /// Costs are counted in indices, and each sum and product stops at the greatest `usize`. The
+    /// number is `critical_cost` and the flag `stays_whole`. Rows are cut only where that is
+    /// cheaper, and only where a row has at least twice as many indices as a tile costs.
+    pub fn critical_path(&self, len: usize, workers: NonZeroUsize) -> (usize, bool)
+        ensures cost { result.0 ≡ critical_cost self.now len (non_zero_usize_get workers) }
+        ensures whole { result.1 ≡ stays_whole self.now len (non_zero_usize_get workers) }
+        ensures cut_pays { IsFalse result.1 → 2 * non_zero_usize_get self.now.tile_cost ≤ len }
+    {
+        let tile_cost = self.tile_cost.get();
+        let row = len.saturating_add(tile_cost);
+        let whole = self.rows.div_ceil(workers.get()).saturating_mul(row);
+        if len < tile_cost.saturating_mul(2) {
+            return (whole, true);
+        }
+        let shared = self.rows.saturating_mul(row) / workers;
+        let cut = shared.saturating_add(tile_cost.saturating_mul(3));
+        if cut < whole {
+            (cut, false)
+        } else {
+            (whole, true)
+        }
+    }
+
+    /// The first grid of least cost for rows of `len` indices and `workers` workers: its index, and
+    /// the number and the flag of its `critical_path`.
+    ///
+    /// `IsChosenGrid` says which one that is. There has to be a grid.
+    pub fn choose(grids: &[Grid], len: usize, workers: NonZeroUsize) -> (usize, usize, bool)
+        requires { 0 < length grids.now }
+        ensures chosen { IsChosenGrid grids.now len (non_zero_usize_get workers) result.0 }
+        ensures cost { HoldsAt
+            (λ grid. result.1 ≡ critical_cost grid len (non_zero_usize_get workers)) grids.now result.0 }
+        ensures whole { HoldsAt
+            (λ grid. result.2 ≡ stays_whole grid len (non_zero_usize_get workers)) grids.now result.0 }
+    {
+        let mut chosen = 0;
+        let (mut cost, mut whole) = grids[0].critical_path(len, workers);
+        for index in 1..grids.len() {
+            let (next_cost, next_whole) = grids[index].critical_path(len, workers);
+            if next_cost < cost {
+                chosen = index;
+                cost = next_cost;
+                whole = next_whole;
+            }
+        }
+        (chosen, cost, whole)
+    }
+
+    /// Whether there is a grid, and all indices of each grid can be counted on rows of `len`
+    /// indices: `rows * len` is at most the greatest `usize`, as `Fits` says.
+    pub fn fits(grids: &[Grid], len: usize) -> bool
+        ensures { IsTrue result ↔ Fits grids.now len }
+    {
+        !grids.is_empty()
+            && grids
+                .iter()
+                .all(|grid| grid.rows.checked_mul(len).is_some())
+    }
+}
