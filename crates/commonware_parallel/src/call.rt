@@ -65,14 +65,19 @@ impl Call {
     }
 }
 
-/// Measures a run that goes on after its strategy chose.
+/// Measures a run that goes on after its strategy chose: on a worker, or in a body that writes.
+///
+/// Nothing is claimed of what it measures. A run that is given up isn't ended, so nothing is recorded
+/// of it.
 pub trait Meter: Drop {
+    /// The run begins.
     fn begin(&mut self);
 
+    /// The run has ended.
     fn end<Rt: Wait>(self, rt: &Rt);
 }
 
-/// Takes no time.
+/// Measures nothing: the meter of a strategy that no policy chooses for.
 #[derive(Clone, Copy, Debug, PartialEq, Eq)]
 pub struct Unmeasured;
 

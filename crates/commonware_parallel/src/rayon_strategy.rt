@@ -6,7 +6,7 @@ use crate::strategy::Strategy;
 use parallel_fault::{Fault, Trouble};
 use parallel_policy::{Clock, Place};
 use parallel_pool::rayon::{MAX_THREADS, ThreadPool, ThreadPoolBuildError};
-use std::alloc::{AllocError, Global};
+use std::alloc::Global;
 use std::num::NonZeroUsize;
 use std::sync::{Arc, Wait};
 use std::thread::Threads;
@@ -60,11 +60,7 @@ impl<C> Rayon<C> {
         ensures threads { threads_of result ≡ threads_of self }
         ensures chooses { chooses_of result ≡ chooses_of self }
     {
-        let Rayon {
-            pool,
-            parallelism: _,
-            clock,
-        } = self;
+        let Rayon { pool, clock, .. } = self;
         Rayon {
             pool,
             parallelism,

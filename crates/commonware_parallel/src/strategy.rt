@@ -129,7 +129,7 @@ pub trait Strategy: Clone + Send + Sync + Debug + 'static {
     ///
     /// # Errors
     ///
-    /// What `refuses` allows, before a body was called; no strategy without a policy refuses a run.
+    /// `Fault::Memory` alone, and only what `refuses` allows: a strategy without a policy refuses no run.
     final fn run<Rt: Wait, P: Place, R, A: FnOnce() -> R + Drop, B: FnOnce() -> R + Drop>(
         &self,
         rt: &Rt,
@@ -143,15 +143,15 @@ pub trait Strategy: Clone + Send + Sync + Debug + 'static {
         requires parallel_runs { B.pre parallel }
         ensures answers { IfOk result (λ answer. (pick : ℕ) × ((pick < 2) × takes self.now (P.site_of site) (body_call len) pick) × OneOf (A.post serial answer) (B.post parallel answer) pick) }
         ensures refused { IfErr result (refuses self.now (P.site_of site) (body_call len)) }
+        ensures fault { IfErr result (λ fault. fault ≡ Memory) }
     {
         let body = move |pick: usize| -> Result<R, ()>
             requires { A.pre serial × B.pre parallel }
             ensures { MatchResult result (λ answer. OneOf (A.post serial answer) (B.post parallel answer) pick) (λ _. ⊥) }
         {
-            if pick == 0 {
-                Ok(serial())
-            } else {
-                Ok(parallel())
+            match pick {
+                0 => Ok(serial()),
+                _ => Ok(parallel()),
             }
         };
         match self.dispatch(rt, alloc, site, Call::body(len), body) {

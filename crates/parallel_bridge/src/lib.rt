@@ -8,4 +8,5 @@ pub mod parallel;
 pub mod segments;
 pub mod serial;
 
-pub use consumer::{Consumer, Reducer};
+pub use consumer::{Consumer, FoldConsumer, MapConsumer, Reducer};
+pub use law::fold_law;

@@ -11,7 +11,7 @@ pub returns-in-Ok-clause-answers : goal.returns-in-Ok-clause-answers
 returns-in-Ok-clause-answers g c =
     let w = c.in-Ok.ensures.answers in
     let P : Call → Type 0 = λ call. (w.0 < call.options) × g.Self.Strategy.takes c.args.self.now (g.P.Place.site_of c.args.site) call w.0 in
-    let same = c.batches-call.ensures ∙ ap (λ n. batches_call n c.args.len (non_zero_usize_get c.args.minimum) c.args.multiplier) c.planning.ensures in
+    let same : c.batches-call.result ≡ batches_call (g.Self.Strategy.plans c.args.self.now) c.args.len (non_zero_usize_get c.args.minimum) c.args.multiplier = c.batches-call.ensures ∙ ap (λ n. batches_call n c.args.len (non_zero_usize_get c.args.minimum) c.args.multiplier) c.planning.ensures in
     let taken = subst P same w.1 in
     let v : (batches : Batches g.row.Self.Denot g.row.P.Denot) × IsBatch c.args.len (w.0 + 1) (non_zero_usize_get c.args.minimum) (ranges_of batches) × g.F.FnOnce.post c.args.run (batches, tt) c.in-Ok.answer = search rules in
     (w.0, taken.0, taken.1, v.0, v.1, v.2)
