@@ -1,3 +1,14 @@
 pub mod Cuts
 pub mod CutSteps
 pub mod Grids
+pub mod Sounds
+pub mod Words
+pub mod Counts
+pub mod Lists
+pub mod Openings
+pub mod OpeningCuts
+pub mod Kept
+pub mod Shown
+pub mod Places
+pub mod Moved
+pub mod Runs

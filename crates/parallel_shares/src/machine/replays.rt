@@ -1,0 +1,33 @@
+ghost use Rattle.std.specs.Prelude.{◌≡◌, length, IfOk, IfErr};
+ghost use Rattle.parallel_shares.specs.Machine.{opening, IsStateOf};
+ghost use Rattle.parallel_shares.specs.Answers.{Replays};
+ghost use Rattle.parallel_shares.specs.Holders.{Reached};
+
+use super::events::{Event, Outcome};
+use super::places::State;
+use super::sizes::Plan;
+use super::steps::step;
+use parallel_fault::Fault;
+use std::alloc::Global;
+
+/// Takes a list of events, in order, from the opening state of a plan.
+///
+/// It answers the state after them and an outcome for each, as `Replays` says. Any list of events
+/// may be handed in. Whatever they are, the state shows holders that a run of moves leads to from
+/// the opening, as `Reached` says. So each unit has exactly one holder: a share where it is pending,
+/// a seat that carries it, or a seat that has claimed its cells. The one refusal is `Fault::Memory`,
+/// where a list could not be grown.
+pub fn replay(alloc: Global, plan: &Plan, events: &[Event]) -> Result<(State, Vec<Outcome>), Fault>
+    ensures outcomes { IfOk result (λ r. Replays plan.now (opening plan.now) events.now r.1.items r.0) }
+    ensures run { IfOk result (λ r. Reached plan.now r.0) }
+    ensures belongs { IfOk result (λ r. IsStateOf plan.now r.0) }
+    ensures one_each { IfOk result (λ r. length r.1.items ≡ length events.now) }
+    ensures fault { IfErr result (λ refusal. refusal ≡ Fault.Memory) }
+{
+    let mut state = State::new(alloc, plan)?;
+    let mut outcomes = Vec::with_capacity(alloc, events.len())?;
+    for event in events {
+        outcomes.push(step(plan, &mut state, *event)?)?;
+    }
+    Ok((state, outcomes))
+}
