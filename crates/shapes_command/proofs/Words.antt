@@ -1,0 +1,21 @@
+-- The texts of a line's words, from what a slice pattern reads of them.
+use Rattle.std.proofs.Common.{◌≡◌, ◌<◌, ◌∙◌, ℕ, List, [], length, slice_index_or, ap, sym, subst, arith, string_bytes, String, true}
+use Rattle.std.specs.Str.{bytes_eq}
+use Rattle.std.proofs.lemmas.List.{get_or-map}
+use Rattle.std.proofs.lemmas.Slice.Eq.{bytes_eq-Decides}
+use Rattle.std.specs.declared.alloc.Global.{Global}
+use Rattle.shapes_command.specs.Request.{word, HasForm}
+
+module _ (words : List (String Global)) (i : ℕ) (s : String Global) (text : List ℕ) (is : s ≡ slice_index_or words i s) (reads : text ≡ string_bytes s) where
+  -- the text at a place is that of the word there
+  pub word_at : i < length words → word words i ≡ text
+  word_at below = get_or-map string_bytes words i s [] below ∙ ap string_bytes (sym is) ∙ sym reads
+
+  -- what holds of the text of the word there holds of the text at the place
+  pub of_word : (P : List ℕ → Type 0) → i < length words → P text → P (word words i)
+  of_word P below p = subst P (sym (word_at below)) p
+
+-- so many words, of which the first passed the test for a name
+pub has_form : (words : List (String Global)) (count : ℕ) (s : String Global) (text name : List ℕ) → length words ≡ count → 0 < count → s ≡ slice_index_or words 0 s → text ≡ string_bytes s → true ≡ bytes_eq text name → HasForm words name count
+has_form words count s text name counted some is reads same =
+    (counted, word_at words 0 s text is reads (omega arith) ∙ (bytes_eq-Decides text name).0 (sym same))

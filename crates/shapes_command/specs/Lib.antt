@@ -1,0 +1,4 @@
+pub mod Drain
+pub mod Line
+pub mod Number
+pub mod Request

@@ -1,0 +1,66 @@
+-- Which words are a command line, and which request they say.
+use Rattle.std.specs.Prelude.{◌≡◌, ℕ, ◌-◌, ◌^◌, ◌⊎◌, List, [], map, length, slice_index_or, codes, string_bytes, String}
+use Rattle.std.specs.NonZero.{non_zero_usize_get}
+use Rattle.std.specs.Str.Parse.{digits_value}
+use Rattle.std.specs.declared.alloc.Global.{Global}
+use Rattle.shapes_command.specs.Number.{IsNumberUpTo, IsCountUpTo}
+use Rattle.shapes_command.specs.declared.request.Request.{Request}
+use Rattle.shapes_command.specs.declared.request.Request.TheVariants.{Drain, Batches, Grid}
+
+-- the text of the word at a place, which is empty past the last word
+abbrev pub word : List (String Global) → ℕ → List ℕ
+word words i = slice_index_or (map string_bytes words) i []
+
+-- the number that the word at a place writes
+abbrev pub number_at : List (String Global) → ℕ → ℕ
+number_at words i = digits_value 10 (word words i)
+
+-- so many words, of which the first is the name
+abbrev pub HasForm : List (String Global) → List ℕ → ℕ → Type 0
+HasForm words name count = (length words ≡ count) × (word words 0 ≡ name)
+
+-- `drain ROWS WORKERS`, each in its range
+abbrev pub IsDrainLine : List (String Global) → Type 0
+IsDrainLine words = HasForm words (codes "drain") 3 × IsNumberUpTo 65535 (word words 1) × IsCountUpTo 16 (word words 2)
+
+-- the request of such a line
+abbrev pub SaysDrain : List (String Global) → Request → Type 0
+SaysDrain words (Drain rows workers) = IsDrainLine words × (rows ≡ number_at words 1) × (non_zero_usize_get workers ≡ number_at words 2)
+SaysDrain words (Batches _ _) = ⊥
+SaysDrain words (Grid _ _ _) = ⊥
+
+-- `batches LEN COUNT`, each in its range
+abbrev pub IsBatchesLine : List (String Global) → Type 0
+IsBatchesLine words = HasForm words (codes "batches") 3 × IsNumberUpTo (2 ^ 64 - 1) (word words 1) × IsCountUpTo 65535 (word words 2)
+
+-- the request of such a line
+abbrev pub SaysBatches : List (String Global) → Request → Type 0
+SaysBatches words (Drain _ _) = ⊥
+SaysBatches words (Batches len count) = IsBatchesLine words × (len ≡ number_at words 1) × (non_zero_usize_get count ≡ number_at words 2)
+SaysBatches words (Grid _ _ _) = ⊥
+
+-- `grid ROWS COST LEN WORKERS`, each in its range
+abbrev pub IsGridLine : List (String Global) → Type 0
+IsGridLine words = HasForm words (codes "grid") 5 × IsNumberUpTo (2 ^ 64 - 1) (word words 1) × IsCountUpTo (2 ^ 64 - 1) (word words 2)
+    × IsNumberUpTo (2 ^ 64 - 1) (word words 3) × IsCountUpTo (2 ^ 64 - 1) (word words 4)
+
+-- the request of such a line
+abbrev pub SaysGrid : List (String Global) → Request → Type 0
+SaysGrid words (Drain _ _) = ⊥
+SaysGrid words (Batches _ _) = ⊥
+SaysGrid words (Grid grid len workers) = IsGridLine words × (grid.rows ≡ number_at words 1) × (non_zero_usize_get grid.tile_cost ≡ number_at words 2)
+    × (len ≡ number_at words 3) × (non_zero_usize_get workers ≡ number_at words 4)
+
+-- the request of no words: that of `drain 4 2`
+abbrev pub IsUnasked : Request → Type 0
+IsUnasked (Drain rows workers) = (rows ≡ 4) × (non_zero_usize_get workers ≡ 2)
+IsUnasked (Batches _ _) = ⊥
+IsUnasked (Grid _ _ _) = ⊥
+
+-- no words, or the words of a command with its arguments
+abbrev pub IsCommandLine : List (String Global) → Type 0
+IsCommandLine words = (length words ≡ 0) ⊎ (IsDrainLine words ⊎ (IsBatchesLine words ⊎ IsGridLine words))
+
+-- the words say the request
+abbrev pub Says : List (String Global) → Request → Type 0
+Says words request = ((length words ≡ 0) × IsUnasked request) ⊎ (SaysDrain words request ⊎ (SaysBatches words request ⊎ SaysGrid words request))

@@ -1,0 +1,109 @@
+// What a command line asks for.
+ghost use Rattle.std.specs.Prelude.{◌≡◌, MatchOption};
+ghost use Rattle.shapes_command.specs.Request.{IsCommandLine, Says, IsUnasked, IsDrainLine, SaysDrain, IsBatchesLine, SaysBatches, IsGridLine, SaysGrid};
+
+use crate::number::{count, number};
+use parallel_shares::Grid;
+use std::num::NonZeroUsize;
+
+/// The most rows that `drain` takes.
+pub const MOST_ROWS: usize = 65_535;
+
+/// The most workers that `drain` takes.
+pub const MOST_WORKERS: usize = 16;
+
+/// The most ranges that `batches` makes.
+pub const MOST_RANGES: usize = 65_535;
+
+/// A command with its arguments.
+#[derive(Debug, PartialEq, Eq, Drop)]
+pub enum Request {
+    /// `drain ROWS WORKERS`: the rows that the workers claim from one queue of whole rows.
+    Drain {
+        /// The number of rows, at most 65535.
+        rows: usize,
+        /// The number of workers, at most 16.
+        workers: NonZeroUsize,
+    },
+    /// `batches LEN COUNT`: the balanced ranges of the indices below a length.
+    Batches {
+        /// The number of indices.
+        len: usize,
+        /// The number of ranges, at most 65535.
+        count: NonZeroUsize,
+    },
+    /// `grid ROWS COST LEN WORKERS`: the cost of a grid, and whether its rows stay whole.
+    Grid {
+        /// The grid, of so many rows and such a tile cost.
+        grid: Grid,
+        /// The number of indices in a row.
+        len: usize,
+        /// The number of workers.
+        workers: NonZeroUsize,
+    },
+}
+
+/// The request that the words say, and None where they are no command line.
+///
+/// No words say `drain 4 2`.
+pub fn parse(words: &[String]) -> Option<Request>
+    ensures { MatchOption result (¬ (IsCommandLine words.now)) (Says words.now) }
+{
+    if words.is_empty() {
+        return Some(unasked());
+    }
+    drain(words).or(batches(words)).or(grid(words))
+}
+
+// What the program does without words: `drain 4 2`.
+fn unasked() -> Request
+    ensures { IsUnasked result }
+{
+    Request::Drain {
+        rows: 4,
+        workers: NonZeroUsize::MIN.saturating_add(1),
+    }
+}
+
+// The request of a line `drain ROWS WORKERS`.
+fn drain(words: &[String]) -> Option<Request>
+    ensures { MatchOption result (¬ (IsDrainLine words.now)) (SaysDrain words.now) }
+{
+    match words {
+        [name, rows, workers] if name.as_str() == "drain" => Some(Request::Drain {
+            rows: number(rows, MOST_ROWS)?,
+            workers: count(workers, MOST_WORKERS)?,
+        }),
+        _ => None,
+    }
+}
+
+// The request of a line `batches LEN COUNT`.
+fn batches(words: &[String]) -> Option<Request>
+    ensures { MatchOption result (¬ (IsBatchesLine words.now)) (SaysBatches words.now) }
+{
+    match words {
+        [name, len, ranges] if name.as_str() == "batches" => Some(Request::Batches {
+            len: number(len, usize::MAX)?,
+            count: count(ranges, MOST_RANGES)?,
+        }),
+        _ => None,
+    }
+}
+
+// The request of a line `grid ROWS COST LEN WORKERS`.
+fn grid(words: &[String]) -> Option<Request>
+    ensures { MatchOption result (¬ (IsGridLine words.now)) (SaysGrid words.now) }
+{
+    match words {
+        [name, rows, cost, len, workers] if name.as_str() == "grid" => Some(Request::Grid {
+            grid: Grid {
+                rows: number(rows, usize::MAX)?,
+                tile_cost: count(cost, usize::MAX)?,
+            },
+            len: number(len, usize::MAX)?,
+            workers: count(workers, usize::MAX)?,
+        }),
+        _ => None,
+    }
+}

@@ -1,0 +1,192 @@
+use super::*;
+use std::alloc::AllocError;
+use std::test::Fail;
+
+// What a command left: its status, and what it wrote to either writer.
+#[derive(Debug, PartialEq, Eq, Drop)]
+struct Ran {
+    status: u8,
+    out: String,
+    err: String,
+}
+
+// The words of the line, which single spaces part; no words where it is empty.
+fn words_of(alloc: Global, line: &str) -> Result<Vec<String>, AllocError> {
+    let mut words = Vec::new(alloc);
+    if !line.is_empty() {
+        for word in line.split(' ') {
+            words.push(String::from_str(alloc, word)?)?;
+        }
+    }
+    Ok(words)
+}
+
+// Runs the words of the line.
+fn run<R: Threads + Wait + Sync>(rt: &R, alloc: Global, line: &str) -> Result<Ran, Fail> {
+    let words = words_of(alloc, line)?;
+    let mut out = Vec::new(alloc);
+    let mut err = Vec::new(alloc);
+    let status = command(rt, alloc, &words, &mut out, &mut err);
+    Ok(Ran {
+        status,
+        out: String::from_utf8(out)?,
+        err: String::from_utf8(err)?,
+    })
+}
+
+// A writer that refuses each write.
+#[derive(Drop)]
+struct Closed;
+
+impl Write for Closed {
+    fn write(&mut self, _buf: &[u8]) -> io::Result<usize> {
+        Err(io::Error::from(ErrorKind::BrokenPipe))
+    }
+
+    fn flush(&mut self) -> io::Result<()> {
+        Ok(())
+    }
+}
+
+#[test]
+fn each_command_answers_one_line(rt: HostRuntime) -> Result<(), Fail> {
+    for (line, answer) in [
+        ("", "0 1 2 3\n"),
+        ("drain 4 2", "0 1 2 3\n"),
+        ("drain 1 16", "0\n"),
+        ("drain 0 2", "\n"),
+        ("drain 5 16", "0 1 2 3 4\n"),
+        ("batches 10 4", "0..3 3..6 6..8 8..10\n"),
+        ("batches 3 5", "0..1 1..2 2..3 3..3 3..3\n"),
+        ("batches 0 2", "0..0 0..0\n"),
+        (
+            "batches 18446744073709551615 3",
+            "0..6148914691236517205 6148914691236517205..12297829382473034410 12297829382473034410..18446744073709551615\n",
+        ),
+        ("batches 0010 04", "0..3 3..6 6..8 8..10\n"),
+        ("grid 4 1 64 8", "35 cut\n"),
+        ("grid 4 1 64 1", "260 whole\n"),
+        (
+            "grid 18446744073709551615 18446744073709551615 18446744073709551615 1",
+            "18446744073709551615 whole\n",
+        ),
+    ] {
+        let ran = run(&rt, rt.alloc(), line)?;
+        assert_eq!(rt; ran.status, 0, "at {line:?}: {ran:?}");
+        assert_eq!(rt; ran.out.as_str(), answer, "at {line:?}");
+        assert_eq!(rt; ran.err.as_str(), "", "at {line:?}");
+    }
+    Ok(())
+}
+
+#[test]
+fn the_widest_commands_answer(rt: HostRuntime) -> Result<(), Fail> {
+    let rows = run(&rt, rt.alloc(), "drain 65535 16")?;
+    assert_eq!(rt; rows.status, 0);
+    assert_eq!(rt; rows.out.split(' ').count(), 65_535);
+    assert!(rt; rows.out.starts_with("0 1 2 ") && rows.out.ends_with(" 65533 65534\n"));
+    let ranges = run(&rt, rt.alloc(), "batches 18446744073709551615 65535")?;
+    assert_eq!(rt; ranges.status, 0);
+    assert_eq!(rt; ranges.out.split(' ').count(), 65_535);
+    assert!(rt; ranges.out.ends_with("..18446744073709551615\n"));
+    Ok(())
+}
+
+#[test]
+fn other_words_are_bad_arguments(rt: HostRuntime) -> Result<(), Fail> {
+    for line in [
+        "drain",
+        "drain 4",
+        "drain 4 2 1",
+        "drain 65536 2",
+        "drain 4 0",
+        "drain 4 17",
+        "drain +3 2",
+        "drain -1 2",
+        "drain  2",
+        "drain 3x 2",
+        "drain 3.0 2",
+        "drain ٣ 2",
+        "Drain 4 2",
+        "batches 18446744073709551616 1",
+        "batches 4 0",
+        "batches 4 65536",
+        "batches 4",
+        "batches 4 2 1",
+        "grid 4 0 64 1",
+        "grid 4 1 64 0",
+        "grid 4 1 64",
+        "grid 4 1 64 8 9",
+        "grid 4 1 64 18446744073709551616",
+        "mix 0 1 1 64",
+        "segments 3 5",
+        "fold serial 10 1 2 3",
+        "fold parallel 10 1 2 3",
+        "explore sum",
+        "threads 0 0 7 4",
+        "help",
+        " ",
+    ] {
+        let ran = run(&rt, rt.alloc(), line)?;
+        assert_eq!(rt; ran.status, 2, "at {line:?}: {ran:?}");
+        assert_eq!(rt; ran.out.as_str(), "", "at {line:?}");
+        assert_eq!(rt; ran.err.as_str(), "shapes: bad arguments\n", "at {line:?}");
+    }
+    Ok(())
+}
+
+#[test]
+fn a_failed_write_is_status_one(rt: HostRuntime) -> Result<(), Fail> {
+    let alloc = rt.alloc();
+    let mut kept = Vec::new(alloc);
+    assert_eq!(rt; command(&rt, alloc, &[], &mut Closed, &mut kept), 1);
+    assert_eq!(rt; kept.len(), 0);
+    let unknown = [String::from_str(alloc, "unknown")?];
+    assert_eq!(rt; command(&rt, alloc, &unknown, &mut kept, &mut Closed), 1);
+    assert_eq!(rt; kept.len(), 0);
+    assert_eq!(rt; refused(&mut Closed, Fault::Memory), 1);
+    Ok(())
+}
+
+// Run with `rt try --test --fail-alloc N` for each N: a refused growth leaves no answer, half or whole.
+#[test]
+fn a_refused_growth_leaves_no_answer(rt: HostRuntime) -> Result<(), Fail> {
+    let alloc = rt.alloc();
+    let lines = [("drain 4 2", "0 1 2 3\n"), ("batches 3 2", "0..2 2..3\n")];
+    for (line, answer) in lines {
+        // The words and the writers have their memory before the command runs.
+        let Ok(words) = words_of(alloc, line) else {
+            continue;
+        };
+        let Ok(mut out) = Vec::with_capacity(alloc, 64) else {
+            continue;
+        };
+        let Ok(mut err) = Vec::with_capacity(alloc, 64) else {
+            continue;
+        };
+        let status = command(&rt, alloc, &words, &mut out, &mut err);
+        let (out, err) = (String::from_utf8(out)?, String::from_utf8(err)?);
+        if status == 0 {
+            assert_eq!(rt; (out.as_str(), err.as_str()), (answer, ""), "at {line:?}");
+        } else {
+            assert_eq!(rt;
+                (out.as_str(), err.as_str()),
+                ("", "shapes: out of memory\n"),
+                "at {line:?}"
+            );
+        }
+    }
+    Ok(())
+}
+
+#[test]
+fn words_that_could_not_be_read(rt: HostRuntime) -> Result<(), Fail> {
+    let mut err = Vec::new(rt.alloc());
+    assert_eq!(rt; unread(ErrorKind::InvalidData, &mut err), 2);
+    assert_eq!(rt; unread(ErrorKind::OutOfMemory, &mut err), 1);
+    assert_eq!(rt;
+        String::from_utf8(err)?.as_str(),
+        "shapes: bad arguments\nshapes: out of memory\n"
+    );
+    Ok(())
+}
