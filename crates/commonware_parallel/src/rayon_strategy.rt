@@ -138,6 +138,10 @@ impl<C: Clock> Strategy for Rayon<C> {
         true
     }
 
+    fn is_serial(&self) -> bool {
+        self.parallelism.get() == 1
+    }
+
     fn inner(&self) -> Result<Rayon<C>, Fault> {
         self.without_policy()
     }

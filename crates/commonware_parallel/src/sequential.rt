@@ -6,7 +6,7 @@ ghost use Rattle.parallel_bridge.specs.Lists.{FoldSegment, MapOf};
 use crate::call::{Call, Unmeasured};
 use crate::items::gather;
 use crate::strategy::Strategy;
-use parallel_bridge::serial::{fold_serial, map_serial};
+use parallel_bridge::serial::{fold_iter, map_serial};
 use parallel_fault::{Fault, Trouble};
 use parallel_policy::Place;
 use std::alloc::Global;
@@ -55,8 +55,8 @@ impl Sequential {
         map_serial(alloc, gather(alloc, iter)?, &map_op)
     }
 
-    /// The items folded from an identity, from left to right, in one segment (`FoldSegment`).
-    /// Nothing is reduced. The one refusal is `Fault::Memory`, and the items are then gone.
+    /// The items folded from an identity as they come, from left to right, in one segment
+    /// (`FoldSegment`). Nothing is gathered and nothing is reduced, so it takes no memory.
     pub fn fold<
         P: Place,
         I: Iterator,
@@ -64,27 +64,15 @@ impl Sequential {
         ID: Fn() -> R + Drop,
         F: Fn(R, I::Item) -> R + Drop,
         G: Fn(R, R) -> R + Drop,
-    >(
-        &self,
-        alloc: Global,
-        _site: P,
-        iter: I,
-        identity: ID,
-        fold_op: F,
-        _reduce_op: G,
-    ) -> Result<R, Fault>
-    where
-        I::Item: Drop,
+    >(&self, _site: P, iter: I, identity: ID, fold_op: F, _reduce_op: G) -> R
         requires can { I.can_next iter }
         requires ends { IsFinite (I.remaining iter) }
         requires identity_accepts { ID.IsAlwaysCallable identity }
         requires fold_accepts { F.IsAlwaysCallable fold_op }
-        ensures segment { IfOk result (λ r. (xs : List I.Item) × Drains I.next_gives iter xs
-            × FoldSegment (ID.post identity) (λ a x b. F.post fold_op a x b) xs r) }
-        ensures fault { IfErr result (λ fault. fault ≡ Memory) }
+        ensures { (xs : List I.Item) × Drains I.next_gives iter xs
+            × FoldSegment (ID.post identity) (λ a x b. F.post fold_op a x b) xs result }
     {
-        let items = gather(alloc, iter)?;
-        Ok(fold_serial(items, &identity, &fold_op))
+        fold_iter(iter, &identity, &fold_op)
     }
 }
 
@@ -110,6 +98,10 @@ impl Strategy for Sequential {
     }
 
     fn starts_workers(&self) -> bool {
+        true
+    }
+
+    fn is_serial(&self) -> bool {
         true
     }
 

@@ -1,4 +1,4 @@
-ghost use Rattle.std.specs.Prelude.{◌≡◌, ◌≢◌, ℕ, ◌+◌, ◌/◌, ◌<◌, Bool, List, All, IfOk, IfErr, MatchResult, length, max};
+ghost use Rattle.std.specs.Prelude.{◌≡◌, ◌≢◌, ℕ, ◌+◌, ◌/◌, ◌<◌, Bool, List, All, IfOk, IfErr, IsTrue, MatchResult, length, max};
 ghost use Rattle.std.specs.Int.NonZero.{non_zero_usize_get};
 ghost use Rattle.std.specs.Iterator.{IsFinite, Drains};
 ghost use Rattle.parallel_bridge.specs.Lists.{MapOf, FoldSegment, Bracketing};
@@ -11,7 +11,7 @@ ghost use Rattle.parallel_fault.specs.Trouble.{IfFault};
 use crate::call::{Call, Kind, Meter};
 use crate::items::{count, fold_installed, gather, map_installed};
 use crate::plan::Batches;
-use parallel_bridge::serial::{fold_serial, map_serial};
+use parallel_bridge::serial::{fold_iter, fold_serial, map_serial};
 use parallel_fault::{Fault, Trouble};
 use parallel_policy::Place;
 use std::alloc::Global;
@@ -69,6 +69,14 @@ pub trait Strategy: Clone + Send + Sync + Debug + 'static {
     /// Whether a job that is handed off gets a worker.
     fn starts_workers(&self) -> bool
         ensures { result ≡ starts self.now };
+
+    /// Whether a body over any number of items may run at pick 0 without the strategy being asked, as
+    /// where it has no other pick and measures nothing. A fold then goes over its iterator as it comes.
+    fn is_serial(&self) -> bool
+        ensures { IsTrue result → (site : Site) (len : ℕ) → takes self.now site (body_call len) 0 }
+    {
+        false
+    }
 
     /// The strategy that the parts of a batch go through: a strategy like this one that asks no policy.
     ///
@@ -268,6 +276,9 @@ pub trait Strategy: Clone + Send + Sync + Debug + 'static {
             × FoldsAs (ID.post identity) (FoldSegment (ID.post identity) (λ a x b. F.post fold_op a x b)) (λ a b c. G.post reduce_op a b c) (cutdepth (threads self.now)) pick xs r) }
         ensures fault { IfErr result (λ fault. fault ≡ Memory) }
     {
+        if self.is_serial() {
+            return Ok(fold_iter(iter, &identity, &fold_op));
+        }
         let items = gather(alloc, iter)?;
         let len = count(&items);
         let threads = self.thread_number();

@@ -1,5 +1,5 @@
 -- What a chain of `into_iter`, `map` and `collect` gives, where the closure has a relation only.
-use Rattle.std.proofs.Common.{◌≡◌, List, [], ◌∷◌, Option, None, length, sym, subst}
+use Rattle.std.proofs.Common.{◌≡◌, List, [], ◌∷◌, ◌++◌, refl, Option, None, length, sym, subst}
 use Rattle.std.specs.List.{AllZip}
 use Rattle.std.specs.Fn.{Called}
 use Rattle.std.specs.Iterator.{DrainsIf, AlwaysYields}
@@ -9,6 +9,7 @@ use Rattle.std.specs.declared.vec.IntoIter.{IntoIter}
 use Rattle.std.specs.Vec.Iter.{into_iter_items, into_iter_len, into_iter_steps}
 use Rattle.std.proofs.lemmas.Iterator.{YieldsList}
 use Rattle.std.proofs.lemmas.Iterator.Adapters.{YieldsList-from_vec}
+use Rattle.parallel_bridge.specs.Lists.{Chain}
 use denote.Param.Members.{Mut}
 
 module _ {S A B F : Type 0} (steps : S → Option A → S → Type 0) (g : Mut F (A × Unit {0}) B) (allowed : A → B → Type 0) (f : F) (calls : (x : A) (y : B) (after : F) → Called g f (x, tt) y after → allowed x y × (after ≡ f)) where
@@ -29,3 +30,8 @@ vec_yields xs s t same items long = subst (λ v. YieldsList into_iter_steps (λ 
 -- the same, with what the closure answers last
 pub mapped_list : {S A B F : Type 0} (steps : S → Option A → S → Type 0) (g : Mut F (A × Unit {0}) B) (f : F) (allowed : A → B → Type 0) (xs : List A) (s : Map S F) (ys : List B) → DrainsIf (map_steps steps g) (Unit {0}) s ys → map_callee s ≡ f → YieldsList steps (λ x. x) (map_source s) xs → ((x : A) (y : B) (after : F) → Called g f (x, tt) y after → allowed x y × (after ≡ f)) → AllZip allowed xs ys
 mapped_list steps g f allowed xs s ys gave same road calls = mapped_items steps g allowed f calls xs s ys same road.runs gave
+
+-- one step more at the end of a chain
+pub chain_push : {X R : Type 0} (step : R → X → R → Type 0) (a : R) (xs : List X) (m : R) (x : X) (b : R) → Chain step a xs m → step m x b → Chain step a (xs ++ x ∷ []) b
+chain_push step a [] m x b same last = (b, subst (λ v. step v x b) (sym same) last, refl)
+chain_push step a (y ∷ ys) m x b (n, first, rest) last = (n, first, chain_push step n ys m x b rest last)

@@ -1,4 +1,5 @@
-ghost use Rattle.std.specs.Prelude.{IfOk};
+ghost use Rattle.std.specs.Prelude.{IfOk, List};
+ghost use Rattle.std.specs.Iterator.{IsFinite, Drains};
 ghost use Rattle.std.specs.List.{All};
 ghost use Rattle.parallel_fault.specs.Trouble.{IsMemoryOnErr};
 ghost use Rattle.parallel_bridge.specs.Lists.{MapOf, FoldSegment};
@@ -38,4 +39,24 @@ pub fn fold_serial<X: Drop, R: Drop, I: Fn() -> R, F: Fn(R, X) -> R>(
         folded = fold_op(folded, item);
     }
     folded
+}
+
+/// The items that an iterator gives folded from an identity, as they come and in their order, on the
+/// caller's thread. Nothing is gathered and nothing is reduced, so it takes no memory.
+pub fn fold_iter<X: Iterator, R: Drop, I: Fn() -> R, F: Fn(R, X::Item) -> R>(
+    iter: X,
+    identity: &I,
+    fold_op: &F,
+) -> R
+    requires can { X.can_next iter }
+    requires ends { IsFinite (X.remaining iter) }
+    requires identity_accepts { I.IsAlwaysCallable identity.now }
+    requires fold_accepts { F.IsAlwaysCallable fold_op.now }
+    ensures { (xs : List X.Item) × Drains X.next_gives iter xs × FoldSegment (I.post identity.now) (λ a x b. F.post fold_op.now a x b) xs result }
+{
+    let mut value = identity();
+    for item in iter {
+        value = fold_op(value, item);
+    }
+    value
 }

@@ -1,7 +1,7 @@
 use Rattle.std.proofs.Common.{rules, ◌≡◌, ◌≢◌, ℕ, ◌<◌, List, All, IfOk, IfErr, MatchResult, length, ◌+◌, ◌-◌, ◌*◌, ◌≤◌, ◌/◌, ◌%◌, Bool, true, false, nat_eq, nat_lt, [], ◌∷◌, ◌++◌, slice_index_or, slice_set, bit_and, bit_or, Fits, w8, w32, w64, Bor, MutBor}
 use Rattle.std.specs.Int.NonZero.{non_zero_usize_get}
 use Rattle.std.specs.Iterator.{IsFinite, Drains}
-use Rattle.parallel_bridge.specs.Lists.{MapOf, FoldSegment, Bracketing}
+use Rattle.parallel_bridge.specs.Lists.{MapOf, FoldSegment, Bracketing, of_segment}
 use Rattle.parallel_bridge.specs.Shapes.{FoldsAs, cutdepth}
 use Rattle.commonware_parallel.specs.Calls.{body_call}
 use Rattle.commonware_parallel.specs.Answers.{AnswersAs, OneOf}
@@ -26,3 +26,6 @@ returns-clause-brackets g c =
     let reduce : g.row.R.Denot → g.row.R.Denot → g.row.R.Denot → Type 0 = λ a b d. g.G.Fn.post c.args.reduce_op (a, (b, tt)) d in
     let w = c.in_ok-answer.ensures.answers in
     (_, c.in_ok-items.ensures.gives, bracketing_from_folds identity step reduce (cutdepth (non_zero_usize_get c.thread_number-threads.result)) w.0 _ _ (search rules))
+
+pub returns-then-is_serial-clause-brackets : goal.returns-then-is_serial-clause-brackets
+returns-then-is_serial-clause-brackets g c = let w = c.fold_iter.ensures in (w.0, w.1, of_segment w.2)

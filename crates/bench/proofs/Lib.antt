@@ -1,0 +1,4 @@
+pub mod Copies
+pub mod Middles
+pub mod Stirs
+pub mod Totals

@@ -1,0 +1,4 @@
+pub mod Cases
+pub mod Requests
+pub mod Times
+pub mod Work

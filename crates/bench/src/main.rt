@@ -1,0 +1,53 @@
+// Times folds and maps through a plain loop and through each strategy.
+#![tactic(auto)]
+
+mod case;
+mod decimal;
+mod race;
+mod request;
+mod times;
+mod ways;
+mod work;
+
+use crate::case::CASES;
+use crate::race::race;
+use crate::request::{Request, parse_request};
+use anyhow::Result;
+use std::process::ExitCode;
+use std::{env, io};
+
+fn main(rt: HostRuntime) -> io::Result<ExitCode> {
+    let outcome = match requested(&rt) {
+        Ok(Some(Request::Names)) => names(&rt),
+        Ok(Some(Request::Time(trial))) => race(&rt, trial),
+        Ok(None) => {
+            eprintln!(rt; "bench: bad arguments")?;
+            return Ok(ExitCode::from(2));
+        }
+        Err(error) => Err(error),
+    };
+    if let Err(error) = outcome {
+        eprintln!(rt; "bench: {error}")?;
+        return Ok(ExitCode::FAILURE);
+    }
+    Ok(ExitCode::SUCCESS)
+}
+
+/// What the command line asks for, if it is text and asks for anything.
+fn requested(rt: &(impl std::rt::Env + AllocGlobal)) -> Result<Option<Request>> {
+    let words = match env::args(rt) {
+        Ok(words) => words,
+        Err(error) if error.kind() == io::ErrorKind::InvalidData => return Ok(None),
+        Err(error) => return Err(error.into()),
+    };
+    let words = words.skip(1).collect::<Vec<String>>(rt.alloc())?;
+    Ok(parse_request(words.as_slice()))
+}
+
+/// Prints the cases' names, one a line.
+fn names(rt: &impl Print) -> Result<()> {
+    for case in CASES {
+        rt.println(case.name())?;
+    }
+    Ok(())
+}
