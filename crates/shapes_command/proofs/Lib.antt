@@ -1,3 +1,6 @@
 mod Draining
+mod Requests
+mod Spaced
+mod Sums
 mod Turns
 mod Words

@@ -1,7 +1,7 @@
 -- The texts of a line's words, from what a slice pattern reads of them.
-use Rattle.std.proofs.Common.{◌≡◌, ◌<◌, ◌∙◌, ℕ, List, [], length, slice_index_or, ap, sym, subst, arith, string_bytes, String, true}
+use Rattle.std.proofs.Common.{◌≡◌, ◌-◌, ◌<◌, ◌∙◌, ℕ, List, [], length, take, drop, slice_index_or, ap, sym, subst, arith, string_bytes, String, true}
 use Rattle.std.specs.Str.{bytes_eq}
-use Rattle.std.proofs.lemmas.List.{get_or-map}
+use Rattle.std.proofs.lemmas.List.{get_or-map, take_all, length-drop}
 use Rattle.std.proofs.lemmas.Slice.Eq.{bytes_eq-Decides}
 use Rattle.std.specs.declared.alloc.Global.{Global}
 use Rattle.shapes_command.specs.Request.{word, HasForm}
@@ -15,7 +15,14 @@ module _ (words : List (String Global)) (i : ℕ) (s : String Global) (text : Li
   pub of_word : (P : List ℕ → Type 0) → i < length words → P text → P (word words i)
   of_word P below p = subst P (sym (word_at below)) p
 
+-- the word at a place that passed the test for a text is that text
+pub is_text : (words : List (String Global)) (i : ℕ) (s : String Global) (text name : List ℕ) → i < length words → s ≡ slice_index_or words i s → text ≡ string_bytes s → true ≡ bytes_eq text name → word words i ≡ name
+is_text words i s text name below is reads same = word_at words i s text is reads below ∙ (bytes_eq-Decides text name).0 (sym same)
+
+-- the words from a place on, as a slice pattern reads them
+pub rest_from : (words : List (String Global)) (i : ℕ) → take (length words - i) (drop i words) ≡ drop i words
+rest_from words i = take_all (length words - i) (drop i words) (omega (arith, length-drop i words))
+
 -- so many words, of which the first passed the test for a name
 pub has_form : (words : List (String Global)) (count : ℕ) (s : String Global) (text name : List ℕ) → length words ≡ count → 0 < count → s ≡ slice_index_or words 0 s → text ≡ string_bytes s → true ≡ bytes_eq text name → HasForm words name count
-has_form words count s text name counted some is reads same =
-    (counted, word_at words 0 s text is reads (omega arith) ∙ (bytes_eq-Decides text name).0 (sym same))
+has_form words count s text name counted some is reads same = (counted, is_text words 0 s text name (omega arith) is reads same)

@@ -19,13 +19,14 @@ pub fn drained_rows(alloc: Global, rows: usize, workers: NonZeroUsize) -> Result
     ensures rows { IfOk result (λ claimed. claimed.items ≡ range_with_len 0 rows) }
     ensures fault { IfErr result (λ refusal. refusal ≡ Fault.Memory) }
 {
-    let mut claimed = Vec::new(alloc);
+    let mut claimed = Vec::with_capacity(alloc, rows)?;
     if rows == 0 {
         return Ok(claimed);
     }
     let plan = Plan::new(rows, 1, NonZeroUsize::MIN, workers, true);
     let mut state = State::new(alloc, &plan)?;
-    let mut seats: VecDeque<usize> = (0..plan.workers()).collect(alloc)?;
+    let mut seats = VecDeque::with_capacity(alloc, plan.workers())?;
+    seats.extend(0..plan.workers())?;
     while let Some(seat) = seats.pop_front() {
         if let Some(front) = turn(&plan, &mut state, seat)? {
             claimed.extend(front)?;

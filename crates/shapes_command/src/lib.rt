@@ -10,6 +10,7 @@ mod answer;
 mod drain;
 mod number;
 pub mod request;
+mod sum;
 
 use parallel_fault::Fault;
 pub use request::{Request, parse};
@@ -28,7 +29,7 @@ use std::thread::Threads;
 ///
 /// `rt` is the right to run a command in threads, and to wait for them.
 pub fn command<R: Threads + Wait + Sync, O: Write, E: Write>(
-    _rt: &R,
+    rt: &R,
     alloc: Global,
     words: &[String],
     out: &mut O,
@@ -48,7 +49,7 @@ pub fn command<R: Threads + Wait + Sync, O: Write, E: Write>(
     let Some(request) = request::parse(words) else {
         return bad_arguments(err);
     };
-    match answer::line(alloc, request) {
+    match answer::line(rt, alloc, request) {
         Ok(line) => status_of(out.write_all(line.as_bytes()), 0),
         Err(fault) => refused(err, fault),
     }

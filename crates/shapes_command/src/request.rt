@@ -1,6 +1,6 @@
 // What a command line asks for.
-ghost use Rattle.std.specs.Prelude.{◌≡◌, MatchOption};
-ghost use Rattle.shapes_command.specs.Request.{IsCommandLine, Says, IsUnasked, IsDrainLine, SaysDrain, IsBatchesLine, SaysBatches, IsGridLine, SaysGrid};
+ghost use Rattle.std.specs.Prelude.{◌≡◌, ◌↔◌, IsTrue, MatchOption};
+ghost use Rattle.shapes_command.specs.Request.{IsCommandLine, Says, IsUnasked, IsDrainLine, SaysDrain, IsBatchesLine, SaysBatches, IsGridLine, SaysGrid, IsSegmentsLine, SaysSegments, AreItems, IsFoldLine, SaysFold};
 
 use crate::number::{count, number};
 use parallel_shares::Grid;
@@ -15,9 +15,18 @@ pub const MOST_WORKERS: usize = 16;
 /// The most ranges that `batches` makes.
 pub const MOST_RANGES: usize = 65_535;
 
+/// The most threads that `segments` takes.
+pub const MOST_THREADS: usize = 65_535;
+
+/// The most items that `fold` takes.
+pub const MOST_ITEMS: usize = 1_000;
+
+/// The greatest number that `fold` takes, as its identity or an item.
+pub const MOST_NUMBER: usize = 1_000_000;
+
 /// A command with its arguments.
 #[derive(Debug, PartialEq, Eq, Drop)]
-pub enum Request {
+pub enum Request<'a> {
     /// `drain ROWS WORKERS`: the rows that the workers claim from one queue of whole rows.
     Drain {
         /// The number of rows, at most 65535.
@@ -41,22 +50,40 @@ pub enum Request {
         /// The number of workers.
         workers: NonZeroUsize,
     },
+    /// `segments N LEN`: the lengths of the segments of a list over a number of threads.
+    Segments {
+        /// The number of threads, at most 65535.
+        threads: NonZeroUsize,
+        /// The number of items in the list.
+        len: usize,
+    },
+    /// `fold serial IDENTITY ITEM..`: the sum of the items from the identity.
+    Fold {
+        /// The number that the sum starts from, at most 1000000.
+        identity: usize,
+        /// The words of the items: at most 1000, and each a number that is at most 1000000.
+        items: &'a [String],
+    },
 }
 
 /// The request that the words say, and None where they are no command line.
 ///
 /// No words say `drain 4 2`.
-pub fn parse(words: &[String]) -> Option<Request>
+pub fn parse(words: &[String]) -> Option<Request<'_>>
     ensures { MatchOption result (¬ (IsCommandLine words.now)) (Says words.now) }
 {
     if words.is_empty() {
         return Some(unasked());
     }
-    drain(words).or(batches(words)).or(grid(words))
+    drain(words)
+        .or(batches(words))
+        .or(grid(words))
+        .or(segments(words))
+        .or(fold(words))
 }
 
 // What the program does without words: `drain 4 2`.
-fn unasked() -> Request
+fn unasked() -> Request<'static>
     ensures { IsUnasked result }
 {
     Request::Drain {
@@ -66,7 +93,7 @@ fn unasked() -> Request
 }
 
 // The request of a line `drain ROWS WORKERS`.
-fn drain(words: &[String]) -> Option<Request>
+fn drain(words: &[String]) -> Option<Request<'_>>
     ensures { MatchOption result (¬ (IsDrainLine words.now)) (SaysDrain words.now) }
 {
     match words {
@@ -79,7 +106,7 @@ fn drain(words: &[String]) -> Option<Request>
 }
 
 // The request of a line `batches LEN COUNT`.
-fn batches(words: &[String]) -> Option<Request>
+fn batches(words: &[String]) -> Option<Request<'_>>
     ensures { MatchOption result (¬ (IsBatchesLine words.now)) (SaysBatches words.now) }
 {
     match words {
@@ -92,7 +119,7 @@ fn batches(words: &[String]) -> Option<Request>
 }
 
 // The request of a line `grid ROWS COST LEN WORKERS`.
-fn grid(words: &[String]) -> Option<Request>
+fn grid(words: &[String]) -> Option<Request<'_>>
     ensures { MatchOption result (¬ (IsGridLine words.now)) (SaysGrid words.now) }
 {
     match words {
@@ -106,4 +133,40 @@ fn grid(words: &[String]) -> Option<Request>
         }),
         _ => None,
     }
+}
+
+// The request of a line `segments N LEN`.
+fn segments(words: &[String]) -> Option<Request<'_>>
+    ensures { MatchOption result (¬ (IsSegmentsLine words.now)) (SaysSegments words.now) }
+{
+    match words {
+        [name, threads, len] if name.as_str() == "segments" => Some(Request::Segments {
+            threads: count(threads, MOST_THREADS)?,
+            len: number(len, usize::MAX)?,
+        }),
+        _ => None,
+    }
+}
+
+// The request of a line `fold serial IDENTITY ITEM..`.
+fn fold(words: &[String]) -> Option<Request<'_>>
+    ensures { MatchOption result (¬ (IsFoldLine words.now)) (SaysFold words.now) }
+{
+    match words {
+        [name, through, identity, items @ ..]
+            if name.as_str() == "fold" && through.as_str() == "serial" && are_items(items) => {
+            Some(Request::Fold {
+                identity: number(identity, MOST_NUMBER)?,
+                items,
+            })
+        }
+        _ => None,
+    }
+}
+
+// Whether the words are items of a fold: not too many, and each a number that is not too great.
+fn are_items(words: &[String]) -> bool
+    ensures { IsTrue result ↔ AreItems words.now }
+{
+    words.len() <= MOST_ITEMS && words.iter().all(|word| number(word, MOST_NUMBER).is_some())
 }

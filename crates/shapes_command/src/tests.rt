@@ -70,6 +70,22 @@ fn each_command_answers_one_line(rt: HostRuntime) -> Result<(), Fail> {
             "grid 18446744073709551615 18446744073709551615 18446744073709551615 1",
             "18446744073709551615 whole\n",
         ),
+        ("segments 4 100", "12 13 12 13 12 13 12 13\n"),
+        ("segments 3 5", "1 1 1 2\n"),
+        ("segments 1 1", "1\n"),
+        ("segments 4 0", "0\n"),
+        ("segments 65535 3", "1 1 1\n"),
+        ("segments 65535 0", "0\n"),
+        (
+            "segments 1 18446744073709551615",
+            "9223372036854775807 9223372036854775808\n",
+        ),
+        ("fold serial 10 1 2 3", "16\n"),
+        ("fold serial 10", "10\n"),
+        ("fold serial 0", "0\n"),
+        ("fold serial 0 1000000", "1000000\n"),
+        ("fold serial 1000000 1000000", "2000000\n"),
+        ("fold serial 010 01 2 003", "16\n"),
     ] {
         let ran = run(&rt, rt.alloc(), line)?;
         assert_eq!(rt; ran.status, 0, "at {line:?}: {ran:?}");
@@ -89,6 +105,30 @@ fn the_widest_commands_answer(rt: HostRuntime) -> Result<(), Fail> {
     assert_eq!(rt; ranges.status, 0);
     assert_eq!(rt; ranges.out.split(' ').count(), 65_535);
     assert!(rt; ranges.out.ends_with("..18446744073709551615\n"));
+    let lengths = run(&rt, rt.alloc(), "segments 65535 18446744073709551615")?;
+    assert_eq!(rt; lengths.status, 0);
+    assert_eq!(rt; lengths.out.split(' ').count(), 65_536);
+    Ok(())
+}
+
+// The line of a fold of so many items, each the greatest number, from the greatest identity.
+fn widest_fold(alloc: Global, items: usize) -> Result<String, AllocError> {
+    let mut line = String::from_str(alloc, "fold serial 1000000")?;
+    for _ in 0..items {
+        line.push_str(" 1000000")?;
+    }
+    Ok(line)
+}
+
+#[test]
+fn a_fold_takes_a_thousand_items(rt: HostRuntime) -> Result<(), Fail> {
+    let alloc = rt.alloc();
+    let widest = run(&rt, alloc, &widest_fold(alloc, 1_000)?)?;
+    assert_eq!(rt; (widest.status, widest.err.as_str()), (0, ""));
+    assert_eq!(rt; widest.out.as_str(), "1001000000\n");
+    let wider = run(&rt, alloc, &widest_fold(alloc, 1_001)?)?;
+    assert_eq!(rt; (wider.status, wider.out.as_str()), (2, ""));
+    assert_eq!(rt; wider.err.as_str(), "shapes: bad arguments\n");
     Ok(())
 }
 
@@ -119,9 +159,28 @@ fn other_words_are_bad_arguments(rt: HostRuntime) -> Result<(), Fail> {
         "grid 4 1 64 8 9",
         "grid 4 1 64 18446744073709551616",
         "mix 0 1 1 64",
-        "segments 3 5",
-        "fold serial 10 1 2 3",
+        "segments",
+        "segments 3",
+        "segments 3 5 7",
+        "segments 0 5",
+        "segments 65536 5",
+        "segments 3 18446744073709551616",
+        "segments 3 -5",
+        "fold",
+        "fold serial",
+        "fold serial ",
+        "fold 10 1 2 3",
         "fold parallel 10 1 2 3",
+        "fold Serial 10 1 2 3",
+        "fold serial 1000001",
+        "fold serial 0 1000001",
+        "fold serial 0 1 1000001 1",
+        "fold serial +1 2",
+        "fold serial 1 +2",
+        "fold serial 1 -2",
+        "fold serial 1  2",
+        "fold serial 1 2 ",
+        "fold serial 1 2x",
         "explore sum",
         "threads 0 0 7 4",
         "help",
@@ -152,7 +211,12 @@ fn a_failed_write_is_status_one(rt: HostRuntime) -> Result<(), Fail> {
 #[test]
 fn a_refused_growth_leaves_no_answer(rt: HostRuntime) -> Result<(), Fail> {
     let alloc = rt.alloc();
-    let lines = [("drain 4 2", "0 1 2 3\n"), ("batches 3 2", "0..2 2..3\n")];
+    let lines = [
+        ("drain 4 2", "0 1 2 3\n"),
+        ("batches 3 2", "0..2 2..3\n"),
+        ("segments 3 5", "1 1 1 2\n"),
+        ("fold serial 10 1 2 3", "16\n"),
+    ];
     for (line, answer) in lines {
         // The words and the writers have their memory before the command runs.
         let Ok(words) = words_of(alloc, line) else {

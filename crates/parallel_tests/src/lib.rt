@@ -1,0 +1,8 @@
+//! Callers of the strategies, proved from the trait's clauses, and the tests that cross crates.
+#![tactic(auto)]
+
+pub mod beyond;
+pub mod callers;
+pub mod long_lists;
+#[cfg(test)]
+mod tests;

@@ -1,0 +1,12 @@
+// The tests that cross crates, at concrete types. Expected values stand in the tests.
+mod batches;
+mod folds;
+mod layers;
+mod machine;
+mod maps;
+mod memory;
+mod plans;
+mod printed;
+mod runs;
+mod strategies;
+mod threads;

@@ -1,0 +1,77 @@
+// Each call of the layers below a strategy, once by itself.
+use crate::tests::strategies::{SITE, number, pool};
+use commonware_parallel::bridge::bridge::depth_of;
+use commonware_parallel::bridge::parallel::{fold_parallel, map_parallel};
+use commonware_parallel::bridge::serial::{fold_iter, fold_serial, map_serial};
+use commonware_parallel::rayon::install;
+use commonware_parallel::{Call, Kind, Sequential, Strategy, ThreadPool};
+use parallel_policy::Place;
+use std::num::NonZeroUsize;
+use std::test::Fail;
+
+#[test]
+fn a_strategy_hands_its_picks_out(rt: HostRuntime) -> Result<(), Fail> {
+    let alloc = rt.alloc();
+    let call = Call::batches(number(&rt, 8), 17, number(&rt, 5), usize::MAX);
+    let expected = Call {
+        kind: Kind::Batches,
+        len: 17,
+        work: 18_446_744_073_709_551_615,
+        options: 3,
+    };
+    assert_eq!(rt; call, expected);
+    assert_eq!(rt; SITE.site(), SITE);
+    let (pick, _) = Sequential.choose(&rt, alloc, SITE, call)?;
+    assert_eq!(rt; pick, 0);
+    assert!(rt; Sequential.starts_workers());
+    let strategy = pool(&rt, alloc, 2, 8);
+    assert!(rt; strategy.starts_workers());
+    assert!(rt; Sequential.is_serial());
+    assert!(rt; pool(&rt, alloc, 2, 1).is_serial());
+    assert!(rt; !strategy.is_serial());
+    for (kind, planned, pick) in [
+        (Kind::Batches, 8, 2),
+        (Kind::Batches, 1, 0),
+        (Kind::Tiles, 8, 2),
+        (Kind::Spawn, 1, 2),
+        (Kind::Join, 1, 2),
+    ] {
+        let strategy = pool(&rt, alloc, 2, planned);
+        let (chosen, _) = strategy.choose(&rt, alloc, SITE, Call { kind, ..call })?;
+        assert_eq!(rt; chosen, pick, "{kind:?} of {planned}");
+        let doubled = strategy.dispatch_body(&rt, alloc, SITE, 1, |pick| Ok(pick.wrapping_mul(2)))?;
+        assert_eq!(rt; doubled, if planned == 1 { 0 } else { 2 });
+    }
+    Ok(())
+}
+
+#[test]
+fn lists_are_driven_without_a_strategy(rt: HostRuntime) -> Result<(), Fail> {
+    let alloc = rt.alloc();
+    let two = number(&rt, 2);
+    assert_eq!(rt; depth_of(NonZeroUsize::MIN), 1);
+    assert_eq!(rt; depth_of(two), 2);
+    assert_eq!(rt; depth_of(NonZeroUsize::MAX), 64);
+
+    let half = |number: u32| number / 2;
+    let halves = map_serial(alloc, vec![in alloc; 10, 20, 30]?, &half)?;
+    assert_eq!(rt; halves.as_slice(), [5, 10, 15].as_slice());
+    let halves = map_parallel(&rt, alloc, two, vec![in alloc; 10, 20, 30]?, &half)?;
+    assert_eq!(rt; halves.as_slice(), [5, 10, 15].as_slice());
+
+    let ten = || 10u32;
+    let add = |left: u32, right: u32| left.wrapping_add(right);
+    assert_eq!(rt; fold_serial(vec![in alloc; 1, 2, 3]?, &ten, &add), 16);
+    assert_eq!(rt; fold_iter(1..4u32, &ten, &add), 16);
+    let sum = fold_parallel(&rt, alloc, two, vec![in alloc; 1, 2, 3]?, &ten, &add, &add)?;
+    assert_eq!(rt; sum, 66);
+    Ok(())
+}
+
+#[test]
+fn closures_run_on_a_worker(rt: HostRuntime) {
+    assert_eq!(rt; install(&rt, || 7), 7);
+    let pool = ThreadPool::new(number(&rt, 3));
+    assert_eq!(rt; pool.current_num_threads(), 3);
+    assert_eq!(rt; pool.install(&rt, || 7), 7);
+}

@@ -1,0 +1,93 @@
+// Segments of lists, cuts of indices, and grids of tiles.
+use crate::tests::strategies::number;
+use commonware_parallel::bridge::segments::segments;
+use commonware_parallel::{Fault, Grid, cut};
+use std::num::NonZeroUsize;
+use std::test::Fail;
+
+const GREATEST: usize = usize::MAX;
+
+#[test]
+fn lists_are_cut_by_threads_and_by_items(rt: HostRuntime) -> Result<(), Fail> {
+    let alloc = rt.alloc();
+    let four = number(&rt, 4);
+    let lengths = segments(alloc, four, 100)?;
+    assert_eq!(rt;
+        lengths.as_slice(),
+        [12, 13, 12, 13, 12, 13, 12, 13].as_slice()
+    );
+    let lengths = segments(alloc, number(&rt, 3), 5)?;
+    assert_eq!(rt; lengths.as_slice(), [1, 1, 1, 2].as_slice());
+    let lengths = segments(alloc, number(&rt, 1), 1)?;
+    assert_eq!(rt; lengths.as_slice(), [1].as_slice());
+    let lengths = segments(alloc, four, 0)?;
+    assert_eq!(rt; lengths.as_slice(), [0].as_slice());
+    let most = number(&rt, 65_535);
+    let lengths = segments(alloc, most, 3)?;
+    assert_eq!(rt; lengths.as_slice(), [1, 1, 1].as_slice());
+    let lengths = segments(alloc, most, 0)?;
+    assert_eq!(rt; lengths.as_slice(), [0].as_slice());
+    Ok(())
+}
+
+#[test]
+fn cuts_put_the_longer_ranges_first(rt: HostRuntime) -> Result<(), Fail> {
+    let alloc = rt.alloc();
+    let ranges = cut(alloc, 10, number(&rt, 4))?;
+    assert_eq!(rt; ranges.as_slice(), [0..3, 3..6, 6..8, 8..10].as_slice());
+    let ranges = cut(alloc, 3, number(&rt, 5))?;
+    assert_eq!(rt;
+        ranges.as_slice(),
+        [0..1, 1..2, 2..3, 3..3, 3..3].as_slice()
+    );
+    let ranges = cut(alloc, 0, number(&rt, 2))?;
+    assert_eq!(rt; ranges.as_slice(), [0..0, 0..0].as_slice());
+    let ranges = cut(alloc, GREATEST, number(&rt, 3))?;
+    let third = 6_148_914_691_236_517_205;
+    let two_thirds = 12_297_829_382_473_034_410;
+    let expected = [
+        0..third,
+        third..two_thirds,
+        two_thirds..18_446_744_073_709_551_615,
+    ];
+    assert_eq!(rt; ranges.as_slice(), expected.as_slice());
+    Ok(())
+}
+
+#[test]
+fn more_ranges_than_memory_are_refused(rt: HostRuntime) {
+    assert!(rt; matches!(cut(rt.alloc(), 7, NonZeroUsize::MAX), Err(Fault::Memory)));
+}
+
+#[test]
+fn grids_cost_their_longest_chain(rt: HostRuntime) {
+    let grid = Grid {
+        rows: 4,
+        tile_cost: NonZeroUsize::MIN,
+    };
+    let eight = number(&rt, 8);
+    assert_eq!(rt; grid.critical_path(64, eight), (35, false));
+    assert_eq!(rt; grid.critical_path(64, NonZeroUsize::MIN), (260, true));
+    let (index, cost, whole) = Grid::choose(&[grid, grid], 64, eight);
+    assert_eq!(rt; (index, cost, whole), (0, 35, false));
+
+    let greatest = Grid {
+        rows: GREATEST,
+        tile_cost: NonZeroUsize::MAX,
+    };
+    let path = greatest.critical_path(GREATEST, NonZeroUsize::MIN);
+    assert_eq!(rt; path, (18_446_744_073_709_551_615, true));
+    assert!(rt; !Grid::fits(&[greatest], GREATEST));
+}
+
+#[test]
+fn grids_fit_where_their_indices_can_be_counted(rt: HostRuntime) {
+    let rows = |rows: usize| Grid {
+        rows,
+        tile_cost: NonZeroUsize::MIN,
+    };
+    assert!(rt; !Grid::fits(&[], 1));
+    assert!(rt; Grid::fits(&[rows(0)], GREATEST));
+    assert!(rt; Grid::fits(&[rows(4_294_967_295)], 4_294_967_297));
+    assert!(rt; !Grid::fits(&[rows(2)], 9_223_372_036_854_775_808));
+}

@@ -1,0 +1,45 @@
+// What the tests make their strategies of.
+ghost use Rattle.std.specs.Prelude.{◌≡◌};
+ghost use Rattle.std.specs.Int.NonZero.{non_zero_usize_get};
+
+use commonware_parallel::{Clock, Rayon, Site};
+use std::alloc::Global;
+use std::num::NonZeroUsize;
+use std::process::Abort;
+use std::thread::Threads;
+
+/// The place that the tests call from.
+pub const SITE: Site = Site {
+    file: "tests",
+    line: 1,
+    column: 1,
+};
+
+/// A clock that stands still.
+#[derive(Clone, Copy, Debug)]
+pub struct Stopped;
+
+impl Clock for Stopped {
+    fn now(&self) -> u64 {
+        0
+    }
+}
+
+/// A number that isn't 0.
+pub fn number(rt: &impl Abort, value: usize) -> NonZeroUsize
+    ensures { non_zero_usize_get result ≡ value }
+{
+    NonZeroUsize::new(value).expect(rt, "a number above 0")
+}
+
+/// A pool of so many threads, planned for so many.
+pub fn pool<Rt: Threads + Abort>(
+    rt: &Rt,
+    alloc: Global,
+    threads: usize,
+    planned: usize,
+) -> Rayon<Stopped> {
+    let threads = number(rt, threads);
+    let strategy = Rayon::new(rt, alloc, threads, Stopped).expect(rt, "memory for a pool");
+    strategy.with_parallelism(number(rt, planned))
+}

@@ -1,0 +1,16 @@
+use Rattle.std.proofs.Common.{arith, ap, string_bytes}
+use Rattle.shapes_command.specs.Answer.{range_text}
+use Rattle.shapes_command.proofs.Spaced.{first_written, next_written}
+use Rattle.shapes_command.proofs.answer.push_ranges.Goals as goal
+use Rattle.shapes_command.proofs.answer.push_ranges.Goals.{then-index-eq0, else-index-eq0}
+
+pub loop-index-preserved : goal.loop-index-preserved
+loop-index-preserved c =
+    let start = string_bytes c.args.line.now in
+    let line = string_bytes c.loop-index.line in
+    let new = string_bytes c.write.new.self in
+    let space = c.if-index-eq0.space.now in
+    elim c.if-index-eq0.branch [
+      | then-index-eq0 w ↦ first_written range_text c.args.ranges.now c.loop-index.index (record { start = 0; end = 0 }) start line new space (omega arith) w.if-index-eq0.true (ap (λ s. s.now) w.space-is) c.loop-index.invariant c.in_ok-write.ensures.bytes
+      | else-index-eq0 w ↦ next_written range_text c.args.ranges.now c.loop-index.index (record { start = 0; end = 0 }) start line new space (omega arith) w.if-index-eq0.false (ap (λ s. s.now) w.space-is) c.loop-index.invariant c.in_ok-write.ensures.bytes
+    ]

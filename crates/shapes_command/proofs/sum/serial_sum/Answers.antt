@@ -1,0 +1,22 @@
+use Rattle.std.proofs.Common.{rules, ◌≡◌, ◌+◌, Bor, String, Global, arith, sum_by, sym, subst, map, ap, length}
+use Rattle.std.specs.List.{All}
+use Rattle.std.proofs.lemmas.Result.{IfOk-weaker}
+use Rattle.std.proofs.lemmas.Iterator.{YieldsList-from_slice}
+use Rattle.shapes_command.specs.Request.{IsItem, number_of}
+use Rattle.shapes_command.proofs.Sums.{drained, one_segment, chain_sum}
+use Rattle.shapes_command.proofs.sum.serial_sum.Goals as goal
+
+pub returns-clause-sum : goal.returns-clause-sum
+returns-clause-sum g c =
+    IfOk-weaker c.fold.result _ _
+    (λ r h.
+    let items = c.args.items.now in
+    let v : Bor (String Global) → String Global = λ word. word.now in
+    let same : map v h.0 ≡ items = drained h.0 h.1 (YieldsList-from_slice {s = c.iter.result} items (search rules)) in
+    let segment = one_segment _ _ _ _ h.2 h.0 r h.4 h.5 in
+    let begins : segment.0 ≡ c.args.identity = search rules in
+    let good : All IsItem (map v h.0) = subst (All IsItem) (sym same) c.requires.items.1 in
+    let few = ap length same in
+    let added : r ≡ segment.0 + sum_by number_of (map v h.0) = chain_sum v number_of IsItem 1000000 _ (λ item is. is.1) (λ a item b is stepped. search rules) h.0 good segment.0 r (omega (arith, begins, few, c.requires.identity, c.requires.items.0)) segment.2 in
+    omega (arith, added, begins, ap (sum_by number_of) same))
+    c.fold.ensures.along
