@@ -1,5 +1,5 @@
 -- what a call answers, by the pick that it was given
-use Rattle.std.specs.Prelude.{◌≡◌, ℕ, suc, zero, Result, Ok, Err}
+use Rattle.std.specs.Prelude.{ℕ, suc, zero, Result, Ok, Err}
 use Rattle.parallel_fault.specs.declared.fault.Fault.{Fault}
 use Rattle.parallel_fault.specs.declared.fault.Trouble.{Trouble}
 use Rattle.parallel_fault.specs.declared.fault.Trouble.TheVariants.{Closure}

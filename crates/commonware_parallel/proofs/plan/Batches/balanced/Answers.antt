@@ -1,6 +1,5 @@
 -- No range is shorter than the even share, as there are `count` of them.
-use Rattle.std.proofs.Common.{◌≡◌, ℕ, ◌/◌, ◌<◌, ◌≤◌, List, length, All, arith, sym, ◌∙◌, subst}
-use Rattle.std.specs.Int.NonZero.{non_zero_usize_get}
+use Rattle.std.proofs.Common.{◌≡◌, ℕ, ◌/◌, ◌<◌, ◌≤◌, List, length, All, arith, subst}
 use Rattle.std.specs.declared.ops.Range.{Range}
 use Rattle.parallel_shares.specs.Cut.{BalancedCut, range_length}
 use Rattle.parallel_shares.proofs.Cuts.{BalancedCut-at_least}

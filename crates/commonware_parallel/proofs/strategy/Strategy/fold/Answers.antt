@@ -1,13 +1,9 @@
-use Rattle.std.proofs.Common.{rules, ◌≡◌, ◌≢◌, ℕ, ◌<◌, List, All, IfOk, IfErr, MatchResult, length, ◌+◌, ◌-◌, ◌*◌, ◌≤◌, ◌/◌, ◌%◌, Bool, true, false, nat_eq, nat_lt, [], ◌∷◌, ◌++◌, slice_index_or, slice_set, bit_and, bit_or, Fits, w8, w32, w64, Bor, MutBor}
+use Rattle.std.proofs.Common.{rules}
 use Rattle.std.specs.Int.NonZero.{non_zero_usize_get}
-use Rattle.std.specs.Iterator.{IsFinite, Drains}
-use Rattle.parallel_bridge.specs.Lists.{MapOf, FoldSegment, Bracketing, of_segment}
+use Rattle.parallel_bridge.specs.Lists.{FoldSegment, of_segment}
 use Rattle.parallel_bridge.specs.Shapes.{FoldsAs, cutdepth}
-use Rattle.commonware_parallel.specs.Calls.{body_call}
-use Rattle.commonware_parallel.specs.Answers.{AnswersAs, OneOf}
 use Rattle.parallel_bridge.proofs.Bracketings.{bracketing_from_folds}
 use Rattle.commonware_parallel.proofs.Settled.{along_list}
-use Rattle.parallel_fault.specs.Trouble.{IfFault}
 use Rattle.commonware_parallel.proofs.strategy.Strategy.fold.Goals as goal
 
 pub returns-clause-along : goal.returns-clause-along

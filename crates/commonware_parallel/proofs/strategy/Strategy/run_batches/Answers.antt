@@ -1,5 +1,5 @@
 -- The call that the strategy was asked about is the one of the clause.
-use Rattle.std.proofs.Common.{rules, ◌≡◌, ℕ, ◌<◌, ◌+◌, ap, ◌∙◌, subst}
+use Rattle.std.proofs.Common.{rules, ◌≡◌, ◌<◌, ◌+◌, ap, ◌∙◌, subst}
 use Rattle.std.specs.Int.NonZero.{non_zero_usize_get}
 use Rattle.commonware_parallel.specs.Calls.{batches_call}
 use Rattle.commonware_parallel.specs.Batches.{IsBatch, ranges_of}
