@@ -1,4 +1,5 @@
 pub mod Cases
+pub mod Laps
 pub mod Requests
 pub mod Times
 pub mod Work

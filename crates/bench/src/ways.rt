@@ -6,7 +6,7 @@ ghost use Rattle.bench.specs.Cases.{IsAnswer};
 
 use crate::case::Case;
 use crate::work::{heavy, light};
-use commonware_parallel::{Fault, Site, Strategy};
+use commonware_parallel::{Clock, Fault, Rayon, Sequential, Site, Strategy};
 use std::alloc::{AllocError, Global};
 use std::sync::Wait;
 use std::thread::Threads;
@@ -16,6 +16,17 @@ const SITE: Site = Site {
     line: 1,
     column: 1,
 };
+
+/// A way in which a case is run.
+#[derive(Clone, Copy, Debug, PartialEq, Eq, Hash)]
+pub enum Way {
+    /// A plain loop, or the plain chain that stands for a loop that collects.
+    Loop,
+    /// The strategy `Sequential`.
+    Sequential,
+    /// The strategy `Rayon`.
+    Rayon,
+}
 
 /// What a case answers.
 #[derive(Debug, Drop)]
@@ -42,8 +53,26 @@ impl Answer {
     }
 }
 
-/// The case's answer by a plain loop, or by the plain chain that stands for a loop that collects.
-pub fn by_loop(alloc: Global, case: Case, items: &[u64]) -> Result<Answer, AllocError>
+/// The case's answer in a way, where `rayon` is the strategy of the last one.
+pub fn by_way<Rt: Threads + Wait + Sync, C: Clock>(
+    rt: &Rt,
+    alloc: Global,
+    rayon: &Rayon<C>,
+    way: Way,
+    case: Case,
+    items: &[u64],
+) -> Result<Answer, Fault>
+    ensures { IfOk result (IsAnswer case items.now) }
+{
+    match way {
+        Way::Loop => Ok(by_loop(alloc, case, items)?),
+        Way::Sequential => by_strategy(rt, alloc, &Sequential, case, items),
+        Way::Rayon => by_strategy(rt, alloc, rayon, case, items),
+    }
+}
+
+/// The case's answer by a plain loop.
+fn by_loop(alloc: Global, case: Case, items: &[u64]) -> Result<Answer, AllocError>
     ensures { IfOk result (IsAnswer case items.now) }
 {
     match case {
@@ -91,7 +120,7 @@ fn fold_heavy(items: &[u64]) -> u64
 }
 
 /// The case's answer by a strategy.
-pub fn by_strategy<Rt: Threads + Wait + Sync, S: Strategy>(
+fn by_strategy<Rt: Threads + Wait + Sync, S: Strategy>(
     rt: &Rt,
     alloc: Global,
     strategy: &S,

@@ -83,6 +83,9 @@ impl Strategy for LongLists {
         true
     }
 
+    // `is_serial` keeps the trait's answer, which is no: a long list takes another pick than the first,
+    // so each call has to ask.
+
     // It has no policy, so the strategy without one is a copy of it.
     fn inner(&self) -> Result<LongLists, Fault> {
         Ok(*self)
