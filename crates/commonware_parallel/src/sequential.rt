@@ -1,12 +1,11 @@
 ghost use Rattle.std.specs.Prelude.{◌≡◌, ℕ, List, All, true, IfOk, IfErr};
-ghost use Rattle.std.specs.Iterator.{IsFinite, Drains};
+ghost use Rattle.std.specs.Iterator.{IsFinite, Drains, HoldsAlong};
 ghost use Rattle.parallel_fault.specs.declared.fault.Fault.TheVariants.{Memory};
 ghost use Rattle.parallel_bridge.specs.Lists.{FoldSegment, MapOf};
 
 use crate::call::{Call, Unmeasured};
-use crate::items::gather;
 use crate::strategy::Strategy;
-use parallel_bridge::serial::{fold_iter, map_serial};
+use parallel_bridge::serial::{fold_iter, map_iter};
 use parallel_fault::{Fault, Trouble};
 use parallel_policy::Place;
 use std::alloc::Global;
@@ -35,8 +34,8 @@ impl Sequential {
         serial()
     }
 
-    /// The answers of `map_op` for the items, in their order. The one refusal is `Fault::Memory`,
-    /// and the items are then gone.
+    /// The answers of `map_op` for the items as they come, in their order. Its list alone is gathered.
+    /// The one refusal is `Fault::Memory`, and the items are then gone.
     pub fn map_collect_vec<P: Place, I: Iterator, T: Drop, F: Fn(I::Item) -> T + Drop>(
         &self,
         alloc: Global,
@@ -48,11 +47,11 @@ impl Sequential {
         I::Item: Drop,
         requires can { I.can_next iter }
         requires ends { IsFinite (I.remaining iter) }
-        requires accepts { (xs : List I.Item) → Drains I.next_gives iter xs → All (F.pre map_op) xs }
+        requires accepts { HoldsAlong I.next_gives iter (All (F.pre map_op)) }
         ensures answers { IfOk result (λ ys. (xs : List I.Item) × Drains I.next_gives iter xs × MapOf (F.post map_op) xs ys.items) }
         ensures fault { IfErr result (λ fault. fault ≡ Memory) }
     {
-        map_serial(alloc, gather(alloc, iter)?, &map_op)
+        map_iter(alloc, iter, map_op)
     }
 
     /// The items folded from an identity as they come, from left to right, in one segment

@@ -1,6 +1,6 @@
 ghost use Rattle.std.specs.Prelude.{◌≡◌, ◌≢◌, ℕ, ◌+◌, ◌/◌, ◌<◌, Bool, List, All, IfOk, IfErr, IsTrue, MatchResult, length, max};
 ghost use Rattle.std.specs.Int.NonZero.{non_zero_usize_get};
-ghost use Rattle.std.specs.Iterator.{IsFinite, Drains};
+ghost use Rattle.std.specs.Iterator.{IsFinite, Drains, HoldsAlong};
 ghost use Rattle.parallel_bridge.specs.Lists.{MapOf, FoldSegment, Bracketing};
 ghost use Rattle.parallel_bridge.specs.Shapes.{FoldsAs, cutdepth};
 ghost use Rattle.commonware_parallel.specs.Calls.{batches_call, body_call};
@@ -11,7 +11,7 @@ ghost use Rattle.parallel_fault.specs.Trouble.{IfFault};
 use crate::call::{Call, Kind, Meter};
 use crate::items::{count, fold_installed, gather, map_installed};
 use crate::plan::Batches;
-use parallel_bridge::serial::{fold_iter, fold_serial, map_serial};
+use parallel_bridge::serial::{fold_iter, fold_serial, map_iter, map_serial};
 use parallel_fault::{Fault, Trouble};
 use parallel_policy::Place;
 use std::alloc::Global;
@@ -33,7 +33,7 @@ use std::thread::Threads;
 ///
 /// Every call takes the runtime, then the allocator, then the place of the call. A list call takes an
 /// iterator that ends, and its list is what the iterator gives (`Drains`). A map's closure has to
-/// accept the items of that list; the closures of a fold have to accept every value.
+/// accept the items that it gives (`HoldsAlong`); the closures of a fold have to accept every value.
 pub trait Strategy: Clone + Send + Sync + Debug + 'static {
     ghost use Rattle.commonware_parallel.specs.declared.plan.Batches.{Batches};
     ghost use Rattle.parallel_policy.specs.declared.Site.{Site};
@@ -71,7 +71,8 @@ pub trait Strategy: Clone + Send + Sync + Debug + 'static {
         ensures { result ≡ starts self.now };
 
     /// Whether a body over any number of items may run at pick 0 without the strategy being asked, as
-    /// where it has no other pick and measures nothing. A fold then goes over its iterator as it comes.
+    /// where it has no other pick and measures nothing. A map or a fold then goes over its iterator as
+    /// it comes.
     fn is_serial(&self) -> bool
         ensures { IsTrue result → (site : Site) (len : ℕ) → takes self.now site (body_call len) 0 }
     {
@@ -195,12 +196,13 @@ pub trait Strategy: Clone + Send + Sync + Debug + 'static {
         }
     }
 
-    /// The answers of `map_op` for the items, in the items' order (`MapOf`).
+    /// The answers of `map_op` for the items, in the items' order (`MapOf`). The closure has to accept
+    /// each item that the iterator gives, and no other value (`HoldsAlong`).
     ///
     /// # Errors
     ///
-    /// `Fault::Memory` alone; the items are then gone. Where the items themselves could not be gathered
-    /// no closure was called.
+    /// `Fault::Memory` alone; the items are then gone. Where a strategy that isn't serial could not
+    /// gather the items themselves no closure was called.
     final fn map_collect_vec<
         Rt: Threads + Wait + Sync,
         P: Place,
@@ -212,10 +214,13 @@ pub trait Strategy: Clone + Send + Sync + Debug + 'static {
         I::Item: Send + Drop,
         requires can { I.can_next iter }
         requires ends { IsFinite (I.remaining iter) }
-        requires accepts { (xs : List I.Item) → Drains I.next_gives iter xs → All (F.pre map_op) xs }
+        requires accepts { HoldsAlong I.next_gives iter (All (F.pre map_op)) }
         ensures answers { IfOk result (λ ys. (xs : List I.Item) × Drains I.next_gives iter xs × MapOf (F.post map_op) xs ys.items) }
         ensures fault { IfErr result (λ fault. fault ≡ Memory) }
     {
+        if self.is_serial() {
+            return map_iter(alloc, iter, map_op);
+        }
         let items = gather(alloc, iter)?;
         let len = count(&items);
         let threads = self.thread_number();

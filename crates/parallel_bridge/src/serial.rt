@@ -1,5 +1,5 @@
 ghost use Rattle.std.specs.Prelude.{IfOk, List};
-ghost use Rattle.std.specs.Iterator.{IsFinite, Drains};
+ghost use Rattle.std.specs.Iterator.{IsFinite, Drains, HoldsAlong};
 ghost use Rattle.std.specs.List.{All};
 ghost use Rattle.parallel_fault.specs.Trouble.{IsMemoryOnErr};
 ghost use Rattle.parallel_bridge.specs.Lists.{MapOf, FoldSegment};
@@ -22,6 +22,22 @@ pub fn map_serial<X: Drop, T: Drop, F: Fn(X) -> T>(
         ensures { F.post map_op.entry.now item result }
     { map_op(item) };
     Ok(items.into_iter().map(answer).collect(alloc)?)
+}
+
+/// The answers of `map_op` for the items that an iterator gives, as they come and in their order, on
+/// the caller's thread. The answers alone are gathered, not the items.
+pub fn map_iter<X: Iterator, T: Drop, F: Fn(X::Item) -> T + Drop>(
+    alloc: Global,
+    iter: X,
+    map_op: F,
+) -> Result<Vec<T>, Fault>
+    requires can { X.can_next iter }
+    requires ends { IsFinite (X.remaining iter) }
+    requires accepts { HoldsAlong X.next_gives iter (All (F.pre map_op)) }
+    ensures maps { IfOk result (λ ys. (xs : List X.Item) × Drains X.next_gives iter xs × MapOf (F.post map_op) xs ys.items) }
+    ensures fault { IsMemoryOnErr result }
+{
+    Ok(iter.map(map_op).collect(alloc)?)
 }
 
 /// The items folded from an identity, in their order, on the caller's thread. Nothing is reduced.
