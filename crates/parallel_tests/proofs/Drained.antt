@@ -1,7 +1,8 @@
 -- Which list an iterator gives, where every run of it gives the same one.
 use Rattle.std.proofs.Common.{◌≡◌, List, [], ◌∷◌, Option, Result, IfOk, Vec, Global, refl, sym, ◌∙◌, ap, subst, map}
-use Rattle.std.specs.List.{AllZip}
-use Rattle.std.specs.Iterator.{Drains}
+use Rattle.std.specs.List.{All, AllByRecursion, AllZip}
+use Rattle.std.specs.Iterator.{Yields, AlwaysYields, Drains, HoldsAlong}
+use Rattle.std.proofs.lemmas.List.Elements.{All-from_recursion, recursion_from_All}
 use Rattle.std.proofs.lemmas.Iterator.{YieldsList, items_from_drains}
 use Rattle.std.proofs.lemmas.List.{map-id}
 use Rattle.std.proofs.lemmas.Result.{IfOk-weaker}
@@ -26,3 +27,15 @@ map_from_answers {all = all} allowed f result answers road calls =
 -- a fact of the items that came of a run, for the list that every run gives
 pub fact_of_list : {S A T E : Type 0} {steps : S → Option A → S → Type 0} {s : S} {all : List A} (P : List A → T → Type 0) (result : Result T E) → IfOk result (λ r. (xs : List A) × Drains steps s xs × P xs r) → YieldsList steps (λ x. x) s all → IfOk result (P all)
 fact_of_list {all = all} P result gave road = IfOk-weaker result _ (P all) (λ r h. subst (λ xs. P xs r) (drained h.0 h.1 road) h.2) gave
+
+module _ {S A : Type 0} (steps : S → Option A → S → Type 0) (K : A → Type 0) where
+  -- what is true of each item of the list that every run gives is true of what came so far
+  seen_of : (seen all : List A) (s t : S) → AlwaysYields steps (λ x. x) s all → Yields steps s seen t → AllByRecursion K all → AllByRecursion K seen
+  seen_of [] all s t road came each = tt
+  seen_of (x ∷ seen) [] s t road came each = absurd (road x came.0 came.1)
+  seen_of (x ∷ seen) (y ∷ all) s t road came each =
+      let one = road.1 x came.0 came.1 in (subst K (sym one.0) each.0, seen_of seen all came.0 t one.1 came.2 each.1)
+
+-- a closure that accepts each item of that list accepts what the iterator gives
+pub accepted_along : {S A : Type 0} {steps : S → Option A → S → Type 0} {s : S} {all : List A} (K : A → Type 0) → YieldsList steps (λ x. x) s all → All K all → HoldsAlong steps s (All K)
+accepted_along {steps = steps} {s = s} {all = all} K road each seen t came = All-from_recursion K seen (seen_of steps K seen all s t road.runs came (recursion_from_All K all each))

@@ -52,6 +52,26 @@ pub fn first_squares<Rt: Threads + Wait + Sync, P: Place, S: Strategy>(
     })
 }
 
+/// The doubles of numbers below 2 to the power of 31, in the numbers' order. The closure accepts no
+/// greater number, and a map asks it for the list's own items alone.
+pub fn doubles<Rt: Threads + Wait + Sync, P: Place, S: Strategy>(
+    rt: &Rt,
+    alloc: Global,
+    strategy: &S,
+    site: P,
+    numbers: &[u32],
+) -> Result<Vec<u32>, Fault>
+    requires small { All (λ x. x < 2 ^ 31) numbers.now }
+    ensures doubles { IfOk result (λ answers. answers.items ≡ map (λ x. 2 * x) numbers.now) }
+    ensures fault { IfErr result (λ fault. fault ≡ Memory) }
+{
+    let double = |number: u32| -> u32
+        requires { number < 2 ^ 31 }
+        ensures { result ≡ 2 * number }
+    { 2 * number };
+    strategy.map_collect_vec(rt, alloc, site, numbers.iter().copied(), double)
+}
+
 /// A fold through any strategy, which is the plain fold from the left wherever its closures keep
 /// the laws that `FoldLaws` names.
 pub fn plain_fold<

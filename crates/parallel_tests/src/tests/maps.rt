@@ -1,5 +1,5 @@
 // Maps through each strategy.
-use crate::callers::{first_squares, squares};
+use crate::callers::{doubles, first_squares, squares};
 use crate::long_lists::{LongLists, squares_by_length};
 use crate::tests::strategies::{SITE, number, pool};
 use commonware_parallel::{Fault, Sequential, Strategy};
@@ -67,6 +67,18 @@ fn squares_of_a_range_come_in_order(rt: HostRuntime) -> Result<(), Fail> {
     let strategy = pool(&rt, rt.alloc(), 3, 3);
     let answers = first_squares(&rt, rt.alloc(), &strategy, SITE, 100)?;
     assert_eq!(rt; answers.as_slice(), SQUARES.as_slice());
+    Ok(())
+}
+
+#[test]
+fn a_closure_is_asked_for_the_items_alone(rt: HostRuntime) -> Result<(), Fail> {
+    let numbers = [3, 0, 2_147_483_647];
+    let expected = [6, 0, 4_294_967_294];
+    let serial = doubles(&rt, rt.alloc(), &Sequential, SITE, &numbers)?;
+    assert_eq!(rt; serial.as_slice(), expected.as_slice());
+    let strategy = pool(&rt, rt.alloc(), 3, 3);
+    let parallel = doubles(&rt, rt.alloc(), &strategy, SITE, &numbers)?;
+    assert_eq!(rt; parallel.as_slice(), expected.as_slice());
     Ok(())
 }
 
