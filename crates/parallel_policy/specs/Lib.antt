@@ -1,0 +1,5 @@
+-- What the contracts of the policy cite.
+pub mod Estimates
+pub mod Arbitration
+pub mod Runs
+pub mod Spawns
