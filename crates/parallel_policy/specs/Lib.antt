@@ -3,3 +3,5 @@ pub mod Estimates
 pub mod Arbitration
 pub mod Runs
 pub mod Spawns
+pub mod Keys
+pub mod Tables

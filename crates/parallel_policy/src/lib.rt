@@ -1,20 +1,27 @@
 //! When parallel pays: a policy that learns it by measuring, and the call sites by which it tells calls apart.
 #![tactic(auto)]
 
+pub mod bucket;
 pub mod cadence;
 pub mod clock;
+mod entries;
 pub mod estimate;
 pub mod execution;
 pub mod history;
+pub mod key;
 pub mod run;
 pub mod site;
 pub mod spawn;
+pub mod table;
 
+pub use bucket::len_bucket;
 pub use cadence::Cadence;
 pub use clock::{Clock, MonotonicClock};
 pub use estimate::Estimate;
 pub use execution::{RunExecution, SpawnExecution};
 pub use history::{RunEvent, SpawnEvent, SpawnSample};
+pub use key::Key;
 pub use run::RunEntry;
 pub use site::{Place, Site};
 pub use spawn::SpawnEntry;
+pub use table::Table;
