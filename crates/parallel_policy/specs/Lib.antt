@@ -5,3 +5,4 @@ pub mod Runs
 pub mod Spawns
 pub mod Keys
 pub mod Tables
+pub mod Decisions

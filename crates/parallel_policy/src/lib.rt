@@ -3,12 +3,14 @@
 
 pub mod bucket;
 pub mod cadence;
+pub mod choices;
 pub mod clock;
 mod entries;
 pub mod estimate;
 pub mod execution;
 pub mod history;
 pub mod key;
+pub mod policy;
 pub mod run;
 pub mod site;
 pub mod spawn;
@@ -16,11 +18,13 @@ pub mod table;
 
 pub use bucket::len_bucket;
 pub use cadence::Cadence;
+pub use choices::{Choices, decide};
 pub use clock::{Clock, MonotonicClock};
 pub use estimate::Estimate;
 pub use execution::{RunExecution, SpawnExecution};
 pub use history::{RunEvent, SpawnEvent, SpawnSample};
 pub use key::Key;
+pub use policy::{INLINE_BUDGET, Policy};
 pub use run::RunEntry;
 pub use site::{Place, Site};
 pub use spawn::SpawnEntry;

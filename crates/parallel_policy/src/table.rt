@@ -6,6 +6,7 @@ ghost use Rattle.parallel_policy.specs.declared.history.RunEvent.{RunEvent};
 ghost use Rattle.parallel_policy.specs.declared.history.SpawnEvent.{SpawnEvent};
 ghost use Rattle.parallel_policy.specs.declared.history.SpawnSample.{SpawnSample};
 
+use crate::choices::Choices;
 use crate::entries::change_entry;
 use crate::execution::{RunExecution, SpawnExecution};
 use crate::key::Key;
@@ -14,6 +15,7 @@ use crate::spawn::SpawnEntry;
 use parallel_fault::Fault;
 use std::alloc::Global;
 use std::collections::HashMap;
+use std::sync::Wait;
 
 /// What a policy knows: an entry of runs and an entry of spawned jobs for each key that was chosen
 /// for.
@@ -169,5 +171,32 @@ impl Table {
             key,
             |entry| entry.record_overhead(nanoseconds),
         )
+    }
+}
+
+/// The choices of a table, exactly: each is a choice or a record of its run entries.
+///
+/// A record for a key that has an entry can't fail. One for a key without an entry is left out where
+/// the new entry was refused memory; a key that was chosen for has one.
+impl Choices<Key> for Table {
+    ghost use Rattle.parallel_policy.specs.Tables.{run_of, ChoosesRun, RecordsRun, HasSameRuns, HasSameSpawns};
+
+    ghost chooses = { ChoosesRun };
+
+    ghost records = { λ old key execution sample new. IsSome (run_of old key) → RecordsRun old key execution sample new };
+
+    ghost refused = { λ old new. HasSameRuns old new × HasSameSpawns old new };
+
+    fn choose<Rt: Wait>(
+        &mut self,
+        _rt: &Rt,
+        key: Key,
+        parallelism: usize,
+    ) -> Result<(RunExecution, bool), Fault> {
+        self.choose_run(key, parallelism)
+    }
+
+    fn record<Rt: Wait>(&mut self, _rt: &Rt, key: Key, execution: RunExecution, nanoseconds: u64) {
+        let _ = self.record_run(key, execution, nanoseconds);
     }
 }
