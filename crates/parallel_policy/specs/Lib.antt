@@ -6,3 +6,4 @@ pub mod Spawns
 pub mod Keys
 pub mod Tables
 pub mod Decisions
+pub mod Laws
