@@ -48,7 +48,7 @@ impl Estimate {
 }
 
 // The old estimate and a sample, weighed four to one. The sum has 128 bits.
-fn blend(old: u64, sample: u64) -> u64
+pub(crate) fn blend(old: u64, sample: u64) -> u64
     ensures value { result ≡ mean old sample }
     ensures low { min old sample ≤ result }
     ensures high { result ≤ max old sample }
