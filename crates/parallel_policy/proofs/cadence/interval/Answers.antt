@@ -1,0 +1,10 @@
+-- A shift of at most 5 gives at most 32 times the base interval.
+use Rattle.std.proofs.Common.{◌^◌, ◌≤◌, arith}
+use Rattle.std.proofs.Math.Pow.{pow_mono}
+use Rattle.parallel_policy.proofs.cadence.interval.Goals as goal
+
+pub returns-clause-most : goal.returns-clause-most
+returns-clause-most c =
+    let below : c.min-shift.result ≤ 5 = omega arith in
+    let small : 2 ^ c.min-shift.result ≤ 2 ^ 5 = pow_mono below in
+    omega arith

@@ -1,0 +1,202 @@
+// The entries of a policy, by their keys.
+ghost use Rattle.std.specs.Prelude.{◌≡◌, ◌∷◌, None, IsSome, IfOk, IfErr, IsOk, OnOk, OnErr};
+ghost use Rattle.parallel_policy.specs.Runs.{RunHistory, run_choice};
+ghost use Rattle.parallel_policy.specs.Spawns.{SpawnHistory, spawn_choice};
+ghost use Rattle.parallel_policy.specs.declared.history.RunEvent.{RunEvent};
+ghost use Rattle.parallel_policy.specs.declared.history.SpawnEvent.{SpawnEvent};
+ghost use Rattle.parallel_policy.specs.declared.history.SpawnSample.{SpawnSample};
+
+use crate::choices::Choices;
+use crate::entries::change_entry;
+use crate::execution::{RunExecution, SpawnExecution};
+use crate::key::Key;
+use crate::run::RunEntry;
+use crate::spawn::SpawnEntry;
+use parallel_fault::Fault;
+use std::alloc::Global;
+use std::collections::HashMap;
+use std::sync::Wait;
+
+/// What a policy knows: an entry of runs and an entry of spawned jobs for each key that was chosen
+/// for.
+///
+/// Each call changes the entry of its own key and no other; a key without an entry counts as one with
+/// a default entry, and gets it by the first call. A call for a key that has an entry takes no memory
+/// and can't fail. Where memory was refused, the table is as before.
+#[derive(Debug, Drop)]
+pub struct Table {
+    runs: HashMap<Key, RunEntry>,
+    spawns: HashMap<Key, SpawnEntry>,
+}
+
+impl Table {
+    ghost use Rattle.parallel_policy.specs.declared.key.Key.{Key};
+    ghost use Rattle.parallel_policy.specs.Tables.{run_of, spawn_of, HoldsRunAt, HoldsSpawnAt, HasSameRuns, HasSameSpawns, HasOtherRuns, HasOtherSpawns};
+
+    /// A table without entries. It takes no memory.
+    pub fn new(alloc: Global) -> Table
+        ensures runs { (key : Key) → run_of result key ≡ None }
+        ensures spawns { (key : Key) → spawn_of result key ≡ None }
+    {
+        Table {
+            runs: HashMap::new(alloc),
+            spawns: HashMap::new(alloc),
+        }
+    }
+
+    /// Chooses how a run is to go (`RunEntry::choose`).
+    ///
+    /// # Errors
+    ///
+    /// `Fault::Memory` where a new entry was refused memory; the table is as before.
+    pub fn choose_run(
+        &mut self,
+        key: Key,
+        parallelism: usize,
+    ) -> Result<(RunExecution, bool), Fault>
+        ensures answer { IfOk result (λ answer. (history : RunHistory) → HoldsRunAt self.old key history → answer ≡ run_choice history parallelism) }
+        ensures holds { OnOk result ((history : RunHistory) → HoldsRunAt self.old key history → HoldsRunAt self.new key (RunEvent.Chosen parallelism ∷ history)) }
+        ensures entry { OnOk result (IsSome (run_of self.new key)) }
+        ensures others { HasOtherRuns self.old self.new key }
+        ensures spawns { HasSameSpawns self.old self.new }
+        ensures fault { IfErr result (λ fault. fault ≡ Fault.Memory) }
+        ensures err { OnErr result (HasSameRuns self.old self.new) }
+        ensures known { IsSome (run_of self.old key) → IsOk result }
+    {
+        change_entry(&mut self.runs, key, |entry| entry.choose(parallelism))
+    }
+
+    /// Records that a run of that kind took so many nanoseconds (`RunEntry::record`).
+    ///
+    /// # Errors
+    ///
+    /// `Fault::Memory` where a new entry was refused memory; the table is as before. A key that was
+    /// chosen for has an entry.
+    pub fn record_run(
+        &mut self,
+        key: Key,
+        execution: RunExecution,
+        nanoseconds: u64,
+    ) -> Result<(), Fault>
+        ensures holds { OnOk result ((history : RunHistory) → HoldsRunAt self.old key history → HoldsRunAt self.new key (RunEvent.Sampled execution nanoseconds ∷ history)) }
+        ensures entry { OnOk result (IsSome (run_of self.new key)) }
+        ensures others { HasOtherRuns self.old self.new key }
+        ensures spawns { HasSameSpawns self.old self.new }
+        ensures fault { IfErr result (λ fault. fault ≡ Fault.Memory) }
+        ensures err { OnErr result (HasSameRuns self.old self.new) }
+        ensures known { IsSome (run_of self.old key) → IsOk result }
+    {
+        change_entry(
+            &mut self.runs,
+            key,
+            |entry| entry.record(execution, nanoseconds),
+        )
+    }
+
+    /// Chooses where a job is to run, inline within `budget` nanoseconds (`SpawnEntry::choose`).
+    ///
+    /// # Errors
+    ///
+    /// `Fault::Memory` where a new entry was refused memory; the table is as before.
+    pub fn choose_spawn(&mut self, key: Key, budget: u64) -> Result<(SpawnExecution, bool), Fault>
+        ensures answer { IfOk result (λ answer. (history : SpawnHistory) → HoldsSpawnAt self.old key history → answer ≡ spawn_choice history budget) }
+        ensures holds { OnOk result ((history : SpawnHistory) → HoldsSpawnAt self.old key history → HoldsSpawnAt self.new key (SpawnEvent.Chosen budget ∷ history)) }
+        ensures entry { OnOk result (IsSome (spawn_of self.new key)) }
+        ensures others { HasOtherSpawns self.old self.new key }
+        ensures runs { HasSameRuns self.old self.new }
+        ensures fault { IfErr result (λ fault. fault ≡ Fault.Memory) }
+        ensures err { OnErr result (HasSameSpawns self.old self.new) }
+        ensures known { IsSome (spawn_of self.old key) → IsOk result }
+    {
+        change_entry(&mut self.spawns, key, |entry| entry.choose(budget))
+    }
+
+    /// Records how long an inline run took, in nanoseconds (`SpawnEntry::record_inline`).
+    ///
+    /// # Errors
+    ///
+    /// `Fault::Memory` where a new entry was refused memory; the table is as before. A key that was
+    /// chosen for has an entry.
+    pub fn record_spawn_inline(&mut self, key: Key, nanoseconds: u64) -> Result<(), Fault>
+        ensures holds { OnOk result ((history : SpawnHistory) → HoldsSpawnAt self.old key history → HoldsSpawnAt self.new key (SpawnEvent.Sampled SpawnSample.InlineRun nanoseconds ∷ history)) }
+        ensures entry { OnOk result (IsSome (spawn_of self.new key)) }
+        ensures others { HasOtherSpawns self.old self.new key }
+        ensures runs { HasSameRuns self.old self.new }
+        ensures fault { IfErr result (λ fault. fault ≡ Fault.Memory) }
+        ensures err { OnErr result (HasSameSpawns self.old self.new) }
+        ensures known { IsSome (spawn_of self.old key) → IsOk result }
+    {
+        change_entry(
+            &mut self.spawns,
+            key,
+            |entry| entry.record_inline(nanoseconds),
+        )
+    }
+
+    /// Records how long a handed-off job took by itself, in nanoseconds (`SpawnEntry::record_job`).
+    ///
+    /// # Errors
+    ///
+    /// `Fault::Memory` where a new entry was refused memory; the table is as before. A key that was
+    /// chosen for has an entry.
+    pub fn record_spawn_job(&mut self, key: Key, nanoseconds: u64) -> Result<(), Fault>
+        ensures holds { OnOk result ((history : SpawnHistory) → HoldsSpawnAt self.old key history → HoldsSpawnAt self.new key (SpawnEvent.Sampled SpawnSample.Job nanoseconds ∷ history)) }
+        ensures entry { OnOk result (IsSome (spawn_of self.new key)) }
+        ensures others { HasOtherSpawns self.old self.new key }
+        ensures runs { HasSameRuns self.old self.new }
+        ensures fault { IfErr result (λ fault. fault ≡ Fault.Memory) }
+        ensures err { OnErr result (HasSameSpawns self.old self.new) }
+        ensures known { IsSome (spawn_of self.old key) → IsOk result }
+    {
+        change_entry(&mut self.spawns, key, |entry| entry.record_job(nanoseconds))
+    }
+
+    /// Records how much longer a handed-off job took than the job itself, in nanoseconds (`SpawnEntry::record_overhead`).
+    ///
+    /// # Errors
+    ///
+    /// `Fault::Memory` where a new entry was refused memory; the table is as before. A key that was
+    /// chosen for has an entry.
+    pub fn record_spawn_overhead(&mut self, key: Key, nanoseconds: u64) -> Result<(), Fault>
+        ensures holds { OnOk result ((history : SpawnHistory) → HoldsSpawnAt self.old key history → HoldsSpawnAt self.new key (SpawnEvent.Sampled SpawnSample.Overhead nanoseconds ∷ history)) }
+        ensures entry { OnOk result (IsSome (spawn_of self.new key)) }
+        ensures others { HasOtherSpawns self.old self.new key }
+        ensures runs { HasSameRuns self.old self.new }
+        ensures fault { IfErr result (λ fault. fault ≡ Fault.Memory) }
+        ensures err { OnErr result (HasSameSpawns self.old self.new) }
+        ensures known { IsSome (spawn_of self.old key) → IsOk result }
+    {
+        change_entry(
+            &mut self.spawns,
+            key,
+            |entry| entry.record_overhead(nanoseconds),
+        )
+    }
+}
+
+/// The choices of a table, exactly: each is a choice or a record of its run entries.
+///
+/// A record for a key that has an entry can't fail. One for a key without an entry is left out where
+/// the new entry was refused memory; a key that was chosen for has one.
+impl Choices<Key> for Table {
+    ghost use Rattle.parallel_policy.specs.Tables.{run_of, ChoosesRun, RecordsRun, HasSameRuns, HasSameSpawns};
+
+    ghost chooses = { ChoosesRun };
+
+    ghost records = { λ old key execution sample new. IsSome (run_of old key) → RecordsRun old key execution sample new };
+
+    ghost refused = { λ old new. HasSameRuns old new × HasSameSpawns old new };
+
+    fn choose<Rt: Wait>(
+        &mut self,
+        _rt: &Rt,
+        key: Key,
+        parallelism: usize,
+    ) -> Result<(RunExecution, bool), Fault> {
+        self.choose_run(key, parallelism)
+    }
+
+    fn record<Rt: Wait>(&mut self, _rt: &Rt, key: Key, execution: RunExecution, nanoseconds: u64) {
+        let _ = self.record_run(key, execution, nanoseconds);
+    }
+}
