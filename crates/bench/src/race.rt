@@ -62,7 +62,8 @@ where
 {
     let alloc = rt.alloc();
     let clock = MonotonicClock::new(rt.clone()?)?;
-    let rayon = Rayon::new(rt, alloc, trial.threads, clock.clone()?)?;
+    let learning = Rayon::new(rt, alloc, trial.threads, clock.clone()?)?;
+    let rayon = learning.without_policy()?;
     let mut items = items_of(alloc, trial.len)?;
     let mut plain = Vec::new(alloc);
     let mut sequential = Vec::new(alloc);

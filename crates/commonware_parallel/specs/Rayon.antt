@@ -1,6 +1,7 @@
 -- the numbers of a strategy over a pool, and the picks that it takes
 use Rattle.std.specs.Prelude.{◌≡◌, ◌≢◌, ℕ, ◌-◌, ◌<◌, ◌≤◌, Bool, true, false, ◌⊎◌}
 use Rattle.std.specs.Int.NonZero.{non_zero_usize_get}
+use Rattle.std.specs.Option.{is_some}
 use Rattle.std.specs.Arc.{arc_value}
 use Rattle.parallel_fault.specs.declared.fault.Fault.{Fault}
 use Rattle.parallel_fault.specs.declared.fault.Fault.TheVariants.{Memory}
@@ -17,9 +18,9 @@ planning_of strategy = non_zero_usize_get strategy.parallelism
 abbrev pub threads_of : {C : Type 0} → Rayon C → ℕ
 threads_of strategy = thread_count (arc_value strategy.pool)
 
--- whether a policy chooses between serial and parallel; no strategy has one yet
+-- whether a policy chooses between serial and parallel
 abbrev pub chooses_of : {C : Type 0} → Rayon C → Bool
-chooses_of strategy = false
+chooses_of strategy = is_some strategy.policy
 
 -- planned for one, the first pick; planned for more, the last one, or the first or the last where a policy chooses
 abbrev pub PlansTo : ℕ → Bool → ℕ → ℕ → Type 0

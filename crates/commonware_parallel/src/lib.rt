@@ -8,16 +8,18 @@
 
 mod call;
 mod items;
+mod measured;
 mod plan;
 mod rayon_strategy;
 mod sequential;
 mod strategy;
 
 pub use call::{Call, Kind, Meter, Unmeasured};
+pub use measured::Measured;
 pub use parallel_bridge as bridge;
 pub use parallel_fault::{Fault, Trouble};
 pub use parallel_policy as policy;
-pub use parallel_policy::{Clock, MonotonicClock, Place, Site};
+pub use parallel_policy::{Clock, MonotonicClock, Place, Policy, Site};
 pub use parallel_pool::{ThreadPool, rayon};
 pub use parallel_shares as shares;
 pub use parallel_shares::{Grid, cut};

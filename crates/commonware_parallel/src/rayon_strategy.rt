@@ -1,10 +1,12 @@
-ghost use Rattle.std.specs.Prelude.{◌≡◌, ◌≢◌, ℕ, ◌<◌, ◌≤◌, Bool, true, false, min, IfOk, IfErr};
+ghost use Rattle.std.specs.Prelude.{◌≡◌, ◌≢◌, ℕ, ◌<◌, ◌≤◌, Bool, true, false, ◌-◌, ◌⊎◌, min, IsSome, IfOk, IfErr};
 ghost use Rattle.std.specs.Int.NonZero.{non_zero_usize_get};
 
-use crate::call::{Call, Kind, Unmeasured};
+use crate::call::{Call, Kind};
+use crate::measured::{Measured, Sample, Told};
 use crate::strategy::Strategy;
 use parallel_fault::{Fault, Trouble};
-use parallel_policy::{Clock, Place};
+use parallel_policy::policy::INLINE_BUDGET;
+use parallel_policy::{Clock, Key, Place, Policy, RunExecution, SpawnExecution};
 use parallel_pool::rayon::{MAX_THREADS, ThreadPool, ThreadPoolBuildError};
 use std::alloc::Global;
 use std::num::NonZeroUsize;
@@ -13,24 +15,28 @@ use std::thread::Threads;
 
 /// Runs each call on a pool of threads, in as many parts as the pool's thread number asks.
 ///
-/// Beside the pool it has a planning number, by which it chooses: planned for one it runs a call
-/// serially; planned for more it runs it in parallel. No policy chooses yet: the clock is kept for
-/// one and isn't read. A clone has the same pool and the same numbers.
+/// Beside the pool it has a planning number and a policy. Planned for one it runs a call serially.
+/// Planned for more the policy chooses between serial and parallel, by what the clock told of earlier
+/// calls at the same site with as many items; without a policy the call runs in parallel. A join asks
+/// no policy and is always parallel. A clone has the same pool, the same numbers and the same policy.
 #[derive(Clone, Debug, Drop)]
 pub struct Rayon<C> {
     pool: Arc<ThreadPool, Global>,
     parallelism: NonZeroUsize,
     clock: C,
+    policy: Option<Policy>,
 }
 
 impl<C: Clock> Rayon<C> {
     ghost use Rattle.commonware_parallel.specs.Rayon.{planning_of, threads_of, chooses_of};
 
-    /// A strategy over a pool of `num_threads` threads, 65535 at most, planned for as many.
+    /// A strategy over a pool of `num_threads` threads, 65535 at most, planned for as many, with a
+    /// policy that knows nothing yet and reads the clock.
     ///
     /// # Errors
     ///
-    /// `ThreadPoolBuildError::Memory` where the pool's memory was refused; the clock is dropped.
+    /// `ThreadPoolBuildError::Memory` where the pool's or the policy's memory was refused; the clock is
+    /// dropped.
     pub fn new<Rt: Threads>(
         _rt: &Rt,
         alloc: Global,
@@ -39,51 +45,71 @@ impl<C: Clock> Rayon<C> {
     ) -> Result<Rayon<C>, ThreadPoolBuildError>
         ensures threads { IfOk result (λ strategy. threads_of strategy ≡ min (non_zero_usize_get num_threads) MAX_THREADS) }
         ensures planning { IfOk result (λ strategy. planning_of strategy ≡ threads_of strategy) }
+        ensures chooses { IfOk result (λ strategy. chooses_of strategy ≡ true) }
     {
         let pool = ThreadPool::new(num_threads);
         let parallelism = pool.num_threads();
         let pool = Arc::new(alloc, pool)?;
+        let policy = Policy::new(alloc).map_err(|_| ThreadPoolBuildError::Memory)?;
         Ok(Rayon {
             pool,
             parallelism,
             clock,
+            policy: Some(policy),
         })
     }
 }
 
 impl<C> Rayon<C> {
     ghost use Rattle.commonware_parallel.specs.Rayon.{planning_of, threads_of, chooses_of, RayonTakes};
+    ghost use Rattle.commonware_parallel.specs.declared.call.Kind.TheVariants.{Join, Spawn};
 
-    /// The same strategy, planned for `parallelism`. The pool and its thread number stay.
+    /// The same strategy, planned for `parallelism`. The pool, its thread number and the policy stay.
     pub fn with_parallelism(self, parallelism: NonZeroUsize) -> Rayon<C>
         ensures planning { planning_of result ≡ non_zero_usize_get parallelism }
         ensures threads { threads_of result ≡ threads_of self }
         ensures chooses { chooses_of result ≡ chooses_of self }
     {
-        let Rayon { pool, clock, .. } = self;
-        Rayon {
-            pool,
-            parallelism,
-            clock,
+        let mut planned = self;
+        planned.parallelism = parallelism;
+        planned
+    }
+
+    // The number of threads by which a call is planned.
+    fn planned(&self, call: Call) -> usize
+        ensures spawn { call.kind ≡ Spawn → result ≡ threads_of self.now }
+        ensures others { call.kind ≢ Spawn → result ≡ planning_of self.now }
+    {
+        match call.kind {
+            Kind::Spawn => self.pool.num_threads().get(),
+            Kind::Body | Kind::Batches | Kind::Tiles | Kind::Join => self.parallelism.get(),
         }
     }
 
-    // The pick of a call without a policy.
+    // The pick of a call that no policy is asked about.
     fn pick(&self, call: Call) -> usize
         requires { 0 < call.options }
         ensures below { result < call.options }
         ensures takes { RayonTakes (planning_of self.now) (threads_of self.now) (chooses_of self.now) call result }
     {
-        let parallelism = match call.kind {
-            Kind::Join => return call.options - 1,
-            Kind::Spawn => self.pool.num_threads(),
-            Kind::Body | Kind::Batches | Kind::Tiles => self.parallelism,
-        };
-        if parallelism.get() > 1 {
+        if call.kind == Kind::Join || self.planned(call) > 1 {
             call.options - 1
         } else {
             0
         }
+    }
+
+    // The policy, where it is asked about a call: not about a join, nor where there is nothing to choose.
+    fn asked(&self, call: Call) -> Option<&Policy>
+        ensures chooses { IsSome result → chooses_of self.now ≡ true }
+        ensures kind { IsSome result → call.kind ≢ Join }
+        ensures first { IsSome result → RayonTakes (planning_of self.now) (threads_of self.now) (chooses_of self.now) call 0 }
+        ensures last { IsSome result → RayonTakes (planning_of self.now) (threads_of self.now) (chooses_of self.now) call (call.options - 1) }
+    {
+        if call.kind == Kind::Join || call.options < 2 || self.planned(call) < 2 {
+            return None;
+        }
+        self.policy.as_ref()
     }
 }
 
@@ -107,6 +133,7 @@ impl<C: Clone> Rayon<C> {
             pool,
             parallelism: self.parallelism,
             clock,
+            policy: None,
         })
     }
 }
@@ -124,7 +151,7 @@ impl<C: Clock> Strategy for Rayon<C> {
 
     ghost starts = { λ _. true };
 
-    type Measure = Unmeasured;
+    type Measure = Measured<C>;
 
     fn planning(&self) -> NonZeroUsize {
         self.parallelism
@@ -148,22 +175,73 @@ impl<C: Clock> Strategy for Rayon<C> {
 
     fn dispatch<Rt: Wait, P: Place, R, E, B: FnOnce(usize) -> Result<R, E>>(
         &self,
-        _rt: &Rt,
+        rt: &Rt,
         _alloc: Global,
-        _site: P,
+        site: P,
         call: Call,
         body: B,
     ) -> Result<R, Trouble<E>> {
-        body(self.pick(call)).map_err(Trouble::Closure)
+        let Some(policy) = self.asked(call) else {
+            return body(self.pick(call)).map_err(Trouble::Closure);
+        };
+        let last = call.options - 1;
+        let run = move |execution: RunExecution| -> Result<R, E>
+            requires { B.pre body 0 × B.pre body last }
+            ensures { B.post body 0 result ⊎ B.post body last result }
+        {
+            match execution {
+                RunExecution::Serial => body(0),
+                RunExecution::Parallel => body(last),
+            }
+        };
+        let clock = &self.clock;
+        let now = move || clock.now();
+        policy.try_run(rt, site, call.len, call.work, self.planned(call), &now, run)
     }
 
     fn choose<Rt: Wait, P: Place>(
         &self,
-        _rt: &Rt,
+        rt: &Rt,
         _alloc: Global,
-        _site: P,
+        site: P,
         call: Call,
-    ) -> Result<(usize, Unmeasured), Fault> {
-        Ok((self.pick(call), Unmeasured))
+    ) -> Result<(usize, Measured<C>), Fault> {
+        let Some(policy) = self.asked(call) else {
+            return Ok((self.pick(call), Measured::nothing()));
+        };
+        let key = Key::new(site.site(), call.len, call.work, self.planned(call));
+        let (pick, measured, sample) = match call.kind {
+            Kind::Spawn => match policy.choose_spawn(rt, key, INLINE_BUDGET)? {
+                (SpawnExecution::Inline, measured) => (0, measured, Sample::Inline),
+                (SpawnExecution::Offload, measured) => {
+                    (call.options - 1, measured, Sample::Offloaded)
+                }
+            },
+            _ => match policy.choose_run(rt, key, self.planned(call))? {
+                (RunExecution::Serial, measured) => {
+                    (0, measured, Sample::Run(RunExecution::Serial))
+                }
+                (RunExecution::Parallel, measured) => {
+                    (
+                        call.options - 1,
+                        measured,
+                        Sample::Run(RunExecution::Parallel),
+                    )
+                }
+            },
+        };
+        if !measured {
+            return Ok((pick, Measured::nothing()));
+        }
+        let chosen = self.clock.now();
+        let told = Told {
+            policy: policy.clone()?,
+            clock: self.clock.clone()?,
+            key,
+            sample,
+            chosen,
+            begun: chosen,
+        };
+        Ok((pick, Measured::of(told)))
     }
 }

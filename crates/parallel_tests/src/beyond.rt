@@ -14,6 +14,7 @@ use parallel_policy::Place;
 use parallel_pool::rayon::{MAX_THREADS, ThreadPoolBuildError};
 use std::alloc::Global;
 use std::num::NonZeroUsize;
+use std::ops::Range;
 use std::sync::Wait;
 use std::thread::Threads;
 
@@ -191,7 +192,8 @@ pub fn run_parallel<
     strategy.run(rt, alloc, site, len, serial, parallel)
 }
 
-/// A pool of `num_threads` threads, 65535 at most, planned for `parallelism`.
+/// A pool of `num_threads` threads, 65535 at most, planned for `parallelism`, for which no policy
+/// chooses.
 pub fn planned_pool<Rt: Threads, C: Clock>(
     rt: &Rt,
     alloc: Global,
@@ -201,34 +203,31 @@ pub fn planned_pool<Rt: Threads, C: Clock>(
 ) -> Result<Rayon<C>, ThreadPoolBuildError>
     ensures threads { IfOk result (λ strategy. threads_of strategy ≡ min (non_zero_usize_get num_threads) MAX_THREADS) }
     ensures planning { IfOk result (λ strategy. planning_of strategy ≡ non_zero_usize_get parallelism) }
+    ensures no_policy { IfOk result (λ strategy. chooses_of strategy ≡ false) }
 {
-    let strategy = Rayon::new(rt, alloc, num_threads, clock)?;
-    Ok(strategy.with_parallelism(parallelism))
+    let learning = Rayon::new(rt, alloc, num_threads, clock)?.with_parallelism(parallelism);
+    let strategy = learning
+        .without_policy()
+        .map_err(|_| ThreadPoolBuildError::Memory)?;
+    Ok(strategy)
 }
 
-/// A batch at a pool without a policy: as many ranges as are planned for, but no range shorter than
-/// `minimum`, and one at least.
-pub fn batch_at_pool<
-    Rt: Wait,
-    C: Clock,
-    P: Place,
-    R,
-    F: FnOnce(Batches<'_, Rayon<C>, P>) -> R + Drop,
->(
+/// The ranges of a batch at a pool without a policy: as many as are planned for, but no range shorter
+/// than `minimum`, and one at least.
+pub fn ranges_at_pool<Rt: Wait, C: Clock, P: Place>(
     rt: &Rt,
     alloc: Global,
     strategy: &Rayon<C>,
     site: P,
     len: usize,
     minimum: NonZeroUsize,
-    run: F,
-) -> Result<R, Fault>
+) -> Result<Vec<Range<usize>>, Fault>
     requires no_policy { chooses_of strategy.now ≡ false }
-    requires accepts { F.IsAlwaysCallable run }
-    ensures batch { IfOk result (λ answer. (batches : Batches (Rayon C) P)
-        × IsBatch len (max 1 (min (planning_of strategy.now) (len / non_zero_usize_get minimum))) (non_zero_usize_get minimum) (ranges_of batches)
-        × F.post run batches answer) }
+    ensures batch { IfOk result (λ ranges. IsBatch len (max 1 (min (planning_of strategy.now) (len / non_zero_usize_get minimum))) (non_zero_usize_get minimum) ranges.items) }
     ensures fault { IfErr result (λ fault. fault ≡ Memory) }
 {
-    strategy.run_batches(rt, alloc, site, len, minimum, 1, run)
+    let ranges = strategy.run_batches(rt, alloc, site, len, minimum, 1, |batches| {
+        batches.ranges().to_vec(alloc)
+    })?;
+    Ok(ranges?)
 }

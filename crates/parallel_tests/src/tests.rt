@@ -6,6 +6,7 @@ mod machine;
 mod maps;
 mod memory;
 mod plans;
+mod policies;
 mod printed;
 mod runs;
 mod strategies;

@@ -1,5 +1,5 @@
 // Batches: in which ranges their indices go.
-use crate::beyond::batch_at_pool;
+use crate::beyond::ranges_at_pool;
 use crate::callers::batch_ranges;
 use crate::tests::strategies::{SITE, number, pool};
 use commonware_parallel::{Batches, Fault, Sequential, Strategy};
@@ -36,10 +36,8 @@ fn a_batch_has_as_many_ranges_as_are_planned(rt: HostRuntime) -> Result<(), Fail
     assert_eq!(rt; ranges.as_slice(), [0..16].as_slice());
     let ranges = batch_ranges(&rt, alloc, &four, SITE, 0, number(&rt, 1))?;
     assert_eq!(rt; ranges.as_slice(), [0..0].as_slice());
-    let count = batch_at_pool(&rt, alloc, &four, SITE, 16, number(&rt, 5), |batches| {
-        batches.ranges().len()
-    })?;
-    assert_eq!(rt; count, 3);
+    let ranges = ranges_at_pool(&rt, alloc, &four, SITE, 16, number(&rt, 5))?;
+    assert_eq!(rt; ranges.as_slice(), [0..6, 6..11, 11..16].as_slice());
     let ranges = batch_ranges(&rt, alloc, &Sequential, SITE, 16, number(&rt, 1))?;
     assert_eq!(rt; ranges.as_slice(), [0..16].as_slice());
     Ok(())

@@ -55,15 +55,15 @@ fn the_planning_number_chooses(rt: HostRuntime) -> Result<(), Fail> {
     assert_eq!(rt; fresh.planning().get(), 3);
     assert_eq!(rt; fresh.thread_number().get(), 3);
 
+    let fixed = fresh.with_parallelism(number(&rt, 5)).without_policy()?;
+    assert_eq!(rt; fixed.planning().get(), 5);
+    assert_eq!(rt; fixed.thread_number().get(), 3);
+
     let planned = planned_pool(&rt, alloc, number(&rt, 1), number(&rt, 4), Stopped)?;
     assert_eq!(rt; planned.planning().get(), 4);
     assert_eq!(rt; planned.thread_number().get(), 1);
     let answer = run_parallel(&rt, alloc, &planned, SITE, 2, || "serial", || "parallel")?;
     assert_eq!(rt; answer, "parallel");
-
-    let fixed = planned.without_policy()?;
-    assert_eq!(rt; fixed.planning().get(), 4);
-    assert_eq!(rt; fixed.thread_number().get(), 1);
     Ok(())
 }
 

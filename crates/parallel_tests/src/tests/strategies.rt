@@ -2,6 +2,7 @@
 ghost use Rattle.std.specs.Prelude.{◌≡◌};
 ghost use Rattle.std.specs.Int.NonZero.{non_zero_usize_get};
 
+use crate::beyond::planned_pool;
 use commonware_parallel::{Clock, Rayon, Site};
 use std::alloc::Global;
 use std::num::NonZeroUsize;
@@ -32,7 +33,7 @@ pub fn number(rt: &impl Abort, value: usize) -> NonZeroUsize
     NonZeroUsize::new(value).expect(rt, "a number above 0")
 }
 
-/// A pool of so many threads, planned for so many.
+/// A pool of so many threads, planned for so many, for which no policy chooses.
 pub fn pool<Rt: Threads + Abort>(
     rt: &Rt,
     alloc: Global,
@@ -40,6 +41,6 @@ pub fn pool<Rt: Threads + Abort>(
     planned: usize,
 ) -> Rayon<Stopped> {
     let threads = number(rt, threads);
-    let strategy = Rayon::new(rt, alloc, threads, Stopped).expect(rt, "memory for a pool");
-    strategy.with_parallelism(number(rt, planned))
+    let strategy = planned_pool(rt, alloc, threads, number(rt, planned), Stopped);
+    strategy.expect(rt, "memory for a pool")
 }

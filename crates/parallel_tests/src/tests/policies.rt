@@ -1,0 +1,122 @@
+// What a policy learns, through the calls of a pool.
+use crate::callers::one_of;
+use crate::tests::strategies::{SITE, Stopped, number};
+use commonware_parallel::{Clock, Fault, Rayon, Sequential, Site, Strategy};
+use std::alloc::Global;
+use std::process::Abort;
+use std::sync::atomic::{AtomicU64, Ordering};
+use std::sync::{Arc, Wait};
+use std::test::Fail;
+use std::thread::Threads;
+
+// A clock that goes on by `step` at each reading, or back where `step` is near 2 to the power of 64.
+#[derive(Clone, Debug, Drop)]
+struct Stepping {
+    reading: Arc<AtomicU64, Global>,
+    step: u64,
+}
+
+impl Stepping {
+    fn new(rt: &impl Abort, alloc: Global, step: u64) -> Stepping {
+        let start = AtomicU64::new(1_000_000_000_000);
+        Stepping {
+            reading: Arc::new(alloc, start).expect(rt, "memory for a clock"),
+            step,
+        }
+    }
+}
+
+impl Clock for Stepping {
+    fn now(&self) -> u64 {
+        self.reading.fetch_add(self.step, Ordering::SeqCst)
+    }
+}
+
+// A pool of four threads with a fresh policy, and a clock that steps so far.
+fn learning<Rt: Threads + Abort>(rt: &Rt, alloc: Global, step: u64) -> Rayon<Stepping> {
+    let clock = Stepping::new(rt, alloc, step);
+    Rayon::new(rt, alloc, number(rt, 4), clock).expect(rt, "memory for a pool")
+}
+
+// Which of two bodies a call over 64 items takes.
+fn which<Rt: Wait, S: Strategy>(
+    rt: &Rt,
+    alloc: Global,
+    strategy: &S,
+) -> Result<&'static str, Fault> {
+    one_of(rt, alloc, strategy, SITE, 64, "serial", "parallel")
+}
+
+#[test]
+fn a_fresh_policy_runs_in_parallel(rt: HostRuntime) -> Result<(), Fail> {
+    let alloc = rt.alloc();
+    let fresh = Rayon::new(&rt, alloc, number(&rt, 4), Stopped)?;
+    assert_eq!(rt; which(&rt, alloc, &fresh)?, "parallel");
+    assert_eq!(rt; which(&rt, alloc, &Sequential)?, "serial");
+    Ok(())
+}
+
+#[test]
+fn a_short_parallel_run_is_followed_by_serial_ones(rt: HostRuntime) -> Result<(), Fail> {
+    let alloc = rt.alloc();
+    let strategy = learning(&rt, alloc, 100_000);
+    assert_eq!(rt; which(&rt, alloc, &strategy)?, "parallel");
+    assert_eq!(rt; which(&rt, alloc, &strategy)?, "serial");
+    assert_eq!(rt; which(&rt, alloc, &strategy)?, "serial");
+    Ok(())
+}
+
+#[test]
+fn a_clock_that_goes_back_counts_as_no_time(rt: HostRuntime) -> Result<(), Fail> {
+    let alloc = rt.alloc();
+    let strategy = learning(&rt, alloc, u64::MAX - 99_999);
+    assert_eq!(rt; which(&rt, alloc, &strategy)?, "parallel");
+    assert_eq!(rt; which(&rt, alloc, &strategy)?, "serial");
+    Ok(())
+}
+
+#[test]
+fn a_clone_has_the_same_policy(rt: HostRuntime) -> Result<(), Fail> {
+    let alloc = rt.alloc();
+    let strategy = learning(&rt, alloc, 100_000);
+    let clone = strategy.clone()?;
+    assert_eq!(rt; which(&rt, alloc, &strategy)?, "parallel");
+    assert_eq!(rt; which(&rt, alloc, &clone)?, "serial");
+    let fixed = strategy.without_policy()?;
+    assert_eq!(rt; which(&rt, alloc, &fixed)?, "parallel");
+    let planned = strategy.with_parallelism(number(&rt, 8));
+    assert_eq!(rt; which(&rt, alloc, &planned)?, "parallel");
+    assert_eq!(rt; which(&rt, alloc, &planned)?, "serial");
+    Ok(())
+}
+
+// The numbers' sum from 10, by which the body can be told: each segment adds 10 twice.
+fn sum_from_ten<Rt: Threads + Wait + Sync, S: Strategy>(
+    rt: &Rt,
+    alloc: Global,
+    strategy: &S,
+    site: Site,
+) -> Result<u64, Fault> {
+    let numbers = [1, 2, 3];
+    strategy.fold(
+        rt,
+        alloc,
+        site,
+        numbers.iter().copied(),
+        || 10,
+        |sum: u64, number: u64| sum.wrapping_add(number),
+        |left: u64, right: u64| left.wrapping_add(right),
+    )
+}
+
+#[test]
+fn folds_ask_the_policy_by_their_site(rt: HostRuntime) -> Result<(), Fail> {
+    let alloc = rt.alloc();
+    let strategy = learning(&rt, alloc, 100_000);
+    let other = Site { column: 2, ..SITE };
+    assert_eq!(rt; sum_from_ten(&rt, alloc, &strategy, SITE)?, 66);
+    assert_eq!(rt; sum_from_ten(&rt, alloc, &strategy, SITE)?, 16);
+    assert_eq!(rt; sum_from_ten(&rt, alloc, &strategy, other)?, 66);
+    assert_eq!(rt; sum_from_ten(&rt, alloc, &strategy, other)?, 16);
+    Ok(())
+}
