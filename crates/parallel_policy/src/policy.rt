@@ -71,14 +71,12 @@ impl Policy {
         ensures planned_for_one { parallelism ≤ 1 → AnswersOn (λ path r. B.post body path r) RunExecution.Serial result }
     {
         let key = Key::new(site.site(), len, work, parallelism);
-        decide(
-            rt,
-            &mut Locked { policy: self },
-            key,
-            parallelism,
-            now,
-            body,
-        )
+        decide(rt, &mut self.locked(), key, parallelism, now, body)
+    }
+
+    /// The choices of this policy, which take the lock for each choice and each record.
+    pub fn locked(&self) -> Locked<'_> {
+        Locked { policy: self }
     }
 
     /// The entry of runs at `key`, as it is now, if there is one.
