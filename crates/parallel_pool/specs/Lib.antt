@@ -1,1 +1,4 @@
 pub mod ThreadPool
+pub mod LatchMoves
+pub mod LatchHistory
+pub mod Latch

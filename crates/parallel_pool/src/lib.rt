@@ -1,6 +1,7 @@
 //! The pool on whose threads the calls of a strategy run.
 #![tactic(auto)]
 
+pub mod latch;
 pub mod rayon;
 
 pub use rayon::ThreadPool;
