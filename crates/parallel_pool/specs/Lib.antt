@@ -2,3 +2,5 @@ pub mod ThreadPool
 pub mod LatchMoves
 pub mod LatchHistory
 pub mod Latch
+pub mod SpinLatch
+pub mod OnceLatch
