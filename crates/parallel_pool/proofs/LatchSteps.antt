@@ -10,6 +10,7 @@ use Rattle.parallel_pool.specs.declared.latch.history.Act.TheVariants.{GetSleepy
 use Rattle.parallel_pool.specs.declared.latch.history.Call.{Call}
 use Rattle.parallel_pool.specs.declared.latch.history.View.{View}
 use Rattle.parallel_pool.specs.LatchMoves.{Phase, unset, sleepy, sleeping, latched, word_of, moved, phase_from, phase_after, is_unset, is_sleepy, is_sleeping, is_latched}
+use Rattle.parallel_pool.proofs.Places.{within, at_end}
 use Rattle.parallel_pool.specs.LatchHistory.{call, view, newcomer, acts_of, Begins, Fits, IsHistoryOf, Makes, Called, HasSeenSet}
 
 -- a history that goes on leads on
@@ -34,8 +35,8 @@ pub acts_of-append : (by : ℕ) (xs ys : List Call) → acts_of by (xs ++ ys) �
 acts_of-append by [] ys = refl
 acts_of-append by (x ∷ xs) ys =
     elim (x.by == by) as (λ b. cond b (x.act ∷ acts_of by (xs ++ ys)) (acts_of by (xs ++ ys)) ≡ cond b (x.act ∷ acts_of by xs) (acts_of by xs) ++ acts_of by ys) [
-      true ↦ ap (λ l. x.act ∷ l) (acts_of-append by xs ys)
-    | false ↦ acts_of-append by xs ys
+      | true ↦ ap (λ l. x.act ∷ l) (acts_of-append by xs ys)
+      | false ↦ acts_of-append by xs ys
     ]
 
 -- a call is one of its seat
@@ -45,19 +46,6 @@ acts_of-own by act xs = acts_of-append by xs (call by act ∷ []) ∙ ap (λ b. 
 -- and of no other
 acts_of-other : (by other : ℕ) (act : Act) (xs : List Call) → other ≢ by → acts_of other (xs ++ call by act ∷ []) ≡ acts_of other xs
 acts_of-other by other act xs ne = acts_of-append other xs (call by act ∷ []) ∙ (ap (λ b. acts_of other xs ++ cond b (act ∷ []) []) (ne_eqb by other (λ e. ne (sym e))) ∙ append-nil (acts_of other xs))
-
--- what stands at a place stands within the list
-within : {A : Type 0} (l : List A) (i : ℕ) (a : A) → get_elem? l i ≡ some a → i < length l
-within [] i a e = absurd (some-ne-none a (sym e))
-within (x ∷ xs) zero a e = omega arith
-within (x ∷ xs) (suc i) a e = let h = within xs i a e in omega arith
-
--- what stands in a list that has one more, stands in the list or at its end
-at_end : {A : Type 0} (l : List A) (a b : A) (j : ℕ) → get_elem? (l ++ a ∷ []) j ≡ some b → (get_elem? l j ≡ some b) ⊎ ((j ≡ length l) × (a ≡ b))
-at_end [] a b zero e = inr (refl, some-injective a b e)
-at_end [] a b (suc j) e = absurd (some-ne-none b (sym e))
-at_end (x ∷ xs) a b zero e = inl e
-at_end (x ∷ xs) a b (suc j) e = ⊎_elim (λ t. inl t) (λ t. inr (ap suc t.0, t.1)) (at_end xs a b j e)
 
 -- a history that goes on begins with what the shorter one began with
 begins_on : (log seen more : List Call) → Begins log seen → Begins (log ++ more) seen
@@ -78,12 +66,12 @@ steps act f moves slots id me s h homes at small =
       (
         after,
         ap (λ ws. set ws 0 (f (slice_index ws 0))) h.1
-        ∙ ap (λ n. n ∷ []) (moves (phase_after log) ∙ ap word_of (sym (phase_from-append unset log (call id act ∷ [])))),
+            ∙ ap (λ n. n ∷ []) (moves (phase_after log) ∙ ap word_of (sym (phase_from-append unset log (call id act ∷ [])))),
         (λ by v e. ⊎_elim
             (λ (t : (by ≡ id) × (w ≡ v)). subst (λ (x : ℕ × View). Fits after x.0 x.1) (λ i. (sym t.0 i, t.1 i)) (([], sym (append-nil after)), own))
             (λ (t : (by ≢ id) × (get_elem? s.views by ≡ some v)).
-                let old : Fits log by v = h.2 by v t.1 in
-                (begins_on log v.seen (call id act ∷ []) old.0, acts_of-other id by act log t.0 ∙ old.1))
+            let old : Fits log by v = h.2 by v t.1 in
+            (begins_on log v.seen (call id act ∷ []) old.0, acts_of-other id by act log t.0 ∙ old.1))
             (at_set s.views id by w v e)),
         (λ by far.
             let here : id < length s.views = within s.views id me.0 at in
@@ -103,7 +91,7 @@ seats id v s h at =
       (λ by u e. ⊎_elim
           (λ (t : get_elem? views by ≡ some u). h.2 by u (subst (λ l. get_elem? l by ≡ some u) same t))
           (λ (t : (by ≡ length views) × (newcomer ≡ u)).
-              subst (λ (x : View). Fits h.0 by x) t.1 ((h.0, refl), h.3 by (let n : length views ≡ length s.views = ap length same in omega (arith, t.0))))
+          subst (λ (x : View). Fits h.0 by x) t.1 ((h.0, refl), h.3 by (let n : length views ≡ length s.views = ap length same in omega (arith, t.0))))
           (at_end views newcomer u by e)),
       (λ by far. h.3 by (let n : length views ≡ length s.views = ap length same in omega (arith, length-append views (newcomer ∷ [])))),
     )

@@ -4,3 +4,5 @@ pub mod LatchHistory
 pub mod Latch
 pub mod SpinLatch
 pub mod OnceLatch
+pub mod CountHistory
+pub mod CountLatch
