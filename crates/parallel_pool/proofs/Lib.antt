@@ -1,3 +1,4 @@
 mod Places
 mod LatchSteps
 mod CountSteps
+mod Standings

@@ -6,3 +6,6 @@ pub mod SpinLatch
 pub mod OnceLatch
 pub mod CountHistory
 pub mod CountLatch
+pub mod Counters
+pub mod Standings
+pub mod IdleState

@@ -3,5 +3,6 @@
 
 pub mod latch;
 pub mod rayon;
+pub mod sleep;
 
 pub use rayon::ThreadPool;
