@@ -1,15 +1,15 @@
 -- Each step of a count latch keeps its rule.
-use Rattle.std.proofs.Common.{◌≡◌, ◌≢◌, ℕ, ◌+◌, ◌-◌, ◌*◌, ◌%◌, ◌^◌, ◌≤◌, ◌<◌, ◌==◌, ◌↔◌, ◌⊎◌, IsTrue, Bool, true, false, cond, List, [], ◌∷◌, ◌++◌, length, set, get_or, slice_index, sum_by, count_by, refl, sym, ap, subst, ◌∙◌, ⊎_elim, inl, inr, zero, suc, append_assoc, append-nil, arith, rules, eq-eqb, ne_eqb, length-set, length-append}
+use Rattle.std.proofs.Common.{◌≡◌, ◌≢◌, ℕ, ◌+◌, ◌-◌, ◌%◌, ◌^◌, ◌≤◌, ◌<◌, ◌==◌, cond, List, [], ◌∷◌, ◌++◌, length, set, slice_index, sum_by, refl, sym, ap, subst, ◌∙◌, ⊎_elim, append_assoc, append-nil, arith, eq-eqb, ne_eqb, length-set, length-append}
 use Rattle.std.proofs.lemmas.List.Sums.{sum_by-set, sum_by-append}
 use Rattle.std.proofs.Math.Nat.{add-mod_right, mod-eq_of_lt}
-use mathlib.Core.Option.{some, some-injective, some-ne-none}
+use mathlib.Core.Option.{some}
 use lib.ListN.{get_elem?}
 use mathlib.Core.Logic.{dite}
 use native.Mathlib.Decide.{ℕ_discrete}
 use Rattle.atomic_table.specs.Table.{State, Me, Allows, Splits, Enters, keeps}
 use Rattle.atomic_table.proofs.Lists.{at_set}
 use Rattle.parallel_pool.specs.declared.latch.shares.ShareView.{ShareView}
-use Rattle.parallel_pool.specs.CountHistory.{share_view, founder, one_less, one_share, times_given, GoesOn, FitsShare, CountsAs, IsCountOf, Gives, CountsFrom, Sees}
+use Rattle.parallel_pool.specs.CountHistory.{share_view, one_less, one_share, times_given, GoesOn, FitsShare, CountsAs, IsCountOf, CountsFrom, Sees}
 use Rattle.parallel_pool.proofs.Places.{within, at_end, at_get}
 
 -- how many shares the seats hold

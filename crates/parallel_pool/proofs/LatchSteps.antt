@@ -1,6 +1,6 @@
 -- Each step of a core latch keeps its rule, and what a step found is the phase of its history.
-use Rattle.std.proofs.Common.{◌≡◌, ◌≢◌, ℕ, ◌≤◌, ◌<◌, ◌==◌, ◌⊎◌, Bool, true, false, cond, List, [], ◌∷◌, ◌++◌, length, set, slice_index, refl, sym, ap, subst, ◌∙◌, ⊎_elim, inl, inr, zero, suc, append_assoc, append-nil, arith, eq-eqb, rules, ne_eqb, IsTrue, ◌↔◌, length-set, length-append}
-use mathlib.Core.Option.{some, some-injective, some-ne-none}
+use Rattle.std.proofs.Common.{◌≡◌, ◌≢◌, ℕ, ◌<◌, ◌==◌, Bool, true, false, cond, List, [], ◌∷◌, ◌++◌, length, set, slice_index, refl, sym, ap, subst, ◌∙◌, ⊎_elim, append_assoc, append-nil, arith, eq-eqb, rules, ne_eqb, IsTrue, ◌↔◌, length-set, length-append}
+use mathlib.Core.Option.{some, some-ne-none}
 use lib.ListN.{get_elem?}
 use prog.Atomic.{either}
 use Rattle.atomic_table.specs.Table.{State, Me, Allows, Splits, keeps}
@@ -11,7 +11,7 @@ use Rattle.parallel_pool.specs.declared.latch.history.Call.{Call}
 use Rattle.parallel_pool.specs.declared.latch.history.View.{View}
 use Rattle.parallel_pool.specs.LatchMoves.{Phase, unset, sleepy, sleeping, latched, word_of, moved, phase_from, phase_after, is_unset, is_sleepy, is_sleeping, is_latched}
 use Rattle.parallel_pool.proofs.Places.{within, at_end}
-use Rattle.parallel_pool.specs.LatchHistory.{call, view, newcomer, acts_of, Begins, Fits, IsHistoryOf, Makes, Called, HasSeenSet}
+use Rattle.parallel_pool.specs.LatchHistory.{call, view, newcomer, acts_of, Begins, Fits, IsHistoryOf, Called, HasSeenSet}
 
 -- a history that goes on leads on
 pub phase_from-append : (phase : Phase) (xs ys : List Call) → phase_from phase (xs ++ ys) ≡ phase_from (phase_from phase xs) ys

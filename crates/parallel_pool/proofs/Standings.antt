@@ -1,12 +1,12 @@
 -- Waking workers one after another, and what it does to the counts.
-use Rattle.std.proofs.Common.{◌≡◌, ◌≢◌, ℕ, ◌+◌, ◌-◌, ◌≤◌, ◌<◌, ◌⊎◌, Bool, true, false, cond, List, [], ◌∷◌, ◌++◌, length, take, set, get_or, filter, sum_by, count_by, Contains, refl, sym, ap, subst, ◌∙◌, ⊎_elim, inl, inr, zero, suc, arith, length-set, length-append, append-nil, true≢false, get_or-set_same, get_or-set_other}
+use Rattle.std.proofs.Common.{◌≡◌, ◌≢◌, ℕ, ◌+◌, ◌≤◌, ◌<◌, Bool, true, false, cond, List, [], ◌∷◌, ◌++◌, length, take, set, get_or, filter, count_by, Contains, refl, sym, ap, subst, ◌∙◌, ⊎_elim, zero, suc, arith, length-set, length-append, append-nil, true≢false, get_or-set_same, get_or-set_other}
 use Rattle.std.specs.List.{range_with_len}
-use Rattle.std.proofs.lemmas.List.Sums.{sum_by-set, count_by-le-length}
+use Rattle.std.proofs.lemmas.List.Sums.{sum_by-set, sum_by-cons, count_by-le-length}
 use Rattle.std.proofs.lemmas.List.Elements.{filter_more, Contains-append_left, Contains-append_right, Contains-append_cases}
 use Rattle.std.proofs.lemmas.List.FromFn.{length-range_with_len, get_or-range_with_len}
-use Rattle.std.proofs.lemmas.List.{take_all}
+use Rattle.std.proofs.lemmas.List.{take_all, get_or_past}
 use mathlib.Core.Logic.{dite}
-use native.Mathlib.Decide.{ℕ_discrete}
+use native.Mathlib.Decide.{dec_le, ℕ_discrete}
 use Rattle.parallel_pool.specs.declared.sleep.standing.Standing.{Standing}
 use Rattle.parallel_pool.specs.declared.sleep.standing.Standing.TheVariants.{Working, Looking, Sleeping}
 use Rattle.parallel_pool.specs.Standings.{is_blocked, is_inactive, is_looking, standing_at, sleeping_in, inactive_in, looking_in, blocked_of, AreWoken}
@@ -65,7 +65,7 @@ woken_more woken before now i there so_far = record {
   looking = λ worker listed. dite (ℕ_discrete worker i)
       (λ e. ap (standing_at (set now i Looking)) e ∙ get_or-set_same now i Looking Working there)
       (λ ne. get_or-set_other now i worker Looking Working ne
-          ∙ so_far.looking worker (⊎_elim (λ h. h) (λ h. absurd (ne (only worker i h))) (Contains-append_cases woken (i ∷ []) worker listed)));
+      ∙ so_far.looking worker (⊎_elim (λ h. h) (λ h. absurd (ne (only worker i h))) (Contains-append_cases woken (i ∷ []) worker listed)));
   others = λ worker no.
       let ne : worker ≢ i = λ e. no (Contains-append_right woken (i ∷ []) worker (0, omega arith, sym e)) in
       get_or-set_other now i worker Looking Working ne ∙ so_far.others worker (λ h. no (Contains-append_left woken (i ∷ []) worker h));
@@ -89,7 +89,7 @@ starts_waking most before = record {
 }
 
 -- a standing that is blocked is that of a sleeper
-asleep : (s : Standing) → is_blocked s ≡ true → s ≡ Sleeping
+pub asleep : (s : Standing) → is_blocked s ≡ true → s ≡ Sleeping
 asleep Working e = absurd (true≢false (sym e))
 asleep Looking e = absurd (true≢false (sym e))
 asleep Sleeping e = refl
@@ -101,7 +101,7 @@ wakes_one most before i woken now h there few blocked =
     let same : standing_at now i ≡ standing_at before i = h.ahead i (omega arith) in
     let was : is_blocked (standing_at before i) ≡ true = ap is_blocked (sym same) ∙ blocked in
     let more : blocked_below (i + 1) before ≡ blocked_below i before ++ i ∷ [] =
-        blocked_more i before (omega (arith, h.standings.as_many)) ∙ ap (λ b. blocked_below i before ++ cond b (i ∷ []) []) was in
+    blocked_more i before (omega (arith, h.standings.as_many)) ∙ ap (λ b. blocked_below i before ++ cond b (i ∷ []) []) was in
     let few' : length (take most (blocked_below i before)) < most = subst (λ l. length l < most) h.first few in
     let sleep = count_set is_blocked now i Looking there in
     let idle = count_set is_inactive now i Looking there in
@@ -120,7 +120,7 @@ passes_awake most before i woken now h there awake =
     let same : standing_at now i ≡ standing_at before i = h.ahead i (omega arith) in
     let was : is_blocked (standing_at before i) ≡ false = ap is_blocked (sym same) ∙ awake in
     let more : blocked_below (i + 1) before ≡ blocked_below i before =
-        blocked_more i before (omega (arith, h.standings.as_many)) ∙ (ap (λ b. blocked_below i before ++ cond b (i ∷ []) []) was ∙ append-nil (blocked_below i before)) in record {
+    blocked_more i before (omega (arith, h.standings.as_many)) ∙ (ap (λ b. blocked_below i before ++ cond b (i ∷ []) []) was ∙ append-nil (blocked_below i before)) in record {
       first = h.first ∙ ap (take most) (sym more);
       standings = h.standings;
       ahead = λ k far. h.ahead k (omega arith);
@@ -146,3 +146,61 @@ pub all_below : (workers : List Standing) → blocked_below (length workers) wor
 all_below workers =
     let all : List ℕ = range_with_len 0 (length workers) in
     ap (filter (λ worker. is_blocked (standing_at workers worker))) (take_all (length workers) all (omega (arith, length-range_with_len 0 (length workers))))
+
+-- the count of one worker more
+count_cons : (p : Standing → Bool) (s : Standing) (ss : List Standing) → count_by p (s ∷ ss) ≡ one_if (p s) + count_by p ss
+count_cons p s ss = sum_by-cons (λ x. cond (p x) 1 0) s ss
+
+-- an inactive worker looks or is blocked, and never both
+one_of_two : (s : Standing) → one_if (is_looking s) + one_if (is_blocked s) ≡ one_if (is_inactive s)
+one_of_two Working = refl
+one_of_two Looking = refl
+one_of_two Sleeping = refl
+
+-- so the inactive ones are those that look and those that are blocked
+pub looking_or_blocked : (workers : List Standing) → looking_in workers + sleeping_in workers ≡ inactive_in workers
+looking_or_blocked [] = refl
+looking_or_blocked (s ∷ ss) = omega (arith, looking_or_blocked ss, one_of_two s, count_cons is_looking s ss, count_cons is_blocked s ss, count_cons is_inactive s ss)
+
+-- no more are blocked than are inactive
+pub blocked_inactive : (workers : List Standing) → sleeping_in workers ≤ inactive_in workers
+blocked_inactive workers = omega (arith, looking_or_blocked workers)
+
+-- there are no more inactive workers than workers
+pub few_inactive : (workers : List Standing) → inactive_in workers ≤ length workers
+few_inactive workers = count_by-le-length is_inactive workers
+
+-- both counts after a worker's standing has changed from s to t
+pub record IsRestood (workers : List Standing) (i : ℕ) (s t : Standing) : Type 0 where
+  pub sleeping : sleeping_in (set workers i t) + one_if (is_blocked s) ≡ sleeping_in workers + one_if (is_blocked t)
+  pub inactive : inactive_in (set workers i t) + one_if (is_inactive s) ≡ inactive_in workers + one_if (is_inactive t)
+  pub most : inactive_in (set workers i t) ≤ length workers
+
+pub restands : (workers : List Standing) (i : ℕ) (s t : Standing) → i < length workers → standing_at workers i ≡ s → IsRestood workers i s t
+restands workers i s t there is = record {
+  sleeping = ap (λ x. sleeping_in (set workers i t) + one_if (is_blocked x)) (sym is) ∙ count_set is_blocked workers i t there;
+  inactive = ap (λ x. inactive_in (set workers i t) + one_if (is_inactive x)) (sym is) ∙ count_set is_inactive workers i t there;
+  most = omega (arith, few_inactive (set workers i t), length-set workers i t);
+}
+
+-- a standing that isn't inactive is that of one who works
+pub active_works : (s : Standing) → is_inactive s ≡ false → s ≡ Working
+active_works Working e = refl
+active_works Looking e = absurd (true≢false e)
+active_works Sleeping e = absurd (true≢false e)
+
+-- one that is inactive and not blocked is that of one who looks
+pub awake_looks : (s : Standing) → is_inactive s ≡ true → is_blocked s ≡ false → s ≡ Looking
+awake_looks Working e f = absurd (true≢false (sym e))
+awake_looks Looking e f = refl
+awake_looks Sleeping e f = absurd (true≢false f)
+
+-- a worker that doesn't exist counts as working
+pub beyond_works : (workers : List Standing) (i : ℕ) → length workers ≤ i → standing_at workers i ≡ Working
+beyond_works workers i far = get_or_past workers i Working far
+
+-- so one that stands otherwise exists
+pub inactive_exists : (workers : List Standing) (i : ℕ) → is_inactive (standing_at workers i) ≡ true → i < length workers
+inactive_exists workers i idle = dite (dec_le (length workers) i)
+    (λ far. absurd (true≢false (sym idle ∙ ap is_inactive (beyond_works workers i far))))
+    (λ near. omega arith)

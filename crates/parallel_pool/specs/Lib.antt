@@ -9,3 +9,5 @@ pub mod CountLatch
 pub mod Counters
 pub mod Standings
 pub mod IdleState
+pub mod Sleepers
+pub mod Blocks

@@ -1,9 +1,11 @@
 // Idle workers: who looks for work, who sleeps, and who is woken when work comes.
 pub mod counters;
 pub mod idle_state;
+pub mod sleep_state;
 pub mod standing;
-pub mod wake;
+pub(crate) mod wake;
 
 pub use counters::Counters;
 pub use idle_state::{Due, IdleState};
+pub use sleep_state::{Block, SleepState};
 pub use standing::Standing;
