@@ -49,8 +49,8 @@ pub record AreWoken (woken : List ℕ) (before after : List Standing) : Type 0 w
   pub others : (worker : ℕ) → (Contains woken worker → ⊥) → standing_at after worker ≡ standing_at before worker
 
 -- the count of events after one more, which wraps at 32 bits
-abbrev pub next_event : ℕ → ℕ
-next_event events = (events + 1) % 2 ^ 32
+abbrev pub event_after : ℕ → ℕ
+event_after events = (events + 1) % 2 ^ 32
 
 -- whether the events say that a worker is sleepy: they are even
 abbrev pub is_sleepy_event : ℕ → Bool
@@ -58,8 +58,8 @@ is_sleepy_event events = events % 2 == 0
 
 -- the events after a worker has announced that it is sleepy, which are even
 abbrev pub events_announced : ℕ → ℕ
-events_announced events = if is_sleepy_event events then events else next_event events
+events_announced events = if is_sleepy_event events then events else event_after events
 
 -- the events after jobs have come, which are odd
 abbrev pub events_of_jobs : ℕ → ℕ
-events_of_jobs events = if is_sleepy_event events then next_event events else events
+events_of_jobs events = if is_sleepy_event events then event_after events else events

@@ -6,3 +6,6 @@ pub mod rayon;
 pub mod sleep;
 
 pub use rayon::ThreadPool;
+
+#[cfg(test)]
+mod tests;

@@ -3,7 +3,7 @@ ghost use Rattle.std.specs.Prelude.{◌≡◌, ◌≢◌, ◌↔◌, ◌-◌, �
 ghost use Rattle.std.specs.NonZero.{non_zero_usize_get};
 ghost use Rattle.parallel_pool.specs.Counters.{sleeping_of, inactive_of, events_of};
 ghost use Rattle.parallel_pool.specs.IdleState.{worker_of, rounds_of, recorded_of};
-ghost use Rattle.parallel_pool.specs.Standings.{is_blocked, is_inactive, standing_at, sleeping_in, inactive_in, looking_in, blocked_of, AreWoken, events_announced, events_of_jobs};
+ghost use Rattle.parallel_pool.specs.Standings.{is_blocked, is_inactive, standing_at, sleeping_in, inactive_in, looking_in, blocked_of, AreWoken, event_after, events_announced, events_of_jobs};
 ghost use Rattle.parallel_pool.specs.Blocks.{state_after, rounds_after, recorded_after};
 ghost use Rattle.parallel_pool.specs.declared.sleep.standing.Standing.TheVariants.{Working, Looking, Sleeping};
 ghost use Rattle.parallel_pool.specs.declared.sleep.sleep_state.Block.TheVariants.{Changed, Injected, Blocked};
@@ -161,7 +161,7 @@ impl SleepState {
     {
         let mut events = self.counters.events();
         if events % 2 != 0 {
-            events = events.wrapping_add(1);
+            events = next_event(events);
         }
         self.counters = Counters::new(self.counters.sleeping(), self.counters.inactive(), events);
         idle.record(events);
@@ -209,7 +209,7 @@ impl SleepState {
     {
         let mut events = self.counters.events();
         if events % 2 == 0 {
-            events = events.wrapping_add(1);
+            events = next_event(events);
         }
         let sleeping = self.counters.sleeping();
         let inactive = self.counters.inactive();
@@ -253,4 +253,11 @@ impl SleepState {
         );
         true
     }
+}
+
+// The count of events after one more.
+fn next_event(events: u32) -> u32
+    ensures { result ≡ event_after events }
+{
+    events.wrapping_add(1)
 }
