@@ -1,5 +1,5 @@
 // The state of all workers' sleep, which lies under one lock.
-ghost use Rattle.std.specs.Prelude.{◌≡◌, ◌≢◌, ◌↔◌, ◌-◌, ◌+◌, ◌<◌, ◌≤◌, ◌∷◌, [], false, true, length, take, replicate, slice_set, vec_len, IfOk, IsTrue, Some, None, if◌then◌else◌};
+ghost use Rattle.std.specs.Prelude.{◌≡◌, ◌≢◌, ◌↔◌, ◌-◌, ◌+◌, ◌%◌, ◌<◌, ◌≤◌, ◌∷◌, [], false, true, length, take, replicate, slice_set, vec_len, IfOk, IsTrue, Some, None, if◌then◌else◌};
 ghost use Rattle.std.specs.NonZero.{non_zero_usize_get};
 ghost use Rattle.parallel_pool.specs.Counters.{sleeping_of, inactive_of, events_of};
 ghost use Rattle.parallel_pool.specs.IdleState.{worker_of, rounds_of, recorded_of};
@@ -154,6 +154,7 @@ impl SleepState {
     /// their count. The answer is that count.
     pub fn announce_sleepy(&mut self, idle: &mut IdleState) -> u32
         ensures answer { result ≡ events_announced self.old.events }
+        ensures even { result % 2 ≡ 0 }
         ensures state { self.new ≡ record self.old { events = result } }
         ensures recorded { recorded_of idle.new ≡ Some result }
         ensures worker { worker_of idle.new ≡ worker_of idle.old }
@@ -204,6 +205,7 @@ impl SleepState {
     /// are awake and look for work take one job each first.
     pub fn new_jobs(&mut self, jobs: u32, queue_was_empty: bool)
         ensures events { self.new.events ≡ events_of_jobs self.old.events }
+        ensures odd { self.new.events % 2 ≡ 1 }
         ensures woken { self.new.woken ≡ take (if queue_was_empty then jobs - looking_in self.old.workers else jobs) (blocked_of self.old.workers) }
         ensures workers { AreWoken self.new.woken self.old.workers self.new.workers }
     {
