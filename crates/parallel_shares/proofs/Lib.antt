@@ -12,3 +12,5 @@ pub mod Shown
 pub mod Places
 pub mod Moved
 pub mod Runs
+pub mod Totals
+pub mod Keeping

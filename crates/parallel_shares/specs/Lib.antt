@@ -5,3 +5,6 @@ pub mod Sizes
 pub mod Machine
 pub mod Answers
 pub mod Holders
+pub mod Totals
+pub mod Sharing
+pub mod Seats
