@@ -78,22 +78,25 @@ module _ (sizes : Sizes) (sound : IsSound sizes) where
   sees s k id v e share index owns own =
       let word = get_or s.words share 0 in
       elim (cases_eq (start_of word) (end_of word)) as (λ _. Empties sizes s.words (looked_own v share word)) [
-        | inl is ↦ rw (eq-eqb (start_of word) (end_of word) is) (λ n. (omega arith, λ p.
-            let same : n ≡ index = is_same n index (omega (arith, p, ap (times n) owns)) in
-            let there : share_of sizes n ≡ share = ap (share_of sizes) same ∙ sym own in
-            rw there is))
+        | inl is ↦ rw (eq-eqb (start_of word) (end_of word) is) (λ n. (
+          omega arith,
+          λ p.
+              let same : n ≡ index = is_same n index (omega (arith, p, ap (times n) owns)) in
+              let there : share_of sizes n ≡ share = ap (share_of sizes) same ∙ sym own in
+              rw there is,
+        ))
         | inr apart ↦ rw (ne_eqb (start_of word) (end_of word) apart) (k.each id v e).0
       ]
 
   pub looks_own : (slots id share index : ℕ) (me : Me (Unit {0}) View) → me.0.plan ≡ sizes → me.0.owns ≡ index ∷ [] → share ≡ share_of sizes index → Allows (Kept sizes) slots id me share (λ n. n) (LooksOwn (step slots share 0 0 none) me)
   looks_own slots id share index me plan owns own s k h e b =
       let word = get_or s.words share 0 in
-      let w = looked_own me.0 share word in
-      ( w
-      , keeps
-      , tt
-      , stays s k id me.0 w e share refl refl refl refl (not_empty me.0.owns index owns) (sees s k id me.0 e share index owns own)
-      , (subst (λ (z : Sizes). IsWithin z.units word) (sym plan) (k.within share), refl, refl)
+      let w = looked_own me.0 share word in (
+        w,
+        keeps,
+        tt,
+        stays s k id me.0 w e share refl refl refl refl (not_empty me.0.owns index owns) (sees s k id me.0 e share index owns own),
+        (subst (λ (z : Sizes). IsWithin z.units word) (sym plan) (k.within share), refl, refl),
       )
 
   -- ---- a claim
@@ -125,10 +128,10 @@ module _ (sizes : Sizes) (sound : IsSound sizes) where
     takes s k id e found =
         let there : share < length s.words = omega (arith, k.shares) in
         let stay : (i : ℕ) → IsEmptyWord (get_or s.words i 0) → IsEmptyWord (get_or (set s.words share next) i 0) =
-          λ i empty. elim (cases_eq i share) as (λ _. IsEmptyWord (get_or (set s.words share next) i 0)) [
-            | inl is ↦ absurd (some_left (subst (λ (n : ℕ). IsEmptyWord n) (ap (λ j. get_or s.words j 0) is ∙ found) empty))
-            | inr apart ↦ rw (get_or-set_other s.words share i next 0 apart) empty
-          ] in
+        λ i empty. elim (cases_eq i share) as (λ _. IsEmptyWord (get_or (set s.words share next) i 0)) [
+          | inl is ↦ absurd (some_left (subst (λ (n : ℕ). IsEmptyWord n) (ap (λ j. get_or s.words j 0) is ∙ found) empty))
+          | inr apart ↦ rw (get_or-set_other s.words share i next 0 apart) empty
+        ] in
         changes s k id v (took_front v word) e (set s.words share next) (length-set s.words share next)
         (each_set (IsWithin sizes.units) s.words share next 0 k.within (within_packed sizes.units stop (end_of word) sound.units_fit front.1 front.2))
         (λ c h. let u = c / sizes.unit in omega (arith, total_put (in_word u) s.words share next there, ap (in_word u) found, cut_front u word stop (omega (arith, front.0)) front.1 fits, in_ranges_push c v.claims (claim_cells v.plan word), claimed c h))
@@ -191,11 +194,13 @@ module _ (sizes : Sizes) (sound : IsSound sizes) where
         each = λ i x h. elim (at_set first other i spent x h) as (λ _. Empties sizes s.words x × Idle x) [
           | inl here ↦ subst (λ (y : View). Empties sizes s.words y × Idle y) here.1 ((λ n. (omega arith, λ p. absurd (omega (arith, p)))), λ _. (refl, refl, refl))
           | inr there ↦ elim (at_set s.views id i both x there.1) as (λ _. Empties sizes s.words x × Idle x) [
-            | inl here ↦ subst (λ (y : View). Empties sizes s.words y × Idle y) here.1
-                ( (λ n. (omega (arith, (of_v.0 n).0, (of_w.0 n).0, total_append (same_number n) v.owns w.owns, total_append (same_number n) v.empties w.empties)
-                , λ p. elim (some_of (times n v.empties) (times n w.empties) (omega (arith, p, total_append (same_number n) v.empties w.empties))) [ inl a ↦ (of_v.0 n).1 a | inr b ↦ (of_w.0 n).1 b ]))
-                , λ none_of. let n = both_empty v.owns w.owns none_of in let a = of_v.1 n.0 in let b = of_w.1 n.1 in (rw (a.0, b.0) refl, rw (a.1, b.1) refl, omega (arith, a.2, b.2))
-                )
+            | inl here ↦ subst (λ (y : View). Empties sizes s.words y × Idle y) here.1 (
+              (λ n. (
+                omega (arith, (of_v.0 n).0, (of_w.0 n).0, total_append (same_number n) v.owns w.owns, total_append (same_number n) v.empties w.empties),
+                λ p. elim (some_of (times n v.empties) (times n w.empties) (omega (arith, p, total_append (same_number n) v.empties w.empties))) [ inl a ↦ (of_v.0 n).1 a | inr b ↦ (of_w.0 n).1 b ],
+              )),
+              λ none_of. let n = both_empty v.owns w.owns none_of in let a = of_v.1 n.0 in let b = of_w.1 n.1 in (rw (a.0, b.0) refl, rw (a.1, b.1) refl, omega (arith, a.2, b.2)),
+            )
             | inr old ↦ k.each i x old.1
           ]
         ];

@@ -14,3 +14,5 @@ pub mod Moved
 pub mod Runs
 pub mod Totals
 pub mod Keeping
+pub mod Sharings
+pub mod Dealt

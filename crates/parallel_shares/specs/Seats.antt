@@ -1,17 +1,17 @@
 -- What contracts say of shares and of their seats.
-use Rattle.std.specs.Prelude.{◌≡◌, ◌≢◌, ℕ, ◌+◌, ◌/◌, ◌<◌, ◌≤◌, Bool, true, false, List, [], ◌∷◌, ◌++◌, length, slice_index_or, Option, Some, None, All}
+use Rattle.std.specs.Prelude.{◌≡◌, ◌≢◌, ℕ, ◌+◌, ◌/◌, ◌<◌, ◌≤◌, Bool, true, false, ◌||◌, eqb, List, [], ◌∷◌, ◌++◌, length, slice_index, slice_index_or, Option, Some, None}
 use Rattle.std.specs.declared.ops.Range.{Range}
 use Rattle.parallel_shares.specs.declared.shares.rule.View.{View}
 use Rattle.parallel_shares.specs.declared.shares.seat.Seat.{Seat}
 use Rattle.parallel_shares.specs.declared.shares.seat.Tried.{Tried}
 use Rattle.parallel_shares.specs.declared.shares.seat.Tried.TheVariants.{Claimed, Empty, Lost, Taken, Nothing}
 use Rattle.parallel_shares.specs.declared.shares.queue.Shares.{Shares}
-use Rattle.parallel_shares.specs.Words.{IsEmptyWord, IsWithin}
+use Rattle.parallel_shares.specs.Words.{start_of, end_of, IsEmptyWord, IsWithin}
 use Rattle.parallel_shares.specs.Sizes.{Sizes, shares_of, share_of}
 use Rattle.parallel_shares.specs.Answers.{claim_cells}
 use Rattle.parallel_shares.specs.Holders.{in_word, in_ranges}
 use Rattle.parallel_shares.specs.Totals.{total}
-use Rattle.parallel_shares.specs.Sharing.{loaded_at, loads_at, in_view, fresh_view}
+use Rattle.parallel_shares.specs.Sharing.{in_view, took_front, missed}
 
 -- the plan of some shares
 abbrev pub plan_of : Shares → Sizes
@@ -62,15 +62,23 @@ abbrev pub IsFresh : Seat → Type 0
 IsFresh seat =
     (claims_of seat ≡ []) × (transit_of seat ≡ None) × (has_emptied seat ≡ false) × ((known seat).changes ≡ 0) × ((known seat).exchanges ≡ 0)
 
+-- each seat is fresh
+abbrev pub AreFresh : List Seat → Type 0
+AreFresh seats = (i : ℕ) (d : Seat) → i < length seats → IsFresh (slice_index_or seats i d)
+
 -- ---- what a call does
 
 -- the same number and the same transit
 abbrev pub IsSameSeat : Seat → Seat → Type 0
 IsSameSeat before after = (index_of after ≡ index_of before) × (transit_of after ≡ transit_of before)
 
--- the seat claimed no cells, and has the flag that it had
-abbrev pub ClaimsNothing : View → View → Type 0
-ClaimsNothing before after = (after.claims ≡ before.claims) × (after.changes ≡ before.changes)
+-- a load of an empty word sets the flag that it was seen empty, and another leaves it
+abbrev pub LoadsOwn : ℕ → Seat → Seat → Type 0
+LoadsOwn word before after = has_emptied after ≡ (has_emptied before || eqb (start_of word) (end_of word))
+
+-- an exchange met the word that was loaded and claimed its front, or it met another word and claimed nothing
+abbrev pub MeetsFront : ℕ → View → ℕ → View → Type 0
+MeetsFront word before found after = (found ≡ word → after ≡ took_front before word) × (found ≢ word → after ≡ missed before found)
 
 -- what a try to claim tells, of the word that it loaded: its front was claimed by an exchange that found it; or it was
 -- not empty and an exchange found another word; or it was empty, and no exchange was tried
@@ -103,6 +111,10 @@ pub record IsPartition (sizes : Sizes) (words : List ℕ) (seats : List Seat) : 
 -- each seat has seen its own word empty, and has nothing in transit
 abbrev pub AllDone : List Seat → Type 0
 AllDone seats = (i : ℕ) (d : Seat) → i < length seats → (has_emptied (slice_index_or seats i d) ≡ true) × (transit_of (slice_index_or seats i d) ≡ None)
+
+-- no unit is left in any word
+abbrev pub AllEmpty : List ℕ → Type 0
+AllEmpty words = (share : ℕ) → share < length words → IsEmptyWord (slice_index words share)
 
 -- each cell of the grid is in just one claim, and no other cell is claimed
 pub record EachCellOnce (sizes : Sizes) (seats : List Seat) : Type 0 where
