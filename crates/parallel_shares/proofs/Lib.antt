@@ -16,3 +16,5 @@ pub mod Totals
 pub mod Keeping
 pub mod Sharings
 pub mod Dealt
+pub mod Gatherings
+pub mod Closings

@@ -79,7 +79,7 @@ pub times_dealt : (k : ℕ) (xs : List ℕ) → times k (drop 1 xs) + times k (t
 times_dealt k [] = refl
 times_dealt k (x ∷ xs) = omega arith
 
-one_more : (k a n : ℕ) → same_number k a + inside k (suc a) (suc a + n) ≡ inside k a (a + suc n)
+pub one_more : (k a n : ℕ) → same_number k a + inside k (suc a) (suc a + n) ≡ inside k a (a + suc n)
 unfolding inside
 one_more k a n = grind (arith, nat_tests)
 
@@ -96,3 +96,27 @@ in_ranges_append c (r ∷ rs) qs = omega (arith, in_ranges_append c rs qs)
 pub both_empty : {A : Type 0} (xs ys : List A) → xs ++ ys ≡ [] → (xs ≡ []) × (ys ≡ [])
 both_empty [] ys e = (refl, e)
 both_empty (x ∷ xs) ys e = absurd (let l : suc (length (xs ++ ys)) ≡ 0 = ap length e in omega (arith, l))
+
+-- ---- totals read by places
+
+module _ {A : Type 0} (f : A → ℕ) where
+  pub total_zero : (xs : List A) → ((i : ℕ) (d : A) → i < length xs → f (get_or xs i d) ≡ 0) → total f xs ≡ 0
+  total_zero [] each = refl
+  total_zero (x ∷ xs) each =
+      omega (arith, each 0 x (omega arith), total_zero xs (λ i d h. each (suc i) d (omega arith)))
+
+  -- an element that counts makes the total count
+  pub total_some : (xs : List A) (i : ℕ) → i < length xs → ((d : A) → 0 < f (get_or xs i d)) → 0 < total f xs
+  total_some [] i h counts = absurd (omega (arith, h))
+  total_some (x ∷ xs) zero h counts = omega (arith, counts x)
+  total_some (x ∷ xs) (suc i) h counts = omega (arith, total_some xs i (omega arith) counts)
+
+  -- two counts that are added up together
+  pub total_both : (g : A → ℕ) (xs : List A) → total f xs + total g xs ≡ total (λ x. f x + g x) xs
+  total_both g [] = refl
+  total_both g (x ∷ xs) = omega (arith, total_both g xs)
+
+pub total_of_none : (f : ℕ → ℕ) (xs : List ℕ) → ((i : ℕ) → i < length xs → f (get_or xs i 0) ≡ 0) → total f xs ≡ 0
+total_of_none f [] each = refl
+total_of_none f (x ∷ xs) each =
+    omega (arith, each 0 (omega arith), total_of_none f xs (λ i h. each (suc i) (omega arith)))

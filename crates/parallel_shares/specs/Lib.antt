@@ -8,3 +8,4 @@ pub mod Holders
 pub mod Totals
 pub mod Sharing
 pub mod Seats
+pub mod Gathered

@@ -117,7 +117,7 @@ impl Plan {
     }
 
     /// The number of shares.
-    pub(super) fn shares(&self) -> usize
+    pub(crate) fn shares(&self) -> usize
         ensures shares { result ≡ shares_of self.now }
         ensures sound { IsSound self.now }
     {

@@ -1,4 +1,5 @@
-ghost use Rattle.std.specs.Prelude.{◌≡◌, ◌≢◌, ◌+◌, ◌*◌, ◌/◌, ◌^◌, ◌<◌, ◌≤◌, ◌++◌, [], ◌∷◌, vec_len, vec_capacity, true, false, None, IfOk, IfErr};
+ghost use Rattle.std.specs.Prelude.{◌≡◌, ◌≢◌, ◌+◌, ◌*◌, ◌/◌, ◌^◌, ◌<◌, ◌≤◌, ◌++◌, [], ◌∷◌, length, vec_len, vec_capacity, true, false, None, IfOk, IfErr};
+ghost use Rattle.std.specs.Slots.{slots_items, slots_len, IsFull};
 ghost use Rattle.std.specs.Int.NonZero.{non_zero_usize_get};
 ghost use Rattle.parallel_shares.specs.Sizes.{Sizes, shares_of, IsSound};
 ghost use Rattle.parallel_shares.specs.Sharing.{fresh_view};
@@ -7,7 +8,7 @@ use super::rule::{Deal, Gather, LookOwn, Partition, TakeFront, View};
 use super::seat::{Seat, Tried};
 use super::{pack, unpack};
 use crate::machine::{Plan, opening_words};
-use atomic_table::Table;
+use atomic_table::{Closed, Table};
 use parallel_fault::Fault;
 use std::alloc::Global;
 use std::num::NonZeroUsize;
@@ -28,12 +29,13 @@ pub struct Shares {
 }
 
 impl Shares {
-    ghost use Rattle.std.specs.Prelude.{ℕ, length, replicate, slice_index};
+    ghost use Rattle.std.specs.Prelude.{ℕ, replicate, slice_index};
     ghost use Rattle.parallel_shares.specs.Sizes.{Work, sizes_of, share_of};
     ghost use Rattle.parallel_shares.specs.Words.{IsWithin, IsEmptyWord, packed, end_of};
     ghost use Rattle.parallel_shares.specs.Machine.{opening_words};
     ghost use Rattle.parallel_shares.specs.Answers.{claim_stop};
     ghost use Rattle.parallel_shares.specs.Totals.{total};
+    ghost use Rattle.parallel_shares.specs.Gathered.{HasAll};
     ghost use Rattle.parallel_shares.specs.Sharing.{undealt, loaded_at, loads_at, looked_own};
     ghost use Rattle.parallel_shares.specs.Seats.{plan_of, known, IsSeatOf, AreSeatsOf, AreFresh, IsSameSeat, TriesClaim, GainsClaim, LoadsOwn, MeetsFront, IsPartition, AllDone, AllEmpty, EachCellOnce};
 
@@ -159,6 +161,69 @@ impl Shares {
         }
     }
 
+    /// Claims the front of the share that the seat claims from: tries until an exchange wins or the
+    /// word is empty.
+    ///
+    /// `Some` has the cells that the seat's claims gained. After `None` the claims are as they were,
+    /// and the seat's `own_empty` holds. `rt` is the right to go on trying; no memory is taken.
+    pub fn claim<R: Wait>(&self, rt: &R, seat: &mut Seat) -> Option<Range<usize>>
+        requires { IsSeatOf self.now seat.old }
+        ensures seat { IsSeatOf self.now seat.new }
+        ensures same { IsSameSeat seat.old seat.new }
+        ensures answer { GainsClaim (plan_of self.now) seat.old result seat.new }
+    {
+        for _ in rt.forever() {
+            match self.try_claim(seat) {
+                Tried::Claimed(cells) => return Some(cells),
+                Tried::Empty => return None,
+                _ => {}
+            }
+        }
+        unreachable!()
+    }
+
+    /// Ends the shares with all of their seats, and answers the words that are left.
+    ///
+    /// `IsPartition` says that each cell is once in a unit of a word, in transit or in a claim. Where
+    /// each seat has seen its own word empty and has nothing in transit, every word is empty, and each
+    /// cell is in just one claim. Where no seat has changed a word, the words are those of the opening.
+    /// The list is one that `new` reserved: no memory is taken, and nothing is waited for.
+    pub fn close(self, seats: Vec<Seat>) -> Vec<u64>
+        requires { AreSeatsOf self seats.items }
+        ensures count { vec_len result ≡ shares_of (plan_of self) }
+        ensures partition { IsPartition (plan_of self) result.items seats.items }
+        ensures empty { AllDone seats.items → AllEmpty result.items }
+        ensures each_once { AllDone seats.items → EachCellOnce (plan_of self) seats.items }
+        ensures opening { total (λ s. (known s).changes) seats.items ≡ 0 → result.items ≡ opening_words (plan_of self) (shares_of (plan_of self)) }
+    {
+        let count = self.plan.shares();
+        let all = self.gather(seats);
+        let Shares {
+            table,
+            plan: _,
+            last,
+        } = self;
+        let closed = table.close_with(all);
+        let words = final_words(&closed, count, last);
+        closed.free();
+        words
+    }
+
+    // One seat with all that the seats have.
+    fn gather(&self, mut seats: Vec<Seat>) -> atomic_table::Seat<(), View>
+        requires { AreSeatsOf self.now seats.items }
+        ensures table { result.table_id ≡ self.now.table.shared.table_id }
+        ensures view { HasAll result.me.0 seats.items }
+    {
+        let Some(Seat { seat: mut all, .. }) = seats.pop() else {
+            unreachable!()
+        };
+        while let Some(Seat { seat, .. }) = seats.pop() {
+            self.table.shared.join_seat::<Gather>(&mut all, seat);
+        }
+        all
+    }
+
     // Loads the word of the share that the seat claims from.
     fn look_own(&self, seat: &mut Seat) -> u64
         requires { IsSeatOf self.now seat.old }
@@ -191,6 +256,20 @@ impl Shares {
             .shared
             .compare_exchange::<TakeFront>(&mut seat.seat, share, word, next)
     }
+}
+
+// The words of a closed table, in a list with room for them.
+fn final_words(closed: &Closed<(), Global>, count: usize, mut last: Vec<u64>) -> Vec<u64>
+    requires full { IsFull closed.now.words }
+    requires count { length (slots_items closed.now.words) ≡ count }
+    requires there { slots_len closed.now.words ≡ count }
+    requires room { (vec_len last ≡ 0) × (count ≤ vec_capacity last) }
+    ensures { result.items ≡ slots_items closed.now.words }
+{
+    for share in 0..count {
+        last.push_reserved(closed.word(share));
+    }
+    last
 }
 
 // The seat of this number, before any step.

@@ -17,10 +17,10 @@ loop-index-init c = record {
 pub split_seat-seat-requires : goal.split_seat-seat-requires
 split_seat-seat-requires c =
     let shares = c.args.self.now in
-    let view = ap (λ m. m.0) c.loop-index.invariant.view in
-    ( c.loop-index.invariant.table
-    , omega (arith, shares.words, some_shares shares.plan shares.sound)
-    , rw (shares.key, view) (splits shares.plan shares.sound c.loop-index.first.id c.loop-index.index)
+    let view = ap (λ m. m.0) c.loop-index.invariant.view in (
+      c.loop-index.invariant.table,
+      omega (arith, shares.words, some_shares shares.plan shares.sound),
+      rw (shares.key, view) (splits shares.plan shares.sound c.loop-index.first.id c.loop-index.index),
     )
 
 pub seated-requires : goal.seated-requires
