@@ -72,10 +72,14 @@ module _ (shares : Shares) (seats : List Seat) (all : AreSeatsOf shares seats) (
       let n = claimer plan.whole share in
       let there : n < length seats = omega (arith, all.count, c.0) in
       let seen : 0 < times n view.empties =
-        omega (arith, has.empties n, total_some (λ x. times n (known x).empties) seats n there (λ d.
+      omega (
+        arith,
+        has.empties n,
+        total_some (λ x. times n (known x).empties) seats n there (λ d.
             let x = get_or seats n d in
             let list : (known x).empties ≡ n ∷ [] = x.empties ∙ ap (λ b. cond b (x.index ∷ []) []) (done n d there).0 ∙ ap (λ i. i ∷ []) (all.order n d there) in
-            omega (arith, ap (times n) list, same_once n)))
+            omega (arith, ap (times n) list, same_once n)),
+      )
       in
       subst (λ j. IsEmptyWord (get_or s.words j 0)) c.1 (((k.each id view at).0 n).1 seen)
 
@@ -83,10 +87,10 @@ module _ (shares : Shares) (seats : List Seat) (all : AreSeatsOf shares seats) (
   pub each_once : AllDone seats → EachCellOnce plan seats
   each_once done = record {
     once = λ c h.
-      let u = c / plan.unit in
-      let words : total (in_word u) s.words ≡ 0 = total_of_none (in_word u) s.words (λ i l. inside_nothing u (start_of (get_or s.words i 0)) (end_of (get_or s.words i 0)) (omega (arith, empty done i l))) in
-      let transit : total (λ x. in_ranges u (known x).transit) seats ≡ 0 = total_zero (λ x. in_ranges u (known x).transit) seats (λ i d l. ap (in_ranges u) ((get_or seats i d).carries ∙ ap ranges_of (done i d l).1)) in
-      omega (arith, k.once c h, views_have c, words, transit, total_both (λ x. in_ranges c (known x).claims) (λ x. in_ranges u (known x).transit) seats);
+        let u = c / plan.unit in
+        let words : total (in_word u) s.words ≡ 0 = total_of_none (in_word u) s.words (λ i l. inside_nothing u (start_of (get_or s.words i 0)) (end_of (get_or s.words i 0)) (omega (arith, empty done i l))) in
+        let transit : total (λ x. in_ranges u (known x).transit) seats ≡ 0 = total_zero (λ x. in_ranges u (known x).transit) seats (λ i d l. ap (in_ranges u) ((get_or seats i d).carries ∙ ap ranges_of (done i d l).1)) in
+        omega (arith, k.once c h, views_have c, words, transit, total_both (λ x. in_ranges c (known x).claims) (λ x. in_ranges u (known x).transit) seats);
     no_more = λ c h. omega (arith, k.no_more c h, claims_have c);
   }
 

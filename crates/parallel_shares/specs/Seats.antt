@@ -11,7 +11,7 @@ use Rattle.parallel_shares.specs.Sizes.{Sizes, shares_of, share_of}
 use Rattle.parallel_shares.specs.Answers.{claim_cells}
 use Rattle.parallel_shares.specs.Holders.{in_word, in_ranges}
 use Rattle.parallel_shares.specs.Totals.{total}
-use Rattle.parallel_shares.specs.Sharing.{in_view, took_front, missed}
+use Rattle.parallel_shares.specs.Sharing.{loaded_at, loads_at, in_view, took_front, missed}
 
 -- the plan of some shares
 abbrev pub plan_of : Shares → Sizes
@@ -68,6 +68,18 @@ AreFresh seats = (i : ℕ) (d : Seat) → i < length seats → IsFresh (slice_in
 
 -- ---- what a call does
 
+-- the share that a seat claims from
+abbrev pub own_share : Shares → Seat → ℕ
+own_share shares seat = share_of (plan_of shares) (index_of seat)
+
+-- the word that a seat loaded last from the share that it claims from
+abbrev pub own_word : Shares → Seat → ℕ
+own_word shares seat = loaded_at (known seat) (own_share shares seat)
+
+-- how often a seat has loaded the share that it claims from
+abbrev pub own_loads : Shares → Seat → ℕ
+own_loads shares seat = loads_at (known seat) (own_share shares seat)
+
 -- the same number and the same transit
 abbrev pub IsSameSeat : Seat → Seat → Type 0
 IsSameSeat before after = (index_of after ≡ index_of before) × (transit_of after ≡ transit_of before)
@@ -80,24 +92,34 @@ LoadsOwn word before after = has_emptied after ≡ (has_emptied before || eqb (s
 abbrev pub MeetsFront : ℕ → View → ℕ → View → Type 0
 MeetsFront word before found after = (found ≡ word → after ≡ took_front before word) × (found ≢ word → after ≡ missed before found)
 
--- what a try to claim tells, of the word that it loaded: its front was claimed by an exchange that found it; or it was
--- not empty and an exchange found another word; or it was empty, and no exchange was tried
+-- so many exchanges more were tried, and so many steps more changed a word
+abbrev pub Steps : ℕ → ℕ → Seat → Seat → Type 0
+Steps exchanges changes before after =
+    ((known after).exchanges ≡ (known before).exchanges + exchanges) × ((known after).changes ≡ (known before).changes + changes)
+
+-- cells of the grid, at least one
+abbrev pub AreSomeCells : Sizes → Range ℕ → Type 0
+AreSomeCells sizes cells = (cells.start < cells.end) × (cells.end ≤ sizes.cells)
+
+-- what a try to claim tells, of the word that it loaded: its front was claimed by an exchange that met it; or it was
+-- not empty and an exchange met another word; or it was empty, and no exchange was tried
 abbrev pub TriesClaim : Sizes → ℕ → Seat → Tried → Seat → Type 0
 TriesClaim sizes word before (Claimed cells) after =
-    (¬ IsEmptyWord word) × ((known after).met ≡ word) × (cells ≡ claim_cells sizes word) × (claims_of after ≡ claims_of before ++ cells ∷ [])
-    × ((known after).exchanges ≡ (known before).exchanges + 1) × (has_emptied after ≡ has_emptied before)
+    (¬ IsEmptyWord word) × ((known after).met ≡ word) × (cells ≡ claim_cells sizes word) × AreSomeCells sizes cells
+    × (claims_of after ≡ claims_of before ++ cells ∷ []) × Steps 1 1 before after × (has_emptied after ≡ has_emptied before)
 TriesClaim sizes word before Lost after =
-    (¬ IsEmptyWord word) × ((known after).met ≢ word) × (claims_of after ≡ claims_of before)
-    × ((known after).exchanges ≡ (known before).exchanges + 1) × (has_emptied after ≡ has_emptied before)
+    (¬ IsEmptyWord word) × ((known after).met ≢ word)
+    × (claims_of after ≡ claims_of before) × Steps 1 0 before after × (has_emptied after ≡ has_emptied before)
 TriesClaim sizes word before Empty after =
-    IsEmptyWord word × (claims_of after ≡ claims_of before) × ((known after).exchanges ≡ (known before).exchanges) × (has_emptied after ≡ true)
+    IsEmptyWord word × (claims_of after ≡ claims_of before) × Steps 0 0 before after × (has_emptied after ≡ true)
 TriesClaim sizes word before Taken after = ⊥
 TriesClaim sizes word before Nothing after = ⊥
 
--- what a claim gained
+-- what a claim gained: the front of some word that was not empty, or nothing where the own word was seen empty
 abbrev pub GainsClaim : Sizes → Seat → Option (Range ℕ) → Seat → Type 0
 GainsClaim sizes before (Some cells) after =
-    (claims_of after ≡ claims_of before ++ cells ∷ []) × ((word : ℕ) × (¬ IsEmptyWord word) × IsWithin sizes.units word × (cells ≡ claim_cells sizes word))
+    (claims_of after ≡ claims_of before ++ cells ∷ []) × AreSomeCells sizes cells
+    × ((word : ℕ) × (¬ IsEmptyWord word) × IsWithin sizes.units word × (cells ≡ claim_cells sizes word))
 GainsClaim sizes before None after = (claims_of after ≡ claims_of before) × (has_emptied after ≡ true)
 
 -- ---- at the end

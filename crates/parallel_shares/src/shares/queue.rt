@@ -37,7 +37,7 @@ impl Shares {
     ghost use Rattle.parallel_shares.specs.Totals.{total};
     ghost use Rattle.parallel_shares.specs.Gathered.{HasAll};
     ghost use Rattle.parallel_shares.specs.Sharing.{undealt, loaded_at, loads_at, looked_own};
-    ghost use Rattle.parallel_shares.specs.Seats.{plan_of, known, IsSeatOf, AreSeatsOf, AreFresh, IsSameSeat, TriesClaim, GainsClaim, LoadsOwn, MeetsFront, IsPartition, AllDone, AllEmpty, EachCellOnce};
+    ghost use Rattle.parallel_shares.specs.Seats.{plan_of, known, has_emptied, own_share, own_word, own_loads, IsSeatOf, AreSeatsOf, AreFresh, IsSameSeat, TriesClaim, GainsClaim, LoadsOwn, MeetsFront, IsPartition, AllDone, AllEmpty, EachCellOnce};
 
     /// Shares out `rows` rows of `len` cells each, where a tile costs `tile_cost` cells and there are
     /// at most `workers` workers, and answers a seat for each worker, in order.
@@ -144,9 +144,9 @@ impl Shares {
         requires { IsSeatOf self.now seat.old }
         ensures seat { IsSeatOf self.now seat.new }
         ensures same { IsSameSeat seat.old seat.new }
-        ensures one_load { loads_at (known seat.new) (share_of (plan_of self.now) seat.old.index) ≡ loads_at (known seat.old) (share_of (plan_of self.now) seat.old.index) + 1 }
-        ensures within { IsWithin (plan_of self.now).units (loaded_at (known seat.new) (share_of (plan_of self.now) seat.old.index)) }
-        ensures answer { TriesClaim (plan_of self.now) (loaded_at (known seat.new) (share_of (plan_of self.now) seat.old.index)) seat.old result seat.new }
+        ensures one_load { own_loads self.now seat.new ≡ own_loads self.now seat.old + 1 }
+        ensures within { IsWithin (plan_of self.now).units (own_word self.now seat.new) }
+        ensures answer { TriesClaim (plan_of self.now) (own_word self.now seat.new) seat.old result seat.new }
     {
         let word = self.look_own(seat);
         let (start, end) = unpack(word);
@@ -230,7 +230,7 @@ impl Shares {
         ensures seat { IsSeatOf self.now seat.new }
         ensures same { IsSameSeat seat.old seat.new }
         ensures within { IsWithin (plan_of self.now).units result }
-        ensures view { known seat.new ≡ looked_own (known seat.old) (share_of (plan_of self.now) seat.old.index) result }
+        ensures view { known seat.new ≡ looked_own (known seat.old) (own_share self.now seat.old) result }
         ensures emptied { LoadsOwn result seat.old seat.new }
     {
         let share = self.plan.share_of(seat.index);
@@ -248,7 +248,8 @@ impl Shares {
         requires some { ¬ IsEmptyWord word }
         requires front { next ≡ packed (claim_stop (plan_of self.now) word) (end_of word) }
         ensures seat { IsSeatOf self.now seat.new }
-        ensures same { IsSameSeat seat.old seat.new × (seat.new.own_empty ≡ seat.old.own_empty) }
+        ensures same { IsSameSeat seat.old seat.new }
+        ensures emptied { has_emptied seat.new ≡ has_emptied seat.old }
         ensures met { MeetsFront word (known seat.old) result (known seat.new) }
     {
         let share = self.plan.share_of(seat.index);
