@@ -1,34 +1,27 @@
-use Rattle.std.proofs.Common.{◌≡◌, ◌-◌, ◌*◌, ◌∙◌, ◌++◌, Ok, ap, sym, subst, refl, true, arith}
-use Rattle.std.specs.List.{range_with_len}
-use Rattle.std.proofs.lemmas.Iterator.{YieldsList-from_range}
-use Rattle.std.proofs.lemmas.Iterator.Adapters.{items_from_extend}
-use Rattle.shapes_command.specs.Drain.{TakesTurn}
+-- The seats are all back, so the lists have each row once.
+use Rattle.std.proofs.Common.{◌≡◌, ◌*◌, ◌∙◌, map, ap, sym, subst, arith}
+use Rattle.std.proofs.lemmas.List.Sorted.{IsNonDecreasingBy-from_sort}
 use Rattle.parallel_shares.specs.Sizes.{Sizes}
-use Rattle.parallel_shares.specs.Machine.{word_at}
-use Rattle.shapes_command.proofs.Draining.{IsDraining, opening_draining, claimed_draining, falls}
+use Rattle.parallel_shares.specs.Seats.{AreSeatsOf, AllDone, EachCellOnce}
+use Rattle.shapes_command.specs.Drain.{seat_of}
+use Rattle.shapes_command.proofs.Ascending.{times_permuted}
+use Rattle.shapes_command.proofs.Drains.{seats_back, all_done, all_rows}
 use Rattle.shapes_command.proofs.drain.drained_rows.Goals as goal
 
-pub loop-seat-init : goal.loop-seat-init
-loop-seat-init c =
-    let plan = c.new-plan.result in
-    let all = items_from_extend {E = Unit {0}} (Ok tt) c.in_ok-extend.ensures.ran (YieldsList-from_range 0 c.workers.result c.workers.result (cc) (omega arith)) in
-    let seats : c.extend.new.self.items ≡ range_with_len 0 plan.workers = all.0 ∙ ap (λ xs. xs ++ range_with_len 0 c.workers.result) c.in_ok-seats.ensures.items ∙ ap (range_with_len 0) c.workers.ensures in
-    let whole : plan.whole ≡ true = ap (λ (z : Sizes). z.whole) c.new-plan.ensures.sizes in
+pub close-requires : goal.close-requires
+close-requires g c =
+    let shares = c.in_ok-shares.shares in
+    subst (AreSeatsOf shares) (sym c.in_ok-seats.ensures.seats) (seats_back shares c.in_ok-drained.drained.items c.in_ok-drained.ensures.drained)
+
+pub returns-clause-rows : goal.returns-clause-rows
+returns-clause-rows g c =
+    let shares = c.in_ok-shares.shares in
+    let drained = c.in_ok-drained.drained.items in
+    let are = c.in_ok-drained.ensures.drained in
+    let back = c.in_ok-seats.ensures.seats in
+    let done = subst AllDone (sym back) (all_done shares drained are) in
     let one : c.args.rows * 1 ≡ c.args.rows = omega arith in
-    let cells : plan.cells ≡ c.args.rows = ap (λ (z : Sizes). z.cells) c.new-plan.ensures.sizes ∙ one in
-    subst (IsDraining c.args.rows plan c.in_ok-state.state c.extend.new.self.items) (sym c.in_ok-claimed.ensures.items)
-    (opening_draining c.args.rows plan c.in_ok-state.state c.extend.new.self.items whole cells c.in_ok-state.ensures.belongs c.in_ok-state.ensures.opening seats)
-
-pub loop-seat-smaller-in-Continue-branch-8 : goal.loop-seat-smaller-in-Continue-branch-8
-loop-seat-smaller-in-Continue-branch-8 c =
-    let turn = subst (TakesTurn c.new-plan.result (word_at c.loop-seat.state 0) (word_at c.turn.new.state 0)) c.in-Some-2.is c.in_ok-front.ensures.taken in
-    falls c.args.rows c.new-plan.result c.loop-seat.state c.turn.new.state c.in-Some.seat c.loop-seat.seats.items c.pop_front.new.self.items c.push_back.new.self.items c.loop-seat.claimed.items c.extend-in-Some-2.new.self.items c.in-Some-2.front
-    c.loop-seat.invariant c.in-Some.ensures.items c.in_ok-push_back.ensures.items turn
-
-pub loop-seat-preserved-in-Continue-branch-8 : goal.loop-seat-preserved-in-Continue-branch-8
-loop-seat-preserved-in-Continue-branch-8 c =
-    let front = c.in-Some-2.front in
-    let grown = items_from_extend {E = Unit {0}} (Ok tt) c.in_ok-extend-2.ensures.ran (YieldsList-from_range front.start front.end (front.end - front.start) refl refl) in
-    let turn = subst (TakesTurn c.new-plan.result (word_at c.loop-seat.state 0) (word_at c.turn.new.state 0)) c.in-Some-2.is c.in_ok-front.ensures.taken in
-    claimed_draining c.args.rows c.new-plan.result c.loop-seat.state c.turn.new.state c.in-Some.seat c.loop-seat.seats.items c.pop_front.new.self.items c.push_back.new.self.items c.loop-seat.claimed.items c.extend-in-Some-2.new.self.items c.in-Some-2.front
-    c.loop-seat.invariant c.in-Some.ensures.items c.in_ok-push_back.ensures.items turn c.in_ok-front.ensures.belongs grown.0
+    let cells : shares.plan.cells ≡ c.args.rows = ap (λ (z : Sizes). z.cells) c.in_ok-shares.ensures.sizes ∙ one in
+    let once = subst (EachCellOnce shares.plan) back (c.close.ensures.each_once done) in
+    all_rows shares drained are c.args.rows c.in_ok-seats.claimed.items c.sort_unstable.new.self.items cells once c.in_ok-seats.ensures.rows (λ n. times_permuted n c.in_ok-seats.claimed.items c.sort_unstable.new.self.items c.sort_unstable.ensures.permutation)
+    (IsNonDecreasingBy-from_sort (λ x. x) c.sort_unstable.new.self.items c.sort_unstable.ensures.sorted)
