@@ -1,7 +1,7 @@
 -- What is known of the seats and lists that come back.
 use Rattle.std.proofs.Common.{◌≡◌, ℕ, zero, suc, ◌+◌, ◌-◌, ◌*◌, ◌<◌, ◌≤◌, inl, inr, List, [], ◌∷◌, ◌++◌, map, length, get_or, true, None, Ok, Result, refl, sym, ap, subst, ◌∙◌, arith}
 use Rattle.std.specs.List.{range_with_len}
-use Rattle.std.specs.List.Sorted.{IsNonDecreasing}
+use Rattle.std.specs.List.Sorted.{IsPermutation, IsNonDecreasing}
 use Rattle.std.proofs.lemmas.Bool.{cases_lt}
 use Rattle.std.proofs.lemmas.Bool.Decides.{nat_tests}
 use Rattle.std.proofs.lemmas.List.{length-map, map-append}
@@ -15,8 +15,8 @@ use Rattle.parallel_shares.specs.Seats.{plan_of, index_of, claims_of, AreSeatsOf
 use Rattle.parallel_shares.proofs.Counts.{inside_within, inside_after}
 use Rattle.parallel_shares.proofs.Totals.{total_append, times_range, in_ranges_append}
 use Rattle.shapes_command.specs.declared.drain.Drained.{Drained}
-use Rattle.shapes_command.specs.Drain.{seat_of, listed, IsDrained, AreDrained}
-use Rattle.shapes_command.proofs.Ascending.{ascending}
+use Rattle.shapes_command.specs.Drain.{seat_of, listed, HasEachOnce, IsDrained, AreDrained}
+use Rattle.shapes_command.proofs.Ascending.{ascending, times_permuted}
 
 -- ---- lists that are mapped
 
@@ -77,12 +77,18 @@ module _ (shares : Shares) (drained : List Drained) (are : AreDrained shares dra
   all_done i d h =
       each_mapped (λ j s. (has_emptied s ≡ true) × (transit_of s ≡ None)) seat_of drained (λ j e l. ((are.each j e l).emptied, (are.each j e l).transit)) i d h
 
-  -- the lists have each row once, so in order they are all rows
-  pub all_rows : (rows : ℕ) (listed_rows ordered : List ℕ) → (plan_of shares).cells ≡ rows → EachCellOnce (plan_of shares) (map seat_of drained) → ((c : ℕ) → times c listed_rows ≡ total (listed c) drained) → ((c : ℕ) → times c ordered ≡ times c listed_rows) → IsNonDecreasing ordered → ordered ≡ range_with_len 0 rows
-  all_rows rows listed_rows ordered cells once lists permuted order =
-      ascending 0 rows ordered order (λ c.
+  -- so the lists have each cell once
+  pub lists_have_each : (cells : List ℕ) → EachCellOnce (plan_of shares) (map seat_of drained) → ((c : ℕ) → times c cells ≡ total (listed c) drained) → HasEachOnce (plan_of shares).cells cells
+  lists_have_each cells once lists c =
+      let n = (plan_of shares).cells in
       let claims = total_mapped seat_of (λ s. in_ranges c (claims_of s)) (listed c) drained (λ i d h. ap (in_ranges c) (are.each i d h).claims) in
-      elim (cases_lt c rows) as (λ _. times c ordered ≡ inside c 0 (0 + rows)) [
-        | inl l ↦ omega (arith, permuted c, lists c, claims, once.once c (omega (arith, cells)), inside_within c 0 (0 + rows) (omega arith) (omega arith))
-        | inr m ↦ omega (arith, permuted c, lists c, claims, once.no_more c (omega (arith, cells)), inside_after c 0 (0 + rows) (omega arith))
-      ])
+      elim (cases_lt c n) as (λ _. times c cells ≡ inside c 0 n) [
+        | inl l ↦ omega (arith, lists c, claims, once.once c l, inside_within c 0 n (omega arith) l)
+        | inr m ↦ omega (arith, lists c, claims, once.no_more c m, inside_after c 0 n m)
+      ]
+
+-- numbers that are each there once are, in order, all of them
+pub in_order : (n rows : ℕ) (cells ordered : List ℕ) → n ≡ rows → HasEachOnce n cells → IsPermutation cells ordered → IsNonDecreasing ordered → ordered ≡ range_with_len 0 rows
+in_order n rows cells ordered same once permuted order =
+    let from_none : n ≡ 0 + rows = omega (arith, same) in
+    ascending 0 rows ordered order (λ c. times_permuted c cells ordered permuted ∙ once c ∙ ap (inside c 0) from_none)

@@ -2,7 +2,8 @@
 use Rattle.std.specs.Prelude.{◌≡◌, ℕ, ◌<◌, true, List, length, slice_index_or, None}
 use Rattle.parallel_shares.specs.declared.shares.seat.Seat.{Seat}
 use Rattle.parallel_shares.specs.declared.shares.queue.Shares.{Shares}
-use Rattle.parallel_shares.specs.Holders.{in_ranges}
+use Rattle.parallel_shares.specs.Holders.{inside, in_ranges}
+use Rattle.parallel_shares.specs.Totals.{times}
 use Rattle.parallel_shares.specs.Seats.{plan_of, index_of, claims_of, has_emptied, transit_of, IsSeatOf}
 use Rattle.shapes_command.specs.declared.drain.Drained.{Drained}
 
@@ -13,6 +14,10 @@ seat_of drained = drained.seat
 -- how often a cell is in the list of what came back
 abbrev pub listed : ℕ → Drained → ℕ
 listed c drained = in_ranges c drained.claims.items
+
+-- each number below one is in the list once, and no other number
+abbrev pub HasEachOnce : ℕ → List ℕ → Type 0
+HasEachOnce n numbers = (c : ℕ) → times c numbers ≡ inside c 0 n
 
 -- the seat of a number has come back with nothing in transit, has seen its word empty, and has claimed just what its
 -- list says

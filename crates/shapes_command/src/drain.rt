@@ -3,8 +3,8 @@ ghost use Rattle.std.specs.Prelude.{◌≡◌, ◌+◌, ℕ, map, IfOk, IfErr, O
 ghost use Rattle.std.specs.List.{range_with_len};
 ghost use Rattle.parallel_shares.specs.Holders.{in_ranges};
 ghost use Rattle.parallel_shares.specs.Totals.{total, times};
-ghost use Rattle.parallel_shares.specs.Seats.{index_of, IsSeatOf, AreSeatsOf, IsFresh, AreFresh};
-ghost use Rattle.shapes_command.specs.Drain.{IsDrained, AreDrained, seat_of, listed};
+ghost use Rattle.parallel_shares.specs.Seats.{plan_of, index_of, IsSeatOf, AreSeatsOf, IsFresh, AreFresh, AllEmpty};
+ghost use Rattle.shapes_command.specs.Drain.{HasEachOnce, IsDrained, AreDrained, seat_of, listed};
 
 use parallel_fault::Fault;
 use parallel_shares::{Seat, Shares};
@@ -43,8 +43,7 @@ pub fn drained_rows<R: Threads + Wait + Sync>(
     }
     let (shares, seats) = Shares::new(alloc, rows, 1, NonZeroUsize::MIN, workers, true)?;
     let drained = drain(rt, alloc, &shares, seats)?;
-    let (seats, mut claimed) = claimed_rows(alloc, drained)?;
-    shares.close(seats);
+    let (_words, mut claimed) = gather(alloc, shares, drained)?;
     claimed.sort_unstable();
     Ok(claimed)
 }
@@ -75,6 +74,26 @@ pub fn drain<R: Threads + Wait + Sync>(
     )?;
     let drained = all_drained(alloc, parts)?;
     Ok(drained)
+}
+
+/// Closes the shares with the seats that came back, and answers the words that are left and all
+/// cells of the lists.
+///
+/// No unit is left in any word, and each cell of the grid is in the lists just once: that no cell is
+/// left out or twice there is proved of the lists themselves. The one refusal is `Fault::Memory`.
+pub fn gather(
+    alloc: Global,
+    shares: Shares,
+    drained: Vec<Drained>,
+) -> Result<(Vec<u64>, Vec<usize>), Fault>
+    requires { AreDrained shares drained.items }
+    ensures empty { IfOk result (λ r. AllEmpty r.0.items) }
+    ensures each_once { IfOk result (λ r. HasEachOnce (plan_of shares).cells r.1.items) }
+    ensures fault { IfErr result (λ refusal. refusal ≡ Fault.Memory) }
+{
+    let (seats, cells) = claimed_cells(alloc, drained)?;
+    let words = shares.close(seats);
+    Ok((words, cells))
 }
 
 // One worker claims until its seat has found its word empty.
@@ -113,18 +132,18 @@ fn all_drained(
 }
 
 // The seats, and all cells that their lists have.
-fn claimed_rows(alloc: Global, drained: Vec<Drained>) -> Result<(Vec<Seat>, Vec<usize>), Fault>
+fn claimed_cells(alloc: Global, drained: Vec<Drained>) -> Result<(Vec<Seat>, Vec<usize>), Fault>
     ensures seats { IfOk result (λ r. r.0.items ≡ map seat_of drained.items) }
-    ensures rows { IfOk result (λ r. (c : ℕ) → times c r.1.items ≡ total (listed c) drained.items) }
+    ensures cells { IfOk result (λ r. (c : ℕ) → times c r.1.items ≡ total (listed c) drained.items) }
     ensures fault { IfErr result (λ refusal. refusal ≡ Fault.Memory) }
 {
     let mut seats = Vec::new(alloc);
-    let mut rows = Vec::new(alloc);
+    let mut cells = Vec::new(alloc);
     for Drained { seat, claims } in drained {
-        push_cells(&mut rows, claims)?;
+        push_cells(&mut cells, claims)?;
         seats.push(seat)?;
     }
-    Ok((seats, rows))
+    Ok((seats, cells))
 }
 
 // The cells of the ranges, behind those that are there.

@@ -4,7 +4,7 @@ use Rattle.shapes_command.proofs.Drains.{pushed_map}
 use Rattle.parallel_shares.specs.Holders.{in_ranges}
 use Rattle.parallel_shares.proofs.Totals.{total_append}
 use Rattle.shapes_command.specs.Drain.{seat_of, listed}
-use Rattle.shapes_command.proofs.drain.claimed_rows.Goals as goal
+use Rattle.shapes_command.proofs.drain.claimed_cells.Goals as goal
 
 pub loop-seat-preserved : goal.loop-seat-preserved
 loop-seat-preserved c =
@@ -13,5 +13,5 @@ loop-seat-preserved c =
     let i = c.loop-seat.invariant in
     record {
       seats = c.in_ok-push.ensures.items ∙ ap (λ xs. xs ++ seat_of x ∷ []) i.seats ∙ sym (pushed_map seat_of so_far x);
-      rows = λ n. omega (arith, c.in_ok-push_cells.ensures.cells n, i.rows n, total_append (listed n) so_far (x ∷ []), ap (λ v. in_ranges n v.items) c.in-Some.claims-is);
+      cells = λ n. omega (arith, c.in_ok-push_cells.ensures.cells n, i.cells n, total_append (listed n) so_far (x ∷ []), ap (λ v. in_ranges n v.items) c.in-Some.claims-is);
     }
