@@ -7,9 +7,10 @@ use Rattle.parallel_shares.specs.declared.shares.queue.Shares.{Shares}
 use Rattle.parallel_shares.specs.Holders.{in_ranges, same_number}
 use Rattle.parallel_shares.specs.Totals.{total, times}
 use Rattle.parallel_shares.specs.Sharing.{gathered}
-use Rattle.parallel_shares.specs.Seats.{known, IsSeatOf}
+use Rattle.parallel_shares.specs.Seats.{known, index_of, IsSeatOf, AreSeatsOf}
 use Rattle.parallel_shares.specs.Gathered.{HasAll}
 use Rattle.parallel_shares.proofs.Totals.{total_append, in_ranges_append}
+use Rattle.parallel_shares.proofs.Dealt.{each_push}
 
 -- a view and some seats have together what all seats had
 pub record Gathering (view : View) (rest all : List Seat) : Type 0 where
@@ -64,3 +65,15 @@ module _ (P : Seat → Type 0) (rest old : List Seat) (x : Seat) (e : old ≡ re
   pub the_last : P x
   the_last =
       subst P (ap (λ xs. get_or xs (length rest) x) e ∙ get_or_push rest x x (length rest) refl) (each (length rest) x (omega (arith, ap length e, length_push rest x)))
+
+-- all seats, when the last was taken out and has come back
+pub seats_again : (shares : Shares) (rest old new : List Seat) (x y : Seat) → AreSeatsOf shares old → old ≡ rest ++ x ∷ [] → IsSeatOf shares y → index_of y ≡ index_of x → new ≡ rest ++ y ∷ [] → AreSeatsOf shares new
+seats_again shares rest old new x y all cut belongs same put =
+    let n : ℕ = length rest in
+    let last : index_of x ≡ n = subst (λ s. index_of s ≡ n) (ap (λ xs. get_or xs n x) cut ∙ get_or_push rest x x n refl) (all.order n x (omega (arith, ap length cut, length_push rest x))) in
+    subst (AreSeatsOf shares) (sym put)
+    (record {
+      count = omega (arith, all.count, ap length cut, length_push rest x, length_push rest y);
+      each = each_push (λ i s. IsSeatOf shares s) rest y n refl (each_left (IsSeatOf shares) rest old x cut all.each) belongs;
+      order = each_push (λ i s. index_of s ≡ i) rest y n refl (λ i d h. subst (λ s. index_of s ≡ i) (ap (λ xs. get_or xs i d) cut ∙ get_or_append_left rest (x ∷ []) d i h) (all.order i d (omega (arith, h, ap length cut, length_push rest x)))) (same ∙ last);
+    })

@@ -7,3 +7,6 @@ pub mod shares;
 
 pub use plan::{Grid, cut};
 pub use shares::{Seat, Shares, Tried, pack, unpack};
+
+#[cfg(test)]
+mod tests;
