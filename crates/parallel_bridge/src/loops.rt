@@ -1,13 +1,13 @@
 //! The loops over owned items, each from a value that was reached before.
-ghost use Rattle.std.specs.Prelude.{◌≡◌, ◌++◌, IfOk, List, Ok, Err};
+ghost use Rattle.std.specs.Prelude.{◌≡◌, ◌++◌, IfOk, List, Option, Ok, Err, false};
 ghost use Rattle.std.specs.Borrow.{MutBor};
 ghost use Rattle.std.specs.List.{All};
 ghost use Rattle.parallel_fault.specs.Trouble.{IsMemoryOnErr};
 ghost use Rattle.parallel_bridge.specs.Lists.{Chain};
-ghost use Rattle.parallel_bridge.specs.Onto.{TryMapOnto, PartitionOnto};
+ghost use Rattle.parallel_bridge.specs.Onto.{TryMapOnto, PartitionOnto, ReducesTo};
 ghost use Rattle.parallel_bridge.specs.Outcomes.{UnlessRefused, listed};
 ghost use Rattle.parallel_bridge.specs.States.{MapStep, FoldStep, StatesFrom, StateChain};
-ghost use Rattle.parallel_bridge.specs.Tries.{TryChain};
+ghost use Rattle.parallel_bridge.specs.Tries.{TryChain, unless_full};
 
 use parallel_fault::{Fault, Trouble};
 use std::alloc::Global;
@@ -117,10 +117,48 @@ pub(crate) fn partition_onto<X: Drop, K: Drop, U: Drop, F: Fn(X) -> (K, Option<U
     let mut values = values;
     let mut keys = keys;
     for item in items {
-        match map_op(item) {
-            (_, Some(value)) => values.push(value)?,
-            (key, None) => keys.push(key)?,
+        let (key, value) = map_op(item);
+        match value {
+            Some(value) => values.push(value)?,
+            None => keys.push(key)?,
         }
     }
     Ok((values, keys))
+}
+
+/// The outcomes reduced from a value, in their order, up to the first error among them.
+pub(crate) fn try_reduce_from<T: Drop, E: Drop, G: Fn(T, T) -> T>(
+    start: T,
+    items: Vec<Result<T, E>>,
+    reduce_op: &G,
+) -> Result<T, E>
+    requires { G.IsAlwaysCallable reduce_op.now }
+    ensures { TryChain (ReducesTo (λ a b c. G.post reduce_op.now a b c)) start items.items result }
+{
+    let mut reduced = start;
+    for item in items {
+        match item {
+            Ok(value) => reduced = reduce_op(reduced, value),
+            Err(error) => return Err(error),
+        }
+    }
+    Ok(reduced)
+}
+
+/// The values before the first `None`, in order, and whether there was one.
+pub(crate) fn while_some<T: Drop>(
+    alloc: Global,
+    items: Vec<Option<T>>,
+) -> Result<(Vec<T>, bool), Fault>
+    ensures gives { IfOk result (λ r. (more : List (Option T)) → unless_full false (items.items ++ more) ≡ r.0.items ++ unless_full r.1 more) }
+    ensures fault { IsMemoryOnErr result }
+{
+    let mut values = Vec::new(alloc);
+    for item in items {
+        match item {
+            Some(value) => values.push(value)?,
+            None => return Ok((values, true)),
+        }
+    }
+    Ok((values, false))
 }

@@ -8,7 +8,7 @@ ghost use Rattle.parallel_bridge.specs.States.{MapStep, StateSegment, StatesFrom
 ghost use Rattle.parallel_bridge.specs.Tries.{before_none, unless_full};
 
 use crate::consumer::{Consumer, Folder};
-use crate::loops::map_init_from;
+use crate::loops::{map_init_from, while_some};
 use crate::serial::map_serial;
 use parallel_fault::{Fault, Trouble};
 use std::alloc::Global;
@@ -276,6 +276,22 @@ impl<T: Drop, R, E, C: Folder<T, R, E>> Folder<Option<T>, R, E> for WhileSomeFol
                 full: true,
             }),
         }
+    }
+
+    fn consume_iter(self, alloc: Global, items: Vec<Option<T>>) -> Result<Self, Fault>
+        requires ready { C.ready self.base }
+        requires items { All (λ _. (y : T) → C.takes self.base y) items.items }
+        ensures ready { IfOk result (λ f. C.ready f.base) }
+        ensures takes { IfOk result (λ f. (x : Option T) → ((y : T) → C.takes self.base y) → (y : T) → C.takes f.base y) }
+        ensures gives { IfOk result (λ f. (xs : List (Option T)) (out : Result R E) → C.gives f.base (unless_full f.full xs) out → C.gives self.base (unless_full self.full (items.items ++ xs)) out) }
+        ensures fault { IsMemoryOnErr result }
+    {
+        if self.full {
+            return Ok(self);
+        }
+        let (values, full) = while_some(alloc, items)?;
+        let base = self.base.consume_iter(alloc, values)?;
+        Ok(WhileSomeFolder { base, full })
     }
 
     fn complete(self, alloc: Global) -> Result<R, Trouble<E>> {

@@ -10,7 +10,7 @@ ghost use Rattle.parallel_bridge.specs.Tries.{OnlyOk, TryChain, TryFoldSegment, 
 
 use crate::collect::CollectReducer;
 use crate::consumer::{Consumer, Folder, Reducer};
-use crate::loops::{try_fold_from, try_map_onto};
+use crate::loops::{try_fold_from, try_map_onto, try_reduce_from};
 use parallel_fault::{Fault, Trouble};
 use std::alloc::Global;
 
@@ -300,6 +300,24 @@ impl<'r, T: Drop, E: Drop, G: Fn(T, T) -> T> Folder<Result<T, E>, T, E> for TryR
                 Ok(right) => Ok((self.reduce_op)(left, right)),
                 Err(error) => Err(error),
             },
+            Err(error) => Err(error),
+        };
+        Ok(TryReduceFolder {
+            control,
+            reduce_op: self.reduce_op,
+        })
+    }
+
+    fn consume_iter(self, _alloc: Global, items: Vec<Result<T, E>>) -> Result<Self, Fault>
+        requires ready { G.IsAlwaysCallable self.reduce_op.now }
+        requires items { All (λ _. Unit {0}) items.items }
+        ensures ready { IfOk result (λ f. G.IsAlwaysCallable f.reduce_op.now) }
+        ensures takes { IfOk result (λ f. (x : Result T E) → Unit {0} → Unit {0}) }
+        ensures gives { IfOk result (λ f. (xs : List (Result T E)) (out : Result T E) → TryContinues (ReducesTo (λ a b c. G.post f.reduce_op.now a b c)) f.control xs out → TryContinues (ReducesTo (λ a b c. G.post self.entry.reduce_op.now a b c)) self.entry.control (items.items ++ xs) out) }
+        ensures fault { IsMemoryOnErr result }
+    {
+        let control = match self.control {
+            Ok(value) => try_reduce_from(value, items, self.reduce_op),
             Err(error) => Err(error),
         };
         Ok(TryReduceFolder {
