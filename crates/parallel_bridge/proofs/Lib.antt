@@ -6,3 +6,4 @@ pub mod Laws
 pub mod Turns
 pub mod Outcomes
 pub mod TryShapes
+pub mod Onward

@@ -83,6 +83,23 @@ pub(crate) fn try_map_onto<X: Drop, T: Drop, E: Drop, F: Fn(X) -> Result<T, E>>(
     Ok(values)
 }
 
+/// The same, with the closure's error apart from a refusal.
+pub(crate) fn try_map_behind<X: Drop, T: Drop, E: Drop, F: Fn(X) -> Result<T, E>>(
+    values: Vec<T>,
+    items: Vec<X>,
+    map_op: &F,
+) -> Result<Result<Vec<T>, E>, Fault>
+    requires { All (F.pre map_op.now) items.items }
+    ensures gives { IfOk result (λ out. TryMapOnto (F.post map_op.now) values.items items.items (listed out)) }
+    ensures fault { IsMemoryOnErr result }
+{
+    match try_map_onto(values, items, map_op) {
+        Ok(values) => Ok(Ok(values)),
+        Err(Trouble::Closure(error)) => Ok(Err(error)),
+        Err(Trouble::Fault(fault)) => Err(fault),
+    }
+}
+
 /// The answers of `map_op` for the items, in their order, with a state that goes from item to item.
 pub(crate) fn map_init_from<X: Drop, S: Drop, T: Drop, F: Fn(&mut S, X) -> T>(
     alloc: Global,
