@@ -1,11 +1,12 @@
 //! The loops over owned items, each from a value that was reached before.
-ghost use Rattle.std.specs.Prelude.{◌≡◌, ◌++◌, IfOk, List, Option, Ok, Err, false};
+ghost use Rattle.std.specs.Prelude.{◌≡◌, ◌++◌, ◌∷◌, [], IfOk, List, Option, Ok, Err, false};
 ghost use Rattle.std.specs.Borrow.{MutBor};
 ghost use Rattle.std.specs.List.{All};
 ghost use Rattle.parallel_fault.specs.Trouble.{IsMemoryOnErr};
 ghost use Rattle.parallel_bridge.specs.Lists.{Chain};
 ghost use Rattle.parallel_bridge.specs.Onto.{TryMapOnto, PartitionOnto, ReducesTo};
 ghost use Rattle.parallel_bridge.specs.Outcomes.{UnlessRefused, listed};
+ghost use Rattle.parallel_bridge.specs.Parts.{values_of, keys_of};
 ghost use Rattle.parallel_bridge.specs.States.{MapStep, FoldStep, StatesFrom, StateChain};
 ghost use Rattle.parallel_bridge.specs.Tries.{TryChain, unless_full};
 
@@ -117,6 +118,30 @@ pub(crate) fn map_init_from<X: Drop, S: Drop, T: Drop, F: Fn(&mut S, X) -> T>(
         answers.push(map_op(state, item))?;
     }
     Ok(answers)
+}
+
+/// The lists with the value of one answer more, or with its key where it has none.
+pub(crate) fn push_answer<K: Drop, U: Drop>(
+    values: Vec<U>,
+    keys: Vec<K>,
+    answer: (K, Option<U>),
+) -> Result<(Vec<U>, Vec<K>), Fault>
+    ensures gives { IfOk result (λ r. (r.0.items ≡ values.items ++ values_of (answer ∷ [])) × (r.1.items ≡ keys.items ++ keys_of (answer ∷ []))) }
+    ensures fault { IsMemoryOnErr result }
+{
+    let (key, value) = answer;
+    match value {
+        Some(value) => {
+            let mut values = values;
+            values.push(value)?;
+            Ok((values, keys))
+        }
+        None => {
+            let mut keys = keys;
+            keys.push(key)?;
+            Ok((values, keys))
+        }
+    }
 }
 
 /// The values that `map_op` answers, and the keys of the items for which it answers none, in order

@@ -10,7 +10,7 @@ ghost use Rattle.parallel_bridge.specs.Parts.{PartitionOf};
 ghost use Rattle.parallel_bridge.specs.Tries.{OnlyOk};
 
 use crate::consumer::{Consumer, Folder, Reducer};
-use crate::loops::partition_onto;
+use crate::loops::{partition_onto, push_answer};
 use parallel_fault::{Fault, Trouble};
 use std::alloc::Global;
 use std::convert::Infallible;
@@ -64,13 +64,8 @@ impl<'f, X: Drop, U: Drop, K: Drop, F: Fn(X) -> (K, Option<U>)> Folder<X, (Vec<U
     ghost gives = { λ s xs out. OnlyOk (λ r. PartitionOnto (F.post s.map_op.now) s.values.items s.keys.items xs r.0.items r.1.items) out };
 
     fn consume(self, _alloc: Global, item: X) -> Result<Self, Fault> {
-        let mut values = self.values;
-        let mut keys = self.keys;
-        let (key, value) = (self.map_op)(item);
-        match value {
-            Some(value) => values.push(value)?,
-            None => keys.push(key)?,
-        }
+        let answer = (self.map_op)(item);
+        let (values, keys) = push_answer(self.values, self.keys, answer)?;
         Ok(PartitionFolder {
             values,
             keys,
