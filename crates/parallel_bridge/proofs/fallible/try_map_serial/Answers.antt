@@ -1,5 +1,5 @@
 -- Behind nothing stand the values of the items.
-use Rattle.std.proofs.Common.{Result, []}
+use Rattle.std.proofs.Common.{rules, Result, ◌≡◌, [], subst}
 use Rattle.parallel_bridge.specs.Outcomes.{listed}
 use Rattle.parallel_bridge.specs.Tries.{TryMapOf}
 use Rattle.parallel_bridge.specs.Onto.{TryMapOnto}
@@ -11,6 +11,7 @@ pub returns : goal.returns
 returns g c =
     let allowed = λ (x : g.row.X.Denot) (o : Result g.row.T.Denot g.row.E.Denot). g.F.Fn.post c.args.map_op.now (x, tt) o in
     let xs = c.args.items.items in
-    unless_weaker c.try_map_onto.result (λ out. TryMapOnto allowed [] xs (listed out)) (λ out. TryMapOf allowed xs (listed out))
-    (λ out h. behind_none allowed xs (listed out) h)
+    let none : c.new.result.items ≡ [] = search rules in
+    unless_weaker c.try_map_onto.result (λ out. TryMapOnto allowed c.new.result.items xs (listed out)) (λ out. TryMapOf allowed xs (listed out))
+    (λ out h. behind_none allowed xs (listed out) (subst (λ b. TryMapOnto allowed b xs (listed out)) none h))
     c.try_map_onto.ensures
