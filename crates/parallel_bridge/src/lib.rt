@@ -16,9 +16,11 @@ pub mod producer;
 pub mod segments;
 pub mod serial;
 pub mod stateful;
+#[cfg(test)]
+mod tests;
 pub mod tries;
 
-pub use collect::{CollectConsumer, CollectReducer};
+pub use collect::{CollectConsumer, CollectReducer, ListReducer, ListVecConsumer};
 pub use consumer::{Consumer, Folder, Reducer};
 pub use folds::{FoldConsumer, FoldInitConsumer, ReduceConsumer};
 pub use law::{fold_init_law, fold_law, map_law};
