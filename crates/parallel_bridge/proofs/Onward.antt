@@ -1,6 +1,9 @@
 -- Taking some items, and then more, is taking all of them.
 use Rattle.std.proofs.Common.{◌≡◌, List, [], ◌∷◌, ◌++◌, Result, Ok, Err, Option, Some, None, refl, sym, ◌∙◌, ap, subst, append_assoc, inl, inr, IsTrue, is_err}
 use Rattle.std.proofs.lemmas.List.{append-nil}
+use Rattle.std.specs.declared.vec.Vec.{Vec}
+use Rattle.std.specs.declared.alloc.Global.{Global}
+use Rattle.parallel_bridge.specs.Outcomes.{joined}
 use Rattle.parallel_bridge.specs.Lists.{MapOf, Chain}
 use Rattle.parallel_bridge.specs.Tries.{EachOk, FirstErr, TryChain, TryMapOf}
 use Rattle.parallel_bridge.specs.Parts.{PartitionOf, values_of, keys_of}
@@ -78,3 +81,8 @@ module _ {X K U : Type 0} (allowed : X → (K × Option U) → Type 0) where
       at_ks' ∙ ap (λ l. l ++ more_ks) at_ks ∙ append_assoc keys new_ks more_ks,
       PartitionOf-append xs ys new_us more_us new_ks more_ks part part',
     )
+
+-- the items of lists of lists one after another
+pub joined-append : {T : Type 0} (vs ws : List (Vec T Global)) → joined (vs ++ ws) ≡ joined vs ++ joined ws
+joined-append [] ws = refl
+joined-append (v ∷ vs) ws = ap (λ l. v.items ++ l) (joined-append vs ws) ∙ sym (append_assoc v.items (joined vs) (joined ws))
