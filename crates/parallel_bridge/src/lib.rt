@@ -2,11 +2,29 @@
 #![tactic(auto)]
 
 pub mod bridge;
+pub mod collect;
 pub mod consumer;
+pub mod fallible;
+pub mod folds;
 pub mod law;
+mod loops;
+pub mod maps;
 pub mod parallel;
+pub mod partition;
+pub mod parts;
+pub mod producer;
 pub mod segments;
 pub mod serial;
+pub mod stateful;
+#[cfg(test)]
+mod tests;
+pub mod tries;
 
-pub use consumer::{Consumer, FoldConsumer, MapConsumer, Reducer};
-pub use law::fold_law;
+pub use collect::{CollectConsumer, CollectReducer, ListReducer, ListVecConsumer};
+pub use consumer::{Consumer, Folder, Reducer};
+pub use folds::{FoldConsumer, FoldInitConsumer, ReduceConsumer};
+pub use law::{fold_init_law, fold_law, map_law};
+pub use maps::{MapConsumer, MapInitConsumer, WhileSomeConsumer};
+pub use parts::PartitionConsumer;
+pub use producer::{DrainProducer, LengthSplitter, SliceDrain, Splitter};
+pub use tries::{TryFoldConsumer, TryMapConsumer, TryReduceConsumer};
