@@ -12,6 +12,7 @@ use parallel_fault::Fault;
 use parallel_pool::rayon::install;
 use std::alloc::Global;
 use std::num::NonZeroUsize;
+use std::thread;
 use std::thread::Threads;
 
 /// The items that an iterator gives, in order.
@@ -34,6 +35,25 @@ pub fn count<X>(items: &Vec<X>) -> usize
     ensures { result ≡ length items.now.items }
 {
     items.len()
+}
+
+/// An answer of each of two closures, run side by side on workers of the pool.
+pub fn join_installed<
+    Rt: Threads + Sync,
+    A: FnOnce() -> RA + Send,
+    B: FnOnce() -> RB + Send,
+    RA: Send,
+    RB: Send,
+>(rt: &Rt, a: A, b: B) -> (RA, RB)
+    requires first_runs { A.pre a }
+    requires second_runs { B.pre b }
+    ensures { A.post a result.0 × B.post b result.1 }
+{
+    let both = move || -> (RA, RB)
+        requires { IsSync Rt.row × IsSend A.row × IsSend B.row × IsSend RA.row × IsSend RB.row × A.pre a × B.pre b }
+        ensures { A.post a result.0 × B.post b result.1 }
+    { thread::join(rt, a, b) };
+    install(rt, both)
 }
 
 /// A map in halves, on a worker of the pool.

@@ -1,5 +1,6 @@
-ghost use Rattle.std.specs.Prelude.{◌≡◌, ℕ, List, All, true, IfOk, IfErr};
+ghost use Rattle.std.specs.Prelude.{◌≡◌, ℕ, List, All, true, IfOk, IfErr, OnOk};
 ghost use Rattle.std.specs.Iterator.{IsFinite, Drains, HoldsAlong};
+ghost use Rattle.std.specs.List.Sorted.{IsPermutation, IsSortedByClosure, IsStableByClosure};
 ghost use Rattle.parallel_fault.specs.declared.fault.Fault.TheVariants.{Memory};
 ghost use Rattle.parallel_bridge.specs.Lists.{FoldSegment, MapOf};
 
@@ -9,6 +10,7 @@ use parallel_bridge::serial::{fold_iter, map_iter};
 use parallel_fault::{Fault, Trouble};
 use parallel_policy::Place;
 use std::alloc::Global;
+use std::cmp::Ordering;
 use std::num::NonZeroUsize;
 use std::sync::Wait;
 
@@ -28,6 +30,20 @@ impl Sequential {
         serial: A,
         _parallel: B,
     ) -> R
+        requires { A.pre serial }
+        ensures { A.post serial result }
+    {
+        serial()
+    }
+
+    /// An answer of the serial body, or its error. The parallel one isn't called. Takes no memory.
+    pub fn try_run<P: Place, R, E, A: FnOnce() -> Result<R, E>, B: FnOnce() -> Result<R, E> + Drop>(
+        &self,
+        _site: P,
+        _len: usize,
+        serial: A,
+        _parallel: B,
+    ) -> Result<R, E>
         requires { A.pre serial }
         ensures { A.post serial result }
     {
@@ -72,6 +88,53 @@ impl Sequential {
             × FoldSegment (ID.post identity) (λ a x b. F.post fold_op a x b) xs result }
     {
         fold_iter(iter, &identity, &fold_op)
+    }
+
+    /// An answer of each closure, the first one run first. Takes no memory.
+    pub fn join<P: Place, A: FnOnce() -> RA, B: FnOnce() -> RB, RA, RB>(
+        &self,
+        _site: P,
+        a: A,
+        b: B,
+    ) -> (RA, RB)
+        requires first_runs { A.pre a }
+        requires second_runs { B.pre b }
+        ensures { A.post a result.0 × B.post b result.1 }
+    {
+        (a(), b())
+    }
+
+    /// Sorts the items by a lawful order; items that tie keep their order. The one refusal is
+    /// `Fault::Memory`, of the sort's buffer, and the items are then a permutation of what they were.
+    pub fn sort_by<P: Place, T, C: Fn(&T, &T) -> Ordering>(
+        &self,
+        alloc: Global,
+        _site: P,
+        items: &mut [T],
+        compare: C,
+    ) -> Result<(), Fault>
+        requires { C.IsAlwaysCallable compare }
+        ensures permutation { IsPermutation items.old items.new }
+        ensures sorted { OnOk result (IsSortedByClosure C.FnMut compare items.new) }
+        ensures stable { IsStableByClosure C.FnMut compare items.old items.new }
+        ensures fault { IfErr result (λ fault. fault ≡ Memory) }
+    {
+        items.sort_by(alloc, compare)?;
+        Ok(())
+    }
+
+    /// Sorts the items by a lawful order; items that tie may change places. Takes no memory.
+    pub fn sort_unstable_by<P: Place, T, C: Fn(&T, &T) -> Ordering>(
+        &self,
+        _site: P,
+        items: &mut [T],
+        compare: C,
+    )
+        requires { C.IsAlwaysCallable compare }
+        ensures permutation { IsPermutation items.old items.new }
+        ensures sorted { IsSortedByClosure C.FnMut compare items.new }
+    {
+        items.sort_unstable_by(compare);
     }
 }
 

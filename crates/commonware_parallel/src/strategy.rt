@@ -1,20 +1,22 @@
-ghost use Rattle.std.specs.Prelude.{◌≡◌, ◌≢◌, ℕ, ◌+◌, ◌/◌, ◌<◌, Bool, List, All, IfOk, IfErr, IsTrue, MatchResult, length, max};
+ghost use Rattle.std.specs.Prelude.{◌≡◌, ◌≢◌, ℕ, ◌+◌, ◌/◌, ◌<◌, Bool, List, All, IfOk, IfErr, OnOk, IsTrue, MatchResult, length, max};
 ghost use Rattle.std.specs.Int.NonZero.{non_zero_usize_get};
 ghost use Rattle.std.specs.Iterator.{IsFinite, Drains, HoldsAlong};
+ghost use Rattle.std.specs.List.Sorted.{IsPermutation, IsSortedByClosure, IsStableByClosure};
 ghost use Rattle.parallel_bridge.specs.Lists.{MapOf, FoldSegment, Bracketing};
 ghost use Rattle.parallel_bridge.specs.Shapes.{FoldsAs, cutdepth};
-ghost use Rattle.commonware_parallel.specs.Calls.{batches_call, body_call};
+ghost use Rattle.commonware_parallel.specs.Calls.{batches_call, body_call, join_call};
 ghost use Rattle.commonware_parallel.specs.Answers.{AnswersAs, OneOf};
 ghost use Rattle.commonware_parallel.specs.Batches.{IsBatch, ranges_of};
 ghost use Rattle.parallel_fault.specs.Trouble.{IfFault};
 
 use crate::call::{Call, Kind, Meter};
-use crate::items::{count, fold_installed, gather, map_installed};
+use crate::items::{count, fold_installed, gather, join_installed, map_installed};
 use crate::plan::Batches;
 use parallel_bridge::serial::{fold_iter, fold_serial, map_iter, map_serial};
 use parallel_fault::{Fault, Trouble};
 use parallel_policy::Place;
 use std::alloc::Global;
+use std::cmp::Ordering;
 use std::fmt::Debug;
 use std::num::NonZeroUsize;
 use std::sync::Wait;
@@ -40,7 +42,7 @@ pub trait Strategy: Clone + Send + Sync + Debug + 'static {
     ghost use Rattle.parallel_fault.specs.declared.fault.Fault.{Fault};
     ghost use Rattle.parallel_fault.specs.declared.fault.Fault.TheVariants.{Memory};
     ghost use Rattle.commonware_parallel.specs.declared.call.Call.{Call};
-    ghost use Rattle.commonware_parallel.specs.declared.call.Kind.TheVariants.{Spawn};
+    ghost use Rattle.commonware_parallel.specs.declared.call.Kind.TheVariants.{Body, Spawn};
 
     /// Whether a call at a site may be given a pick.
     ghost takes: { Self → Site → Call → ℕ → Type 0 };
@@ -70,11 +72,10 @@ pub trait Strategy: Clone + Send + Sync + Debug + 'static {
     fn starts_workers(&self) -> bool
         ensures { result ≡ starts self.now };
 
-    /// Whether a body over any number of items may run at pick 0 without the strategy being asked, as
-    /// where it has no other pick and measures nothing. A map or a fold then goes over its iterator as
-    /// it comes.
+    /// Whether any call of the kind `Body` may run at pick 0 without the strategy being asked, as where
+    /// it has no other pick and measures nothing. A list call then goes over its iterator as it comes.
     fn is_serial(&self) -> bool
-        ensures { IsTrue result → (site : Site) (len : ℕ) → takes self.now site (body_call len) 0 }
+        ensures { IsTrue result → (site : Site) (call : Call) → call.kind ≡ Body → takes self.now site call 0 }
     {
         false
     }
@@ -168,6 +169,138 @@ pub trait Strategy: Clone + Send + Sync + Debug + 'static {
             Err(Trouble::Fault(fault)) => Err(fault),
             Err(Trouble::Closure(())) => unreachable!(),
         }
+    }
+
+    /// An answer of one of two bodies that may fail by an error of their own: of the serial one at
+    /// pick 0, of the parallel one at pick 1 (`AnswersAs`, `OneOf`).
+    ///
+    /// `len` is the number of items that the bodies stand for, by which a policy tells calls apart.
+    ///
+    /// # Errors
+    ///
+    /// `Trouble::Closure` with the error of the body that was run. `Trouble::Fault` with
+    /// `Fault::Memory` alone, and only where `refuses` allows it: a strategy without a policy refuses
+    /// no run.
+    final fn try_run<
+        Rt: Wait,
+        P: Place,
+        R,
+        E,
+        A: FnOnce() -> Result<R, E> + Drop,
+        B: FnOnce() -> Result<R, E> + Drop,
+    >(
+        &self,
+        rt: &Rt,
+        alloc: Global,
+        site: P,
+        len: usize,
+        serial: A,
+        parallel: B,
+    ) -> Result<R, Trouble<E>>
+        requires serial_runs { A.pre serial }
+        requires parallel_runs { B.pre parallel }
+        ensures answers { AnswersAs (λ pick. (pick < 2) × takes self.now (P.site_of site) (body_call len) pick) (refuses self.now (P.site_of site) (body_call len)) (λ pick answer. OneOf (A.post serial answer) (B.post parallel answer) pick) result }
+        ensures fault { IfErr result (λ trouble. IfFault trouble (λ fault. fault ≡ Memory)) }
+    {
+        let body = move |pick: usize| -> Result<R, E>
+            requires { A.pre serial × B.pre parallel }
+            ensures { OneOf (A.post serial result) (B.post parallel result) pick }
+        {
+            match pick {
+                0 => serial(),
+                _ => parallel(),
+            }
+        };
+        self.dispatch(rt, alloc, site, Call::body(len), body)
+    }
+
+    /// An answer of each of two closures, which are run one after the other at pick 0, the first one
+    /// first, and side by side on workers at pick 1.
+    ///
+    /// # Errors
+    ///
+    /// `Fault::Memory` alone, and only where `refuses` allows it: `Sequential` and `Rayon` refuse no
+    /// join, whatever is chosen for their other calls.
+    final fn join<
+        Rt: Threads + Wait + Sync,
+        P: Place,
+        A: FnOnce() -> RA + Send + Drop,
+        B: FnOnce() -> RB + Send + Drop,
+        RA: Send + Drop,
+        RB: Send + Drop,
+    >(&self, rt: &Rt, alloc: Global, site: P, a: A, b: B) -> Result<(RA, RB), Fault>
+        requires first_runs { A.pre a }
+        requires second_runs { B.pre b }
+        ensures answers { IfOk result (λ answers. A.post a answers.0 × B.post b answers.1) }
+        ensures refused { IfErr result (refuses self.now (P.site_of site) join_call) }
+        ensures fault { IfErr result (λ fault. fault ≡ Memory) }
+    {
+        let body = move |pick: usize| -> Result<(RA, RB), ()>
+            requires { A.pre a × B.pre b }
+            ensures { MatchResult result (λ answers. A.post a answers.0 × B.post b answers.1) (λ _. ⊥) }
+        {
+            match pick {
+                0 => Ok((a(), b())),
+                _ => Ok(join_installed(rt, a, b)),
+            }
+        };
+        match self.dispatch(rt, alloc, site, Call::join(), body) {
+            Ok(answers) => Ok(answers),
+            Err(Trouble::Fault(fault)) => Err(fault),
+            Err(Trouble::Closure(())) => unreachable!(),
+        }
+    }
+
+    /// Sorts the items by an order, on the caller's thread; items that tie keep their order.
+    ///
+    /// The order has to be lawful: a strict weak order that `compare` answers by. Whatever `compare`
+    /// answers, the items are those that were there before. The strategy is asked as for a body over
+    /// the items, and may measure the sort; both picks run the same one.
+    ///
+    /// # Errors
+    ///
+    /// `Fault::Memory` alone, where the strategy or the sort's buffer was refused memory; the items
+    /// are then a permutation of what they were.
+    final fn sort_by<Rt: Wait, P: Place, T: Send, C: Fn(&T, &T) -> Ordering + Send + Sync + Drop>(
+        &self,
+        rt: &Rt,
+        alloc: Global,
+        site: P,
+        items: &mut [T],
+        compare: C,
+    ) -> Result<(), Fault>
+        requires { C.IsAlwaysCallable compare }
+        ensures permutation { IsPermutation items.old items.new }
+        ensures sorted { OnOk result (IsSortedByClosure C.FnMut compare items.new) }
+        ensures stable { IsStableByClosure C.FnMut compare items.old items.new }
+        ensures fault { IfErr result (λ fault. fault ≡ Memory) }
+    {
+        let (_pick, mut meter) = self.choose(rt, alloc, site, Call::body(items.len()))?;
+        meter.begin();
+        items.sort_by(alloc, compare)?;
+        meter.end(rt);
+        Ok(())
+    }
+
+    /// Sorts the items by an order, on the caller's thread, as `sort_by` does; items that tie may
+    /// change places.
+    ///
+    /// # Errors
+    ///
+    /// `Fault::Memory` alone, where the strategy or the sort's buffer was refused memory; the items
+    /// are then a permutation of what they were.
+    final fn sort_unstable_by<
+        Rt: Wait,
+        P: Place,
+        T: Send,
+        C: Fn(&T, &T) -> Ordering + Send + Sync + Drop,
+    >(&self, rt: &Rt, alloc: Global, site: P, items: &mut [T], compare: C) -> Result<(), Fault>
+        requires { C.IsAlwaysCallable compare }
+        ensures permutation { IsPermutation items.old items.new }
+        ensures sorted { OnOk result (IsSortedByClosure C.FnMut compare items.new) }
+        ensures fault { IfErr result (λ fault. fault ≡ Memory) }
+    {
+        self.sort_by(rt, alloc, site, items, compare)
     }
 
     /// An answer of a body over `len` items that may itself be refused memory: what the list calls
