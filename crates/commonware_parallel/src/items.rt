@@ -1,17 +1,19 @@
-// What the list calls do with their items.
-ghost use Rattle.std.specs.Prelude.{◌≡◌, ℕ, List, IfOk, IfErr, All, MatchResult, length};
+// What the calls of a strategy stand on: items, joins, and bodies that may be refused.
+ghost use Rattle.std.specs.Prelude.{◌≡◌, ◌<◌, ℕ, IfOk, IfErr, length};
 ghost use Rattle.std.specs.Iterator.{IsFinite, Drains};
-ghost use Rattle.std.specs.Int.NonZero.{non_zero_usize_get};
 ghost use Rattle.std.specs.Thread.{IsSend, IsSync};
-ghost use Rattle.parallel_bridge.specs.Lists.{MapOf};
-ghost use Rattle.parallel_bridge.specs.Shapes.{Along, Shape, cutdepth};
+ghost use Rattle.commonware_parallel.specs.Calls.{body_call, multiplied_call};
+ghost use Rattle.commonware_parallel.specs.declared.call.Kind.TheVariants.{Body};
+ghost use Rattle.parallel_fault.specs.declared.fault.Fault.{Fault};
 ghost use Rattle.parallel_fault.specs.declared.fault.Fault.TheVariants.{Memory};
 
-use parallel_bridge::parallel::{fold_parallel, map_parallel};
-use parallel_fault::Fault;
+use crate::call::Call;
+use crate::strategy::Strategy;
+use parallel_fault::{Fault, Trouble};
+use parallel_policy::Place;
 use parallel_pool::rayon::install;
 use std::alloc::Global;
-use std::num::NonZeroUsize;
+use std::sync::Wait;
 use std::thread;
 use std::thread::Threads;
 
@@ -30,11 +32,19 @@ where
     Ok(items)
 }
 
-/// How many items there are.
-pub fn count<X>(items: &Vec<X>) -> usize
-    ensures { result ≡ length items.now.items }
+/// The choice between a serial and a parallel body over the items.
+pub fn body_over<X>(items: &Vec<X>) -> Call
+    ensures { result ≡ body_call (length items.now.items) }
 {
-    items.len()
+    Call::body(items.len())
+}
+
+/// The choice between a serial and a parallel body over items that each stand for the work of
+/// `multiplier`.
+pub fn multiplied_body_over<X>(items: &Vec<X>, multiplier: usize) -> Call
+    ensures { result ≡ multiplied_call (length items.now.items) multiplier }
+{
+    Call::body_with_multiplier(items.len(), multiplier)
 }
 
 /// An answer of each of two closures, run side by side on workers of the pool.
@@ -56,53 +66,26 @@ pub fn join_installed<
     install(rt, both)
 }
 
-/// A map in halves, on a worker of the pool.
-pub fn map_installed<
-    Rt: Threads + Sync,
-    X: Send + Drop,
-    T: Send + Drop,
-    F: Fn(X) -> T + Send + Sync,
->(rt: &Rt, alloc: Global, threads: NonZeroUsize, items: Vec<X>, map_op: &F) -> Result<Vec<T>, Fault>
-    requires accepts { All (F.pre map_op.now) items.items }
-    ensures answers { IfOk result (λ ys. MapOf (F.post map_op.now) items.items ys.items) }
-    ensures fault { IfErr result (λ fault. fault ≡ Memory) }
-{
-    let halves = move || -> Result<Vec<T>, Fault>
-        requires { IsSync Rt.row × IsSync F.row × IsSend X.row × IsSend T.row × All (F.pre map_op.now) items.items }
-        ensures answers { IfOk result (λ ys. MapOf (F.post map_op.entry.now) items.items ys.items) }
-        ensures fault { IfErr result (λ fault. fault ≡ Memory) }
-    { map_parallel(rt, alloc, threads, items, map_op) };
-    install(rt, halves)
-}
-
-/// A fold in halves, on a worker of the pool.
-pub fn fold_installed<
-    Rt: Threads + Sync,
-    X: Send + Drop,
-    R: Send + Drop,
-    ID: Fn() -> R + Send + Sync,
-    F: Fn(R, X) -> R + Send + Sync,
-    G: Fn(R, R) -> R + Send + Sync,
->(
+/// An answer of a body that may itself be refused memory, at a pick that the strategy takes for the
+/// call.
+pub fn dispatch_call<S: Strategy, Rt: Wait, P: Place, R, B: FnOnce(usize) -> Result<R, Fault>>(
+    strategy: &S,
     rt: &Rt,
     alloc: Global,
-    threads: NonZeroUsize,
-    items: Vec<X>,
-    identity: &ID,
-    fold_op: &F,
-    reduce_op: &G,
+    site: P,
+    call: Call,
+    body: B,
 ) -> Result<R, Fault>
-    requires identity_accepts { ID.IsAlwaysCallable identity.now }
-    requires fold_accepts { F.IsAlwaysCallable fold_op.now }
-    requires reduce_accepts { G.IsAlwaysCallable reduce_op.now }
-    ensures along { IfOk result (λ r. Along (ID.post identity.now) (λ a x b. F.post fold_op.now a x b) (λ a b c. G.post reduce_op.now a b c) (Shape (cutdepth (non_zero_usize_get threads)) items.items) r) }
+    requires options { call.options ≡ 2 }
+    requires kind { call.kind ≡ Body }
+    requires accepts { (pick : ℕ) → pick < 2 → S.takes strategy.now (P.site_of site) call pick → B.pre body pick }
+    requires memory { (pick : ℕ) (fault : Fault) → B.post body pick (Err fault) → fault ≡ Memory }
+    ensures answers { IfOk result (λ answer. (pick : ℕ) × (pick < 2) × S.takes strategy.now (P.site_of site) call pick × B.post body pick (Ok answer)) }
     ensures fault { IfErr result (λ fault. fault ≡ Memory) }
 {
-    let halves = move || -> Result<R, Fault>
-        requires { IsSync Rt.row × IsSync ID.row × IsSync F.row × IsSync G.row × IsSend X.row × IsSend R.row
-            × ID.IsAlwaysCallable identity.now × F.IsAlwaysCallable fold_op.now × G.IsAlwaysCallable reduce_op.now }
-        ensures along { IfOk result (λ r. Along (ID.post identity.entry.now) (λ a x b. F.post fold_op.entry.now a x b) (λ a b c. G.post reduce_op.entry.now a b c) (Shape (cutdepth (non_zero_usize_get threads)) items.items) r) }
-        ensures fault { IfErr result (λ fault. fault ≡ Memory) }
-    { fold_parallel(rt, alloc, threads, items, identity, fold_op, reduce_op) };
-    install(rt, halves)
+    match strategy.dispatch(rt, alloc, site, call, body) {
+        Ok(answer) => Ok(answer),
+        Err(Trouble::Closure(fault)) => Err(fault),
+        Err(Trouble::Fault(fault)) => Err(fault),
+    }
 }

@@ -8,6 +8,7 @@
 
 mod call;
 mod items;
+mod pick;
 mod plan;
 mod rayon_strategy;
 mod sequential;

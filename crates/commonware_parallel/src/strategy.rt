@@ -10,9 +10,10 @@ ghost use Rattle.commonware_parallel.specs.Batches.{IsBatch, ranges_of};
 ghost use Rattle.parallel_fault.specs.Trouble.{IfFault};
 
 use crate::call::{Call, Kind, Meter};
-use crate::items::{count, fold_installed, gather, join_installed, map_installed};
+use crate::items::{body_over, dispatch_call, gather, join_installed, multiplied_body_over};
+use crate::pick::{fold_at, map_at};
 use crate::plan::Batches;
-use parallel_bridge::serial::{fold_iter, fold_serial, map_iter, map_serial};
+use parallel_bridge::serial::{fold_iter, map_iter};
 use parallel_fault::{Fault, Trouble};
 use parallel_policy::Place;
 use std::alloc::Global;
@@ -322,11 +323,7 @@ pub trait Strategy: Clone + Send + Sync + Debug + 'static {
         ensures answers { IfOk result (λ answer. (pick : ℕ) × (pick < 2) × takes self.now (P.site_of site) (body_call len) pick × B.post body pick (Ok answer)) }
         ensures fault { IfErr result (λ fault. fault ≡ Memory) }
     {
-        match self.dispatch(rt, alloc, site, Call::body(len), body) {
-            Ok(answer) => Ok(answer),
-            Err(Trouble::Closure(fault)) => Err(fault),
-            Err(Trouble::Fault(fault)) => Err(fault),
-        }
+        dispatch_call(self, rt, alloc, site, Call::body(len), body)
     }
 
     /// The answers of `map_op` for the items, in the items' order (`MapOf`). The closure has to accept
@@ -351,24 +348,50 @@ pub trait Strategy: Clone + Send + Sync + Debug + 'static {
         ensures answers { IfOk result (λ ys. (xs : List I.Item) × Drains I.next_gives iter xs × MapOf (F.post map_op) xs ys.items) }
         ensures fault { IfErr result (λ fault. fault ≡ Memory) }
     {
+        self.map_collect_vec_with_multiplier(rt, alloc, site, iter, 1, map_op)
+    }
+
+    /// As `map_collect_vec`, for items that each stand for the work of `multiplier`: a policy tells
+    /// calls apart by `len * multiplier`, which stops at the greatest `usize`.
+    ///
+    /// # Errors
+    ///
+    /// `Fault::Memory` alone, as there.
+    final fn map_collect_vec_with_multiplier<
+        Rt: Threads + Wait + Sync,
+        P: Place,
+        I: Iterator,
+        T: Send + Drop,
+        F: Fn(I::Item) -> T + Send + Sync + Drop,
+    >(
+        &self,
+        rt: &Rt,
+        alloc: Global,
+        site: P,
+        iter: I,
+        multiplier: usize,
+        map_op: F,
+    ) -> Result<Vec<T>, Fault>
+    where
+        I::Item: Send + Drop,
+        requires can { I.can_next iter }
+        requires ends { IsFinite (I.remaining iter) }
+        requires accepts { HoldsAlong I.next_gives iter (All (F.pre map_op)) }
+        ensures answers { IfOk result (λ ys. (xs : List I.Item) × Drains I.next_gives iter xs × MapOf (F.post map_op) xs ys.items) }
+        ensures fault { IfErr result (λ fault. fault ≡ Memory) }
+    {
         if self.is_serial() {
             return map_iter(alloc, iter, map_op);
         }
         let items = gather(alloc, iter)?;
-        let len = count(&items);
+        let call = multiplied_body_over(&items, multiplier);
         let threads = self.thread_number();
         let body = move |pick: usize| -> Result<Vec<T>, Fault>
             requires { All (F.pre map_op) items.items }
             ensures answers { IfOk result (λ ys. MapOf (F.post map_op) items.items ys.items) }
             ensures fault { IfErr result (λ fault. fault ≡ Memory) }
-        {
-            if pick == 0 {
-                map_serial(alloc, items, &map_op)
-            } else {
-                map_installed(rt, alloc, threads, items, &map_op)
-            }
-        };
-        self.dispatch_body(rt, alloc, site, len, body)
+        { map_at(rt, alloc, threads, pick, items, &map_op) };
+        dispatch_call(self, rt, alloc, site, call, body)
     }
 
     /// The items folded in neighbouring segments, each from an identity of its own, and the segments'
@@ -418,20 +441,18 @@ pub trait Strategy: Clone + Send + Sync + Debug + 'static {
             return Ok(fold_iter(iter, &identity, &fold_op));
         }
         let items = gather(alloc, iter)?;
-        let len = count(&items);
+        let call = body_over(&items);
         let threads = self.thread_number();
         let body = move |pick: usize| -> Result<R, Fault>
             requires { ID.IsAlwaysCallable identity × F.IsAlwaysCallable fold_op × G.IsAlwaysCallable reduce_op }
             ensures along { IfOk result (λ r. FoldsAs (ID.post identity) (FoldSegment (ID.post identity) (λ a x b. F.post fold_op a x b)) (λ a b c. G.post reduce_op a b c) (cutdepth (non_zero_usize_get threads)) pick items.items r) }
             ensures fault { IfErr result (λ fault. fault ≡ Memory) }
         {
-            if pick == 0 {
-                Ok(fold_serial(items, &identity, &fold_op))
-            } else {
-                fold_installed(rt, alloc, threads, items, &identity, &fold_op, &reduce_op)
-            }
+            fold_at(
+                rt, alloc, threads, pick, items, &identity, &fold_op, &reduce_op,
+            )
         };
-        let answer = self.dispatch_body(rt, alloc, site, len, body)?;
+        let answer = dispatch_call(self, rt, alloc, site, call, body)?;
         Ok(answer)
     }
 
