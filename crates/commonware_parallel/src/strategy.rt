@@ -1,17 +1,25 @@
 ghost use Rattle.std.specs.Prelude.{◌≡◌, ◌≢◌, ℕ, ◌+◌, ◌/◌, ◌<◌, Bool, List, All, IfOk, IfErr, OnOk, IsTrue, MatchResult, length, max};
+ghost use Rattle.std.specs.Borrow.{MutBor};
 ghost use Rattle.std.specs.Int.NonZero.{non_zero_usize_get};
 ghost use Rattle.std.specs.Iterator.{IsFinite, Drains, HoldsAlong};
 ghost use Rattle.std.specs.List.Sorted.{IsPermutation, IsSortedByClosure, IsStableByClosure};
 ghost use Rattle.parallel_bridge.specs.Lists.{MapOf, FoldSegment, Bracketing};
+ghost use Rattle.parallel_bridge.specs.Outcomes.{UnlessRefused, listed};
+ghost use Rattle.parallel_bridge.specs.Parts.{PartitionOf};
 ghost use Rattle.parallel_bridge.specs.Shapes.{FoldsAs, cutdepth};
-ghost use Rattle.commonware_parallel.specs.Calls.{batches_call, body_call, join_call};
+ghost use Rattle.parallel_bridge.specs.States.{MapStep, Stateful, StatesAs};
+ghost use Rattle.parallel_bridge.specs.Tries.{TryBracketing, TryFoldSegment, TryFoldsAs, TryMapOf};
+ghost use Rattle.commonware_parallel.specs.Calls.{batches_call, body_call, join_call, multiplied_call};
 ghost use Rattle.commonware_parallel.specs.Answers.{AnswersAs, OneOf};
 ghost use Rattle.commonware_parallel.specs.Batches.{IsBatch, ranges_of};
 ghost use Rattle.parallel_fault.specs.Trouble.{IfFault};
 
 use crate::call::{Call, Kind, Meter};
-use crate::items::{body_over, dispatch_call, gather, join_installed, multiplied_body_over};
-use crate::pick::{fold_at, map_at};
+use crate::items::{
+    body_over, dispatch_call, dispatch_fallible, gather, join_installed, map_init_through,
+    multiplied_body_over,
+};
+use crate::pick::{fold_at, map_at, partition_at, try_fold_at, try_map_at};
 use crate::plan::Batches;
 use parallel_bridge::serial::{fold_iter, map_iter};
 use parallel_fault::{Fault, Trouble};
@@ -454,6 +462,213 @@ pub trait Strategy: Clone + Send + Sync + Debug + 'static {
         };
         let answer = dispatch_call(self, rt, alloc, site, call, body)?;
         Ok(answer)
+    }
+
+    /// The items folded up to the first step that fails, in neighbouring segments, each from an
+    /// identity of its own, and the segments' values reduced, left before right (`TryBracketing`).
+    ///
+    /// A segment ends at its own first error, and of several the leftmost is answered, whichever
+    /// segment ended first. The forms of the segments are those of `fold` (`TryFoldsAs`).
+    ///
+    /// # Errors
+    ///
+    /// `Trouble::Closure` with the error of the step that failed. `Trouble::Fault` with `Fault::Memory`
+    /// alone. The items are then gone.
+    final fn try_fold<
+        Rt: Threads + Wait + Sync,
+        P: Place,
+        I: Iterator,
+        R: Send + Drop,
+        E: Send + Drop,
+        ID: Fn() -> R + Send + Sync + Drop,
+        F: Fn(R, I::Item) -> Result<R, E> + Send + Sync + Drop,
+        G: Fn(R, R) -> R + Send + Sync + Drop,
+    >(
+        &self,
+        rt: &Rt,
+        alloc: Global,
+        site: P,
+        iter: I,
+        identity: ID,
+        fold_op: F,
+        reduce_op: G,
+    ) -> Result<R, Trouble<E>>
+    where
+        I::Item: Send + Drop,
+        requires can { I.can_next iter }
+        requires ends { IsFinite (I.remaining iter) }
+        requires identity_accepts { ID.IsAlwaysCallable identity }
+        requires fold_accepts { F.IsAlwaysCallable fold_op }
+        requires reduce_accepts { G.IsAlwaysCallable reduce_op }
+        ensures brackets { UnlessRefused result (λ outcome. (xs : List I.Item) × Drains I.next_gives iter xs
+            × TryBracketing (ID.post identity) (λ a x b. F.post fold_op a x b) (λ a b c. G.post reduce_op a b c) xs outcome) }
+        ensures along { UnlessRefused result (λ outcome. (xs : List I.Item) × Drains I.next_gives iter xs × (pick : ℕ) × (pick < 2)
+            × takes self.now (P.site_of site) (body_call (length xs)) pick
+            × TryFoldsAs (ID.post identity) (TryFoldSegment (ID.post identity) (λ a x b. F.post fold_op a x b)) (λ a b c. G.post reduce_op a b c) (cutdepth (threads self.now)) pick xs outcome) }
+        ensures fault { IfErr result (λ trouble. IfFault trouble (λ fault. fault ≡ Memory)) }
+    {
+        let items = gather(alloc, iter)?;
+        let call = body_over(&items);
+        let threads = self.thread_number();
+        let body = move |pick: usize| -> Result<R, Trouble<E>>
+            requires { ID.IsAlwaysCallable identity × F.IsAlwaysCallable fold_op × G.IsAlwaysCallable reduce_op }
+            ensures brackets { UnlessRefused result (TryBracketing (ID.post identity) (λ a x b. F.post fold_op a x b) (λ a b c. G.post reduce_op a b c) items.items) }
+            ensures along { UnlessRefused result (TryFoldsAs (ID.post identity) (TryFoldSegment (ID.post identity) (λ a x b. F.post fold_op a x b)) (λ a b c. G.post reduce_op a b c) (cutdepth (non_zero_usize_get threads)) pick items.items) }
+        {
+            try_fold_at(
+                rt, alloc, threads, pick, items, &identity, &fold_op, &reduce_op,
+            )
+        };
+        dispatch_fallible(self, rt, alloc, site, call, body)
+    }
+
+    /// The values that `map_op` answers for the items, in the items' order, or the error of the first
+    /// item that fails, whichever part of the list ended first (`TryMapOf`). The closure has to accept
+    /// each item that the iterator gives, and no other value.
+    ///
+    /// # Errors
+    ///
+    /// `Trouble::Closure` with the first failing item's error. `Trouble::Fault` with `Fault::Memory`
+    /// alone. The items are then gone.
+    final fn try_map_collect_vec<
+        Rt: Threads + Wait + Sync,
+        P: Place,
+        I: Iterator,
+        T: Send + Drop,
+        E: Send + Drop,
+        F: Fn(I::Item) -> Result<T, E> + Send + Sync + Drop,
+    >(&self, rt: &Rt, alloc: Global, site: P, iter: I, map_op: F) -> Result<Vec<T>, Trouble<E>>
+    where
+        I::Item: Send + Drop,
+        requires can { I.can_next iter }
+        requires ends { IsFinite (I.remaining iter) }
+        requires accepts { HoldsAlong I.next_gives iter (All (F.pre map_op)) }
+        ensures answers { UnlessRefused result (λ outcome. (xs : List I.Item) × Drains I.next_gives iter xs × TryMapOf (F.post map_op) xs (listed outcome)) }
+        ensures fault { IfErr result (λ trouble. IfFault trouble (λ fault. fault ≡ Memory)) }
+    {
+        let items = gather(alloc, iter)?;
+        let call = body_over(&items);
+        let threads = self.thread_number();
+        let body = move |pick: usize| -> Result<Vec<T>, Trouble<E>>
+            requires { All (F.pre map_op) items.items }
+            ensures { UnlessRefused result (λ outcome. TryMapOf (F.post map_op) items.items (listed outcome)) }
+        { try_map_at(rt, alloc, threads, pick, items, &map_op) };
+        dispatch_fallible(self, rt, alloc, site, call, body)
+    }
+
+    /// The answers of `map_op` for the items, in the items' order, with a state at hand that goes from
+    /// item to item of a segment and begins there as a value of `init` (`Stateful`).
+    ///
+    /// At pick 0 the list is one segment with one state. At pick 1 the states change at the segments
+    /// of the list's shape for the pool's thread number (`StatesAs`). The closure has to accept each
+    /// item that the iterator gives, at every state.
+    ///
+    /// # Errors
+    ///
+    /// `Fault::Memory` alone; the items are then gone.
+    final fn map_init_collect_vec<
+        Rt: Threads + Wait + Sync,
+        P: Place,
+        I: Iterator,
+        S: Send + Drop,
+        T: Send + Drop,
+        N: Fn() -> S + Send + Sync + Drop,
+        F: Fn(&mut S, I::Item) -> T + Send + Sync + Drop,
+    >(&self, rt: &Rt, alloc: Global, site: P, iter: I, init: N, map_op: F) -> Result<Vec<T>, Fault>
+    where
+        I::Item: Send + Drop,
+        requires can { I.can_next iter }
+        requires ends { IsFinite (I.remaining iter) }
+        requires init_accepts { N.IsAlwaysCallable init }
+        requires map_accepts { HoldsAlong I.next_gives iter (All (λ x. (state : MutBor S) → F.pre map_op state x)) }
+        ensures stateful { IfOk result (λ ys. (xs : List I.Item) × Drains I.next_gives iter xs
+            × Stateful (N.post init) (MapStep (λ p x y q. F.post map_op p x y q)) xs ys.items) }
+        ensures along { IfOk result (λ ys. (xs : List I.Item) × Drains I.next_gives iter xs × (pick : ℕ) × (pick < 2)
+            × takes self.now (P.site_of site) (body_call (length xs)) pick
+            × StatesAs (N.post init) (MapStep (λ p x y q. F.post map_op p x y q)) (cutdepth (threads self.now)) pick xs ys.items) }
+        ensures fault { IfErr result (λ fault. fault ≡ Memory) }
+    {
+        let items = gather(alloc, iter)?;
+        let call = body_over(&items);
+        let answers = map_init_through(self, rt, alloc, site, call, items, &init, &map_op)?;
+        Ok(answers)
+    }
+
+    /// As `map_init_collect_vec`, for items that each stand for the work of `multiplier`: a policy
+    /// tells calls apart by `len * multiplier`, which stops at the greatest `usize`.
+    ///
+    /// # Errors
+    ///
+    /// `Fault::Memory` alone; the items are then gone.
+    final fn map_init_collect_vec_with_multiplier<
+        Rt: Threads + Wait + Sync,
+        P: Place,
+        I: Iterator,
+        S: Send + Drop,
+        T: Send + Drop,
+        N: Fn() -> S + Send + Sync + Drop,
+        F: Fn(&mut S, I::Item) -> T + Send + Sync + Drop,
+    >(
+        &self,
+        rt: &Rt,
+        alloc: Global,
+        site: P,
+        iter: I,
+        multiplier: usize,
+        init: N,
+        map_op: F,
+    ) -> Result<Vec<T>, Fault>
+    where
+        I::Item: Send + Drop,
+        requires can { I.can_next iter }
+        requires ends { IsFinite (I.remaining iter) }
+        requires init_accepts { N.IsAlwaysCallable init }
+        requires map_accepts { HoldsAlong I.next_gives iter (All (λ x. (state : MutBor S) → F.pre map_op state x)) }
+        ensures stateful { IfOk result (λ ys. (xs : List I.Item) × Drains I.next_gives iter xs
+            × Stateful (N.post init) (MapStep (λ p x y q. F.post map_op p x y q)) xs ys.items) }
+        ensures along { IfOk result (λ ys. (xs : List I.Item) × Drains I.next_gives iter xs × (pick : ℕ) × (pick < 2)
+            × takes self.now (P.site_of site) (multiplied_call (length xs) multiplier) pick
+            × StatesAs (N.post init) (MapStep (λ p x y q. F.post map_op p x y q)) (cutdepth (threads self.now)) pick xs ys.items) }
+        ensures fault { IfErr result (λ fault. fault ≡ Memory) }
+    {
+        let items = gather(alloc, iter)?;
+        let call = multiplied_body_over(&items, multiplier);
+        let answers = map_init_through(self, rt, alloc, site, call, items, &init, &map_op)?;
+        Ok(answers)
+    }
+
+    /// The values that `map_op` answers, and the keys of the items for which it answers none, both in
+    /// the items' order (`PartitionOf`). The closure has to accept each item that the iterator gives,
+    /// and no other value.
+    ///
+    /// # Errors
+    ///
+    /// `Fault::Memory` alone; the items are then gone.
+    final fn map_partition_collect_vec<
+        Rt: Threads + Wait + Sync,
+        P: Place,
+        I: Iterator,
+        K: Send + Drop,
+        U: Send + Drop,
+        F: Fn(I::Item) -> (K, Option<U>) + Send + Sync + Drop,
+    >(&self, rt: &Rt, alloc: Global, site: P, iter: I, map_op: F) -> Result<(Vec<U>, Vec<K>), Fault>
+    where
+        I::Item: Send + Drop,
+        requires can { I.can_next iter }
+        requires ends { IsFinite (I.remaining iter) }
+        requires accepts { HoldsAlong I.next_gives iter (All (F.pre map_op)) }
+        ensures answers { IfOk result (λ parts. (xs : List I.Item) × Drains I.next_gives iter xs × PartitionOf (F.post map_op) xs parts.0.items parts.1.items) }
+        ensures fault { IfErr result (λ fault. fault ≡ Memory) }
+    {
+        let items = gather(alloc, iter)?;
+        let call = body_over(&items);
+        let threads = self.thread_number();
+        let body = move |pick: usize| -> Result<(Vec<U>, Vec<K>), Fault>
+            requires { All (F.pre map_op) items.items }
+            ensures answers { IfOk result (λ parts. PartitionOf (F.post map_op) items.items parts.0.items parts.1.items) }
+            ensures fault { IfErr result (λ fault. fault ≡ Memory) }
+        { partition_at(rt, alloc, threads, pick, items, &map_op) };
+        dispatch_call(self, rt, alloc, site, call, body)
     }
 
     /// An answer of `run` over a batch of `0..len`: balanced ranges, as many as the pick says and one
