@@ -4,11 +4,11 @@ ghost use Rattle.std.specs.Prelude.{◌≡◌, List, IfOk, IfErr, All};
 ghost use Rattle.std.specs.Borrow.{MutBor};
 ghost use Rattle.std.specs.Int.NonZero.{non_zero_usize_get};
 ghost use Rattle.std.specs.Thread.{IsSend, IsSync};
-ghost use Rattle.parallel_bridge.specs.Lists.{MapOf, FoldSegment};
+ghost use Rattle.parallel_bridge.specs.Lists.{Brackets, FoldSegment, MapOf};
 ghost use Rattle.parallel_bridge.specs.Outcomes.{UnlessRefused, listed};
 ghost use Rattle.parallel_bridge.specs.Parts.{PartitionOf};
-ghost use Rattle.parallel_bridge.specs.Shapes.{Along, FoldsAs, Shape, cutdepth};
-ghost use Rattle.parallel_bridge.specs.States.{MapStep, Stateful, StatesAlong, StatesAs};
+ghost use Rattle.parallel_bridge.specs.Shapes.{Along, AlongLeaves, FoldsAs, Shape, cutdepth};
+ghost use Rattle.parallel_bridge.specs.States.{FoldInitSegment, FoldStep, MapStep, Stateful, StatesAlong, StatesAs};
 ghost use Rattle.parallel_bridge.specs.Tries.{TryAlong, TryBracketing, TryFoldSegment, TryFoldsAs, TryMapOf};
 ghost use Rattle.parallel_fault.specs.declared.fault.Fault.TheVariants.{Memory};
 
@@ -18,7 +18,9 @@ use parallel_bridge::fallible::{
 use parallel_bridge::parallel::{fold_parallel, map_parallel};
 use parallel_bridge::partition::{partition_parallel, partition_serial};
 use parallel_bridge::serial::{fold_serial, map_serial};
-use parallel_bridge::stateful::{map_init_parallel, map_init_serial};
+use parallel_bridge::stateful::{
+    fold_init_parallel, fold_init_serial, map_init_parallel, map_init_serial,
+};
 use parallel_fault::{Fault, Trouble};
 use parallel_pool::rayon::install;
 use std::alloc::Global;
@@ -82,6 +84,52 @@ pub fn fold_at<
         ensures along { IfOk result (λ r. Along (ID.post identity.entry.now) (λ a x b. F.post fold_op.entry.now a x b) (λ a b c. G.post reduce_op.entry.now a b c) (Shape (cutdepth (non_zero_usize_get threads)) items.items) r) }
         ensures fault { IfErr result (λ fault. fault ≡ Memory) }
     { fold_parallel(rt, alloc, threads, items, identity, fold_op, reduce_op) };
+    install(rt, halves)
+}
+
+/// A fold with a state at hand.
+pub fn fold_init_at<
+    Rt: Threads + Sync,
+    X: Send + Drop,
+    S: Send + Drop,
+    R: Send + Drop,
+    N: Fn() -> S + Send + Sync,
+    ID: Fn() -> R + Send + Sync,
+    F: Fn(R, &mut S, X) -> R + Send + Sync,
+    G: Fn(R, R) -> R + Send + Sync,
+>(
+    rt: &Rt,
+    alloc: Global,
+    threads: NonZeroUsize,
+    pick: usize,
+    items: Vec<X>,
+    init: &N,
+    identity: &ID,
+    fold_op: &F,
+    reduce_op: &G,
+) -> Result<R, Fault>
+    requires init_accepts { N.IsAlwaysCallable init.now }
+    requires identity_accepts { ID.IsAlwaysCallable identity.now }
+    requires fold_accepts { F.IsAlwaysCallable fold_op.now }
+    requires reduce_accepts { G.IsAlwaysCallable reduce_op.now }
+    ensures brackets { IfOk result (λ r. Brackets (FoldInitSegment (N.post init.now) (ID.post identity.now) (FoldStep (λ a p x b q. F.post fold_op.now a p x b q))) (λ a b c. G.post reduce_op.now a b c) items.items r) }
+    ensures along { IfOk result (λ r. FoldsAs (ID.post identity.now) (FoldInitSegment (N.post init.now) (ID.post identity.now) (FoldStep (λ a p x b q. F.post fold_op.now a p x b q))) (λ a b c. G.post reduce_op.now a b c) (cutdepth (non_zero_usize_get threads)) pick items.items r) }
+    ensures fault { IfErr result (λ fault. fault ≡ Memory) }
+{
+    if pick == 0 {
+        return Ok(fold_init_serial(items, init, identity, fold_op));
+    }
+    let halves = move || -> Result<R, Fault>
+        requires { IsSync Rt.row × IsSync N.row × IsSync ID.row × IsSync F.row × IsSync G.row × IsSend X.row × IsSend S.row × IsSend R.row
+            × N.IsAlwaysCallable init.now × ID.IsAlwaysCallable identity.now × F.IsAlwaysCallable fold_op.now × G.IsAlwaysCallable reduce_op.now }
+        ensures brackets { IfOk result (λ r. Brackets (FoldInitSegment (N.post init.entry.now) (ID.post identity.entry.now) (FoldStep (λ a p x b q. F.post fold_op.entry.now a p x b q))) (λ a b c. G.post reduce_op.entry.now a b c) items.items r) }
+        ensures along { IfOk result (λ r. AlongLeaves (ID.post identity.entry.now) (FoldInitSegment (N.post init.entry.now) (ID.post identity.entry.now) (FoldStep (λ a p x b q. F.post fold_op.entry.now a p x b q))) (λ a b c. G.post reduce_op.entry.now a b c) (Shape (cutdepth (non_zero_usize_get threads)) items.items) r) }
+        ensures fault { IfErr result (λ fault. fault ≡ Memory) }
+    {
+        fold_init_parallel(
+            rt, alloc, threads, items, init, identity, fold_op, reduce_op,
+        )
+    };
     install(rt, halves)
 }
 

@@ -7,7 +7,7 @@ ghost use Rattle.parallel_fault.specs.Trouble.{IfFault};
 ghost use Rattle.parallel_bridge.specs.Lists.{FoldSegment, MapOf};
 ghost use Rattle.parallel_bridge.specs.Outcomes.{UnlessRefused, listed};
 ghost use Rattle.parallel_bridge.specs.Parts.{PartitionOf};
-ghost use Rattle.parallel_bridge.specs.States.{MapStep, StateSegment};
+ghost use Rattle.parallel_bridge.specs.States.{FoldInitSegment, FoldStep, MapStep, StateSegment};
 ghost use Rattle.parallel_bridge.specs.Tries.{TryFoldSegment, TryMapOf};
 
 use crate::call::{Call, Unmeasured};
@@ -16,7 +16,7 @@ use crate::strategy::Strategy;
 use parallel_bridge::fallible::{try_fold_serial, try_map_serial};
 use parallel_bridge::partition::partition_serial;
 use parallel_bridge::serial::{fold_iter, map_iter};
-use parallel_bridge::stateful::map_init_serial;
+use parallel_bridge::stateful::{fold_init_iter, map_init_serial};
 use parallel_fault::{Fault, Trouble};
 use parallel_policy::Place;
 use std::alloc::Global;
@@ -123,6 +123,30 @@ impl Sequential {
             × FoldSegment (ID.post identity) (λ a x b. F.post fold_op a x b) xs result }
     {
         fold_iter(iter, &identity, &fold_op)
+    }
+
+    /// The items folded from an identity as they come, from left to right, in one segment with one
+    /// state at hand that `init` makes and that goes from item to item (`FoldInitSegment`). Nothing is
+    /// gathered and nothing is reduced, so it takes no memory.
+    pub fn fold_init<
+        P: Place,
+        I: Iterator,
+        S: Drop,
+        R: Drop,
+        N: Fn() -> S + Drop,
+        ID: Fn() -> R + Drop,
+        F: Fn(R, &mut S, I::Item) -> R + Drop,
+        G: Fn(R, R) -> R + Drop,
+    >(&self, _site: P, iter: I, init: N, identity: ID, fold_op: F, _reduce_op: G) -> R
+        requires can { I.can_next iter }
+        requires ends { IsFinite (I.remaining iter) }
+        requires init_accepts { N.IsAlwaysCallable init }
+        requires identity_accepts { ID.IsAlwaysCallable identity }
+        requires fold_accepts { F.IsAlwaysCallable fold_op }
+        ensures { (xs : List I.Item) × Drains I.next_gives iter xs
+            × FoldInitSegment (N.post init) (ID.post identity) (FoldStep (λ a p x b q. F.post fold_op a p x b q)) xs result }
+    {
+        fold_init_iter(iter, &init, &identity, &fold_op)
     }
 
     /// The items folded from an identity, in their order, up to the first step that fails, in one

@@ -3,11 +3,11 @@ ghost use Rattle.std.specs.Borrow.{MutBor};
 ghost use Rattle.std.specs.Int.NonZero.{non_zero_usize_get};
 ghost use Rattle.std.specs.Iterator.{IsFinite, Drains, HoldsAlong};
 ghost use Rattle.std.specs.List.Sorted.{IsPermutation, IsSortedByClosure, IsStableByClosure};
-ghost use Rattle.parallel_bridge.specs.Lists.{MapOf, FoldSegment, Bracketing};
+ghost use Rattle.parallel_bridge.specs.Lists.{Bracketing, Brackets, FoldSegment, MapOf};
 ghost use Rattle.parallel_bridge.specs.Outcomes.{UnlessRefused, listed};
 ghost use Rattle.parallel_bridge.specs.Parts.{PartitionOf};
 ghost use Rattle.parallel_bridge.specs.Shapes.{FoldsAs, cutdepth};
-ghost use Rattle.parallel_bridge.specs.States.{MapStep, Stateful, StatesAs};
+ghost use Rattle.parallel_bridge.specs.States.{FoldInitSegment, FoldStep, MapStep, Stateful, StatesAs};
 ghost use Rattle.parallel_bridge.specs.Tries.{TryBracketing, TryFoldSegment, TryFoldsAs, TryMapOf};
 ghost use Rattle.commonware_parallel.specs.Calls.{batches_call, body_call, join_call, multiplied_call};
 ghost use Rattle.commonware_parallel.specs.Answers.{AnswersAs, OneOf};
@@ -19,9 +19,10 @@ use crate::items::{
     body_over, dispatch_call, dispatch_fallible, gather, join_installed, map_init_through,
     multiplied_body_over,
 };
-use crate::pick::{fold_at, map_at, partition_at, try_fold_at, try_map_at};
+use crate::pick::{fold_at, fold_init_at, map_at, partition_at, try_fold_at, try_map_at};
 use crate::plan::Batches;
 use parallel_bridge::serial::{fold_iter, map_iter};
+use parallel_bridge::stateful::fold_init_iter;
 use parallel_fault::{Fault, Trouble};
 use parallel_policy::Place;
 use std::alloc::Global;
@@ -458,6 +459,68 @@ pub trait Strategy: Clone + Send + Sync + Debug + 'static {
         {
             fold_at(
                 rt, alloc, threads, pick, items, &identity, &fold_op, &reduce_op,
+            )
+        };
+        let answer = dispatch_call(self, rt, alloc, site, call, body)?;
+        Ok(answer)
+    }
+
+    /// The items folded as by `fold`, with a state at hand that goes from item to item of a segment and
+    /// begins there as a value of `init` (`FoldInitSegment`).
+    ///
+    /// # Errors
+    ///
+    /// `Fault::Memory` alone; the items are then gone.
+    final fn fold_init<
+        Rt: Threads + Wait + Sync,
+        P: Place,
+        I: Iterator,
+        S: Send + Drop,
+        R: Send + Drop,
+        N: Fn() -> S + Send + Sync + Drop,
+        ID: Fn() -> R + Send + Sync + Drop,
+        F: Fn(R, &mut S, I::Item) -> R + Send + Sync + Drop,
+        G: Fn(R, R) -> R + Send + Sync + Drop,
+    >(
+        &self,
+        rt: &Rt,
+        alloc: Global,
+        site: P,
+        iter: I,
+        init: N,
+        identity: ID,
+        fold_op: F,
+        reduce_op: G,
+    ) -> Result<R, Fault>
+    where
+        I::Item: Send + Drop,
+        requires can { I.can_next iter }
+        requires ends { IsFinite (I.remaining iter) }
+        requires init_accepts { N.IsAlwaysCallable init }
+        requires identity_accepts { ID.IsAlwaysCallable identity }
+        requires fold_accepts { F.IsAlwaysCallable fold_op }
+        requires reduce_accepts { G.IsAlwaysCallable reduce_op }
+        ensures brackets { IfOk result (λ r. (xs : List I.Item) × Drains I.next_gives iter xs
+            × Brackets (FoldInitSegment (N.post init) (ID.post identity) (FoldStep (λ a p x b q. F.post fold_op a p x b q))) (λ a b c. G.post reduce_op a b c) xs r) }
+        ensures along { IfOk result (λ r. (xs : List I.Item) × Drains I.next_gives iter xs × (pick : ℕ) × (pick < 2)
+            × takes self.now (P.site_of site) (body_call (length xs)) pick
+            × FoldsAs (ID.post identity) (FoldInitSegment (N.post init) (ID.post identity) (FoldStep (λ a p x b q. F.post fold_op a p x b q))) (λ a b c. G.post reduce_op a b c) (cutdepth (threads self.now)) pick xs r) }
+        ensures fault { IfErr result (λ fault. fault ≡ Memory) }
+    {
+        if self.is_serial() {
+            return Ok(fold_init_iter(iter, &init, &identity, &fold_op));
+        }
+        let items = gather(alloc, iter)?;
+        let call = body_over(&items);
+        let threads = self.thread_number();
+        let body = move |pick: usize| -> Result<R, Fault>
+            requires { N.IsAlwaysCallable init × ID.IsAlwaysCallable identity × F.IsAlwaysCallable fold_op × G.IsAlwaysCallable reduce_op }
+            ensures brackets { IfOk result (λ r. Brackets (FoldInitSegment (N.post init) (ID.post identity) (FoldStep (λ a p x b q. F.post fold_op a p x b q))) (λ a b c. G.post reduce_op a b c) items.items r) }
+            ensures along { IfOk result (λ r. FoldsAs (ID.post identity) (FoldInitSegment (N.post init) (ID.post identity) (FoldStep (λ a p x b q. F.post fold_op a p x b q))) (λ a b c. G.post reduce_op a b c) (cutdepth (non_zero_usize_get threads)) pick items.items r) }
+            ensures fault { IfErr result (λ fault. fault ≡ Memory) }
+        {
+            fold_init_at(
+                rt, alloc, threads, pick, items, &init, &identity, &fold_op, &reduce_op,
             )
         };
         let answer = dispatch_call(self, rt, alloc, site, call, body)?;
