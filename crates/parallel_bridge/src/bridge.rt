@@ -78,7 +78,7 @@ fn drive<Rt: Threads + Sync, T: Send + Drop, C: Consumer<T> + Send>(
 ) -> Result<C::Result, Trouble<C::Error>>
     requires ready { C.ready consumer }
     requires items { All (λ x. C.takes consumer x) items.items }
-    ensures along { UnlessRefused result (TryAlongCut (C.leaf_gives consumer) (C.node_gives consumer) (Shape depth items.items)) }
+    ensures { UnlessRefused result (TryAlongCut (C.leaf_gives consumer) (C.node_gives consumer) (Shape depth items.items)) }
 {
     if depth == 0 || items.len() < 2 {
         return fold_segment(alloc, items, consumer);
@@ -98,5 +98,13 @@ fn drive<Rt: Threads + Sync, T: Send + Drop, C: Consumer<T> + Send>(
             ensures { UnlessRefused result (TryAlongCut (C.leaf_gives right) (C.node_gives right) (Shape (depth - 1) back.items)) }
         { drive(rt, alloc, depth - 1, back, right) },
     );
-    reducer.reduce(first?, second?)
+    let first = match first {
+        Ok(answer) => answer,
+        Err(trouble) => return Err(trouble),
+    };
+    let second = match second {
+        Ok(answer) => answer,
+        Err(trouble) => return Err(trouble),
+    };
+    reducer.reduce(first, second)
 }

@@ -47,17 +47,7 @@ pub trait Folder<Item: Drop, R, E>: Sized + Drop {
         ensures ready { IfOk result (λ f. ready f) }
         ensures takes { IfOk result (λ f. (x : Item) → takes self x → takes f x) }
         ensures gives { IfOk result (λ f. (xs : List Item) (out : Result R E) → gives f xs out → gives self (items.items ++ xs) out) }
-        ensures fault { IsMemoryOnErr result }
-    {
-        let mut folder = self;
-        for item in items {
-            if folder.full() {
-                break;
-            }
-            folder = folder.consume(alloc, item)?;
-        }
-        Ok(folder)
-    }
+        ensures fault { IsMemoryOnErr result };
 
     /// The answer, or the error that a closure answered for one of the items.
     fn complete(self, alloc: Global) -> Result<R, Trouble<E>>

@@ -1,6 +1,7 @@
 //! Consumers that fold the items of each segment, and reduce the results.
 ghost use Rattle.std.specs.Prelude.{◌≡◌, ◌++◌, ◌∷◌, [], Err, IfOk, List, Ok, Result};
 ghost use Rattle.std.specs.List.{All};
+ghost use Rattle.std.specs.declared.convert.Infallible.{Infallible};
 ghost use Rattle.parallel_fault.specs.Trouble.{IsMemoryOnErr};
 ghost use Rattle.parallel_bridge.specs.Lists.{Chain, FoldSegment};
 ghost use Rattle.parallel_bridge.specs.States.{FoldStep, StateChain, FoldInitSegment};
@@ -302,6 +303,21 @@ impl<'r, T: Drop, G: Fn(T, T) -> T> Folder<T, T, Infallible> for ReduceFolder<'r
 
     fn consume(self, _alloc: Global, item: T) -> Result<Self, Fault> {
         let value = (self.reduce_op)(self.item, item);
+        Ok(ReduceFolder {
+            item: value,
+            reduce_op: self.reduce_op,
+        })
+    }
+
+    fn consume_iter(self, _alloc: Global, items: Vec<T>) -> Result<Self, Fault>
+        requires ready { G.IsAlwaysCallable self.reduce_op.now }
+        requires items { All (λ _. Unit {0}) items.items }
+        ensures ready { IfOk result (λ f. G.IsAlwaysCallable f.reduce_op.now) }
+        ensures takes { IfOk result (λ f. (x : T) → Unit {0} → Unit {0}) }
+        ensures gives { IfOk result (λ f. (xs : List T) (out : Result T Infallible) → OnlyOk (λ r. Chain (λ a x b. G.post f.reduce_op.now a x b) f.item xs r) out → OnlyOk (λ r. Chain (λ a x b. G.post self.entry.reduce_op.now a x b) self.entry.item (items.items ++ xs) r) out) }
+        ensures fault { IsMemoryOnErr result }
+    {
+        let value = fold_from(self.item, items, self.reduce_op);
         Ok(ReduceFolder {
             item: value,
             reduce_op: self.reduce_op,

@@ -8,7 +8,7 @@ ghost use Rattle.parallel_bridge.specs.States.{MapStep, StateSegment, StatesFrom
 ghost use Rattle.parallel_bridge.specs.Tries.{before_none, unless_full};
 
 use crate::consumer::{Consumer, Folder};
-use crate::loops::map_init_from;
+use crate::loops::{map_init_from, while_some};
 use crate::serial::map_serial;
 use parallel_fault::{Fault, Trouble};
 use std::alloc::Global;
@@ -32,9 +32,9 @@ pub struct MapFolder<'f, C, F> {
 }
 
 impl<'f, X: Drop, T: Drop, R, E, C: Folder<T, R, E>, F: Fn(X) -> T> Folder<X, R, E> for MapFolder<'f, C, F> {
-    ghost ready = { λ s. C.ready s.base };
+    ghost ready = { λ s. C.ready s.base × ((y : T) → C.takes s.base y) };
 
-    ghost takes = { λ s x. F.pre s.map_op.now x × ((y : T) → C.takes s.base y) };
+    ghost takes = { λ s x. F.pre s.map_op.now x };
 
     ghost gives = { λ s xs out. (ys : List T) × MapOf (F.post s.map_op.now) xs ys × C.gives s.base ys out };
 
@@ -48,10 +48,10 @@ impl<'f, X: Drop, T: Drop, R, E, C: Folder<T, R, E>, F: Fn(X) -> T> Folder<X, R,
     }
 
     fn consume_iter(self, alloc: Global, items: Vec<X>) -> Result<Self, Fault>
-        requires ready { C.ready self.base }
-        requires items { All (λ x. F.pre self.map_op.now x × ((y : T) → C.takes self.base y)) items.items }
-        ensures ready { IfOk result (λ f. C.ready f.base) }
-        ensures takes { IfOk result (λ f. (x : X) → F.pre self.entry.map_op.now x × ((y : T) → C.takes self.entry.base y) → F.pre f.map_op.now x × ((y : T) → C.takes f.base y)) }
+        requires ready { C.ready self.base × ((y : T) → C.takes self.base y) }
+        requires items { All (λ x. F.pre self.map_op.now x) items.items }
+        ensures ready { IfOk result (λ f. C.ready f.base × ((y : T) → C.takes f.base y)) }
+        ensures takes { IfOk result (λ f. (x : X) → F.pre self.entry.map_op.now x → F.pre f.map_op.now x) }
         ensures gives { IfOk result (λ f. (xs : List X) (out : Result R E) → ((ys : List T) × MapOf (F.post f.map_op.now) xs ys × C.gives f.base ys out) → (ys : List T) × MapOf (F.post self.entry.map_op.now) (items.items ++ xs) ys × C.gives self.entry.base ys out) }
         ensures fault { IsMemoryOnErr result }
     {
@@ -81,9 +81,9 @@ impl<'f, X: Drop, T: Drop, C: Consumer<T>, F: Fn(X) -> T + Sync> Consumer<X> for
 
     type Reducer = C::Reducer;
 
-    ghost ready = { λ s. C.ready s.base };
+    ghost ready = { λ s. C.ready s.base × ((y : T) → C.takes s.base y) };
 
-    ghost takes = { λ s x. F.pre s.map_op.now x × ((y : T) → C.takes s.base y) };
+    ghost takes = { λ s x. F.pre s.map_op.now x };
 
     ghost leaf_gives = { λ s xs out. (ys : List T) × MapOf (F.post s.map_op.now) xs ys × C.leaf_gives s.base ys out };
 
@@ -144,9 +144,9 @@ impl<
     C: Folder<T, R, E>,
     F: Fn(&mut S, X) -> T,
 > Folder<X, R, E> for MapWithFolder<'f, C, S, F> {
-    ghost ready = { λ s. C.ready s.base };
+    ghost ready = { λ s. C.ready s.base × ((y : T) → C.takes s.base y) };
 
-    ghost takes = { λ s x. ((p : MutBor S) → F.pre s.map_op.now p x) × ((y : T) → C.takes s.base y) };
+    ghost takes = { λ s x. (p : MutBor S) → F.pre s.map_op.now p x };
 
     ghost gives = { λ s xs out. (ys : List T) × StatesFrom (MapStep (λ p x y q. F.post s.map_op.now p x y q)) s.item xs ys × C.gives s.base ys out };
 
@@ -162,10 +162,10 @@ impl<
     }
 
     fn consume_iter(self, alloc: Global, items: Vec<X>) -> Result<Self, Fault>
-        requires ready { C.ready self.base }
-        requires items { All (λ x. ((p : MutBor S) → F.pre self.map_op.now p x) × ((y : T) → C.takes self.base y)) items.items }
-        ensures ready { IfOk result (λ f. C.ready f.base) }
-        ensures takes { IfOk result (λ f. (x : X) → ((p : MutBor S) → F.pre self.entry.map_op.now p x) × ((y : T) → C.takes self.entry.base y) → ((p : MutBor S) → F.pre f.map_op.now p x) × ((y : T) → C.takes f.base y)) }
+        requires ready { C.ready self.base × ((y : T) → C.takes self.base y) }
+        requires items { All (λ x. (p : MutBor S) → F.pre self.map_op.now p x) items.items }
+        ensures ready { IfOk result (λ f. C.ready f.base × ((y : T) → C.takes f.base y)) }
+        ensures takes { IfOk result (λ f. (x : X) → ((p : MutBor S) → F.pre self.entry.map_op.now p x) → (p : MutBor S) → F.pre f.map_op.now p x) }
         ensures gives { IfOk result (λ f. (xs : List X) (out : Result R E) → ((ys : List T) × StatesFrom (MapStep (λ p x y q. F.post f.map_op.now p x y q)) f.item xs ys × C.gives f.base ys out)
             → (ys : List T) × StatesFrom (MapStep (λ p x y q. F.post self.entry.map_op.now p x y q)) self.entry.item (items.items ++ xs) ys × C.gives self.entry.base ys out) }
         ensures fault { IsMemoryOnErr result }
@@ -206,9 +206,9 @@ impl<
 
     type Reducer = C::Reducer;
 
-    ghost ready = { λ s. C.ready s.base × N.IsAlwaysCallable s.init.now };
+    ghost ready = { λ s. C.ready s.base × ((y : T) → C.takes s.base y) × N.IsAlwaysCallable s.init.now };
 
-    ghost takes = { λ s x. ((p : MutBor S) → F.pre s.map_op.now p x) × ((y : T) → C.takes s.base y) };
+    ghost takes = { λ s x. (p : MutBor S) → F.pre s.map_op.now p x };
 
     ghost leaf_gives = { λ s xs out. (ys : List T) × StateSegment (N.post s.init.now) (MapStep (λ p x y q. F.post s.map_op.now p x y q)) xs ys × C.leaf_gives s.base ys out };
 
@@ -256,9 +256,9 @@ pub struct WhileSomeFolder<C> {
 }
 
 impl<T: Drop, R, E, C: Folder<T, R, E>> Folder<Option<T>, R, E> for WhileSomeFolder<C> {
-    ghost ready = { λ s. C.ready s.base };
+    ghost ready = { λ s. C.ready s.base × ((y : T) → C.takes s.base y) };
 
-    ghost takes = { λ s _. (y : T) → C.takes s.base y };
+    ghost takes = { λ _ _. Unit {0} };
 
     ghost gives = { λ s xs out. C.gives s.base (unless_full s.full xs) out };
 
@@ -276,6 +276,22 @@ impl<T: Drop, R, E, C: Folder<T, R, E>> Folder<Option<T>, R, E> for WhileSomeFol
                 full: true,
             }),
         }
+    }
+
+    fn consume_iter(self, alloc: Global, items: Vec<Option<T>>) -> Result<Self, Fault>
+        requires ready { C.ready self.base × ((y : T) → C.takes self.base y) }
+        requires items { All (λ _. Unit {0}) items.items }
+        ensures ready { IfOk result (λ f. C.ready f.base × ((y : T) → C.takes f.base y)) }
+        ensures takes { IfOk result (λ f. (x : Option T) → Unit {0} → Unit {0}) }
+        ensures gives { IfOk result (λ f. (xs : List (Option T)) (out : Result R E) → C.gives f.base (unless_full f.full xs) out → C.gives self.base (unless_full self.full (items.items ++ xs)) out) }
+        ensures fault { IsMemoryOnErr result }
+    {
+        if self.full {
+            return Ok(self);
+        }
+        let (values, full) = while_some(alloc, items)?;
+        let base = self.base.consume_iter(alloc, values)?;
+        Ok(WhileSomeFolder { base, full })
     }
 
     fn complete(self, alloc: Global) -> Result<R, Trouble<E>> {
@@ -296,9 +312,9 @@ impl<T: Drop, C: Consumer<T>> Consumer<Option<T>> for WhileSomeConsumer<C> {
 
     type Reducer = C::Reducer;
 
-    ghost ready = { λ s. C.ready s.base };
+    ghost ready = { λ s. C.ready s.base × ((y : T) → C.takes s.base y) };
 
-    ghost takes = { λ s _. (y : T) → C.takes s.base y };
+    ghost takes = { λ _ _. Unit {0} };
 
     ghost leaf_gives = { λ s xs out. C.leaf_gives s.base (before_none xs) out };
 

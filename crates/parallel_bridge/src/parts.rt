@@ -1,6 +1,7 @@
 //! The consumer of a partition.
 ghost use Rattle.std.specs.Prelude.{◌≡◌, ◌++◌, Err, IfOk, List, Ok, Result};
 ghost use Rattle.std.specs.List.{All};
+ghost use Rattle.std.specs.declared.convert.Infallible.{Infallible};
 ghost use Rattle.std.specs.declared.alloc.Global.{Global};
 ghost use Rattle.std.specs.declared.vec.Vec.{Vec};
 ghost use Rattle.parallel_fault.specs.Trouble.{IsMemoryOnErr};
@@ -9,7 +10,7 @@ ghost use Rattle.parallel_bridge.specs.Parts.{PartitionOf};
 ghost use Rattle.parallel_bridge.specs.Tries.{OnlyOk};
 
 use crate::consumer::{Consumer, Folder, Reducer};
-use crate::loops::partition_onto;
+use crate::loops::{partition_onto, push_answer};
 use parallel_fault::{Fault, Trouble};
 use std::alloc::Global;
 use std::convert::Infallible;
@@ -63,12 +64,8 @@ impl<'f, X: Drop, U: Drop, K: Drop, F: Fn(X) -> (K, Option<U>)> Folder<X, (Vec<U
     ghost gives = { λ s xs out. OnlyOk (λ r. PartitionOnto (F.post s.map_op.now) s.values.items s.keys.items xs r.0.items r.1.items) out };
 
     fn consume(self, _alloc: Global, item: X) -> Result<Self, Fault> {
-        let mut values = self.values;
-        let mut keys = self.keys;
-        match (self.map_op)(item) {
-            (_, Some(value)) => values.push(value)?,
-            (key, None) => keys.push(key)?,
-        }
+        let answer = (self.map_op)(item);
+        let (values, keys) = push_answer(self.values, self.keys, answer)?;
         Ok(PartitionFolder {
             values,
             keys,
@@ -81,7 +78,7 @@ impl<'f, X: Drop, U: Drop, K: Drop, F: Fn(X) -> (K, Option<U>)> Folder<X, (Vec<U
         requires items { All (λ x. F.pre self.map_op.now x) items.items }
         ensures ready { IfOk result (λ f. Unit {0}) }
         ensures takes { IfOk result (λ f. (x : X) → F.pre self.entry.map_op.now x → F.pre f.map_op.now x) }
-        ensures gives { IfOk result (λ f. (xs : List X) (out : Result (Vec U Global × Vec K Global) ⊥) → OnlyOk (λ r. PartitionOnto (F.post f.map_op.now) f.values.items f.keys.items xs r.0.items r.1.items) out → OnlyOk (λ r. PartitionOnto (F.post self.entry.map_op.now) self.entry.values.items self.entry.keys.items (items.items ++ xs) r.0.items r.1.items) out) }
+        ensures gives { IfOk result (λ f. (xs : List X) (out : Result (Vec U Global × Vec K Global) Infallible) → OnlyOk (λ r. PartitionOnto (F.post f.map_op.now) f.values.items f.keys.items xs r.0.items r.1.items) out → OnlyOk (λ r. PartitionOnto (F.post self.entry.map_op.now) self.entry.values.items self.entry.keys.items (items.items ++ xs) r.0.items r.1.items) out) }
         ensures fault { IsMemoryOnErr result }
     {
         let (values, keys) = partition_onto(self.values, self.keys, items, self.map_op)?;

@@ -10,7 +10,7 @@ ghost use Rattle.parallel_bridge.specs.Tries.{OnlyOk, TryChain, TryFoldSegment, 
 
 use crate::collect::CollectReducer;
 use crate::consumer::{Consumer, Folder, Reducer};
-use crate::loops::{try_fold_from, try_map_onto};
+use crate::loops::{try_fold_from, try_map_behind, try_reduce_from};
 use parallel_fault::{Fault, Trouble};
 use std::alloc::Global;
 
@@ -39,8 +39,9 @@ impl<'f, X: Drop, T: Drop, E: Drop, F: Fn(X) -> Result<T, E>> Folder<X, Vec<T>, 
     ghost gives = { λ s xs out. TryMapBehind (F.post s.map_op.now) (listed s.control) xs (listed out) };
 
     fn consume(self, _alloc: Global, item: X) -> Result<Self, Fault> {
-        let control = match self.control {
-            Ok(values) => match (self.map_op)(item) {
+        let TryMapFolder { control, map_op } = self;
+        let control = match control {
+            Ok(values) => match map_op(item) {
                 Ok(value) => {
                     let mut values = values;
                     values.push(value)?;
@@ -50,10 +51,7 @@ impl<'f, X: Drop, T: Drop, E: Drop, F: Fn(X) -> Result<T, E>> Folder<X, Vec<T>, 
             },
             Err(error) => Err(error),
         };
-        Ok(TryMapFolder {
-            control,
-            map_op: self.map_op,
-        })
+        Ok(TryMapFolder { control, map_op })
     }
 
     fn consume_iter(self, _alloc: Global, items: Vec<X>) -> Result<Self, Fault>
@@ -64,23 +62,12 @@ impl<'f, X: Drop, T: Drop, E: Drop, F: Fn(X) -> Result<T, E>> Folder<X, Vec<T>, 
         ensures gives { IfOk result (λ f. (xs : List X) (out : Result (Vec T Global) E) → TryMapBehind (F.post f.map_op.now) (listed f.control) xs (listed out) → TryMapBehind (F.post self.entry.map_op.now) (listed self.entry.control) (items.items ++ xs) (listed out)) }
         ensures fault { IsMemoryOnErr result }
     {
-        match self.control {
-            Ok(values) => match try_map_onto(values, items, self.map_op) {
-                Ok(values) => Ok(TryMapFolder {
-                    control: Ok(values),
-                    map_op: self.map_op,
-                }),
-                Err(Trouble::Closure(error)) => Ok(TryMapFolder {
-                    control: Err(error),
-                    map_op: self.map_op,
-                }),
-                Err(Trouble::Fault(fault)) => Err(fault),
-            },
-            Err(error) => Ok(TryMapFolder {
-                control: Err(error),
-                map_op: self.map_op,
-            }),
-        }
+        let TryMapFolder { control, map_op } = self;
+        let control = match control {
+            Ok(values) => try_map_behind(values, items, map_op)?,
+            Err(error) => Err(error),
+        };
+        Ok(TryMapFolder { control, map_op })
     }
 
     fn complete(self, _alloc: Global) -> Result<Vec<T>, Trouble<E>> {
@@ -167,14 +154,19 @@ impl<
     ghost gives = { λ s xs out. (v : Result T E) × TryContinues (λ a x o. F.post s.fold_op.now a x o) s.control xs v × C.gives s.base (v ∷ []) out };
 
     fn consume(self, _alloc: Global, item: X) -> Result<Self, Fault> {
-        let control = match self.control {
-            Ok(value) => (self.fold_op)(value, item),
+        let TryFoldFolder {
+            base,
+            control,
+            fold_op,
+        } = self;
+        let control = match control {
+            Ok(value) => fold_op(value, item),
             Err(error) => Err(error),
         };
         Ok(TryFoldFolder {
-            base: self.base,
+            base,
             control,
-            fold_op: self.fold_op,
+            fold_op,
         })
     }
 
@@ -187,14 +179,19 @@ impl<
             → (v : Result T E) × TryContinues (λ a x o. F.post self.entry.fold_op.now a x o) self.entry.control (items.items ++ xs) v × C.gives self.entry.base (v ∷ []) out) }
         ensures fault { IsMemoryOnErr result }
     {
-        let control = match self.control {
-            Ok(value) => try_fold_from(value, items, self.fold_op),
+        let TryFoldFolder {
+            base,
+            control,
+            fold_op,
+        } = self;
+        let control = match control {
+            Ok(value) => try_fold_from(value, items, fold_op),
             Err(error) => Err(error),
         };
         Ok(TryFoldFolder {
-            base: self.base,
+            base,
             control,
-            fold_op: self.fold_op,
+            fold_op,
         })
     }
 
@@ -295,17 +292,31 @@ impl<'r, T: Drop, E: Drop, G: Fn(T, T) -> T> Folder<Result<T, E>, T, E> for TryR
     ghost gives = { λ s xs out. TryContinues (ReducesTo (λ a b c. G.post s.reduce_op.now a b c)) s.control xs out };
 
     fn consume(self, _alloc: Global, item: Result<T, E>) -> Result<Self, Fault> {
-        let control = match self.control {
+        let TryReduceFolder { control, reduce_op } = self;
+        let control = match control {
             Ok(left) => match item {
-                Ok(right) => Ok((self.reduce_op)(left, right)),
+                Ok(right) => Ok(reduce_op(left, right)),
                 Err(error) => Err(error),
             },
             Err(error) => Err(error),
         };
-        Ok(TryReduceFolder {
-            control,
-            reduce_op: self.reduce_op,
-        })
+        Ok(TryReduceFolder { control, reduce_op })
+    }
+
+    fn consume_iter(self, _alloc: Global, items: Vec<Result<T, E>>) -> Result<Self, Fault>
+        requires ready { G.IsAlwaysCallable self.reduce_op.now }
+        requires items { All (λ _. Unit {0}) items.items }
+        ensures ready { IfOk result (λ f. G.IsAlwaysCallable f.reduce_op.now) }
+        ensures takes { IfOk result (λ f. (x : Result T E) → Unit {0} → Unit {0}) }
+        ensures gives { IfOk result (λ f. (xs : List (Result T E)) (out : Result T E) → TryContinues (ReducesTo (λ a b c. G.post f.reduce_op.now a b c)) f.control xs out → TryContinues (ReducesTo (λ a b c. G.post self.entry.reduce_op.now a b c)) self.entry.control (items.items ++ xs) out) }
+        ensures fault { IsMemoryOnErr result }
+    {
+        let TryReduceFolder { control, reduce_op } = self;
+        let control = match control {
+            Ok(value) => try_reduce_from(value, items, reduce_op),
+            Err(error) => Err(error),
+        };
+        Ok(TryReduceFolder { control, reduce_op })
     }
 
     fn complete(self, _alloc: Global) -> Result<T, Trouble<E>> {
