@@ -25,7 +25,7 @@ pub struct CountLatch {
 }
 
 impl CountLatch {
-    ghost use Rattle.std.specs.Prelude.{◌≡◌, ◌≤◌, ◌-◌, ◌<◌, ℕ, ◌↔◌, All, IfOk, IsTrue, [], length, vec_len};
+    ghost use Rattle.std.specs.Prelude.{◌≡◌, ◌≤◌, ◌-◌, ◌<◌, ℕ, ◌↔◌, All, IfErr, IfOk, IsTrue, [], length, vec_len};
     ghost use Rattle.parallel_pool.specs.CountHistory.{Given, times_given};
     ghost use Rattle.parallel_pool.specs.CountLatch.{IsShareOf, shares_of, knows, unspent, gives_seen};
 
@@ -39,6 +39,7 @@ impl CountLatch {
         ensures belong { IfOk result (λ made. All (IsShareOf made.0) made.1.items) }
         ensures unspent { IfOk result (λ made. All (λ share. unspent share ≡ 1) made.1.items) }
         ensures fresh { IfOk result (λ made. All (λ share. gives_seen share ≡ []) made.1.items) }
+        ensures fault { IfErr result (λ refusal. refusal ≡ Fault.Memory) }
     {
         let (latch, mut founder) = CountLatch::of_word(alloc, count.get())?;
         let mut all = Vec::new(alloc);
@@ -51,7 +52,8 @@ impl CountLatch {
 
     // The latch, and a seat that holds all shares.
     fn of_word(alloc: Global, count: usize) -> Result<(CountLatch, CountShare), Fault>
-        ensures { IfOk result (λ made. IsShareOf made.0 made.1 × (shares_of made.0 ≡ count) × (unspent made.1 ≡ count)) }
+        ensures made { IfOk result (λ made. IsShareOf made.0 made.1 × (shares_of made.0 ≡ count) × (unspent made.1 ≡ count)) }
+        ensures fault { IfErr result (λ refusal. refusal ≡ Fault.Memory) }
     {
         let count = count as u64;
         let (table, seat) = Table::of_words(alloc, &[count], &count)?;

@@ -18,7 +18,7 @@ pub struct OnceLatch {
 }
 
 impl OnceLatch {
-    ghost use Rattle.std.specs.Prelude.{◌≡◌, ◌↔◌, All, IfOk, IsTrue, None, Some, vec_len, if◌then◌else◌};
+    ghost use Rattle.std.specs.Prelude.{◌≡◌, ◌↔◌, All, IfErr, IfOk, IsTrue, None, Some, vec_len, if◌then◌else◌};
     ghost use Rattle.parallel_pool.specs.LatchMoves.{is_sleeping, is_latched};
     ghost use Rattle.parallel_pool.specs.LatchHistory.{newcomer, Called, HasSeenSet};
     ghost use Rattle.parallel_pool.specs.Latch.{IsSeatOf, known};
@@ -36,6 +36,7 @@ impl OnceLatch {
         ensures count { IfOk result (λ made. vec_len made.1 ≡ non_zero_usize_get seats) }
         ensures seats { IfOk result (λ made. All (IsSeatOf (core_of made.0)) made.1.items) }
         ensures fresh { IfOk result (λ made. All (λ seat. known seat ≡ newcomer) made.1.items) }
+        ensures fault { IfErr result (λ refusal. refusal ≡ Fault.Memory) }
     {
         let (core_latch, seats) = CoreLatch::new(alloc, seats)?;
         let latch = OnceLatch {

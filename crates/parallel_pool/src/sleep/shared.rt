@@ -1,5 +1,5 @@
 // The sleep state under one lock, with a parker for each worker.
-ghost use Rattle.std.specs.Prelude.{◌≡◌, ◌≢◌, ◌⊎◌, ◌+◌, ◌<◌, ◌≤◌, IfOk, IfSome, IsSome, None, vec_len};
+ghost use Rattle.std.specs.Prelude.{◌≡◌, ◌≢◌, ◌⊎◌, ◌+◌, ◌<◌, ◌≤◌, IfErr, IfOk, IfSome, IsSome, None, vec_len};
 ghost use Rattle.parallel_pool.specs.declared.sleep.sleep_state.Block.TheVariants.{Blocked};
 ghost use Rattle.std.specs.NonZero.{non_zero_usize_get};
 ghost use Rattle.parallel_pool.specs.Counters.{sleeping_of, inactive_of};
@@ -34,7 +34,8 @@ impl Sleep {
     /// The sleep of so many workers, who all have work, and a parker for each of them, in order.
     pub fn new(alloc: Global, workers: NonZeroUsize) -> Result<(Sleep, Vec<Parker>), Fault>
         requires { non_zero_usize_get workers ≤ MAX_THREADS }
-        ensures { IfOk result (λ made. vec_len made.1 ≡ non_zero_usize_get workers) }
+        ensures count { IfOk result (λ made. vec_len made.1 ≡ non_zero_usize_get workers) }
+        ensures fault { IfErr result (λ refusal. refusal ≡ Fault.Memory) }
     {
         let state = SleepState::new(alloc, workers, 0)?;
         let mut parkers = Vec::new(alloc);

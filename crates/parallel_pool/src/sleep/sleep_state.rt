@@ -1,5 +1,5 @@
 // The state of all workers' sleep, which lies under one lock.
-ghost use Rattle.std.specs.Prelude.{◌≡◌, ◌≢◌, ◌↔◌, ◌-◌, ◌+◌, ◌%◌, ◌<◌, ◌≤◌, ◌∷◌, [], false, true, length, take, replicate, slice_set, vec_len, IfOk, IsTrue, Some, None, if◌then◌else◌};
+ghost use Rattle.std.specs.Prelude.{◌≡◌, ◌≢◌, ◌↔◌, ◌-◌, ◌+◌, ◌%◌, ◌<◌, ◌≤◌, ◌∷◌, [], false, true, length, take, replicate, slice_set, vec_len, IfErr, IfOk, IsTrue, Some, None, if◌then◌else◌};
 ghost use Rattle.std.specs.NonZero.{non_zero_usize_get};
 ghost use Rattle.parallel_pool.specs.Counters.{sleeping_of, inactive_of, events_of};
 ghost use Rattle.parallel_pool.specs.IdleState.{worker_of, rounds_of, recorded_of};
@@ -57,7 +57,8 @@ impl SleepState {
     /// The state of so many workers, who all have work, with this count of events.
     pub fn new(alloc: Global, workers: NonZeroUsize, events: u32) -> Result<SleepState, Fault>
         requires { non_zero_usize_get workers ≤ MAX_THREADS }
-        ensures { IfOk result (λ state. state ≡ record { events = events; workers = replicate (non_zero_usize_get workers) Working; woken = [] }) }
+        ensures state { IfOk result (λ state. state ≡ record { events = events; workers = replicate (non_zero_usize_get workers) Working; woken = [] }) }
+        ensures fault { IfErr result (λ refusal. refusal ≡ Fault.Memory) }
     {
         let standings = Vec::from_elem(alloc, Standing::Working, workers.get())?;
         let woken = Vec::with_capacity(alloc, workers.get())?;
