@@ -1,4 +1,8 @@
 // Tables and policies: which key an answer goes by, what a run records, and what it doesn't.
+ghost use Rattle.std.specs.Prelude.{◌≡◌, IfOk};
+ghost use Rattle.parallel_policy.specs.Runs.{RunHistory, run_choice};
+ghost use Rattle.parallel_policy.specs.Tables.{HoldsRunAt, HasOtherRuns};
+
 use crate::choices::decide;
 use crate::execution::{RunExecution, SpawnExecution};
 use crate::key::Key;
@@ -80,8 +84,11 @@ fn path_of<Rt: Wait, N: Fn() -> u64>(
     now: &N,
 ) -> Result<RunExecution, Trouble<u8>>
     requires { N.IsAlwaysCallable now.now }
+    ensures path { IfOk result (λ path. (history : RunHistory) → HoldsRunAt table.old key history → path ≡ (run_choice history 4).0) }
+    ensures others { HasOtherRuns table.old table.new key }
 {
-    decide(rt, table, key, 4, now, |path| Ok(path))
+    let path = decide(rt, table, key, 4, now, |path| Ok(path))?;
+    Ok(path)
 }
 
 #[test]

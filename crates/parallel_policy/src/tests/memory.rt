@@ -1,0 +1,55 @@
+// Calls whose memory may be refused at any point: each answers what it always does, or `Fault::Memory`, and then the
+// table is as it was and no body was called. Run with each allocation failing in turn.
+use crate::choices::decide;
+use crate::execution::RunExecution;
+use crate::key::Key;
+use crate::site::Site;
+use crate::table::Table;
+use parallel_fault::{Fault, Trouble};
+use std::sync::atomic::{AtomicU64, Ordering};
+
+const SITE: Site = Site {
+    file: "tests",
+    line: 1,
+    column: 1,
+};
+
+#[test]
+fn a_refused_choice_leaves_the_table(rt: HostRuntime) {
+    let mut table = Table::new(rt.alloc());
+    for column in 0..20u32 {
+        let key = Key::new(Site { column, ..SITE }, 64, 64, 4);
+        match table.choose_run(key, 4) {
+            Ok(answer) => {
+                assert_eq!(rt; answer, (RunExecution::Parallel, true));
+                let recorded = table.record_run(key, RunExecution::Parallel, 5);
+                assert_eq!(rt; recorded, Ok(()));
+            }
+            Err(fault) => {
+                assert_eq!(rt; fault, Fault::Memory);
+                assert!(rt; table.run_entry(key).is_none());
+            }
+        }
+    }
+}
+
+#[test]
+fn a_refused_choice_calls_no_body(rt: HostRuntime) {
+    let mut table = Table::new(rt.alloc());
+    let mut expected = 0u64;
+    let calls = AtomicU64::new(0);
+    for column in 0..20u32 {
+        let key = Key::new(Site { column, ..SITE }, 64, 64, 4);
+        let body = |_path: RunExecution| -> Result<u64, u8> {
+            Ok(calls.fetch_add(1, Ordering::SeqCst))
+        };
+        match decide(&rt, &mut table, key, 4, &|| 0, body) {
+            Ok(call) => {
+                assert_eq!(rt; call, expected);
+                expected = expected.wrapping_add(1);
+            }
+            Err(trouble) => assert_eq!(rt; trouble, Trouble::Fault(Fault::Memory)),
+        }
+    }
+    assert_eq!(rt; calls.load(Ordering::SeqCst), expected);
+}
