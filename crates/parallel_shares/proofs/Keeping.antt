@@ -1,29 +1,28 @@
 -- Each step of a seat keeps what words and seats keep together, whatever stands in the table when it is taken.
-use Rattle.std.proofs.Common.{◌≡◌, ◌≢◌, ℕ, zero, suc, ◌+◌, ◌-◌, ◌*◌, ◌/◌, ◌<◌, ◌≤◌, ◌==◌, ◌⊎◌, inl, inr, cond, eqb, List, [], ◌∷◌, ◌++◌, take, drop, map, length, get_or, set, refl, sym, ap, subst, ◌∙◌, arith}
+use Rattle.std.proofs.Common.{◌≡◌, ℕ, zero, suc, ◌+◌, ◌-◌, ◌/◌, ◌<◌, ◌≤◌, ◌==◌, ◌⊎◌, inl, inr, List, [], ◌∷◌, length, get_or, set, refl, sym, ap, subst, ◌∙◌, arith}
 use Rattle.std.specs.List.{range_with_len}
 use Rattle.std.proofs.lemmas.Bool.{cases_eq, eq-eqb, ne_eqb}
-use Rattle.std.proofs.lemmas.List.{length-set, get_or-set_same, get_or-set_other}
+use Rattle.std.proofs.lemmas.List.{length-set, get_or-set_other}
 use mathlib.Core.Option.{some, none, some-injective, some-ne-none}
 use prog.Atomic.{either}
 use lib.ListN.{get_elem?}
-use Rattle.std.specs.declared.ops.Range.{Range}
-use Rattle.atomic_table.specs.Table.{State, Me, Step, step, Act, keeps, Valid, stepped, carried_after, opening, Allows, Splits, Joins}
+use Rattle.atomic_table.specs.Table.{State, Me, step, Act, keeps, Valid, stepped, carried_after, opening, Allows, Splits, Joins}
 use Rattle.atomic_table.proofs.Lists.{at_set, at_snoc, set_else, exchanged}
 use Rattle.parallel_shares.specs.declared.shares.rule.View.{View}
 use Rattle.parallel_shares.specs.Words.{start_of, end_of, packed, IsEmptyWord, IsWithin}
-use Rattle.parallel_shares.specs.Sizes.{Sizes, shares_of, share_of, cells_to, opening_start, IsSound}
+use Rattle.parallel_shares.specs.Sizes.{Sizes, shares_of, share_of, opening_start, IsSound}
 use Rattle.parallel_shares.specs.Machine.{opening_words}
 use Rattle.parallel_shares.specs.Answers.{claim_stop, claim_cells}
 use Rattle.parallel_shares.specs.Holders.{inside, in_word, in_range, in_ranges, same_number}
 use Rattle.parallel_shares.specs.Totals.{total, times}
-use Rattle.parallel_shares.specs.Sharing.{fresh_view, undealt, loaded_at, loads_at, in_view, Empties, Idle, Kept, looked_own, took_front, missed, LooksOwn, TakesFront, dealt_from, dealt, gathered, spent}
+use Rattle.parallel_shares.specs.Sharing.{fresh_view, undealt, in_view, Empties, Idle, Kept, looked_own, took_front, missed, LooksOwn, TakesFront, dealt_from, dealt, gathered, spent}
 use Rattle.parallel_shares.proofs.Words.{start_of_packed, end_of_packed, within_packed}
 use Rattle.parallel_shares.proofs.Counts.{inside_within, inside_cut, inside_nothing, inside_cells, inside_no_cells}
 use Rattle.parallel_shares.proofs.Lists.{each_set, in_ranges_push}
 use Rattle.parallel_shares.proofs.Openings.{at_end, in_order, within_units, length_opening, opening_is_state}
 use Rattle.parallel_shares.proofs.Shown.{unit_of_cell}
 use Rattle.parallel_shares.proofs.Moved.{cut_front}
-use Rattle.parallel_shares.proofs.Totals.{total_append, total_set, total_put, total_at, set_get, is_same, times_dealt, times_range, in_ranges_append, both_empty}
+use Rattle.parallel_shares.proofs.Totals.{total_append, total_set, total_put, set_get, is_same, times_dealt, times_range, in_ranges_append, both_empty}
 
 -- the table as the rule sees it
 abbrev Table : Type 0

@@ -1,5 +1,8 @@
 use super::*;
+use crate::drain::{drain, gather};
+use parallel_shares::Shares;
 use std::alloc::AllocError;
+use std::num::NonZeroUsize;
 use std::test::Fail;
 
 // What a command left: its status, and what it wrote to either writer.
@@ -252,5 +255,21 @@ fn words_that_could_not_be_read(rt: HostRuntime) -> Result<(), Fail> {
         String::from_utf8(err)?.as_str(),
         "shapes: bad arguments\nshapes: out of memory\n"
     );
+    Ok(())
+}
+
+// Two threads with a seat each, where threads can be made, claim from one queue of a thousand rows of three cells.
+#[test]
+fn threads_of_a_caller_claim_each_cell_once(rt: HostRuntime) -> Result<(), Fail> {
+    let alloc = rt.alloc();
+    let two = NonZeroUsize::new(2).expect(&rt, "a number above 0");
+    let (shares, seats) = Shares::new(alloc, 1_000, 3, NonZeroUsize::MIN, two, true)?;
+    let drained = drain(&rt, alloc, &shares, seats)?;
+    assert_eq!(rt; drained.len(), 2);
+    let (words, mut cells) = gather(alloc, shares, drained)?;
+    cells.sort_unstable();
+    assert_eq!(rt; words.as_slice(), [65_537_000].as_slice());
+    assert_eq!(rt; cells.len(), 3_000);
+    assert!(rt; cells.iter().enumerate().all(|(index, cell)| index == *cell));
     Ok(())
 }

@@ -1,5 +1,5 @@
 -- One more seat and its list.
-use Rattle.std.proofs.Common.{◌≡◌, ◌++◌, ◌∷◌, [], map, ap, sym, ◌∙◌, arith}
+use Rattle.std.proofs.Common.{◌++◌, ◌∷◌, [], ap, sym, ◌∙◌, arith}
 use Rattle.shapes_command.proofs.Drains.{pushed_map}
 use Rattle.parallel_shares.specs.Holders.{in_ranges}
 use Rattle.parallel_shares.proofs.Totals.{total_append}

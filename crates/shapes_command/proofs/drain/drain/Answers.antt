@@ -1,7 +1,6 @@
 -- Each part is what the worker of the seat at that place gave back.
-use Rattle.std.proofs.Common.{◌≡◌, ◌<◌, ◌∙◌, ℕ, Ok, IfOk, length, get_or, ap, sym, subst, arith}
+use Rattle.std.proofs.Common.{◌≡◌, ◌<◌, ◌∙◌, Ok, IfOk, length, get_or, ap, subst, arith}
 use Rattle.parallel_shares.specs.Seats.{index_of}
-use Rattle.shapes_command.specs.declared.drain.Drained.{Drained}
 use Rattle.shapes_command.specs.Drain.{IsDrained}
 use Rattle.shapes_command.proofs.Drains.{oks_count, oks_at}
 use Rattle.shapes_command.proofs.drain.drain.Goals as goal

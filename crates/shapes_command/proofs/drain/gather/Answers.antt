@@ -1,7 +1,6 @@
 -- The seats are all back and have seen their words empty, so the lists have each cell once.
-use Rattle.std.proofs.Common.{◌≡◌, map, sym, subst}
+use Rattle.std.proofs.Common.{sym, subst}
 use Rattle.parallel_shares.specs.Seats.{AreSeatsOf, AllDone, EachCellOnce}
-use Rattle.shapes_command.specs.Drain.{seat_of}
 use Rattle.shapes_command.proofs.Drains.{seats_back, all_done, lists_have_each}
 use Rattle.shapes_command.proofs.drain.gather.Goals as goal
 

@@ -1,9 +1,5 @@
 -- The table was closed with a seat that has all that the seats had.
-use Rattle.std.proofs.Common.{◌≡◌, ◌∙◌, List, ℕ, sym, subst}
-use Rattle.atomic_table.specs.Table.{State}
-use Rattle.parallel_shares.specs.declared.shares.rule.View.{View}
-use Rattle.parallel_shares.specs.Sizes.{shares_of}
-use Rattle.parallel_shares.specs.Machine.{opening_words}
+use Rattle.std.proofs.Common.{◌∙◌, sym, subst}
 use Rattle.parallel_shares.specs.Sharing.{Kept}
 use Rattle.parallel_shares.specs.Seats.{IsPartition, AllEmpty}
 use Rattle.parallel_shares.proofs.Closings.{partition, empty, each_once, opening_stands}

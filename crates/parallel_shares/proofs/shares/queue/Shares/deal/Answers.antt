@@ -1,10 +1,9 @@
 -- Each seat gets the next number of the first view, and the last seat is what is left of it.
-use Rattle.std.proofs.Common.{◌≡◌, ◌+◌, ◌-◌, ◌<◌, ◌∷◌, [], ◌∙◌, ap, sym, arith}
-use Rattle.parallel_shares.specs.Sizes.{shares_of}
+use Rattle.std.proofs.Common.{◌≡◌, ◌+◌, ◌<◌, ◌∷◌, [], ◌∙◌, ap, arith}
 use Rattle.parallel_shares.specs.Sharing.{fresh_view, undealt, dealt_from, dealt}
 use Rattle.parallel_shares.proofs.Openings.{some_shares}
 use Rattle.parallel_shares.proofs.Keeping.{splits}
-use Rattle.parallel_shares.proofs.Dealt.{rest_dealt, first_dealt, last_left, is_seat, is_fresh, dealt_none, dealt_more, all_dealt}
+use Rattle.parallel_shares.proofs.Dealt.{rest_dealt, first_dealt, is_seat, is_fresh, dealt_none, dealt_more}
 use Rattle.parallel_shares.proofs.shares.queue.Shares.deal.Goals as goal
 
 pub loop-index-init : goal.loop-index-init
@@ -40,10 +39,12 @@ loop-index-preserved c =
     let x = c.seated.result in
     let made = c.seated.ensures in
     let split = c.split_seat-seat.ensures in
-    let table = ap (λ s. s.table_id) made.0 ∙ split.3 ∙ i.table in
-    let me = ap (λ s. s.me) made.0 ∙ split.4 ∙ ap (λ v. (dealt v, [])) view ∙ ap (λ v. (v, [])) (first_dealt shares.plan index more) in
+    let table : x.seat.table_id ≡ shares.table.shared.table_id = ap (λ s. s.table_id) made.0 ∙ split.3 ∙ i.table in
+    let own : c.split_seat-seat.result.me ≡ (fresh_view shares.plan (index ∷ []), []) = split.4 ∙ ap (λ v. (dealt v, [])) view ∙ ap (λ v. (v, [])) (first_dealt shares.plan index more) in
+    let me : x.seat.me ≡ (fresh_view shares.plan (index ∷ []), []) = ap (λ s. s.me) made.0 ∙ own in
+    let left : c.split_seat-seat.new.seat.me ≡ (undealt shares.plan (index + 1), []) = split.2 ∙ ap (λ m. (dealt_from m.0, m.1)) i.view ∙ ap (λ v. (v, [])) (rest_dealt shares.plan index more) in
     record {
       table = split.0 ∙ i.table;
-      view = split.2 ∙ ap (λ m. (dealt_from m.0, m.1)) i.view ∙ ap (λ v. (v, [])) (rest_dealt shares.plan index more);
+      view = left;
       seats = dealt_more shares index c.loop-index.seats.items c.push.new.self.items x i.seats (is_seat shares x index table made.1 more me made.2 made.3) made.1 (is_fresh shares x index table made.1 more me made.2 made.3) c.in_ok-push.ensures.items;
     }

@@ -1,10 +1,9 @@
 -- Each seat that is taken in adds what it has.
-use Rattle.std.proofs.Common.{◌≡◌, ◌<◌, ◌∙◌, ap, subst, sym, arith}
+use Rattle.std.proofs.Common.{◌∙◌, ap, subst, sym, arith}
 use Rattle.parallel_shares.specs.Seats.{IsSeatOf}
-use Rattle.parallel_shares.specs.Sharing.{gathered}
 use Rattle.parallel_shares.proofs.Openings.{some_shares}
 use Rattle.parallel_shares.proofs.Keeping.{joins}
-use Rattle.parallel_shares.proofs.Gatherings.{Gathering, gathers_one, gathers_more, gathers_all, each_left, the_last}
+use Rattle.parallel_shares.proofs.Gatherings.{Gathering, gathers_one, gathers_more, each_left, the_last}
 use Rattle.parallel_shares.proofs.shares.queue.Shares.gather.Goals as goal
 
 pub loop-seat-init : goal.loop-seat-init

@@ -1,5 +1,5 @@
 -- The load keeps what words and seats keep together.
-use Rattle.std.proofs.Common.{rules, ◌≡◌, sym, ap, ◌∙◌, arith}
+use Rattle.std.proofs.Common.{arith}
 use Rattle.parallel_shares.proofs.Keeping.{looks_own}
 use Rattle.parallel_shares.proofs.Sharings.{share_exists}
 use Rattle.parallel_shares.proofs.shares.queue.Shares.look_own.Goals as goal

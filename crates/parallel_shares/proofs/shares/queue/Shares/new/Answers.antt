@@ -1,5 +1,5 @@
 -- The words that a plan opens with, and the first view, keep the rule.
-use Rattle.std.proofs.Common.{◌≡◌, [], ◌∙◌, ap, sym, subst}
+use Rattle.std.proofs.Common.{[], ◌∙◌, sym, subst}
 use Rattle.atomic_table.specs.Table.{opening}
 use Rattle.parallel_shares.specs.Sharing.{undealt, Kept}
 use Rattle.parallel_shares.proofs.Keeping.{opens}

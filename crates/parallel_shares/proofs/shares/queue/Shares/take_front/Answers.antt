@@ -1,5 +1,5 @@
 -- The exchange keeps what words and seats keep together.
-use Rattle.std.proofs.Common.{◌≡◌, ◌<◌, sym, ap, ◌∙◌, arith}
+use Rattle.std.proofs.Common.{◌<◌, arith}
 use Rattle.parallel_shares.specs.Sizes.{shares_of}
 use Rattle.parallel_shares.proofs.Keeping.{takes_front}
 use Rattle.parallel_shares.proofs.Sharings.{share_exists}
