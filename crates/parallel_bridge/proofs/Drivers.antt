@@ -1,19 +1,18 @@
 -- What the bridge gives along a list's shape, by the consumers that are driven along it.
-use Rattle.std.proofs.Common.{◌≡◌, ℕ, List, [], ◌∷◌, ◌++◌, Result, Ok, Err, Option, IfOk, refl, sym, ◌∙◌, ap, subst, inl, inr}
+use Rattle.std.proofs.Common.{◌≡◌, ℕ, List, [], ◌∷◌, ◌++◌, Result, Ok, Err, Option, IfOk, refl, sym, ◌∙◌, subst, inl, inr}
 use Rattle.parallel_fault.specs.declared.fault.Trouble.{Trouble}
 use Rattle.parallel_fault.specs.declared.fault.Fault.{Fault}
 use Rattle.parallel_bridge.specs.Lists.{MapOf, FoldSegment}
-use Rattle.parallel_bridge.specs.Shapes.{Cut, segment, halves, cut_items, Shape, AlongCut, ReducedSegment, AlongLeaves}
+use Rattle.parallel_bridge.specs.Shapes.{Cut, segment, halves, cut_items, Shape, AlongCut, AlongLeaves}
 use Rattle.std.specs.declared.vec.Vec.{Vec}
 use Rattle.std.specs.declared.alloc.Global.{Global}
 use Rattle.parallel_bridge.specs.Outcomes.{UnlessRefused, listed}
-use Rattle.parallel_bridge.specs.States.{StateSegment, StatesAlong}
-use Rattle.parallel_bridge.specs.Tries.{TryAlongCut, OnlyOk, TryFoldSegment, TryReducedSegment, TryAlongLeaves, TryMapOf, EachOk, FirstErr}
+use Rattle.parallel_bridge.specs.Tries.{TryAlongCut, OnlyOk, TryFoldSegment, TryReducedSegment, TryAlongLeaves, TryMapOf, EachOk}
 use Rattle.parallel_bridge.specs.Parts.{PartitionOf}
-use Rattle.parallel_bridge.specs.Onto.{TryMapOnto, ReducesTo}
-use Rattle.parallel_bridge.proofs.Shapes.{Shape-items, map_along_shape, MapOf-append, along_wider}
-use Rattle.parallel_bridge.proofs.TryShapes.{try_along_wider, along_unfailing}
-use Rattle.parallel_bridge.proofs.Onward.{onto_append, behind_none, PartitionOf-append}
+use Rattle.parallel_bridge.specs.Onto.{ReducesTo}
+use Rattle.parallel_bridge.proofs.Shapes.{Shape-items, map_along_shape, MapOf-append}
+use Rattle.parallel_bridge.proofs.TryShapes.{try_along_wider}
+use Rattle.parallel_bridge.proofs.Onward.{onto_append, PartitionOf-append}
 
 -- of an answer that is handed on holds what follows from what is said of the outcome
 pub driven : {R E : Type 0} (answer : Result R (Trouble E)) (result : Result R Fault) (P : Result R E → Type 0) (Q : R → Type 0) → ((r : R) → P (Ok r) → Q r) → IfOk result (λ r. answer ≡ Ok r) → UnlessRefused answer P → IfOk result Q

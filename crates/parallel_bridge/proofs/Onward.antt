@@ -1,11 +1,10 @@
 -- Taking some items, and then more, is taking all of them.
 use Rattle.std.proofs.Common.{◌≡◌, List, [], ◌∷◌, ◌++◌, Result, Ok, Err, Option, Some, None, refl, sym, ◌∙◌, ap, subst, append_assoc, inl, inr, IsTrue, is_err}
-use Rattle.std.proofs.lemmas.List.{append-nil}
 use Rattle.std.specs.declared.vec.Vec.{Vec}
 use Rattle.std.specs.declared.alloc.Global.{Global}
 use Rattle.parallel_bridge.specs.Outcomes.{joined}
-use Rattle.parallel_bridge.specs.Lists.{MapOf, Chain}
-use Rattle.parallel_bridge.specs.Tries.{EachOk, FirstErr, TryChain, TryMapOf}
+use Rattle.parallel_bridge.specs.Lists.{Chain}
+use Rattle.parallel_bridge.specs.Tries.{EachOk, TryChain, TryMapOf}
 use Rattle.parallel_bridge.specs.Parts.{PartitionOf, values_of, keys_of}
 use Rattle.parallel_bridge.specs.Onto.{TryMapOnto, TryMapBehind, PartitionOnto, TryContinues}
 use Rattle.parallel_bridge.proofs.Shapes.{MapOf-append}
@@ -67,20 +66,20 @@ keys_of-append ((k, None) ∷ ps) qs = ap (λ l. k ∷ l) (keys_of-append ps qs)
 module _ {X K U : Type 0} (allowed : X → (K × Option U) → Type 0) where
   pub PartitionOf-append : (xs ys : List X) (us us' : List U) (ks ks' : List K) → PartitionOf allowed xs us ks → PartitionOf allowed ys us' ks' → PartitionOf allowed (xs ++ ys) (us ++ us') (ks ++ ks')
   PartitionOf-append xs ys us us' ks ks' (ps, each, are_us, are_ks) (qs, each', are_us', are_ks') = (
-      ps ++ qs,
-      MapOf-append allowed xs ys ps qs each each',
-      ap (λ l. l ++ us') are_us ∙ ap (λ l. values_of ps ++ l) are_us' ∙ sym (values_of-append ps qs),
-      ap (λ l. l ++ ks') are_ks ∙ ap (λ l. keys_of ps ++ l) are_ks' ∙ sym (keys_of-append ps qs),
-    )
+    ps ++ qs,
+    MapOf-append allowed xs ys ps qs each each',
+    ap (λ l. l ++ us') are_us ∙ ap (λ l. values_of ps ++ l) are_us' ∙ sym (values_of-append ps qs),
+    ap (λ l. l ++ ks') are_ks ∙ ap (λ l. keys_of ps ++ l) are_ks' ∙ sym (keys_of-append ps qs),
+  )
 
   pub part_append : (values us us' : List U) (keys ks ks' : List K) (xs ys : List X) → PartitionOnto allowed values keys xs us ks → PartitionOnto allowed us ks ys us' ks' → PartitionOnto allowed values keys (xs ++ ys) us' ks'
   part_append values us us' keys ks ks' xs ys (new_us, new_ks, at_us, at_ks, part) (more_us, more_ks, at_us', at_ks', part') = (
-      new_us ++ more_us,
-      new_ks ++ more_ks,
-      at_us' ∙ ap (λ l. l ++ more_us) at_us ∙ append_assoc values new_us more_us,
-      at_ks' ∙ ap (λ l. l ++ more_ks) at_ks ∙ append_assoc keys new_ks more_ks,
-      PartitionOf-append xs ys new_us more_us new_ks more_ks part part',
-    )
+    new_us ++ more_us,
+    new_ks ++ more_ks,
+    at_us' ∙ ap (λ l. l ++ more_us) at_us ∙ append_assoc values new_us more_us,
+    at_ks' ∙ ap (λ l. l ++ more_ks) at_ks ∙ append_assoc keys new_ks more_ks,
+    PartitionOf-append xs ys new_us more_us new_ks more_ks part part',
+  )
 
 -- the items of lists of lists one after another
 pub joined-append : {T : Type 0} (vs ws : List (Vec T Global)) → joined (vs ++ ws) ≡ joined vs ++ joined ws

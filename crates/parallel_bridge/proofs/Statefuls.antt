@@ -1,7 +1,7 @@
 -- Whichever way states go along a list, its answers fall into segments, each from a fresh state.
-use Rattle.std.proofs.Common.{◌≡◌, ℕ, zero, suc, List, [], ◌∷◌, ◌++◌, refl, sym, ◌∙◌, ap, subst, append_assoc}
+use Rattle.std.proofs.Common.{ℕ, zero, suc, List, [], ◌∷◌, ◌++◌, sym, ◌∙◌, ap, subst, append_assoc}
 use Rattle.std.proofs.lemmas.List.{append-nil}
-use Rattle.parallel_bridge.specs.Shapes.{Cut, segment, halves, cut_items, Shape, AlongCut}
+use Rattle.parallel_bridge.specs.Shapes.{Cut, segment, halves, cut_items, Shape}
 use Rattle.parallel_bridge.specs.States.{StateSegment, Stateful, no_segment, more_segments, StatesAlong, StatesAs}
 use Rattle.parallel_bridge.proofs.Shapes.{Shape-items}
 

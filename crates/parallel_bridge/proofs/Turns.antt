@@ -3,10 +3,8 @@ use Rattle.std.proofs.Common.{◌≡◌, List, [], ◌∷◌, ◌++◌, Result, 
 use Rattle.std.proofs.lemmas.List.{append-nil}
 use Rattle.std.proofs.lemmas.List.Elements.{All-tail}
 use Rattle.std.specs.List.{All}
-use Rattle.parallel_bridge.specs.Lists.{MapOf, Chain}
 use Rattle.parallel_bridge.specs.States.{StatesFrom, StateChain}
-use Rattle.parallel_bridge.specs.Tries.{EachOk, FirstErr, TryChain, TryMapOf, before_none, unless_full}
-use Rattle.parallel_bridge.specs.Parts.{PartitionOf, values_of, keys_of}
+use Rattle.parallel_bridge.specs.Tries.{TryChain}
 use Rattle.parallel_bridge.specs.Onto.{TryMapOnto, PartitionOnto, ReducesTo}
 
 -- what holds of all items that are left holds of those after the first

@@ -1,7 +1,6 @@
 -- Maps and folds whose steps have a state at hand, which goes from item to item.
 use Rattle.std.specs.Prelude.{◌≡◌, ℕ, zero, suc, List, [], ◌∷◌, ◌++◌}
 use Rattle.std.specs.Borrow.{MutBor}
-use Rattle.parallel_bridge.specs.Lists.{Brackets}
 use Rattle.parallel_bridge.specs.Shapes.{Cut, Shape, AlongCut}
 
 -- answered is a call that is lent a state: s is the state before the call, t the state after it, x the item, y the answer

@@ -104,7 +104,7 @@ fn drive<Rt: Threads + Sync, T: Send + Drop, C: Consumer<T> + Send>(
     };
     let second = match second {
         Ok(answer) => answer,
-        Err(trouble) => return Err(trouble),
+        Err(behind) => return Err(behind),
     };
     reducer.reduce(first, second)
 }

@@ -134,10 +134,10 @@ impl<T: Drop, E> Reducer<LinkedList<Vec<T>>, E> for ListReducer {
         left: LinkedList<Vec<T>>,
         right: LinkedList<Vec<T>>,
     ) -> Result<LinkedList<Vec<T>>, Trouble<E>> {
-        let mut all = left;
-        let mut rest = right;
-        all.append(&mut rest)?;
-        Ok(all)
+        let mut lists = left;
+        let mut others = right;
+        lists.append(&mut others)?;
+        Ok(lists)
     }
 }
 

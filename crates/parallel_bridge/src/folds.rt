@@ -35,7 +35,8 @@ pub struct FoldFolder<'c, C, R, F> {
     pub fold_op: &'c F,
 }
 
-impl<'c, X: Drop, U: Drop, R, E, C: Folder<U, R, E>, F: Fn(U, X) -> U> Folder<X, R, E> for FoldFolder<'c, C, U, F> {
+impl<'c, X: Drop, U: Drop, R, E, C: Folder<U, R, E>, F: Fn(U, X) -> U> Folder<X, R, E>
+    for FoldFolder<'c, C, U, F> {
     ghost ready = { λ s. C.ready s.base × ((u : U) → C.takes s.base u) × F.IsAlwaysCallable s.fold_op.now };
 
     ghost takes = { λ _ _. Unit {0} };
@@ -154,16 +155,11 @@ pub struct FoldInitFolder<'c, C, S, R, F> {
     pub fold_op: &'c F,
 }
 
-impl<
-    'c,
-    X: Drop,
-    S: Drop,
-    U: Drop,
+impl<'c, X: Drop, S: Drop, U: Drop, R, E, C: Folder<U, R, E>, F: Fn(U, &mut S, X) -> U> Folder<
+    X,
     R,
     E,
-    C: Folder<U, R, E>,
-    F: Fn(U, &mut S, X) -> U,
-> Folder<X, R, E> for FoldInitFolder<'c, C, S, U, F> {
+> for FoldInitFolder<'c, C, S, U, F> {
     ghost ready = { λ s. C.ready s.base × ((u : U) → C.takes s.base u) × F.IsAlwaysCallable s.fold_op.now };
 
     ghost takes = { λ _ _. Unit {0} };
@@ -333,7 +329,8 @@ impl<'r, T: Drop, G: Fn(T, T) -> T> Folder<T, T, Infallible> for ReduceFolder<'r
     }
 }
 
-impl<'r, T: Send + Drop, I: Fn() -> T + Sync, G: Fn(T, T) -> T + Sync> Consumer<T> for ReduceConsumer<'r, I, G> {
+impl<'r, T: Send + Drop, I: Fn() -> T + Sync, G: Fn(T, T) -> T + Sync> Consumer<T>
+    for ReduceConsumer<'r, I, G> {
     type Result = T;
 
     type Error = Infallible;

@@ -270,7 +270,7 @@ pub(crate) fn while_some<T: Drop>(
     let mut values = Vec::new(alloc);
     for item in items {
         match item {
-            Some(value) => values.push(value)?,
+            Some(kept) => values.push(kept)?,
             None => return Ok((values, true)),
         }
     }

@@ -31,7 +31,8 @@ pub struct MapFolder<'f, C, F> {
     pub map_op: &'f F,
 }
 
-impl<'f, X: Drop, T: Drop, R, E, C: Folder<T, R, E>, F: Fn(X) -> T> Folder<X, R, E> for MapFolder<'f, C, F> {
+impl<'f, X: Drop, T: Drop, R, E, C: Folder<T, R, E>, F: Fn(X) -> T> Folder<X, R, E>
+    for MapFolder<'f, C, F> {
     ghost ready = { λ s. C.ready s.base × ((y : T) → C.takes s.base y) };
 
     ghost takes = { λ s x. F.pre s.map_op.now x };
@@ -72,7 +73,8 @@ impl<'f, X: Drop, T: Drop, R, E, C: Folder<T, R, E>, F: Fn(X) -> T> Folder<X, R,
     }
 }
 
-impl<'f, X: Drop, T: Drop, C: Consumer<T>, F: Fn(X) -> T + Sync> Consumer<X> for MapConsumer<'f, C, F> {
+impl<'f, X: Drop, T: Drop, C: Consumer<T>, F: Fn(X) -> T + Sync> Consumer<X>
+    for MapConsumer<'f, C, F> {
     type Result = C::Result;
 
     type Error = C::Error;
@@ -134,16 +136,8 @@ pub struct MapWithFolder<'f, C, S, F> {
     pub map_op: &'f F,
 }
 
-impl<
-    'f,
-    X: Drop,
-    S: Drop,
-    T: Drop,
-    R,
-    E,
-    C: Folder<T, R, E>,
-    F: Fn(&mut S, X) -> T,
-> Folder<X, R, E> for MapWithFolder<'f, C, S, F> {
+impl<'f, X: Drop, S: Drop, T: Drop, R, E, C: Folder<T, R, E>, F: Fn(&mut S, X) -> T> Folder<X, R, E>
+    for MapWithFolder<'f, C, S, F> {
     ghost ready = { λ s. C.ready s.base × ((y : T) → C.takes s.base y) };
 
     ghost takes = { λ s x. (p : MutBor S) → F.pre s.map_op.now p x };

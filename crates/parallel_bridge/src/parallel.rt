@@ -26,11 +26,11 @@ pub fn map_parallel<
     ensures maps { IfOk result (λ ys. MapOf (F.post map_op.now) items.items ys.items) }
     ensures fault { IsMemoryOnErr result }
 {
-    let consumer = MapConsumer {
+    let mapping = MapConsumer {
         base: CollectConsumer,
         map_op,
     };
-    unfailing(bridge(rt, alloc, threads, items, consumer))
+    unfailing(bridge(rt, alloc, threads, items, mapping))
 }
 
 /// The items folded along the shape of the list for that many threads: each segment from an
@@ -61,10 +61,10 @@ pub fn fold_parallel<
         identity,
         reduce_op,
     };
-    let consumer = FoldConsumer {
+    let folding = FoldConsumer {
         base,
         identity,
         fold_op,
     };
-    unfailing(bridge(rt, alloc, threads, items, consumer))
+    unfailing(bridge(rt, alloc, threads, items, folding))
 }

@@ -56,7 +56,11 @@ impl<U: Drop, K: Drop> Reducer<(Vec<U>, Vec<K>), Infallible> for PartitionReduce
     }
 }
 
-impl<'f, X: Drop, U: Drop, K: Drop, F: Fn(X) -> (K, Option<U>)> Folder<X, (Vec<U>, Vec<K>), Infallible> for PartitionFolder<'f, U, K, F> {
+impl<'f, X: Drop, U: Drop, K: Drop, F: Fn(X) -> (K, Option<U>)> Folder<
+    X,
+    (Vec<U>, Vec<K>),
+    Infallible,
+> for PartitionFolder<'f, U, K, F> {
     ghost ready = { λ _. Unit {0} };
 
     ghost takes = { λ s x. F.pre s.map_op.now x };
@@ -98,7 +102,8 @@ impl<'f, X: Drop, U: Drop, K: Drop, F: Fn(X) -> (K, Option<U>)> Folder<X, (Vec<U
     }
 }
 
-impl<'f, X: Drop, U: Send + Drop, K: Send + Drop, F: Fn(X) -> (K, Option<U>) + Sync> Consumer<X> for PartitionConsumer<'f, F> {
+impl<'f, X: Drop, U: Send + Drop, K: Send + Drop, F: Fn(X) -> (K, Option<U>) + Sync> Consumer<X>
+    for PartitionConsumer<'f, F> {
     type Result = (Vec<U>, Vec<K>);
 
     type Error = Infallible;

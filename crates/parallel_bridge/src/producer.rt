@@ -36,7 +36,10 @@ impl<T: Drop> DrainProducer<T> {
     {
         let mut left = self.items;
         let right = left.split_off(index)?;
-        Ok((DrainProducer { items: left }, DrainProducer { items: right }))
+        Ok((
+            DrainProducer { items: left },
+            DrainProducer { items: right },
+        ))
     }
 
     /// The folder with all items taken, in order.

@@ -58,12 +58,12 @@ pub fn map_init_parallel<
     ensures along { IfOk result (λ ys. StatesAlong (N.post init.now) (MapStep (λ p x y q. F.post map_op.now p x y q)) (Shape (cutdepth (non_zero_usize_get threads)) items.items) ys.items) }
     ensures fault { IsMemoryOnErr result }
 {
-    let consumer = MapInitConsumer {
+    let mapping = MapInitConsumer {
         base: CollectConsumer,
         init,
         map_op,
     };
-    unfailing(bridge(rt, alloc, threads, items, consumer))
+    unfailing(bridge(rt, alloc, threads, items, mapping))
 }
 
 /// The items folded from an identity, in their order, with one state that `init` makes and that goes
@@ -75,12 +75,7 @@ pub fn fold_init_serial<
     N: Fn() -> S,
     I: Fn() -> R,
     F: Fn(R, &mut S, X) -> R,
->(
-    items: Vec<X>,
-    init: &N,
-    identity: &I,
-    fold_op: &F,
-) -> R
+>(items: Vec<X>, init: &N, identity: &I, fold_op: &F) -> R
     requires init_accepts { N.IsAlwaysCallable init.now }
     requires identity_accepts { I.IsAlwaysCallable identity.now }
     requires fold_accepts { F.IsAlwaysCallable fold_op.now }
@@ -99,12 +94,7 @@ pub fn fold_init_iter<
     N: Fn() -> S,
     I: Fn() -> R,
     F: Fn(R, &mut S, X::Item) -> R,
->(
-    iter: X,
-    init: &N,
-    identity: &I,
-    fold_op: &F,
-) -> R
+>(iter: X, init: &N, identity: &I, fold_op: &F) -> R
     requires can { X.can_next iter }
     requires ends { IsFinite (X.remaining iter) }
     requires init_accepts { N.IsAlwaysCallable init.now }
@@ -154,11 +144,11 @@ pub fn fold_init_parallel<
         identity,
         reduce_op,
     };
-    let consumer = FoldInitConsumer {
+    let folding = FoldInitConsumer {
         base,
         init,
         identity,
         fold_op,
     };
-    unfailing(bridge(rt, alloc, threads, items, consumer))
+    unfailing(bridge(rt, alloc, threads, items, folding))
 }

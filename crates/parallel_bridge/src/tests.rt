@@ -8,8 +8,9 @@ use crate::fallible::{try_fold_parallel, try_fold_serial, try_map_parallel, try_
 use crate::maps::WhileSomeConsumer;
 use crate::partition::{partition_parallel, partition_serial};
 use crate::producer::DrainProducer;
-use crate::stateful::{fold_init_iter, fold_init_parallel, fold_init_serial};
-use crate::stateful::{map_init_parallel, map_init_serial};
+use crate::stateful::{
+    fold_init_iter, fold_init_parallel, fold_init_serial, map_init_parallel, map_init_serial,
+};
 use parallel_fault::Trouble;
 use std::num::NonZeroUsize;
 use std::process::Abort;
@@ -54,10 +55,18 @@ fn the_first_failing_item_wins(rt: HostRuntime) -> Result<(), Fail> {
     let halve = |n: u8| -> Result<u8, u8> { if n % 2 == 0 { Ok(n / 2) } else { Err(n) } };
     let even = || vec![in alloc; 2u8, 4, 6];
     let odd = || vec![in alloc; 2u8, 4, 7, 8, 9];
-    assert_eq!(rt; try_map_serial(alloc, even()?, &halve)?.as_slice(), [1, 2, 3].as_slice());
+    assert_eq!(rt;
+        try_map_serial(alloc, even()?, &halve)?.as_slice(),
+        [1, 2, 3].as_slice()
+    );
     let parallel = try_map_parallel(&rt, alloc, number(&rt, 2), even()?, &halve)?;
     assert_eq!(rt; parallel.as_slice(), [1, 2, 3].as_slice());
-    assert!(rt; matches!(try_map_serial(alloc, odd()?, &halve), Err(Trouble::Closure(7))));
+    assert!(rt;
+        matches!(
+            try_map_serial(alloc, odd()?, &halve),
+            Err(Trouble::Closure(7))
+        )
+    );
     let parallel = try_map_parallel(&rt, alloc, number(&rt, 4), odd()?, &halve);
     assert!(rt; matches!(parallel, Err(Trouble::Closure(7))));
     Ok(())
@@ -68,7 +77,11 @@ fn a_segment_that_fails_ends_the_fold(rt: HostRuntime) -> Result<(), Fail> {
     let alloc = rt.alloc();
     let hundred = || 100u64;
     let odd = |sum: u64, n: u64| -> Result<u64, u64> {
-        if n % 2 == 0 { Err(n) } else { Ok(sum.wrapping_add(n)) }
+        if n % 2 == 0 {
+            Err(n)
+        } else {
+            Ok(sum.wrapping_add(n))
+        }
     };
     let add = |a: u64, b: u64| a.wrapping_add(b);
     let four = || vec![in alloc; 1u64, 2, 3, 4];
@@ -82,7 +95,15 @@ fn a_segment_that_fails_ends_the_fold(rt: HostRuntime) -> Result<(), Fail> {
     };
     let sixes = || vec![in alloc; 6u64, 6];
     assert_eq!(rt; try_fold_serial(sixes()?, &nothing, &to_ten), Err(6));
-    let parallel = try_fold_parallel(&rt, alloc, number(&rt, 2), sixes()?, &nothing, &to_ten, &add);
+    let parallel = try_fold_parallel(
+        &rt,
+        alloc,
+        number(&rt, 2),
+        sixes()?,
+        &nothing,
+        &to_ten,
+        &add,
+    );
     assert_eq!(rt; parallel, Ok(12));
     Ok(())
 }
@@ -114,8 +135,20 @@ fn a_fold_hands_its_state_on(rt: HostRuntime) -> Result<(), Fail> {
     let add = |a: u64, b: u64| a.wrapping_add(b);
     let three = || vec![in alloc; 5u64, 6, 7];
     assert_eq!(rt; fold_init_serial(three()?, &nothing, &nothing, &weigh), 38);
-    assert_eq!(rt; fold_init_iter(three()?.into_iter(), &nothing, &nothing, &weigh), 38);
-    let parallel = fold_init_parallel(&rt, alloc, number(&rt, 2), three()?, &nothing, &nothing, &weigh, &add)?;
+    assert_eq!(rt;
+        fold_init_iter(three()?.into_iter(), &nothing, &nothing, &weigh),
+        38
+    );
+    let parallel = fold_init_parallel(
+        &rt,
+        alloc,
+        number(&rt, 2),
+        three()?,
+        &nothing,
+        &nothing,
+        &weigh,
+        &add,
+    )?;
     assert_eq!(rt; parallel, 18);
     Ok(())
 }
@@ -124,7 +157,11 @@ fn a_fold_hands_its_state_on(rt: HostRuntime) -> Result<(), Fail> {
 fn values_and_keys_keep_their_order(rt: HostRuntime) -> Result<(), Fail> {
     let alloc = rt.alloc();
     let even = |n: u8| -> (u8, Option<u32>) {
-        if n % 2 == 0 { (n, Some(u32::from(n) * 10)) } else { (n, None) }
+        if n % 2 == 0 {
+            (n, Some(u32::from(n) * 10))
+        } else {
+            (n, None)
+        }
     };
     let six = || vec![in alloc; 0u8, 1, 2, 3, 4, 5];
     let (values, keys) = partition_serial(alloc, six()?, &even)?;

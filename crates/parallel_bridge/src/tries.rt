@@ -10,7 +10,9 @@ ghost use Rattle.parallel_bridge.specs.Tries.{OnlyOk, TryChain, TryFoldSegment, 
 
 use crate::collect::CollectReducer;
 use crate::consumer::{Consumer, Folder, Reducer};
-use crate::loops::{try_fold_onward, try_fold_step, try_map_onward, try_map_step, try_reduce_onward};
+use crate::loops::{
+    try_fold_onward, try_fold_step, try_map_onward, try_map_step, try_reduce_onward,
+};
 use parallel_fault::{Fault, Trouble};
 use std::alloc::Global;
 
@@ -31,7 +33,8 @@ pub struct TryMapFolder<'f, T, E, F> {
     pub map_op: &'f F,
 }
 
-impl<'f, X: Drop, T: Drop, E: Drop, F: Fn(X) -> Result<T, E>> Folder<X, Vec<T>, E> for TryMapFolder<'f, T, E, F> {
+impl<'f, X: Drop, T: Drop, E: Drop, F: Fn(X) -> Result<T, E>> Folder<X, Vec<T>, E>
+    for TryMapFolder<'f, T, E, F> {
     ghost ready = { λ _. Unit {0} };
 
     ghost takes = { λ s x. F.pre s.map_op.now x };
@@ -73,7 +76,8 @@ impl<'f, X: Drop, T: Drop, E: Drop, F: Fn(X) -> Result<T, E>> Folder<X, Vec<T>, 
     }
 }
 
-impl<'f, X: Drop, T: Send + Drop, E: Send + Drop, F: Fn(X) -> Result<T, E> + Sync> Consumer<X> for TryMapConsumer<'f, F> {
+impl<'f, X: Drop, T: Send + Drop, E: Send + Drop, F: Fn(X) -> Result<T, E> + Sync> Consumer<X>
+    for TryMapConsumer<'f, F> {
     type Result = Vec<T>;
 
     type Error = E;
@@ -259,7 +263,8 @@ impl<'r, T, E, I: Fn() -> T, G: Fn(T, T) -> T> Reducer<T, E> for TryReduceConsum
     }
 }
 
-impl<'r, T: Drop, E: Drop, G: Fn(T, T) -> T> Folder<Result<T, E>, T, E> for TryReduceFolder<'r, T, E, G> {
+impl<'r, T: Drop, E: Drop, G: Fn(T, T) -> T> Folder<Result<T, E>, T, E>
+    for TryReduceFolder<'r, T, E, G> {
     ghost ready = { λ s. G.IsAlwaysCallable s.reduce_op.now };
 
     ghost takes = { λ _ _. Unit {0} };
@@ -305,7 +310,9 @@ impl<'r, T: Drop, E: Drop, G: Fn(T, T) -> T> Folder<Result<T, E>, T, E> for TryR
     }
 }
 
-impl<'r, T: Send + Drop, E: Send + Drop, I: Fn() -> T + Sync, G: Fn(T, T) -> T + Sync> Consumer<Result<T, E>> for TryReduceConsumer<'r, I, G> {
+impl<'r, T: Send + Drop, E: Send + Drop, I: Fn() -> T + Sync, G: Fn(T, T) -> T + Sync> Consumer<
+    Result<T, E>,
+> for TryReduceConsumer<'r, I, G> {
     type Result = T;
 
     type Error = E;

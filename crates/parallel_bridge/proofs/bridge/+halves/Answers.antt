@@ -1,5 +1,5 @@
 -- The outcomes of the halves go along the shape, and of two errors the left one stands.
-use Rattle.std.proofs.Common.{rules, ◌≡◌, ◌-◌, ◌/◌, take, drop, arith, Ok, Err, Result, refl, inl, inr, subst}
+use Rattle.std.proofs.Common.{◌-◌, ◌/◌, arith, Ok, Err, refl, inl, inr, subst}
 use Rattle.parallel_bridge.specs.Shapes.{Shape}
 use Rattle.parallel_bridge.specs.Outcomes.{UnlessRefused}
 use Rattle.parallel_bridge.specs.Tries.{TryAlongCut}
@@ -28,7 +28,7 @@ returns-in-Err g t c =
     let first : UnlessRefused c.join-first.result.0 (TryAlongCut (C.leaf_gives left) (C.node_gives left) (Shape (depth - 1) front)) = c.join-first.ensures.first in
     unless_error c.in-Err.trouble (TryAlongCut (C.leaf_gives left) (C.node_gives left) (Shape (depth - 1) front)) (TryAlongCut (C.leaf_gives self) (C.node_gives self) (Shape depth xs))
     (λ e h. try_along_node (C.leaf_gives self) (C.node_gives self) depth (c.len-middle.result / 2) xs front back (Err e) (omega arith) (omega arith) (omega arith) c.in_ok-back.ensures.items c.in_ok-back.ensures.tail
-      (inr (inl (e, refl, try_along_wider (C.leaf_gives left) (C.leaf_gives self) (C.node_gives left) (C.node_gives self) c.in_ok-left.ensures.left_leaf c.in_ok-left.ensures.left_node (Shape (depth - 1) front) (Err e) h))))
+    (inr (inl (e, refl, try_along_wider (C.leaf_gives left) (C.leaf_gives self) (C.node_gives left) (C.node_gives self) c.in_ok-left.ensures.left_leaf c.in_ok-left.ensures.left_node (Shape (depth - 1) front) (Err e) h))))
     (subst (λ r. UnlessRefused r (TryAlongCut (C.leaf_gives left) (C.node_gives left) (Shape (depth - 1) front))) c.in-Err.is first)
 
 pub returns-in-Err-second : goal.returns-in-Err-second
@@ -45,11 +45,15 @@ returns-in-Err-second g t c =
     let first : UnlessRefused c.join-first.result.0 (TryAlongCut (C.leaf_gives left) (C.node_gives left) (Shape (depth - 1) front)) = c.join-first.ensures.first in
     let second : UnlessRefused c.join-first.result.1 (TryAlongCut (C.leaf_gives right) (C.node_gives right) (Shape (depth - 1) back)) = c.join-first.ensures.second in
     let first' = subst (λ r. UnlessRefused r (TryAlongCut (C.leaf_gives left) (C.node_gives left) (Shape (depth - 1) front))) c.in-Ok.is first in
-    unless_error c.in-Err-second.trouble (TryAlongCut (C.leaf_gives right) (C.node_gives right) (Shape (depth - 1) back)) (TryAlongCut (C.leaf_gives self) (C.node_gives self) (Shape depth xs))
+    unless_error c.in-Err-second.behind (TryAlongCut (C.leaf_gives right) (C.node_gives right) (Shape (depth - 1) back)) (TryAlongCut (C.leaf_gives self) (C.node_gives self) (Shape depth xs))
     (λ e h. try_along_node (C.leaf_gives self) (C.node_gives self) depth (c.len-middle.result / 2) xs front back (Err e) (omega arith) (omega arith) (omega arith) c.in_ok-back.ensures.items c.in_ok-back.ensures.tail
-      (inr (inr (a, e, refl,
-        try_along_wider (C.leaf_gives left) (C.leaf_gives self) (C.node_gives left) (C.node_gives self) c.in_ok-left.ensures.left_leaf c.in_ok-left.ensures.left_node (Shape (depth - 1) front) (Ok a) first',
-        try_along_wider (C.leaf_gives right) (C.leaf_gives self) (C.node_gives right) (C.node_gives self) c.in_ok-left.ensures.right_leaf c.in_ok-left.ensures.right_node (Shape (depth - 1) back) (Err e) h))))
+    (inr (inr (
+      a,
+      e,
+      refl,
+      try_along_wider (C.leaf_gives left) (C.leaf_gives self) (C.node_gives left) (C.node_gives self) c.in_ok-left.ensures.left_leaf c.in_ok-left.ensures.left_node (Shape (depth - 1) front) (Ok a) first',
+      try_along_wider (C.leaf_gives right) (C.leaf_gives self) (C.node_gives right) (C.node_gives self) c.in_ok-left.ensures.right_leaf c.in_ok-left.ensures.right_node (Shape (depth - 1) back) (Err e) h,
+    ))))
     (subst (λ r. UnlessRefused r (TryAlongCut (C.leaf_gives right) (C.node_gives right) (Shape (depth - 1) back))) c.in-Err-second.is second)
 
 pub returns : goal.returns
@@ -70,8 +74,11 @@ returns g t c =
     let second' = subst (λ r. UnlessRefused r (TryAlongCut (C.leaf_gives right) (C.node_gives right) (Shape (depth - 1) back))) c.in-Ok-second.is second in
     unless_weaker c.reduce.result (g.C.Reducer.Reducer.reduce_gives c.in_ok-left.reducer a b) (TryAlongCut (C.leaf_gives self) (C.node_gives self) (Shape depth xs))
     (λ out n. try_along_node (C.leaf_gives self) (C.node_gives self) depth (c.len-middle.result / 2) xs front back out (omega arith) (omega arith) (omega arith) c.in_ok-back.ensures.items c.in_ok-back.ensures.tail
-      (inl (a, b,
-        try_along_wider (C.leaf_gives left) (C.leaf_gives self) (C.node_gives left) (C.node_gives self) c.in_ok-left.ensures.left_leaf c.in_ok-left.ensures.left_node (Shape (depth - 1) front) (Ok a) first',
-        try_along_wider (C.leaf_gives right) (C.leaf_gives self) (C.node_gives right) (C.node_gives self) c.in_ok-left.ensures.right_leaf c.in_ok-left.ensures.right_node (Shape (depth - 1) back) (Ok b) second',
-        c.in_ok-left.ensures.node a b out n)))
+    (inl (
+      a,
+      b,
+      try_along_wider (C.leaf_gives left) (C.leaf_gives self) (C.node_gives left) (C.node_gives self) c.in_ok-left.ensures.left_leaf c.in_ok-left.ensures.left_node (Shape (depth - 1) front) (Ok a) first',
+      try_along_wider (C.leaf_gives right) (C.leaf_gives self) (C.node_gives right) (C.node_gives self) c.in_ok-left.ensures.right_leaf c.in_ok-left.ensures.right_node (Shape (depth - 1) back) (Ok b) second',
+      c.in_ok-left.ensures.node a b out n,
+    )))
     c.reduce.ensures

@@ -1,9 +1,6 @@
 -- The value of each segment is reduced behind an identity, unless it fails.
-use Rattle.std.proofs.Common.{List, Result, Ok, Err, Option, ◌≡◌, ◌++◌, ◌∷◌, []}
-use Rattle.std.specs.declared.vec.Vec.{Vec}
-use Rattle.std.specs.declared.alloc.Global.{Global}
-use Rattle.std.specs.declared.convert.Infallible.{Infallible}
-use Rattle.parallel_bridge.specs.Shapes.{Shape, cutdepth, AlongLeaves, Along}
+use Rattle.std.proofs.Common.{Result, ◌∷◌, []}
+use Rattle.parallel_bridge.specs.Shapes.{Shape, cutdepth}
 use Rattle.parallel_bridge.specs.Tries.{TryAlongCut, OnlyOk}
 use Rattle.parallel_bridge.specs.Tries.{TryFoldSegment, TryAlong, TryBracketing}
 use Rattle.parallel_bridge.specs.Onto.{ReducesTo}

@@ -1,9 +1,8 @@
 -- The values of two parts are joined, and of two errors the left one stands.
-use Rattle.std.proofs.Common.{List, Result, Ok, Err, Option, ◌≡◌, ◌++◌, ◌∷◌, []}
+use Rattle.std.proofs.Common.{Result, ◌≡◌, ◌++◌}
 use Rattle.std.specs.declared.vec.Vec.{Vec}
 use Rattle.std.specs.declared.alloc.Global.{Global}
-use Rattle.std.specs.declared.convert.Infallible.{Infallible}
-use Rattle.parallel_bridge.specs.Shapes.{Shape, cutdepth, AlongLeaves, Along}
+use Rattle.parallel_bridge.specs.Shapes.{Shape, cutdepth}
 use Rattle.parallel_bridge.specs.Tries.{TryAlongCut, OnlyOk}
 use Rattle.parallel_bridge.specs.Outcomes.{listed}
 use Rattle.parallel_bridge.specs.Tries.{TryMapOf}

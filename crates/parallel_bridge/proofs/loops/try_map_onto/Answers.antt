@@ -1,5 +1,5 @@
 -- One turn is one value more, or the first error.
-use Rattle.std.proofs.Common.{rules, arith, ◌≡◌, ◌∷◌, ◌++◌, [], Result, Ok, Err, sym, subst}
+use Rattle.std.proofs.Common.{rules, arith, ◌≡◌, ◌∷◌, ◌++◌, [], Result, Ok, Err, subst}
 use Rattle.std.proofs.lemmas.List.{nil_from_length}
 use Rattle.std.specs.Vec.Iter.{into_iter_items}
 use Rattle.parallel_bridge.specs.Onto.{TryMapOnto}
@@ -10,10 +10,10 @@ pub loop-item-preserved : goal.loop-item-preserved
 loop-item-preserved g c = record {
   accepts = all_turn (λ x. goal.F-pre g c.args.map_op.now x) _ _ _ c.in-Some.ensures.steps.0 c.loop-item.invariant.accepts;
   reached = λ out h.
-    let allowed = λ (x : g.row.X.Denot) (o : Result g.row.T.Denot g.row.E.Denot). goal.F-post g c.args.map_op.now x o in
-    let rest = into_iter_items c.next.new.self in
-    let more : c.push.new.self.items ≡ c.loop-item.values.items ++ c.in-Ok.value ∷ [] = search rules in
-    c.loop-item.invariant.reached out (onto_turn allowed c.loop-item.values.items _ rest _ c.in-Ok.value out c.in-Some.ensures.steps.0 c.in-Ok.ensures (subst (λ l. TryMapOnto allowed l rest out) more h));
+      let allowed = λ (x : g.row.X.Denot) (o : Result g.row.T.Denot g.row.E.Denot). goal.F-post g c.args.map_op.now x o in
+      let rest = into_iter_items c.next.new.self in
+      let more : c.push.new.self.items ≡ c.loop-item.values.items ++ c.in-Ok.value ∷ [] = search rules in
+      c.loop-item.invariant.reached out (onto_turn allowed c.loop-item.values.items _ rest _ c.in-Ok.value out c.in-Some.ensures.steps.0 c.in-Ok.ensures (subst (λ l. TryMapOnto allowed l rest out) more h));
 }
 
 pub returns-in-Err : goal.returns-in-Err

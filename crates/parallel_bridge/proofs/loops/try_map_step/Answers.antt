@@ -1,5 +1,5 @@
 -- The item fails.
-use Rattle.std.proofs.Common.{Result, Ok, Err, ◌∷◌, [], refl, sym, subst}
+use Rattle.std.proofs.Common.{Result, Err, ◌∷◌, [], refl, sym, subst}
 use Rattle.parallel_bridge.specs.Outcomes.{listed}
 use Rattle.parallel_bridge.specs.Onto.{TryMapBehind}
 use Rattle.parallel_bridge.proofs.Turns.{onto_fails}

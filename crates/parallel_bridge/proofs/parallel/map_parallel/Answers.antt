@@ -1,9 +1,7 @@
 -- What the lists of the segments join to are the answers of all items.
-use Rattle.std.proofs.Common.{List, Result, Ok, Err, Option, ◌≡◌, ◌++◌, ◌∷◌, []}
-use Rattle.std.specs.declared.vec.Vec.{Vec}
-use Rattle.std.specs.declared.alloc.Global.{Global}
+use Rattle.std.proofs.Common.{List, ◌≡◌, ◌++◌}
 use Rattle.std.specs.declared.convert.Infallible.{Infallible}
-use Rattle.parallel_bridge.specs.Shapes.{Shape, cutdepth, AlongLeaves, Along}
+use Rattle.parallel_bridge.specs.Shapes.{Shape, cutdepth}
 use Rattle.parallel_bridge.specs.Tries.{TryAlongCut, OnlyOk}
 use Rattle.parallel_bridge.specs.Lists.{MapOf}
 use Rattle.parallel_bridge.proofs.Drivers.{driven, map_driven}

@@ -1,9 +1,9 @@
 -- The values and the keys of two parts are joined.
-use Rattle.std.proofs.Common.{List, Result, Ok, Err, Option, ◌≡◌, ◌++◌, ◌∷◌, []}
+use Rattle.std.proofs.Common.{Option, ◌≡◌, ◌++◌}
 use Rattle.std.specs.declared.vec.Vec.{Vec}
 use Rattle.std.specs.declared.alloc.Global.{Global}
 use Rattle.std.specs.declared.convert.Infallible.{Infallible}
-use Rattle.parallel_bridge.specs.Shapes.{Shape, cutdepth, AlongLeaves, Along}
+use Rattle.parallel_bridge.specs.Shapes.{Shape, cutdepth}
 use Rattle.parallel_bridge.specs.Tries.{TryAlongCut, OnlyOk}
 use Rattle.parallel_bridge.specs.Parts.{PartitionOf}
 use Rattle.parallel_bridge.proofs.Drivers.{driven, partition_shape}

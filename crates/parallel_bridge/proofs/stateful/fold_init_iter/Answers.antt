@@ -1,5 +1,5 @@
 -- One turn is one step more of the chain over the items that came.
-use Rattle.std.proofs.Common.{rules, List, ◌∷◌, ◌++◌, [], refl, sym, subst, append_assoc}
+use Rattle.std.proofs.Common.{rules, ◌∷◌, [], refl, sym, subst, append_assoc}
 use Rattle.std.proofs.lemmas.List.{append-nil}
 use Rattle.std.specs.Borrow.{MutBor}
 use Rattle.parallel_bridge.specs.States.{FoldStep, StateChain}
@@ -11,10 +11,10 @@ loop-item-preserved g c = record {
   first_accepts = search rules;
   step_accepts = search rules;
   reached = λ more b h.
-    let step = FoldStep (λ (a : g.row.R.Denot) (p : MutBor g.row.S.Denot) (x : g.row.X-Item.Denot) (b : g.row.R.Denot) (q : MutBor g.row.S.Denot). goal.F-post g c.args.fold_op.now a p x b q) in
-    let item = c.in-Some.item in
-    subst (λ l. StateChain step c.init-state.result c.identity-value.result l b) (sym (append_assoc c.loop-item.yielded (item ∷ []) more))
-    (c.loop-item.invariant.reached (item ∷ more) b (_, _, search rules, h));
+      let step = FoldStep (λ (a : g.row.R.Denot) (p : MutBor g.row.S.Denot) (x : g.row.X-Item.Denot) (b : g.row.R.Denot) (q : MutBor g.row.S.Denot). goal.F-post g c.args.fold_op.now a p x b q) in
+      let item = c.in-Some.item in
+      subst (λ l. StateChain step c.init-state.result c.identity-value.result l b) (sym (append_assoc c.loop-item.yielded (item ∷ []) more))
+      (c.loop-item.invariant.reached (item ∷ more) b (_, _, search rules, h));
 }
 
 pub returns : goal.returns

@@ -1,9 +1,7 @@
 -- The value of each segment is reduced behind an identity.
-use Rattle.std.proofs.Common.{List, Result, Ok, Err, Option, ◌≡◌, ◌++◌, ◌∷◌, []}
-use Rattle.std.specs.declared.vec.Vec.{Vec}
-use Rattle.std.specs.declared.alloc.Global.{Global}
+use Rattle.std.proofs.Common.{◌∷◌, []}
 use Rattle.std.specs.declared.convert.Infallible.{Infallible}
-use Rattle.parallel_bridge.specs.Shapes.{Shape, cutdepth, AlongLeaves, Along}
+use Rattle.parallel_bridge.specs.Shapes.{Shape, cutdepth, AlongLeaves}
 use Rattle.parallel_bridge.specs.Tries.{TryAlongCut, OnlyOk}
 use Rattle.std.specs.Borrow.{MutBor}
 use Rattle.parallel_bridge.specs.Lists.{FoldSegment, Brackets}

@@ -1,5 +1,5 @@
 -- The chain from the fresh state and the identity.
-use Rattle.std.proofs.Common.{rules, ◌++◌, [], refl, subst}
+use Rattle.std.proofs.Common.{[], refl, subst}
 use Rattle.std.proofs.lemmas.List.{append-nil}
 use Rattle.std.specs.Borrow.{MutBor}
 use Rattle.parallel_bridge.specs.States.{FoldStep, StateChain}

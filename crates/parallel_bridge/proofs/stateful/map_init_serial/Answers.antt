@@ -1,5 +1,5 @@
 -- The answers from the fresh state.
-use Rattle.std.proofs.Common.{rules, List, ◌++◌, [], refl, subst, ap}
+use Rattle.std.proofs.Common.{List, ◌++◌, [], refl, subst}
 use Rattle.std.proofs.lemmas.List.{append-nil}
 use Rattle.std.proofs.lemmas.Result.{IfOk-weaker}
 use Rattle.std.specs.Borrow.{MutBor}

@@ -1,5 +1,5 @@
 -- The answers go on to the base, in order.
-use Rattle.std.proofs.Common.{rules, ◌++◌}
+use Rattle.std.proofs.Common.{◌++◌}
 use Rattle.parallel_bridge.proofs.maps.MapWithFolderFolder.consume_iter.Goals as goal
 
 pub map_init_from-requires : goal.map_init_from-requires

@@ -1,5 +1,5 @@
 -- Nothing comes behind what is there.
-use Rattle.std.proofs.Common.{rules, ◌≡◌, [], sym, refl}
+use Rattle.std.proofs.Common.{[], sym, refl}
 use Rattle.std.proofs.lemmas.List.{append-nil}
 use Rattle.parallel_bridge.proofs.parts.PartitionFolderFolderTuple2VecVecInfallible.complete.Goals as goal
 

@@ -1,5 +1,5 @@
 -- A chain from an identity.
-use Rattle.std.proofs.Common.{rules, ◌∷◌, []}
+use Rattle.std.proofs.Common.{◌∷◌, []}
 use Rattle.parallel_bridge.proofs.tries.TryFoldConsumerConsumer.into_folder.Goals as goal
 
 pub returns-clause-gives : goal.returns-clause-gives

@@ -1,5 +1,5 @@
 -- The parts fold as the whole, and their bases give what the base may give.
-use Rattle.std.proofs.Common.{rules, ◌∷◌, []}
+use Rattle.std.proofs.Common.{◌∷◌, []}
 use Rattle.parallel_bridge.proofs.tries.TryFoldConsumerConsumer.split_at.Goals as goal
 
 pub returns-clause-left_leaf : goal.returns-clause-left_leaf

@@ -1,5 +1,5 @@
 -- The base takes the outcome.
-use Rattle.std.proofs.Common.{Result, List, ◌∷◌, []}
+use Rattle.std.proofs.Common.{Result, ◌∷◌, []}
 use Rattle.parallel_bridge.specs.Onto.{TryContinues}
 use Rattle.parallel_bridge.proofs.Outcomes.{unless_weaker}
 use Rattle.parallel_bridge.proofs.Onward.{try_rests}

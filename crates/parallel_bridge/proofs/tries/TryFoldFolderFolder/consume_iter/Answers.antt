@@ -1,5 +1,5 @@
 -- A chain over the items and one over more are one chain.
-use Rattle.std.proofs.Common.{Result, ◌∷◌, []}
+use Rattle.std.proofs.Common.{Result}
 use Rattle.parallel_bridge.proofs.Onward.{try_onward}
 use Rattle.parallel_bridge.proofs.tries.TryFoldFolderFolder.consume_iter.Goals as goal
 

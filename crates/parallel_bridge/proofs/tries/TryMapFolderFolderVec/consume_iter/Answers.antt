@@ -1,5 +1,5 @@
 -- What comes behind the items comes behind all of it.
-use Rattle.std.proofs.Common.{Result, ◌∷◌, []}
+use Rattle.std.proofs.Common.{Result}
 use Rattle.parallel_bridge.specs.Outcomes.{listed}
 use Rattle.parallel_bridge.proofs.Onward.{behind_append}
 use Rattle.parallel_bridge.proofs.tries.TryMapFolderFolderVec.consume_iter.Goals as goal

@@ -1,5 +1,4 @@
 -- A chain over the outcomes and one over more are one chain.
-use Rattle.std.proofs.Common.{Result}
 use Rattle.parallel_bridge.specs.Onto.{ReducesTo}
 use Rattle.parallel_bridge.proofs.Onward.{try_onward}
 use Rattle.parallel_bridge.proofs.tries.TryReduceFolderFolderResult.consume_iter.Goals as goal
