@@ -1,4 +1,4 @@
-//! The pool on whose threads the calls of a strategy run.
+//! The pool on whose threads the calls of a strategy run, latches, and the sleep of idle workers.
 #![tactic(auto)]
 
 pub mod latch;
