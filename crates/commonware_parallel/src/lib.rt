@@ -22,7 +22,7 @@ pub use parallel_bridge as bridge;
 pub use parallel_fault::{Fault, Trouble};
 pub use parallel_policy as policy;
 pub use parallel_policy::{Clock, MonotonicClock, Place, Policy, Site};
-pub use parallel_pool::{ThreadPool, rayon};
+pub use parallel_pool::{ThreadPool, latch, rayon, sleep};
 pub use parallel_shares as shares;
 pub use parallel_shares::{Grid, cut};
 pub use plan::Batches;
