@@ -1,3 +1,4 @@
 pub mod Drained
 pub mod Sums
+pub mod Verdicts
 pub mod Words
