@@ -1,6 +1,10 @@
 -- What the calls whose closures may fail, and partitions, say of checks.
 use Rattle.std.proofs.Common.{◌≡◌, ℕ, suc, ◌+◌, ◌<◌, ◌≤◌, ◌%◌, ◌^◌, List, [], ◌∷◌, ◌++◌, Option, Some, None, Result, Ok, Err, Bool, true, false, not, length, refl, sym, ◌∙◌, ap, subst, cond, arith, sum, inl, inr}
 use Rattle.std.specs.Prelude.{MatchResult, IfOk, IfErr}
+use Rattle.std.specs.Iterator.{Drains}
+use Rattle.std.proofs.Common.{Vec, Global}
+use Rattle.std.proofs.lemmas.Iterator.{YieldsList}
+use Rattle.parallel_tests.proofs.Drained.{drained}
 use Rattle.std.specs.List.{All, AllZip, enumerate_from, filter}
 use Rattle.std.proofs.lemmas.List.Elements.{All-nil, All-cons, All-append}
 use Rattle.std.proofs.lemmas.List.Sums.{sum_by-cons, sum_by-append}
@@ -11,24 +15,10 @@ use Rattle.parallel_fault.specs.declared.fault.Trouble.{Trouble}
 use Rattle.parallel_fault.specs.declared.fault.Trouble.TheVariants.{Closure}
 use Rattle.parallel_fault.specs.declared.fault.Trouble.TheVariants.{Fault as OfFault}
 use Rattle.parallel_fault.specs.Trouble.{IfClosure}
-use Rattle.parallel_bridge.specs.Outcomes.{UnlessRefused}
+use Rattle.parallel_bridge.specs.Outcomes.{UnlessRefused, listed}
 use Rattle.parallel_bridge.specs.Parts.{values_of, keys_of}
-use Rattle.parallel_bridge.specs.Tries.{EachOk, FirstErr, TryChain, TryBrackets, of_try_segment, of_values, of_left_error, of_right_error, TryFoldSegment}
-use Rattle.parallel_tests.specs.Verdicts.{IsFirstFailing, IsFirstOver, IsSortedOut}
-
--- what an outcome says of the closure's error, where the trouble is one
-pub of_closure : {R E : Type 0} (A : Result R E → Type 0) (Q : E → Type 0) (trouble : Trouble E) → UnlessRefused (Err trouble) A → ((e : E) → A (Err e) → Q e) → IfClosure trouble Q
-of_closure A Q (Closure e) h k = k e h
-of_closure A Q (OfFault f) h k = tt
-
--- what an outcome says of an answer, and of the closure's error
-pub if_answered : {R E : Type 0} (A : Result R E → Type 0) (Q : R → Type 0) (result : Result R (Trouble E)) → UnlessRefused result A → ((r : R) → A (Ok r) → Q r) → IfOk result Q
-if_answered A Q (Ok r) h k = k r h
-if_answered A Q (Err trouble) h k = tt
-
-pub if_closure : {R E : Type 0} (A : Result R E → Type 0) (Q : E → Type 0) (result : Result R (Trouble E)) → UnlessRefused result A → ((e : E) → A (Err e) → Q e) → IfErr result (λ trouble. IfClosure trouble Q)
-if_closure A Q (Ok r) h k = tt
-if_closure A Q (Err trouble) h k = of_closure A Q trouble h k
+use Rattle.parallel_bridge.specs.Tries.{TryMapOf, TryBracketing, EachOk, FirstErr, TryChain, TryBrackets, of_try_segment, of_values, of_left_error, of_right_error, TryFoldSegment}
+use Rattle.parallel_tests.specs.Verdicts.{IsFirstFailing, IsFirstOver, IsSortedOut, Judges, AddsWithin}
 
 module _ {X Y : Type 0} (verdict : X → Bool → Type 0) (allowed : (ℕ × X) → Result Y ℕ → Type 0) (passing : (i : ℕ) (x : X) (y : Y) → allowed (i, x) (Ok y) → verdict x true) (failing : (i : ℕ) (x : X) (e : ℕ) → allowed (i, x) (Err e) → (e ≡ i) × verdict x false) where
   -- where each numbered item answers Ok each item passes
@@ -161,12 +151,27 @@ module _ (limit : ℕ) (identity : ℕ → Type 0) (step : ℕ → ℕ → Resul
       let first : Checked limit 0 xs (Ok p) = checked_brackets left in
       subst (λ l. IsFirstOver limit l e) (sym split) (right_over xs ys e first.0 (checked_brackets right))
 
--- the same with the outcome first, which tells the relations
-pub all_pass : {X Y : Type 0} (verdict : X → Bool → Type 0) (allowed : (ℕ × X) → Result Y ℕ → Type 0) (xs : List X) (ys : List Y) → EachOk allowed (enumerate_from 0 xs) ys → ((i : ℕ) (x : X) (y : Y) → allowed (i, x) (Ok y) → verdict x true) → ((i : ℕ) (x : X) (e : ℕ) → allowed (i, x) (Err e) → (e ≡ i) × verdict x false) → All (λ x. verdict x true) xs
-all_pass verdict allowed xs ys each passing failing = each_passes verdict allowed passing failing 0 xs ys each
+-- what a verifier's answer says, where the numbered items are those of the list
+pub verified : {S X Y : Type 0} {steps : S → Option (ℕ × X) → S → Type 0} {s : S} (xs : List X) (verdict : X → Bool → Type 0) (allowed : (ℕ × X) → Result Y ℕ → Type 0) (result : Result (Vec Y Global) (Trouble ℕ)) → UnlessRefused result (λ outcome. (ps : List (ℕ × X)) × Drains steps s ps × TryMapOf allowed ps (listed outcome)) → YieldsList steps (λ p. p) s (enumerate_from 0 xs) → ((i : ℕ) (x : X) (out : Result Y ℕ) → allowed (i, x) out → Judges verdict i x out) → MatchResult result (λ _. All (λ x. verdict x true) xs) (λ trouble. IfClosure trouble (IsFirstFailing verdict xs))
+verified xs verdict allowed (Ok ys) gave road judged =
+    each_passes verdict allowed (λ i x y k. judged i x (Ok y) k) (λ i x e k. judged i x (Err e) k) 0 xs ys.items (subst (λ l. EachOk allowed l ys.items) (drained gave.0 gave.1 road) gave.2)
+verified xs verdict allowed (Err (OfFault f)) gave road judged = tt
+verified xs verdict allowed (Err (Closure e)) gave road judged =
+    first_fails verdict allowed (λ i x y k. judged i x (Ok y) k) (λ i x e' k. judged i x (Err e') k) xs e (subst (λ l. FirstErr allowed l e) (drained gave.0 gave.1 road) gave.2)
 
-pub first_failing : {X Y : Type 0} (verdict : X → Bool → Type 0) (allowed : (ℕ × X) → Result Y ℕ → Type 0) (xs : List X) (e : ℕ) → FirstErr allowed (enumerate_from 0 xs) e → ((i : ℕ) (x : X) (y : Y) → allowed (i, x) (Ok y) → verdict x true) → ((i : ℕ) (x : X) (e : ℕ) → allowed (i, x) (Err e) → (e ≡ i) × verdict x false) → IsFirstFailing verdict xs e
-first_failing verdict allowed xs e found passing failing = first_fails verdict allowed passing failing xs e found
+-- what a checked sum's answer says
+pub summed : {S : Type 0} {steps : S → Option ℕ → S → Type 0} {s : S} {xs : List ℕ} (limit : ℕ) (identity : ℕ → Type 0) (step : ℕ → ℕ → Result ℕ ℕ → Type 0) (reduce : ℕ → ℕ → ℕ → Type 0) (result : Result ℕ (Trouble ℕ)) → UnlessRefused result (λ outcome. (ys : List ℕ) × Drains steps s ys × TryBracketing identity step reduce ys outcome) → YieldsList steps (λ x. x) s xs → ((e : ℕ) → identity e → e ≡ 0) → ((a x : ℕ) (out : Result ℕ ℕ) → step a x out → AddsWithin limit a x out) → ((a b r : ℕ) → reduce a b r → r ≡ (a + b) % 2 ^ 64) → MatchResult result (λ r. Checked limit 0 xs (Ok r)) (λ trouble. IfClosure trouble (IsFirstOver limit xs))
+summed {xs = xs} limit identity step reduce (Ok r) gave road zeros steps joins =
+    subst (λ l. Checked limit 0 l (Ok r)) (drained gave.0 gave.1 road) (checked_brackets limit identity step reduce zeros (λ a x b k. steps a x (Ok b) k) (λ a x e k. steps a x (Err e) k) joins gave.2)
+summed {xs = xs} limit identity step reduce (Err (OfFault f)) gave road zeros steps joins = tt
+summed {xs = xs} limit identity step reduce (Err (Closure e)) gave road zeros steps joins =
+    subst (λ l. Checked limit 0 l (Err e)) (drained gave.0 gave.1 road) (checked_brackets limit identity step reduce zeros (λ a x b k. steps a x (Ok b) k) (λ a x e' k. steps a x (Err e') k) joins gave.2)
 
-pub checked_sum : (limit : ℕ) (identity : ℕ → Type 0) (step : ℕ → ℕ → Result ℕ ℕ → Type 0) (reduce : ℕ → ℕ → ℕ → Type 0) (xs : List ℕ) (out : Result ℕ ℕ) → TryBrackets (TryFoldSegment identity step) reduce xs out → ((e : ℕ) → identity e → e ≡ 0) → ((a x b : ℕ) → step a x (Ok b) → (b ≡ (a + x) % 2 ^ 64) × (x ≤ limit)) → ((a x e : ℕ) → step a x (Err e) → (e ≡ x) × (limit < x)) → ((a b r : ℕ) → reduce a b r → r ≡ (a + b) % 2 ^ 64) → Checked limit 0 xs out
-checked_sum limit identity step reduce xs out brackets zeros adds stops joins = checked_brackets limit identity step reduce zeros adds stops joins brackets
+-- one side of what is said of an answer
+pub if_ok : {R E : Type 0} (P : R → Type 0) (Q : E → Type 0) (result : Result R E) → MatchResult result P Q → IfOk result P
+if_ok P Q (Ok r) h = h
+if_ok P Q (Err e) h = tt
+
+pub if_err : {R E : Type 0} (P : R → Type 0) (Q : E → Type 0) (result : Result R E) → MatchResult result P Q → IfErr result Q
+if_err P Q (Ok r) h = tt
+if_err P Q (Err e) h = h

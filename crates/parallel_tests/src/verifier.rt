@@ -1,9 +1,9 @@
 // Checks of many items, written once for every strategy, and proved from the trait's clauses alone.
-ghost use Rattle.std.specs.Prelude.{◌≡◌, ℕ, ◌<◌, ◌≤◌, ◌%◌, ◌^◌, ◌+◌, Bool, true, false, List, All, not, length, sum, IfOk, IfErr, MatchResult};
+ghost use Rattle.std.specs.Prelude.{◌≡◌, ℕ, ◌≤◌, ◌%◌, ◌^◌, ◌+◌, Bool, true, false, List, All, not, length, sum, Result, IfOk, IfErr, ⊤};
 ghost use Rattle.std.specs.List.{filter};
 ghost use Rattle.parallel_fault.specs.declared.fault.Fault.TheVariants.{Memory};
 ghost use Rattle.parallel_fault.specs.Trouble.{IfClosure, IfFault};
-ghost use Rattle.parallel_tests.specs.Verdicts.{IsFirstFailing, IsFirstOver, IsSortedOut};
+ghost use Rattle.parallel_tests.specs.Verdicts.{AddsWithin, IsFirstFailing, IsFirstOver, IsSortedOut, Judges};
 
 use commonware_parallel::{Fault, Strategy, Trouble};
 use parallel_policy::Place;
@@ -38,13 +38,40 @@ pub fn verify_all<
 {
     let verdict = |(index, item): (usize, T)| -> Result<(), usize>
         requires { F.IsAlwaysCallable check }
-        ensures { MatchResult result (λ _. F.post check item true) (λ failing. (failing ≡ index) × F.post check item false) }
+        ensures { Judges (F.post check) index item result }
     { if check(item) { Ok(()) } else { Err(index) } };
-    let numbered = items.iter().copied().enumerate();
-    match strategy.try_map_collect_vec(rt, alloc, site, numbered, verdict) {
+    match judge_all(rt, alloc, strategy, site, items, &check, verdict) {
         Ok(_) => Ok(()),
         Err(trouble) => Err(trouble),
     }
+}
+
+// The verdicts on the items, each handed in behind its index, by a closure that judges as the check.
+fn judge_all<
+    Rt: Threads + Wait + Sync,
+    P: Place,
+    S: Strategy,
+    T: Copy + Send + Sync + Drop,
+    C: Fn(T) -> bool,
+    F: Fn((usize, T)) -> Result<(), usize> + Send + Sync + Drop,
+>(
+    rt: &Rt,
+    alloc: Global,
+    strategy: &S,
+    site: P,
+    items: &[T],
+    check: &C,
+    verdict: F,
+) -> Result<Vec<()>, Trouble<usize>>
+    requires accepts { F.IsAlwaysCallable verdict }
+    requires judges { (index : ℕ) (item : T) (out : Result ⊤ ℕ) → F.post verdict (index, item) out → Judges (C.post check.now) index item out }
+    ensures each { IfOk result (λ _. All (λ x. C.post check.now x true) items.now) }
+    ensures first { IfErr result (λ trouble. IfClosure trouble (IsFirstFailing (C.post check.now) items.now)) }
+    ensures fault { IfErr result (λ trouble. IfFault trouble (λ fault. fault ≡ Memory)) }
+{
+    let _ = check;
+    let numbered = items.iter().copied().enumerate();
+    strategy.try_map_collect_vec(rt, alloc, site, numbered, verdict)
 }
 
 /// The items that pass a check and those that fail it, both in the items' order.
@@ -107,7 +134,7 @@ pub fn sum_within<Rt: Threads + Wait + Sync, P: Place, S: Strategy>(
     ensures fault { IfErr result (λ trouble. IfFault trouble (λ fault. fault ≡ Memory)) }
 {
     let step = |total: u64, number: u64| -> Result<u64, u64>
-        ensures { MatchResult result (λ next. (next ≡ (total + number) % 2 ^ 64) × (number ≤ limit)) (λ over. (over ≡ number) × (limit < number)) }
+        ensures { AddsWithin limit total number result }
     {
         if number > limit {
             Err(number)
@@ -115,6 +142,32 @@ pub fn sum_within<Rt: Threads + Wait + Sync, P: Place, S: Strategy>(
             Ok(total.wrapping_add(number))
         }
     };
+    add_all(rt, alloc, strategy, site, numbers, limit, step)
+}
+
+// The numbers added up by a step that stops at a number above the limit.
+fn add_all<
+    Rt: Threads + Wait + Sync,
+    P: Place,
+    S: Strategy,
+    F: Fn(u64, u64) -> Result<u64, u64> + Send + Sync + Drop,
+>(
+    rt: &Rt,
+    alloc: Global,
+    strategy: &S,
+    site: P,
+    numbers: &[u64],
+    limit: u64,
+    step: F,
+) -> Result<u64, Trouble<u64>>
+    requires accepts { F.IsAlwaysCallable step }
+    requires adds { (total number : ℕ) (out : Result ℕ ℕ) → F.post step total number out → AddsWithin limit total number out }
+    ensures within { IfOk result (λ _. All (λ x. x ≤ limit) numbers.now) }
+    ensures sum { IfOk result (λ total. total ≡ sum numbers.now % 2 ^ 64) }
+    ensures first { IfErr result (λ trouble. IfClosure trouble (IsFirstOver limit numbers.now)) }
+    ensures fault { IfErr result (λ trouble. IfFault trouble (λ fault. fault ≡ Memory)) }
+{
+    let _ = limit;
     strategy.try_fold(
         rt,
         alloc,
