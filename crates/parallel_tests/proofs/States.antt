@@ -1,6 +1,7 @@
 -- Lists that are answered with a state at hand, whatever the segments.
 use Rattle.std.proofs.Common.{◌≡◌, ℕ, List, [], ◌∷◌, ◌++◌, Option, Some, None, refl, sym, ◌∙◌, ap, subst, ◌⊎◌, inl, inr}
 use Rattle.parallel_bridge.specs.Lists.{Chain, FoldSegment, Brackets, of_segment, of_parts, Bracketing}
+use Rattle.parallel_bridge.specs.Shapes.{FoldsAs}
 use Rattle.parallel_bridge.specs.States.{StatesFrom, Stateful, no_segment, more_segments, StateChain, FoldInitSegment, AnyState}
 use Rattle.parallel_tests.specs.Repeats.{filled}
 
@@ -57,3 +58,7 @@ module _ {S X R : Type 0} (init : S → Type 0) (identity : R → Type 0) (step 
   pub without_states : {reduce : R → R → R → Type 0} {xs : List X} {r : R} → Brackets (FoldInitSegment init identity step) reduce xs r → Bracketing identity (AnyState step) reduce xs r
   without_states {xs = xs} {r = r} (of_segment (s, a, first, begins, chain)) = of_segment (a, begins, stateless s a xs r chain)
   without_states (of_parts split left right reduced) = of_parts split (without_states left) (without_states right) reduced
+
+-- at the first pick a fold is one segment
+pub in_one : {X R : Type 0} (identity : R → Type 0) (allowed : List X → R → Type 0) (reduce : R → R → R → Type 0) (depth pick : ℕ) (xs : List X) (r : R) → FoldsAs identity allowed reduce depth pick xs r → pick ≡ 0 → allowed xs r
+in_one identity allowed reduce depth pick xs r h first = subst (λ p. FoldsAs identity allowed reduce depth p xs r) first h
