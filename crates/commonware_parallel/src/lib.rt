@@ -1,9 +1,10 @@
-//! Folds, maps and batches that are written once and run through any strategy.
+//! Folds, maps, joins, sorts and batches that are written once and run through any strategy.
 //!
 //! A program is written over `S: Strategy` and run through `Sequential`, on the caller's thread, or
 //! through `Rayon`, on a pool. Whatever the strategy, the number of its threads and the order in
 //! which they end, a call that isn't refused gives the list's own answer: a map the answers in input
-//! order, a fold a reduction of neighbouring segments, a batch each index once.
+//! order, a fallible one the first failing item's error, a fold a reduction of neighbouring segments,
+//! a batch each index once.
 #![tactic(auto)]
 
 mod call;

@@ -32,7 +32,7 @@ use std::num::NonZeroUsize;
 use std::sync::Wait;
 use std::thread::Threads;
 
-/// Runs a program's folds, maps and batches, which are written once for all strategies.
+/// Runs a program's folds, maps, joins, sorts and batches, which are written once for all strategies.
 ///
 /// A strategy chooses and does nothing else. It is asked about a `Call`, which has a number of
 /// options, and answers a pick, a number below that. What the call then does is one of the `final`
@@ -41,11 +41,12 @@ use std::thread::Threads;
 /// An implementation writes two functions that choose, `dispatch` and `choose`, readers of its
 /// numbers, and five ghost members, in which it says what it may pick. Code that is generic over
 /// `S: Strategy` may rest on the clauses here alone; code at one strategy sees through its ghost
-/// members, and so learns from the clause `along` of a fold in which segments it went.
+/// members, and so learns from a clause `along` in which segments a call went.
 ///
 /// Every call takes the runtime, then the allocator, then the place of the call. A list call takes an
 /// iterator that ends, and its list is what the iterator gives (`Drains`). A map's closure has to
-/// accept the items that it gives (`HoldsAlong`); the closures of a fold have to accept every value.
+/// accept the items that it gives (`HoldsAlong`), at every state where it has one; every other closure
+/// has to accept every value of its argument types.
 pub trait Strategy: Clone + Send + Sync + Debug + 'static {
     ghost use Rattle.commonware_parallel.specs.declared.plan.Batches.{Batches};
     ghost use Rattle.parallel_policy.specs.declared.Site.{Site};

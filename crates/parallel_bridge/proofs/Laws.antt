@@ -1,9 +1,10 @@
 -- Under the laws of `FoldLaws` a fold by segments is the plain fold from the left.
-use Rattle.std.proofs.Common.{◌≡◌, Bool, IsTrue, List, [], ◌∷◌, ◌++◌, refl, sym, ◌∙◌, ap, subst, fold}
+use Rattle.std.proofs.Common.{◌≡◌, Bool, IsTrue, List, [], ◌∷◌, ◌++◌, refl, sym, ◌∙◌, ap, subst, fold, map}
 use Rattle.std.specs.List.{All, Contains}
 use Rattle.std.proofs.lemmas.List.Sums.{fold-append}
 use Rattle.std.proofs.lemmas.List.Elements.{All-nil, All-cons, All-head, All-tail, All-contains_itself}
-use Rattle.parallel_bridge.specs.Lists.{Chain, FoldSegment, Brackets, of_segment, of_parts, Bracketing}
+use Rattle.parallel_bridge.specs.Lists.{MapOf, Chain, FoldSegment, Brackets, of_segment, of_parts, Bracketing}
+use Rattle.parallel_bridge.specs.States.{StateChain, FoldInitSegment, AnyState}
 use Rattle.parallel_bridge.specs.Folds.{FoldLaws, IsPlainFold}
 
 -- what holds of all items of two parts holds of each part's
@@ -62,3 +63,31 @@ module _ {X R : Type 0} (identity : R → Type 0) (step : R → X → R → Type
   -- the law as its public function states it
   pub plain_from_bracketing : (xs : List X) (r : R) → Bracketing identity step reduce xs r → IsPlainFold identity step reduce xs r
   plain_from_bracketing xs r h unit f g good laws = brackets_plain identity step reduce unit f g good xs laws (All-contains_itself xs) h
+
+-- a fold with a state is a fold by steps from any state to any state
+module _ {S X R : Type 0} (init : S → Type 0) (identity : R → Type 0) (step : S → R → X → R → S → Type 0) (reduce : R → R → R → Type 0) where
+  any_chain : (s : S) (a : R) (xs : List X) (r : R) → StateChain step s a xs r → Chain (AnyState step) a xs r
+  any_chain s a [] r h = h
+  any_chain s a (x ∷ xs) r (b, t, one, h) = (b, (s, t, one), any_chain t b xs r h)
+
+  any_brackets : {xs : List X} {r : R} → Brackets (FoldInitSegment init identity step) reduce xs r → Brackets (FoldSegment identity (AnyState step)) reduce xs r
+  any_brackets {xs} {r} (of_segment (s, a, made, first, chain)) = of_segment (a, first, any_chain s a xs r chain)
+  any_brackets (of_parts split left right reduced) = of_parts split (any_brackets left) (any_brackets right) reduced
+
+  -- under the laws for any state it is the plain fold
+  pub plain_from_states : (xs : List X) (r : R) → Brackets (FoldInitSegment init identity step) reduce xs r → IsPlainFold identity (AnyState step) reduce xs r
+  plain_from_states xs r h = plain_from_bracketing identity (AnyState step) reduce xs r (any_brackets h)
+
+-- answers that a function gives are the function's
+module _ {X Y : Type 0} (allowed : X → Y → Type 0) (f : X → Y) (all : List X) (one : (x : X) (y : Y) → Contains all x → allowed x y → y ≡ f x) where
+  map_within : (xs : List X) (ys : List Y) → All (Contains all) xs → MapOf allowed xs ys → ys ≡ map f xs
+  map_within [] [] within h = refl
+  map_within [] (y ∷ ys) within h = absurd h
+  map_within (x ∷ xs) [] within h = absurd h
+  map_within (x ∷ xs) (y ∷ ys) within h =
+      ap (λ v. v ∷ ys) (one x y (All-head (Contains all) x xs within) h.0)
+      ∙ ap (λ l. f x ∷ l) (map_within xs ys (All-tail (Contains all) x xs within) h.1)
+
+-- the same of the whole list
+pub map_is_function : {X Y : Type 0} (allowed : X → Y → Type 0) (xs : List X) (ys : List Y) → MapOf allowed xs ys → (f : X → Y) → ((x : X) (y : Y) → Contains xs x → allowed x y → y ≡ f x) → ys ≡ map f xs
+map_is_function allowed xs ys h f one = map_within allowed f xs one xs ys (All-contains_itself xs) h

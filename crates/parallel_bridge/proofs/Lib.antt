@@ -7,3 +7,6 @@ pub mod Turns
 pub mod Outcomes
 pub mod TryShapes
 pub mod Onward
+pub mod Statefuls
+pub mod TryBracketings
+pub mod Drivers

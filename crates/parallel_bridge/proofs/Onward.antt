@@ -1,6 +1,9 @@
 -- Taking some items, and then more, is taking all of them.
-use Rattle.std.proofs.Common.{◌≡◌, List, [], ◌∷◌, ◌++◌, Result, Ok, Err, Option, Some, None, refl, sym, ◌∙◌, ap, subst, append_assoc, inl, inr}
+use Rattle.std.proofs.Common.{◌≡◌, List, [], ◌∷◌, ◌++◌, Result, Ok, Err, Option, Some, None, refl, sym, ◌∙◌, ap, subst, append_assoc, inl, inr, IsTrue, is_err}
 use Rattle.std.proofs.lemmas.List.{append-nil}
+use Rattle.std.specs.declared.vec.Vec.{Vec}
+use Rattle.std.specs.declared.alloc.Global.{Global}
+use Rattle.parallel_bridge.specs.Outcomes.{joined}
 use Rattle.parallel_bridge.specs.Lists.{MapOf, Chain}
 use Rattle.parallel_bridge.specs.Tries.{EachOk, FirstErr, TryChain, TryMapOf}
 use Rattle.parallel_bridge.specs.Parts.{PartitionOf, values_of, keys_of}
@@ -21,6 +24,16 @@ module _ {X R E : Type 0} (step : R → X → Result R E → Type 0) where
   pub try_onward : (start v out : Result R E) (xs ys : List X) → TryContinues step start xs v → TryContinues step v ys out → TryContinues step start (xs ++ ys) out
   try_onward (Ok a) v out xs ys h k = try_chain_append a xs ys v out h k
   try_onward (Err e) v out xs ys h k = subst (λ w. TryContinues step w ys out) h k
+
+  -- nothing more leaves a chain as it is
+  pub try_rests : (control : Result R E) → TryContinues step control [] control
+  try_rests (Ok a) = refl
+  try_rests (Err e) = refl
+
+  -- an error stands, whatever comes
+  pub try_stands : (control : Result R E) (xs ys : List X) (v : Result R E) → IsTrue (is_err control) → TryContinues step control xs v → TryContinues step control ys v
+  try_stands (Ok a) xs ys v full h = absurd (cc full)
+  try_stands (Err e) xs ys v full h = h
 
 module _ {X Y E : Type 0} (allowed : X → Result Y E → Type 0) where
   pub onto_append : (before : List Y) (xs ys : List X) (v out : Result (List Y) E) → TryMapOnto allowed before xs v → TryMapBehind allowed v ys out → TryMapOnto allowed before (xs ++ ys) out
@@ -68,3 +81,8 @@ module _ {X K U : Type 0} (allowed : X → (K × Option U) → Type 0) where
       at_ks' ∙ ap (λ l. l ++ more_ks) at_ks ∙ append_assoc keys new_ks more_ks,
       PartitionOf-append xs ys new_us more_us new_ks more_ks part part',
     )
+
+-- the items of lists of lists one after another
+pub joined-append : {T : Type 0} (vs ws : List (Vec T Global)) → joined (vs ++ ws) ≡ joined vs ++ joined ws
+joined-append [] ws = refl
+joined-append (v ∷ vs) ws = ap (λ l. v.items ++ l) (joined-append vs ws) ∙ sym (append_assoc v.items (joined vs) (joined ws))

@@ -70,3 +70,8 @@ module _ {X K U : Type 0} (allowed : X → (K × Option U) → Type 0) where
   -- nothing is left
   pub part_end : (values : List U) (keys : List K) (rest : List X) → rest ≡ [] → PartitionOnto allowed values keys rest values keys
   part_end values keys rest e = subst (λ l. PartitionOnto allowed values keys l values keys) (sym e) ([], [], sym (append-nil values), sym (append-nil keys), ([], tt, refl, refl))
+
+-- one step is a chain over one item
+pub try_one : {X R E : Type 0} (step : R → X → Result R E → Type 0) (a : R) (x : X) (out : Result R E) → step a x out → TryChain step a (x ∷ []) out
+try_one step a x (Ok b) one = inl (b, one, refl)
+try_one step a x (Err e) one = inr (e, one, refl)

@@ -6,3 +6,4 @@ pub mod States
 pub mod Tries
 pub mod Parts
 pub mod Onto
+pub mod Producers

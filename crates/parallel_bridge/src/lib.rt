@@ -12,15 +12,19 @@ pub mod maps;
 pub mod parallel;
 pub mod partition;
 pub mod parts;
+pub mod producer;
 pub mod segments;
 pub mod serial;
 pub mod stateful;
+#[cfg(test)]
+mod tests;
 pub mod tries;
 
-pub use collect::{CollectConsumer, CollectReducer};
+pub use collect::{CollectConsumer, CollectReducer, ListReducer, ListVecConsumer};
 pub use consumer::{Consumer, Folder, Reducer};
 pub use folds::{FoldConsumer, FoldInitConsumer, ReduceConsumer};
-pub use law::fold_law;
+pub use law::{fold_init_law, fold_law, map_law};
 pub use maps::{MapConsumer, MapInitConsumer, WhileSomeConsumer};
 pub use parts::PartitionConsumer;
+pub use producer::{DrainProducer, LengthSplitter, SliceDrain, Splitter};
 pub use tries::{TryFoldConsumer, TryMapConsumer, TryReduceConsumer};

@@ -4,7 +4,7 @@ ghost use Rattle.std.specs.Borrow.{MutBor};
 ghost use Rattle.std.specs.List.{All};
 ghost use Rattle.parallel_fault.specs.Trouble.{IsMemoryOnErr};
 ghost use Rattle.parallel_bridge.specs.Lists.{Chain};
-ghost use Rattle.parallel_bridge.specs.Onto.{TryMapOnto, PartitionOnto, ReducesTo};
+ghost use Rattle.parallel_bridge.specs.Onto.{TryMapOnto, TryMapBehind, PartitionOnto, ReducesTo, TryContinues};
 ghost use Rattle.parallel_bridge.specs.Outcomes.{UnlessRefused, listed};
 ghost use Rattle.parallel_bridge.specs.Parts.{values_of, keys_of};
 ghost use Rattle.parallel_bridge.specs.States.{MapStep, FoldStep, StatesFrom, StateChain};
@@ -84,21 +84,48 @@ pub(crate) fn try_map_onto<X: Drop, T: Drop, E: Drop, F: Fn(X) -> Result<T, E>>(
     Ok(values)
 }
 
-/// The same, with the closure's error apart from a refusal.
-pub(crate) fn try_map_behind<X: Drop, T: Drop, E: Drop, F: Fn(X) -> Result<T, E>>(
-    values: Vec<T>,
+/// The same behind values, or behind an error, which stands; with the error apart from a refusal.
+pub(crate) fn try_map_onward<X: Drop, T: Drop, E: Drop, F: Fn(X) -> Result<T, E>>(
+    control: Result<Vec<T>, E>,
     items: Vec<X>,
     map_op: &F,
 ) -> Result<Result<Vec<T>, E>, Fault>
     requires { All (F.pre map_op.now) items.items }
-    ensures gives { IfOk result (λ out. TryMapOnto (F.post map_op.now) values.items items.items (listed out)) }
+    ensures gives { IfOk result (λ out. TryMapBehind (F.post map_op.now) (listed control) items.items (listed out)) }
     ensures fault { IsMemoryOnErr result }
 {
+    let values = match control {
+        Ok(values) => values,
+        Err(error) => return Ok(Err(error)),
+    };
     match try_map_onto(values, items, map_op) {
         Ok(values) => Ok(Ok(values)),
         Err(Trouble::Closure(error)) => Ok(Err(error)),
         Err(Trouble::Fault(fault)) => Err(fault),
     }
+}
+
+/// The same for one item.
+pub(crate) fn try_map_step<X: Drop, T: Drop, E: Drop, F: Fn(X) -> Result<T, E>>(
+    control: Result<Vec<T>, E>,
+    item: X,
+    map_op: &F,
+) -> Result<Result<Vec<T>, E>, Fault>
+    requires { F.pre map_op.now item }
+    ensures gives { IfOk result (λ out. TryMapBehind (F.post map_op.now) (listed control) (item ∷ []) (listed out)) }
+    ensures fault { IsMemoryOnErr result }
+{
+    let values = match control {
+        Ok(values) => values,
+        Err(error) => return Ok(Err(error)),
+    };
+    let value = match map_op(item) {
+        Ok(value) => value,
+        Err(error) => return Ok(Err(error)),
+    };
+    let mut values = values;
+    values.push(value)?;
+    Ok(Ok(values))
 }
 
 /// The answers of `map_op` for the items, in their order, with a state that goes from item to item.
@@ -168,6 +195,36 @@ pub(crate) fn partition_onto<X: Drop, K: Drop, U: Drop, F: Fn(X) -> (K, Option<U
     Ok((values, keys))
 }
 
+/// The same from a value or behind an error, which stands.
+pub(crate) fn try_fold_onward<X: Drop, R: Drop, E: Drop, F: Fn(R, X) -> Result<R, E>>(
+    control: Result<R, E>,
+    items: Vec<X>,
+    fold_op: &F,
+) -> Result<R, E>
+    requires { F.IsAlwaysCallable fold_op.now }
+    ensures { TryContinues (λ a x out. F.post fold_op.now a x out) control items.items result }
+{
+    match control {
+        Ok(value) => try_fold_from(value, items, fold_op),
+        Err(error) => Err(error),
+    }
+}
+
+/// The same for one item.
+pub(crate) fn try_fold_step<X: Drop, R: Drop, E: Drop, F: Fn(R, X) -> Result<R, E>>(
+    control: Result<R, E>,
+    item: X,
+    fold_op: &F,
+) -> Result<R, E>
+    requires { F.IsAlwaysCallable fold_op.now }
+    ensures { TryContinues (λ a x out. F.post fold_op.now a x out) control (item ∷ []) result }
+{
+    match control {
+        Ok(value) => fold_op(value, item),
+        Err(error) => Err(error),
+    }
+}
+
 /// The outcomes reduced from a value, in their order, up to the first error among them.
 pub(crate) fn try_reduce_from<T: Drop, E: Drop, G: Fn(T, T) -> T>(
     start: T,
@@ -185,6 +242,21 @@ pub(crate) fn try_reduce_from<T: Drop, E: Drop, G: Fn(T, T) -> T>(
         }
     }
     Ok(reduced)
+}
+
+/// The same from a value or behind an error, which stands.
+pub(crate) fn try_reduce_onward<T: Drop, E: Drop, G: Fn(T, T) -> T>(
+    control: Result<T, E>,
+    items: Vec<Result<T, E>>,
+    reduce_op: &G,
+) -> Result<T, E>
+    requires { G.IsAlwaysCallable reduce_op.now }
+    ensures { TryContinues (ReducesTo (λ a b c. G.post reduce_op.now a b c)) control items.items result }
+{
+    match control {
+        Ok(value) => try_reduce_from(value, items, reduce_op),
+        Err(error) => Err(error),
+    }
 }
 
 /// The values before the first `None`, in order, and whether there was one.

@@ -10,7 +10,7 @@ ghost use Rattle.parallel_bridge.specs.Tries.{OnlyOk, TryChain, TryFoldSegment, 
 
 use crate::collect::CollectReducer;
 use crate::consumer::{Consumer, Folder, Reducer};
-use crate::loops::{try_fold_from, try_map_behind, try_reduce_from};
+use crate::loops::{try_fold_onward, try_fold_step, try_map_onward, try_map_step, try_reduce_onward};
 use parallel_fault::{Fault, Trouble};
 use std::alloc::Global;
 
@@ -39,19 +39,11 @@ impl<'f, X: Drop, T: Drop, E: Drop, F: Fn(X) -> Result<T, E>> Folder<X, Vec<T>, 
     ghost gives = { λ s xs out. TryMapBehind (F.post s.map_op.now) (listed s.control) xs (listed out) };
 
     fn consume(self, _alloc: Global, item: X) -> Result<Self, Fault> {
-        let TryMapFolder { control, map_op } = self;
-        let control = match control {
-            Ok(values) => match map_op(item) {
-                Ok(value) => {
-                    let mut values = values;
-                    values.push(value)?;
-                    Ok(values)
-                }
-                Err(error) => Err(error),
-            },
-            Err(error) => Err(error),
-        };
-        Ok(TryMapFolder { control, map_op })
+        let control = try_map_step(self.control, item, self.map_op)?;
+        Ok(TryMapFolder {
+            control,
+            map_op: self.map_op,
+        })
     }
 
     fn consume_iter(self, _alloc: Global, items: Vec<X>) -> Result<Self, Fault>
@@ -62,12 +54,11 @@ impl<'f, X: Drop, T: Drop, E: Drop, F: Fn(X) -> Result<T, E>> Folder<X, Vec<T>, 
         ensures gives { IfOk result (λ f. (xs : List X) (out : Result (Vec T Global) E) → TryMapBehind (F.post f.map_op.now) (listed f.control) xs (listed out) → TryMapBehind (F.post self.entry.map_op.now) (listed self.entry.control) (items.items ++ xs) (listed out)) }
         ensures fault { IsMemoryOnErr result }
     {
-        let TryMapFolder { control, map_op } = self;
-        let control = match control {
-            Ok(values) => try_map_behind(values, items, map_op)?,
-            Err(error) => Err(error),
-        };
-        Ok(TryMapFolder { control, map_op })
+        let control = try_map_onward(self.control, items, self.map_op)?;
+        Ok(TryMapFolder {
+            control,
+            map_op: self.map_op,
+        })
     }
 
     fn complete(self, _alloc: Global) -> Result<Vec<T>, Trouble<E>> {
@@ -154,19 +145,11 @@ impl<
     ghost gives = { λ s xs out. (v : Result T E) × TryContinues (λ a x o. F.post s.fold_op.now a x o) s.control xs v × C.gives s.base (v ∷ []) out };
 
     fn consume(self, _alloc: Global, item: X) -> Result<Self, Fault> {
-        let TryFoldFolder {
-            base,
-            control,
-            fold_op,
-        } = self;
-        let control = match control {
-            Ok(value) => fold_op(value, item),
-            Err(error) => Err(error),
-        };
+        let control = try_fold_step(self.control, item, self.fold_op);
         Ok(TryFoldFolder {
-            base,
+            base: self.base,
             control,
-            fold_op,
+            fold_op: self.fold_op,
         })
     }
 
@@ -179,19 +162,11 @@ impl<
             → (v : Result T E) × TryContinues (λ a x o. F.post self.entry.fold_op.now a x o) self.entry.control (items.items ++ xs) v × C.gives self.entry.base (v ∷ []) out) }
         ensures fault { IsMemoryOnErr result }
     {
-        let TryFoldFolder {
-            base,
-            control,
-            fold_op,
-        } = self;
-        let control = match control {
-            Ok(value) => try_fold_from(value, items, fold_op),
-            Err(error) => Err(error),
-        };
+        let control = try_fold_onward(self.control, items, self.fold_op);
         Ok(TryFoldFolder {
-            base,
+            base: self.base,
             control,
-            fold_op,
+            fold_op: self.fold_op,
         })
     }
 
@@ -311,12 +286,11 @@ impl<'r, T: Drop, E: Drop, G: Fn(T, T) -> T> Folder<Result<T, E>, T, E> for TryR
         ensures gives { IfOk result (λ f. (xs : List (Result T E)) (out : Result T E) → TryContinues (ReducesTo (λ a b c. G.post f.reduce_op.now a b c)) f.control xs out → TryContinues (ReducesTo (λ a b c. G.post self.entry.reduce_op.now a b c)) self.entry.control (items.items ++ xs) out) }
         ensures fault { IsMemoryOnErr result }
     {
-        let TryReduceFolder { control, reduce_op } = self;
-        let control = match control {
-            Ok(value) => try_reduce_from(value, items, reduce_op),
-            Err(error) => Err(error),
-        };
-        Ok(TryReduceFolder { control, reduce_op })
+        let control = try_reduce_onward(self.control, items, self.reduce_op);
+        Ok(TryReduceFolder {
+            control,
+            reduce_op: self.reduce_op,
+        })
     }
 
     fn complete(self, _alloc: Global) -> Result<T, Trouble<E>> {

@@ -81,3 +81,8 @@ HoldsRun entry history = (entry.serial ≡ run_estimate Serial history) × (entr
 abbrev pub with_sample : RunState → RunExecution → ℕ → RunState
 with_sample entry Serial sample = record entry { serial = blended entry.serial sample }
 with_sample entry Parallel sample = record entry { parallel = blended entry.parallel sample }
+
+-- the estimate of a path that an entry keeps
+abbrev pub run_time : RunState → RunExecution → Option ℕ
+run_time entry Serial = entry.serial
+run_time entry Parallel = entry.parallel

@@ -86,3 +86,9 @@ abbrev pub with_spawn_sample : SpawnState → SpawnSample → ℕ → SpawnState
 with_spawn_sample entry InlineRun sample = record entry { inline = blended entry.inline sample }
 with_spawn_sample entry Job sample = record entry { job = blended entry.job sample }
 with_spawn_sample entry Overhead sample = record entry { overhead = blended entry.overhead sample }
+
+-- the estimate of a kind that an entry keeps
+abbrev pub spawn_time : SpawnState → SpawnSample → Option ℕ
+spawn_time entry InlineRun = entry.inline
+spawn_time entry Job = entry.job
+spawn_time entry Overhead = entry.overhead

@@ -27,9 +27,12 @@ pub use execution::{RunExecution, SpawnExecution};
 pub use history::{RunEvent, SpawnEvent, SpawnSample};
 pub use key::Key;
 pub use law::measuring_law;
-pub use policy::{INLINE_BUDGET, Policy};
+pub use policy::{INLINE_BUDGET, Locked, Policy};
 pub use replay::{replay_run, replay_run_estimate, replay_spawn, replay_spawn_estimate};
 pub use run::RunEntry;
 pub use site::{Place, Site};
 pub use spawn::SpawnEntry;
 pub use table::Table;
+
+#[cfg(test)]
+mod tests;

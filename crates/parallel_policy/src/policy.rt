@@ -6,7 +6,9 @@ ghost use Rattle.parallel_policy.specs.Decisions.{AnswersOn, DecidesAs};
 use crate::choices::{Choices, decide};
 use crate::execution::{RunExecution, SpawnExecution};
 use crate::key::Key;
+use crate::run::RunEntry;
 use crate::site::Place;
+use crate::spawn::SpawnEntry;
 use crate::table::Table;
 use parallel_fault::{Fault, Trouble};
 use std::alloc::Global;
@@ -69,14 +71,22 @@ impl Policy {
         ensures planned_for_one { parallelism ≤ 1 → AnswersOn (λ path r. B.post body path r) RunExecution.Serial result }
     {
         let key = Key::new(site.site(), len, work, parallelism);
-        decide(
-            rt,
-            &mut Locked { policy: self },
-            key,
-            parallelism,
-            now,
-            body,
-        )
+        decide(rt, &mut self.locked(), key, parallelism, now, body)
+    }
+
+    /// The choices of this policy, which take the lock for each choice and each record.
+    pub fn locked(&self) -> Locked<'_> {
+        Locked { policy: self }
+    }
+
+    /// The entry of runs at `key`, as it is now, if there is one.
+    pub fn run_entry<Rt: Wait>(&self, rt: &Rt, key: Key) -> Option<RunEntry> {
+        self.table.lock(rt).run_entry(key)
+    }
+
+    /// The entry of spawned jobs at `key`, as it is now, if there is one.
+    pub fn spawn_entry<Rt: Wait>(&self, rt: &Rt, key: Key) -> Option<SpawnEntry> {
+        self.table.lock(rt).spawn_entry(key)
     }
 
     /// Chooses how a run is to go (`Table::choose_run`).
@@ -178,9 +188,12 @@ impl Policy {
     }
 }
 
-// The policy's table, locked for each choice and each record. Other threads change it in between.
+/// The choices of a policy: its table, locked for each choice and each record.
+///
+/// Other threads may change the table in between, so nothing is said of an answer. A record that was
+/// refused memory is left out; a key that was chosen for has its entry.
 #[derive(Drop)]
-struct Locked<'a> {
+pub struct Locked<'a> {
     policy: &'a Policy,
 }
 

@@ -2,7 +2,7 @@
 ghost use Rattle.std.specs.Prelude.{◌≡◌, ℕ, ◌*◌, ◌<◌, ◌∷◌, Bool, true, None, Some, IsSomeAnd, nat_lt};
 ghost use Rattle.parallel_policy.specs.Estimates.{blended};
 ghost use Rattle.parallel_policy.specs.Arbitration.{IsCount};
-ghost use Rattle.parallel_policy.specs.Runs.{RunHistory, RunState, HoldsRun, fresh_run, run_choice, run_answer, run_count_after, with_sample, projection, prefers_parallel};
+ghost use Rattle.parallel_policy.specs.Runs.{RunHistory, RunState, HoldsRun, fresh_run, run_choice, run_answer, run_count_after, with_sample, run_time, projection, prefers_parallel};
 ghost use Rattle.parallel_policy.specs.declared.history.RunEvent.{RunEvent};
 
 use crate::cadence::Cadence;
@@ -91,6 +91,16 @@ impl RunEntry {
         };
         self.cadence
             .arbitrate(preferred, loser, winner_time, loser_time, affordable)
+    }
+
+    /// How long a run of that kind takes, in nanoseconds, if one was recorded.
+    pub fn estimate(&self, execution: RunExecution) -> Option<u64>
+        ensures { result ≡ run_time self.now execution }
+    {
+        match execution {
+            RunExecution::Serial => self.serial.get(),
+            RunExecution::Parallel => self.parallel.get(),
+        }
     }
 
     /// Records that a run of that kind took so many nanoseconds.

@@ -1,13 +1,14 @@
 // What the policy keeps for one key of spawned jobs.
 ghost use Rattle.std.specs.Prelude.{◌≡◌, ◌⊎◌, ◌∷◌, true, None};
 ghost use Rattle.parallel_policy.specs.Arbitration.{IsCount};
-ghost use Rattle.parallel_policy.specs.Spawns.{SpawnHistory, SpawnState, HoldsSpawn, fresh_spawn, spawn_choice, spawn_answer, spawn_count_after, with_spawn_sample};
+ghost use Rattle.parallel_policy.specs.Spawns.{SpawnHistory, SpawnState, HoldsSpawn, fresh_spawn, spawn_choice, spawn_answer, spawn_count_after, with_spawn_sample, spawn_time};
 ghost use Rattle.parallel_policy.specs.declared.history.SpawnEvent.{SpawnEvent};
 ghost use Rattle.parallel_policy.specs.declared.history.SpawnSample.{SpawnSample};
 
 use crate::cadence::Cadence;
 use crate::estimate::Estimate;
 use crate::execution::SpawnExecution;
+use crate::history::SpawnSample;
 use std::marker::Model;
 
 /// What a policy keeps for one key of spawned jobs: how long a job takes inline and on a worker, how
@@ -83,6 +84,17 @@ impl SpawnEntry {
                 threshold,
                 true,
             )
+        }
+    }
+
+    /// What the samples of that kind say, in nanoseconds, if one was recorded.
+    pub fn estimate(&self, kind: SpawnSample) -> Option<u64>
+        ensures { result ≡ spawn_time self.now kind }
+    {
+        match kind {
+            SpawnSample::InlineRun => self.inline.get(),
+            SpawnSample::Job => self.job.get(),
+            SpawnSample::Overhead => self.overhead.get(),
         }
     }
 

@@ -44,6 +44,20 @@ impl Table {
         }
     }
 
+    /// The entry of runs at `key`, if it has one.
+    pub fn run_entry(&self, key: Key) -> Option<RunEntry>
+        ensures { result ≡ run_of self.now key }
+    {
+        self.runs.get(&key).copied()
+    }
+
+    /// The entry of spawned jobs at `key`, if it has one.
+    pub fn spawn_entry(&self, key: Key) -> Option<SpawnEntry>
+        ensures { result ≡ spawn_of self.now key }
+    {
+        self.spawns.get(&key).copied()
+    }
+
     /// Chooses how a run is to go (`RunEntry::choose`).
     ///
     /// # Errors

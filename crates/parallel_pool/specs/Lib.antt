@@ -1,1 +1,13 @@
 pub mod ThreadPool
+pub mod LatchMoves
+pub mod LatchHistory
+pub mod Latch
+pub mod SpinLatch
+pub mod OnceLatch
+pub mod CountHistory
+pub mod CountLatch
+pub mod Counters
+pub mod Standings
+pub mod IdleState
+pub mod Sleepers
+pub mod Blocks

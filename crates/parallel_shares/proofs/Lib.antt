@@ -12,3 +12,9 @@ pub mod Shown
 pub mod Places
 pub mod Moved
 pub mod Runs
+pub mod Totals
+pub mod Keeping
+pub mod Sharings
+pub mod Dealt
+pub mod Gatherings
+pub mod Closings

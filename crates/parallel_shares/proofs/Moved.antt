@@ -40,7 +40,7 @@ remembered sizes machine seat load =
 -- ---- parts of a word
 
 -- a word is its front and what is left behind it
-cut_front : (u word stop : ℕ) → start_of word ≤ stop → stop ≤ end_of word → end_of word ≤ 65535 → in_word u (packed stop (end_of word)) + inside u (start_of word) stop ≡ in_word u word
+pub cut_front : (u word stop : ℕ) → start_of word ≤ stop → stop ≤ end_of word → end_of word ≤ 65535 → in_word u (packed stop (end_of word)) + inside u (start_of word) stop ≡ in_word u word
 cut_front u word stop a b f =
     rw (start_of_packed stop (end_of word) f, end_of_packed stop (end_of word) f) (omega (arith, inside_cut u (start_of word) stop (end_of word) a b))
 

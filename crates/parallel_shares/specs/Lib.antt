@@ -5,3 +5,7 @@ pub mod Sizes
 pub mod Machine
 pub mod Answers
 pub mod Holders
+pub mod Totals
+pub mod Sharing
+pub mod Seats
+pub mod Gathered

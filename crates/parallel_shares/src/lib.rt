@@ -6,4 +6,7 @@ pub mod plan;
 pub mod shares;
 
 pub use plan::{Grid, cut};
-pub use shares::{pack, unpack};
+pub use shares::{Seat, Shares, Tried, pack, unpack};
+
+#[cfg(test)]
+mod tests;

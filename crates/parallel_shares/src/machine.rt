@@ -12,6 +12,7 @@ mod steps;
 
 pub use events::{Event, Outcome};
 pub use places::State;
+pub(crate) use places::opening_words;
 pub use replays::replay;
 pub use sizes::Plan;
 pub use steps::step;

@@ -1,6 +1,14 @@
 //! A share of the work is a word that packs the range of the units that are left in it.
 ghost use Rattle.std.specs.Prelude.{◌≡◌, ◌+◌, ◌*◌, ◌≤◌};
 
+mod queue;
+mod rule;
+mod seat;
+
+pub use queue::Shares;
+pub use rule::View;
+pub use seat::{Seat, Tried};
+
 /// Packs a range of units into a word: `start * 65536 + end`.
 ///
 /// Both ends are at most 65535.

@@ -9,7 +9,7 @@ ghost use Rattle.parallel_bridge.specs.Shapes.{Along, Shape, cutdepth};
 ghost use Rattle.commonware_parallel.specs.Batches.{IsBatch, ranges_of};
 ghost use Rattle.commonware_parallel.specs.Rayon.{planning_of, threads_of, chooses_of};
 
-use commonware_parallel::{Batches, Clock, Fault, Rayon, Sequential, Strategy};
+use commonware_parallel::{Clock, Fault, Rayon, Sequential, Strategy};
 use parallel_policy::Place;
 use parallel_pool::rayon::{MAX_THREADS, ThreadPoolBuildError};
 use std::alloc::Global;

@@ -1,6 +1,6 @@
-mod Draining
+mod Ascending
+mod Drains
 mod Requests
 mod Spaced
 mod Sums
-mod Turns
 mod Words

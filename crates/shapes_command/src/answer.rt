@@ -35,7 +35,7 @@ pub fn line<R: Threads + Wait + Sync>(
     let mut line = String::new(alloc);
     match request {
         Request::Drain { rows, workers } => {
-            push_numbers(&mut line, &drained_rows(alloc, rows, workers)?)?;
+            push_numbers(&mut line, &drained_rows(rt, alloc, rows, workers)?)?;
         }
         Request::Batches { len, count } => push_ranges(&mut line, &cut(alloc, len, count)?)?,
         Request::Grid { grid, len, workers } => push_grid(&mut line, grid, len, workers)?,

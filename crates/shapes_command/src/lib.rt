@@ -7,7 +7,7 @@ ghost use Rattle.shapes_command.specs.Line.{as_line, bad_arguments_line};
 ghost use Rattle.shapes_command.specs.Request.{IsCommandLine};
 
 mod answer;
-mod drain;
+pub mod drain;
 mod number;
 pub mod request;
 mod sum;

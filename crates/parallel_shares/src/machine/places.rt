@@ -229,7 +229,7 @@ impl State {
 }
 
 /// The words of a plan's shares before any event.
-fn opening_words(alloc: Global, plan: &Plan) -> Result<Vec<u64>, Fault>
+pub(crate) fn opening_words(alloc: Global, plan: &Plan) -> Result<Vec<u64>, Fault>
     ensures words { IfOk result (λ words. words.items ≡ opening_words plan.now (shares_of plan.now)) }
     ensures sound { IsSound plan.now }
     ensures fault { IfErr result (λ refusal. refusal ≡ Fault.Memory) }

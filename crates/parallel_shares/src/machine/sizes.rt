@@ -117,7 +117,7 @@ impl Plan {
     }
 
     /// The number of shares.
-    pub(super) fn shares(&self) -> usize
+    pub(crate) fn shares(&self) -> usize
         ensures shares { result ≡ shares_of self.now }
         ensures sound { IsSound self.now }
     {
@@ -125,7 +125,7 @@ impl Plan {
     }
 
     /// The share that a seat claims from.
-    pub(super) fn share_of(&self, seat: usize) -> usize
+    pub(crate) fn share_of(&self, seat: usize) -> usize
         ensures { result ≡ share_of self.now seat }
     {
         if self.whole { 0 } else { seat }
@@ -140,7 +140,7 @@ impl Plan {
     }
 
     /// The cells of the units from `start` up to `stop`.
-    pub(super) fn cells_of(&self, start: usize, stop: usize) -> Range<usize>
+    pub(crate) fn cells_of(&self, start: usize, stop: usize) -> Range<usize>
         requires { start < self.now.units }
         ensures cells { result ≡ record { start = start * self.now.unit; end = cells_to self.now stop } }
         ensures in_order { start ≤ stop → result.start ≤ result.end }

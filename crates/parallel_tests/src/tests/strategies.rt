@@ -1,5 +1,6 @@
 // What the tests make their strategies of.
-ghost use Rattle.std.specs.Prelude.{◌≡◌};
+ghost use Rattle.std.specs.Prelude.{◌≡◌, false};
+ghost use Rattle.commonware_parallel.specs.Rayon.{chooses_of};
 ghost use Rattle.std.specs.Int.NonZero.{non_zero_usize_get};
 
 use crate::beyond::planned_pool;
@@ -39,7 +40,9 @@ pub fn pool<Rt: Threads + Abort>(
     alloc: Global,
     threads: usize,
     planned: usize,
-) -> Rayon<Stopped> {
+) -> Rayon<Stopped>
+    ensures { chooses_of result ≡ false }
+{
     let threads = number(rt, threads);
     let strategy = planned_pool(rt, alloc, threads, number(rt, planned), Stopped);
     strategy.expect(rt, "memory for a pool")

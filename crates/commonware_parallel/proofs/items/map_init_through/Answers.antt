@@ -1,6 +1,5 @@
 -- The thread number that the body was given is the strategy's.
-use Rattle.std.proofs.Common.{rules, List}
-use Rattle.std.specs.Borrow.{MutBor}
+use Rattle.std.proofs.Common.{rules}
 use Rattle.parallel_bridge.specs.States.{MapStep, StatesAs}
 use Rattle.commonware_parallel.proofs.Settled.{at_threads}
 use Rattle.commonware_parallel.proofs.items.map_init_through.Goals as goal

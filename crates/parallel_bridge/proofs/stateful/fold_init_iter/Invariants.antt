@@ -8,5 +8,5 @@ invariant-loop-item g l = record {
   init_accepts : goal.N-IsAlwaysCallable g l.init;
   first_accepts : goal.I-IsAlwaysCallable g l.identity;
   step_accepts : goal.F-IsAlwaysCallable g l.fold_op;
-  reached : (more : List g.row.X.Iterator.Item.Denot) (b : g.row.R.Denot) → StateChain (FoldStep (λ a p x r q. goal.F-post g l.fold_op a p x r q)) l.state l.value more b → StateChain (FoldStep (λ a p x r q. goal.F-post g l.fold_op a p x r q)) l.initial.state l.initial.value (l.yielded ++ more) b;
+  reached : (more : List g.row.X-Item.Denot) (b : g.row.R.Denot) → StateChain (FoldStep (λ a p x r q. goal.F-post g l.fold_op a p x r q)) l.state l.value more b → StateChain (FoldStep (λ a p x r q. goal.F-post g l.fold_op a p x r q)) l.initial.state l.initial.value (l.yielded ++ more) b;
 }

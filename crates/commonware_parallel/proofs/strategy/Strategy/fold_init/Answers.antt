@@ -1,6 +1,5 @@
 -- The answer's list, call and thread number are those of the clause.
 use Rattle.std.proofs.Common.{rules}
-use Rattle.std.specs.Borrow.{MutBor}
 use Rattle.parallel_bridge.specs.Lists.{of_segment}
 use Rattle.parallel_bridge.specs.Shapes.{FoldsAs}
 use Rattle.parallel_bridge.specs.States.{FoldInitSegment, FoldStep}

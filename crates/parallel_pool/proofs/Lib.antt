@@ -1,0 +1,4 @@
+mod Places
+mod LatchSteps
+mod CountSteps
+mod Standings

@@ -1,0 +1,10 @@
+use Rattle.std.proofs.Common.{◌≡◌, ◌≤◌, vec_len, vec_capacity}
+use Rattle.parallel_pool.proofs.Standings.{IsWokenBelow}
+use Rattle.parallel_pool.proofs.sleep.wake.wake_first.Given as goal
+
+abbrev pub invariant-loop-worker : goal.invariant-loop-worker
+invariant-loop-worker l = record {
+  woken : IsWokenBelow l.most l.fn.standings l.worker l.woken.items l.standings;
+  few : vec_len l.woken ≤ l.worker;
+  room : vec_capacity l.woken ≡ vec_capacity l.fn.woken;
+}

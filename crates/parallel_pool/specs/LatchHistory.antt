@@ -1,0 +1,56 @@
+-- The history of a core latch, what a seat has seen of it, and what a call says of both.
+use Rattle.std.specs.Prelude.{◌≡◌, ℕ, ◌≤◌, ◌==◌, cond, List, [], ◌∷◌, ◌++◌, length}
+use mathlib.Core.Option.{some}
+use lib.ListN.{get_elem?}
+use Rattle.parallel_pool.specs.declared.latch.history.Act.{Act}
+use Rattle.parallel_pool.specs.declared.latch.history.Call.{Call}
+use Rattle.parallel_pool.specs.declared.latch.history.View.{View}
+use Rattle.parallel_pool.specs.LatchMoves.{Phase, word_of, phase_after, latched}
+
+-- the call of a seat
+abbrev pub call : ℕ → Act → Call
+call by act = record { by = by; act = act }
+
+-- what a seat knows that has seen these calls, of which these are its own
+abbrev pub view : List Call → List Act → View
+view seen own = record { seen = seen; own = own }
+
+-- a seat that has seen no call
+abbrev pub newcomer : View
+newcomer = view [] []
+
+-- the calls of one seat in a history
+abbrev pub acts_of : ℕ → List Call → List Act
+acts_of by [] = []
+acts_of by (c ∷ cs) = cond (c.by == by) (c.act ∷ acts_of by cs) (acts_of by cs)
+
+-- the history goes on from what was seen
+abbrev pub Begins : List Call → List Call → Type 0
+Begins log seen = (rest : List Call) × (log ≡ seen ++ rest)
+
+-- a seat has seen a beginning of the history, and its own acts are all that the history has of it
+abbrev pub Fits : List Call → ℕ → View → Type 0
+Fits log by v = Begins log v.seen × (acts_of by log ≡ v.own)
+
+-- there is one history, whose phase is in the word: it fits each seat, and has the calls of no others
+abbrev pub IsHistoryOf : List ℕ → List View → Type 0
+IsHistoryOf words views =
+    (log : List Call)
+    × (words ≡ word_of (phase_after log) ∷ [])
+    × ((by : ℕ) (v : View) → get_elem? views by ≡ some v → Fits log by v)
+    × ((by : ℕ) → length views ≤ by → acts_of by log ≡ [])
+
+-- one call of a seat: the history now seen is what came before it, which begins with all that the seat had seen, and then the call; of the seat it has just this call more
+pub record Makes (act : Act) (before : List Call) (by : ℕ) (old new : View) : Type 0 where
+  pub begins : Begins before old.seen
+  pub ends : new.seen ≡ before ++ call by act ∷ []
+  pub own : new.own ≡ old.own ++ act ∷ []
+  pub once : acts_of by new.seen ≡ new.own
+
+-- a seat made one call of this kind, and `said` holds of the phase that the call found, to which the history before it leads
+abbrev pub Called : Act → (Phase → Type 0) → View → View → Type 0
+Called act said old new = (before : List Call) × (by : ℕ) × Makes act before by old new × said (phase_after before)
+
+-- a seat has seen or made the latch set
+abbrev pub HasSeenSet : View → Type 0
+HasSeenSet v = phase_after v.seen ≡ latched

@@ -1,0 +1,11 @@
+use Rattle.std.specs.Prelude.{ℕ}
+use Rattle.parallel_pool.specs.declared.latch.core_latch.CoreLatch.{CoreLatch}
+use Rattle.parallel_pool.specs.declared.latch.once_latch.OnceLatch.{OnceLatch}
+
+-- the core latch under the latch
+abbrev pub core_of : OnceLatch → CoreLatch
+core_of latch = latch.core_latch
+
+-- the index of the worker that waits for the latch
+abbrev pub target_of : OnceLatch → ℕ
+target_of latch = latch.target_worker_index

@@ -1,0 +1,5 @@
+// What no clause says: worked values, each call on its happy path, and waits across threads.
+mod count_latches;
+mod latches;
+mod sleeps;
+mod threads;

@@ -1,0 +1,79 @@
+-- One seat that takes in the others, one after another.
+use Rattle.std.proofs.Common.{◌≡◌, ℕ, zero, suc, ◌+◌, ◌<◌, List, [], ◌∷◌, ◌++◌, length, get_or, refl, sym, ap, subst, ◌∙◌, arith}
+use Rattle.std.proofs.lemmas.List.{length_push, get_or_append_left, get_or_push}
+use Rattle.parallel_shares.specs.declared.shares.rule.View.{View}
+use Rattle.parallel_shares.specs.declared.shares.seat.Seat.{Seat}
+use Rattle.parallel_shares.specs.declared.shares.queue.Shares.{Shares}
+use Rattle.parallel_shares.specs.Holders.{in_ranges, same_number}
+use Rattle.parallel_shares.specs.Totals.{total, times}
+use Rattle.parallel_shares.specs.Sharing.{gathered}
+use Rattle.parallel_shares.specs.Seats.{known, index_of, IsSeatOf, AreSeatsOf}
+use Rattle.parallel_shares.specs.Gathered.{HasAll}
+use Rattle.parallel_shares.proofs.Totals.{total_append, in_ranges_append}
+use Rattle.parallel_shares.proofs.Dealt.{each_push}
+
+-- a view and some seats have together what all seats had
+pub record Gathering (view : View) (rest all : List Seat) : Type 0 where
+  pub owns : (k : ℕ) → times k view.owns + total (λ s. times k (known s).owns) rest ≡ total (λ s. times k (known s).owns) all
+  pub claims : (c : ℕ) → in_ranges c view.claims + total (λ s. in_ranges c (known s).claims) rest ≡ total (λ s. in_ranges c (known s).claims) all
+  pub transit : (u : ℕ) → in_ranges u view.transit + total (λ s. in_ranges u (known s).transit) rest ≡ total (λ s. in_ranges u (known s).transit) all
+  pub empties : (k : ℕ) → times k view.empties + total (λ s. times k (known s).empties) rest ≡ total (λ s. times k (known s).empties) all
+  pub changes : view.changes + total (λ s. (known s).changes) rest ≡ total (λ s. (known s).changes) all
+
+-- the last seat of a list, at the beginning
+pub gathers_one : (rest all : List Seat) (x : Seat) → all ≡ rest ++ x ∷ [] → Gathering (known x) rest all
+gathers_one rest all x e =
+    subst (λ xs. Gathering (known x) rest xs) (sym e)
+    (record {
+      owns = λ k. omega (arith, total_append (λ (s : Seat). times k (known s).owns) rest (x ∷ []));
+      claims = λ c. omega (arith, total_append (λ (s : Seat). in_ranges c (known s).claims) rest (x ∷ []));
+      transit = λ u. omega (arith, total_append (λ (s : Seat). in_ranges u (known s).transit) rest (x ∷ []));
+      empties = λ k. omega (arith, total_append (λ (s : Seat). times k (known s).empties) rest (x ∷ []));
+      changes = omega (arith, total_append (λ (s : Seat). (known s).changes) rest (x ∷ []));
+    })
+
+-- the last seat that is left is taken in
+pub gathers_more : (view : View) (old rest all : List Seat) (x : Seat) → Gathering view old all → old ≡ rest ++ x ∷ [] → Gathering (gathered view (known x)) rest all
+gathers_more view old rest all x has e =
+    let g = subst (λ xs. Gathering view xs all) e has in
+    record {
+      owns = λ k. omega (arith, g.owns k, total_append (same_number k) view.owns (known x).owns, total_append (λ (s : Seat). times k (known s).owns) rest (x ∷ []));
+      claims = λ c. omega (arith, g.claims c, in_ranges_append c view.claims (known x).claims, total_append (λ (s : Seat). in_ranges c (known s).claims) rest (x ∷ []));
+      transit = λ u. omega (arith, g.transit u, in_ranges_append u view.transit (known x).transit, total_append (λ (s : Seat). in_ranges u (known s).transit) rest (x ∷ []));
+      empties = λ k. omega (arith, g.empties k, total_append (same_number k) view.empties (known x).empties, total_append (λ (s : Seat). times k (known s).empties) rest (x ∷ []));
+      changes = omega (arith, g.changes, total_append (λ (s : Seat). (known s).changes) rest (x ∷ []));
+    }
+
+-- none is left
+pub gathers_all : (view : View) (rest all : List Seat) → rest ≡ [] → Gathering view rest all → HasAll view all
+gathers_all view rest all e has =
+    let g = subst (λ xs. Gathering view xs all) e has in
+    record {
+      owns = λ k. omega (arith, g.owns k);
+      claims = λ c. omega (arith, g.claims c);
+      transit = λ u. omega (arith, g.transit u);
+      empties = λ k. omega (arith, g.empties k);
+      changes = omega (arith, g.changes);
+    }
+
+-- what holds of each seat holds of those before the last, and of the last
+module _ (P : Seat → Type 0) (rest old : List Seat) (x : Seat) (e : old ≡ rest ++ x ∷ []) (each : (i : ℕ) (d : Seat) → i < length old → P (get_or old i d)) where
+  pub each_left : (i : ℕ) (d : Seat) → i < length rest → P (get_or rest i d)
+  each_left i d h =
+      subst P (ap (λ xs. get_or xs i d) e ∙ get_or_append_left rest (x ∷ []) d i h) (each i d (omega (arith, h, ap length e, length_push rest x)))
+
+  pub the_last : P x
+  the_last =
+      subst P (ap (λ xs. get_or xs (length rest) x) e ∙ get_or_push rest x x (length rest) refl) (each (length rest) x (omega (arith, ap length e, length_push rest x)))
+
+-- all seats, when the last was taken out and has come back
+pub seats_again : (shares : Shares) (rest old new : List Seat) (x y : Seat) → AreSeatsOf shares old → old ≡ rest ++ x ∷ [] → IsSeatOf shares y → index_of y ≡ index_of x → new ≡ rest ++ y ∷ [] → AreSeatsOf shares new
+seats_again shares rest old new x y all cut belongs same put =
+    let n : ℕ = length rest in
+    let last : index_of x ≡ n = subst (λ s. index_of s ≡ n) (ap (λ xs. get_or xs n x) cut ∙ get_or_push rest x x n refl) (all.order n x (omega (arith, ap length cut, length_push rest x))) in
+    subst (AreSeatsOf shares) (sym put)
+    (record {
+      count = omega (arith, all.count, ap length cut, length_push rest x, length_push rest y);
+      each = each_push (λ i s. IsSeatOf shares s) rest y n refl (each_left (IsSeatOf shares) rest old x cut all.each) belongs;
+      order = each_push (λ i s. index_of s ≡ i) rest y n refl (λ i d h. subst (λ s. index_of s ≡ i) (ap (λ xs. get_or xs i d) cut ∙ get_or_append_left rest (x ∷ []) d i h) (all.order i d (omega (arith, h, ap length cut, length_push rest x)))) (same ∙ last);
+    })

@@ -1,0 +1,110 @@
+-- What the seats of shares know, and what words and seats keep together whatever the order of their steps.
+use Rattle.std.specs.Prelude.{◌≡◌, ◌≢◌, ℕ, suc, ◌+◌, ◌-◌, ◌/◌, ◌<◌, ◌≤◌, Bool, false, cond, eqb, List, [], ◌∷◌, ◌++◌, drop, take, length, replicate, slice_index, slice_set, Option, Some, None}
+use Rattle.std.specs.List.{range_with_len}
+use mathlib.Core.Option.{some}
+use lib.ListN.{get_elem?}
+use Rattle.std.specs.declared.ops.Range.{Range}
+use Rattle.atomic_table.specs.Table.{State, Step, Me}
+use Rattle.parallel_shares.specs.declared.shares.rule.View.{View}
+use Rattle.parallel_shares.specs.Words.{start_of, end_of, IsEmptyWord, IsWithin}
+use Rattle.parallel_shares.specs.Sizes.{Sizes, shares_of, share_of}
+use Rattle.parallel_shares.specs.Machine.{opening_words}
+use Rattle.parallel_shares.specs.Answers.{claim_cells}
+use Rattle.parallel_shares.specs.Holders.{inside, in_word, in_ranges}
+use Rattle.parallel_shares.specs.Totals.{total, times}
+
+-- ---- what a seat knows
+
+-- of these seat numbers, before any step: no claim, nothing in transit, and no share loaded
+abbrev pub fresh_view : Sizes → List ℕ → View
+fresh_view sizes numbers =
+    record { owns = numbers; claims = []; transit = []; empties = []; words = replicate (shares_of sizes) 0; loads = replicate (shares_of sizes) 0; met = 0; exchanges = 0; changes = 0; plan = sizes }
+
+-- of the seats from a number on
+abbrev pub undealt : Sizes → ℕ → View
+undealt sizes number = fresh_view sizes (range_with_len number (sizes.workers - number))
+
+-- the word that was loaded last at a share
+abbrev pub loaded_at : View → ℕ → ℕ
+loaded_at view share = slice_index view.words share
+
+-- how often a share was loaded
+abbrev pub loads_at : View → ℕ → ℕ
+loads_at view share = slice_index view.loads share
+
+-- a range in transit as a list, for a view
+abbrev pub ranges_of : Option (Range ℕ) → List (Range ℕ)
+ranges_of None = []
+ranges_of (Some range) = range ∷ []
+
+-- ---- what holds between any two steps
+
+-- how often a seat has a cell: in a claim, or in a unit in transit
+abbrev pub in_view : Sizes → ℕ → View → ℕ
+in_view sizes c view = in_ranges c view.claims + in_ranges (c / sizes.unit) view.transit
+
+-- a seat has seen words empty only of its own numbers, and these words still are
+abbrev pub Empties : Sizes → List ℕ → View → Type 0
+Empties sizes words view =
+    (k : ℕ) → (times k view.empties ≤ times k view.owns) × (0 < times k view.empties → IsEmptyWord (slice_index words (share_of sizes k)))
+
+-- who has no number has nothing else
+abbrev pub Idle : View → Type 0
+Idle view = view.owns ≡ [] → (view.claims ≡ []) × (view.transit ≡ []) × (view.changes ≡ 0)
+
+-- each cell of the grid is once in a unit that is left in a word, in a unit in transit or in a claim, and no other cell
+-- is claimed; each seat number is with one seat; a word that its seat has seen empty is empty until that seat fills it;
+-- and until a seat has changed a word, the words are those of the opening
+pub record Kept (sizes : Sizes) (state : State (Unit {0}) View) : Type 0 where
+  pub shares : length state.words ≡ shares_of sizes
+  pub within : (share : ℕ) → IsWithin sizes.units (slice_index state.words share)
+  pub once : (c : ℕ) → c < sizes.cells → total (in_word (c / sizes.unit)) state.words + total (in_view sizes c) state.views ≡ 1
+  pub no_more : (c : ℕ) → sizes.cells ≤ c → total (λ v. in_ranges c v.claims) state.views ≡ 0
+  pub seats : (k : ℕ) → total (λ v. times k v.owns) state.views ≡ inside k 0 sizes.workers
+  pub each : (i : ℕ) (v : View) → get_elem? state.views i ≡ some v → Empties sizes state.words v × Idle v
+  pub opening : total (λ v. v.changes) state.views ≡ 0 → state.words ≡ opening_words sizes (shares_of sizes)
+
+-- ---- what a step tells its seat
+
+-- the seat after a load of its own share
+abbrev pub looked_own : View → ℕ → ℕ → View
+looked_own view share word =
+    record view { words = slice_set view.words share word; loads = slice_set view.loads share (loads_at view share + 1); empties = cond (eqb (start_of word) (end_of word)) view.owns view.empties }
+
+-- the seat after its exchange found the word that it had loaded, and claimed the front
+abbrev pub took_front : View → ℕ → View
+took_front view word =
+    record view { claims = view.claims ++ claim_cells view.plan word ∷ []; met = word; exchanges = view.exchanges + 1; changes = view.changes + 1 }
+
+-- the seat after its exchange found another word
+abbrev pub missed : View → ℕ → View
+missed view word = record view { met = word; exchanges = view.exchanges + 1 }
+
+-- a load of the seat's own share tells a range of units
+abbrev pub LooksOwn : Step (Unit {0}) → Me (Unit {0}) View → ℕ → Me (Unit {0}) View → Type 0
+LooksOwn step before word after =
+    IsWithin before.0.plan.units word × (after.0 ≡ looked_own before.0 step.word word) × (after.1 ≡ before.1)
+
+-- an exchange claims the front of the word that was loaded, or finds another word and claims nothing
+abbrev pub TakesFront : Step (Unit {0}) → Me (Unit {0}) View → ℕ → Me (Unit {0}) View → Type 0
+TakesFront step before word after =
+    (word ≡ step.first → after.0 ≡ took_front before.0 step.first) × (word ≢ step.first → after.0 ≡ missed before.0 word) × (after.1 ≡ before.1)
+
+-- ---- how seats are dealt and gathered
+
+-- what stays when a seat is dealt, and the new seat, which has the first number
+abbrev pub dealt_from : View → View
+dealt_from view = record view { owns = drop 1 view.owns }
+
+abbrev pub dealt : View → View
+dealt view = fresh_view view.plan (take 1 view.owns)
+
+-- all that two seats have
+abbrev pub gathered : View → View → View
+gathered view other =
+    record view { owns = view.owns ++ other.owns; claims = view.claims ++ other.claims; transit = view.transit ++ other.transit; empties = view.empties ++ other.empties; changes = view.changes + other.changes }
+
+-- what is left of a seat that another took in
+abbrev pub spent : View
+spent =
+    record { owns = []; claims = []; transit = []; empties = []; words = []; loads = []; met = 0; exchanges = 0; changes = 0; plan = record { cells = 0; unit = 0; claim = 0; units = 0; workers = 0; split_cost = 0; whole = false } }

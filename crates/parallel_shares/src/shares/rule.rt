@@ -1,0 +1,81 @@
+//! What the words and the seats keep together, and what each step on a word tells its seat.
+
+use crate::machine::Plan;
+use atomic_table::{Join, Play, Split, TableRule};
+use std::collections::LinkedList;
+use std::ops::Range;
+
+/// What a seat knows. Contracts speak of it, and no value of it is made.
+pub struct View {
+    /// The seat's number. Seats that were taken in add theirs.
+    pub owns: LinkedList<usize>,
+    /// The cells that the seat has claimed, in order.
+    pub claims: LinkedList<Range<usize>>,
+    /// The units that the seat has in transit.
+    pub transit: LinkedList<Range<usize>>,
+    /// The seat's number where it has seen its own word empty and has not filled it since.
+    pub empties: LinkedList<usize>,
+    /// The word that was loaded last at each share.
+    pub words: LinkedList<u64>,
+    /// How often each share was loaded.
+    pub loads: LinkedList<u64>,
+    /// The word that the last exchange found.
+    pub met: u64,
+    /// The number of exchanges that were tried.
+    pub exchanges: u64,
+    /// The number of steps that changed a word.
+    pub changes: u64,
+    /// The plan of the shares.
+    pub plan: Plan,
+}
+
+/// Each cell is in one place: in a word, in transit or in a claim. `Kept` says it whole.
+pub struct Partition;
+
+impl TableRule<(), View, Plan> for Partition {
+    ghost use Rattle.parallel_shares.specs.Sharing.{Kept, undealt};
+
+    ghost holds = { Kept };
+
+    ghost first = { λ sizes. undealt sizes 0 };
+}
+
+/// A load of the seat's own share.
+pub struct LookOwn;
+
+impl Play<(), View> for LookOwn {
+    ghost use Rattle.parallel_shares.specs.Sharing.{LooksOwn};
+
+    ghost then = { LooksOwn };
+}
+
+/// An exchange that claims the front of a word.
+pub struct TakeFront;
+
+impl Play<(), View> for TakeFront {
+    ghost use Rattle.parallel_shares.specs.Sharing.{TakesFront};
+
+    ghost then = { TakesFront };
+}
+
+/// The first of several seats goes to a view of its own.
+pub struct Deal;
+
+impl Split<View> for Deal {
+    ghost use Rattle.parallel_shares.specs.Sharing.{dealt_from, dealt};
+
+    ghost left = { dealt_from };
+
+    ghost right = { dealt };
+}
+
+/// A seat takes in what another has.
+pub struct Gather;
+
+impl Join<View> for Gather {
+    ghost use Rattle.parallel_shares.specs.Sharing.{gathered, spent};
+
+    ghost both = { gathered };
+
+    ghost spent = { spent };
+}
