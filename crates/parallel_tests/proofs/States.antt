@@ -1,8 +1,7 @@
 -- Lists that are answered with a state at hand, whatever the segments.
 use Rattle.std.proofs.Common.{◌≡◌, ℕ, List, [], ◌∷◌, ◌++◌, Option, Some, None, refl, sym, ◌∙◌, ap, subst, ◌⊎◌, inl, inr}
-use Rattle.parallel_bridge.specs.Lists.{Chain, FoldSegment, Brackets, of_segment, of_parts, Bracketing}
 use Rattle.parallel_bridge.specs.Shapes.{FoldsAs}
-use Rattle.parallel_bridge.specs.States.{StatesFrom, Stateful, no_segment, more_segments, StateChain, FoldInitSegment, AnyState}
+use Rattle.parallel_bridge.specs.States.{StatesFrom, Stateful, no_segment, more_segments}
 use Rattle.parallel_tests.specs.Repeats.{filled}
 
 -- an entry for a number, where the state is the last number
@@ -19,10 +18,10 @@ module _ (init : Option ℕ → Type 0) (step : Option ℕ → ℕ → Option �
       let next : StatesFrom step (Some x) xs ys = subst (λ s. StatesFrom step s xs ys) entry.0 onward in
       let behind = follow x xs ys more rest next after in
       elim entry.1 [
-        inl given ↦ ap (λ e. filled last (e ∷ (ys ++ more))) given ∙ ap (λ l. x ∷ l) behind
-      | inr gap ↦
-        let same : last ≡ x = cc in
-        ap (λ e. filled last (e ∷ (ys ++ more))) gap.0 ∙ ap (λ n. n ∷ filled n (ys ++ more)) same ∙ ap (λ l. x ∷ l) behind
+        | inl given ↦ ap (λ e. filled last (e ∷ (ys ++ more))) given ∙ ap (λ l. x ∷ l) behind
+        | inr gap ↦
+            let same : last ≡ x = cc in
+            ap (λ e. filled last (e ∷ (ys ++ more))) gap.0 ∙ ap (λ n. n ∷ filled n (ys ++ more)) same ∙ ap (λ l. x ∷ l) behind
       ]
 
   -- a segment's first entry is a number
@@ -33,9 +32,9 @@ module _ (init : Option ℕ → Type 0) (step : Option ℕ → ℕ → Option �
       let next : StatesFrom step (Some x) xs ys = subst (λ s'. StatesFrom step s' xs ys) entry.0 onward in
       let behind = follow x xs ys more rest next after in
       elim entry.1 [
-        inl given ↦ ap (λ e. filled n (e ∷ (ys ++ more))) given ∙ ap (λ l. x ∷ l) behind
-      | inr gap ↦
-        let none : s ≡ None = fresh s first in absurd cc
+        | inl given ↦ ap (λ e. filled n (e ∷ (ys ++ more))) given ∙ ap (λ l. x ∷ l) behind
+        | inr gap ↦
+            let none : s ≡ None = fresh s first in absurd cc
       ]
 
   -- however the list is cut, the entries fill to it
@@ -47,17 +46,6 @@ module _ (init : Option ℕ → Type 0) (step : Option ℕ → ℕ → Option �
 -- the same with the answers first, which tell the relations
 pub all_filled : (init : Option ℕ → Type 0) (step : Option ℕ → ℕ → Option ℕ → Option ℕ → Type 0) (xs : List ℕ) (ys : List (Option ℕ)) → Stateful init step xs ys → ((s : Option ℕ) → init s → s ≡ None) → ((s : Option ℕ) (x : ℕ) (y t : Option ℕ) → step s x y t → Entry s x y t) → (n : ℕ) → filled n ys ≡ xs
 all_filled init step xs ys h fresh enters n = fills init step fresh enters h n
-
-module _ {S X R : Type 0} (init : S → Type 0) (identity : R → Type 0) (step : S → R → X → R → S → Type 0) where
-  -- a chain with a state is a chain of steps from some state
-  stateless : (s : S) (a : R) (xs : List X) (r : R) → StateChain step s a xs r → Chain (AnyState step) a xs r
-  stateless s a [] r h = h
-  stateless s a (x ∷ xs) r (b, t, stepped, onward) = (b, (s, t, stepped), stateless t b xs r onward)
-
-  -- so a fold with states is a fold
-  pub without_states : {reduce : R → R → R → Type 0} {xs : List X} {r : R} → Brackets (FoldInitSegment init identity step) reduce xs r → Bracketing identity (AnyState step) reduce xs r
-  without_states {xs = xs} {r = r} (of_segment (s, a, first, begins, chain)) = of_segment (a, begins, stateless s a xs r chain)
-  without_states (of_parts split left right reduced) = of_parts split (without_states left) (without_states right) reduced
 
 -- at the first pick a fold is one segment
 pub in_one : {X R : Type 0} (identity : R → Type 0) (allowed : List X → R → Type 0) (reduce : R → R → R → Type 0) (depth pick : ℕ) (xs : List X) (r : R) → FoldsAs identity allowed reduce depth pick xs r → pick ≡ 0 → allowed xs r

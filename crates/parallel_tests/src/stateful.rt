@@ -11,6 +11,7 @@ ghost use Rattle.parallel_bridge.specs.States.{AnyState, FoldStep};
 ghost use Rattle.parallel_tests.specs.Repeats.{filled};
 
 use commonware_parallel::{Fault, Strategy};
+use parallel_bridge::fold_init_law;
 use parallel_policy::Place;
 use std::alloc::Global;
 use std::cmp::Ordering;
