@@ -79,37 +79,50 @@ fn an_unsteady_closure_fails_by_an_error_of_its_own(rt: HostRuntime) -> Result<(
     Ok(())
 }
 
-// A sum from `start`, which fails at an even number where `start` is above 99, and elsewhere where it
-// passes 10.
-fn step(sum: u32, number: u32) -> Result<u32, u32> {
-    let next = sum.wrapping_add(number);
-    let fails = if sum < 100 {
-        10 < next
+// Adds an odd number, and fails at an even one.
+fn add_odd(sum: u32, number: u32) -> Result<u32, u32> {
+    if number % 2 == 0 {
+        Err(number)
     } else {
-        number % 2 == 0
-    };
-    if fails { Err(number) } else { Ok(next) }
+        Ok(sum.wrapping_add(number))
+    }
+}
+
+// Adds a number, and fails where the sum passes 10.
+fn add_to_ten(sum: u32, number: u32) -> Result<u32, u32> {
+    let next = sum.wrapping_add(number);
+    if next > 10 { Err(number) } else { Ok(next) }
+}
+
+fn zero() -> u32 {
+    0
 }
 
 fn add(left: u32, right: u32) -> u32 {
     left.wrapping_add(right)
 }
 
-fn try_sum<Rt: Threads + Wait + Sync, S: Strategy>(
+fn odd_sum<Rt: Threads + Wait + Sync, S: Strategy>(
     rt: &Rt,
     alloc: Global,
     strategy: &S,
-    start: u32,
-    numbers: &[u32],
 ) -> Result<u32, Trouble<u32>> {
-    let identity = move || start;
+    strategy.try_fold(rt, alloc, SITE, 1..5u32, || 100, add_odd, add)
+}
+
+fn sum_to_ten<Rt: Threads + Wait + Sync, S: Strategy>(
+    rt: &Rt,
+    alloc: Global,
+    strategy: &S,
+) -> Result<u32, Trouble<u32>> {
+    let sixes = [6, 6];
     strategy.try_fold(
         rt,
         alloc,
         SITE,
-        numbers.iter().copied(),
-        identity,
-        step,
+        sixes.iter().copied(),
+        zero,
+        add_to_ten,
         add,
     )
 }
@@ -119,23 +132,43 @@ fn a_fold_stops_at_its_first_error(rt: HostRuntime) -> Result<(), Fail> {
     let alloc = rt.alloc();
     let two = pool(&rt, alloc, 2, 2);
     let one = pool(&rt, alloc, 2, 1);
-    let numbers = [1, 2, 3, 4];
-    let serial = try_sum(&rt, alloc, &Sequential, 100, &numbers);
-    assert!(rt; matches!(serial, Err(Trouble::Closure(2))));
-    let parallel = try_sum(&rt, alloc, &two, 100, &numbers);
-    assert!(rt; matches!(parallel, Err(Trouble::Closure(2))));
+    assert!(rt; matches!(odd_sum(&rt, alloc, &Sequential), Err(Trouble::Closure(2))));
+    assert!(rt; matches!(odd_sum(&rt, alloc, &two), Err(Trouble::Closure(2))));
     // Each segment begins anew, so that in two of them no sum passes 10.
-    let serial = try_sum(&rt, alloc, &Sequential, 0, &[6, 6]);
-    assert!(rt; matches!(serial, Err(Trouble::Closure(6))));
-    assert_eq!(rt; try_sum(&rt, alloc, &two, 0, &[6, 6])?, 12);
-    let own = Sequential.try_fold(alloc, SITE, 6..8u32, || 0, step, add);
+    assert!(rt;
+        matches!(
+            sum_to_ten(&rt, alloc, &Sequential),
+            Err(Trouble::Closure(6))
+        )
+    );
+    assert!(rt; matches!(sum_to_ten(&rt, alloc, &one), Err(Trouble::Closure(6))));
+    assert!(rt; matches!(sum_to_ten(&rt, alloc, &two), Ok(12)));
+    let own = Sequential.try_fold(alloc, SITE, 6..8u32, zero, add_to_ten, add);
     assert!(rt; matches!(own, Err(Trouble::Closure(7))));
 
-    let one_piece = try_fold_in_one(&rt, alloc, &Sequential, SITE, 6..8u32, || 0, step, add);
+    let one_piece = try_fold_in_one(
+        &rt,
+        alloc,
+        &Sequential,
+        SITE,
+        6..8u32,
+        zero,
+        add_to_ten,
+        add,
+    );
     assert!(rt; matches!(one_piece, Err(Trouble::Closure(7))));
-    let one_piece = try_fold_planned_for_one(&rt, alloc, &one, SITE, 6..8u32, || 0, step, add);
+    let one_piece = try_fold_planned_for_one(
+        &rt,
+        alloc,
+        &one,
+        SITE,
+        6..8u32,
+        zero,
+        add_to_ten,
+        add,
+    );
     assert!(rt; matches!(one_piece, Err(Trouble::Closure(7))));
-    let segments = try_fold_along_shape(&rt, alloc, &two, SITE, 6..8u32, || 0, step, add)?;
+    let segments = try_fold_along_shape(&rt, alloc, &two, SITE, 6..8u32, zero, add_to_ten, add)?;
     assert_eq!(rt; segments, 13);
     Ok(())
 }
