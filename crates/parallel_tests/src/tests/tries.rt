@@ -79,6 +79,17 @@ fn an_unsteady_closure_fails_by_an_error_of_its_own(rt: HostRuntime) -> Result<(
     Ok(())
 }
 
+#[test]
+fn a_serial_map_asks_no_item_behind_the_first_error(rt: HostRuntime) {
+    let calls = AtomicU32::new(0);
+    let failed = Sequential.try_map_collect_vec(rt.alloc(), SITE, 0..10u32, |n: u32| {
+        calls.fetch_add(1, Ordering::SeqCst);
+        if n == 3 { Err(n) } else { Ok(n) }
+    });
+    assert!(rt; matches!(failed, Err(Trouble::Closure(3))));
+    assert_eq!(rt; calls.load(Ordering::SeqCst), 4);
+}
+
 // Adds an odd number, and fails at an even one.
 fn add_odd(sum: u32, number: u32) -> Result<u32, u32> {
     if number % 2 == 0 {
