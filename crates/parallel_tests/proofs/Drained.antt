@@ -6,6 +6,7 @@ use Rattle.std.proofs.lemmas.List.Elements.{All-from_recursion, recursion_from_A
 use Rattle.std.proofs.lemmas.Iterator.{YieldsList, items_from_drains}
 use Rattle.std.proofs.lemmas.List.{map-id}
 use Rattle.std.proofs.lemmas.Result.{IfOk-weaker}
+use Rattle.parallel_bridge.specs.Parts.{PartitionOf}
 
 -- what came of a run is the list that every run gives
 pub drained : {S A : Type 0} {steps : S → Option A → S → Type 0} {s : S} {all : List A} (xs : List A) → Drains steps s xs → YieldsList steps (λ x. x) s all → xs ≡ all
@@ -27,6 +28,10 @@ map_from_answers {all = all} allowed f result answers road calls =
 -- a fact of the items that came of a run, for the list that every run gives
 pub fact_of_list : {S A T E : Type 0} {steps : S → Option A → S → Type 0} {s : S} {all : List A} (P : List A → T → Type 0) (result : Result T E) → IfOk result (λ r. (xs : List A) × Drains steps s xs × P xs r) → YieldsList steps (λ x. x) s all → IfOk result (P all)
 fact_of_list {all = all} P result gave road = IfOk-weaker result _ (P all) (λ r h. subst (λ xs. P xs r) (drained h.0 h.1 road) h.2) gave
+
+-- the parts of a partition, for the list that every run gives
+pub parts_of_list : {S X K U E : Type 0} {steps : S → Option X → S → Type 0} {s : S} {all : List X} (allowed : X → (K × Option U) → Type 0) (result : Result (Vec U Global × Vec K Global) E) → IfOk result (λ parts. (xs : List X) × Drains steps s xs × PartitionOf allowed xs parts.0.items parts.1.items) → YieldsList steps (λ x. x) s all → IfOk result (λ parts. PartitionOf allowed all parts.0.items parts.1.items)
+parts_of_list allowed result gave road = fact_of_list (λ xs parts. PartitionOf allowed xs parts.0.items parts.1.items) result gave road
 
 module _ {S A : Type 0} (steps : S → Option A → S → Type 0) (K : A → Type 0) where
   -- what is true of each item of the list that every run gives is true of what came so far

@@ -4,5 +4,8 @@
 pub mod beyond;
 pub mod callers;
 pub mod long_lists;
+pub mod segments;
+pub mod stateful;
 #[cfg(test)]
 mod tests;
+pub mod verifier;

@@ -9,5 +9,7 @@ mod plans;
 mod policies;
 mod printed;
 mod runs;
+mod states;
 mod strategies;
 mod threads;
+mod tries;

@@ -1,8 +1,10 @@
 // Calls whose memory may be refused at any point: each one answers what it always does, or
 // `Fault::Memory`, and nothing else. Run with each allocation failing in turn.
 use crate::callers::{first_squares, sum_of_squares};
+use crate::stateful::{leave_out_repeats, sort_by_first};
 use crate::tests::strategies::{SITE, Stopped, number};
-use commonware_parallel::{Fault, Rayon, Sequential, Strategy};
+use crate::verifier::{split_by_check, sum_within, verify_all};
+use commonware_parallel::{Fault, Rayon, Sequential, Strategy, Trouble};
 use parallel_pool::rayon::ThreadPoolBuildError;
 use std::alloc::Global;
 use std::process::Abort;
@@ -45,7 +47,99 @@ fn fold_or_refusal<Rt: Threads + Wait + Abort + Sync, S: Strategy>(
     }
 }
 
-// A map and a fold of 0, 1, 2 and 1000 items.
+// The expected number, or a refusal.
+fn is_or_refused(rt: &impl Abort, answer: Result<usize, Fault>, expected: usize) {
+    match answer {
+        Ok(number) => assert_eq!(rt; number, expected),
+        Err(fault) => assert_eq!(rt; fault, Fault::Memory),
+    }
+}
+
+// The calls whose closures may fail, over threes: each one answers, fails at the first item, or is
+// refused.
+fn tries_or_refusals<Rt: Threads + Wait + Abort + Sync, S: Strategy>(
+    rt: &Rt,
+    alloc: Global,
+    strategy: &S,
+    threes: &[u64],
+) {
+    match verify_all(rt, alloc, strategy, SITE, threes, |three: u64| three == 3) {
+        Ok(()) => {}
+        Err(trouble) => assert!(rt; matches!(trouble, Trouble::Fault(Fault::Memory))),
+    }
+    match verify_all(rt, alloc, strategy, SITE, threes, |three: u64| three == 4) {
+        Ok(()) => assert_eq!(rt; threes.len(), 0),
+        Err(Trouble::Closure(index)) => assert_eq!(rt; index, 0),
+        Err(Trouble::Fault(fault)) => assert_eq!(rt; fault, Fault::Memory),
+    }
+    match sum_within(rt, alloc, strategy, SITE, threes, 3) {
+        Ok(sum) => assert_eq!(rt; sum, 3u64.wrapping_mul(threes.len() as u64)),
+        Err(trouble) => assert!(rt; matches!(trouble, Trouble::Fault(Fault::Memory))),
+    }
+}
+
+// A map and a fold with a state, a partition and a sort, over threes.
+fn states_or_refusals<Rt: Threads + Wait + Abort + Sync, S: Strategy>(
+    rt: &Rt,
+    alloc: Global,
+    strategy: &S,
+    threes: &[u32],
+) {
+    let count = threes.len();
+    let entries = leave_out_repeats(rt, alloc, strategy, SITE, threes);
+    is_or_refused(rt, entries.map(|entries| entries.len()), count);
+    let parts = split_by_check(rt, alloc, strategy, SITE, threes, |three: u32| three == 3);
+    is_or_refused(rt, parts.map(|parts| parts.0.len()), count);
+    let sum = strategy.fold_init(
+        rt,
+        alloc,
+        SITE,
+        threes.iter().copied(),
+        || (),
+        || 0,
+        |sum: usize, _: &mut (), _: u32| sum.wrapping_add(1),
+        |left: usize, right: usize| left.wrapping_add(right),
+    );
+    is_or_refused(rt, sum, count);
+}
+
+// A sort of pairs whose first parts are odd, which stay there also where it is refused; a join and a
+// run.
+fn sorts_or_refusals<Rt: Threads + Wait + Abort + Sync, S: Strategy>(
+    rt: &Rt,
+    alloc: Global,
+    strategy: &S,
+    pairs: &mut [(u32, u32)],
+) {
+    let count = pairs.len();
+    let sorted = sort_by_first(rt, alloc, strategy, SITE, pairs);
+    is_or_refused(rt, sorted.map(|_| 0), 0);
+    let odd = pairs.iter().filter(|pair| pair.0 % 2 == 1).count();
+    assert_eq!(rt; odd, count);
+    let both = strategy.join(rt, alloc, SITE, || 1usize, || 2usize);
+    is_or_refused(rt, both.map(|both| both.1), 2);
+    match strategy.try_run(rt, alloc, SITE, count, || Err(count), || Err(count)) {
+        Ok(()) => assert!(rt; false),
+        Err(Trouble::Closure(error)) => assert_eq!(rt; error, count),
+        Err(Trouble::Fault(fault)) => assert_eq!(rt; fault, Fault::Memory),
+    }
+}
+
+// The calls with a state or with steps that may fail, and the sorts, over so many threes and pairs.
+fn further_calls_or_refusals<Rt: Threads + Wait + Abort + Sync, S: Strategy>(
+    rt: &Rt,
+    alloc: Global,
+    strategy: &S,
+    threes: &[u32],
+    wide: &[u64],
+    pairs: &mut [(u32, u32)],
+) {
+    tries_or_refusals(rt, alloc, strategy, wide);
+    states_or_refusals(rt, alloc, strategy, threes);
+    sorts_or_refusals(rt, alloc, strategy, pairs);
+}
+
+// Each call with 0, 1, 2 and 1000 items.
 fn calls_or_refusals<Rt: Threads + Wait + Abort + Sync, S: Strategy>(
     rt: &Rt,
     alloc: Global,
@@ -59,6 +153,15 @@ fn calls_or_refusals<Rt: Threads + Wait + Abort + Sync, S: Strategy>(
     fold_or_refusal(rt, alloc, strategy, &threes[..1], 9);
     fold_or_refusal(rt, alloc, strategy, &threes[..2], 18);
     fold_or_refusal(rt, alloc, strategy, &threes, 9000);
+    let wide = [3; 1000];
+    let mut pairs = [(1, 0); 1000];
+    pairs[0].0 = 5;
+    let one = &mut [(1, 0)];
+    let two = &mut [(5, 0), (1, 0)];
+    further_calls_or_refusals(rt, alloc, strategy, &[], &[], &mut []);
+    further_calls_or_refusals(rt, alloc, strategy, &threes[..1], &wide[..1], one);
+    further_calls_or_refusals(rt, alloc, strategy, &threes[..2], &wide[..2], two);
+    further_calls_or_refusals(rt, alloc, strategy, &threes, &wide, &mut pairs);
 }
 
 #[test]

@@ -5,8 +5,8 @@ use std::sync::atomic::{AtomicBool, Ordering};
 use std::test::Fail;
 use std::thread::yield_now;
 
-// Sets the own flag, and answers whether the other one was seen within ten million turns.
-fn sees(own: &AtomicBool, other: &AtomicBool) -> bool {
+/// Sets the own flag, and answers whether the other one was seen within ten million turns.
+pub fn sees(own: &AtomicBool, other: &AtomicBool) -> bool {
     own.store(true, Ordering::SeqCst);
     for _ in 0..10_000_000u32 {
         if other.load(Ordering::SeqCst) {

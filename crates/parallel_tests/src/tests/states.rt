@@ -1,0 +1,283 @@
+// Maps and folds with a state at hand, partitions, sorts and joins, through each strategy.
+use crate::segments::{
+    fold_init_along_shape, fold_init_in_one, fold_init_planned_for_one, join_on_pool, join_serial,
+    map_init_along_shape, map_init_in_one, map_init_planned_for_one,
+};
+use crate::stateful::{leave_out_repeats, plain_fold_init, sort_by_first};
+use crate::tests::strategies::{SITE, Stopped, number, pool};
+use crate::tests::threads::sees;
+use crate::verifier::split_by_check;
+use commonware_parallel::{Fault, Rayon, Sequential, Strategy};
+use std::alloc::Global;
+use std::process::Abort;
+use std::sync::Wait;
+use std::sync::atomic::AtomicBool;
+use std::test::Fail;
+use std::thread::Threads;
+
+fn zero() -> u32 {
+    0
+}
+
+fn ten() -> u32 {
+    10
+}
+
+fn add(left: u32, right: u32) -> u32 {
+    left.wrapping_add(right)
+}
+
+// Adds 1 to the state and answers it, whatever the item.
+fn count(state: &mut u32, _item: u32) -> u32 {
+    *state = state.wrapping_add(1);
+    *state
+}
+
+// Adds the item, and counts it in the state.
+fn add_counted(sum: u32, state: &mut u32, item: u32) -> u32 {
+    *state = state.wrapping_add(1);
+    sum.wrapping_add(item)
+}
+
+// The number of each of three items in its segment, by a map with a state and by one whose items stand
+// for more work.
+fn counts_are<Rt: Threads + Wait + Abort + Sync, S: Strategy>(
+    rt: &Rt,
+    alloc: Global,
+    strategy: &S,
+    expected: [u32; 3],
+) -> Result<(), Fault> {
+    let counts = strategy.map_init_collect_vec(rt, alloc, SITE, 0..3u32, zero, count)?;
+    assert_eq!(rt; counts.as_slice(), expected.as_slice());
+    let weighed = strategy.map_init_collect_vec_with_multiplier(
+        rt,
+        alloc,
+        SITE,
+        0..3u32,
+        9,
+        zero,
+        count,
+    )?;
+    assert_eq!(rt; weighed.as_slice(), expected.as_slice());
+    Ok(())
+}
+
+#[test]
+fn states_change_at_the_segments(rt: HostRuntime) -> Result<(), Fail> {
+    let alloc = rt.alloc();
+    let two = pool(&rt, alloc, 2, 3);
+    let one = pool(&rt, alloc, 2, 1);
+    counts_are(&rt, alloc, &Sequential, [1, 2, 3])?;
+    counts_are(&rt, alloc, &two, [1, 1, 1])?;
+    counts_are(&rt, alloc, &one, [1, 2, 3])?;
+    // One thread cuts three items into leaves of one and two.
+    counts_are(&rt, alloc, &pool(&rt, alloc, 1, 2), [1, 1, 2])?;
+    let own = Sequential.map_init_collect_vec(alloc, SITE, 0..3u32, zero, count)?;
+    assert_eq!(rt; own.as_slice(), [1, 2, 3].as_slice());
+
+    let segment = map_init_in_one(&rt, alloc, &Sequential, SITE, 0..3u32, zero, count)?;
+    assert_eq!(rt; segment.as_slice(), [1, 2, 3].as_slice());
+    let segment = map_init_planned_for_one(&rt, alloc, &one, SITE, 0..3u32, zero, count)?;
+    assert_eq!(rt; segment.as_slice(), [1, 2, 3].as_slice());
+    let leaves = map_init_along_shape(&rt, alloc, &two, SITE, 0..3u32, zero, count)?;
+    assert_eq!(rt; leaves.as_slice(), [1, 1, 1].as_slice());
+    Ok(())
+}
+
+// The fold of the numbers below `end` from `start`, each segment begun from 10.
+fn fold_ten<Rt: Threads + Wait + Sync, S: Strategy>(
+    rt: &Rt,
+    alloc: Global,
+    strategy: &S,
+    end: u32,
+) -> Result<u32, Fault> {
+    strategy.fold_init(rt, alloc, SITE, 1..end, zero, ten, add_counted, add)
+}
+
+#[test]
+fn folds_with_a_state_go_as_folds(rt: HostRuntime) -> Result<(), Fail> {
+    let alloc = rt.alloc();
+    let two = pool(&rt, alloc, 2, 3);
+    let one = pool(&rt, alloc, 2, 1);
+    for (end, serial, parallel) in [(4, 16, 66), (1, 10, 20)] {
+        assert_eq!(rt; fold_ten(&rt, alloc, &Sequential, end)?, serial);
+        assert_eq!(rt; fold_ten(&rt, alloc, &two, end)?, parallel);
+        assert_eq!(rt; fold_ten(&rt, alloc, &one, end)?, serial);
+    }
+    let own = Sequential.fold_init(SITE, 1..4u32, zero, ten, add_counted, add);
+    assert_eq!(rt; own, 16);
+
+    let segment = fold_init_in_one(
+        &rt,
+        alloc,
+        &Sequential,
+        SITE,
+        1..4u32,
+        zero,
+        ten,
+        add_counted,
+        add,
+    )?;
+    assert_eq!(rt; segment, 16);
+    let segment = fold_init_planned_for_one(
+        &rt,
+        alloc,
+        &one,
+        SITE,
+        1..4u32,
+        zero,
+        ten,
+        add_counted,
+        add,
+    )?;
+    assert_eq!(rt; segment, 16);
+    let leaves = fold_init_along_shape(
+        &rt,
+        alloc,
+        &two,
+        SITE,
+        1..4u32,
+        zero,
+        ten,
+        add_counted,
+        add,
+    )?;
+    assert_eq!(rt; leaves, 66);
+    let plain = plain_fold_init(
+        &rt,
+        alloc,
+        &two,
+        SITE,
+        0..100u32,
+        zero,
+        zero,
+        add_counted,
+        add,
+    )?;
+    assert_eq!(rt; plain, 4950);
+    Ok(())
+}
+
+// The even numbers below 6 with ten times themselves, and the odd ones without.
+fn parts_of_six<Rt: Threads + Wait + Sync, S: Strategy>(
+    rt: &Rt,
+    alloc: Global,
+    strategy: &S,
+) -> Result<(Vec<u32>, Vec<u32>), Fault> {
+    strategy.map_partition_collect_vec(rt, alloc, SITE, 0..6u32, tenfold)
+}
+
+fn tenfold(n: u32) -> (u32, Option<u32>) {
+    if n % 2 == 0 {
+        (n, Some(n.wrapping_mul(10)))
+    } else {
+        (n, None)
+    }
+}
+
+// What partitions, gaps for repeats, sorts and joins answer, through any strategy.
+fn known_answers<Rt: Threads + Wait + Abort + Sync, S: Strategy>(
+    rt: &Rt,
+    alloc: Global,
+    strategy: &S,
+) -> Result<(), Fault> {
+    let (values, keys) = parts_of_six(rt, alloc, strategy)?;
+    assert_eq!(rt; values.as_slice(), [0, 20, 40].as_slice());
+    assert_eq!(rt; keys.as_slice(), [1, 3, 5].as_slice());
+    let (small, great) = split_by_check(rt, alloc, strategy, SITE, &[5, 1, 9, 2], |n: u32| n < 4)?;
+    assert_eq!(rt; small.as_slice(), [1, 2].as_slice());
+    assert_eq!(rt; great.as_slice(), [5, 9].as_slice());
+    let weighed = strategy.map_collect_vec_with_multiplier(
+        rt,
+        alloc,
+        SITE,
+        0..3u32,
+        9,
+        |n: u32| add(n, n),
+    )?;
+    assert_eq!(rt; weighed.as_slice(), [0, 2, 4].as_slice());
+
+    let mut pairs = [(2, 97), (1, 98), (2, 99), (1, 100)];
+    sort_by_first(rt, alloc, strategy, SITE, &mut pairs)?;
+    assert_eq!(rt;
+        pairs.as_slice(),
+        [(1, 98), (1, 100), (2, 97), (2, 99)].as_slice()
+    );
+    let mut numbers = [3, 1, 2, 1];
+    strategy.sort_unstable_by(rt, alloc, SITE, &mut numbers, |a: &u32, b: &u32| b.cmp(a))?;
+    assert_eq!(rt; numbers.as_slice(), [3, 2, 1, 1].as_slice());
+    assert_eq!(rt;
+        strategy.join(rt, alloc, SITE, || 5u32, || "five")?,
+        (5, "five")
+    );
+    Ok(())
+}
+
+#[test]
+fn partitions_sorts_and_joins_are_the_same_everywhere(rt: HostRuntime) -> Result<(), Fail> {
+    known_answers(&rt, rt.alloc(), &Sequential)?;
+    for (threads, planned) in [(1, 1), (1, 2), (2, 3), (8, 8)] {
+        known_answers(&rt, rt.alloc(), &pool(&rt, rt.alloc(), threads, planned))?;
+    }
+    let learning = Rayon::new(&rt, rt.alloc(), number(&rt, 4), Stopped)?;
+    known_answers(&rt, rt.alloc(), &learning)?;
+    Ok(())
+}
+
+#[test]
+fn calls_of_a_serial_strategys_own_answer_alike(rt: HostRuntime) -> Result<(), Fail> {
+    let alloc = rt.alloc();
+    let (values, keys) = Sequential.map_partition_collect_vec(alloc, SITE, 0..6u32, tenfold)?;
+    assert_eq!(rt; values.as_slice(), [0, 20, 40].as_slice());
+    assert_eq!(rt; keys.as_slice(), [1, 3, 5].as_slice());
+    let tried = Sequential.try_map_collect_vec(alloc, SITE, 0..3u32, |n: u32| -> Result<u32, u32> {
+        Ok(n)
+    })?;
+    assert_eq!(rt; tried.as_slice(), [0, 1, 2].as_slice());
+    let mut numbers = [3, 1, 2];
+    Sequential.sort_by(alloc, SITE, &mut numbers, |a: &u32, b: &u32| a.cmp(b))?;
+    assert_eq!(rt; numbers.as_slice(), [1, 2, 3].as_slice());
+    Sequential.sort_unstable_by(SITE, &mut numbers, |a: &u32, b: &u32| b.cmp(a));
+    assert_eq!(rt; numbers.as_slice(), [3, 2, 1].as_slice());
+    assert_eq!(rt; Sequential.join(SITE, || 5u32, || "five"), (5, "five"));
+    Ok(())
+}
+
+#[test]
+fn repeats_are_left_out_of_each_segment(rt: HostRuntime) -> Result<(), Fail> {
+    let numbers = [7, 7, 7, 8];
+    let serial = leave_out_repeats(&rt, rt.alloc(), &Sequential, SITE, &numbers)?;
+    assert_eq!(rt;
+        serial.as_slice(),
+        [Some(7), None, None, Some(8)].as_slice()
+    );
+    let halves = pool(&rt, rt.alloc(), 1, 2);
+    let entries = leave_out_repeats(&rt, rt.alloc(), &halves, SITE, &numbers)?;
+    assert_eq!(rt;
+        entries.as_slice(),
+        [Some(7), None, Some(7), Some(8)].as_slice()
+    );
+    Ok(())
+}
+
+#[test]
+fn joins_are_parallel_whatever_a_pool_is_planned_for(rt: HostRuntime) -> Result<(), Fail> {
+    let alloc = rt.alloc();
+    let one = pool(&rt, alloc, 2, 1);
+    let first = AtomicBool::new(false);
+    let second = AtomicBool::new(false);
+    let seen = join_on_pool(
+        &rt,
+        alloc,
+        &one,
+        SITE,
+        || sees(&first, &second),
+        || sees(&second, &first),
+    )?;
+    assert_eq!(rt; seen, (true, true));
+    assert_eq!(rt;
+        join_serial(&rt, alloc, &Sequential, SITE, || 1u32, || 2u32)?,
+        (1, 2)
+    );
+    Ok(())
+}

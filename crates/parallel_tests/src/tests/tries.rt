@@ -1,0 +1,235 @@
+// Calls whose closures may fail. The first failing item's error is the answer, whichever part of the
+// list ended first.
+use crate::segments::{try_fold_along_shape, try_fold_in_one, try_fold_planned_for_one};
+use crate::tests::strategies::{SITE, Stopped, number, pool};
+use crate::verifier::{sum_within, verify_all};
+use commonware_parallel::{Rayon, Sequential, Strategy, Trouble};
+use std::alloc::Global;
+use std::process::Abort;
+use std::sync::Wait;
+use std::sync::atomic::{AtomicU32, Ordering};
+use std::test::Fail;
+use std::thread::Threads;
+
+// The numbers below 100, of which 57 and 99 fail, and `more` too.
+fn map_or_fail<Rt: Threads + Wait + Sync, S: Strategy>(
+    rt: &Rt,
+    alloc: Global,
+    strategy: &S,
+    more: u32,
+) -> Result<Vec<u32>, Trouble<u32>> {
+    strategy.try_map_collect_vec(rt, alloc, SITE, 0..100u32, |n: u32| {
+        if n == 57 || n == 99 || n == more {
+            Err(n)
+        } else {
+            Ok(n)
+        }
+    })
+}
+
+// Row: 57 and 99 fail, and 57 is answered; with 25 failing too, 25 is.
+fn first_error_wins<Rt: Threads + Wait + Abort + Sync, S: Strategy>(
+    rt: &Rt,
+    alloc: Global,
+    strategy: &S,
+) {
+    for (more, first) in [(99, 57), (25, 25), (0, 0)] {
+        let answer = map_or_fail(rt, alloc, strategy, more);
+        assert!(rt; matches!(answer, Err(Trouble::Closure(error)) if error == first));
+    }
+}
+
+#[test]
+fn the_first_error_is_answered(rt: HostRuntime) -> Result<(), Fail> {
+    first_error_wins(&rt, rt.alloc(), &Sequential);
+    for threads in 1..9usize {
+        first_error_wins(&rt, rt.alloc(), &pool(&rt, rt.alloc(), threads, threads));
+    }
+    let learning = Rayon::new(&rt, rt.alloc(), number(&rt, 4), Stopped)?;
+    first_error_wins(&rt, rt.alloc(), &learning);
+    Ok(())
+}
+
+// Each call answers its own number, and the calls from the 50th on fail by it.
+fn map_unsteadily<Rt: Threads + Wait + Sync, S: Strategy>(
+    rt: &Rt,
+    alloc: Global,
+    strategy: &S,
+    count: u32,
+) -> Result<Vec<u32>, Trouble<u32>> {
+    let calls = AtomicU32::new(0);
+    strategy.try_map_collect_vec(rt, alloc, SITE, 0..count, |_: u32| {
+        let call = calls.fetch_add(1, Ordering::SeqCst);
+        if call < 50 { Ok(call) } else { Err(call) }
+    })
+}
+
+#[test]
+fn an_unsteady_closure_fails_by_an_error_of_its_own(rt: HostRuntime) -> Result<(), Fail> {
+    let serial = map_unsteadily(&rt, rt.alloc(), &Sequential, 100);
+    assert!(rt; matches!(serial, Err(Trouble::Closure(50))));
+    for threads in 1..9usize {
+        let strategy = pool(&rt, rt.alloc(), threads, threads);
+        let failed = map_unsteadily(&rt, rt.alloc(), &strategy, 100);
+        assert!(rt; matches!(failed, Err(Trouble::Closure(call)) if 50 <= call && call < 100));
+        let answered = map_unsteadily(&rt, rt.alloc(), &strategy, 50)?;
+        assert_eq!(rt; answered.len(), 50);
+        assert!(rt; answered.iter().all(|call| *call < 50));
+    }
+    Ok(())
+}
+
+#[test]
+fn a_serial_map_asks_no_item_behind_the_first_error(rt: HostRuntime) {
+    let calls = AtomicU32::new(0);
+    let failed = Sequential.try_map_collect_vec(rt.alloc(), SITE, 0..10u32, |n: u32| {
+        calls.fetch_add(1, Ordering::SeqCst);
+        if n == 3 { Err(n) } else { Ok(n) }
+    });
+    assert!(rt; matches!(failed, Err(Trouble::Closure(3))));
+    assert_eq!(rt; calls.load(Ordering::SeqCst), 4);
+}
+
+// Adds an odd number, and fails at an even one.
+fn add_odd(sum: u32, number: u32) -> Result<u32, u32> {
+    if number % 2 == 0 {
+        Err(number)
+    } else {
+        Ok(sum.wrapping_add(number))
+    }
+}
+
+// Adds a number, and fails where the sum passes 10.
+fn add_to_ten(sum: u32, number: u32) -> Result<u32, u32> {
+    let next = sum.wrapping_add(number);
+    if next > 10 { Err(number) } else { Ok(next) }
+}
+
+fn zero() -> u32 {
+    0
+}
+
+fn add(left: u32, right: u32) -> u32 {
+    left.wrapping_add(right)
+}
+
+fn odd_sum<Rt: Threads + Wait + Sync, S: Strategy>(
+    rt: &Rt,
+    alloc: Global,
+    strategy: &S,
+) -> Result<u32, Trouble<u32>> {
+    strategy.try_fold(rt, alloc, SITE, 1..5u32, || 100, add_odd, add)
+}
+
+fn sum_to_ten<Rt: Threads + Wait + Sync, S: Strategy>(
+    rt: &Rt,
+    alloc: Global,
+    strategy: &S,
+) -> Result<u32, Trouble<u32>> {
+    let sixes = [6, 6];
+    strategy.try_fold(
+        rt,
+        alloc,
+        SITE,
+        sixes.iter().copied(),
+        zero,
+        add_to_ten,
+        add,
+    )
+}
+
+#[test]
+fn a_fold_stops_at_its_first_error(rt: HostRuntime) -> Result<(), Fail> {
+    let alloc = rt.alloc();
+    let two = pool(&rt, alloc, 2, 2);
+    let one = pool(&rt, alloc, 2, 1);
+    assert!(rt; matches!(odd_sum(&rt, alloc, &Sequential), Err(Trouble::Closure(2))));
+    assert!(rt; matches!(odd_sum(&rt, alloc, &two), Err(Trouble::Closure(2))));
+    // Each segment begins anew, so that in two of them no sum passes 10.
+    assert!(rt;
+        matches!(
+            sum_to_ten(&rt, alloc, &Sequential),
+            Err(Trouble::Closure(6))
+        )
+    );
+    assert!(rt; matches!(sum_to_ten(&rt, alloc, &one), Err(Trouble::Closure(6))));
+    assert!(rt; matches!(sum_to_ten(&rt, alloc, &two), Ok(12)));
+    let own = Sequential.try_fold(alloc, SITE, 6..8u32, zero, add_to_ten, add);
+    assert!(rt; matches!(own, Err(Trouble::Closure(7))));
+
+    let one_piece = try_fold_in_one(
+        &rt,
+        alloc,
+        &Sequential,
+        SITE,
+        6..8u32,
+        zero,
+        add_to_ten,
+        add,
+    );
+    assert!(rt; matches!(one_piece, Err(Trouble::Closure(7))));
+    let one_piece = try_fold_planned_for_one(
+        &rt,
+        alloc,
+        &one,
+        SITE,
+        6..8u32,
+        zero,
+        add_to_ten,
+        add,
+    );
+    assert!(rt; matches!(one_piece, Err(Trouble::Closure(7))));
+    let segments = try_fold_along_shape(&rt, alloc, &two, SITE, 6..8u32, zero, add_to_ten, add)?;
+    assert_eq!(rt; segments, 13);
+    Ok(())
+}
+
+#[test]
+fn a_run_answers_the_error_of_its_body(rt: HostRuntime) -> Result<(), Fail> {
+    let alloc = rt.alloc();
+    let two = pool(&rt, alloc, 2, 2);
+    let serial: Result<u32, Trouble<u32>> = Sequential
+        .try_run(SITE, 4, || Err(5), || Ok(7))
+        .map_err(Trouble::Closure);
+    assert!(rt; matches!(serial, Err(Trouble::Closure(5))));
+    let parallel: Result<u32, Trouble<u32>> = two.try_run(&rt, alloc, SITE, 4, || Err(5), || Ok(7));
+    assert!(rt; matches!(parallel, Ok(7)));
+    let failed: Result<u32, Trouble<u32>> = two.try_run(&rt, alloc, SITE, 4, || Ok(7), || Err(5));
+    assert!(rt; matches!(failed, Err(Trouble::Closure(5))));
+    let through: Result<u32, Trouble<u32>> = Strategy::try_run(
+        &Sequential,
+        &rt,
+        alloc,
+        SITE,
+        4,
+        || Ok(7),
+        || Err(5),
+    );
+    assert!(rt; matches!(through, Ok(7)));
+    Ok(())
+}
+
+// What a verifier and a checked sum answer of numbers of which the third is over the limit.
+fn find_the_third<Rt: Threads + Wait + Abort + Sync, S: Strategy>(
+    rt: &Rt,
+    alloc: Global,
+    strategy: &S,
+) {
+    let numbers = [4, 7, 21, 3, 30];
+    let found = verify_all(rt, alloc, strategy, SITE, &numbers, |n: u64| n < 20);
+    assert!(rt; matches!(found, Err(Trouble::Closure(2))));
+    let passed = verify_all(rt, alloc, strategy, SITE, &numbers, |n: u64| n < 31);
+    assert!(rt; matches!(passed, Ok(())));
+    let over = sum_within(rt, alloc, strategy, SITE, &numbers, 20);
+    assert!(rt; matches!(over, Err(Trouble::Closure(21))));
+    let sum = sum_within(rt, alloc, strategy, SITE, &numbers, 30);
+    assert!(rt; matches!(sum, Ok(65)));
+}
+
+#[test]
+fn a_verifier_finds_the_first_failing_item(rt: HostRuntime) {
+    find_the_third(&rt, rt.alloc(), &Sequential);
+    for threads in 1..9usize {
+        find_the_third(&rt, rt.alloc(), &pool(&rt, rt.alloc(), threads, threads));
+    }
+}
