@@ -15,3 +15,9 @@ AnswersAs takes refuses allowed (Err (OfFault f)) = refuses f
 abbrev pub OneOf : Type 0 → Type 0 → ℕ → Type 0
 OneOf serial parallel zero = serial
 OneOf serial parallel (suc pick) = parallel
+
+-- a fact, where the answer isn't a refusal
+abbrev pub UnlessFault : {R E : Type 0} → Result R (Trouble E) → Type 0 → Type 0
+UnlessFault (Ok r) P = P
+UnlessFault (Err (Closure e)) P = P
+UnlessFault (Err (OfFault f)) P = Unit {0}

@@ -1,6 +1,6 @@
 ghost use Rattle.std.specs.Prelude.{◌≡◌, ◌≤◌};
 ghost use Rattle.std.specs.Int.NonZero.{non_zero_usize_get};
-ghost use Rattle.commonware_parallel.specs.Calls.{batches_call, body_call};
+ghost use Rattle.commonware_parallel.specs.Calls.{batches_call, body_call, join_call, multiplied_call, work_of};
 
 use std::num::NonZeroUsize;
 use std::sync::Wait;
@@ -32,6 +32,16 @@ pub struct Call {
     pub options: usize,
 }
 
+// The options of a call that goes either of two ways.
+const EITHER: usize = 2;
+
+// The work of `len` items that each stand for `multiplier`, or the greatest `usize`.
+fn total_work(len: usize, multiplier: usize) -> usize
+    ensures { result ≡ work_of len multiplier }
+{
+    len.saturating_mul(multiplier)
+}
+
 impl Call {
     /// The choice between a serial and a parallel body over `len` items.
     pub fn body(len: usize) -> Call
@@ -41,7 +51,32 @@ impl Call {
             kind: Kind::Body,
             len,
             work: len,
-            options: 2,
+            options: EITHER,
+        }
+    }
+
+    /// The choice between a serial and a parallel body over `len` items that stand for more work than
+    /// one each. The work is `len * multiplier`, which stops at the greatest `usize`.
+    pub fn body_with_multiplier(len: usize, multiplier: usize) -> Call
+        ensures { result ≡ multiplied_call len multiplier }
+    {
+        Call {
+            kind: Kind::Body,
+            len,
+            work: total_work(len, multiplier),
+            options: EITHER,
+        }
+    }
+
+    /// The choice between two closures one after the other and side by side.
+    pub fn join() -> Call
+        ensures { result ≡ join_call }
+    {
+        Call {
+            kind: Kind::Join,
+            len: 2,
+            work: 2,
+            options: EITHER,
         }
     }
 
@@ -59,7 +94,7 @@ impl Call {
         Call {
             kind: Kind::Batches,
             len,
-            work: len.saturating_mul(multiplier),
+            work: total_work(len, multiplier),
             options: parallelism.get().min(len / minimum).max(1),
         }
     }

@@ -9,6 +9,7 @@
 mod call;
 mod items;
 mod measured;
+mod pick;
 mod plan;
 mod rayon_strategy;
 mod sequential;

@@ -1,14 +1,26 @@
-ghost use Rattle.std.specs.Prelude.{◌≡◌, ℕ, List, All, true, IfOk, IfErr};
+ghost use Rattle.std.specs.Prelude.{◌≡◌, ℕ, List, All, true, IfOk, IfErr, OnOk};
+ghost use Rattle.std.specs.Borrow.{MutBor};
 ghost use Rattle.std.specs.Iterator.{IsFinite, Drains, HoldsAlong};
+ghost use Rattle.std.specs.List.Sorted.{IsPermutation, IsSortedByClosure, IsStableByClosure};
 ghost use Rattle.parallel_fault.specs.declared.fault.Fault.TheVariants.{Memory};
+ghost use Rattle.parallel_fault.specs.Trouble.{IfFault};
 ghost use Rattle.parallel_bridge.specs.Lists.{FoldSegment, MapOf};
+ghost use Rattle.parallel_bridge.specs.Outcomes.{UnlessRefused, listed};
+ghost use Rattle.parallel_bridge.specs.Parts.{PartitionOf};
+ghost use Rattle.parallel_bridge.specs.States.{FoldInitSegment, FoldStep, MapStep, StateSegment};
+ghost use Rattle.parallel_bridge.specs.Tries.{TryFoldSegment, TryMapOf};
 
 use crate::call::{Call, Unmeasured};
+use crate::items::gather;
 use crate::strategy::Strategy;
+use parallel_bridge::fallible::{try_fold_serial, try_map_serial};
+use parallel_bridge::partition::partition_serial;
 use parallel_bridge::serial::{fold_iter, map_iter};
+use parallel_bridge::stateful::{fold_init_iter, map_init_serial};
 use parallel_fault::{Fault, Trouble};
 use parallel_policy::Place;
 use std::alloc::Global;
+use std::cmp::Ordering;
 use std::num::NonZeroUsize;
 use std::sync::Wait;
 
@@ -28,6 +40,20 @@ impl Sequential {
         serial: A,
         _parallel: B,
     ) -> R
+        requires { A.pre serial }
+        ensures { A.post serial result }
+    {
+        serial()
+    }
+
+    /// An answer of the serial body, or its error. The parallel one isn't called. Takes no memory.
+    pub fn try_run<P: Place, R, E, A: FnOnce() -> Result<R, E>, B: FnOnce() -> Result<R, E> + Drop>(
+        &self,
+        _site: P,
+        _len: usize,
+        serial: A,
+        _parallel: B,
+    ) -> Result<R, E>
         requires { A.pre serial }
         ensures { A.post serial result }
     {
@@ -54,6 +80,31 @@ impl Sequential {
         map_iter(alloc, iter, map_op)
     }
 
+    /// As `map_collect_vec`: no policy is told of the work.
+    pub fn map_collect_vec_with_multiplier<
+        P: Place,
+        I: Iterator,
+        T: Drop,
+        F: Fn(I::Item) -> T + Drop,
+    >(
+        &self,
+        alloc: Global,
+        site: P,
+        iter: I,
+        _multiplier: usize,
+        map_op: F,
+    ) -> Result<Vec<T>, Fault>
+    where
+        I::Item: Drop,
+        requires can { I.can_next iter }
+        requires ends { IsFinite (I.remaining iter) }
+        requires accepts { HoldsAlong I.next_gives iter (All (F.pre map_op)) }
+        ensures answers { IfOk result (λ ys. (xs : List I.Item) × Drains I.next_gives iter xs × MapOf (F.post map_op) xs ys.items) }
+        ensures fault { IfErr result (λ fault. fault ≡ Memory) }
+    {
+        self.map_collect_vec(alloc, site, iter, map_op)
+    }
+
     /// The items folded from an identity as they come, from left to right, in one segment
     /// (`FoldSegment`). Nothing is gathered and nothing is reduced, so it takes no memory.
     pub fn fold<
@@ -72,6 +123,234 @@ impl Sequential {
             × FoldSegment (ID.post identity) (λ a x b. F.post fold_op a x b) xs result }
     {
         fold_iter(iter, &identity, &fold_op)
+    }
+
+    /// The items folded from an identity as they come, from left to right, in one segment with one
+    /// state at hand that `init` makes and that goes from item to item (`FoldInitSegment`). Nothing is
+    /// gathered and nothing is reduced, so it takes no memory.
+    pub fn fold_init<
+        P: Place,
+        I: Iterator,
+        S: Drop,
+        R: Drop,
+        N: Fn() -> S + Drop,
+        ID: Fn() -> R + Drop,
+        F: Fn(R, &mut S, I::Item) -> R + Drop,
+        G: Fn(R, R) -> R + Drop,
+    >(&self, _site: P, iter: I, init: N, identity: ID, fold_op: F, _reduce_op: G) -> R
+        requires can { I.can_next iter }
+        requires ends { IsFinite (I.remaining iter) }
+        requires init_accepts { N.IsAlwaysCallable init }
+        requires identity_accepts { ID.IsAlwaysCallable identity }
+        requires fold_accepts { F.IsAlwaysCallable fold_op }
+        ensures { (xs : List I.Item) × Drains I.next_gives iter xs
+            × FoldInitSegment (N.post init) (ID.post identity) (FoldStep (λ a p x b q. F.post fold_op a p x b q)) xs result }
+    {
+        fold_init_iter(iter, &init, &identity, &fold_op)
+    }
+
+    /// The items folded from an identity, in their order, up to the first step that fails, in one
+    /// segment (`TryFoldSegment`). Nothing is reduced.
+    ///
+    /// # Errors
+    ///
+    /// `Trouble::Closure` with the error of the first step that fails, after which no item is asked.
+    /// `Trouble::Fault` with `Fault::Memory` where the items could not be gathered. The items are then
+    /// gone.
+    pub fn try_fold<
+        P: Place,
+        I: Iterator,
+        R: Drop,
+        E: Drop,
+        ID: Fn() -> R + Drop,
+        F: Fn(R, I::Item) -> Result<R, E> + Drop,
+        G: Fn(R, R) -> R + Drop,
+    >(
+        &self,
+        alloc: Global,
+        _site: P,
+        iter: I,
+        identity: ID,
+        fold_op: F,
+        _reduce_op: G,
+    ) -> Result<R, Trouble<E>>
+    where
+        I::Item: Drop,
+        requires can { I.can_next iter }
+        requires ends { IsFinite (I.remaining iter) }
+        requires identity_accepts { ID.IsAlwaysCallable identity }
+        requires fold_accepts { F.IsAlwaysCallable fold_op }
+        ensures one_segment { UnlessRefused result (λ outcome. (xs : List I.Item) × Drains I.next_gives iter xs
+            × TryFoldSegment (ID.post identity) (λ a x b. F.post fold_op a x b) xs outcome) }
+        ensures fault { IfErr result (λ trouble. IfFault trouble (λ fault. fault ≡ Memory)) }
+    {
+        let items = gather(alloc, iter)?;
+        match try_fold_serial(items, &identity, &fold_op) {
+            Ok(folded) => Ok(folded),
+            Err(error) => Err(Trouble::Closure(error)),
+        }
+    }
+
+    /// The values that `map_op` answers for the items, in their order, or the error of the first item
+    /// that fails (`TryMapOf`), after which no item is asked.
+    ///
+    /// # Errors
+    ///
+    /// `Trouble::Closure` with the first failing item's error. `Trouble::Fault` with `Fault::Memory`
+    /// alone. The items are then gone.
+    pub fn try_map_collect_vec<
+        P: Place,
+        I: Iterator,
+        T: Drop,
+        E: Drop,
+        F: Fn(I::Item) -> Result<T, E> + Drop,
+    >(&self, alloc: Global, _site: P, iter: I, map_op: F) -> Result<Vec<T>, Trouble<E>>
+    where
+        I::Item: Drop,
+        requires can { I.can_next iter }
+        requires ends { IsFinite (I.remaining iter) }
+        requires accepts { HoldsAlong I.next_gives iter (All (F.pre map_op)) }
+        ensures answers { UnlessRefused result (λ outcome. (xs : List I.Item) × Drains I.next_gives iter xs × TryMapOf (F.post map_op) xs (listed outcome)) }
+        ensures fault { IfErr result (λ trouble. IfFault trouble (λ fault. fault ≡ Memory)) }
+    {
+        let items = gather(alloc, iter)?;
+        try_map_serial(alloc, items, &map_op)
+    }
+
+    /// The answers of `map_op` for the items, in their order, with one state at hand that `init` makes
+    /// and that goes from item to item (`StateSegment`).
+    ///
+    /// # Errors
+    ///
+    /// `Fault::Memory` alone; the items are then gone.
+    pub fn map_init_collect_vec<
+        P: Place,
+        I: Iterator,
+        S: Drop,
+        T: Drop,
+        N: Fn() -> S + Drop,
+        F: Fn(&mut S, I::Item) -> T + Drop,
+    >(&self, alloc: Global, _site: P, iter: I, init: N, map_op: F) -> Result<Vec<T>, Fault>
+    where
+        I::Item: Drop,
+        requires can { I.can_next iter }
+        requires ends { IsFinite (I.remaining iter) }
+        requires init_accepts { N.IsAlwaysCallable init }
+        requires map_accepts { HoldsAlong I.next_gives iter (All (λ x. (state : MutBor S) → F.pre map_op state x)) }
+        ensures one_state { IfOk result (λ ys. (xs : List I.Item) × Drains I.next_gives iter xs
+            × StateSegment (N.post init) (MapStep (λ p x y q. F.post map_op p x y q)) xs ys.items) }
+        ensures fault { IfErr result (λ fault. fault ≡ Memory) }
+    {
+        let items = gather(alloc, iter)?;
+        let answers = map_init_serial(alloc, items, &init, &map_op)?;
+        Ok(answers)
+    }
+
+    /// As `map_init_collect_vec`: no policy is told of the work.
+    ///
+    /// # Errors
+    ///
+    /// `Fault::Memory` alone; the items are then gone.
+    pub fn map_init_collect_vec_with_multiplier<
+        P: Place,
+        I: Iterator,
+        S: Drop,
+        T: Drop,
+        N: Fn() -> S + Drop,
+        F: Fn(&mut S, I::Item) -> T + Drop,
+    >(
+        &self,
+        alloc: Global,
+        site: P,
+        iter: I,
+        _multiplier: usize,
+        init: N,
+        map_op: F,
+    ) -> Result<Vec<T>, Fault>
+    where
+        I::Item: Drop,
+        requires can { I.can_next iter }
+        requires ends { IsFinite (I.remaining iter) }
+        requires init_accepts { N.IsAlwaysCallable init }
+        requires map_accepts { HoldsAlong I.next_gives iter (All (λ x. (state : MutBor S) → F.pre map_op state x)) }
+        ensures one_state { IfOk result (λ ys. (xs : List I.Item) × Drains I.next_gives iter xs
+            × StateSegment (N.post init) (MapStep (λ p x y q. F.post map_op p x y q)) xs ys.items) }
+        ensures fault { IfErr result (λ fault. fault ≡ Memory) }
+    {
+        self.map_init_collect_vec(alloc, site, iter, init, map_op)
+    }
+
+    /// The values that `map_op` answers, and the keys of the items for which it answers none, both in
+    /// the items' order (`PartitionOf`).
+    ///
+    /// # Errors
+    ///
+    /// `Fault::Memory` alone; the items are then gone.
+    pub fn map_partition_collect_vec<
+        P: Place,
+        I: Iterator,
+        K: Drop,
+        U: Drop,
+        F: Fn(I::Item) -> (K, Option<U>) + Drop,
+    >(&self, alloc: Global, _site: P, iter: I, map_op: F) -> Result<(Vec<U>, Vec<K>), Fault>
+    where
+        I::Item: Drop,
+        requires can { I.can_next iter }
+        requires ends { IsFinite (I.remaining iter) }
+        requires accepts { HoldsAlong I.next_gives iter (All (F.pre map_op)) }
+        ensures answers { IfOk result (λ parts. (xs : List I.Item) × Drains I.next_gives iter xs × PartitionOf (F.post map_op) xs parts.0.items parts.1.items) }
+        ensures fault { IfErr result (λ fault. fault ≡ Memory) }
+    {
+        let items = gather(alloc, iter)?;
+        let parts = partition_serial(alloc, items, &map_op)?;
+        Ok(parts)
+    }
+
+    /// An answer of each closure, the first one run first. Takes no memory.
+    pub fn join<P: Place, A: FnOnce() -> RA, B: FnOnce() -> RB, RA, RB>(
+        &self,
+        _site: P,
+        a: A,
+        b: B,
+    ) -> (RA, RB)
+        requires first_runs { A.pre a }
+        requires second_runs { B.pre b }
+        ensures { A.post a result.0 × B.post b result.1 }
+    {
+        (a(), b())
+    }
+
+    /// Sorts the items by a lawful order; items that tie keep their order. The one refusal is
+    /// `Fault::Memory`, of the sort's buffer, and the items are then a permutation of what they were.
+    pub fn sort_by<P: Place, T, C: Fn(&T, &T) -> Ordering>(
+        &self,
+        alloc: Global,
+        _site: P,
+        items: &mut [T],
+        compare: C,
+    ) -> Result<(), Fault>
+        requires { C.IsAlwaysCallable compare }
+        ensures permutation { IsPermutation items.old items.new }
+        ensures sorted { OnOk result (IsSortedByClosure C.FnMut compare items.new) }
+        ensures stable { IsStableByClosure C.FnMut compare items.old items.new }
+        ensures fault { IfErr result (λ fault. fault ≡ Memory) }
+    {
+        items.sort_by(alloc, compare)?;
+        Ok(())
+    }
+
+    /// Sorts the items by a lawful order; items that tie may change places. Takes no memory.
+    pub fn sort_unstable_by<P: Place, T, C: Fn(&T, &T) -> Ordering>(
+        &self,
+        _site: P,
+        items: &mut [T],
+        compare: C,
+    )
+        requires { C.IsAlwaysCallable compare }
+        ensures permutation { IsPermutation items.old items.new }
+        ensures sorted { IsSortedByClosure C.FnMut compare items.new }
+    {
+        items.sort_unstable_by(compare);
     }
 }
 

@@ -3,3 +3,10 @@ pub mod Bracketings
 pub mod Chains
 pub mod SegmentLengths
 pub mod Laws
+pub mod Turns
+pub mod Outcomes
+pub mod TryShapes
+pub mod Onward
+pub mod Statefuls
+pub mod TryBracketings
+pub mod Drivers

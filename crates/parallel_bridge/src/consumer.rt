@@ -1,169 +1,113 @@
-ghost use Rattle.std.specs.Prelude.{◌≡◌, ◌++◌, ◌≤◌, List, length, IfOk, take, drop};
-ghost use Rattle.parallel_fault.specs.Trouble.{IsMemoryOnErr};
+//! What a list is handed to: the traits, with the laws by which one bridge drives them all.
+ghost use Rattle.std.specs.Prelude.{◌≡◌, ◌++◌, ◌∷◌, [], false, List, Result, IfOk, IsTrue};
 ghost use Rattle.std.specs.List.{All};
-ghost use Rattle.parallel_bridge.specs.Lists.{MapOf, FoldSegment};
-ghost use Rattle.parallel_bridge.specs.Shapes.{ReducedSegment};
+ghost use Rattle.parallel_fault.specs.Trouble.{IsMemoryOnErr};
+ghost use Rattle.parallel_bridge.specs.Outcomes.{UnlessRefused};
 
-use crate::serial::{fold_serial, map_serial};
-use parallel_fault::Fault;
+use parallel_fault::{Fault, Trouble};
 use std::alloc::Global;
 
-/// Puts the answers of two neighbouring parts of a list together, left before right.
-pub trait Reducer<R>: Drop {
+/// Puts the answers of two neighbouring parts of a list together, left before right. `E` is the
+/// error of a closure that it may answer.
+pub trait Reducer<R, E>: Drop {
     /// The answers that may be put together.
     ghost can_reduce: { Self → R → R → Type 0 };
     /// What the answers of a left and a right part may be put together to.
-    ghost reduce_gives: { Self → R → R → R → Type 0 };
+    ghost reduce_gives: { Self → R → R → Result R E → Type 0 };
 
     /// Puts two answers together.
-    fn reduce(self, left: R, right: R) -> Result<R, Fault>
+    fn reduce(self, left: R, right: R) -> Result<R, Trouble<E>>
         requires { can_reduce self left right }
-        ensures gives { IfOk result (λ r. reduce_gives self left right r) }
+        ensures { UnlessRefused result (λ out. reduce_gives self left right out) };
+}
+
+/// Takes the items of one segment in turn, and then answers. `R` is its answer, `E` the error of a
+/// closure that it may answer instead.
+pub trait Folder<Item: Drop, R, E>: Sized + Drop {
+    /// A folder that may work.
+    ghost ready: { Self → Type 0 };
+    /// An item that it may take.
+    ghost takes: { Self → Item → Type 0 };
+    /// What it may answer after it took so many items more.
+    ghost gives: { Self → List Item → Result R E → Type 0 };
+
+    /// The folder with one item taken.
+    fn consume(self, alloc: Global, item: Item) -> Result<Self, Fault>
+        requires ready { ready self }
+        requires item { takes self item }
+        ensures ready { IfOk result (λ f. ready f) }
+        ensures takes { IfOk result (λ f. (x : Item) → takes self x → takes f x) }
+        ensures gives { IfOk result (λ f. (xs : List Item) (out : Result R E) → gives f xs out → gives self (item ∷ xs) out) }
         ensures fault { IsMemoryOnErr result };
+
+    /// The folder with a list of items taken, in order. One that is full may leave items out.
+    fn consume_iter(self, alloc: Global, items: Vec<Item>) -> Result<Self, Fault>
+        requires ready { ready self }
+        requires items { All (λ x. takes self x) items.items }
+        ensures ready { IfOk result (λ f. ready f) }
+        ensures takes { IfOk result (λ f. (x : Item) → takes self x → takes f x) }
+        ensures gives { IfOk result (λ f. (xs : List Item) (out : Result R E) → gives f xs out → gives self (items.items ++ xs) out) }
+        ensures fault { IsMemoryOnErr result };
+
+    /// The answer, or the error that a closure answered for one of the items.
+    fn complete(self, alloc: Global) -> Result<R, Trouble<E>>
+        requires { ready self }
+        ensures { UnlessRefused result (λ out. gives self [] out) };
+
+    /// Whether further items make no difference, since an error or a `None` was met.
+    fn full(&self) -> bool
+        ensures { IsTrue result → (xs ys : List Item) (out : Result R E) → gives self.now xs out → gives self.now ys out };
 }
 
 /// Takes the items of a list, which may be split first, each part for a consumer of its own.
-pub trait Consumer<Item>: Drop {
+pub trait Consumer<Item: Drop>: Sized + Drop {
+    /// What a part of the list is answered by.
     type Result: Send + Drop;
 
-    type Reducer: Reducer<Self::Result> + Send;
+    /// The error of a closure that may be answered instead.
+    type Error: Send + Drop;
 
-    /// The lists whose items may be handed over.
-    ghost accepts: { Self → List Item → Type 0 };
+    /// What takes the items of a segment.
+    type Folder: Folder<Item, Self::Result, Self::Error> + Send;
+
+    /// What puts the answers of two parts together.
+    type Reducer: Reducer<Self::Result, Self::Error> + Send;
+
+    /// A consumer that may work.
+    ghost ready: { Self → Type 0 };
+    /// An item that may be handed over.
+    ghost takes: { Self → Item → Type 0 };
     /// What the items of a list that is not split may give.
-    ghost leaf_gives: { Self → List Item → Self.Result → Type 0 };
+    ghost leaf_gives: { Self → List Item → Result Self.Result Self.Error → Type 0 };
     /// What the answers of a left and a right part may give.
-    ghost node_gives: { Self → Self.Result → Self.Result → Self.Result → Type 0 };
+    ghost node_gives: { Self → Self.Result → Self.Result → Result Self.Result Self.Error → Type 0 };
 
     /// Two consumers, for the first `index` items and for the rest, and the reducer of their answers.
     fn split_at(self, index: usize) -> Result<(Self, Self, Self::Reducer), Fault>
-        ensures accepts { IfOk result (λ p. (xs : List Item) → index ≤ length xs → accepts self xs → accepts p.0 (take index xs) × accepts p.1 (drop index xs)) }
-        ensures reducer { IfOk result (λ p. (xs : List Item) → accepts self xs → (a b : Self.Result) → Self.Reducer.can_reduce p.2 a b) }
-        ensures left_leaf { IfOk result (λ p. (xs : List Item) (r : Self.Result) → leaf_gives p.0 xs r → leaf_gives self xs r) }
-        ensures right_leaf { IfOk result (λ p. (xs : List Item) (r : Self.Result) → leaf_gives p.1 xs r → leaf_gives self xs r) }
-        ensures left_node { IfOk result (λ p. (a b r : Self.Result) → node_gives p.0 a b r → node_gives self a b r) }
-        ensures right_node { IfOk result (λ p. (a b r : Self.Result) → node_gives p.1 a b r → node_gives self a b r) }
-        ensures node { IfOk result (λ p. (a b r : Self.Result) → Self.Reducer.reduce_gives p.2 a b r → node_gives self a b r) }
+        requires { ready self }
+        ensures ready { IfOk result (λ p. ready p.0 × ready p.1) }
+        ensures takes { IfOk result (λ p. (x : Item) → takes self x → takes p.0 x × takes p.1 x) }
+        ensures reducer { IfOk result (λ p. (a b : Self.Result) → Self.Reducer.can_reduce p.2 a b) }
+        ensures left_leaf { IfOk result (λ p. (xs : List Item) (out : Result Self.Result Self.Error) → leaf_gives p.0 xs out → leaf_gives self xs out) }
+        ensures right_leaf { IfOk result (λ p. (xs : List Item) (out : Result Self.Result Self.Error) → leaf_gives p.1 xs out → leaf_gives self xs out) }
+        ensures left_node { IfOk result (λ p. (a b : Self.Result) (out : Result Self.Result Self.Error) → node_gives p.0 a b out → node_gives self a b out) }
+        ensures right_node { IfOk result (λ p. (a b : Self.Result) (out : Result Self.Result Self.Error) → node_gives p.1 a b out → node_gives self a b out) }
+        ensures node { IfOk result (λ p. (a b : Self.Result) (out : Result Self.Result Self.Error) → Self.Reducer.reduce_gives p.2 a b out → node_gives self a b out) }
         ensures fault { IsMemoryOnErr result };
 
-    /// The answer of a list that is not split.
-    fn consume(self, alloc: Global, items: Vec<Item>) -> Result<Self::Result, Fault>
-        requires { accepts self items.items }
-        ensures gives { IfOk result (λ r. leaf_gives self items.items r) }
+    /// What takes the items of a list that is not split.
+    fn into_folder(self, alloc: Global) -> Result<Self::Folder, Fault>
+        requires { ready self }
+        ensures ready { IfOk result (λ f. Self.Folder.ready f) }
+        ensures takes { IfOk result (λ f. (x : Item) → takes self x → Self.Folder.takes f x) }
+        ensures gives { IfOk result (λ f. (xs : List Item) (out : Result Self.Result Self.Error) → Self.Folder.gives f xs out → leaf_gives self xs out) }
         ensures fault { IsMemoryOnErr result };
-}
 
-/// Answers each item by a closure, and gives the list of the answers in the items' order.
-#[derive(Drop)]
-pub struct MapConsumer<'a, F> {
-    /// The closure that answers an item.
-    pub map_op: &'a F,
-}
-
-/// Joins two lists, the left one first.
-#[derive(Drop)]
-pub struct ListReducer;
-
-impl<T: Drop> Reducer<Vec<T>> for ListReducer {
-    ghost can_reduce = { λ _ _ _. Unit {0} };
-
-    ghost reduce_gives = { λ _ left right all. all.items ≡ left.items ++ right.items };
-
-    fn reduce(self, left: Vec<T>, right: Vec<T>) -> Result<Vec<T>, Fault> {
-        let mut all = left;
-        let mut rest = right;
-        all.append(&mut rest)?;
-        Ok(all)
-    }
-}
-
-impl<'a, X: Drop, T: Send + Drop, F: Fn(X) -> T> Consumer<X> for MapConsumer<'a, F> {
-    type Result = Vec<T>;
-
-    type Reducer = ListReducer;
-
-    ghost accepts = { λ s xs. All (F.pre s.map_op.now) xs };
-
-    ghost leaf_gives = { λ s xs ys. MapOf (F.post s.map_op.now) xs ys.items };
-
-    ghost node_gives = { λ _ left right all. all.items ≡ left.items ++ right.items };
-
-    fn split_at(self, _index: usize) -> Result<(Self, Self, ListReducer), Fault> {
-        let right = MapConsumer {
-            map_op: self.map_op,
-        };
-        Ok((self, right, ListReducer))
-    }
-
-    fn consume(self, alloc: Global, items: Vec<X>) -> Result<Vec<T>, Fault>
-        requires { All (F.pre self.map_op.now) items.items }
-        ensures gives { IfOk result (λ ys. MapOf (F.post self.entry.map_op.now) items.items ys.items) }
-        ensures fault { IsMemoryOnErr result }
+    /// Whether no part of the list matters any more. No consumer knows of the others' parts, so none
+    /// is ever full.
+    fn full(&self) -> bool
+        ensures { result ≡ false }
     {
-        map_serial(alloc, items, self.map_op)
-    }
-}
-
-/// Folds the items from an identity, and reduces the result behind a further identity.
-#[derive(Drop)]
-pub struct FoldConsumer<'a, I, F, G> {
-    /// The closure that answers a value to fold from.
-    pub identity: &'a I,
-    /// The closure that takes the folded value one item further.
-    pub fold_op: &'a F,
-    /// The closure that reduces the values of a left and a right part.
-    pub reduce_op: &'a G,
-}
-
-/// Reduces two values by a closure, the left one first.
-#[derive(Drop)]
-pub struct FoldReducer<'a, G> {
-    /// The closure that reduces.
-    pub reduce_op: &'a G,
-}
-
-impl<'a, R, G: Fn(R, R) -> R> Reducer<R> for FoldReducer<'a, G> {
-    ghost can_reduce = { λ s _ _. G.IsAlwaysCallable s.reduce_op.now };
-
-    ghost reduce_gives = { λ s left right all. G.post s.reduce_op.now left right all };
-
-    fn reduce(self, left: R, right: R) -> Result<R, Fault> {
-        Ok((self.reduce_op)(left, right))
-    }
-}
-
-impl<'a, X: Drop, R: Send + Drop, I: Fn() -> R, F: Fn(R, X) -> R, G: Fn(R, R) -> R + Sync> Consumer<
-    X,
-> for FoldConsumer<'a, I, F, G> {
-    type Result = R;
-
-    type Reducer = FoldReducer<'a, G>;
-
-    ghost accepts = { λ s _. I.IsAlwaysCallable s.identity.now × F.IsAlwaysCallable s.fold_op.now × G.IsAlwaysCallable s.reduce_op.now };
-
-    ghost leaf_gives = { λ s xs r. ReducedSegment (I.post s.identity.now) (FoldSegment (I.post s.identity.now) (λ a x b. F.post s.fold_op.now a x b)) (λ a b c. G.post s.reduce_op.now a b c) xs r };
-
-    ghost node_gives = { λ s left right all. G.post s.reduce_op.now left right all };
-
-    fn split_at(self, _index: usize) -> Result<(Self, Self, FoldReducer<'a, G>), Fault> {
-        let reducer = FoldReducer {
-            reduce_op: self.reduce_op,
-        };
-        let right = FoldConsumer {
-            identity: self.identity,
-            fold_op: self.fold_op,
-            reduce_op: self.reduce_op,
-        };
-        Ok((self, right, reducer))
-    }
-
-    fn consume(self, _alloc: Global, items: Vec<X>) -> Result<R, Fault>
-        requires { I.IsAlwaysCallable self.identity.now × F.IsAlwaysCallable self.fold_op.now × G.IsAlwaysCallable self.reduce_op.now }
-        ensures gives { IfOk result (λ r. ReducedSegment (I.post self.entry.identity.now) (FoldSegment (I.post self.entry.identity.now) (λ a x b. F.post self.entry.fold_op.now a x b)) (λ a b c. G.post self.entry.reduce_op.now a b c) items.items r) }
-        ensures fault { IsMemoryOnErr result }
-    {
-        let first = (self.identity)();
-        let folded = fold_serial(items, self.identity, self.fold_op);
-        Ok((self.reduce_op)(first, folded))
+        false
     }
 }

@@ -5,8 +5,10 @@ ghost use Rattle.parallel_fault.specs.Trouble.{IsMemoryOnErr};
 ghost use Rattle.parallel_bridge.specs.Lists.{MapOf};
 ghost use Rattle.parallel_bridge.specs.Shapes.{cutdepth, Shape, Along};
 
-use crate::bridge::bridge;
-use crate::consumer::{FoldConsumer, MapConsumer};
+use crate::bridge::{bridge, unfailing};
+use crate::collect::CollectConsumer;
+use crate::folds::{FoldConsumer, ReduceConsumer};
+use crate::maps::MapConsumer;
 use parallel_fault::Fault;
 use std::alloc::Global;
 use std::num::NonZeroUsize;
@@ -24,7 +26,11 @@ pub fn map_parallel<
     ensures maps { IfOk result (λ ys. MapOf (F.post map_op.now) items.items ys.items) }
     ensures fault { IsMemoryOnErr result }
 {
-    bridge(rt, alloc, threads, items, MapConsumer { map_op })
+    let consumer = MapConsumer {
+        base: CollectConsumer,
+        map_op,
+    };
+    unfailing(bridge(rt, alloc, threads, items, consumer))
 }
 
 /// The items folded along the shape of the list for that many threads: each segment from an
@@ -51,10 +57,14 @@ pub fn fold_parallel<
     ensures along { IfOk result (λ r. Along (I.post identity.now) (λ a x b. F.post fold_op.now a x b) (λ a b c. G.post reduce_op.now a b c) (Shape (cutdepth (non_zero_usize_get threads)) items.items) r) }
     ensures fault { IsMemoryOnErr result }
 {
-    let consumer = FoldConsumer {
+    let base = ReduceConsumer {
         identity,
-        fold_op,
         reduce_op,
     };
-    bridge(rt, alloc, threads, items, consumer)
+    let consumer = FoldConsumer {
+        base,
+        identity,
+        fold_op,
+    };
+    unfailing(bridge(rt, alloc, threads, items, consumer))
 }

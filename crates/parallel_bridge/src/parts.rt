@@ -1,0 +1,132 @@
+//! The consumer of a partition.
+ghost use Rattle.std.specs.Prelude.{◌≡◌, ◌++◌, Err, IfOk, List, Ok, Result};
+ghost use Rattle.std.specs.List.{All};
+ghost use Rattle.std.specs.declared.convert.Infallible.{Infallible};
+ghost use Rattle.std.specs.declared.alloc.Global.{Global};
+ghost use Rattle.std.specs.declared.vec.Vec.{Vec};
+ghost use Rattle.parallel_fault.specs.Trouble.{IsMemoryOnErr};
+ghost use Rattle.parallel_bridge.specs.Onto.{PartitionOnto};
+ghost use Rattle.parallel_bridge.specs.Parts.{PartitionOf};
+ghost use Rattle.parallel_bridge.specs.Tries.{OnlyOk};
+
+use crate::consumer::{Consumer, Folder, Reducer};
+use crate::loops::{partition_onto, push_answer};
+use parallel_fault::{Fault, Trouble};
+use std::alloc::Global;
+use std::convert::Infallible;
+
+/// Answers each item by a closure, and gives the values and the keys of the items without one, both
+/// in the items' order.
+#[derive(Drop)]
+pub struct PartitionConsumer<'f, F> {
+    /// The closure that answers an item.
+    pub map_op: &'f F,
+}
+
+/// The values and the keys of a segment so far, in order.
+#[derive(Drop)]
+pub struct PartitionFolder<'f, U, K, F> {
+    /// The values.
+    pub values: Vec<U>,
+    /// The keys of the items without a value.
+    pub keys: Vec<K>,
+    /// The closure that answers an item.
+    pub map_op: &'f F,
+}
+
+/// Joins the values and the keys of two parts, the left ones first.
+#[derive(Drop)]
+pub struct PartitionReducer;
+
+impl<U: Drop, K: Drop> Reducer<(Vec<U>, Vec<K>), Infallible> for PartitionReducer {
+    ghost can_reduce = { λ _ _ _. Unit {0} };
+
+    ghost reduce_gives = { λ _ left right out. OnlyOk (λ all. (all.0.items ≡ left.0.items ++ right.0.items) × (all.1.items ≡ left.1.items ++ right.1.items)) out };
+
+    fn reduce(
+        self,
+        left: (Vec<U>, Vec<K>),
+        right: (Vec<U>, Vec<K>),
+    ) -> Result<(Vec<U>, Vec<K>), Trouble<Infallible>> {
+        let (mut values, mut keys) = left;
+        let (mut more_values, mut more_keys) = right;
+        values.append(&mut more_values)?;
+        keys.append(&mut more_keys)?;
+        Ok((values, keys))
+    }
+}
+
+impl<'f, X: Drop, U: Drop, K: Drop, F: Fn(X) -> (K, Option<U>)> Folder<X, (Vec<U>, Vec<K>), Infallible> for PartitionFolder<'f, U, K, F> {
+    ghost ready = { λ _. Unit {0} };
+
+    ghost takes = { λ s x. F.pre s.map_op.now x };
+
+    ghost gives = { λ s xs out. OnlyOk (λ r. PartitionOnto (F.post s.map_op.now) s.values.items s.keys.items xs r.0.items r.1.items) out };
+
+    fn consume(self, _alloc: Global, item: X) -> Result<Self, Fault> {
+        let answer = (self.map_op)(item);
+        let (values, keys) = push_answer(self.values, self.keys, answer)?;
+        Ok(PartitionFolder {
+            values,
+            keys,
+            map_op: self.map_op,
+        })
+    }
+
+    fn consume_iter(self, _alloc: Global, items: Vec<X>) -> Result<Self, Fault>
+        requires ready { Unit {0} }
+        requires items { All (λ x. F.pre self.map_op.now x) items.items }
+        ensures ready { IfOk result (λ f. Unit {0}) }
+        ensures takes { IfOk result (λ f. (x : X) → F.pre self.entry.map_op.now x → F.pre f.map_op.now x) }
+        ensures gives { IfOk result (λ f. (xs : List X) (out : Result (Vec U Global × Vec K Global) Infallible) → OnlyOk (λ r. PartitionOnto (F.post f.map_op.now) f.values.items f.keys.items xs r.0.items r.1.items) out → OnlyOk (λ r. PartitionOnto (F.post self.entry.map_op.now) self.entry.values.items self.entry.keys.items (items.items ++ xs) r.0.items r.1.items) out) }
+        ensures fault { IsMemoryOnErr result }
+    {
+        let (values, keys) = partition_onto(self.values, self.keys, items, self.map_op)?;
+        Ok(PartitionFolder {
+            values,
+            keys,
+            map_op: self.map_op,
+        })
+    }
+
+    fn complete(self, _alloc: Global) -> Result<(Vec<U>, Vec<K>), Trouble<Infallible>> {
+        Ok((self.values, self.keys))
+    }
+
+    fn full(&self) -> bool {
+        false
+    }
+}
+
+impl<'f, X: Drop, U: Send + Drop, K: Send + Drop, F: Fn(X) -> (K, Option<U>) + Sync> Consumer<X> for PartitionConsumer<'f, F> {
+    type Result = (Vec<U>, Vec<K>);
+
+    type Error = Infallible;
+
+    type Folder = PartitionFolder<'f, U, K, F>;
+
+    type Reducer = PartitionReducer;
+
+    ghost ready = { λ _. Unit {0} };
+
+    ghost takes = { λ s x. F.pre s.map_op.now x };
+
+    ghost leaf_gives = { λ s xs out. OnlyOk (λ r. PartitionOf (F.post s.map_op.now) xs r.0.items r.1.items) out };
+
+    ghost node_gives = { λ _ left right out. OnlyOk (λ all. (all.0.items ≡ left.0.items ++ right.0.items) × (all.1.items ≡ left.1.items ++ right.1.items)) out };
+
+    fn split_at(self, _index: usize) -> Result<(Self, Self, PartitionReducer), Fault> {
+        let right = PartitionConsumer {
+            map_op: self.map_op,
+        };
+        Ok((self, right, PartitionReducer))
+    }
+
+    fn into_folder(self, alloc: Global) -> Result<PartitionFolder<'f, U, K, F>, Fault> {
+        Ok(PartitionFolder {
+            values: Vec::new(alloc),
+            keys: Vec::new(alloc),
+            map_op: self.map_op,
+        })
+    }
+}
