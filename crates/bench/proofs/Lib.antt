@@ -2,5 +2,8 @@ pub mod Copies
 pub mod Histories
 pub mod Keys
 pub mod Middles
+pub mod Parities
+pub mod StateTotals
+pub mod Slices
 pub mod Stirs
 pub mod Totals

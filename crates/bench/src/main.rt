@@ -1,10 +1,12 @@
 // Times folds and maps through a plain loop and through each strategy, and the choices of a policy.
 #![tactic(auto)]
 
+mod calls;
 mod case;
 mod choosing;
 mod decimal;
 mod learner;
+mod loops;
 mod race;
 mod request;
 mod times;
