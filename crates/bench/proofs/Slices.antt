@@ -35,9 +35,10 @@ tried_copies it s items ys source rest (xs, drained, each) = each_light xs ys ea
 pub parted_copies : (it : Copied (Iter ℕ)) (s : Iter ℕ) (items us ks : List ℕ) → copied_source it ≡ s → iter_rest s ≡ items → ((xs : List ℕ) × Drains (copied_steps fronts) it xs × PartitionOf (λ x p. p ≡ pair_of x) xs us ks) → (us ≡ map light_of (filter is_even items)) × (ks ≡ filter is_odd items)
 parted_copies it s items us ks source rest (xs, drained, (ps, mapped, values, keys)) =
     let same = copied_items it s items xs source rest drained in
-    let pairs = AllZip-map pair_of xs ps mapped in
-    (values ∙ ap values_of pairs ∙ even_values xs ∙ ap (λ zs. map light_of (filter is_even zs)) same,
-     keys ∙ ap keys_of pairs ∙ odd_keys xs ∙ ap (filter is_odd) same)
+    let pairs = AllZip-map pair_of xs ps mapped in (
+      values ∙ ap values_of pairs ∙ even_values xs ∙ ap (λ zs. map light_of (filter is_even zs)) same,
+      keys ∙ ap keys_of pairs ∙ odd_keys xs ∙ ap (filter is_odd) same,
+    )
 
 take_front : (ys zs : List ℕ) → take (length ys) (ys ++ zs) ≡ ys
 take_front [] zs = refl
