@@ -2,21 +2,29 @@
 ghost use Rattle.std.specs.Prelude.{◌≡◌, ◌≢◌, IfSome, IsNone};
 ghost use Rattle.bench.specs.Cases.{name_of};
 
-/// A case: a map or a fold over a list, with a light or a heavy function of an item.
+/// A case: what is done with a list, with a light or a heavy function of an item.
 #[derive(Clone, Copy, Debug, PartialEq, Eq, Hash)]
 pub enum Case {
     MapLight,
     MapHeavy,
     FoldLight,
     FoldHeavy,
+    TryMapLight,
+    FoldInit,
+    Partition,
+    Sort,
 }
 
 /// Every case, in the order in which the names are printed.
-pub const CASES: [Case; 4] = [
+pub const CASES: [Case; 8] = [
     Case::MapLight,
     Case::MapHeavy,
     Case::FoldLight,
     Case::FoldHeavy,
+    Case::TryMapLight,
+    Case::FoldInit,
+    Case::Partition,
+    Case::Sort,
 ];
 
 impl Case {
@@ -31,6 +39,10 @@ impl Case {
             Case::MapHeavy => "map-heavy",
             Case::FoldLight => "fold-light",
             Case::FoldHeavy => "fold-heavy",
+            Case::TryMapLight => "try-map-light",
+            Case::FoldInit => "fold-init",
+            Case::Partition => "partition",
+            Case::Sort => "sort",
         }
     }
 
@@ -44,6 +56,10 @@ impl Case {
             "map-heavy" => Some(Case::MapHeavy),
             "fold-light" => Some(Case::FoldLight),
             "fold-heavy" => Some(Case::FoldHeavy),
+            "try-map-light" => Some(Case::TryMapLight),
+            "fold-init" => Some(Case::FoldInit),
+            "partition" => Some(Case::Partition),
+            "sort" => Some(Case::Sort),
             _ => None,
         }
     }

@@ -1,8 +1,12 @@
-// Times folds and maps through a plain loop and through each strategy.
+// Times folds and maps through a plain loop and through each strategy, and the choices of a policy.
 #![tactic(auto)]
 
+mod calls;
 mod case;
+mod choosing;
 mod decimal;
+mod learner;
+mod loops;
 mod race;
 mod request;
 mod times;
@@ -10,8 +14,9 @@ mod ways;
 mod work;
 
 use crate::case::CASES;
+use crate::choosing::race_choices;
 use crate::race::race;
-use crate::request::{Request, parse_request};
+use crate::request::{POLICY, Request, parse_request};
 use anyhow::Result;
 use std::process::ExitCode;
 use std::{env, io};
@@ -20,6 +25,7 @@ fn main(rt: HostRuntime) -> io::Result<ExitCode> {
     let outcome = match requested(&rt) {
         Ok(Some(Request::Names)) => names(&rt),
         Ok(Some(Request::Time(trial))) => race(&rt, trial),
+        Ok(Some(Request::Choose(trial))) => race_choices(&rt, trial),
         Ok(None) => {
             eprintln!(rt; "bench: bad arguments")?;
             return Ok(ExitCode::from(2));
@@ -49,5 +55,6 @@ fn names(rt: &impl Print) -> Result<()> {
     for case in CASES {
         rt.println(case.name())?;
     }
+    rt.println(POLICY)?;
     Ok(())
 }

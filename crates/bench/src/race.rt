@@ -93,7 +93,7 @@ where
 }
 
 /// An odd number of rounds: 7 for a long list, and up to 1001 for a short one.
-fn rounds_of(len: usize) -> u64
+pub fn rounds_of(len: usize) -> u64
     ensures odd { result % 2 ≡ 1 }
     ensures at_least { 7 ≤ result }
     ensures at_most { result ≤ 1001 }

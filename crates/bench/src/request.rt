@@ -6,10 +6,20 @@ ghost use Rattle.bench.specs.declared.request.Request.{Request};
 use crate::case::Case;
 use std::num::NonZeroUsize;
 
+/// The name by which the command line asks for the choices of a policy.
+pub const POLICY: &str = "policy";
+
 /// A case to be timed over a list of `len` items, with a pool of `threads` threads.
 #[derive(Clone, Copy, Debug, PartialEq, Eq, Hash)]
 pub struct Trial {
     pub case: Case,
+    pub len: usize,
+    pub threads: NonZeroUsize,
+}
+
+/// Rounds of `len` choices to be timed, planned for `threads` threads.
+#[derive(Clone, Copy, Debug, PartialEq, Eq, Hash)]
+pub struct ChoiceTrial {
     pub len: usize,
     pub threads: NonZeroUsize,
 }
@@ -21,10 +31,12 @@ pub enum Request {
     Names,
     /// A case to be timed.
     Time(Trial),
+    /// The choices of a policy to be timed.
+    Choose(ChoiceTrial),
 }
 
-/// What the words after the program's name ask for: nothing for the names, and `CASE LEN THREADS`
-/// for a trial of one thread at least. Any other words ask for nothing.
+/// What the words after the program's name ask for: nothing for the names, and `CASE LEN THREADS` or
+/// `policy LEN THREADS` for a trial of one thread at least. Any other words ask for nothing.
 pub fn parse_request(words: &[String]) -> Option<Request>
     ensures request { IfSome result (AsksFor words.now) }
     ensures none { IsNone result → (request : Request) → AsksFor words.now request → ⊥ }
@@ -32,9 +44,12 @@ pub fn parse_request(words: &[String]) -> Option<Request>
     match words {
         [] => Some(Request::Names),
         [case, len, threads] => {
-            let case = Case::named(case.as_str())?;
             let len = number(len.as_str())?;
             let threads = NonZeroUsize::new(number(threads.as_str())?)?;
+            if case.as_str() == POLICY {
+                return Some(Request::Choose(ChoiceTrial { len, threads }));
+            }
+            let case = Case::named(case.as_str())?;
             Some(Request::Time(Trial { case, len, threads }))
         }
         _ => None,

@@ -6,12 +6,14 @@ ghost use Rattle.bench.specs.Cases.{IsAnswer};
 
 use crate::case::Case;
 use crate::work::{heavy, light};
+use crate::{calls, loops};
 use commonware_parallel::{Clock, Fault, Rayon, Sequential, Site, Strategy};
 use std::alloc::{AllocError, Global};
 use std::sync::Wait;
 use std::thread::Threads;
 
-const SITE: Site = Site {
+/// The place of every call.
+pub const SITE: Site = Site {
     file: "bench",
     line: 1,
     column: 1,
@@ -35,22 +37,29 @@ pub enum Answer {
     Numbers(Vec<u64>),
     /// The number that a fold answers.
     Number(u64),
+    /// The values and the keys that a partition answers.
+    Parts(Vec<u64>, Vec<u64>),
 }
 
 impl Answer {
     /// A number by which two answers are told apart.
     pub fn checksum(&self) -> u64 {
         match self {
-            Answer::Numbers(numbers) => {
-                let mut sum = 0u64;
-                for number in numbers {
-                    sum = sum.rotate_left(1) ^ *number;
-                }
-                sum
-            }
+            Answer::Numbers(numbers) => checksum_of(numbers.as_slice()),
             Answer::Number(number) => *number,
+            Answer::Parts(values, keys) => {
+                checksum_of(values.as_slice()).rotate_left(1) ^ checksum_of(keys.as_slice())
+            }
         }
     }
+}
+
+fn checksum_of(numbers: &[u64]) -> u64 {
+    let mut sum = 0u64;
+    for number in numbers {
+        sum = sum.rotate_left(1) ^ *number;
+    }
+    sum
 }
 
 /// The case's answer in a way, where `rayon` is the strategy of the last one.
@@ -65,14 +74,14 @@ pub fn by_way<Rt: Threads + Wait + Sync, C: Clock>(
     ensures { IfOk result (IsAnswer case items.now) }
 {
     match way {
-        Way::Loop => Ok(by_loop(alloc, case, items)?),
+        Way::Loop => by_loop(alloc, case, items),
         Way::Sequential => by_strategy(rt, alloc, &Sequential, case, items),
         Way::Rayon => by_strategy(rt, alloc, rayon, case, items),
     }
 }
 
 /// The case's answer by a plain loop.
-fn by_loop(alloc: Global, case: Case, items: &[u64]) -> Result<Answer, AllocError>
+fn by_loop(alloc: Global, case: Case, items: &[u64]) -> Result<Answer, Fault>
     ensures { IfOk result (IsAnswer case items.now) }
 {
     match case {
@@ -80,6 +89,13 @@ fn by_loop(alloc: Global, case: Case, items: &[u64]) -> Result<Answer, AllocErro
         Case::MapHeavy => Ok(Answer::Numbers(map_heavy(alloc, items)?)),
         Case::FoldLight => Ok(Answer::Number(fold_light(items))),
         Case::FoldHeavy => Ok(Answer::Number(fold_heavy(items))),
+        Case::TryMapLight => Ok(Answer::Numbers(loops::try_map_light(alloc, items)?)),
+        Case::FoldInit => Ok(Answer::Number(fold_light(items))),
+        Case::Partition => {
+            let (values, keys) = loops::partition(alloc, items)?;
+            Ok(Answer::Parts(values, keys))
+        }
+        Case::Sort => Ok(Answer::Numbers(loops::sort(alloc, items)?)),
     }
 }
 
@@ -161,6 +177,22 @@ fn by_strategy<Rt: Threads + Wait + Sync, S: Strategy>(
             { total.wrapping_add(heavy(item)) };
             let total = strategy.fold(rt, alloc, SITE, iter, zero, op, add)?;
             Ok(Answer::Number(total))
+        }
+        Case::TryMapLight => {
+            let numbers = calls::try_map_light(rt, alloc, strategy, items)?;
+            Ok(Answer::Numbers(numbers))
+        }
+        Case::FoldInit => {
+            let total = calls::fold_init(rt, alloc, strategy, items)?;
+            Ok(Answer::Number(total))
+        }
+        Case::Partition => {
+            let (values, keys) = calls::partition(rt, alloc, strategy, items)?;
+            Ok(Answer::Parts(values, keys))
+        }
+        Case::Sort => {
+            let numbers = calls::sort(rt, alloc, strategy, items)?;
+            Ok(Answer::Numbers(numbers))
         }
     }
 }

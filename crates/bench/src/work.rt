@@ -1,7 +1,8 @@
 // The functions of an item, and the list that they are called on.
-ghost use Rattle.std.specs.Prelude.{◌≡◌, IfOk, length};
+ghost use Rattle.std.specs.Prelude.{◌≡◌, Ok, IfOk, length};
 ghost use Rattle.bench.specs.Work.{light_of, stir_of, heavy_of};
 
+use commonware_parallel::Fault;
 use std::alloc::{AllocError, Global};
 
 /// How often the heavy function stirs its number, which takes about a microsecond.
@@ -18,6 +19,13 @@ pub fn light(item: u64) -> u64
     ensures { result ≡ light_of item }
 {
     item.wrapping_mul(2).wrapping_add(1)
+}
+
+/// The light function as one that may fail, though it never does.
+pub fn try_light(item: u64) -> Result<u64, Fault>
+    ensures { result ≡ Ok (light_of item) }
+{
+    Ok(light(item))
 }
 
 /// A function that takes about a microsecond: each stir needs the number that the last one made.
