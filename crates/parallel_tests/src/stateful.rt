@@ -79,6 +79,7 @@ where
         × IsPlainFold (ID.post identity) (AnyState (FoldStep (λ a p x b q. F.post fold_op a p x b q))) (λ a b c. G.post reduce_op a b c) xs r) }
     ensures fault { IfErr result (λ fault. fault ≡ Memory) }
 {
+    fold_init_law(&init, &identity, &fold_op, &reduce_op);
     strategy.fold_init(rt, alloc, site, iter, init, identity, fold_op, reduce_op)
 }
 
