@@ -1,6 +1,6 @@
 // What the tests make their strategies of.
 ghost use Rattle.std.specs.Prelude.{◌≡◌, false};
-ghost use Rattle.commonware_parallel.specs.Rayon.{chooses_of};
+ghost use Rattle.commonware_parallel.specs.Rayon.{chooses_of, planning_of};
 ghost use Rattle.std.specs.Int.NonZero.{non_zero_usize_get};
 
 use crate::beyond::planned_pool;
@@ -41,7 +41,8 @@ pub fn pool<Rt: Threads + Abort>(
     threads: usize,
     planned: usize,
 ) -> Rayon<Stopped>
-    ensures { chooses_of result ≡ false }
+    ensures no_policy { chooses_of result ≡ false }
+    ensures planning { planning_of result ≡ planned }
 {
     let threads = number(rt, threads);
     let strategy = planned_pool(rt, alloc, threads, number(rt, planned), Stopped);
