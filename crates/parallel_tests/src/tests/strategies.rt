@@ -2,6 +2,7 @@
 ghost use Rattle.std.specs.Prelude.{◌≡◌, false};
 ghost use Rattle.commonware_parallel.specs.Rayon.{chooses_of};
 ghost use Rattle.std.specs.Int.NonZero.{non_zero_usize_get};
+ghost use Rattle.commonware_parallel.specs.Rayon.{planning_of, chooses_of};
 
 use crate::beyond::planned_pool;
 use commonware_parallel::{Clock, Rayon, Site};
