@@ -1,6 +1,5 @@
 // What the tests make their strategies of.
 ghost use Rattle.std.specs.Prelude.{◌≡◌, false};
-ghost use Rattle.commonware_parallel.specs.Rayon.{chooses_of};
 ghost use Rattle.std.specs.Int.NonZero.{non_zero_usize_get};
 ghost use Rattle.commonware_parallel.specs.Rayon.{planning_of, chooses_of};
 
@@ -42,7 +41,8 @@ pub fn pool<Rt: Threads + Abort>(
     threads: usize,
     planned: usize,
 ) -> Rayon<Stopped>
-    ensures { chooses_of result ≡ false }
+    ensures planning { planning_of result ≡ planned }
+    ensures no_policy { chooses_of result ≡ false }
 {
     let threads = number(rt, threads);
     let strategy = planned_pool(rt, alloc, threads, number(rt, planned), Stopped);
