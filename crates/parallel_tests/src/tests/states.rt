@@ -264,15 +264,15 @@ fn repeats_are_left_out_of_each_segment(rt: HostRuntime) -> Result<(), Fail> {
 fn joins_are_parallel_whatever_a_pool_is_planned_for(rt: HostRuntime) -> Result<(), Fail> {
     let alloc = rt.alloc();
     let one = pool(&rt, alloc, 2, 1);
-    let first = AtomicBool::new(false);
-    let second = AtomicBool::new(false);
+    let flags = [AtomicBool::new(false), AtomicBool::new(false)];
+    let both = &flags;
     let seen = join_on_pool(
         &rt,
         alloc,
         &one,
         SITE,
-        || sees(&first, &second),
-        || sees(&second, &first),
+        || sees(&both[0], &both[1]),
+        || sees(&both[1], &both[0]),
     )?;
     assert_eq!(rt; seen, (true, true));
     assert_eq!(rt;
