@@ -1,5 +1,5 @@
 -- Keys that are equal have the same entry.
-use Rattle.std.proofs.Common.{◌≡◌, ◌∙◌, Bool, Result, Ok, Err, IsSome, OnOk, sym, subst, ap, refl, true, false}
+use Rattle.std.proofs.Common.{◌≡◌, Bool, Result, Ok, Err, IsSome, OnOk, sym, subst, refl, true, false}
 use Rattle.std.specs.Cmp.{IsEquivalence, on_equiv, and_equiv, nat_eq_equiv}
 use Rattle.std.specs.Cmp.Lexicographic.{nat_list_eq_equiv}
 use Rattle.std.specs.HashMap.Eq.{lookup_congr}

@@ -1,5 +1,5 @@
 -- The even and the odd items of a list.
-use Rattle.std.proofs.Common.{◌≡◌, ◌∙◌, ℕ, Bool, true, false, cond, Some, None, List, [], ◌∷◌, map, filter, ap, refl, not}
+use Rattle.std.proofs.Common.{◌≡◌, ℕ, Bool, true, false, cond, Some, None, List, [], ◌∷◌, map, filter, ap, refl, not}
 use Rattle.parallel_bridge.specs.Parts.{values_of, keys_of}
 use Rattle.bench.specs.Work.{light_of, is_even, is_odd, pair_of}
 

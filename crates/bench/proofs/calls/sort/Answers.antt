@@ -1,5 +1,5 @@
 -- A sort by the numbers' own order leaves the whole slice in rising order.
-use Rattle.std.proofs.Common.{◌≡◌, length, rules, subst, sym, arith}
+use Rattle.std.proofs.Common.{◌≡◌, length, rules, subst, sym}
 use Rattle.std.specs.List.Sorted.{IsNonDecreasing}
 use Rattle.std.proofs.lemmas.List.Sorted.{IsNonDecreasingBy-from_sort_by, length_permutation}
 use Rattle.bench.proofs.Slices.{whole_slice}

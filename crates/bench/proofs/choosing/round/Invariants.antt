@@ -1,6 +1,5 @@
 -- keys that are known stay so, and at most one record a choice was made
 use Rattle.std.proofs.Common.{◌≡◌, ◌≤◌, All}
-use Rattle.bench.specs.declared.learner.Recording.{Recording}
 use Rattle.bench.specs.declared.learner.Recording.TheVariants.{Every}
 use Rattle.bench.proofs.choosing.round.Given as goal
 

@@ -1,7 +1,6 @@
 -- A choice that is recorded adds a sample to the history that has the choice.
-use Rattle.std.proofs.Common.{◌≡◌, ◌∙◌, ◌∷◌, sym, subst}
+use Rattle.std.proofs.Common.{◌∙◌, ◌∷◌, sym, subst}
 use Rattle.parallel_policy.specs.declared.history.RunEvent.TheVariants.{Chosen}
-use Rattle.parallel_policy.specs.Runs.{RunHistory}
 use Rattle.parallel_policy.specs.Tables.{HoldsRunAt}
 use Rattle.bench.proofs.Histories.{recorded_history}
 use Rattle.bench.proofs.learner.ask_table.Goals as goal
