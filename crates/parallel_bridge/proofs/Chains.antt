@@ -49,9 +49,13 @@ all_last : {A : Type 0} (K : A → Type 0) (xs : List A) (x : A) → All K (xs +
 all_last K xs x h = last_of K xs x (recursion_from_All K (xs ++ (x ∷ [])) h)
 
 -- one call more at the end of calls
-yields_push : {S A : Type 0} (steps : S → Option A → S → Type 0) (s : S) (xs : List A) (t : S) (x : A) (u : S) → Yields steps s xs t → steps t (Some x) u → Yields steps s (xs ++ (x ∷ [])) u
+pub yields_push : {S A : Type 0} (steps : S → Option A → S → Type 0) (s : S) (xs : List A) (t : S) (x : A) (u : S) → Yields steps s xs t → steps t (Some x) u → Yields steps s (xs ++ (x ∷ [])) u
 yields_push steps s [] t x u led step = (u, subst (λ v. steps v (Some x) u) (sym led) step, refl)
 yields_push steps s (y ∷ ys) t x u (j, first, led) step = (j, first, yields_push steps j ys t x u led step)
+
+-- what holds of all that comes holds of the next item
+pub next_has : {S A : Type 0} (steps : S → Option A → S → Type 0) (K : A → Type 0) (s t u : S) (xs : List A) (x : A) → HoldsAlong steps s (All K) → Yields steps s xs t → steps t (Some x) u → K x
+next_has steps K s t u xs x along led step = all_last K xs x (along (xs ++ (x ∷ [])) u (yields_push steps s xs t x u led step))
 
 -- a closure that its calls leave as it was may be called at each turn, where the items that come have what it asks
 pub serves_along : {S A P : Type 0} {steps : S → Option A → S → Type 0} {R : P → A → P → Type 0} {Q : P → A → Type 0} {s : S} {p : P} (K : A → Type 0) → HoldsAlong steps s (All K) → ((x : A) (q : P) → R p x q → q ≡ p) → ((x : A) → K x → Q p x) → CallableAtEachTurn steps R Q s p

@@ -1,6 +1,9 @@
 pub mod Shapes
 pub mod Bracketings
 pub mod Chains
+pub mod Coming
+mod Ranges
+pub mod Halves
 pub mod SegmentLengths
 pub mod Laws
 pub mod Turns

@@ -1,10 +1,11 @@
 -- Taking some items, and then more, is taking all of them.
 use Rattle.std.proofs.Common.{◌≡◌, List, [], ◌∷◌, ◌++◌, Result, Ok, Err, Option, Some, None, refl, sym, ◌∙◌, ap, subst, append_assoc, inl, inr, IsTrue, is_err}
+use Rattle.std.proofs.lemmas.List.{append-nil}
 use Rattle.std.specs.declared.vec.Vec.{Vec}
 use Rattle.std.specs.declared.alloc.Global.{Global}
 use Rattle.parallel_bridge.specs.Outcomes.{joined}
 use Rattle.parallel_bridge.specs.Lists.{Chain}
-use Rattle.parallel_bridge.specs.Tries.{EachOk, TryChain, TryMapOf}
+use Rattle.parallel_bridge.specs.Tries.{EachOk, OnlyOk, TryChain, TryMapOf}
 use Rattle.parallel_bridge.specs.Parts.{PartitionOf, values_of, keys_of}
 use Rattle.parallel_bridge.specs.Onto.{TryMapOnto, TryMapBehind, PartitionOnto, TryContinues}
 use Rattle.parallel_bridge.proofs.Shapes.{MapOf-append}
@@ -13,6 +14,11 @@ module _ {X R : Type 0} (step : R → X → R → Type 0) where
   pub chain_append : (a : R) (xs ys : List X) (m b : R) → Chain step a xs m → Chain step m ys b → Chain step a (xs ++ ys) b
   chain_append a [] ys m b h k = subst (λ v. Chain step v ys b) (sym h) k
   chain_append a (x ∷ xs) ys m b (n, one, h) k = (n, one, chain_append n xs ys m b h k)
+
+  -- the same of a value that is an outcome
+  pub chain_only : {E : Type 0} (a : R) (xs ys : List X) (m : R) (out : Result R E) → Chain step a xs m → OnlyOk (Chain step m ys) out → OnlyOk (Chain step a (xs ++ ys)) out
+  chain_only a xs ys m (Ok b) h k = chain_append a xs ys m b h k
+  chain_only a xs ys m (Err e) h k = k
 
 module _ {X R E : Type 0} (step : R → X → Result R E → Type 0) where
   pub try_chain_append : (a : R) (xs ys : List X) (v out : Result R E) → TryChain step a xs v → TryContinues step v ys out → TryChain step a (xs ++ ys) out
@@ -47,6 +53,11 @@ module _ {X Y E : Type 0} (allowed : X → Result Y E → Type 0) where
   behind_append (Ok before) v out xs ys h k = onto_append before xs ys v out h k
   behind_append (Err e) v out xs ys h k = subst (λ w. TryMapBehind allowed w ys out) h k
 
+  -- nothing more leaves them as they are
+  pub behind_rests : (start : Result (List Y) E) → TryMapBehind allowed start [] start
+  behind_rests (Ok before) = ([], sym (append-nil before), tt)
+  behind_rests (Err e) = refl
+
   -- behind nothing stand the values of the items
   pub behind_none : (xs : List X) (out : Result (List Y) E) → TryMapOnto allowed [] xs out → TryMapOf allowed xs out
   behind_none xs (Ok zs) (new, at, each) = subst (λ l. EachOk allowed xs l) (sym at) each
@@ -80,6 +91,11 @@ module _ {X K U : Type 0} (allowed : X → (K × Option U) → Type 0) where
     at_ks' ∙ ap (λ l. l ++ more_ks) at_ks ∙ append_assoc keys new_ks more_ks,
     PartitionOf-append xs ys new_us more_us new_ks more_ks part part',
   )
+
+-- the same of lists that are an outcome
+pub part_only : {X K U E : Type 0} (allowed : X → (K × Option U) → Type 0) (values us : List U) (keys ks : List K) (xs ys : List X) (out : Result (Vec U Global × Vec K Global) E) → PartitionOnto allowed values keys xs us ks → OnlyOk (λ r. PartitionOnto allowed us ks ys r.0.items r.1.items) out → OnlyOk (λ r. PartitionOnto allowed values keys (xs ++ ys) r.0.items r.1.items) out
+part_only allowed values us keys ks xs ys (Ok r) h k = part_append allowed values us r.0.items keys ks r.1.items xs ys h k
+part_only allowed values us keys ks xs ys (Err e) h k = k
 
 -- the items of lists of lists one after another
 pub joined-append : {T : Type 0} (vs ws : List (Vec T Global)) → joined (vs ++ ws) ≡ joined vs ++ joined ws

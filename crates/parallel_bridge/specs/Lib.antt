@@ -7,3 +7,4 @@ pub mod Tries
 pub mod Parts
 pub mod Onto
 pub mod Producers
+pub mod Sources

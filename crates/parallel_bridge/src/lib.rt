@@ -2,29 +2,28 @@
 #![tactic(auto)]
 
 pub mod bridge;
-pub mod collect;
 pub mod consumer;
-pub mod fallible;
-pub mod folds;
 pub mod law;
-mod loops;
-pub mod maps;
-pub mod parallel;
-pub mod partition;
-pub mod parts;
+pub mod plumbing;
 pub mod producer;
 pub mod segments;
-pub mod serial;
-pub mod stateful;
-#[cfg(test)]
-mod tests;
-pub mod tries;
+pub mod source;
+pub mod splitter;
 
-pub use collect::{CollectConsumer, CollectReducer, ListReducer, ListVecConsumer};
-pub use consumer::{Consumer, Folder, Reducer};
-pub use folds::{FoldConsumer, FoldInitConsumer, ReduceConsumer};
+pub use consumer::collect::{CollectConsumer, CollectReducer};
+pub use consumer::fold::FoldConsumer;
+pub use consumer::fold_init::FoldInitConsumer;
+pub use consumer::list_vec::{ListReducer, ListVecConsumer};
+pub use consumer::map::MapConsumer;
+pub use consumer::map_init::MapInitConsumer;
+pub use consumer::partition::PartitionConsumer;
+pub use consumer::reduce::ReduceConsumer;
+pub use consumer::try_fold::TryFoldConsumer;
+pub use consumer::try_map::TryMapConsumer;
+pub use consumer::try_reduce::TryReduceConsumer;
+pub use consumer::while_some::WhileSomeConsumer;
 pub use law::{fold_init_law, fold_law, map_law};
-pub use maps::{MapConsumer, MapInitConsumer, WhileSomeConsumer};
-pub use parts::PartitionConsumer;
-pub use producer::{DrainProducer, LengthSplitter, SliceDrain, Splitter};
-pub use tries::{TryFoldConsumer, TryMapConsumer, TryReduceConsumer};
+pub use plumbing::{Consumer, Folder, Reducer};
+pub use producer::{Copies, DrainProducer, Indices, Producer, SliceDrain};
+pub use source::{ByIter, ByParts, ByVec, Source};
+pub use splitter::{LengthSplitter, Splitter};

@@ -1,16 +1,174 @@
-//! Where a list's items come from, and how often it is split.
-ghost use Rattle.std.specs.Prelude.{◌≡◌, ◌++◌, ◌/◌, ◌<◌, ◌≤◌, ◌↔◌, IfOk, IsTrue, List, Result, drop, length, max, take};
-ghost use Rattle.std.specs.Int.NonZero.{non_zero_usize_get};
-ghost use Rattle.std.specs.Iterator.{YieldsFirst, YieldsLast, item_count};
-ghost use Rattle.std.specs.List.{All};
+//! Lists that may be split: slices, copies of their items, indices, and owned items.
+ghost use Rattle.std.specs.Prelude.{◌≡◌, ◌++◌, ◌-◌, ◌+◌, ◌<◌, ◌≤◌, ℕ, List, drop, length, map, take, IfOk, ◌⊎◌};
+ghost use Rattle.std.specs.Borrow.{Bor};
+ghost use Rattle.std.specs.Iterator.{Drains, HoldsAlong, IsFinite, YieldsFirst, YieldsLast, item_count};
+ghost use Rattle.std.specs.List.{All, Contains, range_with_len};
 ghost use Rattle.parallel_fault.specs.Trouble.{IsMemoryOnErr};
 ghost use Rattle.parallel_bridge.specs.Producers.{drain_rest};
 
-use crate::consumer::Folder;
 use parallel_fault::Fault;
 use std::alloc::Global;
 use std::collections::VecDeque;
-use std::num::NonZeroUsize;
+use std::ops::Range;
+
+/// A list that may be split in two, each part a list of its own, with nothing gathered or copied.
+///
+/// A producer of a user's own may stand for any list that has a length and can be cut at an index. Its
+/// laws are the clauses here: the lists of two parts, one after another, are the list, and what its
+/// iterator gives is the list.
+pub trait Producer: Send + Sized + Drop {
+    /// What the list has.
+    type Item: Send + Drop;
+
+    /// What goes over the items.
+    type Iter: Iterator<Item = Self::Item> + Send;
+
+    /// Whether the producer may give a list.
+    ghost gives: { Self → List Self.Item → Type 0 };
+
+    /// Whether an item may come.
+    ghost may: { Self → Self.Item → Type 0 };
+
+    /// How many items come.
+    ghost count: { Self → ℕ };
+
+    /// The number of items.
+    fn len(&self) -> usize
+        ensures counted { result ≡ count self.now }
+        ensures each { (xs : List Self.Item) → gives self.now xs → length xs ≡ result };
+
+    /// A producer of the first `index` items, and one of the rest.
+    ///
+    /// # Errors
+    ///
+    /// `Fault::Memory` alone, where a part needs memory of its own; the items are then gone.
+    fn split_at(self, alloc: Global, index: usize) -> Result<(Self, Self), Fault>
+        requires { index ≤ count self }
+        ensures joined { IfOk result (λ parts. (xs ys : List Self.Item) → gives parts.0 xs
+            → gives parts.1 ys → gives self (xs ++ ys)) }
+        ensures front { IfOk result (λ parts. (xs : List Self.Item) → gives parts.0 xs
+            → length xs ≡ index) }
+        ensures some { IfOk result (λ parts. (ys : List Self.Item) × gives parts.1 ys) }
+        ensures counts { IfOk result (λ parts. (count parts.0 ≡ index)
+            × (count parts.1 ≡ count self - index)) }
+        ensures may_front { IfOk result (λ parts. (x : Self.Item) → may parts.0 x → may self x) }
+        ensures may_back { IfOk result (λ parts. (x : Self.Item) → may parts.1 x → may self x) }
+        ensures fault { IsMemoryOnErr result };
+
+    /// An iterator over the items, in order.
+    fn into_items(self) -> Self::Iter
+        ensures can { Self.Iter.can_next result }
+        ensures ends { IsFinite (Self.Iter.remaining result) }
+        ensures gives { (xs : List Self.Item) → Drains Self.Iter.next_gives result xs → gives self xs }
+        ensures may { HoldsAlong Self.Iter.next_gives result (All (may self)) };
+}
+
+impl<'a, T: Sync> Producer for &'a [T] {
+    type Item = &'a T;
+
+    type Iter = std::slice::Iter<'a, T>;
+
+    ghost gives = { λ s xs. map (λ (x : Bor T). x.now) xs ≡ s.now };
+
+    ghost may = { λ s x. Contains s.now x.now };
+
+    ghost count = { λ s. length s.now };
+
+    fn len(&self) -> usize {
+        let items: &'a [T] = *self;
+        items.len()
+    }
+
+    fn split_at(self, _alloc: Global, index: usize) -> Result<(Self, Self), Fault> {
+        Ok((&self[..index], &self[index..]))
+    }
+
+    fn into_items(self) -> std::slice::Iter<'a, T> {
+        self.iter()
+    }
+}
+
+/// The items of a slice, each copied as it comes.
+#[derive(Clone, Copy, Debug)]
+pub struct Copies<'a, T> {
+    /// The items.
+    pub slice: &'a [T],
+}
+
+impl<'a, T: Copy + Send + Sync + Drop> Producer for Copies<'a, T> {
+    type Item = T;
+
+    type Iter = std::iter::Copied<std::slice::Iter<'a, T>>;
+
+    ghost gives = { λ s xs. xs ≡ s.slice.now };
+
+    ghost may = { λ s x. Contains s.slice.now x };
+
+    ghost count = { λ s. length s.slice.now };
+
+    fn len(&self) -> usize {
+        self.slice.len()
+    }
+
+    fn split_at(self, _alloc: Global, index: usize) -> Result<(Self, Self), Fault> {
+        let front = Copies {
+            slice: &self.slice[..index],
+        };
+        let back = Copies {
+            slice: &self.slice[index..],
+        };
+        Ok((front, back))
+    }
+
+    fn into_items(self) -> std::iter::Copied<std::slice::Iter<'a, T>> {
+        self.slice.iter().copied()
+    }
+}
+
+/// The indices from `start` up to `end`, which isn't one of them.
+#[derive(Clone, Copy, Debug, PartialEq, Eq)]
+pub struct Indices {
+    /// The first index.
+    pub start: usize,
+    /// The index behind the last one.
+    pub end: usize,
+}
+
+impl Producer for Indices {
+    type Item = usize;
+
+    type Iter = Range<usize>;
+
+    ghost gives = { λ s xs. xs ≡ range_with_len s.start (s.end - s.start) };
+
+    ghost may = { λ s x. (s.start ≤ x) × (x < s.end) };
+
+    ghost count = { λ s. s.end - s.start };
+
+    fn len(&self) -> usize {
+        self.end.saturating_sub(self.start)
+    }
+
+    fn split_at(self, _alloc: Global, index: usize) -> Result<(Self, Self), Fault> {
+        if self.end <= self.start {
+            return Ok((self, self));
+        }
+        let middle = self.start + index;
+        let front = Indices {
+            start: self.start,
+            end: middle,
+        };
+        let back = Indices {
+            start: middle,
+            end: self.end,
+        };
+        Ok((front, back))
+    }
+
+    fn into_items(self) -> Range<usize> {
+        self.start..self.end
+    }
+}
 
 /// Owned items that may be split in two, each part with its own items.
 #[derive(Drop)]
@@ -27,32 +185,6 @@ impl<T: Drop> DrainProducer<T> {
         DrainProducer { items }
     }
 
-    /// A producer of the first `index` items, and one of the rest.
-    pub fn split_at(self, index: usize) -> Result<(Self, Self), Fault>
-        requires { index ≤ length self.items.items }
-        ensures left { IfOk result (λ p. p.0.items.items ≡ take index self.items.items) }
-        ensures right { IfOk result (λ p. p.1.items.items ≡ drop index self.items.items) }
-        ensures fault { IsMemoryOnErr result }
-    {
-        let mut left = self.items;
-        let right = left.split_off(index)?;
-        Ok((
-            DrainProducer { items: left },
-            DrainProducer { items: right },
-        ))
-    }
-
-    /// The folder with all items taken, in order.
-    pub fn fold_with<R, E, F: Folder<T, R, E>>(self, alloc: Global, folder: F) -> Result<F, Fault>
-        requires ready { F.ready folder }
-        requires items { All (λ x. F.takes folder x) self.items.items }
-        ensures ready { IfOk result (λ f. F.ready f) }
-        ensures gives { IfOk result (λ f. (xs : List T) (out : Result R E) → F.gives f xs out → F.gives folder (self.items.items ++ xs) out) }
-        ensures fault { IsMemoryOnErr result }
-    {
-        folder.consume_iter(alloc, self.items)
-    }
-
     /// An iterator over the items, from both ends.
     pub fn drain(self) -> SliceDrain<T>
         ensures { drain_rest result ≡ self.items.items }
@@ -60,6 +192,32 @@ impl<T: Drop> DrainProducer<T> {
         SliceDrain {
             rest: VecDeque::from_vec(self.items),
         }
+    }
+}
+
+impl<T: Send + Drop> Producer for DrainProducer<T> {
+    type Item = T;
+
+    type Iter = std::vec::IntoIter<T>;
+
+    ghost gives = { λ s xs. xs ≡ s.items.items };
+
+    ghost may = { λ s x. Contains s.items.items x };
+
+    ghost count = { λ s. length s.items.items };
+
+    fn len(&self) -> usize {
+        self.items.len()
+    }
+
+    fn split_at(self, _alloc: Global, index: usize) -> Result<(Self, Self), Fault> {
+        let mut front = self.items;
+        let back = front.split_off(index)?;
+        Ok((DrainProducer { items: front }, DrainProducer { items: back }))
+    }
+
+    fn into_items(self) -> std::vec::IntoIter<T> {
+        self.items.into_iter()
     }
 }
 
@@ -92,64 +250,5 @@ impl<T: Drop> DoubleEndedIterator for SliceDrain<T> {
 impl<T: Drop> ExactSizeIterator for SliceDrain<T> {
     fn len(&self) -> usize {
         self.rest.len()
-    }
-}
-
-/// How often a list may still be split, whatever its length.
-#[derive(Clone, Copy, Debug, PartialEq, Eq)]
-pub struct Splitter {
-    /// The number that is halved at each split, and splits no more once it is 0.
-    pub splits: usize,
-}
-
-impl Splitter {
-    /// The number starts as that of the threads.
-    pub fn new(threads: NonZeroUsize) -> Self
-        ensures { result.splits ≡ non_zero_usize_get threads }
-    {
-        Splitter {
-            splits: threads.get(),
-        }
-    }
-
-    /// Whether to split once more; where so, the number is halved, rounding down.
-    pub fn try_split(&mut self) -> bool
-        ensures splits { IsTrue result ↔ 0 < self.old.splits }
-        ensures halved { self.new.splits ≡ self.old.splits / 2 }
-    {
-        let splits = self.splits;
-        self.splits = splits / 2;
-        splits > 0
-    }
-}
-
-/// How often a list may still be split, and how short its parts may become.
-#[derive(Clone, Copy, Debug, PartialEq, Eq)]
-pub struct LengthSplitter {
-    /// How often.
-    pub inner: Splitter,
-    /// The least length of a part, 1 or more.
-    pub min: usize,
-}
-
-impl LengthSplitter {
-    /// The number starts as that of the threads, and no part has fewer than `min` items, nor none.
-    pub fn new(threads: NonZeroUsize, min: usize) -> Self
-        ensures splits { result.inner.splits ≡ non_zero_usize_get threads }
-        ensures min { result.min ≡ max min 1 }
-    {
-        LengthSplitter {
-            inner: Splitter::new(threads),
-            min: min.max(1),
-        }
-    }
-
-    /// Whether to split a list of `len` items at half its length; where so, the number is halved.
-    pub fn try_split(&mut self, len: usize) -> bool
-        ensures splits { IsTrue result ↔ ((self.old.min ≤ len / 2) × (0 < self.old.inner.splits)) }
-        ensures halved { IsTrue result → self.new.inner.splits ≡ self.old.inner.splits / 2 }
-        ensures least { self.new.min ≡ self.old.min }
-    {
-        len / 2 >= self.min && self.inner.try_split()
     }
 }

@@ -1,6 +1,0 @@
--- One step more, from the state that this one left.
-use Rattle.std.proofs.Common.{rules}
-use Rattle.parallel_bridge.proofs.folds.FoldInitFolderFolder.consume.Goals as goal
-
-pub returns-clause-gives : goal.returns-clause-gives
-returns-clause-gives g c xs out (b, chain, gives) = (b, (_, _, search rules, chain), gives)

@@ -1,6 +1,0 @@
--- One answer more, from the state that this one left.
-use Rattle.std.proofs.Common.{rules, ◌∷◌}
-use Rattle.parallel_bridge.proofs.maps.MapWithFolderFolder.consume.Goals as goal
-
-pub returns-clause-gives : goal.returns-clause-gives
-returns-clause-gives g c xs out (ys, states, gives) = (c.map_op-answer.result ∷ ys, (_, search rules, states), c.in_ok-base.ensures.gives ys out gives)

@@ -1,0 +1,11 @@
+-- What comes are borrows of the slice's items, in order.
+use Rattle.std.proofs.Common.{rules}
+use Rattle.std.proofs.lemmas.Iterator.{YieldsList-from_slice}
+use Rattle.parallel_bridge.proofs.Coming.{came, stands_in}
+use Rattle.parallel_bridge.proofs.producer.RefSliceProducer.into_items.Goals as goal
+
+pub returns-clause-gives : goal.returns-clause-gives
+returns-clause-gives g c xs drains = came xs drains (YieldsList-from_slice c.args.self.now (search rules))
+
+pub returns-clause-may : goal.returns-clause-may
+returns-clause-may g c = stands_in (YieldsList-from_slice c.args.self.now (search rules))

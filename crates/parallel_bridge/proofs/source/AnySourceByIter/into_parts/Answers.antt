@@ -1,0 +1,7 @@
+-- Each item that was gathered may come.
+use Rattle.std.proofs.Common.{rules}
+use Rattle.parallel_bridge.proofs.Coming.{may_of}
+use Rattle.parallel_bridge.proofs.source.AnySourceByIter.into_parts.Goals as goal
+
+pub returns-clause-may : goal.returns-clause-may
+returns-clause-may g c x within = may_of g.I.Iterator.next_gives c.args.self c.in_ok-items.items.items (search rules) x within

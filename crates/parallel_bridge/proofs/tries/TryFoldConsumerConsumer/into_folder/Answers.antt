@@ -1,6 +1,0 @@
--- A chain from an identity.
-use Rattle.std.proofs.Common.{◌∷◌, []}
-use Rattle.parallel_bridge.proofs.tries.TryFoldConsumerConsumer.into_folder.Goals as goal
-
-pub returns-clause-gives : goal.returns-clause-gives
-returns-clause-gives g c xs out (v, chain, gives) = (v, (c.identity.result, c.identity.ensures, chain), c.in_ok-base.ensures.gives (v ∷ []) out gives)

@@ -1,9 +1,0 @@
--- The parts fold as the whole, and their bases give what the base may give.
-use Rattle.std.proofs.Common.{◌∷◌, []}
-use Rattle.parallel_bridge.proofs.tries.TryFoldConsumerConsumer.split_at.Goals as goal
-
-pub returns-clause-left_leaf : goal.returns-clause-left_leaf
-returns-clause-left_leaf g c xs out (v, segment, gives) = (v, segment, c.in_ok-left.ensures.left_leaf (v ∷ []) out gives)
-
-pub returns-clause-right_leaf : goal.returns-clause-right_leaf
-returns-clause-right_leaf g c xs out (v, segment, gives) = (v, segment, c.in_ok-left.ensures.right_leaf (v ∷ []) out gives)

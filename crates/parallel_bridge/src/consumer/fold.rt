@@ -1,0 +1,141 @@
+//! The value that the items of a segment are folded to.
+ghost use Rattle.std.specs.Prelude.{◌∷◌, ◌++◌, [], List, Result};
+ghost use Rattle.std.specs.Iterator.{Drains, IsFinite};
+ghost use Rattle.parallel_bridge.specs.Lists.{Chain, FoldSegment};
+ghost use Rattle.parallel_bridge.specs.Sources.{GivesSome};
+
+use crate::plumbing::{Consumer, Folder};
+use parallel_fault::{Fault, Trouble};
+use std::alloc::Global;
+
+/// Folds the items of each segment from an identity, and hands the value to another consumer.
+#[derive(Drop)]
+pub struct FoldConsumer<'c, C, I, F> {
+    /// What takes the value of a segment.
+    pub base: C,
+    /// The closure that answers a value to fold from.
+    pub identity: &'c I,
+    /// The closure that takes the folded value one item further.
+    pub fold_op: &'c F,
+}
+
+/// The value that the items of a segment are folded to so far.
+#[derive(Drop)]
+pub struct FoldFolder<'c, C, R, F> {
+    /// What takes the value of the segment.
+    pub base: C,
+    /// The value so far.
+    pub item: R,
+    /// The closure that takes it one item further.
+    pub fold_op: &'c F,
+}
+
+impl<'c, X: Drop, U: Drop, R, E, C: Folder<U, R, E>, F: Fn(U, X) -> U> Folder<X, R, E>
+    for FoldFolder<'c, C, U, F> {
+    ghost ready = { λ s. C.ready s.base × ((u : U) → C.takes s.base u) × F.IsAlwaysCallable s.fold_op.now };
+
+    ghost takes = { λ _ _. Unit {0} };
+
+    ghost gives = { λ s xs out. (b : U) × Chain (λ a x b. F.post s.fold_op.now a x b) s.item xs b × C.gives s.base (b ∷ []) out };
+
+    fn consume(self, _alloc: Global, item: X) -> Result<Self, Fault> {
+        let value = (self.fold_op)(self.item, item);
+        Ok(FoldFolder {
+            base: self.base,
+            item: value,
+            fold_op: self.fold_op,
+        })
+    }
+
+    fn consume_iter<J: Iterator<Item = X>>(
+        self,
+        _alloc: Global,
+        iter: J,
+    ) -> Result<Self, Fault> {
+        let value = fold_from(self.item, iter, self.fold_op);
+        Ok(FoldFolder {
+            base: self.base,
+            item: value,
+            fold_op: self.fold_op,
+        })
+    }
+
+    fn complete(self, alloc: Global) -> Result<R, Trouble<E>> {
+        let base = self.base.consume(alloc, self.item)?;
+        base.complete(alloc)
+    }
+
+    fn full(&self) -> bool {
+        false
+    }
+}
+
+impl<
+    'c,
+    X: Drop,
+    U: Send + Drop,
+    C: Consumer<U>,
+    I: Fn() -> U + Sync,
+    F: Fn(U, X) -> U + Sync,
+> Consumer<X> for FoldConsumer<'c, C, I, F> {
+    type Result = C::Result;
+
+    type Error = C::Error;
+
+    type Folder = FoldFolder<'c, C::Folder, U, F>;
+
+    type Reducer = C::Reducer;
+
+    ghost ready = { λ s. C.ready s.base × ((u : U) → C.takes s.base u) × I.IsAlwaysCallable s.identity.now × F.IsAlwaysCallable s.fold_op.now };
+
+    ghost takes = { λ _ _. Unit {0} };
+
+    ghost fits = { λ s n. C.fits s.base n };
+
+    ghost leaf_gives = { λ s xs out. (b : U) × FoldSegment (I.post s.identity.now) (λ a x b. F.post s.fold_op.now a x b) xs b × C.leaf_gives s.base (b ∷ []) out };
+
+    ghost node_gives = { λ s a b out. C.node_gives s.base a b out };
+
+    fn split_at(self, index: usize) -> Result<(Self, Self, C::Reducer), Fault> {
+        let (left, right, reducer) = self.base.split_at(index)?;
+        let left = FoldConsumer {
+            base: left,
+            identity: self.identity,
+            fold_op: self.fold_op,
+        };
+        let right = FoldConsumer {
+            base: right,
+            identity: self.identity,
+            fold_op: self.fold_op,
+        };
+        Ok((left, right, reducer))
+    }
+
+    fn into_folder(self, alloc: Global) -> Result<FoldFolder<'c, C::Folder, U, F>, Fault> {
+        let base = self.base.into_folder(alloc)?;
+        Ok(FoldFolder {
+            base,
+            item: (self.identity)(),
+            fold_op: self.fold_op,
+        })
+    }
+}
+
+/// The items that come folded from a value, in their order.
+pub(crate) fn fold_from<I: Iterator, R: Drop, F: Fn(R, I::Item) -> R>(
+    start: R,
+    iter: I,
+    fold_op: &F,
+) -> R
+    requires can { I.can_next iter }
+    requires ends { IsFinite (I.remaining iter) }
+    requires accepts { F.IsAlwaysCallable fold_op.now }
+    ensures { GivesSome (Drains I.next_gives) iter
+        (λ xs. Chain (λ a x b. F.post fold_op.now a x b) start xs result) }
+{
+    let mut value = start;
+    for item in iter {
+        value = fold_op(value, item);
+    }
+    value
+}

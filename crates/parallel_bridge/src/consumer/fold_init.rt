@@ -1,0 +1,163 @@
+//! The value that the items of a segment are folded to with a state at hand.
+ghost use Rattle.std.specs.Prelude.{◌∷◌, ◌++◌, [], List, Result};
+ghost use Rattle.std.specs.Iterator.{Drains, IsFinite};
+ghost use Rattle.parallel_bridge.specs.Sources.{GivesSome};
+ghost use Rattle.parallel_bridge.specs.States.{FoldInitSegment, FoldStep, StateChain};
+
+use crate::plumbing::{Consumer, Folder};
+use parallel_fault::{Fault, Trouble};
+use std::alloc::Global;
+
+/// Folds the items of each segment from an identity with a state at hand, fresh for each segment, and
+/// hands the value to another consumer.
+#[derive(Drop)]
+pub struct FoldInitConsumer<'c, C, N, I, F> {
+    /// What takes the value of a segment.
+    pub base: C,
+    /// The closure that makes a state.
+    pub init: &'c N,
+    /// The closure that answers a value to fold from.
+    pub identity: &'c I,
+    /// The closure that takes the folded value one item further.
+    pub fold_op: &'c F,
+}
+
+/// The value that the items of a segment are folded to so far, and the state that the next item meets.
+#[derive(Drop)]
+pub struct FoldInitFolder<'c, C, S, R, F> {
+    /// What takes the value of the segment.
+    pub base: C,
+    /// The state that the next item meets.
+    pub state: S,
+    /// The value so far.
+    pub item: R,
+    /// The closure that takes it one item further.
+    pub fold_op: &'c F,
+}
+
+impl<'c, X: Drop, S: Drop, U: Drop, R, E, C: Folder<U, R, E>, F: Fn(U, &mut S, X) -> U> Folder<
+    X,
+    R,
+    E,
+> for FoldInitFolder<'c, C, S, U, F> {
+    ghost ready = { λ s. C.ready s.base × ((u : U) → C.takes s.base u) × F.IsAlwaysCallable s.fold_op.now };
+
+    ghost takes = { λ _ _. Unit {0} };
+
+    ghost gives = { λ s xs out. (b : U) × StateChain (FoldStep (λ a p x b q. F.post s.fold_op.now a p x b q)) s.state s.item xs b × C.gives s.base (b ∷ []) out };
+
+    fn consume(self, _alloc: Global, item: X) -> Result<Self, Fault> {
+        let mut state = self.state;
+        let value = (self.fold_op)(self.item, &mut state, item);
+        Ok(FoldInitFolder {
+            base: self.base,
+            state,
+            item: value,
+            fold_op: self.fold_op,
+        })
+    }
+
+    fn consume_iter<J: Iterator<Item = X>>(
+        self,
+        _alloc: Global,
+        iter: J,
+    ) -> Result<Self, Fault> {
+        let mut state = self.state;
+        let value = fold_init_from(self.item, &mut state, iter, self.fold_op);
+        Ok(FoldInitFolder {
+            base: self.base,
+            state,
+            item: value,
+            fold_op: self.fold_op,
+        })
+    }
+
+    fn complete(self, alloc: Global) -> Result<R, Trouble<E>> {
+        let base = self.base.consume(alloc, self.item)?;
+        base.complete(alloc)
+    }
+
+    fn full(&self) -> bool {
+        false
+    }
+}
+
+impl<
+    'c,
+    X: Drop,
+    S: Send + Drop,
+    U: Send + Drop,
+    C: Consumer<U>,
+    N: Fn() -> S + Sync,
+    I: Fn() -> U + Sync,
+    F: Fn(U, &mut S, X) -> U + Sync,
+> Consumer<X> for FoldInitConsumer<'c, C, N, I, F> {
+    type Result = C::Result;
+
+    type Error = C::Error;
+
+    type Folder = FoldInitFolder<'c, C::Folder, S, U, F>;
+
+    type Reducer = C::Reducer;
+
+    ghost ready = { λ s. C.ready s.base × ((u : U) → C.takes s.base u) × N.IsAlwaysCallable s.init.now × I.IsAlwaysCallable s.identity.now × F.IsAlwaysCallable s.fold_op.now };
+
+    ghost takes = { λ _ _. Unit {0} };
+
+    ghost fits = { λ s n. C.fits s.base n };
+
+    ghost leaf_gives = { λ s xs out. (b : U) × FoldInitSegment (N.post s.init.now) (I.post s.identity.now) (FoldStep (λ a p x b q. F.post s.fold_op.now a p x b q)) xs b × C.leaf_gives s.base (b ∷ []) out };
+
+    ghost node_gives = { λ s a b out. C.node_gives s.base a b out };
+
+    fn split_at(self, index: usize) -> Result<(Self, Self, C::Reducer), Fault> {
+        let (left, right, reducer) = self.base.split_at(index)?;
+        let left = FoldInitConsumer {
+            base: left,
+            init: self.init,
+            identity: self.identity,
+            fold_op: self.fold_op,
+        };
+        let right = FoldInitConsumer {
+            base: right,
+            init: self.init,
+            identity: self.identity,
+            fold_op: self.fold_op,
+        };
+        Ok((left, right, reducer))
+    }
+
+    fn into_folder(self, alloc: Global) -> Result<FoldInitFolder<'c, C::Folder, S, U, F>, Fault> {
+        let base = self.base.into_folder(alloc)?;
+        let state = (self.init)();
+        let item = (self.identity)();
+        Ok(FoldInitFolder {
+            base,
+            state,
+            item,
+            fold_op: self.fold_op,
+        })
+    }
+}
+
+/// The items that come folded from a value, in their order, with a state that goes from item to item.
+pub(crate) fn fold_init_from<I: Iterator, S: Drop, R: Drop, F: Fn(R, &mut S, I::Item) -> R>(
+    start: R,
+    state: &mut S,
+    iter: I,
+    fold_op: &F,
+) -> R
+    requires can { I.can_next iter }
+    requires ends { IsFinite (I.remaining iter) }
+    requires accepts { F.IsAlwaysCallable fold_op.now }
+    ensures { GivesSome (Drains I.next_gives) iter (λ xs. (more : List I.Item) (r : R)
+        → StateChain (FoldStep (λ a p x b q. F.post fold_op.now a p x b q)) state.new result more r
+        → StateChain (FoldStep (λ a p x b q. F.post fold_op.now a p x b q)) state.old start
+            (xs ++ more) r) }
+{
+    let mut value = start;
+    for item in iter {
+        value = fold_op(value, state, item);
+    }
+    value
+}

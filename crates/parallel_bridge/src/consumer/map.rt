@@ -1,0 +1,107 @@
+//! The answers of a closure.
+ghost use Rattle.std.specs.Prelude.{◌++◌, [], List, Result};
+ghost use Rattle.parallel_bridge.specs.Lists.{MapOf};
+
+use crate::plumbing::{Consumer, Folder};
+use parallel_fault::{Fault, Trouble};
+use std::alloc::Global;
+
+/// Answers each item by a closure, and hands the answers to another consumer.
+#[derive(Drop)]
+pub struct MapConsumer<'f, C, F> {
+    /// What takes the answers.
+    pub base: C,
+    /// The closure that answers an item.
+    pub map_op: &'f F,
+}
+
+/// Answers the items of a segment by a closure, and hands the answers to another folder.
+#[derive(Drop)]
+pub struct MapFolder<'f, C, F> {
+    /// What takes the answers.
+    pub base: C,
+    /// The closure that answers an item.
+    pub map_op: &'f F,
+}
+
+impl<'f, X: Drop, T: Drop, R, E, C: Folder<T, R, E>, F: Fn(X) -> T> Folder<X, R, E>
+    for MapFolder<'f, C, F> {
+    ghost ready = { λ s. C.ready s.base × ((y : T) → C.takes s.base y) };
+
+    ghost takes = { λ s x. F.pre s.map_op.now x };
+
+    ghost gives = { λ s xs out. (ys : List T) × MapOf (F.post s.map_op.now) xs ys × C.gives s.base ys out };
+
+    fn consume(self, alloc: Global, item: X) -> Result<Self, Fault> {
+        let answer = (self.map_op)(item);
+        let base = self.base.consume(alloc, answer)?;
+        Ok(MapFolder {
+            base,
+            map_op: self.map_op,
+        })
+    }
+
+    fn consume_iter<I: Iterator<Item = X>>(
+        self,
+        alloc: Global,
+        iter: I,
+    ) -> Result<Self, Fault> {
+        let map_op = self.map_op;
+        let answer = |item: X| -> T
+            requires { F.pre map_op.now item }
+            ensures { F.post map_op.entry.now item result }
+        { map_op(item) };
+        let base = self.base.consume_iter(alloc, iter.map(answer))?;
+        Ok(MapFolder { base, map_op })
+    }
+
+    fn complete(self, alloc: Global) -> Result<R, Trouble<E>> {
+        self.base.complete(alloc)
+    }
+
+    fn full(&self) -> bool {
+        false
+    }
+}
+
+impl<'f, X: Drop, T: Drop, C: Consumer<T>, F: Fn(X) -> T + Sync> Consumer<X>
+    for MapConsumer<'f, C, F> {
+    type Result = C::Result;
+
+    type Error = C::Error;
+
+    type Folder = MapFolder<'f, C::Folder, F>;
+
+    type Reducer = C::Reducer;
+
+    ghost ready = { λ s. C.ready s.base × ((y : T) → C.takes s.base y) };
+
+    ghost takes = { λ s x. F.pre s.map_op.now x };
+
+    ghost fits = { λ s n. C.fits s.base n };
+
+    ghost leaf_gives = { λ s xs out. (ys : List T) × MapOf (F.post s.map_op.now) xs ys × C.leaf_gives s.base ys out };
+
+    ghost node_gives = { λ s a b out. C.node_gives s.base a b out };
+
+    fn split_at(self, index: usize) -> Result<(Self, Self, C::Reducer), Fault> {
+        let (left, right, reducer) = self.base.split_at(index)?;
+        let left = MapConsumer {
+            base: left,
+            map_op: self.map_op,
+        };
+        let right = MapConsumer {
+            base: right,
+            map_op: self.map_op,
+        };
+        Ok((left, right, reducer))
+    }
+
+    fn into_folder(self, alloc: Global) -> Result<MapFolder<'f, C::Folder, F>, Fault> {
+        let base = self.base.into_folder(alloc)?;
+        Ok(MapFolder {
+            base,
+            map_op: self.map_op,
+        })
+    }
+}

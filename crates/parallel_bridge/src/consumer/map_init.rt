@@ -1,0 +1,155 @@
+//! The answers of a closure with a state at hand.
+ghost use Rattle.std.specs.Prelude.{◌++◌, [], IfOk, List, Result};
+ghost use Rattle.std.specs.Borrow.{MutBor};
+ghost use Rattle.std.specs.Iterator.{Drains, HoldsAlong, IsFinite};
+ghost use Rattle.std.specs.List.{All};
+ghost use Rattle.parallel_fault.specs.Trouble.{IsMemoryOnErr};
+ghost use Rattle.parallel_bridge.specs.Sources.{GivesSome};
+ghost use Rattle.parallel_bridge.specs.States.{MapStep, StateSegment, StatesFrom};
+
+use crate::plumbing::{Consumer, Folder};
+use parallel_fault::{Fault, Trouble};
+use std::alloc::Global;
+
+/// Answers each item by a closure with a state at hand, fresh for each segment, and hands the answers
+/// to another consumer.
+#[derive(Drop)]
+pub struct MapInitConsumer<'f, C, N, F> {
+    /// What takes the answers.
+    pub base: C,
+    /// The closure that makes a state.
+    pub init: &'f N,
+    /// The closure that answers an item.
+    pub map_op: &'f F,
+}
+
+/// Answers the items of a segment with one state, and hands the answers to another folder.
+#[derive(Drop)]
+pub struct MapWithFolder<'f, C, S, F> {
+    /// What takes the answers.
+    pub base: C,
+    /// The state that the next item meets.
+    pub item: S,
+    /// The closure that answers an item.
+    pub map_op: &'f F,
+}
+
+impl<'f, X: Drop, S: Drop, T: Drop, R, E, C: Folder<T, R, E>, F: Fn(&mut S, X) -> T> Folder<X, R, E>
+    for MapWithFolder<'f, C, S, F> {
+    ghost ready = { λ s. C.ready s.base × ((y : T) → C.takes s.base y) };
+
+    ghost takes = { λ s x. (p : MutBor S) → F.pre s.map_op.now p x };
+
+    ghost gives = { λ s xs out. (ys : List T) × StatesFrom (MapStep (λ p x y q. F.post s.map_op.now p x y q)) s.item xs ys × C.gives s.base ys out };
+
+    fn consume(self, alloc: Global, item: X) -> Result<Self, Fault> {
+        let mut state = self.item;
+        let answer = (self.map_op)(&mut state, item);
+        let base = self.base.consume(alloc, answer)?;
+        Ok(MapWithFolder {
+            base,
+            item: state,
+            map_op: self.map_op,
+        })
+    }
+
+    fn consume_iter<I: Iterator<Item = X>>(
+        self,
+        alloc: Global,
+        iter: I,
+    ) -> Result<Self, Fault> {
+        let mut state = self.item;
+        let answers = map_init_from(alloc, &mut state, iter, self.map_op)?;
+        let base = self.base.consume_iter(alloc, answers.into_iter())?;
+        Ok(MapWithFolder {
+            base,
+            item: state,
+            map_op: self.map_op,
+        })
+    }
+
+    fn complete(self, alloc: Global) -> Result<R, Trouble<E>> {
+        self.base.complete(alloc)
+    }
+
+    fn full(&self) -> bool {
+        false
+    }
+}
+
+impl<
+    'f,
+    X: Drop,
+    S: Send + Drop,
+    T: Drop,
+    C: Consumer<T>,
+    N: Fn() -> S + Sync,
+    F: Fn(&mut S, X) -> T + Sync,
+> Consumer<X> for MapInitConsumer<'f, C, N, F> {
+    type Result = C::Result;
+
+    type Error = C::Error;
+
+    type Folder = MapWithFolder<'f, C::Folder, S, F>;
+
+    type Reducer = C::Reducer;
+
+    ghost ready = { λ s. C.ready s.base × ((y : T) → C.takes s.base y) × N.IsAlwaysCallable s.init.now };
+
+    ghost takes = { λ s x. (p : MutBor S) → F.pre s.map_op.now p x };
+
+    ghost fits = { λ s n. C.fits s.base n };
+
+    ghost leaf_gives = { λ s xs out. (ys : List T) × StateSegment (N.post s.init.now) (MapStep (λ p x y q. F.post s.map_op.now p x y q)) xs ys × C.leaf_gives s.base ys out };
+
+    ghost node_gives = { λ s a b out. C.node_gives s.base a b out };
+
+    fn split_at(self, index: usize) -> Result<(Self, Self, C::Reducer), Fault> {
+        let (left, right, reducer) = self.base.split_at(index)?;
+        let left = MapInitConsumer {
+            base: left,
+            init: self.init,
+            map_op: self.map_op,
+        };
+        let right = MapInitConsumer {
+            base: right,
+            init: self.init,
+            map_op: self.map_op,
+        };
+        Ok((left, right, reducer))
+    }
+
+    fn into_folder(self, alloc: Global) -> Result<MapWithFolder<'f, C::Folder, S, F>, Fault> {
+        let base = self.base.into_folder(alloc)?;
+        Ok(MapWithFolder {
+            base,
+            item: (self.init)(),
+            map_op: self.map_op,
+        })
+    }
+}
+
+/// The answers of `map_op` for the items that come, in their order, with a state that goes from item
+/// to item.
+pub(crate) fn map_init_from<I: Iterator, S: Drop, T: Drop, F: Fn(&mut S, I::Item) -> T>(
+    alloc: Global,
+    state: &mut S,
+    iter: I,
+    map_op: &F,
+) -> Result<Vec<T>, Fault>
+    requires can { I.can_next iter }
+    requires ends { IsFinite (I.remaining iter) }
+    requires accepts { HoldsAlong I.next_gives iter
+        (All (λ x. (p : MutBor S) → F.pre map_op.now p x)) }
+    ensures gives { IfOk result (λ ys. GivesSome (Drains I.next_gives) iter (λ xs. (more : List I.Item)
+        (zs : List T) → StatesFrom (MapStep (λ p x y q. F.post map_op.now p x y q)) state.new more zs
+        → StatesFrom (MapStep (λ p x y q. F.post map_op.now p x y q)) state.old (xs ++ more)
+            (ys.items ++ zs))) }
+    ensures fault { IsMemoryOnErr result }
+{
+    let mut answers = Vec::with_capacity(alloc, iter.size_hint().0)?;
+    for item in iter {
+        answers.push(map_op(state, item))?;
+    }
+    Ok(answers)
+}

@@ -1,0 +1,114 @@
+//! The items of a segment reduced, and then the results.
+ghost use Rattle.std.specs.Prelude.{◌++◌, [], List, Result};
+ghost use Rattle.parallel_bridge.specs.Lists.{Chain, FoldSegment};
+ghost use Rattle.parallel_bridge.specs.Tries.{OnlyOk};
+
+use crate::consumer::fold::fold_from;
+use crate::plumbing::{Consumer, Folder, Reducer};
+use parallel_fault::{Fault, Trouble};
+use std::alloc::Global;
+use std::convert::Infallible;
+
+/// Reduces the items of each segment behind an identity, and then the results.
+#[derive(Drop)]
+pub struct ReduceConsumer<'r, I, G> {
+    /// The closure that answers a value to reduce from.
+    pub identity: &'r I,
+    /// The closure that reduces two values, the left one first.
+    pub reduce_op: &'r G,
+}
+
+/// The value that the items of a segment are reduced to so far.
+#[derive(Drop)]
+pub struct ReduceFolder<'r, T, G> {
+    /// The value so far.
+    pub item: T,
+    /// The closure that reduces two values, the left one first.
+    pub reduce_op: &'r G,
+}
+
+impl<'r, T, I: Fn() -> T, G: Fn(T, T) -> T> Reducer<T, Infallible> for ReduceConsumer<'r, I, G> {
+    ghost can_reduce = { λ s _ _. G.IsAlwaysCallable s.reduce_op.now };
+
+    ghost reduce_gives = { λ s left right out. OnlyOk (λ all. G.post s.reduce_op.now left right all) out };
+
+    fn reduce(self, left: T, right: T) -> Result<T, Trouble<Infallible>> {
+        Ok((self.reduce_op)(left, right))
+    }
+}
+
+impl<'r, T: Drop, G: Fn(T, T) -> T> Folder<T, T, Infallible> for ReduceFolder<'r, T, G> {
+    ghost ready = { λ s. G.IsAlwaysCallable s.reduce_op.now };
+
+    ghost takes = { λ _ _. Unit {0} };
+
+    ghost gives = { λ s xs out. OnlyOk (λ r. Chain (λ a x b. G.post s.reduce_op.now a x b) s.item xs r) out };
+
+    fn consume(self, _alloc: Global, item: T) -> Result<Self, Fault> {
+        let value = (self.reduce_op)(self.item, item);
+        Ok(ReduceFolder {
+            item: value,
+            reduce_op: self.reduce_op,
+        })
+    }
+
+    fn consume_iter<J: Iterator<Item = T>>(
+        self,
+        _alloc: Global,
+        iter: J,
+    ) -> Result<Self, Fault> {
+        let value = fold_from(self.item, iter, self.reduce_op);
+        Ok(ReduceFolder {
+            item: value,
+            reduce_op: self.reduce_op,
+        })
+    }
+
+    fn complete(self, _alloc: Global) -> Result<T, Trouble<Infallible>> {
+        Ok(self.item)
+    }
+
+    fn full(&self) -> bool {
+        false
+    }
+}
+
+impl<'r, T: Send + Drop, I: Fn() -> T + Sync, G: Fn(T, T) -> T + Sync> Consumer<T>
+    for ReduceConsumer<'r, I, G> {
+    type Result = T;
+
+    type Error = Infallible;
+
+    type Folder = ReduceFolder<'r, T, G>;
+
+    type Reducer = ReduceConsumer<'r, I, G>;
+
+    ghost ready = { λ s. I.IsAlwaysCallable s.identity.now × G.IsAlwaysCallable s.reduce_op.now };
+
+    ghost takes = { λ _ _. Unit {0} };
+
+    ghost fits = { λ _ _. Unit {0} };
+
+    ghost leaf_gives = { λ s xs out. OnlyOk (λ r. FoldSegment (I.post s.identity.now) (λ a x b. G.post s.reduce_op.now a x b) xs r) out };
+
+    ghost node_gives = { λ s left right out. OnlyOk (λ all. G.post s.reduce_op.now left right all) out };
+
+    fn split_at(self, _index: usize) -> Result<(Self, Self, Self), Fault> {
+        let right = ReduceConsumer {
+            identity: self.identity,
+            reduce_op: self.reduce_op,
+        };
+        let reducer = ReduceConsumer {
+            identity: self.identity,
+            reduce_op: self.reduce_op,
+        };
+        Ok((self, right, reducer))
+    }
+
+    fn into_folder(self, _alloc: Global) -> Result<ReduceFolder<'r, T, G>, Fault> {
+        Ok(ReduceFolder {
+            item: (self.identity)(),
+            reduce_op: self.reduce_op,
+        })
+    }
+}

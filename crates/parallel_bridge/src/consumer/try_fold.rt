@@ -1,0 +1,170 @@
+//! The value that the items of a segment are folded to by a step that may fail.
+ghost use Rattle.std.specs.Prelude.{◌∷◌, ◌++◌, [], Err, List, Ok, Result};
+ghost use Rattle.std.specs.Iterator.{Drains, IsFinite};
+ghost use Rattle.parallel_bridge.specs.Onto.{TryContinues};
+ghost use Rattle.parallel_bridge.specs.Sources.{GivesSome};
+ghost use Rattle.parallel_bridge.specs.Tries.{TryFoldSegment};
+
+use crate::plumbing::{Consumer, Folder};
+use parallel_fault::{Fault, Trouble};
+use std::alloc::Global;
+
+/// Folds the items of each segment from an identity by a step that may fail, and hands the outcome to
+/// another consumer.
+#[derive(Drop)]
+pub struct TryFoldConsumer<'c, C, I, F> {
+    /// What takes the outcome of a segment.
+    pub base: C,
+    /// The closure that answers a value to fold from.
+    pub identity: &'c I,
+    /// The closure that takes the folded value one item further, or fails.
+    pub fold_op: &'c F,
+}
+
+/// The value that the items of a segment are folded to so far, or the first error.
+#[derive(Drop)]
+pub struct TryFoldFolder<'c, C, T, E, F> {
+    /// What takes the outcome of the segment.
+    pub base: C,
+    /// The value so far, or the first error.
+    pub control: Result<T, E>,
+    /// The closure that takes the value one item further, or fails.
+    pub fold_op: &'c F,
+}
+
+impl<
+    'c,
+    X: Drop,
+    T: Drop,
+    E: Drop,
+    R,
+    D,
+    C: Folder<Result<T, E>, R, D>,
+    F: Fn(T, X) -> Result<T, E>,
+> Folder<X, R, D> for TryFoldFolder<'c, C, T, E, F> {
+    ghost ready = { λ s. C.ready s.base × ((v : Result T E) → C.takes s.base v) × F.IsAlwaysCallable s.fold_op.now };
+
+    ghost takes = { λ _ _. Unit {0} };
+
+    ghost gives = { λ s xs out. (v : Result T E) × TryContinues (λ a x o. F.post s.fold_op.now a x o) s.control xs v × C.gives s.base (v ∷ []) out };
+
+    fn consume(self, _alloc: Global, item: X) -> Result<Self, Fault> {
+        let control = try_fold_step(self.control, item, self.fold_op);
+        Ok(TryFoldFolder {
+            base: self.base,
+            control,
+            fold_op: self.fold_op,
+        })
+    }
+
+    fn consume_iter<J: Iterator<Item = X>>(
+        self,
+        _alloc: Global,
+        iter: J,
+    ) -> Result<Self, Fault> {
+        let control = try_fold_onward(self.control, iter, self.fold_op);
+        Ok(TryFoldFolder {
+            base: self.base,
+            control,
+            fold_op: self.fold_op,
+        })
+    }
+
+    fn complete(self, alloc: Global) -> Result<R, Trouble<D>> {
+        let base = self.base.consume(alloc, self.control)?;
+        base.complete(alloc)
+    }
+
+    fn full(&self) -> bool {
+        self.control.is_err()
+    }
+}
+
+impl<
+    'c,
+    X: Drop,
+    T: Send + Drop,
+    E: Send + Drop,
+    C: Consumer<Result<T, E>>,
+    I: Fn() -> T + Sync,
+    F: Fn(T, X) -> Result<T, E> + Sync,
+> Consumer<X> for TryFoldConsumer<'c, C, I, F> {
+    type Result = C::Result;
+
+    type Error = C::Error;
+
+    type Folder = TryFoldFolder<'c, C::Folder, T, E, F>;
+
+    type Reducer = C::Reducer;
+
+    ghost ready = { λ s. C.ready s.base × ((v : Result T E) → C.takes s.base v) × I.IsAlwaysCallable s.identity.now × F.IsAlwaysCallable s.fold_op.now };
+
+    ghost takes = { λ _ _. Unit {0} };
+
+    ghost fits = { λ s n. C.fits s.base n };
+
+    ghost leaf_gives = { λ s xs out. (v : Result T E) × TryFoldSegment (I.post s.identity.now) (λ a x o. F.post s.fold_op.now a x o) xs v × C.leaf_gives s.base (v ∷ []) out };
+
+    ghost node_gives = { λ s a b out. C.node_gives s.base a b out };
+
+    fn split_at(self, index: usize) -> Result<(Self, Self, C::Reducer), Fault> {
+        let (left, right, reducer) = self.base.split_at(index)?;
+        let left = TryFoldConsumer {
+            base: left,
+            identity: self.identity,
+            fold_op: self.fold_op,
+        };
+        let right = TryFoldConsumer {
+            base: right,
+            identity: self.identity,
+            fold_op: self.fold_op,
+        };
+        Ok((left, right, reducer))
+    }
+
+    fn into_folder(self, alloc: Global) -> Result<TryFoldFolder<'c, C::Folder, T, E, F>, Fault> {
+        let base = self.base.into_folder(alloc)?;
+        Ok(TryFoldFolder {
+            base,
+            control: Ok((self.identity)()),
+            fold_op: self.fold_op,
+        })
+    }
+}
+
+/// The items that come folded from a value, in their order, up to the first step that fails; or the
+/// error that is there, which stands. Items behind an error are passed over.
+pub(crate) fn try_fold_onward<I: Iterator, R: Drop, E: Drop, F: Fn(R, I::Item) -> Result<R, E>>(
+    control: Result<R, E>,
+    iter: I,
+    fold_op: &F,
+) -> Result<R, E>
+where
+    I::Item: Drop,
+    requires can { I.can_next iter }
+    requires ends { IsFinite (I.remaining iter) }
+    requires accepts { F.IsAlwaysCallable fold_op.now }
+    ensures { GivesSome (Drains I.next_gives) iter
+        (λ xs. TryContinues (λ a x out. F.post fold_op.now a x out) control xs result) }
+{
+    let mut control = control;
+    for item in iter {
+        control = try_fold_step(control, item, fold_op);
+    }
+    control
+}
+
+/// The same for one item.
+pub(crate) fn try_fold_step<X: Drop, R: Drop, E: Drop, F: Fn(R, X) -> Result<R, E>>(
+    control: Result<R, E>,
+    item: X,
+    fold_op: &F,
+) -> Result<R, E>
+    requires { F.IsAlwaysCallable fold_op.now }
+    ensures { TryContinues (λ a x out. F.post fold_op.now a x out) control (item ∷ []) result }
+{
+    match control {
+        Ok(value) => fold_op(value, item),
+        Err(error) => Err(error),
+    }
+}

@@ -1,0 +1,121 @@
+//! What a list is handed to: the traits, with the laws by which one bridge drives them all.
+ghost use Rattle.std.specs.Prelude.{◌≡◌, ◌++◌, ◌∷◌, ◌-◌, ◌≤◌, [], false, ℕ, List, Result, IfOk, IsTrue};
+ghost use Rattle.std.specs.Iterator.{Drains, HoldsAlong, IsFinite};
+ghost use Rattle.std.specs.List.{All};
+ghost use Rattle.parallel_fault.specs.Trouble.{IsMemoryOnErr};
+ghost use Rattle.parallel_bridge.specs.Outcomes.{UnlessRefused};
+
+use parallel_fault::{Fault, Trouble};
+use std::alloc::Global;
+
+/// Puts the answers of two neighbouring parts of a list together, left before right. `E` is the
+/// error of a closure that it may answer.
+pub trait Reducer<R, E>: Drop {
+    /// The answers that may be put together.
+    ghost can_reduce: { Self → R → R → Type 0 };
+    /// What the answers of a left and a right part may be put together to.
+    ghost reduce_gives: { Self → R → R → Result R E → Type 0 };
+
+    /// Puts two answers together.
+    fn reduce(self, left: R, right: R) -> Result<R, Trouble<E>>
+        requires { can_reduce self left right }
+        ensures { UnlessRefused result (λ out. reduce_gives self left right out) };
+}
+
+/// Takes the items of one segment in turn, and then answers. `R` is its answer, `E` the error of a
+/// closure that it may answer instead.
+pub trait Folder<Item: Drop, R, E>: Sized + Drop {
+    /// A folder that may work.
+    ghost ready: { Self → Type 0 };
+    /// An item that it may take.
+    ghost takes: { Self → Item → Type 0 };
+    /// What it may answer after it took so many items more.
+    ghost gives: { Self → List Item → Result R E → Type 0 };
+
+    /// The folder with one item taken.
+    fn consume(self, alloc: Global, item: Item) -> Result<Self, Fault>
+        requires ready { ready self }
+        requires item { takes self item }
+        ensures ready { IfOk result (λ f. ready f) }
+        ensures takes { IfOk result (λ f. (x : Item) → takes self x → takes f x) }
+        ensures gives { IfOk result (λ f. (xs : List Item) (out : Result R E) → gives f xs out → gives self (item ∷ xs) out) }
+        ensures fault { IsMemoryOnErr result };
+
+    /// The folder with the items of an iterator taken, in order, up to its end.
+    fn consume_iter<I: Iterator<Item = Item>>(self, alloc: Global, iter: I) -> Result<Self, Fault>
+        requires ready { ready self }
+        requires can { I.can_next iter }
+        requires ends { IsFinite (I.remaining iter) }
+        requires items { HoldsAlong I.next_gives iter (All (takes self)) }
+        ensures ready { IfOk result (λ f. ready f) }
+        ensures takes { IfOk result (λ f. (x : Item) → takes self x → takes f x) }
+        ensures gives { IfOk result (λ f. (xs : List Item) × Drains I.next_gives iter xs
+            × ((more : List Item) (out : Result R E) → gives f more out → gives self (xs ++ more) out)) }
+        ensures fault { IsMemoryOnErr result };
+
+    /// The answer, or the error that a closure answered for one of the items.
+    fn complete(self, alloc: Global) -> Result<R, Trouble<E>>
+        requires { ready self }
+        ensures { UnlessRefused result (λ out. gives self [] out) };
+
+    /// Whether further items make no difference, since an error or a `None` was met.
+    fn full(&self) -> bool
+        ensures { IsTrue result → (xs ys : List Item) (out : Result R E) → gives self.now xs out → gives self.now ys out };
+}
+
+/// Takes the items of a list, which may be split first, each part for a consumer of its own.
+pub trait Consumer<Item: Drop>: Sized + Drop {
+    /// What a part of the list is answered by.
+    type Result: Send + Drop;
+
+    /// The error of a closure that may be answered instead.
+    type Error: Send + Drop;
+
+    /// What takes the items of a segment.
+    type Folder: Folder<Item, Self::Result, Self::Error> + Send;
+
+    /// What puts the answers of two parts together.
+    type Reducer: Reducer<Self::Result, Self::Error> + Send;
+
+    /// A consumer that may work.
+    ghost ready: { Self → Type 0 };
+    /// An item that may be handed over.
+    ghost takes: { Self → Item → Type 0 };
+    /// Whether it may be handed a list of so many items, for a consumer that knows its place.
+    ghost fits: { Self → ℕ → Type 0 };
+    /// What the items of a list that is not split may give.
+    ghost leaf_gives: { Self → List Item → Result Self.Result Self.Error → Type 0 };
+    /// What the answers of a left and a right part may give.
+    ghost node_gives: { Self → Self.Result → Self.Result → Result Self.Result Self.Error → Type 0 };
+
+    /// Two consumers, for the first `index` items and for the rest, and the reducer of their answers.
+    fn split_at(self, index: usize) -> Result<(Self, Self, Self::Reducer), Fault>
+        requires { ready self }
+        ensures ready { IfOk result (λ p. ready p.0 × ready p.1) }
+        ensures takes { IfOk result (λ p. (x : Item) → takes self x → takes p.0 x × takes p.1 x) }
+        ensures fits { IfOk result (λ p. (n : ℕ) → index ≤ n → fits self n
+            → fits p.0 index × fits p.1 (n - index)) }
+        ensures reducer { IfOk result (λ p. (a b : Self.Result) → Self.Reducer.can_reduce p.2 a b) }
+        ensures left_leaf { IfOk result (λ p. (xs : List Item) (out : Result Self.Result Self.Error) → leaf_gives p.0 xs out → leaf_gives self xs out) }
+        ensures right_leaf { IfOk result (λ p. (xs : List Item) (out : Result Self.Result Self.Error) → leaf_gives p.1 xs out → leaf_gives self xs out) }
+        ensures left_node { IfOk result (λ p. (a b : Self.Result) (out : Result Self.Result Self.Error) → node_gives p.0 a b out → node_gives self a b out) }
+        ensures right_node { IfOk result (λ p. (a b : Self.Result) (out : Result Self.Result Self.Error) → node_gives p.1 a b out → node_gives self a b out) }
+        ensures node { IfOk result (λ p. (a b : Self.Result) (out : Result Self.Result Self.Error) → Self.Reducer.reduce_gives p.2 a b out → node_gives self a b out) }
+        ensures fault { IsMemoryOnErr result };
+
+    /// What takes the items of a list that is not split.
+    fn into_folder(self, alloc: Global) -> Result<Self::Folder, Fault>
+        requires { ready self }
+        ensures ready { IfOk result (λ f. Self.Folder.ready f) }
+        ensures takes { IfOk result (λ f. (x : Item) → takes self x → Self.Folder.takes f x) }
+        ensures gives { IfOk result (λ f. (xs : List Item) (out : Result Self.Result Self.Error) → Self.Folder.gives f xs out → leaf_gives self xs out) }
+        ensures fault { IsMemoryOnErr result };
+
+    /// Whether no part of the list matters any more. No consumer knows of the others' parts, so none
+    /// is ever full.
+    fn full(&self) -> bool
+        ensures { result ≡ false }
+    {
+        false
+    }
+}

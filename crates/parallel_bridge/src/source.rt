@@ -1,0 +1,134 @@
+//! Where the items of a list call come from.
+ghost use Rattle.std.specs.Prelude.{◌≡◌, List, IfOk};
+ghost use Rattle.std.specs.Iterator.{Drains, HoldsAlong, IsFinite};
+ghost use Rattle.std.specs.List.{All, Contains};
+ghost use Rattle.parallel_fault.specs.Trouble.{IsMemoryOnErr};
+ghost use Rattle.parallel_bridge.specs.Sources.{MayCome};
+
+use crate::producer::{DrainProducer, Producer};
+use parallel_fault::Fault;
+use std::alloc::Global;
+
+/// Where the items of a list call come from: a list that is one already, or any iterator that ends.
+///
+/// The parameter names the kind of source. It is always inferred, and there so that every iterator, every
+/// producer and every vector can be a source: a call writes `fold(.., items, ..)` for a `&[T]`, a
+/// `Vec<T>`, a `0..n`, a chain or a producer of the user's own.
+pub trait Source<M>: Sized {
+    /// What comes.
+    type Item: Send + Drop;
+
+    /// The list, split among threads.
+    type Parts: Producer<Item = Self::Item>;
+
+    /// What goes over the items as they come.
+    type Iter: Iterator<Item = Self::Item>;
+
+    /// Whether the items may be asked for. It is nothing for a list, and for an iterator that it may be
+    /// called and ends.
+    ghost can: { Self → Type 0 };
+
+    /// Whether a list may come.
+    ghost gives: { Self → List Self.Item → Type 0 };
+
+    /// Whether an item may come.
+    ghost may: { Self → Self.Item → Type 0 };
+
+    /// An iterator over the items, in order; nothing is gathered.
+    fn into_items(self) -> Self::Iter
+        requires { can self }
+        ensures can { Self.Iter.can_next result }
+        ensures ends { IsFinite (Self.Iter.remaining result) }
+        ensures gives { (xs : List Self.Item) → Drains Self.Iter.next_gives result xs → gives self xs }
+        ensures may { HoldsAlong Self.Iter.next_gives result (All (may self)) };
+
+    /// The list, to be split. What is no list yet is gathered.
+    ///
+    /// # Errors
+    ///
+    /// `Fault::Memory` alone; the items are then gone.
+    fn into_parts(self, alloc: Global) -> Result<Self::Parts, Fault>
+        requires { can self }
+        ensures gives { IfOk result (λ parts. (xs : List Self.Item) → Self.Parts.gives parts xs → gives self xs) }
+        ensures may { IfOk result (λ parts. (x : Self.Item) → Self.Parts.may parts x → may self x) }
+        ensures fault { IsMemoryOnErr result };
+}
+
+/// The kind of a source that is a list already.
+pub struct ByParts;
+
+/// The kind of a source that is a vector.
+pub struct ByVec;
+
+/// The kind of a source that is an iterator.
+pub struct ByIter;
+
+impl<P: Producer> Source<ByParts> for P {
+    type Item = P::Item;
+
+    type Parts = P;
+
+    type Iter = P::Iter;
+
+    ghost can = { λ _. Unit {0} };
+
+    ghost gives = { λ source xs. P.gives source xs };
+
+    ghost may = { λ source x. P.may source x };
+
+    fn into_items(self) -> P::Iter {
+        <P as Producer>::into_items(self)
+    }
+
+    fn into_parts(self, _alloc: Global) -> Result<P, Fault> {
+        Ok(self)
+    }
+}
+
+impl<T: Send + Drop> Source<ByVec> for Vec<T> {
+    type Item = T;
+
+    type Parts = DrainProducer<T>;
+
+    type Iter = std::vec::IntoIter<T>;
+
+    ghost can = { λ _. Unit {0} };
+
+    ghost gives = { λ source xs. xs ≡ source.items };
+
+    ghost may = { λ source x. Contains source.items x };
+
+    fn into_items(self) -> std::vec::IntoIter<T> {
+        self.into_iter()
+    }
+
+    fn into_parts(self, _alloc: Global) -> Result<DrainProducer<T>, Fault> {
+        Ok(DrainProducer::from_vec(self))
+    }
+}
+
+impl<I: Iterator> Source<ByIter> for I
+where
+    I::Item: Send + Drop,
+{
+    type Item = I::Item;
+
+    type Parts = DrainProducer<I::Item>;
+
+    type Iter = I;
+
+    ghost can = { λ source. I.can_next source × IsFinite (I.remaining source) };
+
+    ghost gives = { λ source xs. Drains I.next_gives source xs };
+
+    ghost may = { λ source x. MayCome I.next_gives source x };
+
+    fn into_items(self) -> I {
+        self
+    }
+
+    fn into_parts(self, alloc: Global) -> Result<DrainProducer<I::Item>, Fault> {
+        let items = self.collect(alloc)?;
+        Ok(DrainProducer { items })
+    }
+}
