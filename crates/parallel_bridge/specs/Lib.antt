@@ -8,3 +8,4 @@ pub mod Parts
 pub mod Onto
 pub mod Producers
 pub mod Sources
+pub mod Ways

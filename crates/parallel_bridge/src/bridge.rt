@@ -40,7 +40,7 @@ pub fn bridge<Rt: Threads + Sync, P: Producer, C: Consumer<P::Item> + Send>(
         (cutdepth (non_zero_usize_get threads)) result }
     ensures by_threads { (xs : List P.Item)
         → length (leaf_lengths (Shape (cutdepth (non_zero_usize_get threads)) xs))
-            ≤ 2 * non_zero_usize_get threads }
+        ≤ 2 * non_zero_usize_get threads }
     ensures by_items { (xs : List P.Item) → 0 < length xs
         → length (leaf_lengths (Shape (cutdepth (non_zero_usize_get threads)) xs)) ≤ length xs }
 {
@@ -87,12 +87,12 @@ impl<P: Producer, C: Consumer<P::Item>> Task<P, C> {
         ensures node { IfOk result (λ p. (depth : ℕ)
             (first second all : Result C.Result (Trouble C.Error)) → 0 < depth
             → Driven P.gives p.0.parts (C.leaf_gives p.0.consumer) (C.node_gives p.0.consumer)
-                (depth - 1) first
+            (depth - 1) first
             → Driven P.gives p.1.parts (C.leaf_gives p.1.consumer) (C.node_gives p.1.consumer)
-                (depth - 1) second
+            (depth - 1) second
             → PutTogether (C.Reducer.reduce_gives p.2) first second all
             → Driven P.gives self.parts (C.leaf_gives self.consumer) (C.node_gives self.consumer)
-                depth all) }
+            depth all) }
         ensures fault { IsMemoryOnErr result }
     {
         let len = self.parts.len();
@@ -173,7 +173,10 @@ fn drive_both<Rt: Threads + Sync, P: Producer, C: Consumer<P::Item> + Send>(
     threads: usize,
     left: Task<P, C>,
     right: Task<P, C>,
-) -> (Result<C::Result, Trouble<C::Error>>, Result<C::Result, Trouble<C::Error>>)
+) -> (
+    Result<C::Result, Trouble<C::Error>>,
+    Result<C::Result, Trouble<C::Error>>,
+)
     requires left { Suits C.ready C.fits C.takes P.count P.may left.parts left.consumer }
     requires right { Suits C.ready C.fits C.takes P.count P.may right.parts right.consumer }
     ensures first { Driven P.gives left.parts (C.leaf_gives left.consumer)
@@ -221,7 +224,10 @@ fn drive_apart<Rt: Threads + Sync, P: Producer, C: Consumer<P::Item> + Send>(
     threads: usize,
     left: Task<P, C>,
     right: Task<P, C>,
-) -> (Result<C::Result, Trouble<C::Error>>, Result<C::Result, Trouble<C::Error>>)
+) -> (
+    Result<C::Result, Trouble<C::Error>>,
+    Result<C::Result, Trouble<C::Error>>,
+)
     requires enough { 2 ≤ threads }
     requires left { Suits C.ready C.fits C.takes P.count P.may left.parts left.consumer }
     requires right { Suits C.ready C.fits C.takes P.count P.may right.parts right.consumer }
@@ -263,8 +269,14 @@ fn drive_pairs<Rt: Threads + Sync, P: Producer, C: Consumer<P::Item> + Send>(
     left_back: Task<P, C>,
     right_front: Task<P, C>,
 ) -> (
-    (Result<C::Result, Trouble<C::Error>>, Result<C::Result, Trouble<C::Error>>),
-    (Result<C::Result, Trouble<C::Error>>, Result<C::Result, Trouble<C::Error>>),
+    (
+        Result<C::Result, Trouble<C::Error>>,
+        Result<C::Result, Trouble<C::Error>>,
+    ),
+    (
+        Result<C::Result, Trouble<C::Error>>,
+        Result<C::Result, Trouble<C::Error>>,
+    ),
 )
     requires enough { 2 ≤ threads }
     requires left_front { Suits C.ready C.fits C.takes P.count P.may left_front.parts left_front.consumer }
@@ -284,7 +296,10 @@ fn drive_pairs<Rt: Threads + Sync, P: Producer, C: Consumer<P::Item> + Send>(
     let own = threads - others;
     join(
         rt,
-        move || -> (Result<C::Result, Trouble<C::Error>>, Result<C::Result, Trouble<C::Error>>)
+        move || -> (
+            Result<C::Result, Trouble<C::Error>>,
+            Result<C::Result, Trouble<C::Error>>,
+        )
             requires { IsSync Rt.row × IsSend P.row × IsSend P.Item.row × IsSend P.Iter.row × IsSend C.row
                 × IsSend C.Result.row × IsSend C.Error.row × IsSend C.Folder.row × IsSend C.Reducer.row
                 × Suits C.ready C.fits C.takes P.count P.may left_front.parts left_front.consumer
@@ -294,7 +309,10 @@ fn drive_pairs<Rt: Threads + Sync, P: Producer, C: Consumer<P::Item> + Send>(
             ensures second { Driven P.gives right_back.parts (C.leaf_gives right_back.consumer)
                 (C.node_gives right_back.consumer) depth result.1 }
         { drive_both(rt, alloc, depth, others, left_front, right_back) },
-        move || -> (Result<C::Result, Trouble<C::Error>>, Result<C::Result, Trouble<C::Error>>)
+        move || -> (
+            Result<C::Result, Trouble<C::Error>>,
+            Result<C::Result, Trouble<C::Error>>,
+        )
             requires { IsSync Rt.row × IsSend P.row × IsSend P.Item.row × IsSend P.Iter.row × IsSend C.row
                 × IsSend C.Result.row × IsSend C.Error.row × IsSend C.Folder.row × IsSend C.Reducer.row
                 × Suits C.ready C.fits C.takes P.count P.may left_back.parts left_back.consumer

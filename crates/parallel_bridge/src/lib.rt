@@ -4,6 +4,7 @@
 pub mod bridge;
 pub mod consumer;
 pub mod law;
+pub mod list;
 pub mod plumbing;
 pub mod producer;
 pub mod segments;

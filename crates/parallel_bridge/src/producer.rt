@@ -213,7 +213,10 @@ impl<T: Send + Drop> Producer for DrainProducer<T> {
     fn split_at(self, _alloc: Global, index: usize) -> Result<(Self, Self), Fault> {
         let mut front = self.items;
         let back = front.split_off(index)?;
-        Ok((DrainProducer { items: front }, DrainProducer { items: back }))
+        Ok((
+            DrainProducer { items: front },
+            DrainProducer { items: back },
+        ))
     }
 
     fn into_items(self) -> std::vec::IntoIter<T> {

@@ -48,11 +48,7 @@ impl<T: Drop, E> Folder<T, Vec<T>, E> for CollectResult<T> {
         Ok(CollectResult { items })
     }
 
-    fn consume_iter<I: Iterator<Item = T>>(
-        self,
-        alloc: Global,
-        iter: I,
-    ) -> Result<Self, Fault> {
+    fn consume_iter<I: Iterator<Item = T>>(self, alloc: Global, iter: I) -> Result<Self, Fault> {
         let mut more: Vec<T> = iter.collect(alloc)?;
         if self.items.is_empty() {
             return Ok(CollectResult { items: more });
@@ -100,4 +96,3 @@ impl<T: Send + Drop> Consumer<T> for CollectConsumer {
         })
     }
 }
-

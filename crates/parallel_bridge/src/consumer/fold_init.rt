@@ -57,11 +57,7 @@ impl<'c, X: Drop, S: Drop, U: Drop, R, E, C: Folder<U, R, E>, F: Fn(U, &mut S, X
         })
     }
 
-    fn consume_iter<J: Iterator<Item = X>>(
-        self,
-        _alloc: Global,
-        iter: J,
-    ) -> Result<Self, Fault> {
+    fn consume_iter<J: Iterator<Item = X>>(self, _alloc: Global, iter: J) -> Result<Self, Fault> {
         let mut state = self.state;
         let value = fold_init_from(self.item, &mut state, iter, self.fold_op);
         Ok(FoldInitFolder {
@@ -153,7 +149,7 @@ pub(crate) fn fold_init_from<I: Iterator, S: Drop, R: Drop, F: Fn(R, &mut S, I::
     ensures { GivesSome (Drains I.next_gives) iter (λ xs. (more : List I.Item) (r : R)
         → StateChain (FoldStep (λ a p x b q. F.post fold_op.now a p x b q)) state.new result more r
         → StateChain (FoldStep (λ a p x b q. F.post fold_op.now a p x b q)) state.old start
-            (xs ++ more) r) }
+        (xs ++ more) r) }
 {
     let mut value = start;
     for item in iter {

@@ -55,11 +55,7 @@ impl<T: Drop, E> Folder<T, LinkedList<Vec<T>>, E> for ListVecFolder<T> {
         Ok(ListVecFolder { vec })
     }
 
-    fn consume_iter<I: Iterator<Item = T>>(
-        self,
-        alloc: Global,
-        iter: I,
-    ) -> Result<Self, Fault> {
+    fn consume_iter<I: Iterator<Item = T>>(self, alloc: Global, iter: I) -> Result<Self, Fault> {
         let mut more: Vec<T> = iter.collect(alloc)?;
         if self.vec.is_empty() {
             return Ok(ListVecFolder { vec: more });

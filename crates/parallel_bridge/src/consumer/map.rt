@@ -41,11 +41,7 @@ impl<'f, X: Drop, T: Drop, R, E, C: Folder<T, R, E>, F: Fn(X) -> T> Folder<X, R,
         })
     }
 
-    fn consume_iter<I: Iterator<Item = X>>(
-        self,
-        alloc: Global,
-        iter: I,
-    ) -> Result<Self, Fault> {
+    fn consume_iter<I: Iterator<Item = X>>(self, alloc: Global, iter: I) -> Result<Self, Fault> {
         let map_op = self.map_op;
         let answer = |item: X| -> T
             requires { F.pre map_op.now item }

@@ -53,11 +53,7 @@ impl<'f, X: Drop, S: Drop, T: Drop, R, E, C: Folder<T, R, E>, F: Fn(&mut S, X) -
         })
     }
 
-    fn consume_iter<I: Iterator<Item = X>>(
-        self,
-        alloc: Global,
-        iter: I,
-    ) -> Result<Self, Fault> {
+    fn consume_iter<I: Iterator<Item = X>>(self, alloc: Global, iter: I) -> Result<Self, Fault> {
         let mut state = self.item;
         let answers = map_init_from(alloc, &mut state, iter, self.map_op)?;
         let base = self.base.consume_iter(alloc, answers.into_iter())?;
@@ -144,7 +140,7 @@ pub(crate) fn map_init_from<I: Iterator, S: Drop, T: Drop, F: Fn(&mut S, I::Item
     ensures gives { IfOk result (λ ys. GivesSome (Drains I.next_gives) iter (λ xs. (more : List I.Item)
         (zs : List T) → StatesFrom (MapStep (λ p x y q. F.post map_op.now p x y q)) state.new more zs
         → StatesFrom (MapStep (λ p x y q. F.post map_op.now p x y q)) state.old (xs ++ more)
-            (ys.items ++ zs))) }
+        (ys.items ++ zs))) }
     ensures fault { IsMemoryOnErr result }
 {
     let mut answers = Vec::with_capacity(alloc, iter.size_hint().0)?;

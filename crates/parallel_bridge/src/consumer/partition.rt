@@ -75,11 +75,7 @@ impl<'f, X: Drop, U: Drop, K: Drop, F: Fn(X) -> (K, Option<U>)> Folder<
         })
     }
 
-    fn consume_iter<I: Iterator<Item = X>>(
-        self,
-        _alloc: Global,
-        iter: I,
-    ) -> Result<Self, Fault> {
+    fn consume_iter<I: Iterator<Item = X>>(self, _alloc: Global, iter: I) -> Result<Self, Fault> {
         let (values, keys) = partition_onto(self.values, self.keys, iter, self.map_op)?;
         Ok(PartitionFolder {
             values,

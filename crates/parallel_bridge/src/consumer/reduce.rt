@@ -52,11 +52,7 @@ impl<'r, T: Drop, G: Fn(T, T) -> T> Folder<T, T, Infallible> for ReduceFolder<'r
         })
     }
 
-    fn consume_iter<J: Iterator<Item = T>>(
-        self,
-        _alloc: Global,
-        iter: J,
-    ) -> Result<Self, Fault> {
+    fn consume_iter<J: Iterator<Item = T>>(self, _alloc: Global, iter: J) -> Result<Self, Fault> {
         let value = fold_from(self.item, iter, self.reduce_op);
         Ok(ReduceFolder {
             item: value,

@@ -57,11 +57,7 @@ impl<
         })
     }
 
-    fn consume_iter<J: Iterator<Item = X>>(
-        self,
-        _alloc: Global,
-        iter: J,
-    ) -> Result<Self, Fault> {
+    fn consume_iter<J: Iterator<Item = X>>(self, _alloc: Global, iter: J) -> Result<Self, Fault> {
         let control = try_fold_onward(self.control, iter, self.fold_op);
         Ok(TryFoldFolder {
             base: self.base,

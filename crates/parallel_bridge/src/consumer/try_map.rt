@@ -46,11 +46,7 @@ impl<'f, X: Drop, T: Drop, E: Drop, F: Fn(X) -> Result<T, E>> Folder<X, Vec<T>, 
         })
     }
 
-    fn consume_iter<I: Iterator<Item = X>>(
-        self,
-        _alloc: Global,
-        iter: I,
-    ) -> Result<Self, Fault> {
+    fn consume_iter<I: Iterator<Item = X>>(self, _alloc: Global, iter: I) -> Result<Self, Fault> {
         let control = try_map_onward(self.control, iter, self.map_op)?;
         Ok(TryMapFolder {
             control,

@@ -16,9 +16,12 @@ returns-clause-gives g c =
     let allowed = λ (x : g.row.X.Denot) (y : g.row.T.Denot). g.F.Fn.post c.args.self.map_op.now (x, tt) y in
     let handed = c.in_ok-base.ensures.gives in
     let u = handed.1.0 in
-    let w = mapped_from g.I.Iterator.next_gives (map_steps g.I.Iterator.next_gives _) _ c.args.iter c.map.result handed.0 c.map.ensures.closure c.map.ensures.source (handed.1.1.0, handed.1.1.1, λ _. (u, handed.1.1.2)) (λ v x y. g.F.Fn.post v.0.now (x, tt) y) (λ s t y k. (k.0, k.1, search rules, search rules)) (λ s t k. k.0) in
-    (w.0, w.1, λ more out h. (
+    let w = mapped_from g.I.Iterator.next_gives (map_steps g.I.Iterator.next_gives _) _ c.args.iter c.map.result handed.0 c.map.ensures.closure c.map.ensures.source (handed.1.1.0, handed.1.1.1, λ _. (u, handed.1.1.2)) (λ v x y. g.F.Fn.post v.0.now (x, tt) y) (λ s t y k. (k.0, k.1, search rules, search rules)) (λ s t k. k.0) in (
+      w.0,
+      w.1,
+      λ more out h. (
         handed.0 ++ h.0,
         MapOf-append allowed w.0 more handed.0 h.0 w.2 h.1,
         handed.2 h.0 out h.2,
-    ))
+      ),
+    )

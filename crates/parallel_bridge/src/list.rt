@@ -1,0 +1,9 @@
+//! What a list call does with its list: a file for each call, with its forms over an iterator as it
+//! comes, in parallel, and at a pick.
+pub mod fold;
+pub mod fold_init;
+pub mod map;
+pub mod map_init;
+pub mod partition;
+pub mod try_fold;
+pub mod try_map;

@@ -1,0 +1,108 @@
+//! Folds.
+ghost use Rattle.std.specs.Prelude.{IfOk, List};
+ghost use Rattle.std.specs.Int.NonZero.{non_zero_usize_get};
+ghost use Rattle.std.specs.Iterator.{Drains, IsFinite};
+ghost use Rattle.parallel_fault.specs.Trouble.{IsMemoryOnErr};
+ghost use Rattle.parallel_bridge.specs.Lists.{FoldSegment};
+ghost use Rattle.parallel_bridge.specs.Shapes.{Along, Shape, cutdepth};
+ghost use Rattle.parallel_bridge.specs.Sources.{GivesSome};
+ghost use Rattle.parallel_bridge.specs.Ways.{FoldedAs};
+
+use crate::bridge::{bridge, unfailing};
+use crate::consumer::fold::{FoldConsumer, fold_from};
+use crate::consumer::reduce::ReduceConsumer;
+use crate::producer::Producer;
+use parallel_fault::Fault;
+use std::alloc::Global;
+use std::num::NonZeroUsize;
+use std::thread::Threads;
+
+/// The items that an iterator gives folded from an identity, as they come and in their order, on the
+/// caller's thread. Nothing is gathered and nothing is reduced, so it takes no memory.
+pub fn fold_iter<I: Iterator, R: Drop, ID: Fn() -> R, F: Fn(R, I::Item) -> R>(
+    iter: I,
+    identity: &ID,
+    fold_op: &F,
+) -> R
+    requires can { I.can_next iter }
+    requires ends { IsFinite (I.remaining iter) }
+    requires identity_accepts { ID.IsAlwaysCallable identity.now }
+    requires fold_accepts { F.IsAlwaysCallable fold_op.now }
+    ensures { GivesSome (Drains I.next_gives) iter
+        (λ xs. FoldSegment (ID.post identity.now) (λ a x b. F.post fold_op.now a x b) xs result) }
+{
+    fold_from(identity(), iter, fold_op)
+}
+
+/// The items of a list folded along its shape for that many threads: each segment from an identity of
+/// its own and reduced behind a further identity, and neighbours reduced left before right.
+pub fn fold_parallel<
+    Rt: Threads + Sync,
+    P: Producer,
+    R: Send + Drop,
+    ID: Fn() -> R + Send + Sync,
+    F: Fn(R, P::Item) -> R + Send + Sync,
+    G: Fn(R, R) -> R + Send + Sync,
+>(
+    rt: &Rt,
+    alloc: Global,
+    threads: NonZeroUsize,
+    parts: P,
+    identity: &ID,
+    fold_op: &F,
+    reduce_op: &G,
+) -> Result<R, Fault>
+    requires identity_accepts { ID.IsAlwaysCallable identity.now }
+    requires fold_accepts { F.IsAlwaysCallable fold_op.now }
+    requires reduce_accepts { G.IsAlwaysCallable reduce_op.now }
+    ensures along { IfOk result (λ r. GivesSome P.gives parts
+        (λ xs. Along (ID.post identity.now) (λ a x b. F.post fold_op.now a x b)
+        (λ a b c. G.post reduce_op.now a b c)
+        (Shape (cutdepth (non_zero_usize_get threads)) xs) r)) }
+    ensures fault { IsMemoryOnErr result }
+{
+    let base = ReduceConsumer {
+        identity,
+        reduce_op,
+    };
+    let folding = FoldConsumer {
+        base,
+        identity,
+        fold_op,
+    };
+    unfailing(bridge(rt, alloc, threads, parts, folding))
+}
+
+/// The items of a list folded: as they come and in one segment at pick 0, along the list's shape at
+/// any other.
+pub fn fold_at<
+    Rt: Threads + Sync,
+    P: Producer,
+    R: Send + Drop,
+    ID: Fn() -> R + Send + Sync,
+    F: Fn(R, P::Item) -> R + Send + Sync,
+    G: Fn(R, R) -> R + Send + Sync,
+>(
+    rt: &Rt,
+    alloc: Global,
+    threads: NonZeroUsize,
+    pick: usize,
+    parts: P,
+    identity: &ID,
+    fold_op: &F,
+    reduce_op: &G,
+) -> Result<R, Fault>
+    requires identity_accepts { ID.IsAlwaysCallable identity.now }
+    requires fold_accepts { F.IsAlwaysCallable fold_op.now }
+    requires reduce_accepts { G.IsAlwaysCallable reduce_op.now }
+    ensures folds { IfOk result (λ r. GivesSome P.gives parts
+        (λ xs. FoldedAs (ID.post identity.now) (λ a x b. F.post fold_op.now a x b)
+        (λ a b c. G.post reduce_op.now a b c) (cutdepth (non_zero_usize_get threads)) pick xs r)) }
+    ensures fault { IsMemoryOnErr result }
+{
+    if pick == 0 {
+        return Ok(fold_iter(parts.into_items(), identity, fold_op));
+    }
+    let answer = fold_parallel(rt, alloc, threads, parts, identity, fold_op, reduce_op)?;
+    Ok(answer)
+}

@@ -1,0 +1,128 @@
+//! Folds with a state at hand.
+ghost use Rattle.std.specs.Prelude.{IfOk, List};
+ghost use Rattle.std.specs.Int.NonZero.{non_zero_usize_get};
+ghost use Rattle.std.specs.Iterator.{Drains, IsFinite};
+ghost use Rattle.parallel_fault.specs.Trouble.{IsMemoryOnErr};
+ghost use Rattle.parallel_bridge.specs.Shapes.{AlongLeaves, Shape, cutdepth};
+ghost use Rattle.parallel_bridge.specs.Sources.{GivesSome};
+ghost use Rattle.parallel_bridge.specs.States.{FoldInitSegment, FoldStep};
+ghost use Rattle.parallel_bridge.specs.Ways.{FoldedInitAs};
+
+use crate::bridge::{bridge, unfailing};
+use crate::consumer::fold_init::{FoldInitConsumer, fold_init_from};
+use crate::consumer::reduce::ReduceConsumer;
+use crate::producer::Producer;
+use parallel_fault::Fault;
+use std::alloc::Global;
+use std::num::NonZeroUsize;
+use std::thread::Threads;
+
+/// The items that an iterator gives folded from an identity, as they come and in their order, with one
+/// state that `init` makes and that goes from item to item, on the caller's thread. It takes no memory.
+pub fn fold_init_iter<
+    I: Iterator,
+    S: Drop,
+    R: Drop,
+    N: Fn() -> S,
+    ID: Fn() -> R,
+    F: Fn(R, &mut S, I::Item) -> R,
+>(iter: I, init: &N, identity: &ID, fold_op: &F) -> R
+    requires can { I.can_next iter }
+    requires ends { IsFinite (I.remaining iter) }
+    requires init_accepts { N.IsAlwaysCallable init.now }
+    requires identity_accepts { ID.IsAlwaysCallable identity.now }
+    requires fold_accepts { F.IsAlwaysCallable fold_op.now }
+    ensures { GivesSome (Drains I.next_gives) iter
+        (λ xs. FoldInitSegment (N.post init.now) (ID.post identity.now)
+        (FoldStep (λ a p x b q. F.post fold_op.now a p x b q)) xs result) }
+{
+    let mut state = init();
+    fold_init_from(identity(), &mut state, iter, fold_op)
+}
+
+/// The items of a list folded along its shape for that many threads: each segment from a state and an
+/// identity of its own and reduced behind a further identity, and neighbours reduced left before right.
+pub fn fold_init_parallel<
+    Rt: Threads + Sync,
+    P: Producer,
+    S: Send + Drop,
+    R: Send + Drop,
+    N: Fn() -> S + Send + Sync,
+    ID: Fn() -> R + Send + Sync,
+    F: Fn(R, &mut S, P::Item) -> R + Send + Sync,
+    G: Fn(R, R) -> R + Send + Sync,
+>(
+    rt: &Rt,
+    alloc: Global,
+    threads: NonZeroUsize,
+    parts: P,
+    init: &N,
+    identity: &ID,
+    fold_op: &F,
+    reduce_op: &G,
+) -> Result<R, Fault>
+    requires init_accepts { N.IsAlwaysCallable init.now }
+    requires identity_accepts { ID.IsAlwaysCallable identity.now }
+    requires fold_accepts { F.IsAlwaysCallable fold_op.now }
+    requires reduce_accepts { G.IsAlwaysCallable reduce_op.now }
+    ensures along { IfOk result (λ r. GivesSome P.gives parts
+        (λ xs. AlongLeaves (ID.post identity.now)
+        (FoldInitSegment (N.post init.now) (ID.post identity.now)
+        (FoldStep (λ a p x b q. F.post fold_op.now a p x b q)))
+        (λ a b c. G.post reduce_op.now a b c)
+        (Shape (cutdepth (non_zero_usize_get threads)) xs) r)) }
+    ensures fault { IsMemoryOnErr result }
+{
+    let base = ReduceConsumer {
+        identity,
+        reduce_op,
+    };
+    let folding = FoldInitConsumer {
+        base,
+        init,
+        identity,
+        fold_op,
+    };
+    unfailing(bridge(rt, alloc, threads, parts, folding))
+}
+
+/// The items of a list folded with a state: as they come, in one segment and with one state at pick 0,
+/// along the list's shape at any other.
+pub fn fold_init_at<
+    Rt: Threads + Sync,
+    P: Producer,
+    S: Send + Drop,
+    R: Send + Drop,
+    N: Fn() -> S + Send + Sync,
+    ID: Fn() -> R + Send + Sync,
+    F: Fn(R, &mut S, P::Item) -> R + Send + Sync,
+    G: Fn(R, R) -> R + Send + Sync,
+>(
+    rt: &Rt,
+    alloc: Global,
+    threads: NonZeroUsize,
+    pick: usize,
+    parts: P,
+    init: &N,
+    identity: &ID,
+    fold_op: &F,
+    reduce_op: &G,
+) -> Result<R, Fault>
+    requires init_accepts { N.IsAlwaysCallable init.now }
+    requires identity_accepts { ID.IsAlwaysCallable identity.now }
+    requires fold_accepts { F.IsAlwaysCallable fold_op.now }
+    requires reduce_accepts { G.IsAlwaysCallable reduce_op.now }
+    ensures folds { IfOk result (λ r. GivesSome P.gives parts
+        (λ xs. FoldedInitAs (N.post init.now) (ID.post identity.now)
+        (FoldStep (λ a p x b q. F.post fold_op.now a p x b q))
+        (λ a b c. G.post reduce_op.now a b c) (cutdepth (non_zero_usize_get threads)) pick xs r)) }
+    ensures fault { IsMemoryOnErr result }
+{
+    if pick == 0 {
+        return Ok(fold_init_iter(parts.into_items(), init, identity, fold_op));
+    }
+    let answer = fold_init_parallel(
+        rt, alloc, threads, parts, init, identity, fold_op, reduce_op,
+    )?;
+    Ok(answer)
+}

@@ -1,0 +1,78 @@
+//! Maps.
+ghost use Rattle.std.specs.Prelude.{IfOk, List};
+ghost use Rattle.std.specs.Iterator.{Drains, HoldsAlong, IsFinite};
+ghost use Rattle.std.specs.List.{All};
+ghost use Rattle.parallel_fault.specs.Trouble.{IsMemoryOnErr};
+ghost use Rattle.parallel_bridge.specs.Lists.{MapOf};
+ghost use Rattle.parallel_bridge.specs.Sources.{GivesSome};
+
+use crate::bridge::{bridge, unfailing};
+use crate::consumer::collect::CollectConsumer;
+use crate::consumer::map::MapConsumer;
+use crate::producer::Producer;
+use parallel_fault::Fault;
+use std::alloc::Global;
+use std::num::NonZeroUsize;
+use std::thread::Threads;
+
+/// The answers of `map_op` for the items that an iterator gives, as they come and in their order, on
+/// the caller's thread. The answers alone are gathered, not the items.
+pub fn map_iter<I: Iterator, T: Drop, F: Fn(I::Item) -> T>(
+    alloc: Global,
+    iter: I,
+    map_op: &F,
+) -> Result<Vec<T>, Fault>
+    requires can { I.can_next iter }
+    requires ends { IsFinite (I.remaining iter) }
+    requires accepts { HoldsAlong I.next_gives iter (All (F.pre map_op.now)) }
+    ensures maps { IfOk result (λ ys. GivesSome (Drains I.next_gives) iter
+        (λ xs. MapOf (F.post map_op.now) xs ys.items)) }
+    ensures fault { IsMemoryOnErr result }
+{
+    let answer = |item: I::Item| -> T
+        requires { F.pre map_op.now item }
+        ensures { F.post map_op.entry.now item result }
+    { map_op(item) };
+    Ok(iter.map(answer).collect(alloc)?)
+}
+
+/// The answers of `map_op` for the items of a list, in their order, where the segments of the list's
+/// shape for that many threads are answered side by side.
+pub fn map_parallel<
+    Rt: Threads + Sync,
+    P: Producer,
+    T: Send + Drop,
+    F: Fn(P::Item) -> T + Send + Sync,
+>(rt: &Rt, alloc: Global, threads: NonZeroUsize, parts: P, map_op: &F) -> Result<Vec<T>, Fault>
+    requires accepts { (x : P.Item) → P.may parts x → F.pre map_op.now x }
+    ensures maps { IfOk result (λ ys. GivesSome P.gives parts
+        (λ xs. MapOf (F.post map_op.now) xs ys.items)) }
+    ensures fault { IsMemoryOnErr result }
+{
+    let mapping = MapConsumer {
+        base: CollectConsumer,
+        map_op,
+    };
+    unfailing(bridge(rt, alloc, threads, parts, mapping))
+}
+
+/// The answers of `map_op` for the items of a list, in their order: as they come at pick 0, side by
+/// side at any other.
+pub fn map_at<Rt: Threads + Sync, P: Producer, T: Send + Drop, F: Fn(P::Item) -> T + Send + Sync>(
+    rt: &Rt,
+    alloc: Global,
+    threads: NonZeroUsize,
+    pick: usize,
+    parts: P,
+    map_op: &F,
+) -> Result<Vec<T>, Fault>
+    requires accepts { (x : P.Item) → P.may parts x → F.pre map_op.now x }
+    ensures maps { IfOk result (λ ys. GivesSome P.gives parts
+        (λ xs. MapOf (F.post map_op.now) xs ys.items)) }
+    ensures fault { IsMemoryOnErr result }
+{
+    match pick {
+        0 => map_iter(alloc, parts.into_items(), map_op),
+        _ => map_parallel(rt, alloc, threads, parts, map_op),
+    }
+}

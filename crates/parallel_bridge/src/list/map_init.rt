@@ -1,0 +1,110 @@
+//! Maps with a state at hand.
+ghost use Rattle.std.specs.Prelude.{IfOk, List};
+ghost use Rattle.std.specs.Borrow.{MutBor};
+ghost use Rattle.std.specs.Int.NonZero.{non_zero_usize_get};
+ghost use Rattle.std.specs.Iterator.{Drains, HoldsAlong, IsFinite};
+ghost use Rattle.std.specs.List.{All};
+ghost use Rattle.parallel_fault.specs.Trouble.{IsMemoryOnErr};
+ghost use Rattle.parallel_bridge.specs.Shapes.{Shape, cutdepth};
+ghost use Rattle.parallel_bridge.specs.Sources.{GivesSome};
+ghost use Rattle.parallel_bridge.specs.States.{MapStep, StateSegment, StatesAlong};
+ghost use Rattle.parallel_bridge.specs.Ways.{MappedInitAs};
+
+use crate::bridge::{bridge, unfailing};
+use crate::consumer::collect::CollectConsumer;
+use crate::consumer::map_init::{MapInitConsumer, map_init_from};
+use crate::producer::Producer;
+use parallel_fault::Fault;
+use std::alloc::Global;
+use std::num::NonZeroUsize;
+use std::thread::Threads;
+
+/// The answers of `map_op` for the items that an iterator gives, as they come and in their order, with
+/// one state that `init` makes and that goes from item to item, on the caller's thread.
+pub fn map_init_iter<I: Iterator, S: Drop, T: Drop, N: Fn() -> S, F: Fn(&mut S, I::Item) -> T>(
+    alloc: Global,
+    iter: I,
+    init: &N,
+    map_op: &F,
+) -> Result<Vec<T>, Fault>
+    requires can { I.can_next iter }
+    requires ends { IsFinite (I.remaining iter) }
+    requires init_accepts { N.IsAlwaysCallable init.now }
+    requires map_accepts { HoldsAlong I.next_gives iter
+        (All (λ x. (state : MutBor S) → F.pre map_op.now state x)) }
+    ensures one_state { IfOk result (λ ys. GivesSome (Drains I.next_gives) iter
+        (λ xs. StateSegment (N.post init.now) (MapStep (λ p x y q. F.post map_op.now p x y q))
+        xs ys.items)) }
+    ensures fault { IsMemoryOnErr result }
+{
+    let mut state = init();
+    map_init_from(alloc, &mut state, iter, map_op)
+}
+
+/// The answers of `map_op` for the items of a list, in their order, where the segments of the list's
+/// shape for that many threads are answered side by side. Each segment has a fresh state, which goes
+/// from item to item.
+pub fn map_init_parallel<
+    Rt: Threads + Sync,
+    P: Producer,
+    S: Send + Drop,
+    T: Send + Drop,
+    N: Fn() -> S + Send + Sync,
+    F: Fn(&mut S, P::Item) -> T + Send + Sync,
+>(
+    rt: &Rt,
+    alloc: Global,
+    threads: NonZeroUsize,
+    parts: P,
+    init: &N,
+    map_op: &F,
+) -> Result<Vec<T>, Fault>
+    requires init_accepts { N.IsAlwaysCallable init.now }
+    requires map_accepts { (x : P.Item) → P.may parts x
+        → (state : MutBor S) → F.pre map_op.now state x }
+    ensures along { IfOk result (λ ys. GivesSome P.gives parts
+        (λ xs. StatesAlong (N.post init.now) (MapStep (λ p x y q. F.post map_op.now p x y q))
+        (Shape (cutdepth (non_zero_usize_get threads)) xs) ys.items)) }
+    ensures fault { IsMemoryOnErr result }
+{
+    let mapping = MapInitConsumer {
+        base: CollectConsumer,
+        init,
+        map_op,
+    };
+    unfailing(bridge(rt, alloc, threads, parts, mapping))
+}
+
+/// The answers of `map_op` for the items of a list, in their order: as they come and with one state at
+/// pick 0, side by side and with a state for each segment at any other.
+pub fn map_init_at<
+    Rt: Threads + Sync,
+    P: Producer,
+    S: Send + Drop,
+    T: Send + Drop,
+    N: Fn() -> S + Send + Sync,
+    F: Fn(&mut S, P::Item) -> T + Send + Sync,
+>(
+    rt: &Rt,
+    alloc: Global,
+    threads: NonZeroUsize,
+    pick: usize,
+    parts: P,
+    init: &N,
+    map_op: &F,
+) -> Result<Vec<T>, Fault>
+    requires init_accepts { N.IsAlwaysCallable init.now }
+    requires map_accepts { (x : P.Item) → P.may parts x
+        → (state : MutBor S) → F.pre map_op.now state x }
+    ensures maps { IfOk result (λ ys. GivesSome P.gives parts
+        (λ xs. MappedInitAs (N.post init.now) (MapStep (λ p x y q. F.post map_op.now p x y q))
+        (cutdepth (non_zero_usize_get threads)) pick xs ys.items)) }
+    ensures fault { IsMemoryOnErr result }
+{
+    if pick == 0 {
+        let answers = map_init_iter(alloc, parts.into_items(), init, map_op)?;
+        return Ok(answers);
+    }
+    let answers = map_init_parallel(rt, alloc, threads, parts, init, map_op)?;
+    Ok(answers)
+}

@@ -1,0 +1,83 @@
+//! Partitions.
+ghost use Rattle.std.specs.Prelude.{IfOk, List};
+ghost use Rattle.std.specs.Iterator.{Drains, HoldsAlong, IsFinite};
+ghost use Rattle.std.specs.List.{All};
+ghost use Rattle.parallel_fault.specs.Trouble.{IsMemoryOnErr};
+ghost use Rattle.parallel_bridge.specs.Parts.{PartitionOf};
+ghost use Rattle.parallel_bridge.specs.Sources.{GivesSome};
+
+use crate::bridge::{bridge, unfailing};
+use crate::consumer::partition::{PartitionConsumer, partition_onto};
+use crate::producer::Producer;
+use parallel_fault::Fault;
+use std::alloc::Global;
+use std::num::NonZeroUsize;
+use std::thread::Threads;
+
+/// The values that `map_op` answers for the items that an iterator gives, and the keys of those for
+/// which it answers none, as they come and in their order, on the caller's thread.
+pub fn partition_iter<I: Iterator, K: Drop, U: Drop, F: Fn(I::Item) -> (K, Option<U>)>(
+    alloc: Global,
+    iter: I,
+    map_op: &F,
+) -> Result<(Vec<U>, Vec<K>), Fault>
+    requires can { I.can_next iter }
+    requires ends { IsFinite (I.remaining iter) }
+    requires accepts { HoldsAlong I.next_gives iter (All (F.pre map_op.now)) }
+    ensures parts { IfOk result (λ r. GivesSome (Drains I.next_gives) iter
+        (λ xs. PartitionOf (F.post map_op.now) xs r.0.items r.1.items)) }
+    ensures fault { IsMemoryOnErr result }
+{
+    let answer = partition_onto(Vec::new(alloc), Vec::new(alloc), iter, map_op)?;
+    Ok(answer)
+}
+
+/// The values and the keys of the items of a list, in their order, where the segments of the list's
+/// shape for that many threads are answered side by side.
+pub fn partition_parallel<
+    Rt: Threads + Sync,
+    P: Producer,
+    K: Send + Drop,
+    U: Send + Drop,
+    F: Fn(P::Item) -> (K, Option<U>) + Send + Sync,
+>(
+    rt: &Rt,
+    alloc: Global,
+    threads: NonZeroUsize,
+    parts: P,
+    map_op: &F,
+) -> Result<(Vec<U>, Vec<K>), Fault>
+    requires accepts { (x : P.Item) → P.may parts x → F.pre map_op.now x }
+    ensures parts { IfOk result (λ r. GivesSome P.gives parts
+        (λ xs. PartitionOf (F.post map_op.now) xs r.0.items r.1.items)) }
+    ensures fault { IsMemoryOnErr result }
+{
+    unfailing(bridge(rt, alloc, threads, parts, PartitionConsumer { map_op }))
+}
+
+/// The values and the keys of the items of a list, in their order: as they come at pick 0, side by
+/// side at any other.
+pub fn partition_at<
+    Rt: Threads + Sync,
+    P: Producer,
+    K: Send + Drop,
+    U: Send + Drop,
+    F: Fn(P::Item) -> (K, Option<U>) + Send + Sync,
+>(
+    rt: &Rt,
+    alloc: Global,
+    threads: NonZeroUsize,
+    pick: usize,
+    parts: P,
+    map_op: &F,
+) -> Result<(Vec<U>, Vec<K>), Fault>
+    requires accepts { (x : P.Item) → P.may parts x → F.pre map_op.now x }
+    ensures parts { IfOk result (λ r. GivesSome P.gives parts
+        (λ xs. PartitionOf (F.post map_op.now) xs r.0.items r.1.items)) }
+    ensures fault { IsMemoryOnErr result }
+{
+    match pick {
+        0 => partition_iter(alloc, parts.into_items(), map_op),
+        _ => partition_parallel(rt, alloc, threads, parts, map_op),
+    }
+}

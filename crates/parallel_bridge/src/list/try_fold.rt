@@ -1,0 +1,116 @@
+//! Folds by steps that may fail.
+ghost use Rattle.std.specs.Prelude.{Err, IfOk, List, Ok};
+ghost use Rattle.std.specs.Int.NonZero.{non_zero_usize_get};
+ghost use Rattle.std.specs.Iterator.{Drains, IsFinite};
+ghost use Rattle.parallel_bridge.specs.Outcomes.{UnlessRefused};
+ghost use Rattle.parallel_bridge.specs.Shapes.{Shape, cutdepth};
+ghost use Rattle.parallel_bridge.specs.Sources.{GivesSome};
+ghost use Rattle.parallel_bridge.specs.Tries.{TryAlong, TryFoldSegment};
+ghost use Rattle.parallel_bridge.specs.Ways.{TryFoldedAs};
+
+use crate::bridge::bridge;
+use crate::consumer::try_fold::{TryFoldConsumer, try_fold_onward};
+use crate::consumer::try_reduce::TryReduceConsumer;
+use crate::producer::Producer;
+use parallel_fault::Trouble;
+use std::alloc::Global;
+use std::num::NonZeroUsize;
+use std::thread::Threads;
+
+/// The items that an iterator gives folded from an identity, as they come and in their order, up to the
+/// first step that fails, on the caller's thread. Nothing is reduced, and no memory is taken.
+pub fn try_fold_iter<
+    I: Iterator,
+    R: Drop,
+    E: Drop,
+    ID: Fn() -> R,
+    F: Fn(R, I::Item) -> Result<R, E>,
+>(iter: I, identity: &ID, fold_op: &F) -> Result<R, E>
+where
+    I::Item: Drop,
+    requires can { I.can_next iter }
+    requires ends { IsFinite (I.remaining iter) }
+    requires identity_accepts { ID.IsAlwaysCallable identity.now }
+    requires fold_accepts { F.IsAlwaysCallable fold_op.now }
+    ensures { GivesSome (Drains I.next_gives) iter
+        (λ xs. TryFoldSegment (ID.post identity.now) (λ a x out. F.post fold_op.now a x out)
+        xs result) }
+{
+    try_fold_onward(Ok(identity()), iter, fold_op)
+}
+
+/// The items of a list folded along its shape for that many threads: each segment from an identity of
+/// its own, up to its own first error, and reduced behind a further identity; neighbours are reduced
+/// left before right, and of several errors the leftmost is answered.
+pub fn try_fold_parallel<
+    Rt: Threads + Sync,
+    P: Producer,
+    R: Send + Drop,
+    E: Send + Drop,
+    ID: Fn() -> R + Send + Sync,
+    F: Fn(R, P::Item) -> Result<R, E> + Send + Sync,
+    G: Fn(R, R) -> R + Send + Sync,
+>(
+    rt: &Rt,
+    alloc: Global,
+    threads: NonZeroUsize,
+    parts: P,
+    identity: &ID,
+    fold_op: &F,
+    reduce_op: &G,
+) -> Result<R, Trouble<E>>
+    requires identity_accepts { ID.IsAlwaysCallable identity.now }
+    requires fold_accepts { F.IsAlwaysCallable fold_op.now }
+    requires reduce_accepts { G.IsAlwaysCallable reduce_op.now }
+    ensures along { UnlessRefused result (λ out. GivesSome P.gives parts
+        (λ xs. TryAlong (ID.post identity.now) (λ a x out. F.post fold_op.now a x out)
+        (λ a b c. G.post reduce_op.now a b c)
+        (Shape (cutdepth (non_zero_usize_get threads)) xs) out)) }
+{
+    let base = TryReduceConsumer {
+        identity,
+        reduce_op,
+    };
+    let folding = TryFoldConsumer {
+        base,
+        identity,
+        fold_op,
+    };
+    bridge(rt, alloc, threads, parts, folding)
+}
+
+/// The items of a list folded up to the first step that fails: as they come and in one segment at pick
+/// 0, along the list's shape at any other.
+pub fn try_fold_at<
+    Rt: Threads + Sync,
+    P: Producer,
+    R: Send + Drop,
+    E: Send + Drop,
+    ID: Fn() -> R + Send + Sync,
+    F: Fn(R, P::Item) -> Result<R, E> + Send + Sync,
+    G: Fn(R, R) -> R + Send + Sync,
+>(
+    rt: &Rt,
+    alloc: Global,
+    threads: NonZeroUsize,
+    pick: usize,
+    parts: P,
+    identity: &ID,
+    fold_op: &F,
+    reduce_op: &G,
+) -> Result<R, Trouble<E>>
+    requires identity_accepts { ID.IsAlwaysCallable identity.now }
+    requires fold_accepts { F.IsAlwaysCallable fold_op.now }
+    requires reduce_accepts { G.IsAlwaysCallable reduce_op.now }
+    ensures folds { UnlessRefused result (λ out. GivesSome P.gives parts
+        (λ xs. TryFoldedAs (ID.post identity.now) (λ a x out. F.post fold_op.now a x out)
+        (λ a b c. G.post reduce_op.now a b c) (cutdepth (non_zero_usize_get threads)) pick xs out)) }
+{
+    if pick == 0 {
+        return match try_fold_iter(parts.into_items(), identity, fold_op) {
+            Ok(value) => Ok(value),
+            Err(error) => Err(Trouble::Closure(error)),
+        };
+    }
+    try_fold_parallel(rt, alloc, threads, parts, identity, fold_op, reduce_op)
+}

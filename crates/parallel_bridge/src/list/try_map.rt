@@ -1,0 +1,82 @@
+//! Maps by closures that may fail.
+ghost use Rattle.std.specs.Prelude.{Err, IfOk, List, Ok};
+ghost use Rattle.std.specs.Iterator.{Drains, HoldsAlong, IsFinite};
+ghost use Rattle.std.specs.List.{All};
+ghost use Rattle.parallel_bridge.specs.Outcomes.{UnlessRefused, listed};
+ghost use Rattle.parallel_bridge.specs.Sources.{GivesSome};
+ghost use Rattle.parallel_bridge.specs.Tries.{TryMapOf};
+
+use crate::bridge::bridge;
+use crate::consumer::try_map::{TryMapConsumer, try_map_onward};
+use crate::producer::Producer;
+use parallel_fault::Trouble;
+use std::alloc::Global;
+use std::num::NonZeroUsize;
+use std::thread::Threads;
+
+/// The values that `map_op` answers for the items that an iterator gives, as they come and in their
+/// order, on the caller's thread; or the error of the first item that fails, behind which the other
+/// items are passed over and the closure isn't called.
+pub fn try_map_iter<I: Iterator, T: Drop, E: Drop, F: Fn(I::Item) -> Result<T, E>>(
+    alloc: Global,
+    iter: I,
+    map_op: &F,
+) -> Result<Vec<T>, Trouble<E>>
+where
+    I::Item: Drop,
+    requires can { I.can_next iter }
+    requires ends { IsFinite (I.remaining iter) }
+    requires accepts { HoldsAlong I.next_gives iter (All (F.pre map_op.now)) }
+    ensures maps { UnlessRefused result (λ out. GivesSome (Drains I.next_gives) iter
+        (λ xs. TryMapOf (F.post map_op.now) xs (listed out))) }
+{
+    let room = Vec::with_capacity(alloc, iter.size_hint().0)?;
+    match try_map_onward(Ok(room), iter, map_op) {
+        Ok(Ok(values)) => Ok(values),
+        Ok(Err(error)) => Err(Trouble::Closure(error)),
+        Err(fault) => Err(Trouble::Fault(fault)),
+    }
+}
+
+/// The values that `map_op` answers for the items of a list, in their order, where the segments of the
+/// list's shape for that many threads are answered side by side; or the error of the first item that
+/// fails, whichever segment ends first. A segment stops at its own first error.
+pub fn try_map_parallel<
+    Rt: Threads + Sync,
+    P: Producer,
+    T: Send + Drop,
+    E: Send + Drop,
+    F: Fn(P::Item) -> Result<T, E> + Send + Sync,
+>(rt: &Rt, alloc: Global, threads: NonZeroUsize, parts: P, map_op: &F) -> Result<Vec<T>, Trouble<E>>
+    requires accepts { (x : P.Item) → P.may parts x → F.pre map_op.now x }
+    ensures maps { UnlessRefused result (λ out. GivesSome P.gives parts
+        (λ xs. TryMapOf (F.post map_op.now) xs (listed out))) }
+{
+    bridge(rt, alloc, threads, parts, TryMapConsumer { map_op })
+}
+
+/// The values, or the first failing item's error: as the items come at pick 0, side by side at any
+/// other.
+pub fn try_map_at<
+    Rt: Threads + Sync,
+    P: Producer,
+    T: Send + Drop,
+    E: Send + Drop,
+    F: Fn(P::Item) -> Result<T, E> + Send + Sync,
+>(
+    rt: &Rt,
+    alloc: Global,
+    threads: NonZeroUsize,
+    pick: usize,
+    parts: P,
+    map_op: &F,
+) -> Result<Vec<T>, Trouble<E>>
+    requires accepts { (x : P.Item) → P.may parts x → F.pre map_op.now x }
+    ensures maps { UnlessRefused result (λ out. GivesSome P.gives parts
+        (λ xs. TryMapOf (F.post map_op.now) xs (listed out))) }
+{
+    match pick {
+        0 => try_map_iter(alloc, parts.into_items(), map_op),
+        _ => try_map_parallel(rt, alloc, threads, parts, map_op),
+    }
+}
