@@ -13,3 +13,4 @@ pub mod Onward
 pub mod Statefuls
 pub mod TryBracketings
 pub mod Drivers
+pub mod Picked
