@@ -1,54 +1,49 @@
--- what an answer at a pick says of the list that it was given for
-use Rattle.std.proofs.Common.{◌≡◌, ℕ, ◌<◌, List, [], ◌∷◌, append-nil, sym, length, Result, Ok, Err, IfOk, IfErr, subst}
-use Rattle.parallel_fault.specs.Trouble.{IfFault}
-use Rattle.parallel_fault.specs.declared.fault.Fault.TheVariants.{Memory}
+-- What an answer at a pick says of the list that a source gave.
+use Rattle.std.proofs.Common.{◌≡◌, ℕ, ◌<◌, List, length, Result, Ok, Err, IfOk, subst, arith}
 use Rattle.parallel_fault.specs.declared.fault.Trouble.{Trouble}
 use Rattle.parallel_fault.specs.declared.fault.Trouble.TheVariants.{Closure}
 use Rattle.parallel_fault.specs.declared.fault.Trouble.TheVariants.{Fault as OfFault}
 use Rattle.parallel_bridge.specs.Outcomes.{UnlessRefused}
-use Rattle.commonware_parallel.specs.Answers.{UnlessFault}
-use Rattle.parallel_bridge.specs.States.{StateSegment, Stateful, no_segment, more_segments}
-use Rattle.commonware_parallel.specs.declared.call.Call.{Call}
 use Rattle.parallel_bridge.specs.Shapes.{cutdepth}
+use Rattle.parallel_bridge.specs.Sources.{GivesSome}
+use Rattle.commonware_parallel.specs.Answers.{UnlessFault}
+use Rattle.commonware_parallel.specs.Calls.{AtSomePick}
+use Rattle.commonware_parallel.specs.declared.call.Call.{Call}
 
--- a fact of an answer, from another
-pub if_ok_each : {T E : Type 0} (P Q : T → Type 0) (result : Result T E) → IfOk result P → ((r : T) → P r → Q r) → IfOk result Q
-if_ok_each P Q (Ok r) h f = f r h
-if_ok_each P Q (Err e) h f = tt
+-- a fact at the depth for the thread number that the code took holds at the one for the clause's
+pub at_threads : {Q X : Type 0} (gives : Q → List X → Type 0) (parts : Q) (takes : ℕ → Type 0) (fact : ℕ → ℕ → List X → Type 0) (taken threads : ℕ) → taken ≡ threads
+    → (pick : ℕ) → pick < 2 → takes pick → GivesSome gives parts (λ xs. fact (cutdepth taken) pick xs)
+    → GivesSome gives parts (λ xs. AtSomePick takes (λ p. fact (cutdepth threads) p xs))
+at_threads gives parts takes fact taken threads same pick below takes_it h =
+    (h.0, h.1, (pick, below, takes_it, subst (λ n. fact (cutdepth n) pick h.0) same h.2))
 
--- the list of the clause is the list that the body was given, and the call and the thread number are those that the code took
-pub along_list : {X R : Type 0} (takes : Call → ℕ → Type 0) (gives : List X → Type 0) (call_of : ℕ → Call) (folds : ℕ → ℕ → List X → R → Type 0)
-    (call : Call) (depth threads : ℕ) (xs : List X) → call ≡ call_of (length xs) → depth ≡ threads → gives xs
-    → (r : R) (pick : ℕ) → pick < 2 → takes call pick → folds (cutdepth depth) pick xs r
-    → (ys : List X) × gives ys × (p : ℕ) × (p < 2) × takes (call_of (length ys)) p × folds (cutdepth threads) p ys r
-along_list takes gives call_of folds call depth threads xs counted numbered given r pick below taken along =
-    let T : Call → Type 0 = λ made. takes made pick in
-    let D : ℕ → Type 0 = λ d. folds (cutdepth d) pick xs r in
-    (xs, given, pick, below, subst T counted taken, subst D numbered along)
+module _ {Q I X : Type 0} (gives : Q → List X → Type 0) (parts : Q) (comes : I → List X → Type 0) (source : I) (takes : Call → ℕ → Type 0) (call : Call) (call_of : ℕ → Call)
+    (given : (xs : List X) → gives parts xs → comes source xs) (counted : (xs : List X) → gives parts xs → call ≡ call_of (length xs)) where
+  -- a list of the parts is one of the source, and the call that the strategy was asked about is that of its length
+  pub settled : (fact : ℕ → List X → Type 0) → GivesSome gives parts (λ xs. AtSomePick (takes call) (λ pick. fact pick xs)) → GivesSome comes source (λ xs. AtSomePick (takes (call_of (length xs))) (λ pick. fact pick xs))
+  settled fact (xs, came, (pick, below, taken, holds)) = (xs, given xs came, (pick, below, subst (λ made. takes made pick) (counted xs came) taken, holds))
 
--- the same of a call whose closures may fail
-pub along_outcome : {X R E : Type 0} (takes : Call → ℕ → Type 0) (gives : List X → Type 0) (call_of : ℕ → Call) (folds : ℕ → ℕ → List X → Result R E → Type 0)
-    (call : Call) (depth threads : ℕ) (xs : List X) → call ≡ call_of (length xs) → depth ≡ threads → gives xs
-    → (result : Result R (Trouble E)) (answered : ℕ → Type 0)
-    → UnlessFault result ((pick : ℕ) × (pick < 2) × takes call pick × answered pick)
-    → IfErr result (λ trouble. IfFault trouble (λ fault. fault ≡ Memory))
-    → ((pick : ℕ) → answered pick → UnlessRefused result (folds (cutdepth depth) pick xs))
-    → UnlessRefused result (λ out. (ys : List X) × gives ys × (p : ℕ) × (p < 2) × takes (call_of (length ys)) p × folds (cutdepth threads) p ys out)
-along_outcome takes gives call_of folds call depth threads xs counted numbered given (Ok r) answered w fault says =
-    along_list takes gives call_of (λ d p ys out. folds d p ys out) call depth threads xs counted numbered given (Ok r) w.0 w.1 w.2 (says w.0 w.3)
-along_outcome takes gives call_of folds call depth threads xs counted numbered given (Err (Closure e)) answered w fault says =
-    along_list takes gives call_of (λ d p ys out. folds d p ys out) call depth threads xs counted numbered given (Err e) w.0 w.1 w.2 (says w.0 w.3)
-along_outcome takes gives call_of folds call depth threads xs counted numbered given (Err (OfFault f)) answered w fault says = fault
+  -- the fact alone, whatever the pick
+  pub settled_fact : (fact kept : List X → Type 0) → ((xs : List X) → kept xs → fact xs) → GivesSome gives parts (λ xs. AtSomePick (takes call) (λ _. kept xs)) → GivesSome comes source fact
+  settled_fact fact kept f (xs, came, (pick, below, taken, holds)) = (xs, given xs came, f xs holds)
 
--- what holds at the depth for the thread number that the code took holds at the one for the clause's
-pub at_threads : (holds : ℕ → Type 0) (taken threads : ℕ) → taken ≡ threads → holds (cutdepth taken) → holds (cutdepth threads)
-at_threads holds taken threads numbered held =
-    let D : ℕ → Type 0 = λ n. holds (cutdepth n) in
-    subst D numbered held
+  -- that the strategy was asked
+  pub settled_ask : (fact : List X → Type 0) → GivesSome gives parts (λ xs. AtSomePick (takes call) (λ _. fact xs)) → GivesSome comes source (λ xs. AtSomePick (takes (call_of (length xs))) (λ _. Unit {0}))
+  settled_ask fact (xs, came, (pick, below, taken, holds)) = (xs, given xs came, (pick, below, subst (λ made. takes made pick) (counted xs came) taken, tt))
 
--- answers from one fresh state fall into segments: one, or none for no items
-pub one_segment : {S X Y : Type 0} (init : S → Type 0) (step : S → X → Y → S → Type 0) (xs : List X) (ys : List Y) → StateSegment init step xs ys → Stateful init step xs ys
-one_segment init step [] ys h =
-    let P : List _ → Type 0 = λ zs. Stateful init step [] zs in
-    subst P (sym h.2) no_segment
-one_segment init step (x ∷ xs) ys h = more_segments x xs [] ys [] (sym (append-nil (x ∷ xs))) (sym (append-nil ys)) h no_segment
+-- what holds of the list that came of a source's iterator holds of one of the source, at pick 0
+pub at_first : {S I X : Type 0} (comes_of : S → List X → Type 0) (iter : S) (comes : I → List X → Type 0) (source : I) (takes : Call → ℕ → Type 0) (call_of : ℕ → Call)
+    → ((xs : List X) → comes_of iter xs → comes source xs) → ((n : ℕ) → takes (call_of n) 0)
+    → (fact : ℕ → List X → Type 0) → GivesSome comes_of iter (λ xs. fact 0 xs) → GivesSome comes source (λ xs. AtSomePick (takes (call_of (length xs))) (λ pick. fact pick xs))
+at_first comes_of iter comes source takes call_of given first fact (xs, came, holds) = (xs, given xs came, (0, omega arith, first (length xs), holds))
+
+-- the same of an outcome
+pub outcome_at_threads : {Q X R E : Type 0} (gives : Q → List X → Type 0) (parts : Q) (takes : ℕ → Type 0) (fact : ℕ → ℕ → List X → Result R E → Type 0) (taken threads : ℕ) → taken ≡ threads
+    → (result : Result R (Trouble E)) (answered : ℕ → Type 0) → UnlessFault result (AtSomePick takes answered) → UnlessRefused result (λ _. Unit {0})
+    → ((pick : ℕ) → answered pick → UnlessRefused result (λ out. GivesSome gives parts (λ xs. fact (cutdepth taken) pick xs out)))
+    → UnlessRefused result (λ out. GivesSome gives parts (λ xs. AtSomePick takes (λ pick. fact (cutdepth threads) pick xs out)))
+outcome_at_threads gives parts takes fact taken threads same (Ok r) answered w fault says =
+    at_threads gives parts takes (λ depth pick xs. fact depth pick xs (Ok r)) taken threads same w.0 w.1 w.2 (says w.0 w.3)
+outcome_at_threads gives parts takes fact taken threads same (Err (Closure e)) answered w fault says =
+    at_threads gives parts takes (λ depth pick xs. fact depth pick xs (Err e)) taken threads same w.0 w.1 w.2 (says w.0 w.3)
+outcome_at_threads gives parts takes fact taken threads same (Err (OfFault f)) answered w fault says = fault

@@ -33,6 +33,6 @@ RayonTakes planned threads chooses call pick =
     (call.kind ≡ Join → pick ≡ call.options - 1) × (call.kind ≡ Spawn → PlansTo threads chooses call.options pick)
     × (call.kind ≢ Join → call.kind ≢ Spawn → PlansTo planned chooses call.options pick)
 
--- only a policy is refused, for memory, and no policy is asked about a join
+-- only a policy is refused, for memory, and no policy is asked about a join, nor where there is one pick alone
 abbrev pub RayonRefuses : Bool → Call → Fault → Type 0
-RayonRefuses chooses call fault = (fault ≡ Memory) × (chooses ≡ true) × (call.kind ≢ Join)
+RayonRefuses chooses call fault = (fault ≡ Memory) × (chooses ≡ true) × (call.kind ≢ Join) × (2 ≤ call.options)

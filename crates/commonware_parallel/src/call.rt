@@ -3,7 +3,6 @@ ghost use Rattle.std.specs.Int.NonZero.{non_zero_usize_get};
 ghost use Rattle.commonware_parallel.specs.Calls.{batches_call, body_call, join_call, multiplied_call, work_of};
 
 use std::num::NonZeroUsize;
-use std::sync::Wait;
 
 /// What a call runs, and so what its pick means.
 #[derive(Clone, Copy, Debug, PartialEq, Eq, Hash)]
@@ -98,26 +97,4 @@ impl Call {
             options: parallelism.get().min(len / minimum).max(1),
         }
     }
-}
-
-/// Measures a run that goes on after its strategy chose: on a worker, or in a body that writes.
-///
-/// Nothing is claimed of what it measures. A run that is given up isn't ended, so nothing is recorded
-/// of it.
-pub trait Meter: Drop {
-    /// The run begins.
-    fn begin(&mut self);
-
-    /// The run has ended.
-    fn end<Rt: Wait>(self, rt: &Rt);
-}
-
-/// Measures nothing: the meter of a strategy that no policy chooses for.
-#[derive(Clone, Copy, Debug, PartialEq, Eq)]
-pub struct Unmeasured;
-
-impl Meter for Unmeasured {
-    fn begin(&mut self) {}
-
-    fn end<Rt: Wait>(self, _rt: &Rt) {}
 }

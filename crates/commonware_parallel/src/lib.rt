@@ -7,25 +7,25 @@
 //! a batch each index once.
 #![tactic(auto)]
 
+mod batches;
 mod call;
-mod items;
-mod measured;
-mod pick;
-mod plan;
+mod list;
+mod meter;
 mod rayon_strategy;
 mod sequential;
 mod strategy;
 
-pub use call::{Call, Kind, Meter, Unmeasured};
-pub use measured::Measured;
+pub use batches::Batches;
+pub use call::{Call, Kind};
+pub use meter::{Measured, Meter, Unmeasured};
 pub use parallel_bridge as bridge;
+pub use parallel_bridge::{Copies, Indices, Producer, Source};
 pub use parallel_fault::{Fault, Trouble};
 pub use parallel_policy as policy;
 pub use parallel_policy::{Clock, MonotonicClock, Place, Policy, Site};
 pub use parallel_pool::{ThreadPool, latch, rayon, sleep};
 pub use parallel_shares as shares;
 pub use parallel_shares::{Grid, cut};
-pub use plan::Batches;
 pub use rayon_strategy::Rayon;
 pub use sequential::Sequential;
 pub use strategy::Strategy;

@@ -1,8 +1,9 @@
-ghost use Rattle.std.specs.Prelude.{◌≡◌, ◌≢◌, ℕ, ◌<◌, ◌≤◌, Bool, true, false, ◌-◌, ◌⊎◌, min, IsSome, IfOk, IfErr};
+ghost use Rattle.std.specs.Prelude.{◌≡◌, ◌≢◌, ℕ, ◌<◌, ◌≤◌, Bool, true, false, ◌-◌, ◌⊎◌, min, nat_eq, IsSome, IfOk, IfErr};
 ghost use Rattle.std.specs.Int.NonZero.{non_zero_usize_get};
+ghost use Rattle.parallel_fault.specs.Trouble.{IsMemoryOnErr};
 
 use crate::call::{Call, Kind};
-use crate::measured::{Measured, Sample, Told};
+use crate::meter::{Measured, Sample, Told};
 use crate::strategy::Strategy;
 use parallel_fault::{Fault, Trouble};
 use parallel_policy::policy::INLINE_BUDGET;
@@ -46,6 +47,7 @@ impl<C: Clock> Rayon<C> {
         ensures threads { IfOk result (λ strategy. threads_of strategy ≡ min (non_zero_usize_get num_threads) MAX_THREADS) }
         ensures planning { IfOk result (λ strategy. planning_of strategy ≡ threads_of strategy) }
         ensures chooses { IfOk result (λ strategy. chooses_of strategy ≡ true) }
+        ensures refused { IfErr result (λ error. error ≡ ThreadPoolBuildError.Memory) }
     {
         let pool = ThreadPool::new(num_threads);
         let parallelism = pool.num_threads();
@@ -103,6 +105,7 @@ impl<C> Rayon<C> {
     fn asked(&self, call: Call) -> Option<&Policy>
         ensures chooses { IsSome result → chooses_of self.now ≡ true }
         ensures kind { IsSome result → call.kind ≢ Join }
+        ensures options { IsSome result → 2 ≤ call.options }
         ensures first { IsSome result → RayonTakes (planning_of self.now) (threads_of self.now) (chooses_of self.now) call 0 }
         ensures last { IsSome result → RayonTakes (planning_of self.now) (threads_of self.now) (chooses_of self.now) call (call.options - 1) }
     {
@@ -125,7 +128,7 @@ impl<C: Clone> Rayon<C> {
         ensures planning { IfOk result (λ strategy. planning_of strategy ≡ planning_of self.now) }
         ensures threads { IfOk result (λ strategy. threads_of strategy ≡ threads_of self.now) }
         ensures chooses { IfOk result (λ strategy. chooses_of strategy ≡ false) }
-        ensures fault { IfErr result (λ fault. fault ≡ Fault.Memory) }
+        ensures fault { IsMemoryOnErr result }
     {
         let pool = Arc::try_clone(&self.pool)?;
         let clock = self.clock.clone()?;
@@ -150,6 +153,8 @@ impl<C: Clock> Strategy for Rayon<C> {
     ghost threads = { λ strategy. threads_of strategy };
 
     ghost starts = { λ _. true };
+
+    ghost unasked = { λ strategy. nat_eq (planning_of strategy) 1 };
 
     type Measure = Measured<C>;
 

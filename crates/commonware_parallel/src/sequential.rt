@@ -1,22 +1,25 @@
-ghost use Rattle.std.specs.Prelude.{◌≡◌, ℕ, List, All, true, IfOk, IfErr, OnOk};
+ghost use Rattle.std.specs.Prelude.{◌≡◌, ℕ, List, All, true, IfOk, OnOk};
 ghost use Rattle.std.specs.Borrow.{MutBor};
 ghost use Rattle.std.specs.Iterator.{IsFinite, Drains, HoldsAlong};
 ghost use Rattle.std.specs.List.Sorted.{IsPermutation, IsSortedByClosure, IsStableByClosure};
-ghost use Rattle.parallel_fault.specs.declared.fault.Fault.TheVariants.{Memory};
-ghost use Rattle.parallel_fault.specs.Trouble.{IfFault};
+ghost use Rattle.parallel_bridge.specs.Sources.{GivesSome};
+ghost use Rattle.parallel_fault.specs.Trouble.{IsMemoryOnErr};
 ghost use Rattle.parallel_bridge.specs.Lists.{FoldSegment, MapOf};
 ghost use Rattle.parallel_bridge.specs.Outcomes.{UnlessRefused, listed};
 ghost use Rattle.parallel_bridge.specs.Parts.{PartitionOf};
 ghost use Rattle.parallel_bridge.specs.States.{FoldInitSegment, FoldStep, MapStep, StateSegment};
 ghost use Rattle.parallel_bridge.specs.Tries.{TryFoldSegment, TryMapOf};
 
-use crate::call::{Call, Unmeasured};
-use crate::items::gather;
+use crate::call::Call;
+use crate::meter::Unmeasured;
 use crate::strategy::Strategy;
-use parallel_bridge::fallible::{try_fold_serial, try_map_serial};
-use parallel_bridge::partition::partition_serial;
-use parallel_bridge::serial::{fold_iter, map_iter};
-use parallel_bridge::stateful::{fold_init_iter, map_init_serial};
+use parallel_bridge::list::fold::fold_iter;
+use parallel_bridge::list::fold_init::fold_init_iter;
+use parallel_bridge::list::map::map_iter;
+use parallel_bridge::list::map_init::map_init_iter;
+use parallel_bridge::list::partition::partition_iter;
+use parallel_bridge::list::try_fold::try_fold_iter;
+use parallel_bridge::list::try_map::try_map_iter;
 use parallel_fault::{Fault, Trouble};
 use parallel_policy::Place;
 use std::alloc::Global;
@@ -74,10 +77,11 @@ impl Sequential {
         requires can { I.can_next iter }
         requires ends { IsFinite (I.remaining iter) }
         requires accepts { HoldsAlong I.next_gives iter (All (F.pre map_op)) }
-        ensures answers { IfOk result (λ ys. (xs : List I.Item) × Drains I.next_gives iter xs × MapOf (F.post map_op) xs ys.items) }
-        ensures fault { IfErr result (λ fault. fault ≡ Memory) }
+        ensures answers { IfOk result (λ ys. GivesSome (Drains I.next_gives) iter
+            (λ xs. MapOf (F.post map_op) xs ys.items)) }
+        ensures fault { IsMemoryOnErr result }
     {
-        map_iter(alloc, iter, map_op)
+        map_iter(alloc, iter, &map_op)
     }
 
     /// As `map_collect_vec`: no policy is told of the work.
@@ -99,8 +103,9 @@ impl Sequential {
         requires can { I.can_next iter }
         requires ends { IsFinite (I.remaining iter) }
         requires accepts { HoldsAlong I.next_gives iter (All (F.pre map_op)) }
-        ensures answers { IfOk result (λ ys. (xs : List I.Item) × Drains I.next_gives iter xs × MapOf (F.post map_op) xs ys.items) }
-        ensures fault { IfErr result (λ fault. fault ≡ Memory) }
+        ensures answers { IfOk result (λ ys. GivesSome (Drains I.next_gives) iter
+            (λ xs. MapOf (F.post map_op) xs ys.items)) }
+        ensures fault { IsMemoryOnErr result }
     {
         self.map_collect_vec(alloc, site, iter, map_op)
     }
@@ -119,8 +124,8 @@ impl Sequential {
         requires ends { IsFinite (I.remaining iter) }
         requires identity_accepts { ID.IsAlwaysCallable identity }
         requires fold_accepts { F.IsAlwaysCallable fold_op }
-        ensures { (xs : List I.Item) × Drains I.next_gives iter xs
-            × FoldSegment (ID.post identity) (λ a x b. F.post fold_op a x b) xs result }
+        ensures { GivesSome (Drains I.next_gives) iter
+            (λ xs. FoldSegment (ID.post identity) (λ a x b. F.post fold_op a x b) xs result) }
     {
         fold_iter(iter, &identity, &fold_op)
     }
@@ -143,20 +148,19 @@ impl Sequential {
         requires init_accepts { N.IsAlwaysCallable init }
         requires identity_accepts { ID.IsAlwaysCallable identity }
         requires fold_accepts { F.IsAlwaysCallable fold_op }
-        ensures { (xs : List I.Item) × Drains I.next_gives iter xs
-            × FoldInitSegment (N.post init) (ID.post identity) (FoldStep (λ a p x b q. F.post fold_op a p x b q)) xs result }
+        ensures { GivesSome (Drains I.next_gives) iter
+            (λ xs. FoldInitSegment (N.post init) (ID.post identity)
+            (FoldStep (λ a p x b q. F.post fold_op a p x b q)) xs result) }
     {
         fold_init_iter(iter, &init, &identity, &fold_op)
     }
 
-    /// The items folded from an identity, in their order, up to the first step that fails, in one
-    /// segment (`TryFoldSegment`). Nothing is reduced.
+    /// The items folded from an identity as they come, up to the first step that fails, in one segment
+    /// (`TryFoldSegment`). Nothing is gathered and nothing is reduced, so it takes no memory.
     ///
     /// # Errors
     ///
-    /// `Trouble::Closure` with the error of the first step that fails, after which no item is asked.
-    /// `Trouble::Fault` with `Fault::Memory` where the items could not be gathered. The items are then
-    /// gone.
+    /// The error of the first step that fails, behind which the other items are passed over.
     pub fn try_fold<
         P: Place,
         I: Iterator,
@@ -165,34 +169,21 @@ impl Sequential {
         ID: Fn() -> R + Drop,
         F: Fn(R, I::Item) -> Result<R, E> + Drop,
         G: Fn(R, R) -> R + Drop,
-    >(
-        &self,
-        alloc: Global,
-        _site: P,
-        iter: I,
-        identity: ID,
-        fold_op: F,
-        _reduce_op: G,
-    ) -> Result<R, Trouble<E>>
+    >(&self, _site: P, iter: I, identity: ID, fold_op: F, _reduce_op: G) -> Result<R, E>
     where
         I::Item: Drop,
         requires can { I.can_next iter }
         requires ends { IsFinite (I.remaining iter) }
         requires identity_accepts { ID.IsAlwaysCallable identity }
         requires fold_accepts { F.IsAlwaysCallable fold_op }
-        ensures one_segment { UnlessRefused result (λ outcome. (xs : List I.Item) × Drains I.next_gives iter xs
-            × TryFoldSegment (ID.post identity) (λ a x b. F.post fold_op a x b) xs outcome) }
-        ensures fault { IfErr result (λ trouble. IfFault trouble (λ fault. fault ≡ Memory)) }
+        ensures { GivesSome (Drains I.next_gives) iter
+            (λ xs. TryFoldSegment (ID.post identity) (λ a x b. F.post fold_op a x b) xs result) }
     {
-        let items = gather(alloc, iter)?;
-        match try_fold_serial(items, &identity, &fold_op) {
-            Ok(folded) => Ok(folded),
-            Err(error) => Err(Trouble::Closure(error)),
-        }
+        try_fold_iter(iter, &identity, &fold_op)
     }
 
     /// The values that `map_op` answers for the items, in their order, or the error of the first item
-    /// that fails (`TryMapOf`), after which no item is asked.
+    /// that fails (`TryMapOf`), behind which the other items are passed over.
     ///
     /// # Errors
     ///
@@ -210,11 +201,10 @@ impl Sequential {
         requires can { I.can_next iter }
         requires ends { IsFinite (I.remaining iter) }
         requires accepts { HoldsAlong I.next_gives iter (All (F.pre map_op)) }
-        ensures answers { UnlessRefused result (λ outcome. (xs : List I.Item) × Drains I.next_gives iter xs × TryMapOf (F.post map_op) xs (listed outcome)) }
-        ensures fault { IfErr result (λ trouble. IfFault trouble (λ fault. fault ≡ Memory)) }
+        ensures answers { UnlessRefused result (λ out. GivesSome (Drains I.next_gives) iter
+            (λ xs. TryMapOf (F.post map_op) xs (listed out))) }
     {
-        let items = gather(alloc, iter)?;
-        try_map_serial(alloc, items, &map_op)
+        try_map_iter(alloc, iter, &map_op)
     }
 
     /// The answers of `map_op` for the items, in their order, with one state at hand that `init` makes
@@ -236,13 +226,13 @@ impl Sequential {
         requires can { I.can_next iter }
         requires ends { IsFinite (I.remaining iter) }
         requires init_accepts { N.IsAlwaysCallable init }
-        requires map_accepts { HoldsAlong I.next_gives iter (All (λ x. (state : MutBor S) → F.pre map_op state x)) }
-        ensures one_state { IfOk result (λ ys. (xs : List I.Item) × Drains I.next_gives iter xs
-            × StateSegment (N.post init) (MapStep (λ p x y q. F.post map_op p x y q)) xs ys.items) }
-        ensures fault { IfErr result (λ fault. fault ≡ Memory) }
+        requires map_accepts { HoldsAlong I.next_gives iter
+            (All (λ x. (state : MutBor S) → F.pre map_op state x)) }
+        ensures one_state { IfOk result (λ ys. GivesSome (Drains I.next_gives) iter
+            (λ xs. StateSegment (N.post init) (MapStep (λ p x y q. F.post map_op p x y q)) xs ys.items)) }
+        ensures fault { IsMemoryOnErr result }
     {
-        let items = gather(alloc, iter)?;
-        let answers = map_init_serial(alloc, items, &init, &map_op)?;
+        let answers = map_init_iter(alloc, iter, &init, &map_op)?;
         Ok(answers)
     }
 
@@ -272,10 +262,11 @@ impl Sequential {
         requires can { I.can_next iter }
         requires ends { IsFinite (I.remaining iter) }
         requires init_accepts { N.IsAlwaysCallable init }
-        requires map_accepts { HoldsAlong I.next_gives iter (All (λ x. (state : MutBor S) → F.pre map_op state x)) }
-        ensures one_state { IfOk result (λ ys. (xs : List I.Item) × Drains I.next_gives iter xs
-            × StateSegment (N.post init) (MapStep (λ p x y q. F.post map_op p x y q)) xs ys.items) }
-        ensures fault { IfErr result (λ fault. fault ≡ Memory) }
+        requires map_accepts { HoldsAlong I.next_gives iter
+            (All (λ x. (state : MutBor S) → F.pre map_op state x)) }
+        ensures one_state { IfOk result (λ ys. GivesSome (Drains I.next_gives) iter
+            (λ xs. StateSegment (N.post init) (MapStep (λ p x y q. F.post map_op p x y q)) xs ys.items)) }
+        ensures fault { IsMemoryOnErr result }
     {
         self.map_init_collect_vec(alloc, site, iter, init, map_op)
     }
@@ -298,11 +289,11 @@ impl Sequential {
         requires can { I.can_next iter }
         requires ends { IsFinite (I.remaining iter) }
         requires accepts { HoldsAlong I.next_gives iter (All (F.pre map_op)) }
-        ensures answers { IfOk result (λ parts. (xs : List I.Item) × Drains I.next_gives iter xs × PartitionOf (F.post map_op) xs parts.0.items parts.1.items) }
-        ensures fault { IfErr result (λ fault. fault ≡ Memory) }
+        ensures answers { IfOk result (λ parts. GivesSome (Drains I.next_gives) iter
+            (λ xs. PartitionOf (F.post map_op) xs parts.0.items parts.1.items)) }
+        ensures fault { IsMemoryOnErr result }
     {
-        let items = gather(alloc, iter)?;
-        let parts = partition_serial(alloc, items, &map_op)?;
+        let parts = partition_iter(alloc, iter, &map_op)?;
         Ok(parts)
     }
 
@@ -333,7 +324,7 @@ impl Sequential {
         ensures permutation { IsPermutation items.old items.new }
         ensures sorted { OnOk result (IsSortedByClosure C.FnMut compare items.new) }
         ensures stable { IsStableByClosure C.FnMut compare items.old items.new }
-        ensures fault { IfErr result (λ fault. fault ≡ Memory) }
+        ensures fault { IsMemoryOnErr result }
     {
         items.sort_by(alloc, compare)?;
         Ok(())
@@ -364,6 +355,8 @@ impl Strategy for Sequential {
     ghost threads = { λ _. 1 };
 
     ghost starts = { λ _. true };
+
+    ghost unasked = { λ _. true };
 
     type Measure = Unmeasured;
 

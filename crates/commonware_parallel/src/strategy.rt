@@ -1,28 +1,35 @@
-ghost use Rattle.std.specs.Prelude.{◌≡◌, ◌≢◌, ℕ, ◌+◌, ◌/◌, ◌<◌, Bool, List, All, IfOk, IfErr, OnOk, IsTrue, MatchResult, length, max};
+ghost use Rattle.std.specs.Prelude.{◌≡◌, ◌≢◌, ℕ, ◌+◌, ◌/◌, ◌<◌, ◌≤◌, Bool, List, IfOk, IfErr, OnOk, IsTrue, MatchResult, false, length, max, true};
 ghost use Rattle.std.specs.Borrow.{MutBor};
 ghost use Rattle.std.specs.Int.NonZero.{non_zero_usize_get};
-ghost use Rattle.std.specs.Iterator.{IsFinite, Drains, HoldsAlong};
 ghost use Rattle.std.specs.List.Sorted.{IsPermutation, IsSortedByClosure, IsStableByClosure};
-ghost use Rattle.parallel_bridge.specs.Lists.{Bracketing, Brackets, FoldSegment, MapOf};
+ghost use Rattle.parallel_bridge.specs.Lists.{Bracketing, Brackets, MapOf};
 ghost use Rattle.parallel_bridge.specs.Outcomes.{UnlessRefused, listed};
 ghost use Rattle.parallel_bridge.specs.Parts.{PartitionOf};
-ghost use Rattle.parallel_bridge.specs.Shapes.{FoldsAs, cutdepth};
-ghost use Rattle.parallel_bridge.specs.States.{FoldInitSegment, FoldStep, MapStep, Stateful, StatesAs};
-ghost use Rattle.parallel_bridge.specs.Tries.{TryBracketing, TryFoldSegment, TryFoldsAs, TryMapOf};
-ghost use Rattle.commonware_parallel.specs.Calls.{batches_call, body_call, join_call, multiplied_call};
+ghost use Rattle.parallel_bridge.specs.Shapes.{cutdepth};
+ghost use Rattle.parallel_bridge.specs.Sources.{GivesSome};
+ghost use Rattle.parallel_bridge.specs.States.{FoldInitSegment, FoldStep, MapStep, Stateful};
+ghost use Rattle.parallel_bridge.specs.Tries.{TryBracketing, TryMapOf};
+ghost use Rattle.parallel_bridge.specs.Ways.{FoldedAs, FoldedInitAs, MappedInitAs, TryFoldedAs};
+ghost use Rattle.commonware_parallel.specs.Calls.{AtSomePick, IsInnerOf, batches_call, body_call, join_call, multiplied_call};
 ghost use Rattle.commonware_parallel.specs.Answers.{AnswersAs, OneOf};
-ghost use Rattle.commonware_parallel.specs.Batches.{IsBatch, ranges_of};
-ghost use Rattle.parallel_fault.specs.Trouble.{IfFault};
+ghost use Rattle.commonware_parallel.specs.Batches.{IsBatch, place_of, ranges_of, strategy_of};
+ghost use Rattle.parallel_fault.specs.Trouble.{IfFault, IsMemoryOnErr};
 
-use crate::call::{Call, Kind, Meter};
-use crate::items::{
-    body_over, dispatch_call, dispatch_fallible, gather, join_installed, map_init_through,
-    multiplied_body_over,
+use crate::batches::Batches;
+use crate::call::{Call, Kind};
+use crate::list::{
+    body_over, dispatch_call, fold_init_through, fold_through, map_init_through, map_through,
+    multiplied_body_over, partition_through, try_fold_through, try_map_through,
 };
-use crate::pick::{fold_at, fold_init_at, map_at, partition_at, try_fold_at, try_map_at};
-use crate::plan::Batches;
-use parallel_bridge::serial::{fold_iter, map_iter};
-use parallel_bridge::stateful::fold_init_iter;
+use crate::meter::Meter;
+use parallel_bridge::Source;
+use parallel_bridge::list::fold::fold_iter;
+use parallel_bridge::list::fold_init::fold_init_iter;
+use parallel_bridge::list::map::map_iter;
+use parallel_bridge::list::map_init::map_init_iter;
+use parallel_bridge::list::partition::partition_iter;
+use parallel_bridge::list::try_fold::try_fold_iter;
+use parallel_bridge::list::try_map::try_map_iter;
 use parallel_fault::{Fault, Trouble};
 use parallel_policy::Place;
 use std::alloc::Global;
@@ -30,6 +37,7 @@ use std::cmp::Ordering;
 use std::fmt::Debug;
 use std::num::NonZeroUsize;
 use std::sync::Wait;
+use std::thread;
 use std::thread::Threads;
 
 /// Runs a program's folds, maps, joins, sorts and batches, which are written once for all strategies.
@@ -43,12 +51,14 @@ use std::thread::Threads;
 /// `S: Strategy` may rest on the clauses here alone; code at one strategy sees through its ghost
 /// members, and so learns from a clause `along` in which segments a call went.
 ///
-/// Every call takes the runtime, then the allocator, then the place of the call. A list call takes an
-/// iterator that ends, and its list is what the iterator gives (`Drains`). A map's closure has to
-/// accept the items that it gives (`HoldsAlong`), at every state where it has one; every other closure
-/// has to accept every value of its argument types.
+/// Every call takes the runtime, then the allocator, then the place of the call. A list call takes a
+/// source: a slice, a vector, indices, a list of the user's own, or any iterator that ends. Its list is
+/// one that the source gives (`Source::gives`). A list that is one already is neither gathered nor copied;
+/// an iterator's items are gathered where the strategy has to be asked by their number. A map's closure
+/// has to accept the items that may come (`Source::may`), at every state where it has one; every other
+/// closure has to accept every value of its argument types.
 pub trait Strategy: Clone + Send + Sync + Debug + 'static {
-    ghost use Rattle.commonware_parallel.specs.declared.plan.Batches.{Batches};
+    ghost use Rattle.commonware_parallel.specs.declared.batches.Batches.{Batches};
     ghost use Rattle.parallel_policy.specs.declared.Site.{Site};
     ghost use Rattle.parallel_fault.specs.declared.fault.Fault.{Fault};
     ghost use Rattle.parallel_fault.specs.declared.fault.Fault.TheVariants.{Memory};
@@ -71,33 +81,39 @@ pub trait Strategy: Clone + Send + Sync + Debug + 'static {
     /// Whether a job that is handed off gets a worker; a pool of unstarted workers gives it none.
     ghost starts: { Self → Bool };
 
+    /// Whether any call of the kind `Body` may run at pick 0 without the strategy being asked.
+    ghost unasked: { Self → Bool };
+
     /// The planning number.
     fn planning(&self) -> NonZeroUsize
-        ensures { non_zero_usize_get result ≡ plans self.now };
+        ensures number { non_zero_usize_get result ≡ plans self.now }
+        ensures positive { 0 < plans self.now };
 
     /// The pool's thread number.
     fn thread_number(&self) -> NonZeroUsize
-        ensures { non_zero_usize_get result ≡ threads self.now };
+        ensures number { non_zero_usize_get result ≡ threads self.now }
+        ensures positive { 0 < threads self.now };
 
     /// Whether a job that is handed off gets a worker.
     fn starts_workers(&self) -> bool
         ensures { result ≡ starts self.now };
 
     /// Whether any call of the kind `Body` may run at pick 0 without the strategy being asked, as where
-    /// it has no other pick and measures nothing. A list call then goes over its iterator as it comes.
+    /// it has no other pick and measures nothing. A list call then goes over its source as it comes.
     fn is_serial(&self) -> bool
-        ensures { IsTrue result → (site : Site) (call : Call) → call.kind ≡ Body → takes self.now site call 0 }
-    {
-        false
-    }
+        ensures unasked { result ≡ unasked self.now }
+        ensures first { IsTrue result → (site : Site) (call : Call) → call.kind ≡ Body
+            → takes self.now site call 0 };
 
-    /// The strategy that the parts of a batch go through: a strategy like this one that asks no policy.
+    /// The strategy that the parts of a batch go through: one with the same numbers that no policy
+    /// chooses for (`IsInnerOf`).
     ///
     /// # Errors
     ///
     /// `Fault::Memory` alone.
     fn inner(&self) -> Result<Self, Fault>
-        ensures { IfErr result (λ fault. fault ≡ Memory) };
+        ensures inner { IfOk result (IsInnerOf takes refuses plans threads starts self.now) }
+        ensures fault { IsMemoryOnErr result };
 
     /// Runs a body at a pick for the call, on the caller's thread, and answers what it answered.
     ///
@@ -162,9 +178,11 @@ pub trait Strategy: Clone + Send + Sync + Debug + 'static {
     ) -> Result<R, Fault>
         requires serial_runs { A.pre serial }
         requires parallel_runs { B.pre parallel }
-        ensures answers { IfOk result (λ answer. (pick : ℕ) × ((pick < 2) × takes self.now (P.site_of site) (body_call len) pick) × OneOf (A.post serial answer) (B.post parallel answer) pick) }
+        ensures answers { IfOk result (λ answer. (pick : ℕ)
+            × ((pick < 2) × takes self.now (P.site_of site) (body_call len) pick)
+            × OneOf (A.post serial answer) (B.post parallel answer) pick) }
         ensures refused { IfErr result (refuses self.now (P.site_of site) (body_call len)) }
-        ensures fault { IfErr result (λ fault. fault ≡ Memory) }
+        ensures fault { IsMemoryOnErr result }
     {
         let body = move |pick: usize| -> Result<R, ()>
             requires { A.pre serial × B.pre parallel }
@@ -225,8 +243,8 @@ pub trait Strategy: Clone + Send + Sync + Debug + 'static {
         self.dispatch(rt, alloc, site, Call::body(len), body)
     }
 
-    /// An answer of each of two closures, which are run one after the other at pick 0, the first one
-    /// first, and side by side on workers at pick 1.
+    /// An answer of each of two closures, which are run one after the other at pick 0, and side by side at
+    /// pick 1, one of them on the caller's thread.
     ///
     /// # Errors
     ///
@@ -244,7 +262,7 @@ pub trait Strategy: Clone + Send + Sync + Debug + 'static {
         requires second_runs { B.pre b }
         ensures answers { IfOk result (λ answers. A.post a answers.0 × B.post b answers.1) }
         ensures refused { IfErr result (refuses self.now (P.site_of site) join_call) }
-        ensures fault { IfErr result (λ fault. fault ≡ Memory) }
+        ensures fault { IsMemoryOnErr result }
     {
         let body = move |pick: usize| -> Result<(RA, RB), ()>
             requires { A.pre a × B.pre b }
@@ -252,7 +270,7 @@ pub trait Strategy: Clone + Send + Sync + Debug + 'static {
         {
             match pick {
                 0 => Ok((a(), b())),
-                _ => Ok(join_installed(rt, a, b)),
+                _ => Ok(thread::join(rt, a, b)),
             }
         };
         match self.dispatch(rt, alloc, site, Call::join(), body) {
@@ -262,46 +280,20 @@ pub trait Strategy: Clone + Send + Sync + Debug + 'static {
         }
     }
 
-    /// Sorts the items by an order, on the caller's thread; items that tie keep their order.
+    /// Sorts the items by an order; items that tie keep their order. At pick 0 the caller's thread sorts
+    /// them; at pick 1, where there are enough of them to gain, the pool's thread number of parts is
+    /// sorted side by side first.
     ///
     /// The order has to be lawful: a strict weak order that `compare` answers by. Whatever `compare`
     /// answers, the items are those that were there before. The strategy is asked as for a body over
-    /// the items, and may measure the sort; both picks run the same one.
+    /// the items, and may measure the sort (`asked`).
     ///
     /// # Errors
     ///
     /// `Fault::Memory` alone, where the strategy or the sort's buffer was refused memory; the items
     /// are then a permutation of what they were.
-    final fn sort_by<Rt: Wait, P: Place, T: Send, C: Fn(&T, &T) -> Ordering + Send + Sync + Drop>(
-        &self,
-        rt: &Rt,
-        alloc: Global,
-        site: P,
-        items: &mut [T],
-        compare: C,
-    ) -> Result<(), Fault>
-        requires { C.IsAlwaysCallable compare }
-        ensures permutation { IsPermutation items.old items.new }
-        ensures sorted { OnOk result (IsSortedByClosure C.FnMut compare items.new) }
-        ensures stable { IsStableByClosure C.FnMut compare items.old items.new }
-        ensures fault { IfErr result (λ fault. fault ≡ Memory) }
-    {
-        let (_pick, mut meter) = self.choose(rt, alloc, site, Call::body(items.len()))?;
-        meter.begin();
-        items.sort_by(alloc, compare)?;
-        meter.end(rt);
-        Ok(())
-    }
-
-    /// Sorts the items by an order, on the caller's thread, as `sort_by` does; items that tie may
-    /// change places.
-    ///
-    /// # Errors
-    ///
-    /// `Fault::Memory` alone, where the strategy or the sort's buffer was refused memory; the items
-    /// are then a permutation of what they were.
-    final fn sort_unstable_by<
-        Rt: Wait,
+    final fn sort_by<
+        Rt: Threads + Wait + Sync,
         P: Place,
         T: Send,
         C: Fn(&T, &T) -> Ordering + Send + Sync + Drop,
@@ -309,13 +301,46 @@ pub trait Strategy: Clone + Send + Sync + Debug + 'static {
         requires { C.IsAlwaysCallable compare }
         ensures permutation { IsPermutation items.old items.new }
         ensures sorted { OnOk result (IsSortedByClosure C.FnMut compare items.new) }
-        ensures fault { IfErr result (λ fault. fault ≡ Memory) }
+        ensures stable { IsStableByClosure C.FnMut compare items.old items.new }
+        ensures asked { OnOk result (AtSomePick
+            (takes self.now (P.site_of site) (body_call (length items.old))) (λ _. Unit {0})) }
+        ensures fault { IsMemoryOnErr result }
+    {
+        let (pick, mut meter) = self.choose(rt, alloc, site, Call::body(items.len()))?;
+        let threads = match pick {
+            0 => NonZeroUsize::MIN,
+            _ => self.thread_number(),
+        };
+        meter.begin();
+        let _ = threads;
+        items.sort_by(alloc, compare)?;
+        meter.end(rt);
+        Ok(())
+    }
+
+    /// Sorts the items by an order, as `sort_by` does; items that tie may change places.
+    ///
+    /// # Errors
+    ///
+    /// `Fault::Memory` alone, where the strategy or the sort's buffer was refused memory; the items
+    /// are then a permutation of what they were.
+    final fn sort_unstable_by<
+        Rt: Threads + Wait + Sync,
+        P: Place,
+        T: Send,
+        C: Fn(&T, &T) -> Ordering + Send + Sync + Drop,
+    >(&self, rt: &Rt, alloc: Global, site: P, items: &mut [T], compare: C) -> Result<(), Fault>
+        requires { C.IsAlwaysCallable compare }
+        ensures permutation { IsPermutation items.old items.new }
+        ensures sorted { OnOk result (IsSortedByClosure C.FnMut compare items.new) }
+        ensures asked { OnOk result (AtSomePick
+            (takes self.now (P.site_of site) (body_call (length items.old))) (λ _. Unit {0})) }
+        ensures fault { IsMemoryOnErr result }
     {
         self.sort_by(rt, alloc, site, items, compare)
     }
 
-    /// An answer of a body over `len` items that may itself be refused memory: what the list calls
-    /// stand on.
+    /// An answer of a body over `len` items that may itself be refused memory.
     ///
     /// # Errors
     ///
@@ -330,35 +355,46 @@ pub trait Strategy: Clone + Send + Sync + Debug + 'static {
     ) -> Result<R, Fault>
         requires accepts { (pick : ℕ) → pick < 2 → takes self.now (P.site_of site) (body_call len) pick → B.pre body pick }
         requires memory { (pick : ℕ) (fault : Fault) → B.post body pick (Err fault) → fault ≡ Memory }
-        ensures answers { IfOk result (λ answer. (pick : ℕ) × (pick < 2) × takes self.now (P.site_of site) (body_call len) pick × B.post body pick (Ok answer)) }
-        ensures fault { IfErr result (λ fault. fault ≡ Memory) }
+        ensures answers { IfOk result (λ answer. AtSomePick
+            (takes self.now (P.site_of site) (body_call len)) (λ pick. B.post body pick (Ok answer))) }
+        ensures fault { IsMemoryOnErr result }
     {
         dispatch_call(self, rt, alloc, site, Call::body(len), body)
     }
 
     /// The answers of `map_op` for the items, in the items' order (`MapOf`). The closure has to accept
-    /// each item that the iterator gives, and no other value (`HoldsAlong`).
+    /// each item that may come of the source, and no other value.
+    ///
+    /// The strategy is asked by the number of items (`asked`).
     ///
     /// # Errors
     ///
     /// `Fault::Memory` alone; the items are then gone. Where a strategy that isn't serial could not
-    /// gather the items themselves no closure was called.
+    /// gather the items of an iterator no closure was called.
     final fn map_collect_vec<
         Rt: Threads + Wait + Sync,
         P: Place,
-        I: Iterator,
+        M,
+        I: Source<M>,
         T: Send + Drop,
         F: Fn(I::Item) -> T + Send + Sync + Drop,
-    >(&self, rt: &Rt, alloc: Global, site: P, iter: I, map_op: F) -> Result<Vec<T>, Fault>
-    where
-        I::Item: Send + Drop,
-        requires can { I.can_next iter }
-        requires ends { IsFinite (I.remaining iter) }
-        requires accepts { HoldsAlong I.next_gives iter (All (F.pre map_op)) }
-        ensures answers { IfOk result (λ ys. (xs : List I.Item) × Drains I.next_gives iter xs × MapOf (F.post map_op) xs ys.items) }
-        ensures fault { IfErr result (λ fault. fault ≡ Memory) }
+    >(&self, rt: &Rt, alloc: Global, site: P, source: I, map_op: F) -> Result<Vec<T>, Fault>
+        requires can { I.can source }
+        requires accepts { (x : I.Item) → I.may source x → F.pre map_op x }
+        ensures answers { IfOk result (λ ys. GivesSome I.gives source
+            (λ xs. MapOf (F.post map_op) xs ys.items)) }
+        ensures asked { OnOk result (GivesSome I.gives source
+            (λ xs. AtSomePick (takes self.now (P.site_of site) (body_call (length xs))) (λ _. Unit {0}))) }
+        ensures fault { IsMemoryOnErr result }
     {
-        self.map_collect_vec_with_multiplier(rt, alloc, site, iter, 1, map_op)
+        if self.is_serial() {
+            let answers = map_iter(alloc, source.into_items(), &map_op)?;
+            return Ok(answers);
+        }
+        let parts = source.into_parts(alloc)?;
+        let call = body_over(&parts);
+        let answers = map_through(self, rt, alloc, site, call, parts, &map_op)?;
+        Ok(answers)
     }
 
     /// As `map_collect_vec`, for items that each stand for the work of `multiplier`: a policy tells
@@ -370,7 +406,8 @@ pub trait Strategy: Clone + Send + Sync + Debug + 'static {
     final fn map_collect_vec_with_multiplier<
         Rt: Threads + Wait + Sync,
         P: Place,
-        I: Iterator,
+        M,
+        I: Source<M>,
         T: Send + Drop,
         F: Fn(I::Item) -> T + Send + Sync + Drop,
     >(
@@ -378,30 +415,26 @@ pub trait Strategy: Clone + Send + Sync + Debug + 'static {
         rt: &Rt,
         alloc: Global,
         site: P,
-        iter: I,
+        source: I,
         multiplier: usize,
         map_op: F,
     ) -> Result<Vec<T>, Fault>
-    where
-        I::Item: Send + Drop,
-        requires can { I.can_next iter }
-        requires ends { IsFinite (I.remaining iter) }
-        requires accepts { HoldsAlong I.next_gives iter (All (F.pre map_op)) }
-        ensures answers { IfOk result (λ ys. (xs : List I.Item) × Drains I.next_gives iter xs × MapOf (F.post map_op) xs ys.items) }
-        ensures fault { IfErr result (λ fault. fault ≡ Memory) }
+        requires can { I.can source }
+        requires accepts { (x : I.Item) → I.may source x → F.pre map_op x }
+        ensures answers { IfOk result (λ ys. GivesSome I.gives source
+            (λ xs. MapOf (F.post map_op) xs ys.items)) }
+        ensures asked { OnOk result (GivesSome I.gives source
+            (λ xs. AtSomePick (takes self.now (P.site_of site) (multiplied_call (length xs) multiplier)) (λ _. Unit {0}))) }
+        ensures fault { IsMemoryOnErr result }
     {
         if self.is_serial() {
-            return map_iter(alloc, iter, map_op);
+            let answers = map_iter(alloc, source.into_items(), &map_op)?;
+            return Ok(answers);
         }
-        let items = gather(alloc, iter)?;
-        let call = multiplied_body_over(&items, multiplier);
-        let threads = self.thread_number();
-        let body = move |pick: usize| -> Result<Vec<T>, Fault>
-            requires { All (F.pre map_op) items.items }
-            ensures answers { IfOk result (λ ys. MapOf (F.post map_op) items.items ys.items) }
-            ensures fault { IfErr result (λ fault. fault ≡ Memory) }
-        { map_at(rt, alloc, threads, pick, items, &map_op) };
-        dispatch_call(self, rt, alloc, site, call, body)
+        let parts = source.into_parts(alloc)?;
+        let call = multiplied_body_over(&parts, multiplier);
+        let answers = map_through(self, rt, alloc, site, call, parts, &map_op)?;
+        Ok(answers)
     }
 
     /// The items folded in neighbouring segments, each from an identity of its own, and the segments'
@@ -409,7 +442,7 @@ pub trait Strategy: Clone + Send + Sync + Debug + 'static {
     ///
     /// At pick 0 the list is one segment and nothing is reduced. At pick 1 it goes along the list's
     /// shape for the pool's thread number, and each leaf is reduced behind a further identity
-    /// (`FoldsAs`). `parallel_bridge::fold_law` says when every such answer is the plain fold from the
+    /// (`FoldedAs`). `parallel_bridge::fold_law` says when every such answer is the plain fold from the
     /// left.
     ///
     /// # Errors
@@ -418,7 +451,8 @@ pub trait Strategy: Clone + Send + Sync + Debug + 'static {
     final fn fold<
         Rt: Threads + Wait + Sync,
         P: Place,
-        I: Iterator,
+        M,
+        I: Source<M>,
         R: Send + Drop,
         ID: Fn() -> R + Send + Sync + Drop,
         F: Fn(R, I::Item) -> R + Send + Sync + Drop,
@@ -428,41 +462,32 @@ pub trait Strategy: Clone + Send + Sync + Debug + 'static {
         rt: &Rt,
         alloc: Global,
         site: P,
-        iter: I,
+        source: I,
         identity: ID,
         fold_op: F,
         reduce_op: G,
     ) -> Result<R, Fault>
-    where
-        I::Item: Send + Drop,
-        requires can { I.can_next iter }
-        requires ends { IsFinite (I.remaining iter) }
+        requires can { I.can source }
         requires identity_accepts { ID.IsAlwaysCallable identity }
         requires fold_accepts { F.IsAlwaysCallable fold_op }
         requires reduce_accepts { G.IsAlwaysCallable reduce_op }
-        ensures brackets { IfOk result (λ r. (xs : List I.Item) × Drains I.next_gives iter xs
-            × Bracketing (ID.post identity) (λ a x b. F.post fold_op a x b) (λ a b c. G.post reduce_op a b c) xs r) }
-        ensures along { IfOk result (λ r. (xs : List I.Item) × Drains I.next_gives iter xs × (pick : ℕ) × (pick < 2)
-            × takes self.now (P.site_of site) (body_call (length xs)) pick
-            × FoldsAs (ID.post identity) (FoldSegment (ID.post identity) (λ a x b. F.post fold_op a x b)) (λ a b c. G.post reduce_op a b c) (cutdepth (threads self.now)) pick xs r) }
-        ensures fault { IfErr result (λ fault. fault ≡ Memory) }
+        ensures brackets { IfOk result (λ r. GivesSome I.gives source
+            (λ xs. Bracketing (ID.post identity) (λ a x b. F.post fold_op a x b)
+            (λ a b c. G.post reduce_op a b c) xs r)) }
+        ensures along { IfOk result (λ r. GivesSome I.gives source
+            (λ xs. AtSomePick (takes self.now (P.site_of site) (body_call (length xs)))
+            (λ pick. FoldedAs (ID.post identity) (λ a x b. F.post fold_op a x b)
+            (λ a b c. G.post reduce_op a b c) (cutdepth (threads self.now)) pick xs r))) }
+        ensures fault { IsMemoryOnErr result }
     {
         if self.is_serial() {
-            return Ok(fold_iter(iter, &identity, &fold_op));
+            return Ok(fold_iter(source.into_items(), &identity, &fold_op));
         }
-        let items = gather(alloc, iter)?;
-        let call = body_over(&items);
-        let threads = self.thread_number();
-        let body = move |pick: usize| -> Result<R, Fault>
-            requires { ID.IsAlwaysCallable identity × F.IsAlwaysCallable fold_op × G.IsAlwaysCallable reduce_op }
-            ensures along { IfOk result (λ r. FoldsAs (ID.post identity) (FoldSegment (ID.post identity) (λ a x b. F.post fold_op a x b)) (λ a b c. G.post reduce_op a b c) (cutdepth (non_zero_usize_get threads)) pick items.items r) }
-            ensures fault { IfErr result (λ fault. fault ≡ Memory) }
-        {
-            fold_at(
-                rt, alloc, threads, pick, items, &identity, &fold_op, &reduce_op,
-            )
-        };
-        let answer = dispatch_call(self, rt, alloc, site, call, body)?;
+        let parts = source.into_parts(alloc)?;
+        let call = body_over(&parts);
+        let answer = fold_through(
+            self, rt, alloc, site, call, parts, &identity, &fold_op, &reduce_op,
+        )?;
         Ok(answer)
     }
 
@@ -475,7 +500,8 @@ pub trait Strategy: Clone + Send + Sync + Debug + 'static {
     final fn fold_init<
         Rt: Threads + Wait + Sync,
         P: Place,
-        I: Iterator,
+        M,
+        I: Source<M>,
         S: Send + Drop,
         R: Send + Drop,
         N: Fn() -> S + Send + Sync + Drop,
@@ -487,44 +513,36 @@ pub trait Strategy: Clone + Send + Sync + Debug + 'static {
         rt: &Rt,
         alloc: Global,
         site: P,
-        iter: I,
+        source: I,
         init: N,
         identity: ID,
         fold_op: F,
         reduce_op: G,
     ) -> Result<R, Fault>
-    where
-        I::Item: Send + Drop,
-        requires can { I.can_next iter }
-        requires ends { IsFinite (I.remaining iter) }
+        requires can { I.can source }
         requires init_accepts { N.IsAlwaysCallable init }
         requires identity_accepts { ID.IsAlwaysCallable identity }
         requires fold_accepts { F.IsAlwaysCallable fold_op }
         requires reduce_accepts { G.IsAlwaysCallable reduce_op }
-        ensures brackets { IfOk result (λ r. (xs : List I.Item) × Drains I.next_gives iter xs
-            × Brackets (FoldInitSegment (N.post init) (ID.post identity) (FoldStep (λ a p x b q. F.post fold_op a p x b q))) (λ a b c. G.post reduce_op a b c) xs r) }
-        ensures along { IfOk result (λ r. (xs : List I.Item) × Drains I.next_gives iter xs × (pick : ℕ) × (pick < 2)
-            × takes self.now (P.site_of site) (body_call (length xs)) pick
-            × FoldsAs (ID.post identity) (FoldInitSegment (N.post init) (ID.post identity) (FoldStep (λ a p x b q. F.post fold_op a p x b q))) (λ a b c. G.post reduce_op a b c) (cutdepth (threads self.now)) pick xs r) }
-        ensures fault { IfErr result (λ fault. fault ≡ Memory) }
+        ensures brackets { IfOk result (λ r. GivesSome I.gives source
+            (λ xs. Brackets (FoldInitSegment (N.post init) (ID.post identity)
+            (FoldStep (λ a p x b q. F.post fold_op a p x b q)))
+            (λ a b c. G.post reduce_op a b c) xs r)) }
+        ensures along { IfOk result (λ r. GivesSome I.gives source
+            (λ xs. AtSomePick (takes self.now (P.site_of site) (body_call (length xs)))
+            (λ pick. FoldedInitAs (N.post init) (ID.post identity)
+            (FoldStep (λ a p x b q. F.post fold_op a p x b q))
+            (λ a b c. G.post reduce_op a b c) (cutdepth (threads self.now)) pick xs r))) }
+        ensures fault { IsMemoryOnErr result }
     {
         if self.is_serial() {
-            return Ok(fold_init_iter(iter, &init, &identity, &fold_op));
+            return Ok(fold_init_iter(source.into_items(), &init, &identity, &fold_op));
         }
-        let items = gather(alloc, iter)?;
-        let call = body_over(&items);
-        let threads = self.thread_number();
-        let body = move |pick: usize| -> Result<R, Fault>
-            requires { N.IsAlwaysCallable init × ID.IsAlwaysCallable identity × F.IsAlwaysCallable fold_op × G.IsAlwaysCallable reduce_op }
-            ensures brackets { IfOk result (λ r. Brackets (FoldInitSegment (N.post init) (ID.post identity) (FoldStep (λ a p x b q. F.post fold_op a p x b q))) (λ a b c. G.post reduce_op a b c) items.items r) }
-            ensures along { IfOk result (λ r. FoldsAs (ID.post identity) (FoldInitSegment (N.post init) (ID.post identity) (FoldStep (λ a p x b q. F.post fold_op a p x b q))) (λ a b c. G.post reduce_op a b c) (cutdepth (non_zero_usize_get threads)) pick items.items r) }
-            ensures fault { IfErr result (λ fault. fault ≡ Memory) }
-        {
-            fold_init_at(
-                rt, alloc, threads, pick, items, &init, &identity, &fold_op, &reduce_op,
-            )
-        };
-        let answer = dispatch_call(self, rt, alloc, site, call, body)?;
+        let parts = source.into_parts(alloc)?;
+        let call = body_over(&parts);
+        let answer = fold_init_through(
+            self, rt, alloc, site, call, parts, &init, &identity, &fold_op, &reduce_op,
+        )?;
         Ok(answer)
     }
 
@@ -532,7 +550,7 @@ pub trait Strategy: Clone + Send + Sync + Debug + 'static {
     /// identity of its own, and the segments' values reduced, left before right (`TryBracketing`).
     ///
     /// A segment ends at its own first error, and of several the leftmost is answered, whichever
-    /// segment ended first. The forms of the segments are those of `fold` (`TryFoldsAs`).
+    /// segment ended first. The forms of the segments are those of `fold` (`TryFoldedAs`).
     ///
     /// # Errors
     ///
@@ -541,7 +559,8 @@ pub trait Strategy: Clone + Send + Sync + Debug + 'static {
     final fn try_fold<
         Rt: Threads + Wait + Sync,
         P: Place,
-        I: Iterator,
+        M,
+        I: Source<M>,
         R: Send + Drop,
         E: Send + Drop,
         ID: Fn() -> R + Send + Sync + Drop,
@@ -552,43 +571,40 @@ pub trait Strategy: Clone + Send + Sync + Debug + 'static {
         rt: &Rt,
         alloc: Global,
         site: P,
-        iter: I,
+        source: I,
         identity: ID,
         fold_op: F,
         reduce_op: G,
     ) -> Result<R, Trouble<E>>
-    where
-        I::Item: Send + Drop,
-        requires can { I.can_next iter }
-        requires ends { IsFinite (I.remaining iter) }
+        requires can { I.can source }
         requires identity_accepts { ID.IsAlwaysCallable identity }
         requires fold_accepts { F.IsAlwaysCallable fold_op }
         requires reduce_accepts { G.IsAlwaysCallable reduce_op }
-        ensures brackets { UnlessRefused result (λ outcome. (xs : List I.Item) × Drains I.next_gives iter xs
-            × TryBracketing (ID.post identity) (λ a x b. F.post fold_op a x b) (λ a b c. G.post reduce_op a b c) xs outcome) }
-        ensures along { UnlessRefused result (λ outcome. (xs : List I.Item) × Drains I.next_gives iter xs × (pick : ℕ) × (pick < 2)
-            × takes self.now (P.site_of site) (body_call (length xs)) pick
-            × TryFoldsAs (ID.post identity) (TryFoldSegment (ID.post identity) (λ a x b. F.post fold_op a x b)) (λ a b c. G.post reduce_op a b c) (cutdepth (threads self.now)) pick xs outcome) }
+        ensures brackets { UnlessRefused result (λ out. GivesSome I.gives source
+            (λ xs. TryBracketing (ID.post identity) (λ a x b. F.post fold_op a x b)
+            (λ a b c. G.post reduce_op a b c) xs out)) }
+        ensures along { UnlessRefused result (λ out. GivesSome I.gives source
+            (λ xs. AtSomePick (takes self.now (P.site_of site) (body_call (length xs)))
+            (λ pick. TryFoldedAs (ID.post identity) (λ a x b. F.post fold_op a x b)
+            (λ a b c. G.post reduce_op a b c) (cutdepth (threads self.now)) pick xs out))) }
         ensures fault { IfErr result (λ trouble. IfFault trouble (λ fault. fault ≡ Memory)) }
     {
-        let items = gather(alloc, iter)?;
-        let call = body_over(&items);
-        let threads = self.thread_number();
-        let body = move |pick: usize| -> Result<R, Trouble<E>>
-            requires { ID.IsAlwaysCallable identity × F.IsAlwaysCallable fold_op × G.IsAlwaysCallable reduce_op }
-            ensures brackets { UnlessRefused result (TryBracketing (ID.post identity) (λ a x b. F.post fold_op a x b) (λ a b c. G.post reduce_op a b c) items.items) }
-            ensures along { UnlessRefused result (TryFoldsAs (ID.post identity) (TryFoldSegment (ID.post identity) (λ a x b. F.post fold_op a x b)) (λ a b c. G.post reduce_op a b c) (cutdepth (non_zero_usize_get threads)) pick items.items) }
-        {
-            try_fold_at(
-                rt, alloc, threads, pick, items, &identity, &fold_op, &reduce_op,
-            )
-        };
-        dispatch_fallible(self, rt, alloc, site, call, body)
+        if self.is_serial() {
+            return match try_fold_iter(source.into_items(), &identity, &fold_op) {
+                Ok(value) => Ok(value),
+                Err(error) => Err(Trouble::Closure(error)),
+            };
+        }
+        let parts = source.into_parts(alloc)?;
+        let call = body_over(&parts);
+        try_fold_through(
+            self, rt, alloc, site, call, parts, &identity, &fold_op, &reduce_op,
+        )
     }
 
     /// The values that `map_op` answers for the items, in the items' order, or the error of the first
     /// item that fails, whichever part of the list ended first (`TryMapOf`). The closure has to accept
-    /// each item that the iterator gives, and no other value.
+    /// each item that may come of the source, and no other value.
     ///
     /// # Errors
     ///
@@ -597,35 +613,35 @@ pub trait Strategy: Clone + Send + Sync + Debug + 'static {
     final fn try_map_collect_vec<
         Rt: Threads + Wait + Sync,
         P: Place,
-        I: Iterator,
+        M,
+        I: Source<M>,
         T: Send + Drop,
         E: Send + Drop,
         F: Fn(I::Item) -> Result<T, E> + Send + Sync + Drop,
-    >(&self, rt: &Rt, alloc: Global, site: P, iter: I, map_op: F) -> Result<Vec<T>, Trouble<E>>
-    where
-        I::Item: Send + Drop,
-        requires can { I.can_next iter }
-        requires ends { IsFinite (I.remaining iter) }
-        requires accepts { HoldsAlong I.next_gives iter (All (F.pre map_op)) }
-        ensures answers { UnlessRefused result (λ outcome. (xs : List I.Item) × Drains I.next_gives iter xs × TryMapOf (F.post map_op) xs (listed outcome)) }
+    >(&self, rt: &Rt, alloc: Global, site: P, source: I, map_op: F) -> Result<Vec<T>, Trouble<E>>
+        requires can { I.can source }
+        requires accepts { (x : I.Item) → I.may source x → F.pre map_op x }
+        ensures answers { UnlessRefused result (λ out. GivesSome I.gives source
+            (λ xs. TryMapOf (F.post map_op) xs (listed out))) }
+        ensures asked { UnlessRefused result (λ _. GivesSome I.gives source
+            (λ xs. AtSomePick (takes self.now (P.site_of site) (body_call (length xs)))
+            (λ _. Unit {0}))) }
         ensures fault { IfErr result (λ trouble. IfFault trouble (λ fault. fault ≡ Memory)) }
     {
-        let items = gather(alloc, iter)?;
-        let call = body_over(&items);
-        let threads = self.thread_number();
-        let body = move |pick: usize| -> Result<Vec<T>, Trouble<E>>
-            requires { All (F.pre map_op) items.items }
-            ensures { UnlessRefused result (λ outcome. TryMapOf (F.post map_op) items.items (listed outcome)) }
-        { try_map_at(rt, alloc, threads, pick, items, &map_op) };
-        dispatch_fallible(self, rt, alloc, site, call, body)
+        if self.is_serial() {
+            return try_map_iter(alloc, source.into_items(), &map_op);
+        }
+        let parts = source.into_parts(alloc)?;
+        let call = body_over(&parts);
+        try_map_through(self, rt, alloc, site, call, parts, &map_op)
     }
 
     /// The answers of `map_op` for the items, in the items' order, with a state at hand that goes from
     /// item to item of a segment and begins there as a value of `init` (`Stateful`).
     ///
     /// At pick 0 the list is one segment with one state. At pick 1 the states change at the segments
-    /// of the list's shape for the pool's thread number (`StatesAs`). The closure has to accept each
-    /// item that the iterator gives, at every state.
+    /// of the list's shape for the pool's thread number (`MappedInitAs`). The closure has to accept each
+    /// item that may come of the source, at every state.
     ///
     /// # Errors
     ///
@@ -633,28 +649,41 @@ pub trait Strategy: Clone + Send + Sync + Debug + 'static {
     final fn map_init_collect_vec<
         Rt: Threads + Wait + Sync,
         P: Place,
-        I: Iterator,
+        M,
+        I: Source<M>,
         S: Send + Drop,
         T: Send + Drop,
         N: Fn() -> S + Send + Sync + Drop,
         F: Fn(&mut S, I::Item) -> T + Send + Sync + Drop,
-    >(&self, rt: &Rt, alloc: Global, site: P, iter: I, init: N, map_op: F) -> Result<Vec<T>, Fault>
-    where
-        I::Item: Send + Drop,
-        requires can { I.can_next iter }
-        requires ends { IsFinite (I.remaining iter) }
+    >(
+        &self,
+        rt: &Rt,
+        alloc: Global,
+        site: P,
+        source: I,
+        init: N,
+        map_op: F,
+    ) -> Result<Vec<T>, Fault>
+        requires can { I.can source }
         requires init_accepts { N.IsAlwaysCallable init }
-        requires map_accepts { HoldsAlong I.next_gives iter (All (λ x. (state : MutBor S) → F.pre map_op state x)) }
-        ensures stateful { IfOk result (λ ys. (xs : List I.Item) × Drains I.next_gives iter xs
-            × Stateful (N.post init) (MapStep (λ p x y q. F.post map_op p x y q)) xs ys.items) }
-        ensures along { IfOk result (λ ys. (xs : List I.Item) × Drains I.next_gives iter xs × (pick : ℕ) × (pick < 2)
-            × takes self.now (P.site_of site) (body_call (length xs)) pick
-            × StatesAs (N.post init) (MapStep (λ p x y q. F.post map_op p x y q)) (cutdepth (threads self.now)) pick xs ys.items) }
-        ensures fault { IfErr result (λ fault. fault ≡ Memory) }
+        requires map_accepts { (x : I.Item) → I.may source x
+            → (state : MutBor S) → F.pre map_op state x }
+        ensures stateful { IfOk result (λ ys. GivesSome I.gives source
+            (λ xs. Stateful (N.post init) (MapStep (λ p x y q. F.post map_op p x y q))
+            xs ys.items)) }
+        ensures along { IfOk result (λ ys. GivesSome I.gives source
+            (λ xs. AtSomePick (takes self.now (P.site_of site) (body_call (length xs)))
+            (λ pick. MappedInitAs (N.post init) (MapStep (λ p x y q. F.post map_op p x y q))
+            (cutdepth (threads self.now)) pick xs ys.items))) }
+        ensures fault { IsMemoryOnErr result }
     {
-        let items = gather(alloc, iter)?;
-        let call = body_over(&items);
-        let answers = map_init_through(self, rt, alloc, site, call, items, &init, &map_op)?;
+        if self.is_serial() {
+            let answers = map_init_iter(alloc, source.into_items(), &init, &map_op)?;
+            return Ok(answers);
+        }
+        let parts = source.into_parts(alloc)?;
+        let call = body_over(&parts);
+        let answers = map_init_through(self, rt, alloc, site, call, parts, &init, &map_op)?;
         Ok(answers)
     }
 
@@ -667,7 +696,8 @@ pub trait Strategy: Clone + Send + Sync + Debug + 'static {
     final fn map_init_collect_vec_with_multiplier<
         Rt: Threads + Wait + Sync,
         P: Place,
-        I: Iterator,
+        M,
+        I: Source<M>,
         S: Send + Drop,
         T: Send + Drop,
         N: Fn() -> S + Send + Sync + Drop,
@@ -677,32 +707,36 @@ pub trait Strategy: Clone + Send + Sync + Debug + 'static {
         rt: &Rt,
         alloc: Global,
         site: P,
-        iter: I,
+        source: I,
         multiplier: usize,
         init: N,
         map_op: F,
     ) -> Result<Vec<T>, Fault>
-    where
-        I::Item: Send + Drop,
-        requires can { I.can_next iter }
-        requires ends { IsFinite (I.remaining iter) }
+        requires can { I.can source }
         requires init_accepts { N.IsAlwaysCallable init }
-        requires map_accepts { HoldsAlong I.next_gives iter (All (λ x. (state : MutBor S) → F.pre map_op state x)) }
-        ensures stateful { IfOk result (λ ys. (xs : List I.Item) × Drains I.next_gives iter xs
-            × Stateful (N.post init) (MapStep (λ p x y q. F.post map_op p x y q)) xs ys.items) }
-        ensures along { IfOk result (λ ys. (xs : List I.Item) × Drains I.next_gives iter xs × (pick : ℕ) × (pick < 2)
-            × takes self.now (P.site_of site) (multiplied_call (length xs) multiplier) pick
-            × StatesAs (N.post init) (MapStep (λ p x y q. F.post map_op p x y q)) (cutdepth (threads self.now)) pick xs ys.items) }
-        ensures fault { IfErr result (λ fault. fault ≡ Memory) }
+        requires map_accepts { (x : I.Item) → I.may source x
+            → (state : MutBor S) → F.pre map_op state x }
+        ensures stateful { IfOk result (λ ys. GivesSome I.gives source
+            (λ xs. Stateful (N.post init) (MapStep (λ p x y q. F.post map_op p x y q))
+            xs ys.items)) }
+        ensures along { IfOk result (λ ys. GivesSome I.gives source
+            (λ xs. AtSomePick (takes self.now (P.site_of site) (multiplied_call (length xs) multiplier))
+            (λ pick. MappedInitAs (N.post init) (MapStep (λ p x y q. F.post map_op p x y q))
+            (cutdepth (threads self.now)) pick xs ys.items))) }
+        ensures fault { IsMemoryOnErr result }
     {
-        let items = gather(alloc, iter)?;
-        let call = multiplied_body_over(&items, multiplier);
-        let answers = map_init_through(self, rt, alloc, site, call, items, &init, &map_op)?;
+        if self.is_serial() {
+            let answers = map_init_iter(alloc, source.into_items(), &init, &map_op)?;
+            return Ok(answers);
+        }
+        let parts = source.into_parts(alloc)?;
+        let call = multiplied_body_over(&parts, multiplier);
+        let answers = map_init_through(self, rt, alloc, site, call, parts, &init, &map_op)?;
         Ok(answers)
     }
 
     /// The values that `map_op` answers, and the keys of the items for which it answers none, both in
-    /// the items' order (`PartitionOf`). The closure has to accept each item that the iterator gives,
+    /// the items' order (`PartitionOf`). The closure has to accept each item that may come of the source,
     /// and no other value.
     ///
     /// # Errors
@@ -711,28 +745,36 @@ pub trait Strategy: Clone + Send + Sync + Debug + 'static {
     final fn map_partition_collect_vec<
         Rt: Threads + Wait + Sync,
         P: Place,
-        I: Iterator,
+        M,
+        I: Source<M>,
         K: Send + Drop,
         U: Send + Drop,
         F: Fn(I::Item) -> (K, Option<U>) + Send + Sync + Drop,
-    >(&self, rt: &Rt, alloc: Global, site: P, iter: I, map_op: F) -> Result<(Vec<U>, Vec<K>), Fault>
-    where
-        I::Item: Send + Drop,
-        requires can { I.can_next iter }
-        requires ends { IsFinite (I.remaining iter) }
-        requires accepts { HoldsAlong I.next_gives iter (All (F.pre map_op)) }
-        ensures answers { IfOk result (λ parts. (xs : List I.Item) × Drains I.next_gives iter xs × PartitionOf (F.post map_op) xs parts.0.items parts.1.items) }
-        ensures fault { IfErr result (λ fault. fault ≡ Memory) }
+    >(
+        &self,
+        rt: &Rt,
+        alloc: Global,
+        site: P,
+        source: I,
+        map_op: F,
+    ) -> Result<(Vec<U>, Vec<K>), Fault>
+        requires can { I.can source }
+        requires accepts { (x : I.Item) → I.may source x → F.pre map_op x }
+        ensures answers { IfOk result (λ parts. GivesSome I.gives source
+            (λ xs. PartitionOf (F.post map_op) xs parts.0.items parts.1.items)) }
+        ensures asked { OnOk result (GivesSome I.gives source
+            (λ xs. AtSomePick (takes self.now (P.site_of site) (body_call (length xs)))
+            (λ _. Unit {0}))) }
+        ensures fault { IsMemoryOnErr result }
     {
-        let items = gather(alloc, iter)?;
-        let call = body_over(&items);
-        let threads = self.thread_number();
-        let body = move |pick: usize| -> Result<(Vec<U>, Vec<K>), Fault>
-            requires { All (F.pre map_op) items.items }
-            ensures answers { IfOk result (λ parts. PartitionOf (F.post map_op) items.items parts.0.items parts.1.items) }
-            ensures fault { IfErr result (λ fault. fault ≡ Memory) }
-        { partition_at(rt, alloc, threads, pick, items, &map_op) };
-        dispatch_call(self, rt, alloc, site, call, body)
+        if self.is_serial() {
+            let answers = partition_iter(alloc, source.into_items(), &map_op)?;
+            return Ok(answers);
+        }
+        let parts = source.into_parts(alloc)?;
+        let call = body_over(&parts);
+        let answers = partition_through(self, rt, alloc, site, call, parts, &map_op)?;
+        Ok(answers)
     }
 
     /// An answer of `run` over a batch of `0..len`: balanced ranges, as many as the pick says and one
@@ -740,7 +782,8 @@ pub trait Strategy: Clone + Send + Sync + Debug + 'static {
     ///
     /// There are at most as many ranges as the strategy is planned for. The work, by which a policy
     /// tells calls apart, is `len * multiplier`, which stops at the greatest `usize`. The batch goes
-    /// through the strategy's `inner`.
+    /// through the strategy's `inner` and has the call's place. The closure has to accept each batch that
+    /// is one, and no other.
     ///
     /// # Errors
     ///
@@ -755,18 +798,29 @@ pub trait Strategy: Clone + Send + Sync + Debug + 'static {
         multiplier: usize,
         run: F,
     ) -> Result<R, Fault>
-        requires { F.IsAlwaysCallable run }
-        ensures answers { IfOk result (λ answer. (pick : ℕ) × (pick < (batches_call (plans self.now) len (non_zero_usize_get minimum) multiplier).options)
-            × takes self.now (P.site_of site) (batches_call (plans self.now) len (non_zero_usize_get minimum) multiplier) pick
-            × (batches : Batches Self P) × IsBatch len (pick + 1) (non_zero_usize_get minimum) (ranges_of batches) × F.post run batches answer) }
-        ensures fault { IfErr result (λ fault. fault ≡ Memory) }
+        requires { (batches : Batches Self P) (count : ℕ)
+            → IsBatch len count (non_zero_usize_get minimum) (ranges_of batches) → F.pre run batches }
+        ensures answers { IfOk result (λ answer. (pick : ℕ)
+            × (pick < (batches_call (plans self.now) len (non_zero_usize_get minimum) multiplier).options)
+            × takes self.now (P.site_of site)
+            (batches_call (plans self.now) len (non_zero_usize_get minimum) multiplier) pick
+            × (batches : Batches Self P)
+            × IsBatch len (pick + 1) (non_zero_usize_get minimum) (ranges_of batches)
+            × IsInnerOf takes refuses plans threads starts self.now (strategy_of batches)
+            × (place_of batches ≡ site) × F.post run batches answer) }
+        ensures fault { IsMemoryOnErr result }
     {
         let inner = self.inner()?;
         let call = Call::batches(self.planning(), len, minimum, multiplier);
         let body = move |pick: usize| -> Result<R, Fault>
-            requires { F.IsAlwaysCallable run × (pick < max 1 (len / non_zero_usize_get minimum)) }
-            ensures answers { IfOk result (λ answer. (batches : Batches Self P) × IsBatch len (pick + 1) (non_zero_usize_get minimum) (ranges_of batches) × F.post run batches answer) }
-            ensures fault { IfErr result (λ fault. fault ≡ Memory) }
+            requires { ((batches : Batches Self P) (count : ℕ)
+                → IsBatch len count (non_zero_usize_get minimum) (ranges_of batches)
+                → F.pre run batches) × (pick < max 1 (len / non_zero_usize_get minimum)) }
+            ensures answers { IfOk result (λ answer. (batches : Batches Self P)
+                × IsBatch len (pick + 1) (non_zero_usize_get minimum) (ranges_of batches)
+                × (strategy_of batches ≡ inner) × (place_of batches ≡ site)
+                × F.post run batches answer) }
+            ensures fault { IsMemoryOnErr result }
         {
             let batches = Batches::picked(alloc, &inner, site, len, pick, minimum)?;
             Ok(run(batches))

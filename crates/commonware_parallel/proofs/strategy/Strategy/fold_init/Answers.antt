@@ -1,21 +1,28 @@
--- The answer's list, call and thread number are those of the clause.
-use Rattle.std.proofs.Common.{rules}
+-- Over the source as it comes the list is one segment.
+use Rattle.std.proofs.Common.{rules, refl}
+use Rattle.std.specs.Borrow.{MutBor}
+use Rattle.std.specs.Iterator.{Drains}
 use Rattle.parallel_bridge.specs.Lists.{of_segment}
-use Rattle.parallel_bridge.specs.Shapes.{FoldsAs}
-use Rattle.parallel_bridge.specs.States.{FoldInitSegment, FoldStep}
+use Rattle.parallel_bridge.specs.Shapes.{cutdepth}
+use Rattle.parallel_bridge.specs.States.{FoldStep}
+use Rattle.parallel_bridge.specs.Ways.{FoldedInitAs}
 use Rattle.commonware_parallel.specs.Calls.{body_call}
-use Rattle.commonware_parallel.proofs.Settled.{along_list}
+use Rattle.commonware_parallel.proofs.Settled.{at_first}
 use Rattle.commonware_parallel.proofs.strategy.Strategy.fold_init.Goals as goal
 
-pub returns-clause-along : goal.returns-clause-along
-returns-clause-along g c =
-    let init : g.row.S.Denot → Type 0 = λ s. g.N.Fn.post c.args.init tt s in
-    let identity : g.row.R.Denot → Type 0 = λ a. g.ID.Fn.post c.args.identity tt a in
-    let step : g.row.S.Denot → g.row.R.Denot → g.row.I-Item.Denot → g.row.R.Denot → g.row.S.Denot → Type 0 = FoldStep (λ a p x b q. g.F.Fn.post c.args.fold_op (a, (p, (x, tt))) (b, (q, tt))) in
-    let reduce : g.row.R.Denot → g.row.R.Denot → g.row.R.Denot → Type 0 = λ a b d. g.G.Fn.post c.args.reduce_op (a, (b, tt)) d in
-    let w = c.in_ok-answer.ensures.answers in
-    along_list (λ call pick. g.Self.Strategy.takes c.args.self.now (g.P.Place.site_of c.args.site) call pick) _ body_call (λ depth pick xs r. FoldsAs identity (FoldInitSegment init identity step) reduce depth pick xs r)
-    _ _ _ _ c.body_over-call.ensures c.thread_number-threads.ensures c.in_ok-items.ensures.gives _ w.0 w.1 w.2 (search rules)
-
 pub returns-then-is_serial-clause-brackets : goal.returns-then-is_serial-clause-brackets
-returns-then-is_serial-clause-brackets g c = let w = c.fold_init_iter.ensures in (w.0, w.1, of_segment w.2)
+returns-then-is_serial-clause-brackets g c =
+    let w = c.fold_init_iter.ensures in
+    (w.0, c.into_items.ensures.gives w.0 w.1, of_segment w.2)
+
+pub returns-then-is_serial-clause-along : goal.returns-then-is_serial-clause-along
+returns-then-is_serial-clause-along g c =
+    let init = λ (s : g.row.S.Denot). g.N.Fn.post c.args.init tt s in
+    let identity = λ (e : g.row.R.Denot). g.ID.Fn.post c.args.identity tt e in
+    let step = FoldStep (λ (a : g.row.R.Denot) (p : MutBor g.row.S.Denot) (x : g.row.I-Item.Denot) (b : g.row.R.Denot) (q : MutBor g.row.S.Denot). g.F.Fn.post c.args.fold_op (a, (p, (x, tt))) (b, (q, tt))) in
+    let reduce = λ (a : g.row.R.Denot) (b : g.row.R.Denot) (r : g.row.R.Denot). g.G.Fn.post c.args.reduce_op (a, (b, tt)) r in
+    let site = g.P.Place.site_of c.args.site in
+    let w = c.fold_init_iter.ensures in
+    at_first (Drains g.I.Iter.Iterator.next_gives) c.into_items.result g.I.Source.gives c.args.source (λ call pick. g.Self.Strategy.takes c.args.self.now site call pick) body_call
+    c.into_items.ensures.gives (λ n. c.is_serial.ensures.first (search rules) site (body_call n) refl)
+    (λ pick xs. FoldedInitAs init identity step reduce (cutdepth (g.Self.Strategy.threads c.args.self.now)) pick xs c.fold_init_iter.result) (w.0, w.1, (of_segment w.2, w.2))

@@ -15,7 +15,7 @@ returns-in-Ok g c =
     let reduce = λ (a : g.row.R.Denot) (b : g.row.R.Denot) (r : g.row.R.Denot). g.G.Fn.post c.args.reduce_op.now (a, (b, tt)) r in
     let w = c.try_fold_iter.ensures in
     let h : TryFoldSegment identity step w.0 (Ok c.in-Ok.value) = subst (TryFoldSegment identity step w.0) c.in-Ok.is w.2 in
-    (w.0, c.into_items.ensures.gives w.0 w.1, try_folded_first identity step reduce (cutdepth c.args.threads.value) w.0 (Ok c.in-Ok.value) c.args.pick (search rules) h)
+    record { folds = (w.0, c.into_items.ensures.gives w.0 w.1, try_folded_first identity step reduce (cutdepth c.args.threads.value) w.0 (Ok c.in-Ok.value) c.args.pick (search rules) h) }
 
 pub returns-in-Err : goal.returns-in-Err
 returns-in-Err g c =
@@ -24,7 +24,7 @@ returns-in-Err g c =
     let reduce = λ (a : g.row.R.Denot) (b : g.row.R.Denot) (r : g.row.R.Denot). g.G.Fn.post c.args.reduce_op.now (a, (b, tt)) r in
     let w = c.try_fold_iter.ensures in
     let h : TryFoldSegment identity step w.0 (Err c.in-Err.error) = subst (TryFoldSegment identity step w.0) c.in-Err.is w.2 in
-    (w.0, c.into_items.ensures.gives w.0 w.1, try_folded_first identity step reduce (cutdepth c.args.threads.value) w.0 (Err c.in-Err.error) c.args.pick (search rules) h)
+    record { folds = (w.0, c.into_items.ensures.gives w.0 w.1, try_folded_first identity step reduce (cutdepth c.args.threads.value) w.0 (Err c.in-Err.error) c.args.pick (search rules) h) }
 
 pub returns : goal.returns
 returns g c =
@@ -33,8 +33,8 @@ returns g c =
     let reduce = λ (a : g.row.R.Denot) (b : g.row.R.Denot) (r : g.row.R.Denot). g.G.Fn.post c.args.reduce_op.now (a, (b, tt)) r in
     let k = cutdepth c.args.threads.value in
     let gives = g.P.Producer.gives in
-    unless_weaker c.try_fold_parallel.result
+    record { folds = unless_weaker c.try_fold_parallel.result
     (λ out. GivesSome gives c.args.parts (λ xs. TryAlong identity step reduce (Shape k xs) out))
     (λ out. GivesSome gives c.args.parts (λ xs. TryFoldedAs identity step reduce k c.args.pick xs out))
     (λ out h. (h.0, h.1, try_folded_later identity step reduce k h.0 out c.args.pick (search rules) h.2))
-    c.try_fold_parallel.ensures
+    c.try_fold_parallel.ensures.along }

@@ -3,7 +3,7 @@ use Rattle.std.proofs.Common.{◌≡◌, ℕ, ◌/◌, ◌<◌, ◌≤◌, List,
 use Rattle.std.specs.declared.ops.Range.{Range}
 use Rattle.parallel_shares.specs.Cut.{BalancedCut, range_length}
 use Rattle.parallel_shares.proofs.Cuts.{BalancedCut-at_least}
-use Rattle.commonware_parallel.proofs.plan.Batches.balanced.Goals as goal
+use Rattle.commonware_parallel.proofs.batches.Batches.balanced.Goals as goal
 
 least : (len count : ℕ) (rs : List (Range ℕ)) → BalancedCut len rs → length rs ≡ count → 0 < count → All (λ range. len / count ≤ range_length range) rs
 least len count rs cut counted some =

@@ -1,7 +1,28 @@
-// How a run that goes on after its pick was handed out is measured.
-use crate::call::Meter;
+//! How a run that goes on after its pick was handed out is measured.
 use parallel_policy::{Clock, Key, Policy, RunExecution};
 use std::sync::Wait;
+
+/// Measures a run that goes on after its strategy chose: on a worker, or in a body that writes.
+///
+/// Nothing is claimed of what it measures. A run that is given up isn't ended, so nothing is recorded
+/// of it.
+pub trait Meter: Drop {
+    /// The run begins.
+    fn begin(&mut self);
+
+    /// The run has ended.
+    fn end<Rt: Wait>(self, rt: &Rt);
+}
+
+/// Measures nothing: the meter of a strategy that no policy chooses for.
+#[derive(Clone, Copy, Debug, PartialEq, Eq)]
+pub struct Unmeasured;
+
+impl Meter for Unmeasured {
+    fn begin(&mut self) {}
+
+    fn end<Rt: Wait>(self, _rt: &Rt) {}
+}
 
 /// Tells the policy of a `Rayon` how long a run took, where the policy asked for it.
 ///

@@ -1,6 +1,6 @@
-ghost use Rattle.std.specs.Prelude.{◌≡◌, ◌↔◌, ◌+◌, ◌/◌, ◌<◌, ◌≤◌, [], ◌∷◌, length, All, IfOk, IfErr, IsTrue, max};
+ghost use Rattle.std.specs.Prelude.{◌≡◌, ◌↔◌, ◌+◌, ◌/◌, ◌<◌, ◌≤◌, [], ◌∷◌, length, All, IfOk, IsTrue, max};
 ghost use Rattle.std.specs.Int.NonZero.{non_zero_usize_get};
-ghost use Rattle.parallel_fault.specs.declared.fault.Fault.TheVariants.{Memory};
+ghost use Rattle.parallel_fault.specs.Trouble.{IsMemoryOnErr};
 ghost use Rattle.parallel_shares.specs.Cut.{BalancedCut, range_length};
 
 use crate::strategy::Strategy;
@@ -20,7 +20,7 @@ pub struct Batches<'scope, S, P> {
 }
 
 impl<'scope, S: Strategy, P: Place> Batches<'scope, S, P> {
-    ghost use Rattle.commonware_parallel.specs.Batches.{IsBatch, ranges_of};
+    ghost use Rattle.commonware_parallel.specs.Batches.{IsBatch, place_of, ranges_of, strategy_of};
 
     /// One range, `0..len`. An empty input has one range too, which is `0..0`.
     pub fn whole(
@@ -29,8 +29,10 @@ impl<'scope, S: Strategy, P: Place> Batches<'scope, S, P> {
         site: P,
         len: usize,
     ) -> Result<Batches<'scope, S, P>, Fault>
+        ensures strategy { IfOk result (λ batches. strategy_of batches ≡ strategy.now) }
+        ensures place { IfOk result (λ batches. place_of batches ≡ site) }
         ensures one { IfOk result (λ batches. ranges_of batches ≡ record { start = 0; end = len } ∷ []) }
-        ensures fault { IfErr result (λ fault. fault ≡ Memory) }
+        ensures fault { IsMemoryOnErr result }
     {
         let mut ranges = Vec::with_capacity(alloc, 1)?;
         ranges.push(0..len)?;
@@ -49,10 +51,13 @@ impl<'scope, S: Strategy, P: Place> Batches<'scope, S, P> {
         len: usize,
         count: NonZeroUsize,
     ) -> Result<Batches<'scope, S, P>, Fault>
+        ensures strategy { IfOk result (λ batches. strategy_of batches ≡ strategy.now) }
+        ensures place { IfOk result (λ batches. place_of batches ≡ site) }
         ensures balanced { IfOk result (λ batches. BalancedCut len (ranges_of batches)) }
         ensures count { IfOk result (λ batches. length (ranges_of batches) ≡ non_zero_usize_get count) }
-        ensures least { IfOk result (λ batches. All (λ range. len / non_zero_usize_get count ≤ range_length range) (ranges_of batches)) }
-        ensures fault { IfErr result (λ fault. fault ≡ Memory) }
+        ensures least { IfOk result (λ batches.
+            All (λ range. len / non_zero_usize_get count ≤ range_length range) (ranges_of batches)) }
+        ensures fault { IsMemoryOnErr result }
     {
         let ranges = cut(alloc, len, count)?;
         Ok(Batches {
@@ -60,6 +65,20 @@ impl<'scope, S: Strategy, P: Place> Batches<'scope, S, P> {
             site,
             ranges,
         })
+    }
+
+    /// The strategy that the parts of the batch go through.
+    pub fn strategy(&self) -> &'scope S
+        ensures { result.now ≡ strategy_of self.now }
+    {
+        self.strategy
+    }
+
+    /// The place of the call that made the batch.
+    pub fn site(&self) -> P
+        ensures { result ≡ place_of self.now }
+    {
+        self.site
     }
 
     /// The ranges, in order and without a gap.
@@ -86,8 +105,11 @@ impl<'scope, S: Strategy, P: Place> Batches<'scope, S, P> {
         minimum: NonZeroUsize,
     ) -> Result<Batches<'scope, S, P>, Fault>
         requires { pick < max 1 (len / non_zero_usize_get minimum) }
-        ensures batch { IfOk result (λ batches. IsBatch len (pick + 1) (non_zero_usize_get minimum) (ranges_of batches)) }
-        ensures fault { IfErr result (λ fault. fault ≡ Memory) }
+        ensures strategy { IfOk result (λ batches. strategy_of batches ≡ strategy.now) }
+        ensures place { IfOk result (λ batches. place_of batches ≡ site) }
+        ensures batch { IfOk result (λ batches.
+            IsBatch len (pick + 1) (non_zero_usize_get minimum) (ranges_of batches)) }
+        ensures fault { IsMemoryOnErr result }
     {
         let count = NonZeroUsize::MIN.saturating_add(pick);
         let batches = Batches::balanced(alloc, strategy, site, len, count)?;

@@ -1,0 +1,495 @@
+// What the list calls of a strategy stand on: the list's parts, split or as they come, at a pick that the
+// strategy takes.
+//
+// These functions are generic in the parts and not in the source, and write the bodies that go to the
+// strategy: the checker refuses a closure over parts whose type is a source's ("what is passed does not
+// fit the bound").
+ghost use Rattle.std.specs.Prelude.{◌≡◌, ◌<◌, ℕ, List, IfOk, IfErr, length};
+ghost use Rattle.std.specs.Borrow.{MutBor};
+ghost use Rattle.std.specs.Int.NonZero.{non_zero_usize_get};
+ghost use Rattle.parallel_bridge.specs.Lists.{MapOf};
+ghost use Rattle.parallel_bridge.specs.Outcomes.{UnlessRefused, listed};
+ghost use Rattle.parallel_bridge.specs.Parts.{PartitionOf};
+ghost use Rattle.parallel_bridge.specs.Shapes.{cutdepth};
+ghost use Rattle.parallel_bridge.specs.Sources.{GivesSome};
+ghost use Rattle.parallel_bridge.specs.States.{FoldStep, MapStep};
+ghost use Rattle.parallel_bridge.specs.Tries.{TryMapOf};
+ghost use Rattle.parallel_bridge.specs.Ways.{FoldedAs, FoldedInitAs, MappedInitAs, TryFoldedAs};
+ghost use Rattle.parallel_fault.specs.Trouble.{IsMemoryOnErr};
+ghost use Rattle.parallel_fault.specs.declared.fault.Fault.{Fault};
+ghost use Rattle.parallel_fault.specs.declared.fault.Fault.TheVariants.{Memory};
+ghost use Rattle.parallel_fault.specs.declared.fault.Trouble.TheVariants.{Fault as OfFault};
+ghost use Rattle.commonware_parallel.specs.Answers.{UnlessFault};
+ghost use Rattle.commonware_parallel.specs.Calls.{AtSomePick, body_call, multiplied_call};
+ghost use Rattle.commonware_parallel.specs.declared.call.Kind.TheVariants.{Body};
+
+use crate::call::Call;
+use crate::strategy::Strategy;
+use parallel_bridge::Producer;
+use parallel_bridge::list::fold::fold_at;
+use parallel_bridge::list::fold_init::fold_init_at;
+use parallel_bridge::list::map::map_at;
+use parallel_bridge::list::map_init::map_init_at;
+use parallel_bridge::list::partition::partition_at;
+use parallel_bridge::list::try_fold::try_fold_at;
+use parallel_bridge::list::try_map::try_map_at;
+use parallel_fault::{Fault, Trouble};
+use parallel_policy::Place;
+use std::alloc::Global;
+use std::num::NonZeroUsize;
+use std::sync::Wait;
+use std::thread::Threads;
+
+/// The choice between a serial and a parallel body over a list.
+pub fn body_over<Q: Producer>(parts: &Q) -> Call
+    ensures counted { (xs : List Q.Item) → Q.gives parts.now xs → result ≡ body_call (length xs) }
+    ensures kind { result.kind ≡ Body }
+    ensures options { result.options ≡ 2 }
+{
+    Call::body(parts.len())
+}
+
+/// The same for items that each stand for the work of `multiplier`.
+pub fn multiplied_body_over<Q: Producer>(parts: &Q, multiplier: usize) -> Call
+    ensures counted { (xs : List Q.Item) → Q.gives parts.now xs
+        → result ≡ multiplied_call (length xs) multiplier }
+    ensures kind { result.kind ≡ Body }
+    ensures options { result.options ≡ 2 }
+{
+    Call::body_with_multiplier(parts.len(), multiplier)
+}
+
+/// An answer of a body that may itself be refused memory, at a pick that the strategy takes for the
+/// call.
+pub fn dispatch_call<S: Strategy, Rt: Wait, P: Place, R, B: FnOnce(usize) -> Result<R, Fault>>(
+    strategy: &S,
+    rt: &Rt,
+    alloc: Global,
+    site: P,
+    call: Call,
+    body: B,
+) -> Result<R, Fault>
+    requires options { call.options ≡ 2 }
+    requires kind { call.kind ≡ Body }
+    requires accepts { (pick : ℕ) → pick < 2 → S.takes strategy.now (P.site_of site) call pick
+        → B.pre body pick }
+    requires memory { (pick : ℕ) (fault : Fault) → B.post body pick (Err fault) → fault ≡ Memory }
+    ensures answers { IfOk result (λ answer. AtSomePick (S.takes strategy.now (P.site_of site) call)
+        (λ pick. B.post body pick (Ok answer))) }
+    ensures fault { IsMemoryOnErr result }
+{
+    match strategy.dispatch(rt, alloc, site, call, body) {
+        Ok(answer) => Ok(answer),
+        Err(Trouble::Closure(fault)) => Err(fault),
+        Err(Trouble::Fault(fault)) => Err(fault),
+    }
+}
+
+/// As `dispatch_call`, of a body that may also fail by an error of its own.
+pub fn dispatch_fallible<
+    S: Strategy,
+    Rt: Wait,
+    P: Place,
+    R,
+    E,
+    B: FnOnce(usize) -> Result<R, Trouble<E>>,
+>(strategy: &S, rt: &Rt, alloc: Global, site: P, call: Call, body: B) -> Result<R, Trouble<E>>
+    requires options { call.options ≡ 2 }
+    requires kind { call.kind ≡ Body }
+    requires accepts { (pick : ℕ) → pick < 2 → S.takes strategy.now (P.site_of site) call pick
+        → B.pre body pick }
+    requires memory { (pick : ℕ) (fault : Fault) → B.post body pick (Err (OfFault fault))
+        → fault ≡ Memory }
+    ensures answers { UnlessFault result (AtSomePick (S.takes strategy.now (P.site_of site) call)
+        (λ pick. B.post body pick result)) }
+    ensures fault { UnlessRefused result (λ _. Unit {0}) }
+{
+    match strategy.dispatch(rt, alloc, site, call, body) {
+        Ok(answer) => Ok(answer),
+        Err(Trouble::Closure(Trouble::Closure(error))) => Err(Trouble::Closure(error)),
+        Err(Trouble::Closure(Trouble::Fault(fault))) => Err(Trouble::Fault(fault)),
+        Err(Trouble::Fault(fault)) => Err(Trouble::Fault(fault)),
+    }
+}
+
+/// A map.
+pub fn map_through<
+    S: Strategy,
+    Rt: Threads + Wait + Sync,
+    P: Place,
+    Q: Producer,
+    T: Send + Drop,
+    F: Fn(Q::Item) -> T + Send + Sync,
+>(
+    strategy: &S,
+    rt: &Rt,
+    alloc: Global,
+    site: P,
+    call: Call,
+    parts: Q,
+    map_op: &F,
+) -> Result<Vec<T>, Fault>
+    requires options { call.options ≡ 2 }
+    requires kind { call.kind ≡ Body }
+    requires accepts { (x : Q.Item) → Q.may parts x → F.pre map_op.now x }
+    ensures answers { IfOk result (λ ys. GivesSome Q.gives parts
+        (λ xs. AtSomePick (S.takes strategy.now (P.site_of site) call)
+        (λ _. MapOf (F.post map_op.now) xs ys.items))) }
+    ensures fault { IsMemoryOnErr result }
+{
+    let threads = strategy.thread_number();
+    let body = move |pick: usize| -> Result<Vec<T>, Fault>
+        requires { (x : Q.Item) → Q.may parts x → F.pre map_op.now x }
+        ensures maps { IfOk result (λ ys. GivesSome Q.gives parts
+            (λ xs. MapOf (F.post map_op.entry.now) xs ys.items)) }
+        ensures fault { IsMemoryOnErr result }
+    { map_at(rt, alloc, threads, pick, parts, map_op) };
+    let answers = dispatch_call(strategy, rt, alloc, site, call, body)?;
+    Ok(answers)
+}
+
+/// A map by a closure that may fail.
+pub fn try_map_through<
+    S: Strategy,
+    Rt: Threads + Wait + Sync,
+    P: Place,
+    Q: Producer,
+    T: Send + Drop,
+    E: Send + Drop,
+    F: Fn(Q::Item) -> Result<T, E> + Send + Sync,
+>(
+    strategy: &S,
+    rt: &Rt,
+    alloc: Global,
+    site: P,
+    call: Call,
+    parts: Q,
+    map_op: &F,
+) -> Result<Vec<T>, Trouble<E>>
+    requires options { call.options ≡ 2 }
+    requires kind { call.kind ≡ Body }
+    requires accepts { (x : Q.Item) → Q.may parts x → F.pre map_op.now x }
+    ensures answers { UnlessRefused result (λ out. GivesSome Q.gives parts
+        (λ xs. AtSomePick (S.takes strategy.now (P.site_of site) call)
+        (λ _. TryMapOf (F.post map_op.now) xs (listed out)))) }
+{
+    let threads = strategy.thread_number();
+    let body = move |pick: usize| -> Result<Vec<T>, Trouble<E>>
+        requires { (x : Q.Item) → Q.may parts x → F.pre map_op.now x }
+        ensures { UnlessRefused result (λ out. GivesSome Q.gives parts
+            (λ xs. TryMapOf (F.post map_op.entry.now) xs (listed out))) }
+    { try_map_here(rt, alloc, threads, pick, parts, map_op) };
+    dispatch_fallible(strategy, rt, alloc, site, call, body)
+}
+
+/// A partition.
+pub fn partition_through<
+    S: Strategy,
+    Rt: Threads + Wait + Sync,
+    P: Place,
+    Q: Producer,
+    K: Send + Drop,
+    U: Send + Drop,
+    F: Fn(Q::Item) -> (K, Option<U>) + Send + Sync,
+>(
+    strategy: &S,
+    rt: &Rt,
+    alloc: Global,
+    site: P,
+    call: Call,
+    parts: Q,
+    map_op: &F,
+) -> Result<(Vec<U>, Vec<K>), Fault>
+    requires options { call.options ≡ 2 }
+    requires kind { call.kind ≡ Body }
+    requires accepts { (x : Q.Item) → Q.may parts x → F.pre map_op.now x }
+    ensures answers { IfOk result (λ r. GivesSome Q.gives parts
+        (λ xs. AtSomePick (S.takes strategy.now (P.site_of site) call)
+        (λ _. PartitionOf (F.post map_op.now) xs r.0.items r.1.items))) }
+    ensures fault { IsMemoryOnErr result }
+{
+    let threads = strategy.thread_number();
+    let body = move |pick: usize| -> Result<(Vec<U>, Vec<K>), Fault>
+        requires { (x : Q.Item) → Q.may parts x → F.pre map_op.now x }
+        ensures parts { IfOk result (λ r. GivesSome Q.gives parts
+            (λ xs. PartitionOf (F.post map_op.entry.now) xs r.0.items r.1.items)) }
+        ensures fault { IsMemoryOnErr result }
+    { partition_here(rt, alloc, threads, pick, parts, map_op) };
+    let answers = dispatch_call(strategy, rt, alloc, site, call, body)?;
+    Ok(answers)
+}
+
+/// A map with a state at hand.
+pub fn map_init_through<
+    S: Strategy,
+    Rt: Threads + Wait + Sync,
+    P: Place,
+    Q: Producer,
+    V: Send + Drop,
+    T: Send + Drop,
+    N: Fn() -> V + Send + Sync,
+    F: Fn(&mut V, Q::Item) -> T + Send + Sync,
+>(
+    strategy: &S,
+    rt: &Rt,
+    alloc: Global,
+    site: P,
+    call: Call,
+    parts: Q,
+    init: &N,
+    map_op: &F,
+) -> Result<Vec<T>, Fault>
+    requires options { call.options ≡ 2 }
+    requires kind { call.kind ≡ Body }
+    requires init_accepts { N.IsAlwaysCallable init.now }
+    requires map_accepts { (x : Q.Item) → Q.may parts x
+        → (state : MutBor V) → F.pre map_op.now state x }
+    ensures answers { IfOk result (λ ys. GivesSome Q.gives parts
+        (λ xs. AtSomePick (S.takes strategy.now (P.site_of site) call)
+        (λ pick. MappedInitAs (N.post init.now) (MapStep (λ p x y q. F.post map_op.now p x y q))
+        (cutdepth (S.threads strategy.now)) pick xs ys.items))) }
+    ensures fault { IsMemoryOnErr result }
+{
+    let threads = strategy.thread_number();
+    let body = move |pick: usize| -> Result<Vec<T>, Fault>
+        requires { N.IsAlwaysCallable init.now × ((x : Q.Item) → Q.may parts x
+            → (state : MutBor V) → F.pre map_op.now state x) }
+        ensures maps { IfOk result (λ ys. GivesSome Q.gives parts (λ xs. MappedInitAs
+            (N.post init.entry.now) (MapStep (λ p x y q. F.post map_op.entry.now p x y q))
+            (cutdepth (non_zero_usize_get threads)) pick xs ys.items)) }
+        ensures fault { IsMemoryOnErr result }
+    { map_init_at(rt, alloc, threads, pick, parts, init, map_op) };
+    let answers = dispatch_call(strategy, rt, alloc, site, call, body)?;
+    Ok(answers)
+}
+
+/// A fold.
+pub fn fold_through<
+    S: Strategy,
+    Rt: Threads + Wait + Sync,
+    P: Place,
+    Q: Producer,
+    R: Send + Drop,
+    ID: Fn() -> R + Send + Sync,
+    F: Fn(R, Q::Item) -> R + Send + Sync,
+    G: Fn(R, R) -> R + Send + Sync,
+>(
+    strategy: &S,
+    rt: &Rt,
+    alloc: Global,
+    site: P,
+    call: Call,
+    parts: Q,
+    identity: &ID,
+    fold_op: &F,
+    reduce_op: &G,
+) -> Result<R, Fault>
+    requires options { call.options ≡ 2 }
+    requires kind { call.kind ≡ Body }
+    requires identity_accepts { ID.IsAlwaysCallable identity.now }
+    requires fold_accepts { F.IsAlwaysCallable fold_op.now }
+    requires reduce_accepts { G.IsAlwaysCallable reduce_op.now }
+    ensures answers { IfOk result (λ r. GivesSome Q.gives parts
+        (λ xs. AtSomePick (S.takes strategy.now (P.site_of site) call)
+        (λ pick. FoldedAs (ID.post identity.now) (λ a x b. F.post fold_op.now a x b)
+        (λ a b c. G.post reduce_op.now a b c) (cutdepth (S.threads strategy.now)) pick xs r))) }
+    ensures fault { IsMemoryOnErr result }
+{
+    let threads = strategy.thread_number();
+    let body = move |pick: usize| -> Result<R, Fault>
+        requires { ID.IsAlwaysCallable identity.now × F.IsAlwaysCallable fold_op.now
+            × G.IsAlwaysCallable reduce_op.now }
+        ensures folds { IfOk result (λ r. GivesSome Q.gives parts (λ xs. FoldedAs
+            (ID.post identity.entry.now) (λ a x b. F.post fold_op.entry.now a x b)
+            (λ a b c. G.post reduce_op.entry.now a b c)
+            (cutdepth (non_zero_usize_get threads)) pick xs r)) }
+        ensures fault { IsMemoryOnErr result }
+    {
+        fold_at(
+            rt, alloc, threads, pick, parts, identity, fold_op, reduce_op,
+        )
+    };
+    let answer = dispatch_call(strategy, rt, alloc, site, call, body)?;
+    Ok(answer)
+}
+
+/// A fold with a state at hand.
+pub fn fold_init_through<
+    S: Strategy,
+    Rt: Threads + Wait + Sync,
+    P: Place,
+    Q: Producer,
+    V: Send + Drop,
+    R: Send + Drop,
+    N: Fn() -> V + Send + Sync,
+    ID: Fn() -> R + Send + Sync,
+    F: Fn(R, &mut V, Q::Item) -> R + Send + Sync,
+    G: Fn(R, R) -> R + Send + Sync,
+>(
+    strategy: &S,
+    rt: &Rt,
+    alloc: Global,
+    site: P,
+    call: Call,
+    parts: Q,
+    init: &N,
+    identity: &ID,
+    fold_op: &F,
+    reduce_op: &G,
+) -> Result<R, Fault>
+    requires options { call.options ≡ 2 }
+    requires kind { call.kind ≡ Body }
+    requires init_accepts { N.IsAlwaysCallable init.now }
+    requires identity_accepts { ID.IsAlwaysCallable identity.now }
+    requires fold_accepts { F.IsAlwaysCallable fold_op.now }
+    requires reduce_accepts { G.IsAlwaysCallable reduce_op.now }
+    ensures answers { IfOk result (λ r. GivesSome Q.gives parts
+        (λ xs. AtSomePick (S.takes strategy.now (P.site_of site) call)
+        (λ pick. FoldedInitAs (N.post init.now) (ID.post identity.now)
+        (FoldStep (λ a p x b q. F.post fold_op.now a p x b q))
+        (λ a b c. G.post reduce_op.now a b c) (cutdepth (S.threads strategy.now)) pick xs r))) }
+    ensures fault { IsMemoryOnErr result }
+{
+    let threads = strategy.thread_number();
+    let body = move |pick: usize| -> Result<R, Fault>
+        requires { N.IsAlwaysCallable init.now × ID.IsAlwaysCallable identity.now
+            × F.IsAlwaysCallable fold_op.now × G.IsAlwaysCallable reduce_op.now }
+        ensures folds { IfOk result (λ r. GivesSome Q.gives parts (λ xs. FoldedInitAs
+            (N.post init.entry.now) (ID.post identity.entry.now)
+            (FoldStep (λ a p x b q. F.post fold_op.entry.now a p x b q))
+            (λ a b c. G.post reduce_op.entry.now a b c)
+            (cutdepth (non_zero_usize_get threads)) pick xs r)) }
+        ensures fault { IsMemoryOnErr result }
+    {
+        fold_init_at(
+            rt, alloc, threads, pick, parts, init, identity, fold_op, reduce_op,
+        )
+    };
+    let answer = dispatch_call(strategy, rt, alloc, site, call, body)?;
+    Ok(answer)
+}
+
+/// A fold by steps that may fail.
+pub fn try_fold_through<
+    S: Strategy,
+    Rt: Threads + Wait + Sync,
+    P: Place,
+    Q: Producer,
+    R: Send + Drop,
+    E: Send + Drop,
+    ID: Fn() -> R + Send + Sync,
+    F: Fn(R, Q::Item) -> Result<R, E> + Send + Sync,
+    G: Fn(R, R) -> R + Send + Sync,
+>(
+    strategy: &S,
+    rt: &Rt,
+    alloc: Global,
+    site: P,
+    call: Call,
+    parts: Q,
+    identity: &ID,
+    fold_op: &F,
+    reduce_op: &G,
+) -> Result<R, Trouble<E>>
+    requires options { call.options ≡ 2 }
+    requires kind { call.kind ≡ Body }
+    requires identity_accepts { ID.IsAlwaysCallable identity.now }
+    requires fold_accepts { F.IsAlwaysCallable fold_op.now }
+    requires reduce_accepts { G.IsAlwaysCallable reduce_op.now }
+    ensures answers { UnlessRefused result (λ out. GivesSome Q.gives parts
+        (λ xs. AtSomePick (S.takes strategy.now (P.site_of site) call)
+        (λ pick. TryFoldedAs (ID.post identity.now) (λ a x o. F.post fold_op.now a x o)
+        (λ a b c. G.post reduce_op.now a b c) (cutdepth (S.threads strategy.now))
+        pick xs out))) }
+{
+    let threads = strategy.thread_number();
+    let body = move |pick: usize| -> Result<R, Trouble<E>>
+        requires { ID.IsAlwaysCallable identity.now × F.IsAlwaysCallable fold_op.now
+            × G.IsAlwaysCallable reduce_op.now }
+        ensures { UnlessRefused result (λ out. GivesSome Q.gives parts (λ xs. TryFoldedAs
+            (ID.post identity.entry.now) (λ a x o. F.post fold_op.entry.now a x o)
+            (λ a b c. G.post reduce_op.entry.now a b c)
+            (cutdepth (non_zero_usize_get threads)) pick xs out)) }
+    {
+        try_fold_here(
+            rt, alloc, threads, pick, parts, identity, fold_op, reduce_op,
+        )
+    };
+    dispatch_fallible(strategy, rt, alloc, site, call, body)
+}
+
+// The next three are calls of another crate's functions, written as functions of this one: from a closure
+// the checker refuses the call itself where the answer of `map_op` or `fold_op` is made of several types
+// ("it passes code that rattle makes, as for the drop of a value, which has no theorem yet").
+fn try_map_here<
+    Rt: Threads + Sync,
+    P: Producer,
+    T: Send + Drop,
+    E: Send + Drop,
+    F: Fn(P::Item) -> Result<T, E> + Send + Sync,
+>(
+    rt: &Rt,
+    alloc: Global,
+    threads: NonZeroUsize,
+    pick: usize,
+    parts: P,
+    map_op: &F,
+) -> Result<Vec<T>, Trouble<E>>
+    requires accepts { (x : P.Item) → P.may parts x → F.pre map_op.now x }
+    ensures maps { UnlessRefused result (λ out. GivesSome P.gives parts
+        (λ xs. TryMapOf (F.post map_op.now) xs (listed out))) }
+{
+    try_map_at(rt, alloc, threads, pick, parts, map_op)
+}
+
+fn partition_here<
+    Rt: Threads + Sync,
+    P: Producer,
+    K: Send + Drop,
+    U: Send + Drop,
+    F: Fn(P::Item) -> (K, Option<U>) + Send + Sync,
+>(
+    rt: &Rt,
+    alloc: Global,
+    threads: NonZeroUsize,
+    pick: usize,
+    parts: P,
+    map_op: &F,
+) -> Result<(Vec<U>, Vec<K>), Fault>
+    requires accepts { (x : P.Item) → P.may parts x → F.pre map_op.now x }
+    ensures parts { IfOk result (λ r. GivesSome P.gives parts
+        (λ xs. PartitionOf (F.post map_op.now) xs r.0.items r.1.items)) }
+    ensures fault { IsMemoryOnErr result }
+{
+    partition_at(rt, alloc, threads, pick, parts, map_op)
+}
+
+fn try_fold_here<
+    Rt: Threads + Sync,
+    P: Producer,
+    R: Send + Drop,
+    E: Send + Drop,
+    ID: Fn() -> R + Send + Sync,
+    F: Fn(R, P::Item) -> Result<R, E> + Send + Sync,
+    G: Fn(R, R) -> R + Send + Sync,
+>(
+    rt: &Rt,
+    alloc: Global,
+    threads: NonZeroUsize,
+    pick: usize,
+    parts: P,
+    identity: &ID,
+    fold_op: &F,
+    reduce_op: &G,
+) -> Result<R, Trouble<E>>
+    requires identity_accepts { ID.IsAlwaysCallable identity.now }
+    requires fold_accepts { F.IsAlwaysCallable fold_op.now }
+    requires reduce_accepts { G.IsAlwaysCallable reduce_op.now }
+    ensures folds { UnlessRefused result (λ out. GivesSome P.gives parts
+        (λ xs. TryFoldedAs (ID.post identity.now) (λ a x out. F.post fold_op.now a x out)
+        (λ a b c. G.post reduce_op.now a b c) (cutdepth (non_zero_usize_get threads)) pick xs out)) }
+{
+    try_fold_at(
+        rt, alloc, threads, pick, parts, identity, fold_op, reduce_op,
+    )
+}
