@@ -4,9 +4,9 @@ ghost use Rattle.parallel_shares.specs.Machine.{IsStateOf};
 ghost use Rattle.parallel_shares.specs.Answers.{Answers, LoadAnswers, ClaimAnswers, StealAnswers, RefillAnswers};
 ghost use Rattle.parallel_shares.specs.Holders.{Steps};
 
-use super::events::{Event, Outcome};
-use super::places::{Remembered, State};
-use super::sizes::Plan;
+use super::event::{Event, Outcome};
+use super::plan::Plan;
+use super::state::{Remembered, State};
 use crate::shares::{pack, unpack};
 use parallel_fault::Fault;
 

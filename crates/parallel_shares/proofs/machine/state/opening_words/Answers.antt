@@ -4,8 +4,8 @@ use Rattle.parallel_shares.specs.Words.{packed}
 use Rattle.parallel_shares.specs.Sizes.{opening_start}
 use Rattle.parallel_shares.specs.Machine.{opening_words}
 use Rattle.parallel_shares.proofs.Openings.{within_units}
-use Rattle.parallel_shares.proofs.machine.places.opening_words.Goals as goal
-use Rattle.parallel_shares.proofs.machine.places.opening_words.Goals.{After-opening_size}
+use Rattle.parallel_shares.proofs.machine.state.opening_words.Goals as goal
+use Rattle.parallel_shares.proofs.machine.state.opening_words.Goals.{After-opening_size}
 
 -- the end of a share is the start of the next, and within the units
 end_fits : (c : After-opening_size) → c.loop-share.start + c.opening_size.result ≤ 65535

@@ -2,7 +2,7 @@
 use Rattle.std.proofs.Common.{◌≡◌, ap, sym, arith}
 use Rattle.std.proofs.lemmas.Nat.{mul-le}
 use Rattle.parallel_shares.specs.Sizes.{Sizes}
-use Rattle.parallel_shares.proofs.machine.sizes.Plan.cells_of.Goals as goal
+use Rattle.parallel_shares.proofs.machine.plan.Plan.cells_of.Goals as goal
 
 pub returns-clause-in_order : goal.returns-clause-in_order
 returns-clause-in_order c h =

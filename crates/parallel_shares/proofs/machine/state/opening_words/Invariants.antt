@@ -2,7 +2,7 @@
 use Rattle.std.proofs.Common.{◌≡◌}
 use Rattle.parallel_shares.specs.Sizes.{opening_start}
 use Rattle.parallel_shares.specs.Machine.{opening_words}
-use Rattle.parallel_shares.proofs.machine.places.opening_words.Given as goal
+use Rattle.parallel_shares.proofs.machine.state.opening_words.Given as goal
 
 abbrev pub invariant-loop-share : goal.invariant-loop-share
 invariant-loop-share l = record {

@@ -2,7 +2,7 @@ ghost use Rattle.std.specs.Prelude.{◌≡◌, ◌<◌, ◌++◌, [], ◌∷◌,
 ghost use Rattle.parallel_shares.specs.Sizes.{shares_of, IsSound};
 ghost use Rattle.parallel_shares.specs.Machine.{opening_words, fresh};
 
-use super::sizes::Plan;
+use super::plan::Plan;
 use crate::shares::pack;
 use parallel_fault::Fault;
 use std::alloc::Global;

@@ -3,7 +3,7 @@ use Rattle.std.proofs.Common.{arith, ◌≡◌, ℕ, ◌+◌, ◌<◌, ◌≤◌
 use Rattle.std.proofs.lemmas.Grind.{common_steps}
 use Rattle.std.specs.declared.ops.Range.{Range}
 use Rattle.parallel_shares.proofs.CutSteps.{IsCutSoFar-more}
-use Rattle.parallel_shares.proofs.plan.cut.Goals as goal
+use Rattle.parallel_shares.proofs.balanced.cut.Goals as goal
 
 pub loop-index-preserved : goal.loop-index-preserved
 loop-index-preserved c =

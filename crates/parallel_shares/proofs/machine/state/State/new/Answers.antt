@@ -6,8 +6,8 @@ use Rattle.parallel_shares.specs.Machine.{Machine, opening, IsStateOf}
 use Rattle.parallel_shares.specs.Holders.{Shows}
 use Rattle.parallel_shares.proofs.OpeningCuts.{opening_balanced}
 use Rattle.parallel_shares.proofs.Openings.{first, first_is_opening, opening_is_state, opening_shows}
-use Rattle.parallel_shares.proofs.machine.places.State.new.Goals as goal
-use Rattle.parallel_shares.proofs.machine.places.State.new.Goals.{In_ok-places}
+use Rattle.parallel_shares.proofs.machine.state.State.new.Goals as goal
+use Rattle.parallel_shares.proofs.machine.state.State.new.Goals.{In_ok-places}
 
 -- the machine that is made
 abbrev made : In_ok-places → Machine

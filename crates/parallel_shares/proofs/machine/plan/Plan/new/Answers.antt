@@ -3,7 +3,7 @@ use Rattle.std.proofs.Common.{rules, ◌≡◌, ◌*◌, subst, sym, inl, arith}
 use Rattle.std.specs.Int.NonZero.{non_zero_usize_get}
 use Rattle.parallel_shares.specs.Sizes.{Work, Sizes, sizes_of, IsSound}
 use Rattle.parallel_shares.proofs.Sounds.{sizes_sound}
-use Rattle.parallel_shares.proofs.machine.sizes.Plan.new.Goals as goal
+use Rattle.parallel_shares.proofs.machine.plan.Plan.new.Goals as goal
 
 -- what the plan is made for
 abbrev work_of : goal.Joined-whole-3 → Work
