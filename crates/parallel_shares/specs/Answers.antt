@@ -100,6 +100,12 @@ Answers sizes before (Claim seat) outcome after = ClaimAnswers sizes before seat
 Answers sizes before (Steal seat) outcome after = StealAnswers sizes before seat outcome after
 Answers sizes before (Refill seat) outcome after = RefillAnswers sizes before seat outcome after
 
+-- an event that makes a list longer: a claim that takes the front of a word
+abbrev pub Grows : Sizes → Machine → Event → Type 0
+Grows sizes machine (Claim seat) =
+    (word : ℕ) × CanClaim sizes machine seat word × (¬ IsEmptyWord word) × (word_at machine (share_of sizes seat) ≡ word)
+Grows sizes machine _ = ⊥
+
 -- the outcomes of events, one each and in order, and the machine before and after all of them
 abbrev pub Replays : Sizes → Machine → List Event → List Outcome → Machine → Type 0
 Replays sizes before [] [] after = after ≡ before

@@ -1,4 +1,4 @@
-ghost use Rattle.std.specs.Prelude.{◌≡◌, ◌≢◌, ◌+◌, ◌*◌, ◌/◌, ◌%◌, ◌^◌, ◌<◌, ◌≤◌, ◌-◌, IfSome, IfNone, true};
+ghost use Rattle.std.specs.Prelude.{◌≡◌, ◌≢◌, ◌+◌, ◌*◌, ◌/◌, ◌%◌, ◌^◌, ◌<◌, ◌≤◌, ◌-◌, IfSome, IfNone, IsFalse};
 ghost use Rattle.std.specs.Int.NonZero.{non_zero_usize_get};
 
 use crate::shares::unpack;
@@ -39,10 +39,10 @@ impl Plan {
     /// The plan for `rows` rows of `len` cells each, where a tile costs `tile_cost` cells and there
     /// are at most `workers` workers.
     ///
-    /// A whole plan hands out whole rows from one share; any other plan gives each worker a share
-    /// of cells. Plans that cut rows come later: today `whole` has to be true. The numbers are those
-    /// of `sizes_of`, and `IsSound` says what holds of them: the units cover the cells, there are at
-    /// most 65535 of them, and there is a claim for each worker.
+    /// A whole plan hands out whole rows from one share. A plan that cuts rows gives each worker a
+    /// share of cells, and asks for rows of at least twice as many cells as a tile costs. The numbers
+    /// are those of `sizes_of`, and `IsSound` says what holds of them: the units cover the cells,
+    /// there are at most 65535 of them, and there is a claim for each worker.
     pub fn new(
         rows: usize,
         len: usize,
@@ -53,7 +53,7 @@ impl Plan {
         requires some_rows { rows ≢ 0 }
         requires some_cells { len ≢ 0 }
         requires cells_fit { rows * len < 2 ^ 64 }
-        requires whole_rows { whole ≡ true }
+        requires cut_pays { IsFalse whole → 2 * non_zero_usize_get tile_cost ≤ len }
         ensures sizes { result ≡ sizes_of (record { rows = rows; len = len; tile_cost = non_zero_usize_get tile_cost; workers = non_zero_usize_get workers; whole = whole }) }
         ensures sound { IsSound result }
     {

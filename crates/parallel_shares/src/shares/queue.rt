@@ -1,4 +1,4 @@
-ghost use Rattle.std.specs.Prelude.{◌≡◌, ◌≢◌, ◌+◌, ◌*◌, ◌/◌, ◌^◌, ◌<◌, ◌≤◌, ◌++◌, [], ◌∷◌, length, vec_len, vec_capacity, true, false, None, IfOk, IfErr};
+ghost use Rattle.std.specs.Prelude.{◌≡◌, ◌≢◌, ◌+◌, ◌*◌, ◌/◌, ◌^◌, ◌<◌, ◌≤◌, ◌++◌, [], ◌∷◌, length, vec_len, vec_capacity, true, false, None, IfOk, IfErr, IsFalse};
 ghost use Rattle.std.specs.Slots.{slots_items, slots_len, IsFull};
 ghost use Rattle.std.specs.Int.NonZero.{non_zero_usize_get};
 ghost use Rattle.parallel_shares.specs.Sizes.{Sizes, shares_of, IsSound};
@@ -42,8 +42,9 @@ impl Shares {
     /// Shares out `rows` rows of `len` cells each, where a tile costs `tile_cost` cells and there are
     /// at most `workers` workers, and answers a seat for each worker, in order.
     ///
-    /// The numbers are those of `Plan::new`, which asks for the same. The words are those that a
-    /// plan opens with, and the seats have claimed nothing. The one refusal is `Fault::Memory`.
+    /// The numbers are those of `Plan::new`, which asks for the same. Whole rows have one word for all
+    /// seats. Where rows are cut there is a word a seat, and the words are a balanced cut of the units.
+    /// The seats have claimed nothing and have nothing in transit. The one refusal is `Fault::Memory`.
     pub fn new(
         alloc: Global,
         rows: usize,
@@ -55,7 +56,7 @@ impl Shares {
         requires some_rows { rows ≢ 0 }
         requires some_cells { len ≢ 0 }
         requires cells_fit { rows * len < 2 ^ 64 }
-        requires whole_rows { whole ≡ true }
+        requires cut_pays { IsFalse whole → 2 * non_zero_usize_get tile_cost ≤ len }
         ensures sizes { IfOk result (λ r. plan_of r.0 ≡ sizes_of (record { rows = rows; len = len; tile_cost = non_zero_usize_get tile_cost; workers = non_zero_usize_get workers; whole = whole })) }
         ensures sound { IfOk result (λ r. IsSound (plan_of r.0)) }
         ensures seats { IfOk result (λ r. AreSeatsOf r.0 r.1.items) }

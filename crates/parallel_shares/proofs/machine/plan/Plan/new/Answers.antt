@@ -1,5 +1,5 @@
 -- The numbers that are computed are those of the plan, and those are sound.
-use Rattle.std.proofs.Common.{rules, ◌≡◌, ◌*◌, subst, sym, inl, arith}
+use Rattle.std.proofs.Common.{rules, ◌≡◌, ◌*◌, subst, sym, arith}
 use Rattle.std.specs.Int.NonZero.{non_zero_usize_get}
 use Rattle.parallel_shares.specs.Sizes.{Work, Sizes, sizes_of, IsSound}
 use Rattle.parallel_shares.proofs.Sounds.{sizes_sound}
@@ -18,7 +18,7 @@ same c = search rules
 
 sound : (c : goal.Joined-whole-3) → IsSound (made c)
 sound c =
-    subst IsSound (sym (same c)) (sizes_sound (work_of c) c.requires.some_rows c.requires.some_cells (omega arith) (omega arith) c.requires.cells_fit (inl c.requires.whole_rows))
+    subst IsSound (sym (same c)) (sizes_sound (work_of c) c.requires.some_rows c.requires.some_cells (omega arith) (omega arith) c.requires.cells_fit c.requires.cut_pays)
 
 pub invariant_of-result : goal.invariant_of-result
 invariant_of-result c = sound c
