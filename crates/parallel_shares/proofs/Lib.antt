@@ -18,3 +18,4 @@ pub mod Sharings
 pub mod Dealt
 pub mod Gatherings
 pub mod Closings
+pub mod Victims

@@ -45,7 +45,7 @@ cut_front u word stop a b f =
     rw (start_of_packed stop (end_of word) f, end_of_packed stop (end_of word) f) (omega (arith, inside_cut u (start_of word) stop (end_of word) a b))
 
 -- a word is its back and what is left before it
-cut_back : (u word middle : ℕ) → start_of word ≤ middle → middle ≤ end_of word → end_of word ≤ 65535 → in_word u (packed (start_of word) middle) + inside u middle (end_of word) ≡ in_word u word
+pub cut_back : (u word middle : ℕ) → start_of word ≤ middle → middle ≤ end_of word → end_of word ≤ 65535 → in_word u (packed (start_of word) middle) + inside u middle (end_of word) ≡ in_word u word
 cut_back u word middle a b f =
     rw (start_of_packed (start_of word) middle (omega arith), end_of_packed (start_of word) middle (omega arith)) (inside_cut u (start_of word) middle (end_of word) a b)
 

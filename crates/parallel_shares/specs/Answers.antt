@@ -42,6 +42,10 @@ abbrev pub claim_cells : Sizes → ℕ → Range ℕ
 claim_cells sizes word =
     record { start = start_of word * sizes.unit; end = cells_to sizes (claim_stop sizes word) }
 
+-- the cells of a word
+abbrev pub cells_in : Sizes → ℕ → ℕ
+cells_in sizes word = cells_to sizes (end_of word) - start_of word * sizes.unit
+
 -- where a word is split: the front half rounded down
 abbrev pub middle_of : ℕ → ℕ
 middle_of word = start_of word + (end_of word - start_of word) / 2

@@ -9,3 +9,4 @@ pub mod Totals
 pub mod Sharing
 pub mod Seats
 pub mod Gathered
+pub mod Steals

@@ -9,7 +9,7 @@ use Rattle.parallel_shares.specs.declared.shares.rule.View.{View}
 use Rattle.parallel_shares.specs.Words.{start_of, end_of, IsEmptyWord, IsWithin}
 use Rattle.parallel_shares.specs.Sizes.{Sizes, shares_of, share_of}
 use Rattle.parallel_shares.specs.Machine.{opening_words}
-use Rattle.parallel_shares.specs.Answers.{claim_cells}
+use Rattle.parallel_shares.specs.Answers.{claim_cells, middle_of}
 use Rattle.parallel_shares.specs.Holders.{inside, in_word, in_ranges}
 use Rattle.parallel_shares.specs.Totals.{total, times}
 
@@ -80,6 +80,25 @@ took_front view word =
 abbrev pub missed : View → ℕ → View
 missed view word = record view { met = word; exchanges = view.exchanges + 1 }
 
+-- the seat after a load of another share
+abbrev pub looked : View → ℕ → ℕ → View
+looked view share word =
+    record view { words = slice_set view.words share word; loads = slice_set view.loads share (loads_at view share + 1) }
+
+-- the back half of a word
+abbrev pub back_half : ℕ → Range ℕ
+back_half word = record { start = middle_of word; end = end_of word }
+
+-- the seat after its exchange found the word that it had loaded, and took the back half into transit
+abbrev pub took_back : View → ℕ → View
+took_back view word =
+    record view { transit = back_half word ∷ []; met = word; exchanges = view.exchanges + 1; changes = view.changes + 1 }
+
+-- the seat after it stored what it had in transit as the word of its own share
+abbrev pub put_down : View → ℕ → ℕ → View
+put_down view share word =
+    record view { transit = []; empties = []; words = slice_set view.words share word; changes = view.changes + 1 }
+
 -- a load of the seat's own share tells a range of units
 abbrev pub LooksOwn : Step (Unit {0}) → Me (Unit {0}) View → ℕ → Me (Unit {0}) View → Type 0
 LooksOwn step before word after =
@@ -89,6 +108,20 @@ LooksOwn step before word after =
 abbrev pub TakesFront : Step (Unit {0}) → Me (Unit {0}) View → ℕ → Me (Unit {0}) View → Type 0
 TakesFront step before word after =
     (word ≡ step.first → after.0 ≡ took_front before.0 step.first) × (word ≢ step.first → after.0 ≡ missed before.0 word) × (after.1 ≡ before.1)
+
+-- a load of another share tells a range of units
+abbrev pub LooksAt : Step (Unit {0}) → Me (Unit {0}) View → ℕ → Me (Unit {0}) View → Type 0
+LooksAt step before word after =
+    IsWithin before.0.plan.units word × (after.0 ≡ looked before.0 step.word word) × (after.1 ≡ before.1)
+
+-- an exchange takes the back half of the word that was loaded, or finds another word and takes nothing
+abbrev pub TakesBack : Step (Unit {0}) → Me (Unit {0}) View → ℕ → Me (Unit {0}) View → Type 0
+TakesBack step before word after =
+    (word ≡ step.first → after.0 ≡ took_back before.0 step.first) × (word ≢ step.first → after.0 ≡ missed before.0 word) × (after.1 ≡ before.1)
+
+-- a store puts what is in transit down in the seat's own share
+abbrev pub PutsDown : Step (Unit {0}) → Me (Unit {0}) View → ℕ → Me (Unit {0}) View → Type 0
+PutsDown step before word after = (after.0 ≡ put_down before.0 step.word word) × (after.1 ≡ before.1)
 
 -- ---- how seats are dealt and gathered
 

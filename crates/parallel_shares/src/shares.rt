@@ -4,6 +4,7 @@ ghost use Rattle.std.specs.Prelude.{◌≡◌, ◌+◌, ◌*◌, ◌≤◌};
 mod queue;
 mod rule;
 mod seat;
+mod steal;
 
 pub use queue::Shares;
 pub use rule::View;

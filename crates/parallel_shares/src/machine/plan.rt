@@ -33,8 +33,8 @@ impl Model for Plan {
 
 impl Plan {
     ghost use Rattle.parallel_shares.specs.Sizes.{Work, Sizes, sizes_of, shares_of, share_of, cells_to, opening_size, IsSound};
-    ghost use Rattle.parallel_shares.specs.Words.{IsWithin};
-    ghost use Rattle.parallel_shares.specs.Answers.{middle_of, Pays};
+    ghost use Rattle.parallel_shares.specs.Words.{IsWithin, IsEmptyWord};
+    ghost use Rattle.parallel_shares.specs.Answers.{cells_in, middle_of, Pays};
 
     /// The plan for `rows` rows of `len` cells each, where a tile costs `tile_cost` cells and there
     /// are at most `workers` workers.
@@ -148,8 +148,19 @@ impl Plan {
         start * self.unit..stop.saturating_mul(self.unit).min(self.cells)
     }
 
+    /// The number of cells of a word that isn't empty.
+    pub(crate) fn cells_in(&self, word: u64) -> usize
+        requires within { IsWithin self.now.units word }
+        requires some { ¬ IsEmptyWord word }
+        ensures { result ≡ cells_in self.now word }
+    {
+        let (start, end) = unpack(word);
+        let cells = self.cells_of(start, end);
+        cells.end - cells.start
+    }
+
     /// Where a word is split, or None where its split does not pay.
-    pub(super) fn split(&self, word: u64) -> Option<usize>
+    pub(crate) fn split(&self, word: u64) -> Option<usize>
         requires { IsWithin self.now.units word }
         ensures pays { IfSome result (λ middle. (middle ≡ middle_of word) × Pays self.now word) }
         ensures not { IfNone result (¬ Pays self.now word) }

@@ -18,8 +18,8 @@ use std::sync::Wait;
 /// The cells of a grid, shared out among seats, over words that change in single atomic steps.
 #[derive(Drop)]
 pub struct Shares {
-    table: Table<(), View, Plan, Partition, Global>,
-    plan: Plan,
+    pub(super) table: Table<(), View, Plan, Partition, Global>,
+    pub(super) plan: Plan,
     last: Vec<u64>,
     ghost sound: { IsSound plan },
     ghost key: { table.shared.key ≡ plan },
