@@ -115,13 +115,6 @@ TriesClaim sizes word before Empty after =
 TriesClaim sizes word before Taken after = ⊥
 TriesClaim sizes word before Nothing after = ⊥
 
--- what a claim gained: the front of some word that was not empty, or nothing where the own word was seen empty
-abbrev pub GainsClaim : Sizes → Seat → Option (Range ℕ) → Seat → Type 0
-GainsClaim sizes before (Some cells) after =
-    (claims_of after ≡ claims_of before ++ cells ∷ []) × AreSomeCells sizes cells
-    × ((word : ℕ) × (¬ IsEmptyWord word) × IsWithin sizes.units word × (cells ≡ claim_cells sizes word))
-GainsClaim sizes before None after = (claims_of after ≡ claims_of before) × (has_emptied after ≡ true)
-
 -- ---- at the end
 
 -- each cell of the grid is once in a unit that is left in a word, in a unit in transit or in a claim, and no other cell

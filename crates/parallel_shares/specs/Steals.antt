@@ -1,15 +1,16 @@
 -- What a try to steal tells: each other share was loaded, and which of the loaded words is the victim.
-use Rattle.std.specs.Prelude.{◌≡◌, ◌≢◌, ℕ, ◌+◌, ◌<◌, ◌≤◌, ◌⊎◌, length, Option, Some, None, IfSome, IsSomeAnd}
+use Rattle.std.specs.Prelude.{◌≡◌, ◌≢◌, ℕ, ◌+◌, ◌<◌, ◌≤◌, ◌⊎◌, length, Option, [], ◌∷◌, ◌++◌, true, Some, None, IfSome, IsSomeAnd}
 use Rattle.parallel_shares.specs.declared.shares.rule.View.{View}
 use Rattle.parallel_shares.specs.declared.shares.seat.Seat.{Seat}
 use Rattle.parallel_shares.specs.declared.shares.seat.Tried.{Tried}
 use Rattle.parallel_shares.specs.declared.shares.seat.Tried.TheVariants.{Claimed, Empty, Lost, Taken, Nothing}
 use Rattle.parallel_shares.specs.declared.shares.steal.Victim.{Victim}
-use Rattle.parallel_shares.specs.Words.{IsWithin}
+use Rattle.std.specs.declared.ops.Range.{Range}
+use Rattle.parallel_shares.specs.Words.{IsWithin, IsEmptyWord}
 use Rattle.parallel_shares.specs.Sizes.{Sizes, shares_of, share_of}
-use Rattle.parallel_shares.specs.Answers.{cells_in, Pays}
+use Rattle.parallel_shares.specs.Answers.{cells_in, Pays, claim_cells}
 use Rattle.parallel_shares.specs.Sharing.{loaded_at, loads_at, looked, back_half, took_back, missed}
-use Rattle.parallel_shares.specs.Seats.{known, index_of, transit_of, has_emptied, Steps}
+use Rattle.parallel_shares.specs.Seats.{known, index_of, transit_of, has_emptied, claims_of, AreSomeCells, Steps}
 
 -- of the shares below a number each but one was loaded once more, as a range of units; the others were not loaded
 pub record LooksRound (sizes : Sizes) (own below : ℕ) (before after : View) : Type 0 where
@@ -68,3 +69,12 @@ TriesSteal sizes before Nothing after =
     NonePays sizes (share_of sizes (index_of before)) (shares_of sizes) (known after) × (transit_of after ≡ None) × Steps 0 0 before after
 TriesSteal sizes before (Claimed cells) after = ⊥
 TriesSteal sizes before Empty after = ⊥
+
+-- what a claim gained: the front of some word that was not empty; or nothing where the own word was seen empty, and a
+-- look round after it found no split that pays
+abbrev pub GainsClaim : Sizes → Seat → Option (Range ℕ) → Seat → Type 0
+GainsClaim sizes before (Some cells) after =
+    (claims_of after ≡ claims_of before ++ cells ∷ []) × AreSomeCells sizes cells
+    × ((word : ℕ) × (¬ IsEmptyWord word) × IsWithin sizes.units word × (cells ≡ claim_cells sizes word))
+GainsClaim sizes before None after =
+    (claims_of after ≡ claims_of before) × (has_emptied after ≡ true) × NonePays sizes (share_of sizes (index_of after)) (shares_of sizes) (known after)

@@ -1,6 +1,7 @@
 //! A share of the work is a word that packs the range of the units that are left in it.
 ghost use Rattle.std.specs.Prelude.{◌≡◌, ◌+◌, ◌*◌, ◌≤◌};
 
+mod claim;
 mod queue;
 mod rule;
 mod seat;

@@ -1,6 +1,6 @@
 // Shares over atomic words, on whole plans.
-ghost use Rattle.std.specs.Prelude.{IfOk};
-ghost use Rattle.parallel_shares.specs.Seats.{AreSeatsOf, IsSameSeat, IsSeatOf};
+ghost use Rattle.std.specs.Prelude.{◌≡◌, IfOk};
+ghost use Rattle.parallel_shares.specs.Seats.{AreSeatsOf, IsSeatOf, index_of};
 
 use crate::{Seat, Shares, Tried, pack};
 use std::num::NonZeroUsize;
@@ -16,7 +16,7 @@ fn number(rt: &impl Abort, value: usize) -> NonZeroUsize {
 // The last cells that a seat claims on its way to the end.
 fn last_claim<R: Wait>(rt: &R, shares: &Shares, seat: &mut Seat) -> Range<usize>
     requires { IsSeatOf shares.now seat.old }
-    ensures { IsSeatOf shares.now seat.new × IsSameSeat seat.old seat.new }
+    ensures { IsSeatOf shares.now seat.new × (index_of seat.new ≡ index_of seat.old) }
 {
     let mut last = 0..0;
     for _ in rt.forever() {

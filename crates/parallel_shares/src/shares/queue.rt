@@ -12,8 +12,6 @@ use atomic_table::{Closed, Table};
 use parallel_fault::Fault;
 use std::alloc::Global;
 use std::num::NonZeroUsize;
-use std::ops::Range;
-use std::sync::Wait;
 
 /// The cells of a grid, shared out among seats, over words that change in single atomic steps.
 #[derive(Drop)]
@@ -37,7 +35,7 @@ impl Shares {
     ghost use Rattle.parallel_shares.specs.Totals.{total};
     ghost use Rattle.parallel_shares.specs.Gathered.{HasAll};
     ghost use Rattle.parallel_shares.specs.Sharing.{undealt, loaded_at, loads_at, looked_own};
-    ghost use Rattle.parallel_shares.specs.Seats.{plan_of, known, has_emptied, own_share, own_word, own_loads, IsSeatOf, AreSeatsOf, AreFresh, IsSameSeat, TriesClaim, GainsClaim, LoadsOwn, MeetsFront, IsPartition, AllDone, AllEmpty, EachCellOnce};
+    ghost use Rattle.parallel_shares.specs.Seats.{plan_of, known, has_emptied, own_share, own_word, own_loads, IsSeatOf, AreSeatsOf, AreFresh, IsSameSeat, TriesClaim, LoadsOwn, MeetsFront, IsPartition, AllDone, AllEmpty, EachCellOnce};
 
     /// Shares out `rows` rows of `len` cells each, where a tile costs `tile_cost` cells and there are
     /// at most `workers` workers, and answers a seat for each worker, in order.
@@ -160,27 +158,6 @@ impl Shares {
         } else {
             Tried::Lost
         }
-    }
-
-    /// Claims the front of the share that the seat claims from: tries until an exchange wins or the
-    /// word is empty.
-    ///
-    /// `Some` has the cells that the seat's claims gained. After `None` the claims are as they were,
-    /// and the seat's `own_empty` holds. `rt` is the right to go on trying; no memory is taken.
-    pub fn claim<R: Wait>(&self, rt: &R, seat: &mut Seat) -> Option<Range<usize>>
-        requires { IsSeatOf self.now seat.old }
-        ensures seat { IsSeatOf self.now seat.new }
-        ensures same { IsSameSeat seat.old seat.new }
-        ensures answer { GainsClaim (plan_of self.now) seat.old result seat.new }
-    {
-        for _ in rt.forever() {
-            match self.try_claim(seat) {
-                Tried::Claimed(cells) => return Some(cells),
-                Tried::Empty => return None,
-                _ => {}
-            }
-        }
-        unreachable!()
     }
 
     /// Ends the shares with all of their seats, and answers the words that are left.
