@@ -19,3 +19,5 @@ pub mod Dealt
 pub mod Gatherings
 pub mod Closings
 pub mod Victims
+pub mod Stretching
+pub mod Filling

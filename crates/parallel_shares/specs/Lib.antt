@@ -10,3 +10,5 @@ pub mod Sharing
 pub mod Seats
 pub mod Gathered
 pub mod Steals
+pub mod Stretches
+pub mod Fillings

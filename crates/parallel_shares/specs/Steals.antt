@@ -70,11 +70,14 @@ TriesSteal sizes before Nothing after =
 TriesSteal sizes before (Claimed cells) after = ⊥
 TriesSteal sizes before Empty after = ⊥
 
--- what a claim gained: the front of some word that was not empty; or nothing where the own word was seen empty, and a
--- look round after it found no split that pays
+-- the seat has seen its own word empty, has nothing in transit, and looked round after it and found no split that pays
+abbrev pub FoundNothing : Sizes → Seat → Type 0
+FoundNothing sizes seat =
+    (has_emptied seat ≡ true) × (transit_of seat ≡ None) × NonePays sizes (share_of sizes (index_of seat)) (shares_of sizes) (known seat)
+
+-- what a claim gained: the front of some word that was not empty; or nothing, where there was nothing to be found
 abbrev pub GainsClaim : Sizes → Seat → Option (Range ℕ) → Seat → Type 0
 GainsClaim sizes before (Some cells) after =
     (claims_of after ≡ claims_of before ++ cells ∷ []) × AreSomeCells sizes cells
     × ((word : ℕ) × (¬ IsEmptyWord word) × IsWithin sizes.units word × (cells ≡ claim_cells sizes word))
-GainsClaim sizes before None after =
-    (claims_of after ≡ claims_of before) × (has_emptied after ≡ true) × NonePays sizes (share_of sizes (index_of after)) (shares_of sizes) (known after)
+GainsClaim sizes before None after = (claims_of after ≡ claims_of before) × FoundNothing sizes after

@@ -8,7 +8,7 @@ pub mod shares;
 
 pub use balanced::cut;
 pub use plan::Grid;
-pub use shares::{Seat, Shares, Tried, pack, unpack};
+pub use shares::{Seat, Shares, Stretch, Tried, pack, stretches, unpack};
 
 #[cfg(test)]
 mod tests;
