@@ -1,8 +1,9 @@
 -- Each step of a seat keeps what words and seats keep together, whatever stands in the table when it is taken.
-use Rattle.std.proofs.Common.{◌≡◌, ℕ, false, cond, zero, suc, ◌+◌, ◌-◌, ◌/◌, ◌<◌, ◌≤◌, ◌==◌, ◌⊎◌, inl, inr, List, [], ◌∷◌, length, get_or, set, refl, sym, ap, subst, ◌∙◌, arith}
+use Rattle.std.proofs.Common.{◌≡◌, ℕ, false, cond, zero, suc, ◌+◌, ◌-◌, ◌/◌, ◌<◌, ◌≤◌, ◌==◌, ◌⊎◌, inl, inr, List, [], ◌∷◌, ◌++◌, length, get_or, set, refl, sym, ap, subst, ◌∙◌, arith}
 use Rattle.std.specs.List.{range_with_len}
-use Rattle.std.proofs.lemmas.Bool.{cases_eq, eq-eqb, ne_eqb}
-use Rattle.std.proofs.lemmas.List.{length-set, get_or-set_other}
+use Rattle.std.proofs.lemmas.Bool.{cases_lt, cases_eq, eq-eqb, ne_eqb}
+use Rattle.std.proofs.lemmas.List.{length-set, get_or-set_other, get_or_past}
+use Rattle.std.proofs.lemmas.Nat.{mul-le}
 use Rattle.std.specs.declared.ops.Range.{Range}
 use mathlib.Core.Option.{some, none, some-injective, some-ne-none}
 use prog.Atomic.{either}
@@ -16,7 +17,7 @@ use Rattle.parallel_shares.specs.Machine.{opening_words}
 use Rattle.parallel_shares.specs.Answers.{claim_stop, claim_cells, middle_of, Pays}
 use Rattle.parallel_shares.specs.Holders.{inside, in_word, in_range, in_ranges, same_number}
 use Rattle.parallel_shares.specs.Totals.{total, times}
-use Rattle.parallel_shares.specs.Sharing.{fresh_view, undealt, in_view, Empties, Idle, Kept, looked_own, took_front, missed, looked, took_back, put_down, LooksOwn, TakesFront, LooksAt, TakesBack, PutsDown, dealt_from, dealt, gathered, spent}
+use Rattle.parallel_shares.specs.Sharing.{SomeSplitPays, fresh_view, undealt, in_view, Empties, Idle, Kept, looked_own, took_front, missed, looked, took_back, put_down, LooksOwn, TakesFront, LooksAt, TakesBack, PutsDown, dealt_from, dealt, gathered, spent}
 use Rattle.parallel_shares.proofs.Words.{start_of_packed, end_of_packed, within_packed}
 use Rattle.parallel_shares.proofs.Counts.{inside_within, inside_below, inside_cut, inside_nothing, inside_cells, inside_no_cells}
 use Rattle.parallel_shares.proofs.Lists.{each_set, in_ranges_push}
@@ -33,6 +34,13 @@ Table = State (Unit {0}) View
 not_empty : {A : Type 0} (xs : List A) (x : A) → xs ≡ x ∷ [] → ¬ (xs ≡ [])
 not_empty xs x e n = absurd (omega (arith, ap length e, ap length n))
 
+-- where the split of a word's front that is left pays, the word's does
+pays_front : (sizes : Sizes) (word stop : ℕ) → start_of word ≤ stop → stop ≤ end_of word → end_of word ≤ 65535 → Pays sizes (packed stop (end_of word)) → Pays sizes word
+pays_front sizes word stop a b fit p =
+    let q = rw (start_of_packed stop (end_of word) fit, end_of_packed stop (end_of word) fit) at p in
+    let later : middle_of word ≤ stop + (end_of word - stop) / 2 = omega (arith, a, b) in
+    (omega (arith, q.0, a), omega (arith, q.1, mul-le (middle_of word) sizes.unit (stop + (end_of word - stop) / 2) sizes.unit later (omega arith)))
+
 -- one of two numbers that are not 0 together
 some_of : (a b : ℕ) → 0 < a + b → (0 < a) ⊎ (0 < b)
 some_of zero b h = inr (omega arith)
@@ -48,9 +56,10 @@ module _ (sizes : Sizes) (sound : IsSound sizes) where
       → ((c : ℕ) → sizes.cells ≤ c → in_ranges c w.claims ≡ in_ranges c v.claims)
       → w.owns ≡ v.owns
       → ((n : ℕ) → IsEmptyWord (get_or s.words (share_of sizes n) 0) → IsEmptyWord (get_or ws (share_of sizes n) 0) ⊎ (0 < times n v.owns))
+      → ((i : ℕ) → Pays sizes (get_or ws i 0) → SomeSplitPays sizes) → (w.transit ≡ []) ⊎ SomeSplitPays sizes
       → Empties sizes ws w → Idle w → v.changes ≤ w.changes → (w.changes ≡ v.changes → ws ≡ s.words)
       → Kept sizes (record { words = ws; homes = s.homes; views = set s.views id w })
-  changes s k id v w e ws l within count past owns stay empties idle grows same = record {
+  changes s k id v w e ws l within count past owns stay pays carry empties idle grows same = record {
     shares = l ∙ k.shares;
     within = within;
     once = λ c h. omega (arith, k.once c h, count c h, total_set (in_view sizes c) s.views id v w e);
@@ -66,6 +75,11 @@ module _ (sizes : Sizes) (sound : IsSound sizes) where
         old.1,
       )
     ];
+    splits = pays;
+    taken = λ i x h. elim (at_set s.views id i w x h) as (λ _. (x.transit ≡ []) ⊎ SomeSplitPays sizes) [
+      | inl here ↦ subst (λ (y : View). (y.transit ≡ []) ⊎ SomeSplitPays sizes) here.1 carry
+      | inr there ↦ k.taken i x there.1
+    ];
     opening = λ none_of. let t = total_set (λ x. x.changes) s.views id v w e in same (omega (arith, t, none_of, grows)) ∙ k.opening (omega (arith, t, none_of, grows));
   }
 
@@ -75,7 +89,7 @@ module _ (sizes : Sizes) (sound : IsSound sizes) where
       → Kept sizes (record { words = set s.words share (get_or s.words share 0); homes = s.homes; views = set s.views id w })
   stays s k id v w e share claims transit owns same has empties =
       rw (set_get s.words share)
-      (changes s k id v w e s.words refl k.within (λ c h. omega (arith, ap (in_ranges c) claims, ap (in_ranges (c / sizes.unit)) transit)) (λ c h. ap (in_ranges c) claims) owns (λ n h. inl h) empties (λ n. absurd (has n)) (omega (arith, same)) (λ _. refl))
+      (changes s k id v w e s.words refl k.within (λ c h. omega (arith, ap (in_ranges c) claims, ap (in_ranges (c / sizes.unit)) transit)) (λ c h. ap (in_ranges c) claims) owns (λ n h. inl h) k.splits (subst (λ t. (t ≡ []) ⊎ SomeSplitPays sizes) (sym transit) (k.taken id v e)) empties (λ n. absurd (has n)) (omega (arith, same)) (λ _. refl))
 
   -- ---- a load
 
@@ -143,6 +157,8 @@ module _ (sizes : Sizes) (sound : IsSound sizes) where
         (λ c h. let u = c / sizes.unit in omega (arith, total_put (in_word u) s.words share next there, ap (in_word u) found, cut_front u word stop (omega (arith, front.0)) front.1 fits, in_ranges_push c v.claims (claim_cells v.plan word), claimed c h))
         (λ c h. omega (arith, in_ranges_push c v.claims (claim_cells v.plan word), not_claimed c h))
         refl (λ n empty. inl (stay (share_of sizes n) empty))
+        (each_set (λ n. Pays sizes n → SomeSplitPays sizes) s.words share next 0 k.splits (λ p. k.splits share (subst (Pays sizes) (sym found) (pays_front sizes word stop (omega (arith, front.0)) front.1 fits p))))
+        (k.taken id v e)
         (λ n. let old = (k.each id v e).0 n in (old.0, λ p. stay (share_of sizes n) (old.1 p)))
         (λ none_of. absurd (not_empty v.owns index owns none_of))
         (omega arith)
@@ -167,7 +183,7 @@ module _ (sizes : Sizes) (sound : IsSound sizes) where
         keeps,
         tt,
         stays s k id me.0 w e share refl refl refl refl (not_empty me.0.owns index owns) (k.each id me.0 e).0,
-        (subst (λ (z : Sizes). IsWithin z.units word) (sym plan) (k.within share), refl, refl),
+        (subst (λ (z : Sizes). IsWithin z.units word) (sym plan) (k.within share), subst (λ (z : Sizes). Pays z word → SomeSplitPays z) (sym plan) (k.splits share), refl, refl),
       )
 
   -- ---- a steal
@@ -199,6 +215,8 @@ module _ (sizes : Sizes) (sound : IsSound sizes) where
         (λ c h. let u = c / sizes.unit in omega (arith, total_put (in_word u) s.words share left there, ap (in_word u) found, cut_back u word middle (omega (arith, halves.0)) (omega (arith, halves.1)) halves.2, ap (in_ranges u) bare))
         (λ c h. refl)
         refl (λ n empty. inl (stay (share_of sizes n) empty))
+        (each_set (λ n. Pays sizes n → SomeSplitPays sizes) s.words share left 0 k.splits (λ _. k.splits share (subst (Pays sizes) (sym found) pays)))
+        (inr (k.splits share (subst (Pays sizes) (sym found) pays)))
         (λ n. let old = (k.each id v e).0 n in (old.0, λ p. stay (share_of sizes n) (old.1 p)))
         (λ none_of. absurd (not_empty v.owns index owns none_of))
         (omega arith)
@@ -243,6 +261,8 @@ module _ (sizes : Sizes) (sound : IsSound sizes) where
           | inl is ↦ inr (subst (λ j. 0 < times j v.owns) (sym is) own)
           | inr apart ↦ inl (subst (λ j. IsEmptyWord (get_or (set s.words index filling) j 0)) (sym (own_number cut n)) (rw (get_or-set_other s.words index n filling 0 apart) (subst (λ j. IsEmptyWord (get_or s.words j 0)) (own_number cut n) was)))
         ])
+        (each_set (λ n. Pays sizes n → SomeSplitPays sizes) s.words index filling 0 k.splits (λ _. elim (k.taken id v e) [ inl none_of ↦ absurd (not_empty v.transit units carries none_of) | inr splits ↦ splits ]))
+        (inl refl)
         (λ n. (omega arith, λ p. absurd (omega (arith, p))))
         (λ none_of. absurd (not_empty v.owns index owns none_of))
         (omega arith)
@@ -277,8 +297,22 @@ module _ (sizes : Sizes) (sound : IsSound sizes) where
           ]
           | inr new ↦ subst (λ (y : View). Empties sizes s.words y × Idle y) new (nothing s.words right.owns)
         ];
+        splits = k.splits;
+        taken = λ i x h. elim (at_snoc (set s.views id left) right x i h) as (λ _. (x.transit ≡ []) ⊎ SomeSplitPays sizes) [
+          | inl old ↦ elim (at_set s.views id i left x old) as (λ _. (x.transit ≡ []) ⊎ SomeSplitPays sizes) [
+            | inl here ↦ subst (λ (y : View). (y.transit ≡ []) ⊎ SomeSplitPays sizes) here.1 (inl refl)
+            | inr there ↦ k.taken i x there.1
+          ]
+          | inr new ↦ subst (λ (y : View). (y.transit ≡ []) ⊎ SomeSplitPays sizes) new (inl refl)
+        ];
         opening = λ none_of. k.opening (omega (arith, none_of, total_append (λ x. x.changes) (set s.views id left) (right ∷ []), total_set (λ x. x.changes) s.views id v left e));
       }
+
+  -- two transits that are each empty are so together
+  none_or : (first other : List (Range ℕ)) → (first ≡ []) ⊎ SomeSplitPays sizes → (other ≡ []) ⊎ SomeSplitPays sizes → (first ++ other ≡ []) ⊎ SomeSplitPays sizes
+  none_or first other (inl a) (inl b) = inl (rw (a, b) refl)
+  none_or first other (inl a) (inr b) = inr b
+  none_or first other (inr a) b = inr a
 
   pub joins : (id other : ℕ) (v w : View) → Joins (Kept sizes) id v other w (gathered v w) spent
   joins id other v w s k at_v apart at_w =
@@ -306,6 +340,14 @@ module _ (sizes : Sizes) (sound : IsSound sizes) where
             | inr old ↦ k.each i x old.1
           ]
         ];
+        splits = k.splits;
+        taken = λ i x h. elim (at_set first other i spent x h) as (λ _. (x.transit ≡ []) ⊎ SomeSplitPays sizes) [
+          | inl here ↦ subst (λ (y : View). (y.transit ≡ []) ⊎ SomeSplitPays sizes) here.1 (inl refl)
+          | inr there ↦ elim (at_set s.views id i both x there.1) as (λ _. (x.transit ≡ []) ⊎ SomeSplitPays sizes) [
+            | inl here ↦ subst (λ (y : View). (y.transit ≡ []) ⊎ SomeSplitPays sizes) here.1 (none_or v.transit w.transit (k.taken id v at_v) (k.taken other w old_w))
+            | inr old ↦ k.taken i x old.1
+          ]
+        ];
         opening = λ none_of. k.opening (omega (arith, none_of, total_set (λ x. x.changes) s.views id v both at_v, total_set (λ x. x.changes) first other w spent at_w));
       }
 
@@ -326,6 +368,10 @@ module _ (sizes : Sizes) (sound : IsSound sizes) where
   only zero x h = subst (λ (y : View). Empties sizes (opening_words sizes (shares_of sizes)) y × Idle y) (some-injective (undealt sizes 0) x h) (nothing (opening_words sizes (shares_of sizes)) (range_with_len 0 (sizes.workers - 0)))
   only (suc i) x h = absurd (some-ne-none x (sym h))
 
+  only_taken : (i : ℕ) (x : View) → get_elem? (undealt sizes 0 ∷ []) i ≡ some x → (x.transit ≡ []) ⊎ SomeSplitPays sizes
+  only_taken zero x h = subst (λ (y : View). (y.transit ≡ []) ⊎ SomeSplitPays sizes) (some-injective (undealt sizes 0) x h) (inl refl)
+  only_taken (suc i) x h = absurd (some-ne-none x (sym h))
+
   pub opens : Kept sizes (opening (opening_words sizes (shares_of sizes)) [] (undealt sizes 0))
   opens =
       let state = opening_is_state sizes sound in
@@ -336,5 +382,10 @@ module _ (sizes : Sizes) (sound : IsSound sizes) where
         no_more = λ c h. refl;
         seats = λ n. let e : 0 + (sizes.workers - 0) ≡ sizes.workers = omega arith in omega (arith, times_range n 0 (sizes.workers - 0), ap (inside n 0) e);
         each = λ i x h. only i x h;
+        splits = λ share p. elim (cases_lt share (shares_of sizes)) [
+          | inl l ↦ (share, l, p)
+          | inr m ↦ absurd (let none_there : get_or (opening_words sizes (shares_of sizes)) share 0 ≡ 0 = get_or_past (opening_words sizes (shares_of sizes)) share 0 (omega (arith, m, length_opening sizes (shares_of sizes))) in let q = subst (Pays sizes) none_there p in omega (arith, q.0))
+        ];
+        taken = λ i x h. only_taken i x h;
         opening = λ _. refl;
       }

@@ -1,5 +1,5 @@
 -- A look round: one share after another is loaded, and the best of them is kept.
-use Rattle.std.proofs.Common.{◌≡◌, ◌≢◌, ℕ, ◌+◌, ◌<◌, ◌≤◌, ◌⊎◌, inl, inr, length, set, Option, Some, None, refl, sym, ap, subst, ◌∙◌, arith}
+use Rattle.std.proofs.Common.{◌≡◌, ◌≢◌, ℕ, ◌+◌, ◌<◌, ◌≤◌, ◌⊎◌, inl, inr, length, get_or, Option, Some, None, sym, ap, subst, ◌∙◌, arith}
 use Rattle.std.proofs.lemmas.Bool.{cases_eq}
 use Rattle.std.proofs.lemmas.List.{length-set, get_or-set_same, get_or-set_other}
 use Rattle.parallel_shares.specs.declared.shares.rule.View.{View}
@@ -7,8 +7,8 @@ use Rattle.parallel_shares.specs.declared.shares.steal.Victim.{Victim}
 use Rattle.parallel_shares.specs.Words.{IsWithin}
 use Rattle.parallel_shares.specs.Sizes.{Sizes}
 use Rattle.parallel_shares.specs.Answers.{cells_in, Pays}
-use Rattle.parallel_shares.specs.Sharing.{loaded_at, loads_at, looked}
-use Rattle.parallel_shares.specs.Steals.{LooksRound, NonePays, IsVictim, IsBest, IsBetter, IsNoBetter, OnlyLooks}
+use Rattle.parallel_shares.specs.Sharing.{SomeSplitPays, loaded_at, loads_at, looked}
+use Rattle.parallel_shares.specs.Steals.{LooksRound, IsBest, IsBetter, IsNoBetter, OnlyLooks}
 
 -- a number below the next one is this one or below it
 below_next : (k n : ℕ) → k < n + 1 → (k ≡ n) ⊎ (k < n)
@@ -21,6 +21,7 @@ module _ (sizes : Sizes) (own n : ℕ) (before view : View) where
   passes_own is looks = record {
     once = λ k h o. looks.once k (omega (arith, h, is, o)) o;
     within = λ k h o. looks.within k (omega (arith, h, is, o)) o;
+    splits = λ k h o p. looks.splits k (omega (arith, h, is, o)) o p;
     others = λ k where_. elim where_ [ inl e ↦ looks.others k (inl e) | inr l ↦ looks.others k (inr (omega (arith, l))) ];
   }
 
@@ -55,8 +56,8 @@ module _ (sizes : Sizes) (own n : ℕ) (before view : View) where
     not_counted : (k : ℕ) → k ≢ n → loads_at next k ≡ loads_at view k
     not_counted k o = get_or-set_other view.loads n k (loads_at view n + 1) 0 o
 
-    pub looks_more : IsWithin sizes.units word → LooksRound sizes own n before view → LooksRound sizes own (n + 1) before next
-    looks_more inner looks = record {
+    pub looks_more : IsWithin sizes.units word → (Pays sizes word → SomeSplitPays sizes) → LooksRound sizes own n before view → LooksRound sizes own (n + 1) before next
+    looks_more inner splits looks = record {
       once = λ k h o. elim (below_next k n h) as (λ _. loads_at next k ≡ loads_at before k + 1) [
         | inl e ↦ rw e (counted ∙ ap (λ m. m + 1) (looks.others n (inr (omega arith))).0)
         | inr l ↦ not_counted k (omega (arith, l)) ∙ looks.once k l o
@@ -64,6 +65,10 @@ module _ (sizes : Sizes) (own n : ℕ) (before view : View) where
       within = λ k h o. elim (below_next k n h) as (λ _. IsWithin sizes.units (loaded_at next k)) [
         | inl e ↦ rw (e, there) inner
         | inr l ↦ rw (elsewhere k (omega (arith, l))) (looks.within k l o)
+      ];
+      splits = λ k h o p. elim (below_next k n h) as (λ _. SomeSplitPays sizes) [
+        | inl e ↦ splits (subst (Pays sizes) there (subst (λ j. Pays sizes (loaded_at next j)) e p))
+        | inr l ↦ looks.splits k l o (subst (Pays sizes) (elsewhere k (omega (arith, l))) p)
       ];
       others = λ k where_.
           let o : k ≢ n = elim where_ [ inl e ↦ (λ is. apart (sym is ∙ e)) | inr l ↦ (λ is. absurd (omega (arith, l, is))) ] in
@@ -146,3 +151,12 @@ module _ (sizes : Sizes) (own n : ℕ) (before view : View) where
           },
           kept ∙ same,
         )
+
+-- a view with the same words and loads has looked round as well
+pub looks_kept : (sizes : Sizes) (own below : ℕ) (before view after : View) → after.words ≡ view.words → after.loads ≡ view.loads → LooksRound sizes own below before view → LooksRound sizes own below before after
+looks_kept sizes own below before view after words loads looks = record {
+  once = λ k h o. ap (λ ls. get_or ls k 0) loads ∙ looks.once k h o;
+  within = λ k h o. subst (λ ws. IsWithin sizes.units (get_or ws k 0)) (sym words) (looks.within k h o);
+  splits = λ k h o p. looks.splits k h o (subst (λ ws. Pays sizes (get_or ws k 0)) words p);
+  others = λ k where_. let old = looks.others k where_ in (ap (λ ls. get_or ls k 0) loads ∙ old.0, ap (λ ws. get_or ws k 0) words ∙ old.1);
+}

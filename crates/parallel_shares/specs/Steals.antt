@@ -9,13 +9,19 @@ use Rattle.std.specs.declared.ops.Range.{Range}
 use Rattle.parallel_shares.specs.Words.{IsWithin, IsEmptyWord}
 use Rattle.parallel_shares.specs.Sizes.{Sizes, shares_of, share_of}
 use Rattle.parallel_shares.specs.Answers.{cells_in, Pays, claim_cells}
-use Rattle.parallel_shares.specs.Sharing.{loaded_at, loads_at, looked, back_half, took_back, missed}
+use Rattle.parallel_shares.specs.Sharing.{SomeSplitPays, loaded_at, loads_at, back_half, took_back, missed}
 use Rattle.parallel_shares.specs.Seats.{known, index_of, transit_of, has_emptied, claims_of, AreSomeCells, Steps}
 
--- of the shares below a number each but one was loaded once more, as a range of units; the others were not loaded
+-- a plan of whole rows never splits a word, nor does a plan in which no opening word's split pays
+abbrev pub NeverSplits : Sizes → Type 0
+NeverSplits sizes = (sizes.whole ≡ true) ⊎ ¬ SomeSplitPays sizes
+
+-- of the shares below a number each but one was loaded once more, as a range of units, whose split pays only where some
+-- opening word's does; the others were not loaded
 pub record LooksRound (sizes : Sizes) (own below : ℕ) (before after : View) : Type 0 where
   pub once : (k : ℕ) → k < below → k ≢ own → loads_at after k ≡ loads_at before k + 1
   pub within : (k : ℕ) → k < below → k ≢ own → IsWithin sizes.units (loaded_at after k)
+  pub splits : (k : ℕ) → k < below → k ≢ own → Pays sizes (loaded_at after k) → SomeSplitPays sizes
   pub others : (k : ℕ) → (k ≡ own) ⊎ (below ≤ k) → (loads_at after k ≡ loads_at before k) × (loaded_at after k ≡ loaded_at before k)
 
 -- of the shares below a number but one, none has a loaded word whose split pays

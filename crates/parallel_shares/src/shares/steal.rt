@@ -21,9 +21,10 @@ pub struct Victim {
 }
 
 impl Shares {
-    ghost use Rattle.parallel_shares.specs.Sharing.{looked};
+    ghost use Rattle.parallel_shares.specs.Sharing.{SomeSplitPays, looked};
     ghost use Rattle.parallel_shares.specs.Seats.{plan_of, known, index_of, claims_of, has_emptied, transit_of, own_share, own_word, IsSeatOf, IsSameSeat, Steps};
-    ghost use Rattle.parallel_shares.specs.Steals.{LooksRound, IsBest, OnlyLooks, MeetsBack, TriesSteal};
+    ghost use Rattle.parallel_shares.specs.Steals.{LooksRound, IsBest, OnlyLooks, MeetsBack, TriesSteal, NeverSplits};
+    ghost use Rattle.parallel_shares.specs.declared.shares.seat.Tried.TheVariants.{Nothing};
 
     /// Tries once to take the back half of another share into transit: one load of each other
     /// share's word, and at most one exchange.
@@ -31,7 +32,8 @@ impl Shares {
     /// The exchange is on the loaded word with the most cells of those whose split pays, the last of
     /// equals; `TriesSteal` says so. After `Taken` its back half is `in_transit`, and a front is left
     /// that isn't empty. `Lost` comes only where the exchange met another word. `Nothing` comes only
-    /// where no loaded word's split pays: so always in a plan of whole rows, which has no other share.
+    /// where no loaded word's split pays: so always in a plan of whole rows, which has no other share,
+    /// and in one in which no opening word's split pays.
     /// The seat has seen its own word empty, and has nothing in transit. No memory is taken, and
     /// nothing is waited for.
     pub fn try_steal(&self, seat: &mut Seat) -> Tried
@@ -44,6 +46,7 @@ impl Shares {
         ensures claims { claims_of seat.new ≡ claims_of seat.old }
         ensures looks { LooksRound (plan_of self.now) (own_share self.now seat.old) (shares_of (plan_of self.now)) (known seat.old) (known seat.new) }
         ensures answer { TriesSteal (plan_of self.now) seat.old result seat.new }
+        ensures never { NeverSplits (plan_of self.now) → result ≡ Nothing }
     {
         let Some(victim) = self.find_victim(seat) else {
             return Tried::Nothing;
@@ -113,6 +116,7 @@ impl Shares {
         ensures same { IsSameSeat seat.old seat.new }
         ensures emptied { has_emptied seat.new ≡ has_emptied seat.old }
         ensures within { IsWithin (plan_of self.now).units result }
+        ensures splits { Pays (plan_of self.now) result → SomeSplitPays (plan_of self.now) }
         ensures view { known seat.new ≡ looked (known seat.old) share result }
     {
         self.table.shared.load::<LookAt>(&mut seat.seat, share)

@@ -1,6 +1,6 @@
 -- The open stretch grows by the piece, or ends before it.
-use Rattle.std.proofs.Common.{◌≡◌, ◌∷◌, ◌++◌, [], Some, sym, subst}
-use Rattle.parallel_shares.specs.Stretches.{Parted, Grown, piece_cells, stretches_of}
+use Rattle.std.proofs.Common.{◌++◌, Some, sym, subst}
+use Rattle.parallel_shares.specs.Stretches.{Parted, piece_cells}
 use Rattle.parallel_shares.proofs.Stretching.{parted_grows, parted_anew}
 use Rattle.parallel_shares.proofs.shares.stretch.add.Goals as goal
 

@@ -1,7 +1,7 @@
 -- Each turn adds one piece of the claim.
-use Rattle.std.proofs.Common.{◌≡◌, ◌++◌, ◌-◌, ◌≤◌, Some, sym, subst, arith}
+use Rattle.std.proofs.Common.{◌++◌, ◌-◌, Some, sym, subst, arith}
 use Rattle.std.specs.List.{range_with_len}
-use Rattle.parallel_shares.specs.Stretches.{Parted, piece_cells}
+use Rattle.parallel_shares.specs.Stretches.{Parted}
 use Rattle.parallel_shares.proofs.Stretching.{claim_none, claim_more, claim_all}
 use Rattle.parallel_shares.proofs.shares.stretch.add_claim.Goals as goal
 

@@ -28,7 +28,7 @@ loop-share-preserved c =
             same = (now.ensures.same.0 ∙ i.same.0, now.ensures.same.1 ∙ i.same.1);
             emptied = now.ensures.emptied ∙ i.emptied;
             only = subst (OnlyLooks first) (sym now.ensures.view) (only_more plan own n first seat now.result apart fits counts i.only);
-            looks = subst (λ v. LooksRound plan own (n + 1) first v) (sym now.ensures.view) (looks_more plan own n first seat now.result apart fits counts now.ensures.within i.looks);
+            looks = subst (λ v. LooksRound plan own (n + 1) first v) (sym now.ensures.view) (looks_more plan own n first seat now.result apart fits counts now.ensures.within now.ensures.splits i.looks);
             best = subst (λ v. IsBest plan own (n + 1) v (Some (record { share = n; word = now.result }))) (sym now.ensures.view) (better plan own n first seat now.result apart fits counts c.loop-share.best (rw w.if-is_better.true at w.is_better.ensures) i.best);
           })
       | then-share-own+else-is_better w ↦
@@ -40,7 +40,7 @@ loop-share-preserved c =
             same = (now.ensures.same.0 ∙ i.same.0, now.ensures.same.1 ∙ i.same.1);
             emptied = now.ensures.emptied ∙ i.emptied;
             only = subst (OnlyLooks first) (sym now.ensures.view) (only_more plan own n first seat now.result apart fits counts i.only);
-            looks = subst (λ v. LooksRound plan own (n + 1) first v) (sym now.ensures.view) (looks_more plan own n first seat now.result apart fits counts now.ensures.within i.looks);
+            looks = subst (λ v. LooksRound plan own (n + 1) first v) (sym now.ensures.view) (looks_more plan own n first seat now.result apart fits counts now.ensures.within now.ensures.splits i.looks);
             best = subst (λ v. IsBest plan own (n + 1) v c.loop-share.best) (sym now.ensures.view) (no_better plan own n first seat now.result apart fits counts c.loop-share.best (rw w.if-is_better.false at w.is_better.ensures) i.best);
           })
       | else-share-own w ↦

@@ -1,5 +1,5 @@
 -- Each claim is filled behind those before it, and at the end the open stretch gets its result.
-use Rattle.std.proofs.Common.{◌≡◌, ◌++◌, ◌∷◌, [], refl, sym, ap, ◌∙◌, append-nil, append_assoc}
+use Rattle.std.proofs.Common.{◌++◌, ◌∷◌, [], refl, sym, ap, ◌∙◌, append-nil, append_assoc}
 use Rattle.parallel_shares.specs.Seats.{claims_of}
 use Rattle.parallel_shares.specs.Stretches.{all_cells}
 use Rattle.parallel_shares.proofs.Stretching.{cells_push}
