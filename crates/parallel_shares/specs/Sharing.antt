@@ -46,7 +46,8 @@ in_view sizes c view = in_ranges c view.claims + in_ranges (c / sizes.unit) view
 -- a seat has seen words empty only of its own numbers, and these words still are
 abbrev pub Empties : Sizes → List ℕ → View → Type 0
 Empties sizes words view =
-    (k : ℕ) → (times k view.empties ≤ times k view.owns) × (0 < times k view.empties → IsEmptyWord (slice_index words (share_of sizes k)))
+    (k : ℕ) → (times k view.empties ≤ times k view.owns)
+    × (0 < times k view.empties → IsEmptyWord (slice_index words (share_of sizes k)))
 
 -- who has no number has nothing else
 abbrev pub Idle : View → Type 0
@@ -115,17 +116,20 @@ LooksOwn step before word after =
 -- an exchange claims the front of the word that was loaded, or finds another word and claims nothing
 abbrev pub TakesFront : Step (Unit {0}) → Me (Unit {0}) View → ℕ → Me (Unit {0}) View → Type 0
 TakesFront step before word after =
-    (word ≡ step.first → after.0 ≡ took_front before.0 step.first) × (word ≢ step.first → after.0 ≡ missed before.0 word) × (after.1 ≡ before.1)
+    (word ≡ step.first → after.0 ≡ took_front before.0 step.first)
+    × (word ≢ step.first → after.0 ≡ missed before.0 word) × (after.1 ≡ before.1)
 
 -- a load of another share tells a range of units, whose split pays only where some opening word's does
 abbrev pub LooksAt : Step (Unit {0}) → Me (Unit {0}) View → ℕ → Me (Unit {0}) View → Type 0
 LooksAt step before word after =
-    IsWithin before.0.plan.units word × (Pays before.0.plan word → SomeSplitPays before.0.plan) × (after.0 ≡ looked before.0 step.word word) × (after.1 ≡ before.1)
+    IsWithin before.0.plan.units word × (Pays before.0.plan word → SomeSplitPays before.0.plan)
+    × (after.0 ≡ looked before.0 step.word word) × (after.1 ≡ before.1)
 
 -- an exchange takes the back half of the word that was loaded, or finds another word and takes nothing
 abbrev pub TakesBack : Step (Unit {0}) → Me (Unit {0}) View → ℕ → Me (Unit {0}) View → Type 0
 TakesBack step before word after =
-    (word ≡ step.first → after.0 ≡ took_back before.0 step.first) × (word ≢ step.first → after.0 ≡ missed before.0 word) × (after.1 ≡ before.1)
+    (word ≡ step.first → after.0 ≡ took_back before.0 step.first)
+    × (word ≢ step.first → after.0 ≡ missed before.0 word) × (after.1 ≡ before.1)
 
 -- a store puts what is in transit down in the seat's own share
 abbrev pub PutsDown : Step (Unit {0}) → Me (Unit {0}) View → ℕ → Me (Unit {0}) View → Type 0

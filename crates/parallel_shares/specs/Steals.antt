@@ -6,11 +6,12 @@ use Rattle.parallel_shares.specs.declared.shares.seat.Tried.{Tried}
 use Rattle.parallel_shares.specs.declared.shares.seat.Tried.TheVariants.{Claimed, Empty, Lost, Taken, Nothing}
 use Rattle.parallel_shares.specs.declared.shares.steal.Victim.{Victim}
 use Rattle.std.specs.declared.ops.Range.{Range}
+use Rattle.parallel_shares.specs.declared.shares.queue.Shares.{Shares}
 use Rattle.parallel_shares.specs.Words.{IsWithin, IsEmptyWord}
 use Rattle.parallel_shares.specs.Sizes.{Sizes, shares_of, share_of}
 use Rattle.parallel_shares.specs.Answers.{cells_in, Pays, claim_cells}
 use Rattle.parallel_shares.specs.Sharing.{SomeSplitPays, loaded_at, loads_at, back_half, took_back, missed}
-use Rattle.parallel_shares.specs.Seats.{known, index_of, transit_of, has_emptied, claims_of, AreSomeCells, Steps}
+use Rattle.parallel_shares.specs.Seats.{plan_of, own_share, known, index_of, transit_of, has_emptied, claims_of, AreSomeCells, Steps}
 
 -- a plan of whole rows never splits a word, nor does a plan in which no opening word's split pays
 abbrev pub NeverSplits : Sizes → Type 0
@@ -23,6 +24,11 @@ pub record LooksRound (sizes : Sizes) (own below : ℕ) (before after : View) : 
   pub within : (k : ℕ) → k < below → k ≢ own → IsWithin sizes.units (loaded_at after k)
   pub splits : (k : ℕ) → k < below → k ≢ own → Pays sizes (loaded_at after k) → SomeSplitPays sizes
   pub others : (k : ℕ) → (k ≡ own) ⊎ (below ≤ k) → (loads_at after k ≡ loads_at before k) × (loaded_at after k ≡ loaded_at before k)
+
+-- a seat loaded each other share once, as `LooksRound` says
+abbrev pub LoadsOthers : Shares → Seat → Seat → Type 0
+LoadsOthers shares before after =
+    LooksRound (plan_of shares) (own_share shares before) (shares_of (plan_of shares)) (known before) (known after)
 
 -- of the shares below a number but one, none has a loaded word whose split pays
 abbrev pub NonePays : Sizes → ℕ → ℕ → View → Type 0
@@ -54,7 +60,8 @@ IsNoBetter sizes best word = (¬ Pays sizes word) ⊎ IsSomeAnd best (λ victim.
 -- a look round changes nothing but what was loaded
 abbrev pub OnlyLooks : View → View → Type 0
 OnlyLooks before after =
-    (after ≡ record before { words = after.words; loads = after.loads }) × (length after.words ≡ length before.words) × (length after.loads ≡ length before.loads)
+    (after ≡ record before { words = after.words; loads = after.loads })
+    × (length after.words ≡ length before.words) × (length after.loads ≡ length before.loads)
 
 -- an exchange met the word that was loaded and took its back half, or it met another word and took nothing
 abbrev pub MeetsBack : ℕ → Seat → ℕ → Seat → Type 0
@@ -67,19 +74,22 @@ MeetsBack word before found after =
 abbrev pub TriesSteal : Sizes → Seat → Tried → Seat → Type 0
 TriesSteal sizes before Taken after =
     (victim : ℕ) × IsVictim sizes (share_of sizes (index_of before)) (shares_of sizes) (known after) victim
-    × ((known after).met ≡ loaded_at (known after) victim) × (transit_of after ≡ Some (back_half (loaded_at (known after) victim))) × Steps 1 1 before after
+    × ((known after).met ≡ loaded_at (known after) victim)
+    × (transit_of after ≡ Some (back_half (loaded_at (known after) victim))) × Steps 1 1 before after
 TriesSteal sizes before Lost after =
     (victim : ℕ) × IsVictim sizes (share_of sizes (index_of before)) (shares_of sizes) (known after) victim
     × ((known after).met ≢ loaded_at (known after) victim) × (transit_of after ≡ None) × Steps 1 0 before after
 TriesSteal sizes before Nothing after =
-    NonePays sizes (share_of sizes (index_of before)) (shares_of sizes) (known after) × (transit_of after ≡ None) × Steps 0 0 before after
+    NonePays sizes (share_of sizes (index_of before)) (shares_of sizes) (known after)
+    × (transit_of after ≡ None) × Steps 0 0 before after
 TriesSteal sizes before (Claimed cells) after = ⊥
 TriesSteal sizes before Empty after = ⊥
 
 -- the seat has seen its own word empty, has nothing in transit, and looked round after it and found no split that pays
 abbrev pub FoundNothing : Sizes → Seat → Type 0
 FoundNothing sizes seat =
-    (has_emptied seat ≡ true) × (transit_of seat ≡ None) × NonePays sizes (share_of sizes (index_of seat)) (shares_of sizes) (known seat)
+    (has_emptied seat ≡ true) × (transit_of seat ≡ None)
+    × NonePays sizes (share_of sizes (index_of seat)) (shares_of sizes) (known seat)
 
 -- what a claim gained: the front of some word that was not empty; or nothing, where there was nothing to be found
 abbrev pub GainsClaim : Sizes → Seat → Option (Range ℕ) → Seat → Type 0

@@ -32,7 +32,7 @@ impl Model for Plan {
 }
 
 impl Plan {
-    ghost use Rattle.parallel_shares.specs.Sizes.{Work, Sizes, sizes_of, shares_of, share_of, cells_to, opening_size, IsSound};
+    ghost use Rattle.parallel_shares.specs.Sizes.{Sizes, sizes_for, shares_of, share_of, cells_to, opening_size, IsSound};
     ghost use Rattle.parallel_shares.specs.Words.{IsWithin, IsEmptyWord};
     ghost use Rattle.parallel_shares.specs.Answers.{cells_in, middle_of, Pays};
 
@@ -54,7 +54,7 @@ impl Plan {
         requires some_cells { len ≢ 0 }
         requires cells_fit { rows * len < 2 ^ 64 }
         requires cut_pays { IsFalse whole → 2 * non_zero_usize_get tile_cost ≤ len }
-        ensures sizes { result ≡ sizes_of (record { rows = rows; len = len; tile_cost = non_zero_usize_get tile_cost; workers = non_zero_usize_get workers; whole = whole }) }
+        ensures sizes { result ≡ sizes_for rows len (non_zero_usize_get tile_cost) (non_zero_usize_get workers) whole }
         ensures sound { IsSound result }
     {
         let cells = rows * len;

@@ -28,7 +28,7 @@ pub struct Shares {
 
 impl Shares {
     ghost use Rattle.std.specs.Prelude.{ℕ, replicate, slice_index};
-    ghost use Rattle.parallel_shares.specs.Sizes.{Work, sizes_of, share_of};
+    ghost use Rattle.parallel_shares.specs.Sizes.{sizes_for, share_of};
     ghost use Rattle.parallel_shares.specs.Words.{IsWithin, IsEmptyWord, packed, end_of};
     ghost use Rattle.parallel_shares.specs.Machine.{opening_words};
     ghost use Rattle.parallel_shares.specs.Answers.{claim_stop};
@@ -55,7 +55,7 @@ impl Shares {
         requires some_cells { len ≢ 0 }
         requires cells_fit { rows * len < 2 ^ 64 }
         requires cut_pays { IsFalse whole → 2 * non_zero_usize_get tile_cost ≤ len }
-        ensures sizes { IfOk result (λ r. plan_of r.0 ≡ sizes_of (record { rows = rows; len = len; tile_cost = non_zero_usize_get tile_cost; workers = non_zero_usize_get workers; whole = whole })) }
+        ensures sizes { IfOk result (λ r. plan_of r.0 ≡ sizes_for rows len (non_zero_usize_get tile_cost) (non_zero_usize_get workers) whole) }
         ensures sound { IfOk result (λ r. IsSound (plan_of r.0)) }
         ensures seats { IfOk result (λ r. AreSeatsOf r.0 r.1.items) }
         ensures fresh { IfOk result (λ r. AreFresh r.1.items) }

@@ -45,8 +45,9 @@ impl Shares {
         ensures index { index_of seat.new ≡ index_of seat.old }
         ensures transit { transit_of seat.new ≡ None }
         ensures done { IfOk result (λ _. FoundNothing (plan_of self.now) seat.new) }
-        ensures chain { IfOk result (λ results. (gained : List (Range ℕ)) × (cut : List Stretch) × (claims_of seat.new ≡ claims_of seat.old ++ gained)
-            × Cutting gained len cut × Finished (Fills (L.post fill.now)) (Gives (N.post finish.now)) state.old cut results.items state.new) }
+        ensures chain { IfOk result (λ results. (gained : List (Range ℕ)) × (cut : List Stretch)
+            × (claims_of seat.new ≡ claims_of seat.old ++ gained) × Cutting gained len cut
+            × Finished (Fills (L.post fill.now)) (Gives (N.post finish.now)) state.old cut results.items state.new) }
         ensures fault { IfErr result (λ refusal. refusal ≡ Fault.Memory) }
     {
         let mut results = Vec::new(alloc);

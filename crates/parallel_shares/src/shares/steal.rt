@@ -23,7 +23,7 @@ pub struct Victim {
 impl Shares {
     ghost use Rattle.parallel_shares.specs.Sharing.{SomeSplitPays, looked};
     ghost use Rattle.parallel_shares.specs.Seats.{plan_of, known, index_of, claims_of, has_emptied, transit_of, own_share, own_word, IsSeatOf, IsSameSeat, Steps};
-    ghost use Rattle.parallel_shares.specs.Steals.{LooksRound, IsBest, OnlyLooks, MeetsBack, TriesSteal, NeverSplits};
+    ghost use Rattle.parallel_shares.specs.Steals.{LoadsOthers, IsBest, OnlyLooks, MeetsBack, TriesSteal, NeverSplits};
     ghost use Rattle.parallel_shares.specs.declared.shares.seat.Tried.TheVariants.{Nothing};
 
     /// Tries once to take the back half of another share into transit: one load of each other
@@ -44,7 +44,7 @@ impl Shares {
         ensures index { index_of seat.new ≡ index_of seat.old }
         ensures own_empty { has_emptied seat.new ≡ true }
         ensures claims { claims_of seat.new ≡ claims_of seat.old }
-        ensures looks { LooksRound (plan_of self.now) (own_share self.now seat.old) (shares_of (plan_of self.now)) (known seat.old) (known seat.new) }
+        ensures looks { LoadsOthers self.now seat.old seat.new }
         ensures answer { TriesSteal (plan_of self.now) seat.old result seat.new }
         ensures never { NeverSplits (plan_of self.now) → result ≡ Nothing }
     {
@@ -92,7 +92,7 @@ impl Shares {
         ensures same { IsSameSeat seat.old seat.new }
         ensures emptied { has_emptied seat.new ≡ has_emptied seat.old }
         ensures only { OnlyLooks (known seat.old) (known seat.new) }
-        ensures looks { LooksRound (plan_of self.now) (own_share self.now seat.old) (shares_of (plan_of self.now)) (known seat.old) (known seat.new) }
+        ensures looks { LoadsOthers self.now seat.old seat.new }
         ensures best { IsBest (plan_of self.now) (own_share self.now seat.old) (shares_of (plan_of self.now)) (known seat.new) result }
     {
         let own = self.plan.share_of(seat.index);

@@ -51,7 +51,8 @@ fn add_claim(
     len: usize,
 ) -> Result<Option<Piece>, Fault>
     requires { len ≢ 0 }
-    ensures parted { IfOk result (λ next. (cells : List ℕ) → Parted len cells found.old.items opened → Parted len (cells ++ range_cells claim.now) found.new.items next) }
+    ensures parted { IfOk result (λ next. (cells : List ℕ) → Parted len cells found.old.items opened
+        → Parted len (cells ++ range_cells claim.now) found.new.items next) }
     ensures fault { IfErr result (λ refusal. refusal ≡ Fault.Memory) }
 {
     let mut opened = opened;
@@ -66,7 +67,9 @@ fn add_claim(
 
 // Adds a piece to the stretches, and answers the one that is open then.
 fn add(found: &mut Vec<Stretch>, opened: Option<Piece>, piece: Piece) -> Result<Piece, Fault>
-    ensures parted { IfOk result (λ next. (len : ℕ) (cells : List ℕ) → IsPiece len piece → Parted len cells found.old.items opened → Parted len (cells ++ piece_cells len piece) found.new.items (Some next)) }
+    ensures parted { IfOk result (λ next. (len : ℕ) (cells : List ℕ) → IsPiece len piece
+        → Parted len cells found.old.items opened
+        → Parted len (cells ++ piece_cells len piece) found.new.items (Some next)) }
     ensures fault { IfErr result (λ refusal. refusal ≡ Fault.Memory) }
 {
     if let Some(longer) = grown(opened, piece) {
