@@ -115,11 +115,11 @@ Answers sizes before (Steal seat) outcome after = StealAnswers sizes before seat
 Answers sizes before (Refill seat) outcome after = RefillAnswers sizes before seat outcome after
 
 -- an event that makes a list longer: a claim that takes the front of a word
-abbrev pub Grows : Sizes → Machine → Event → Type 0
-Grows sizes machine (Claim seat) =
+abbrev pub AddsClaim : Sizes → Machine → Event → Type 0
+AddsClaim sizes machine (Claim seat) =
     (word : ℕ) × CanClaim sizes machine seat word × (¬ IsEmptyWord word)
     × (word_at machine (share_of sizes seat) ≡ word)
-Grows sizes machine _ = ⊥
+AddsClaim sizes machine _ = ⊥
 
 -- the outcomes of events, one each and in order, and the machine before and after all of them
 abbrev pub Replays : Sizes → Machine → List Event → List Outcome → Machine → Type 0

@@ -1,5 +1,5 @@
 // Shares over atomic words, and the pure machine, on plans whose words are known.
-ghost use Rattle.std.specs.Prelude.{◌≡◌, ◌<◌, vec_len};
+ghost use Rattle.std.specs.Prelude.{◌≡◌};
 ghost use Rattle.std.specs.Int.NonZero.{non_zero_usize_get};
 ghost use Rattle.parallel_shares.specs.Seats.{AreSeatsOf};
 
@@ -225,30 +225,17 @@ fn seats_share_a_row_by_a_steal(rt: HostRuntime) -> Result<(), Fail> {
 fn a_replay_steals_and_loses_a_stale_claim(rt: HostRuntime) -> Result<(), Fail> {
     let alloc = rt.alloc();
     let plan = Plan::new(1, 8, number(&rt, 1), number(&rt, 2), false);
-    let load = |seat, share| Event::Load { seat, share };
-    let claim = |seat| Event::Claim { seat };
+    let look_0 = Event::Load { seat: 0, share: 0 };
+    let look_1 = Event::Load { seat: 1, share: 1 };
+    let across = Event::Load { seat: 0, share: 1 };
+    let claim_0 = Event::Claim { seat: 0 };
+    let claim_1 = Event::Claim { seat: 1 };
+    let steal_0 = Event::Steal { seat: 0 };
+    let fill_0 = Event::Refill { seat: 0 };
     let events = [
-        load(1, 1),
-        load(0, 0),
-        claim(0),
-        load(0, 0),
-        claim(0),
-        load(0, 0),
-        claim(0),
-        load(0, 0),
-        claim(0),
-        load(0, 1),
-        Event::Steal { seat: 0 },
-        claim(1),
-        Event::Refill { seat: 0 },
-        load(0, 0),
-        claim(0),
-        load(0, 0),
-        claim(0),
-        load(1, 1),
-        claim(1),
-        load(1, 1),
-        claim(1),
+        look_1, look_0, claim_0, look_0, claim_0, look_0, claim_0, look_0, claim_0, across,
+        steal_0, claim_1, fill_0, look_0, claim_0, look_0, claim_0, look_1, claim_1, look_1,
+        claim_1,
     ];
     let (state, outcomes) = replay(alloc, &plan, &events)?;
     assert_eq!(rt; outcomes.get(10), Some(&Outcome::Taken(6..8)));
