@@ -1,6 +1,7 @@
 -- One seat that takes in the others, one after another.
-use Rattle.std.proofs.Common.{◌≡◌, ℕ, ◌+◌, ◌<◌, List, [], ◌∷◌, ◌++◌, length, get_or, refl, sym, ap, subst, ◌∙◌, arith}
-use Rattle.std.proofs.lemmas.List.{length_push, get_or_append_left, get_or_push}
+use Rattle.std.proofs.Common.{◌≡◌, ℕ, ◌+◌, ◌<◌, List, [], ◌∷◌, ◌++◌, length, get_or, set, inl, inr, refl, sym, ap, subst, ◌∙◌, arith}
+use Rattle.std.proofs.lemmas.Bool.{cases_eq}
+use Rattle.std.proofs.lemmas.List.{length_push, get_or_append_left, get_or_push, length-set, get_or-set_same, get_or-set_other}
 use Rattle.parallel_shares.specs.declared.shares.rule.View.{View}
 use Rattle.parallel_shares.specs.declared.shares.seat.Seat.{Seat}
 use Rattle.parallel_shares.specs.declared.shares.queue.Shares.{Shares}
@@ -10,7 +11,6 @@ use Rattle.parallel_shares.specs.Sharing.{gathered}
 use Rattle.parallel_shares.specs.Seats.{known, index_of, IsSeatOf, AreSeatsOf}
 use Rattle.parallel_shares.specs.Gathered.{HasAll}
 use Rattle.parallel_shares.proofs.Totals.{total_append, in_ranges_append}
-use Rattle.parallel_shares.proofs.Dealt.{each_push}
 
 -- a view and some seats have together what all seats had
 pub record Gathering (view : View) (rest all : List Seat) : Type 0 where
@@ -66,14 +66,18 @@ module _ (P : Seat → Type 0) (rest old : List Seat) (x : Seat) (e : old ≡ re
   the_last =
       subst P (ap (λ xs. get_or xs (length rest) x) e ∙ get_or_push rest x x (length rest) refl) (each (length rest) x (omega (arith, ap length e, length_push rest x)))
 
--- all seats, when the last was taken out and has come back
-pub seats_again : (shares : Shares) (rest old new : List Seat) (x y : Seat) → AreSeatsOf shares old → old ≡ rest ++ x ∷ [] → IsSeatOf shares y → index_of y ≡ index_of x → new ≡ rest ++ y ∷ [] → AreSeatsOf shares new
-seats_again shares rest old new x y all cut belongs same put =
-    let n : ℕ = length rest in
-    let last : index_of x ≡ n = subst (λ s. index_of s ≡ n) (ap (λ xs. get_or xs n x) cut ∙ get_or_push rest x x n refl) (all.order n x (omega (arith, ap length cut, length_push rest x))) in
-    subst (AreSeatsOf shares) (sym put)
-    (record {
-      count = omega (arith, all.count, ap length cut, length_push rest x, length_push rest y);
-      each = each_push (λ i s. IsSeatOf shares s) rest y n refl (each_left (IsSeatOf shares) rest old x cut all.each) belongs;
-      order = each_push (λ i s. index_of s ≡ i) rest y n refl (λ i d h. subst (λ s. index_of s ≡ i) (ap (λ xs. get_or xs i d) cut ∙ get_or_append_left rest (x ∷ []) d i h) (all.order i d (omega (arith, h, ap length cut, length_push rest x)))) (same ∙ last);
-    })
+-- all seats, when one of them has taken a step
+pub seats_stepped : (shares : Shares) (seats : List Seat) (i : ℕ) (x y : Seat) → AreSeatsOf shares seats → i < length seats → x ≡ get_or seats i x → IsSeatOf shares y → index_of y ≡ index_of x → AreSeatsOf shares (set seats i y)
+seats_stepped shares seats i x y all there was belongs same =
+    let number : index_of y ≡ i = same ∙ subst (λ s. index_of s ≡ i) (sym was) (all.order i x there) in
+    record {
+      count = length-set seats i y ∙ all.count;
+      each = λ k d h. elim (cases_eq k i) as (λ _. IsSeatOf shares (get_or (set seats i y) k d)) [
+        | inl e ↦ rw (e, get_or-set_same seats i y d there) belongs
+        | inr apart ↦ rw (get_or-set_other seats i k y d apart) (all.each k d (omega (arith, h, length-set seats i y)))
+      ];
+      order = λ k d h. elim (cases_eq k i) as (λ _. index_of (get_or (set seats i y) k d) ≡ k) [
+        | inl e ↦ rw (e, get_or-set_same seats i y d there) number
+        | inr apart ↦ rw (get_or-set_other seats i k y d apart) (all.order k d (omega (arith, h, length-set seats i y)))
+      ];
+    }

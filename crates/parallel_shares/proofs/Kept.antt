@@ -2,12 +2,12 @@
 use Rattle.std.proofs.Common.{◌≡◌, ◌≢◌, ℕ, ◌<◌, ◌≤◌, Bool, true, false, cond, [], ◌∷◌, ◌++◌, Some, None, refl, ap, ◌∙◌, arith}
 use Rattle.std.proofs.lemmas.List.{length-set}
 use Rattle.std.specs.declared.ops.Range.{Range}
-use Rattle.parallel_shares.specs.declared.machine.events.Event.{Event}
-use Rattle.parallel_shares.specs.declared.machine.events.Event.TheVariants.{Load, Claim, Steal, Refill}
-use Rattle.parallel_shares.specs.declared.machine.events.Outcome.{Outcome}
-use Rattle.parallel_shares.specs.declared.machine.events.Outcome.TheVariants.{Loaded, Empty, Lost, Claimed, Nothing, Taken, Refilled, Refused}
-use Rattle.parallel_shares.specs.declared.machine.places.Place.{Place}
-use Rattle.parallel_shares.specs.declared.machine.places.Remembered.{Remembered}
+use Rattle.parallel_shares.specs.declared.machine.event.Event.{Event}
+use Rattle.parallel_shares.specs.declared.machine.event.Event.TheVariants.{Load, Claim, Steal, Refill}
+use Rattle.parallel_shares.specs.declared.machine.event.Outcome.{Outcome}
+use Rattle.parallel_shares.specs.declared.machine.event.Outcome.TheVariants.{Loaded, Empty, Lost, Claimed, Nothing, Taken, Refilled, Refused}
+use Rattle.parallel_shares.specs.declared.machine.state.Place.{Place}
+use Rattle.parallel_shares.specs.declared.machine.state.Remembered.{Remembered}
 use Rattle.parallel_shares.specs.Words.{start_of, end_of, packed, IsWithin}
 use Rattle.parallel_shares.specs.Sizes.{Sizes, shares_of, share_of}
 use Rattle.parallel_shares.specs.Machine.{Machine, fresh, place_at, with_word, with_place, remembers, forgets, gains, carries, IsPlaceOf, IsStateOf}

@@ -18,3 +18,6 @@ pub mod Sharings
 pub mod Dealt
 pub mod Gatherings
 pub mod Closings
+pub mod Victims
+pub mod Stretching
+pub mod Filling

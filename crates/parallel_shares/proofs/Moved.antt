@@ -3,11 +3,11 @@ use Rattle.std.proofs.Common.{◌≡◌, ℕ, ◌+◌, ◌<◌, ◌≤◌, inl, 
 use Rattle.std.proofs.lemmas.Bool.{cases_eq}
 use Rattle.std.proofs.lemmas.List.{length-set}
 use Rattle.std.specs.declared.ops.Range.{Range}
-use Rattle.parallel_shares.specs.declared.machine.events.Event.{Event}
-use Rattle.parallel_shares.specs.declared.machine.events.Event.TheVariants.{Load, Claim, Steal, Refill}
-use Rattle.parallel_shares.specs.declared.machine.events.Outcome.{Outcome}
-use Rattle.parallel_shares.specs.declared.machine.events.Outcome.TheVariants.{Loaded, Empty, Lost, Claimed, Nothing, Taken, Refilled, Refused}
-use Rattle.parallel_shares.specs.declared.machine.places.Remembered.{Remembered}
+use Rattle.parallel_shares.specs.declared.machine.event.Event.{Event}
+use Rattle.parallel_shares.specs.declared.machine.event.Event.TheVariants.{Load, Claim, Steal, Refill}
+use Rattle.parallel_shares.specs.declared.machine.event.Outcome.{Outcome}
+use Rattle.parallel_shares.specs.declared.machine.event.Outcome.TheVariants.{Loaded, Empty, Lost, Claimed, Nothing, Taken, Refilled, Refused}
+use Rattle.parallel_shares.specs.declared.machine.state.Remembered.{Remembered}
 use Rattle.parallel_shares.specs.Words.{start_of, end_of, packed, IsEmptyWord}
 use Rattle.parallel_shares.specs.Sizes.{Sizes, shares_of, share_of}
 use Rattle.parallel_shares.specs.Machine.{Machine, word_at, place_at, with_word, remembers, forgets, gains, carries, IsStateOf}
@@ -45,7 +45,7 @@ cut_front u word stop a b f =
     rw (start_of_packed stop (end_of word) f, end_of_packed stop (end_of word) f) (omega (arith, inside_cut u (start_of word) stop (end_of word) a b))
 
 -- a word is its back and what is left before it
-cut_back : (u word middle : ℕ) → start_of word ≤ middle → middle ≤ end_of word → end_of word ≤ 65535 → in_word u (packed (start_of word) middle) + inside u middle (end_of word) ≡ in_word u word
+pub cut_back : (u word middle : ℕ) → start_of word ≤ middle → middle ≤ end_of word → end_of word ≤ 65535 → in_word u (packed (start_of word) middle) + inside u middle (end_of word) ≡ in_word u word
 cut_back u word middle a b f =
     rw (start_of_packed (start_of word) middle (omega arith), end_of_packed (start_of word) middle (omega arith)) (inside_cut u (start_of word) middle (end_of word) a b)
 

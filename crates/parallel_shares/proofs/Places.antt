@@ -2,8 +2,8 @@
 use Rattle.std.proofs.Common.{◌≡◌, ◌≢◌, ℕ, ◌<◌, ◌++◌, [], ◌∷◌, length, Option, Some, None, refl, sym, ap, ◌∙◌}
 use Rattle.std.proofs.lemmas.List.{get_or-set_same, get_or-set_other}
 use Rattle.std.specs.declared.ops.Range.{Range}
-use Rattle.parallel_shares.specs.declared.machine.places.Place.{Place}
-use Rattle.parallel_shares.specs.declared.machine.places.Remembered.{Remembered}
+use Rattle.parallel_shares.specs.declared.machine.state.Place.{Place}
+use Rattle.parallel_shares.specs.declared.machine.state.Remembered.{Remembered}
 use Rattle.parallel_shares.specs.Machine.{Machine, fresh, word_at, place_at, with_word, remembers, forgets, gains, carries}
 use Rattle.parallel_shares.proofs.Lists.{set_same, stands}
 

@@ -1,8 +1,8 @@
 -- Whole replays: a step that may be refused, one more event, and the run from the opening to what a replay shows.
 use Rattle.std.proofs.Common.{◌≡◌, suc, List, [], ◌∷◌, ◌++◌, length, Result, Ok, Err, IfOk, OnErr, refl, sym, ap, subst}
 use Rattle.parallel_fault.specs.declared.fault.Fault.{Fault}
-use Rattle.parallel_shares.specs.declared.machine.events.Event.{Event}
-use Rattle.parallel_shares.specs.declared.machine.events.Outcome.{Outcome}
+use Rattle.parallel_shares.specs.declared.machine.event.Event.{Event}
+use Rattle.parallel_shares.specs.declared.machine.event.Outcome.{Outcome}
 use Rattle.parallel_shares.specs.Sizes.{Sizes, IsSound}
 use Rattle.parallel_shares.specs.Machine.{Machine, opening, IsStateOf}
 use Rattle.parallel_shares.specs.Answers.{Answers, Replays}

@@ -1,5 +1,5 @@
 -- The numbers of a plan are sound: units cover the cells, there are few enough of them, and each worker has a claim.
-use Rattle.std.proofs.Common.{◌≡◌, ◌≢◌, ℕ, suc, ◌+◌, ◌*◌, ◌/◌, ◌^◌, ◌<◌, ◌≤◌, ◌⊎◌, inl, inr, min, Bool, true, false, arith}
+use Rattle.std.proofs.Common.{◌≢◌, ℕ, suc, ◌+◌, ◌*◌, ◌/◌, ◌^◌, ◌<◌, ◌≤◌, inl, inr, min, IsFalse, refl, Bool, true, false, arith}
 use Rattle.std.specs.Int.{div_ceil}
 use Rattle.std.proofs.lemmas.Nat.{mul-le, le-div}
 use Rattle.std.proofs.lemmas.Grind.{div_ceil_times}
@@ -83,11 +83,10 @@ cut_sound rows len tile_cost workers r t l w fit =
     }
 
 -- the numbers of a plan of either kind
-either_sound : (rows len tile_cost workers : ℕ) (whole : Bool) → rows ≢ 0 → len ≢ 0 → 0 < tile_cost → 0 < workers → rows * len < 2 ^ 64 → (whole ≡ true) ⊎ (2 * tile_cost ≤ len) → IsSound (sizes_of (record { rows = rows; len = len; tile_cost = tile_cost; workers = workers; whole = whole }))
-either_sound rows len tile_cost workers true r l t w fit h = whole_sound rows len tile_cost workers r l w fit
-either_sound rows len tile_cost workers false r l t w fit (inr h) = cut_sound rows len tile_cost workers r t h w fit
-either_sound rows len tile_cost workers false r l t w fit (inl h) = cc
+either_sound : (rows len tile_cost workers : ℕ) (whole : Bool) → rows ≢ 0 → len ≢ 0 → 0 < tile_cost → 0 < workers → rows * len < 2 ^ 64 → (IsFalse whole → 2 * tile_cost ≤ len) → IsSound (sizes_of (record { rows = rows; len = len; tile_cost = tile_cost; workers = workers; whole = whole }))
+either_sound rows len tile_cost workers true r l t w fit pays = whole_sound rows len tile_cost workers r l w fit
+either_sound rows len tile_cost workers false r l t w fit pays = cut_sound rows len tile_cost workers r t (pays refl) w fit
 
 -- the numbers of any plan that can be made
-pub sizes_sound : (work : Work) → work.rows ≢ 0 → work.len ≢ 0 → 0 < work.tile_cost → 0 < work.workers → work.rows * work.len < 2 ^ 64 → (work.whole ≡ true) ⊎ (2 * work.tile_cost ≤ work.len) → IsSound (sizes_of work)
+pub sizes_sound : (work : Work) → work.rows ≢ 0 → work.len ≢ 0 → 0 < work.tile_cost → 0 < work.workers → work.rows * work.len < 2 ^ 64 → (IsFalse work.whole → 2 * work.tile_cost ≤ work.len) → IsSound (sizes_of work)
 sizes_sound work = either_sound work.rows work.len work.tile_cost work.workers work.whole

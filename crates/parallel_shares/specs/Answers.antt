@@ -1,11 +1,11 @@
 -- What each event of the machine answers, and what it changes: the need of each, and each outcome by cases.
 use Rattle.std.specs.Prelude.{◌≡◌, ◌≢◌, ℕ, ◌+◌, ◌-◌, ◌*◌, ◌/◌, ◌<◌, ◌≤◌, min, List, [], ◌∷◌, length, Some, None}
 use Rattle.std.specs.declared.ops.Range.{Range}
-use Rattle.parallel_shares.specs.declared.machine.events.Event.{Event}
-use Rattle.parallel_shares.specs.declared.machine.events.Event.TheVariants.{Load, Claim, Steal, Refill}
-use Rattle.parallel_shares.specs.declared.machine.events.Outcome.{Outcome}
-use Rattle.parallel_shares.specs.declared.machine.events.Outcome.TheVariants.{Loaded, Empty, Lost, Claimed, Nothing, Taken, Refilled, Refused}
-use Rattle.parallel_shares.specs.declared.machine.places.Remembered.{Remembered}
+use Rattle.parallel_shares.specs.declared.machine.event.Event.{Event}
+use Rattle.parallel_shares.specs.declared.machine.event.Event.TheVariants.{Load, Claim, Steal, Refill}
+use Rattle.parallel_shares.specs.declared.machine.event.Outcome.{Outcome}
+use Rattle.parallel_shares.specs.declared.machine.event.Outcome.TheVariants.{Loaded, Empty, Lost, Claimed, Nothing, Taken, Refilled, Refused}
+use Rattle.parallel_shares.specs.declared.machine.state.Remembered.{Remembered}
 use Rattle.parallel_shares.specs.Words.{start_of, end_of, packed, IsEmptyWord}
 use Rattle.parallel_shares.specs.Sizes.{Sizes, share_of, cells_to}
 use Rattle.parallel_shares.specs.Machine.{Machine, word_at, place_at, with_word, remembers, forgets, gains, carries}
@@ -24,7 +24,8 @@ CanClaim sizes machine seat word =
 -- a steal needs a remembered load of another share, nothing in transit, and the seat's own word empty
 abbrev pub CanSteal : Sizes → Machine → ℕ → Remembered → Type 0
 CanSteal sizes machine seat load =
-    ((place_at machine seat).remembered ≡ Some load) × (load.share ≢ share_of sizes seat) × ((place_at machine seat).transit ≡ None) × IsEmptyWord (word_at machine (share_of sizes seat))
+    ((place_at machine seat).remembered ≡ Some load) × (load.share ≢ share_of sizes seat)
+    × ((place_at machine seat).transit ≡ None) × IsEmptyWord (word_at machine (share_of sizes seat))
 
 -- a refill needs these units in transit, and the seat's own word empty
 abbrev pub CanRefill : Sizes → Machine → ℕ → Range ℕ → Type 0
@@ -42,6 +43,10 @@ abbrev pub claim_cells : Sizes → ℕ → Range ℕ
 claim_cells sizes word =
     record { start = start_of word * sizes.unit; end = cells_to sizes (claim_stop sizes word) }
 
+-- the cells of a word
+abbrev pub cells_in : Sizes → ℕ → ℕ
+cells_in sizes word = cells_to sizes (end_of word) - start_of word * sizes.unit
+
 -- where a word is split: the front half rounded down
 abbrev pub middle_of : ℕ → ℕ
 middle_of word = start_of word + (end_of word - start_of word) / 2
@@ -56,7 +61,8 @@ Pays sizes word =
 -- a load tells the word and remembers it
 abbrev pub LoadAnswers : Machine → ℕ → ℕ → Outcome → Machine → Type 0
 LoadAnswers before seat share (Loaded word) after =
-    CanLoad before seat share × (word ≡ word_at before share) × (after ≡ remembers before seat (record { share = share; word = word }))
+    CanLoad before seat share × (word ≡ word_at before share)
+    × (after ≡ remembers before seat (record { share = share; word = word }))
 LoadAnswers before seat share Refused after = (¬ CanLoad before seat share) × (after ≡ before)
 LoadAnswers before seat share _ after = ⊥
 
@@ -65,9 +71,12 @@ abbrev pub ClaimAnswers : Sizes → Machine → ℕ → Outcome → Machine → 
 ClaimAnswers sizes before seat Empty after =
     (word : ℕ) × CanClaim sizes before seat word × IsEmptyWord word × (after ≡ forgets before seat)
 ClaimAnswers sizes before seat Lost after =
-    (word : ℕ) × CanClaim sizes before seat word × (¬ IsEmptyWord word) × (word_at before (share_of sizes seat) ≢ word) × (after ≡ forgets before seat)
+    (word : ℕ) × CanClaim sizes before seat word × (¬ IsEmptyWord word)
+    × (word_at before (share_of sizes seat) ≢ word) × (after ≡ forgets before seat)
 ClaimAnswers sizes before seat (Claimed cells) after =
-    (word : ℕ) × CanClaim sizes before seat word × (¬ IsEmptyWord word) × (word_at before (share_of sizes seat) ≡ word) × (cells ≡ claim_cells sizes word) × (after ≡ with_word (forgets (gains before seat cells) seat) (share_of sizes seat) (packed (claim_stop sizes word) (end_of word)))
+    (word : ℕ) × CanClaim sizes before seat word × (¬ IsEmptyWord word)
+    × (word_at before (share_of sizes seat) ≡ word) × (cells ≡ claim_cells sizes word)
+    × (after ≡ with_word (forgets (gains before seat cells) seat) (share_of sizes seat) (packed (claim_stop sizes word) (end_of word)))
 ClaimAnswers sizes before seat Refused after =
     ((word : ℕ) → ¬ CanClaim sizes before seat word) × (after ≡ before)
 ClaimAnswers sizes before seat _ after = ⊥
@@ -78,9 +87,13 @@ abbrev pub StealAnswers : Sizes → Machine → ℕ → Outcome → Machine → 
 StealAnswers sizes before seat Nothing after =
     (load : Remembered) × CanSteal sizes before seat load × (¬ Pays sizes load.word) × (after ≡ forgets before seat)
 StealAnswers sizes before seat Lost after =
-    (load : Remembered) × CanSteal sizes before seat load × Pays sizes load.word × (word_at before load.share ≢ load.word) × (after ≡ forgets before seat)
+    (load : Remembered) × CanSteal sizes before seat load × Pays sizes load.word
+    × (word_at before load.share ≢ load.word) × (after ≡ forgets before seat)
 StealAnswers sizes before seat (Taken units) after =
-    (load : Remembered) × CanSteal sizes before seat load × Pays sizes load.word × (word_at before load.share ≡ load.word) × (units ≡ record { start = middle_of load.word; end = end_of load.word }) × (after ≡ with_word (carries (forgets before seat) seat (Some units)) load.share (packed (start_of load.word) (middle_of load.word)))
+    (load : Remembered) × CanSteal sizes before seat load × Pays sizes load.word
+    × (word_at before load.share ≡ load.word)
+    × (units ≡ record { start = middle_of load.word; end = end_of load.word })
+    × (after ≡ with_word (carries (forgets before seat) seat (Some units)) load.share (packed (start_of load.word) (middle_of load.word)))
 StealAnswers sizes before seat Refused after =
     ((load : Remembered) → ¬ CanSteal sizes before seat load) × (after ≡ before)
 StealAnswers sizes before seat _ after = ⊥
@@ -88,7 +101,8 @@ StealAnswers sizes before seat _ after = ⊥
 -- a refill stores what is in transit into the seat's own empty share
 abbrev pub RefillAnswers : Sizes → Machine → ℕ → Outcome → Machine → Type 0
 RefillAnswers sizes before seat (Refilled word) after =
-    (units : Range ℕ) × CanRefill sizes before seat units × (word ≡ packed units.start units.end) × (after ≡ with_word (carries before seat None) (share_of sizes seat) word)
+    (units : Range ℕ) × CanRefill sizes before seat units × (word ≡ packed units.start units.end)
+    × (after ≡ with_word (carries before seat None) (share_of sizes seat) word)
 RefillAnswers sizes before seat Refused after =
     ((units : Range ℕ) → ¬ CanRefill sizes before seat units) × (after ≡ before)
 RefillAnswers sizes before seat _ after = ⊥
@@ -99,6 +113,13 @@ Answers sizes before (Load seat share) outcome after = LoadAnswers before seat s
 Answers sizes before (Claim seat) outcome after = ClaimAnswers sizes before seat outcome after
 Answers sizes before (Steal seat) outcome after = StealAnswers sizes before seat outcome after
 Answers sizes before (Refill seat) outcome after = RefillAnswers sizes before seat outcome after
+
+-- an event that makes a list longer: a claim that takes the front of a word
+abbrev pub AddsClaim : Sizes → Machine → Event → Type 0
+AddsClaim sizes machine (Claim seat) =
+    (word : ℕ) × CanClaim sizes machine seat word × (¬ IsEmptyWord word)
+    × (word_at machine (share_of sizes seat) ≡ word)
+AddsClaim sizes machine _ = ⊥
 
 -- the outcomes of events, one each and in order, and the machine before and after all of them
 abbrev pub Replays : Sizes → Machine → List Event → List Outcome → Machine → Type 0

@@ -75,7 +75,8 @@ Leads sizes (move ∷ moves) before after =
 -- each unit is pending at the share whose opening range it is in
 abbrev pub IsOpening : Sizes → Holders → Type 0
 IsOpening sizes holders =
-    (u : ℕ) → u < sizes.units → (share : ℕ) × (share < shares_of sizes) × (opening_start sizes share ≤ u) × (u < opening_start sizes (suc share)) × (holders u ≡ pending share)
+    (u : ℕ) → u < sizes.units → (share : ℕ) × (share < shares_of sizes) × (opening_start sizes share ≤ u)
+    × (u < opening_start sizes (suc share)) × (holders u ≡ pending share)
 
 -- moves lead from the opening to these holders
 abbrev pub IsRun : Sizes → List Move → Holders → Type 0
@@ -127,7 +128,8 @@ pub record Shows (sizes : Sizes) (machine : Machine) (holders : Holders) : Type 
 -- from any holders that the machine showed, moves lead to holders that it shows now
 abbrev pub Steps : Sizes → Machine → Machine → Type 0
 Steps sizes before after =
-    (holders : Holders) → Shows sizes before holders → (moves : List Move) × (next : Holders) × Leads sizes moves holders next × Shows sizes after next
+    (holders : Holders) → Shows sizes before holders → (moves : List Move) × (next : Holders)
+    × Leads sizes moves holders next × Shows sizes after next
 
 -- the machine shows holders to which a run leads from the opening
 abbrev pub Reached : Sizes → Machine → Type 0

@@ -9,3 +9,6 @@ pub mod Totals
 pub mod Sharing
 pub mod Seats
 pub mod Gathered
+pub mod Steals
+pub mod Stretches
+pub mod Fillings

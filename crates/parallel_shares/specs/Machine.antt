@@ -1,8 +1,8 @@
 -- What the machine of shares keeps, and how its parts are read and written.
 use Rattle.std.specs.Prelude.{◌≡◌, ℕ, zero, suc, ◌<◌, ◌≤◌, ◌++◌, List, [], ◌∷◌, length, replicate, Option, Some, None, IfSome, false, slice_index, slice_index_or, slice_set}
 use Rattle.std.specs.declared.ops.Range.{Range}
-use Rattle.parallel_shares.specs.declared.machine.places.Place.{Place}
-use Rattle.parallel_shares.specs.declared.machine.places.Remembered.{Remembered}
+use Rattle.parallel_shares.specs.declared.machine.state.Place.{Place}
+use Rattle.parallel_shares.specs.declared.machine.state.Remembered.{Remembered}
 use Rattle.parallel_shares.specs.Words.{packed, IsWithin}
 use Rattle.parallel_shares.specs.Sizes.{Sizes, shares_of, opening_start, IsSound}
 

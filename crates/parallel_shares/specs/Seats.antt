@@ -6,7 +6,7 @@ use Rattle.parallel_shares.specs.declared.shares.seat.Seat.{Seat}
 use Rattle.parallel_shares.specs.declared.shares.seat.Tried.{Tried}
 use Rattle.parallel_shares.specs.declared.shares.seat.Tried.TheVariants.{Claimed, Empty, Lost, Taken, Nothing}
 use Rattle.parallel_shares.specs.declared.shares.queue.Shares.{Shares}
-use Rattle.parallel_shares.specs.Words.{start_of, end_of, IsEmptyWord, IsWithin}
+use Rattle.parallel_shares.specs.Words.{start_of, end_of, IsEmptyWord}
 use Rattle.parallel_shares.specs.Sizes.{Sizes, shares_of, share_of}
 use Rattle.parallel_shares.specs.Answers.{claim_cells}
 use Rattle.parallel_shares.specs.Holders.{in_word, in_ranges}
@@ -60,7 +60,8 @@ pub record AreSeatsOf (shares : Shares) (seats : List Seat) : Type 0 where
 -- the seat has claimed nothing, has nothing in transit, and has taken no step
 abbrev pub IsFresh : Seat → Type 0
 IsFresh seat =
-    (claims_of seat ≡ []) × (transit_of seat ≡ None) × (has_emptied seat ≡ false) × ((known seat).changes ≡ 0) × ((known seat).exchanges ≡ 0)
+    (claims_of seat ≡ []) × (transit_of seat ≡ None) × (has_emptied seat ≡ false) × ((known seat).changes ≡ 0)
+    × ((known seat).exchanges ≡ 0)
 
 -- each seat is fresh
 abbrev pub AreFresh : List Seat → Type 0
@@ -95,7 +96,8 @@ MeetsFront word before found after = (found ≡ word → after ≡ took_front be
 -- so many exchanges more were tried, and so many steps more changed a word
 abbrev pub Steps : ℕ → ℕ → Seat → Seat → Type 0
 Steps exchanges changes before after =
-    ((known after).exchanges ≡ (known before).exchanges + exchanges) × ((known after).changes ≡ (known before).changes + changes)
+    ((known after).exchanges ≡ (known before).exchanges + exchanges)
+    × ((known after).changes ≡ (known before).changes + changes)
 
 -- cells of the grid, at least one
 abbrev pub AreSomeCells : Sizes → Range ℕ → Type 0
@@ -106,7 +108,8 @@ AreSomeCells sizes cells = (cells.start < cells.end) × (cells.end ≤ sizes.cel
 abbrev pub TriesClaim : Sizes → ℕ → Seat → Tried → Seat → Type 0
 TriesClaim sizes word before (Claimed cells) after =
     (¬ IsEmptyWord word) × ((known after).met ≡ word) × (cells ≡ claim_cells sizes word) × AreSomeCells sizes cells
-    × (claims_of after ≡ claims_of before ++ cells ∷ []) × Steps 1 1 before after × (has_emptied after ≡ has_emptied before)
+    × (claims_of after ≡ claims_of before ++ cells ∷ []) × Steps 1 1 before after
+    × (has_emptied after ≡ has_emptied before)
 TriesClaim sizes word before Lost after =
     (¬ IsEmptyWord word) × ((known after).met ≢ word)
     × (claims_of after ≡ claims_of before) × Steps 1 0 before after × (has_emptied after ≡ has_emptied before)
@@ -114,13 +117,6 @@ TriesClaim sizes word before Empty after =
     IsEmptyWord word × (claims_of after ≡ claims_of before) × Steps 0 0 before after × (has_emptied after ≡ true)
 TriesClaim sizes word before Taken after = ⊥
 TriesClaim sizes word before Nothing after = ⊥
-
--- what a claim gained: the front of some word that was not empty, or nothing where the own word was seen empty
-abbrev pub GainsClaim : Sizes → Seat → Option (Range ℕ) → Seat → Type 0
-GainsClaim sizes before (Some cells) after =
-    (claims_of after ≡ claims_of before ++ cells ∷ []) × AreSomeCells sizes cells
-    × ((word : ℕ) × (¬ IsEmptyWord word) × IsWithin sizes.units word × (cells ≡ claim_cells sizes word))
-GainsClaim sizes before None after = (claims_of after ≡ claims_of before) × (has_emptied after ≡ true)
 
 -- ---- at the end
 

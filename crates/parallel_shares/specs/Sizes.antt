@@ -50,6 +50,11 @@ abbrev pub sizes_of : Work → Sizes
 sizes_of work =
     record { cells = cells_of work; unit = unit_of work; claim = claim_of work; units = units_of work; workers = workers_of work; split_cost = split_cost_of work; whole = work.whole }
 
+-- the numbers of the plan for so many rows of so many cells, a tile's cost, workers, and whether rows stay whole
+abbrev pub sizes_for : ℕ → ℕ → ℕ → ℕ → Bool → Sizes
+sizes_for rows len tile_cost workers whole =
+    sizes_of (record { rows = rows; len = len; tile_cost = tile_cost; workers = workers; whole = whole })
+
 -- the number of shares: one for whole rows, else one a worker
 abbrev pub shares_of : Sizes → ℕ
 shares_of sizes = cond sizes.whole 1 sizes.workers

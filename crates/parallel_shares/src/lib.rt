@@ -1,12 +1,14 @@
 //! How work is cut: balanced ranges, grids of tiles, and the words that share units among seats.
 #![tactic(auto)]
 
+mod balanced;
 pub mod machine;
 pub mod plan;
 pub mod shares;
 
-pub use plan::{Grid, cut};
-pub use shares::{Seat, Shares, Tried, pack, unpack};
+pub use balanced::cut;
+pub use plan::Grid;
+pub use shares::{Seat, Shares, Stretch, Tried, pack, stretches, unpack};
 
 #[cfg(test)]
 mod tests;

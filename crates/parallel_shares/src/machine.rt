@@ -4,15 +4,15 @@
 //! contract says that words, ranges in transit and claimed cells are those of a run in which each
 //! unit has exactly one holder.
 
-mod events;
-mod places;
+mod event;
+mod plan;
 mod replays;
-mod sizes;
+mod state;
 mod steps;
 
-pub use events::{Event, Outcome};
-pub use places::State;
-pub(crate) use places::opening_words;
+pub use event::{Event, Outcome};
+pub use plan::Plan;
 pub use replays::replay;
-pub use sizes::Plan;
+pub use state::State;
+pub(crate) use state::opening_words;
 pub use steps::step;

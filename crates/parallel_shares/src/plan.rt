@@ -1,34 +1,8 @@
-//! How work is cut before it is handed out: balanced ranges of indices, and grids of tiles.
-ghost use Rattle.std.specs.Prelude.{◌≡◌, ◌↔◌, ◌<◌, ◌≤◌, ◌*◌, length, vec_len, IfOk, IfErr, IsTrue, IsFalse, HoldsAt};
+//! Grids of tiles: what they cost, and which of several is chosen.
+ghost use Rattle.std.specs.Prelude.{◌≡◌, ◌↔◌, ◌<◌, ◌≤◌, ◌*◌, length, IsTrue, IsFalse, HoldsAt};
 ghost use Rattle.std.specs.Int.NonZero.{non_zero_usize_get};
-ghost use Rattle.parallel_shares.specs.Cut.{BalancedCut};
 
-use parallel_fault::Fault;
-use std::alloc::Global;
 use std::num::NonZeroUsize;
-use std::ops::Range;
-
-/// Cuts the indices from 0 up to `len` into `count` ranges, in order and without a gap.
-///
-/// The lengths of the ranges differ by at most one, and the longer ones come first, as
-/// `BalancedCut` says. Where `count` is above `len` the last ranges are empty. The one refusal is
-/// `Fault::Memory`, where the list could not be reserved.
-pub fn cut(alloc: Global, len: usize, count: NonZeroUsize) -> Result<Vec<Range<usize>>, Fault>
-    ensures balanced { IfOk result (λ ranges. BalancedCut len ranges.items) }
-    ensures count { IfOk result (λ ranges. vec_len ranges ≡ non_zero_usize_get count) }
-    ensures fault { IfErr result (λ refusal. refusal ≡ Fault.Memory) }
-{
-    let shorter = len / count;
-    let longer_ranges = len % count;
-    let mut ranges = Vec::with_capacity(alloc, count.get())?;
-    let mut start = 0;
-    for index in 0..count.get() {
-        let end = start + shorter + usize::from(index < longer_ranges);
-        ranges.push(start..end)?;
-        start = end;
-    }
-    Ok(ranges)
-}
 
 /// A way to lay work out as rows of equal length, on which workers fill tiles.
 ///

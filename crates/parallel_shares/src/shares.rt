@@ -1,13 +1,18 @@
 //! A share of the work is a word that packs the range of the units that are left in it.
 ghost use Rattle.std.specs.Prelude.{◌≡◌, ◌+◌, ◌*◌, ◌≤◌};
 
+mod claim;
 mod queue;
 mod rule;
+mod run;
 mod seat;
+mod steal;
+mod stretch;
 
 pub use queue::Shares;
 pub use rule::View;
 pub use seat::{Seat, Tried};
+pub use stretch::{Stretch, stretches};
 
 /// Packs a range of units into a word: `start * 65536 + end`.
 ///

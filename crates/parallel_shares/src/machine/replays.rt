@@ -3,9 +3,9 @@ ghost use Rattle.parallel_shares.specs.Machine.{opening, IsStateOf};
 ghost use Rattle.parallel_shares.specs.Answers.{Replays};
 ghost use Rattle.parallel_shares.specs.Holders.{Reached};
 
-use super::events::{Event, Outcome};
-use super::places::State;
-use super::sizes::Plan;
+use super::event::{Event, Outcome};
+use super::plan::Plan;
+use super::state::State;
 use super::steps::step;
 use parallel_fault::Fault;
 use std::alloc::Global;

@@ -1,12 +1,13 @@
 ghost use Rattle.std.specs.Prelude.{◌≡◌, ◌≤◌, ◌↔◌, IfOk, IfErr, OnErr, IsTrue};
 ghost use Rattle.parallel_shares.specs.Words.{IsEmptyWord};
 ghost use Rattle.parallel_shares.specs.Machine.{IsStateOf};
-ghost use Rattle.parallel_shares.specs.Answers.{Answers, LoadAnswers, ClaimAnswers, StealAnswers, RefillAnswers};
+ghost use Rattle.parallel_shares.specs.Answers.{Answers, AddsClaim, LoadAnswers, ClaimAnswers, StealAnswers, RefillAnswers};
 ghost use Rattle.parallel_shares.specs.Holders.{Steps};
+ghost use Rattle.parallel_shares.specs.declared.machine.event.Event.TheVariants.{Claim};
 
-use super::events::{Event, Outcome};
-use super::places::{Remembered, State};
-use super::sizes::Plan;
+use super::event::{Event, Outcome};
+use super::plan::Plan;
+use super::state::{Remembered, State};
 use crate::shares::{pack, unpack};
 use parallel_fault::Fault;
 
@@ -16,13 +17,15 @@ use parallel_fault::Fault;
 /// it leaves. Where its need is not met it is `Refused` and changes nothing. `Steps` says that the
 /// units go from holder to holder by a claim, a steal or a refill, or not at all. The one refusal of
 /// the call itself is `Fault::Memory`, where the list of a seat's claims could not be grown; the
-/// state is then as it was.
+/// state is then as it was. It comes only of an event as `AddsClaim` says: a claim whose
+/// remembered word is still there and isn't empty.
 pub fn step(plan: &Plan, state: &mut State, event: Event) -> Result<Outcome, Fault>
     requires { IsStateOf plan.now state.old }
     ensures answers { IfOk result (λ outcome. Answers plan.now state.old event outcome state.new) }
     ensures moves { Steps plan.now state.old state.new }
     ensures belongs { IsStateOf plan.now state.new }
     ensures unchanged { OnErr result (state.new ≡ state.old) }
+    ensures refused { OnErr result (AddsClaim plan.now state.old event) }
     ensures fault { IfErr result (λ refusal. refusal ≡ Fault.Memory) }
 {
     match event {
@@ -50,6 +53,7 @@ fn claim(plan: &Plan, state: &mut State, seat: usize) -> Result<Outcome, Fault>
     requires { IsStateOf plan.now state.old }
     ensures answers { IfOk result (λ outcome. ClaimAnswers plan.now state.old seat outcome state.new) }
     ensures unchanged { OnErr result (state.new ≡ state.old) }
+    ensures refused { OnErr result (AddsClaim plan.now state.old (Claim seat)) }
     ensures fault { IfErr result (λ refusal. refusal ≡ Fault.Memory) }
 {
     let own = plan.share_of(seat);

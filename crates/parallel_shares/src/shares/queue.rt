@@ -1,4 +1,4 @@
-ghost use Rattle.std.specs.Prelude.{◌≡◌, ◌≢◌, ◌+◌, ◌*◌, ◌/◌, ◌^◌, ◌<◌, ◌≤◌, ◌++◌, [], ◌∷◌, length, vec_len, vec_capacity, true, false, None, IfOk, IfErr};
+ghost use Rattle.std.specs.Prelude.{◌≡◌, ◌≢◌, ◌+◌, ◌*◌, ◌/◌, ◌^◌, ◌<◌, ◌≤◌, ◌++◌, [], ◌∷◌, length, vec_len, vec_capacity, true, false, None, IfOk, IfErr, IsFalse};
 ghost use Rattle.std.specs.Slots.{slots_items, slots_len, IsFull};
 ghost use Rattle.std.specs.Int.NonZero.{non_zero_usize_get};
 ghost use Rattle.parallel_shares.specs.Sizes.{Sizes, shares_of, IsSound};
@@ -12,14 +12,12 @@ use atomic_table::{Closed, Table};
 use parallel_fault::Fault;
 use std::alloc::Global;
 use std::num::NonZeroUsize;
-use std::ops::Range;
-use std::sync::Wait;
 
 /// The cells of a grid, shared out among seats, over words that change in single atomic steps.
 #[derive(Drop)]
 pub struct Shares {
-    table: Table<(), View, Plan, Partition, Global>,
-    plan: Plan,
+    pub(super) table: Table<(), View, Plan, Partition, Global>,
+    pub(super) plan: Plan,
     last: Vec<u64>,
     ghost sound: { IsSound plan },
     ghost key: { table.shared.key ≡ plan },
@@ -30,20 +28,21 @@ pub struct Shares {
 
 impl Shares {
     ghost use Rattle.std.specs.Prelude.{ℕ, replicate, slice_index};
-    ghost use Rattle.parallel_shares.specs.Sizes.{Work, sizes_of, share_of};
+    ghost use Rattle.parallel_shares.specs.Sizes.{sizes_for, share_of};
     ghost use Rattle.parallel_shares.specs.Words.{IsWithin, IsEmptyWord, packed, end_of};
     ghost use Rattle.parallel_shares.specs.Machine.{opening_words};
     ghost use Rattle.parallel_shares.specs.Answers.{claim_stop};
     ghost use Rattle.parallel_shares.specs.Totals.{total};
     ghost use Rattle.parallel_shares.specs.Gathered.{HasAll};
     ghost use Rattle.parallel_shares.specs.Sharing.{undealt, loaded_at, loads_at, looked_own};
-    ghost use Rattle.parallel_shares.specs.Seats.{plan_of, known, has_emptied, own_share, own_word, own_loads, IsSeatOf, AreSeatsOf, AreFresh, IsSameSeat, TriesClaim, GainsClaim, LoadsOwn, MeetsFront, IsPartition, AllDone, AllEmpty, EachCellOnce};
+    ghost use Rattle.parallel_shares.specs.Seats.{plan_of, known, has_emptied, own_share, own_word, own_loads, IsSeatOf, AreSeatsOf, AreFresh, IsSameSeat, TriesClaim, LoadsOwn, MeetsFront, IsPartition, AllDone, AllEmpty, EachCellOnce};
 
     /// Shares out `rows` rows of `len` cells each, where a tile costs `tile_cost` cells and there are
     /// at most `workers` workers, and answers a seat for each worker, in order.
     ///
-    /// The numbers are those of `Plan::new`, which asks for the same. The words are those that a
-    /// plan opens with, and the seats have claimed nothing. The one refusal is `Fault::Memory`.
+    /// The numbers are those of `Plan::new`, which asks for the same. Whole rows have one word for all
+    /// seats. Where rows are cut there is a word a seat, and the words are a balanced cut of the units.
+    /// The seats have claimed nothing and have nothing in transit. The one refusal is `Fault::Memory`.
     pub fn new(
         alloc: Global,
         rows: usize,
@@ -55,8 +54,8 @@ impl Shares {
         requires some_rows { rows ≢ 0 }
         requires some_cells { len ≢ 0 }
         requires cells_fit { rows * len < 2 ^ 64 }
-        requires whole_rows { whole ≡ true }
-        ensures sizes { IfOk result (λ r. plan_of r.0 ≡ sizes_of (record { rows = rows; len = len; tile_cost = non_zero_usize_get tile_cost; workers = non_zero_usize_get workers; whole = whole })) }
+        requires cut_pays { IsFalse whole → 2 * non_zero_usize_get tile_cost ≤ len }
+        ensures sizes { IfOk result (λ r. plan_of r.0 ≡ sizes_for rows len (non_zero_usize_get tile_cost) (non_zero_usize_get workers) whole) }
         ensures sound { IfOk result (λ r. IsSound (plan_of r.0)) }
         ensures seats { IfOk result (λ r. AreSeatsOf r.0 r.1.items) }
         ensures fresh { IfOk result (λ r. AreFresh r.1.items) }
@@ -159,27 +158,6 @@ impl Shares {
         } else {
             Tried::Lost
         }
-    }
-
-    /// Claims the front of the share that the seat claims from: tries until an exchange wins or the
-    /// word is empty.
-    ///
-    /// `Some` has the cells that the seat's claims gained. After `None` the claims are as they were,
-    /// and the seat's `own_empty` holds. `rt` is the right to go on trying; no memory is taken.
-    pub fn claim<R: Wait>(&self, rt: &R, seat: &mut Seat) -> Option<Range<usize>>
-        requires { IsSeatOf self.now seat.old }
-        ensures seat { IsSeatOf self.now seat.new }
-        ensures same { IsSameSeat seat.old seat.new }
-        ensures answer { GainsClaim (plan_of self.now) seat.old result seat.new }
-    {
-        for _ in rt.forever() {
-            match self.try_claim(seat) {
-                Tried::Claimed(cells) => return Some(cells),
-                Tried::Empty => return None,
-                _ => {}
-            }
-        }
-        unreachable!()
     }
 
     /// Ends the shares with all of their seats, and answers the words that are left.

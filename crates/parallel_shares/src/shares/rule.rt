@@ -58,6 +58,33 @@ impl Play<(), View> for TakeFront {
     ghost then = { TakesFront };
 }
 
+/// A load of another seat's share.
+pub struct LookAt;
+
+impl Play<(), View> for LookAt {
+    ghost use Rattle.parallel_shares.specs.Sharing.{LooksAt};
+
+    ghost then = { LooksAt };
+}
+
+/// An exchange that takes the back half of a word into transit.
+pub struct TakeBack;
+
+impl Play<(), View> for TakeBack {
+    ghost use Rattle.parallel_shares.specs.Sharing.{TakesBack};
+
+    ghost then = { TakesBack };
+}
+
+/// A store of what is in transit into the seat's own share.
+pub struct PutDown;
+
+impl Play<(), View> for PutDown {
+    ghost use Rattle.parallel_shares.specs.Sharing.{PutsDown};
+
+    ghost then = { PutsDown };
+}
+
 /// The first of several seats goes to a view of its own.
 pub struct Deal;
 

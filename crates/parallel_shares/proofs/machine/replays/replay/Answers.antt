@@ -1,8 +1,8 @@
 -- Each event adds its outcome, and what was replayed is reached by a run from the opening.
 use Rattle.std.proofs.Common.{◌++◌, ◌∷◌, [], List, get_or, take, subst}
 use Rattle.std.proofs.lemmas.List.{take_more, take_all}
-use Rattle.parallel_shares.specs.declared.machine.events.Event.{Event}
-use Rattle.parallel_shares.specs.declared.machine.events.Event.TheVariants.{Load}
+use Rattle.parallel_shares.specs.declared.machine.event.Event.{Event}
+use Rattle.parallel_shares.specs.declared.machine.event.Event.TheVariants.{Load}
 use Rattle.parallel_shares.specs.Machine.{opening}
 use Rattle.parallel_shares.specs.Answers.{Replays}
 use Rattle.parallel_shares.proofs.Openings.{opening_is_state}

@@ -1,5 +1,5 @@
 -- What each event answers tells what it moves, and keeps what belongs to the plan.
-use Rattle.parallel_shares.specs.declared.machine.events.Event.TheVariants.{Load, Claim, Steal, Refill}
+use Rattle.parallel_shares.specs.declared.machine.event.Event.TheVariants.{Load, Claim, Steal, Refill}
 use Rattle.parallel_shares.specs.Machine.{IsStateOf}
 use Rattle.parallel_shares.specs.Answers.{ClaimAnswers}
 use Rattle.parallel_shares.specs.Holders.{Steps}

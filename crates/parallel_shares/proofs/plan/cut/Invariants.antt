@@ -1,6 +1,0 @@
--- The ranges so far are the first of the cut.
-use Rattle.parallel_shares.proofs.CutSteps.{IsCutSoFar}
-use Rattle.parallel_shares.proofs.plan.cut.Given as goal
-
-abbrev pub invariant-loop-index : goal.invariant-loop-index
-invariant-loop-index l = IsCutSoFar l.shorter l.longer_ranges l.index l.ranges.items l.start

@@ -1,0 +1,31 @@
+-- Each turn fills one piece of the claim.
+use Rattle.std.proofs.Common.{◌++◌, ◌-◌, arith}
+use Rattle.std.specs.List.{range_with_len}
+use Rattle.parallel_shares.proofs.Stretching.{claim_none, claim_more, claim_all}
+use Rattle.parallel_shares.proofs.shares.run.fill_claim.Goals as goal
+
+pub loop-at-init : goal.loop-at-init
+loop-at-init g c = record {
+  begun = omega arith;
+  within = omega arith;
+  chain = λ first cells way. rw (claim_none cells c.args.claim.start) way;
+}
+
+pub loop-at-preserved : goal.loop-at-preserved
+loop-at-preserved g c =
+    let i = c.loop-at.invariant in
+    let len = c.args.len in
+    let at = c.loop-at.at in
+    let start = c.args.claim.start in
+    let piece = c.front-piece in
+    record {
+      begun = omega (arith, i.begun);
+      within = omega (arith, i.begun, i.within, piece.ensures.within, c.loop-at-test.true);
+      chain = λ first cells way.
+          rw (← claim_more len cells start at piece.result i.begun piece.ensures.start) (c.in_ok-fill_piece.ensures.chain len first (cells ++ range_with_len start (at - start)) piece.ensures.piece (i.chain first cells way));
+    }
+
+pub returns-clause-chain : goal.returns-clause-chain
+returns-clause-chain g c first cells way =
+    let l = c.loop-at in
+    rw (← claim_all cells c.args.claim.start l.at c.args.claim.end (omega (arith, c.loop-at-test.false)) l.invariant.within) (l.invariant.chain first cells way)

@@ -1,0 +1,16 @@
+-- The cells of the claim so far were filled behind those from before.
+use Rattle.std.proofs.Common.{ℕ, List, ◌++◌, ◌-◌, ◌≤◌}
+use Rattle.std.specs.List.{range_with_len}
+use Rattle.parallel_shares.specs.Fillings.{Fills, Gives, Underway}
+use Rattle.parallel_shares.proofs.shares.run.fill_claim.Given as goal
+
+abbrev pub invariant-loop-at : goal.invariant-loop-at
+invariant-loop-at g l = record {
+  begun : l.claim.start ≤ l.at;
+  within : l.at - l.claim.start ≤ l.claim.end - l.claim.start;
+  chain : (first : g.row.T.Denot) (cells : List ℕ) → Underway (Fills (goal.L-post g l.fill)) (Gives (goal.N-post g l.finish)) l.len first cells l.fn.opened l.fn.results.items l.fn.state
+      → Underway (Fills (goal.L-post g l.fill)) (Gives (goal.N-post g l.finish)) l.len first (cells ++ range_with_len l.claim.start (l.at - l.claim.start)) l.opened l.results.items l.state;
+}
+
+abbrev pub decreases-loop-at : goal.decreases-loop-at
+decreases-loop-at g l = l.claim.end - l.at

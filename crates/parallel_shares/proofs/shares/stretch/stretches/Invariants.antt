@@ -1,0 +1,7 @@
+-- The claims so far are cut.
+use Rattle.std.proofs.Common.{take}
+use Rattle.parallel_shares.specs.Stretches.{all_cells, Parted}
+use Rattle.parallel_shares.proofs.shares.stretch.stretches.Given as goal
+
+abbrev pub invariant-loop-claim : goal.invariant-loop-claim
+invariant-loop-claim l = Parted l.len (all_cells (take l.claim-index l.claims)) l.found.items l.opened

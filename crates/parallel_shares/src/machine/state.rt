@@ -1,0 +1,262 @@
+ghost use Rattle.std.specs.Prelude.{◌≡◌, ◌<◌, ◌++◌, [], ◌∷◌, length, replicate, IfOk, IfErr, OnErr, IsSome};
+ghost use Rattle.parallel_shares.specs.Sizes.{shares_of, IsSound};
+ghost use Rattle.parallel_shares.specs.Machine.{opening_words, fresh};
+
+use super::plan::Plan;
+use crate::shares::pack;
+use parallel_fault::Fault;
+use std::alloc::Global;
+use std::marker::Model;
+use std::ops::Range;
+
+/// A load that a seat remembers: the share, and the word that was there.
+#[derive(Clone, Copy)]
+pub struct Remembered {
+    /// The share that was loaded.
+    pub share: usize,
+    /// The word that was found there.
+    pub word: u64,
+}
+
+/// The ranges of cells that a seat has claimed, in order.
+#[derive(Drop)]
+pub struct ClaimedCells {
+    ranges: Vec<Range<usize>>,
+}
+
+impl Model for ClaimedCells {
+    ghost use Rattle.std.specs.Prelude.{ℕ, List};
+    ghost use Rattle.std.specs.declared.ops.Range.{Range};
+
+    ghost Value = { List (Range ℕ) };
+
+    ghost view = { λ c. c.ranges.items };
+}
+
+impl ClaimedCells {
+    fn new(alloc: Global) -> ClaimedCells
+        ensures { result ≡ [] }
+    {
+        ClaimedCells {
+            ranges: Vec::new(alloc),
+        }
+    }
+
+    fn as_slice(&self) -> &[Range<usize>]
+        ensures { result.now ≡ self.now }
+    {
+        &self.ranges
+    }
+
+    fn push(&mut self, cells: Range<usize>) -> Result<(), Fault>
+        ensures pushed { IfOk result (λ _. self.new ≡ self.old ++ cells ∷ []) }
+        ensures unchanged { OnErr result (self.new ≡ self.old) }
+        ensures fault { IfErr result (λ refusal. refusal ≡ Fault.Memory) }
+    {
+        self.ranges.push(cells)?;
+        Ok(())
+    }
+}
+
+/// What a seat remembers, carries and has claimed.
+#[derive(Drop)]
+pub struct Place {
+    /// The load that the seat remembers.
+    pub remembered: Option<Remembered>,
+    /// The units that the seat has in transit.
+    pub transit: Option<Range<usize>>,
+    /// The cells that the seat has claimed.
+    pub claims: ClaimedCells,
+}
+
+/// The words of all shares, and what each seat remembers, carries and has claimed.
+#[derive(Drop)]
+pub struct State {
+    words: Vec<u64>,
+    places: Vec<Place>,
+}
+
+impl Model for State {
+    ghost use Rattle.parallel_shares.specs.Machine.{Machine};
+
+    ghost Value = { Machine };
+
+    ghost view = { λ s. record { words = s.words.items; places = s.places.items } };
+}
+
+impl State {
+    ghost use Rattle.std.specs.Prelude.{ℕ, List, map};
+    ghost use Rattle.std.specs.declared.ops.Range.{Range};
+    ghost use Rattle.parallel_shares.specs.Cut.{BalancedCut};
+    ghost use Rattle.parallel_shares.specs.Words.{range_of};
+    ghost use Rattle.parallel_shares.specs.Machine.{Machine, word_at, place_at, with_word, remembers, forgets, gains, carries, opening, IsStateOf};
+    ghost use Rattle.parallel_shares.specs.Holders.{Holders, IsOpening, Shows};
+
+    /// The state before any event, `opening`: nothing is remembered, carried or claimed.
+    ///
+    /// The shares hold a balanced cut of the units, and each unit is pending at the share that holds
+    /// it, as `IsOpening` and `Shows` say. Such a state belongs to its plan, as `IsStateOf` says.
+    /// The one refusal is `Fault::Memory`, where the lists could not be grown.
+    pub fn new(alloc: Global, plan: &Plan) -> Result<State, Fault>
+        ensures opening { IfOk result (λ state. state ≡ opening plan.now) }
+        ensures belongs { IfOk result (λ state. IsStateOf plan.now state) }
+        ensures balanced { IfOk result (λ state. BalancedCut plan.now.units (map range_of state.words)) }
+        ensures shows { IfOk result (λ state. (holders : Holders) × IsOpening plan.now holders × Shows plan.now state holders) }
+        ensures fault { IfErr result (λ refusal. refusal ≡ Fault.Memory) }
+    {
+        let words = opening_words(alloc, plan)?;
+        let places = fresh_places(alloc, plan.workers())?;
+        Ok(State { words, places })
+    }
+
+    /// The words of all shares.
+    pub fn words(&self) -> &[u64]
+        ensures { result.now ≡ self.now.words }
+    {
+        &self.words
+    }
+
+    /// The cells that a seat has claimed, in order.
+    pub fn claims(&self, seat: usize) -> &[Range<usize>]
+        requires { seat < length self.now.places }
+        ensures { result.now ≡ (place_at self.now seat).claims }
+    {
+        self.places[seat].claims.as_slice()
+    }
+
+    /// The units that a seat has in transit.
+    pub fn in_transit(&self, seat: usize) -> Option<Range<usize>>
+        requires { seat < length self.now.places }
+        ensures { result ≡ (place_at self.now seat).transit }
+    {
+        self.carried(seat)
+    }
+
+    /// The number of shares.
+    pub(super) fn shares(&self) -> usize
+        ensures { result ≡ length self.now.words }
+    {
+        self.words.len()
+    }
+
+    /// The number of seats.
+    pub(super) fn seats(&self) -> usize
+        ensures { result ≡ length self.now.places }
+    {
+        self.places.len()
+    }
+
+    /// The word of a share.
+    pub(super) fn word(&self, share: usize) -> u64
+        requires { share < length self.now.words }
+        ensures { result ≡ word_at self.now share }
+    {
+        self.words[share]
+    }
+
+    /// The load that a seat remembers; a seat that does not exist remembers none.
+    pub(super) fn remembered(&self, seat: usize) -> Option<Remembered>
+        ensures load { result ≡ (place_at self.now seat).remembered }
+        ensures exists { IsSome result → seat < length self.now.places }
+    {
+        if seat < self.places.len() {
+            self.places[seat].remembered
+        } else {
+            None
+        }
+    }
+
+    /// The units that a seat carries; a seat that does not exist carries none.
+    pub(super) fn carried(&self, seat: usize) -> Option<Range<usize>>
+        ensures units { result ≡ (place_at self.now seat).transit }
+        ensures exists { IsSome result → seat < length self.now.places }
+    {
+        if seat < self.places.len() {
+            match &self.places[seat].transit {
+                Some(units) => Some(units.start..units.end),
+                None => None,
+            }
+        } else {
+            None
+        }
+    }
+
+    /// Lets a seat remember a load.
+    pub(super) fn remember(&mut self, seat: usize, load: Remembered)
+        requires { seat < length self.old.places }
+        ensures { self.new ≡ remembers self.old seat load }
+    {
+        let place = &mut self.places[seat];
+        place.remembered = Some(load);
+    }
+
+    /// Lets a seat forget what it loaded.
+    pub(super) fn forget(&mut self, seat: usize)
+        requires { seat < length self.old.places }
+        ensures { self.new ≡ forgets self.old seat }
+    {
+        let place = &mut self.places[seat];
+        place.remembered = None;
+    }
+
+    /// Sets what a seat has in transit.
+    pub(super) fn carry(&mut self, seat: usize, units: Option<Range<usize>>)
+        requires { seat < length self.old.places }
+        ensures { self.new ≡ carries self.old seat units }
+    {
+        let place = &mut self.places[seat];
+        place.transit = units;
+    }
+
+    /// Adds to what a seat has claimed. After a refusal the state is as it was.
+    pub(super) fn gain(&mut self, seat: usize, cells: Range<usize>) -> Result<(), Fault>
+        requires { seat < length self.old.places }
+        ensures gained { IfOk result (λ _. self.new ≡ gains self.old seat cells) }
+        ensures unchanged { OnErr result (self.new ≡ self.old) }
+        ensures fault { IfErr result (λ refusal. refusal ≡ Fault.Memory) }
+    {
+        let place = &mut self.places[seat];
+        place.claims.push(cells)
+    }
+
+    /// Stores a word into a share.
+    pub(super) fn store(&mut self, share: usize, word: u64)
+        requires { share < length self.old.words }
+        ensures { self.new ≡ with_word self.old share word }
+    {
+        self.words[share] = word;
+    }
+}
+
+/// The words of a plan's shares before any event.
+pub(crate) fn opening_words(alloc: Global, plan: &Plan) -> Result<Vec<u64>, Fault>
+    ensures words { IfOk result (λ words. words.items ≡ opening_words plan.now (shares_of plan.now)) }
+    ensures sound { IsSound plan.now }
+    ensures fault { IfErr result (λ refusal. refusal ≡ Fault.Memory) }
+{
+    let shares = plan.shares();
+    let mut words = Vec::with_capacity(alloc, shares)?;
+    let mut start = 0;
+    for share in 0..shares {
+        let end = start + plan.opening_size(share);
+        words.push(pack(start, end))?;
+        start = end;
+    }
+    Ok(words)
+}
+
+/// So many places where nothing was loaded, taken or claimed.
+fn fresh_places(alloc: Global, seats: usize) -> Result<Vec<Place>, Fault>
+    ensures places { IfOk result (λ places. places.items ≡ replicate seats fresh) }
+    ensures fault { IfErr result (λ refusal. refusal ≡ Fault.Memory) }
+{
+    let mut places = Vec::with_capacity(alloc, seats)?;
+    for _seat in 0..seats {
+        places.push(Place {
+            remembered: None,
+            transit: None,
+            claims: ClaimedCells::new(alloc),
+        })?;
+    }
+    Ok(places)
+}

@@ -1,0 +1,135 @@
+//! A worker's run over its share: it claims until nothing is left that pays, and fills and finishes
+//! the stretches of its claims.
+ghost use Rattle.std.specs.Prelude.{◌≡◌, ◌≢◌, ◌++◌, ◌<◌, ◌-◌, ◌*◌, ◌+◌, ℕ, List, None, Some, IfOk, IfErr};
+ghost use Rattle.std.specs.declared.ops.Range.{Range};
+ghost use Rattle.parallel_shares.specs.declared.shares.stretch.Stretch.{Stretch};
+ghost use Rattle.parallel_shares.specs.Stretches.{Cutting, IsPiece, piece_cells, range_cells};
+ghost use Rattle.parallel_shares.specs.Fillings.{Fills, Gives, Finished, Closes, Underway};
+
+use super::queue::Shares;
+use super::seat::Seat;
+use super::stretch::{Piece, front, grown};
+use parallel_fault::Fault;
+use std::alloc::Global;
+use std::ops::Range;
+use std::sync::Wait;
+
+impl Shares {
+    ghost use Rattle.parallel_shares.specs.Seats.{plan_of, index_of, claims_of, transit_of, IsSeatOf};
+    ghost use Rattle.parallel_shares.specs.Steals.{FoundNothing};
+
+    /// Claims until nothing is left that pays, on rows of `len` cells, and answers a result for each
+    /// stretch of what it claimed, in order.
+    ///
+    /// The claims that the seat gained are cut into stretches as `Cutting` says. Each stretch is
+    /// filled by calls of `fill` with its row and neighbouring columns, and then `finish` answers its
+    /// result; all calls are lent one state, which begins as the one handed in (`Finished`). The seat
+    /// ends as after a `claim` that answers `None`. The one refusal is `Fault::Memory`, where the
+    /// list of results could not grow: the seat is still one of these shares, its claims have grown by
+    /// what was claimed, and some of that has no result. `rt` is the right to go on trying.
+    pub fn run<W: Wait, T, R: Drop, L: Fn(&mut T, usize, Range<usize>), N: Fn(&mut T, usize) -> R>(
+        &self,
+        rt: &W,
+        alloc: Global,
+        seat: &mut Seat,
+        len: usize,
+        state: &mut T,
+        fill: &L,
+        finish: &N,
+    ) -> Result<Vec<R>, Fault>
+        requires belongs { IsSeatOf self.now seat.old }
+        requires some_cells { len ≢ 0 }
+        requires fill_accepts { L.IsAlwaysCallable fill.now }
+        requires finish_accepts { N.IsAlwaysCallable finish.now }
+        ensures seat { IsSeatOf self.now seat.new }
+        ensures index { index_of seat.new ≡ index_of seat.old }
+        ensures transit { transit_of seat.new ≡ None }
+        ensures done { IfOk result (λ _. FoundNothing (plan_of self.now) seat.new) }
+        ensures chain { IfOk result (λ results. (gained : List (Range ℕ)) × (cut : List Stretch)
+            × (claims_of seat.new ≡ claims_of seat.old ++ gained) × Cutting gained len cut
+            × Finished (Fills (L.post fill.now)) (Gives (N.post finish.now)) state.old cut results.items state.new) }
+        ensures fault { IfErr result (λ refusal. refusal ≡ Fault.Memory) }
+    {
+        let mut results = Vec::new(alloc);
+        let mut opened = None;
+        for _ in rt.forever() {
+            let Some(claim) = self.claim(rt, seat) else {
+                finish_open(&mut results, opened, state, finish)?;
+                return Ok(results);
+            };
+            opened = fill_claim(&mut results, opened, claim, len, state, fill, finish)?;
+        }
+        unreachable!()
+    }
+}
+
+// Fills the cells of a claim, and answers the stretch that is open then.
+fn fill_claim<T, R: Drop, L: Fn(&mut T, usize, Range<usize>), N: Fn(&mut T, usize) -> R>(
+    results: &mut Vec<R>,
+    opened: Option<Piece>,
+    claim: Range<usize>,
+    len: usize,
+    state: &mut T,
+    fill: &L,
+    finish: &N,
+) -> Result<Option<Piece>, Fault>
+    requires some_cells { len ≢ 0 }
+    requires fill_accepts { L.IsAlwaysCallable fill.now }
+    requires finish_accepts { N.IsAlwaysCallable finish.now }
+    ensures chain { IfOk result (λ next. (first : T) (cells : List ℕ)
+        → Underway (Fills (L.post fill.now)) (Gives (N.post finish.now)) len first cells opened results.old.items state.old
+        → Underway (Fills (L.post fill.now)) (Gives (N.post finish.now)) len first (cells ++ range_cells claim) next results.new.items state.new) }
+    ensures fault { IfErr result (λ refusal. refusal ≡ Fault.Memory) }
+{
+    let mut opened = opened;
+    let mut at = claim.start;
+    while at < claim.end {
+        let piece = front(at, claim.end, len);
+        opened = Some(fill_piece(results, opened, piece, state, fill, finish)?);
+        at += piece.end - piece.start;
+    }
+    Ok(opened)
+}
+
+// Fills a piece, and answers the stretch that is open then: the one that was, where the piece goes on
+// there; else that one is finished first.
+fn fill_piece<T, R: Drop, L: Fn(&mut T, usize, Range<usize>), N: Fn(&mut T, usize) -> R>(
+    results: &mut Vec<R>,
+    opened: Option<Piece>,
+    piece: Piece,
+    state: &mut T,
+    fill: &L,
+    finish: &N,
+) -> Result<Piece, Fault>
+    requires fill_accepts { L.IsAlwaysCallable fill.now }
+    requires finish_accepts { N.IsAlwaysCallable finish.now }
+    ensures chain { IfOk result (λ next. (len : ℕ) (first : T) (cells : List ℕ) → IsPiece len piece
+        → Underway (Fills (L.post fill.now)) (Gives (N.post finish.now)) len first cells opened results.old.items state.old
+        → Underway (Fills (L.post fill.now)) (Gives (N.post finish.now)) len first (cells ++ piece_cells len piece) (Some next) results.new.items state.new) }
+    ensures fault { IfErr result (λ refusal. refusal ≡ Fault.Memory) }
+{
+    if let Some(longer) = grown(opened, piece) {
+        fill(state, piece.row, piece.start..piece.end);
+        return Ok(longer);
+    }
+    finish_open(results, opened, state, finish)?;
+    fill(state, piece.row, piece.start..piece.end);
+    Ok(piece)
+}
+
+// Finishes the stretch that is open, if one is.
+fn finish_open<T, R: Drop, N: Fn(&mut T, usize) -> R>(
+    results: &mut Vec<R>,
+    opened: Option<Piece>,
+    state: &mut T,
+    finish: &N,
+) -> Result<(), Fault>
+    requires { N.IsAlwaysCallable finish.now }
+    ensures closes { IfOk result (λ _. Closes (Gives (N.post finish.now)) opened state.old results.old.items state.new results.new.items) }
+    ensures fault { IfErr result (λ refusal. refusal ≡ Fault.Memory) }
+{
+    if let Some(piece) = opened {
+        results.push(finish(state, piece.row))?;
+    }
+    Ok(())
+}
