@@ -10,4 +10,5 @@ pub mod Counters
 pub mod Standings
 pub mod IdleState
 pub mod Sleepers
+pub mod SleepTries
 pub mod Blocks

@@ -1,6 +1,6 @@
 // A seat of a core latch, the rule that the latch and its seats keep, and what each step tells.
 use crate::latch::history::View;
-use atomic_table::{Play, Seat, Split, TableRule};
+use atomic_table::{Join, Play, Seat, Split, TableRule};
 
 /// What one caller of a core latch has seen of it. It takes no bytes, and goes to any thread.
 ///
@@ -31,6 +31,38 @@ impl Split<View> for Seating {
     ghost left = { λ v. v };
 
     ghost right = { λ _. newcomer };
+}
+
+/// A new seat tells what a seat has seen.
+pub(crate) struct Telling;
+
+impl Split<View> for Telling {
+    ghost use Rattle.parallel_pool.specs.LatchHistory.{telling};
+
+    ghost left = { λ v. v };
+
+    ghost right = { telling };
+}
+
+/// A seat hears what another has seen, which is dropped.
+pub(crate) struct Hearing;
+
+impl Join<View> for Hearing {
+    ghost use Rattle.parallel_pool.specs.LatchHistory.{newcomer, hearing};
+
+    ghost both = { hearing };
+
+    ghost spent = { newcomer };
+}
+
+/// The last step of `learn`.
+pub(crate) struct Learning;
+
+impl Play<(), View> for Learning {
+    ghost use Rattle.std.specs.Prelude.{◌≡◌};
+    ghost use Rattle.parallel_pool.specs.LatchHistory.{Longer};
+
+    ghost then = { λ _ me found after. Longer me.0.seen me.0.heard after.0.seen × (after.0.own ≡ me.0.own) × (after.1 ≡ me.1) };
 }
 
 /// The step of `get_sleepy`.

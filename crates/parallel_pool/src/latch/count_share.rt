@@ -1,5 +1,5 @@
 // A share of a count latch, the rule that the latch and its shares keep, and what each step tells.
-use atomic_table::{Play, Seat, Split, TableRule};
+use atomic_table::{Join, Play, Seat, Split, TableRule};
 use std::collections::LinkedList;
 
 /// What a share knows of its count latch. No value of it is made.
@@ -10,6 +10,8 @@ pub struct ShareView {
     pub of: u64,
     /// The shares that it has seen given, by their numbers, in the order of the gives.
     pub seen: LinkedList<u64>,
+    /// What another share has seen given, while it is being told.
+    pub heard: LinkedList<u64>,
 }
 
 /// A share of a count latch, which may be given once. It takes no bytes, and goes to any thread.
@@ -42,6 +44,38 @@ impl Split<ShareView> for Sharing {
     ghost left = { one_less };
 
     ghost right = { one_share };
+}
+
+/// A new seat tells which gives a share has seen.
+pub(crate) struct Telling;
+
+impl Split<ShareView> for Telling {
+    ghost use Rattle.parallel_pool.specs.CountHistory.{telling};
+
+    ghost left = { λ v. v };
+
+    ghost right = { telling };
+}
+
+/// A share hears which gives another has seen, which is dropped.
+pub(crate) struct Hearing;
+
+impl Join<ShareView> for Hearing {
+    ghost use Rattle.parallel_pool.specs.CountHistory.{hearing, stranger};
+
+    ghost both = { hearing };
+
+    ghost spent = { stranger };
+}
+
+/// The last step of `learn`.
+pub(crate) struct Learning;
+
+impl Play<(), ShareView> for Learning {
+    ghost use Rattle.std.specs.Prelude.{◌≡◌};
+    ghost use Rattle.parallel_pool.specs.CountHistory.{Longer, SameShare};
+
+    ghost then = { λ _ me found after. Longer me.0.seen me.0.heard after.0.seen × SameShare me.0 after.0 × (after.1 ≡ me.1) };
 }
 
 /// The step of `give`.
