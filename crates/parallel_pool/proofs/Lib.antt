@@ -5,3 +5,5 @@ mod LatchLearns
 mod CountSteps
 mod CountLearns
 mod Standings
+mod JobSteps
+mod JobSeats

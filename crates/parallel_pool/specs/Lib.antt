@@ -12,3 +12,8 @@ pub mod IdleState
 pub mod Sleepers
 pub mod SleepTries
 pub mod Blocks
+pub mod PlannedThreads
+pub mod JobHistory
+pub mod Broadcast
+pub mod JobSeat
+pub mod JobQueues
