@@ -1,14 +1,13 @@
 -- A share of a count latch learns which gives another has seen.
-use Rattle.std.proofs.Common.{◌≡◌, ◌≢◌, ◌⊎◌, ℕ, ◌+◌, ◌<◌, ◌≤◌, Bool, true, false, IsTrue, ◌↔◌, List, [], ◌∷◌, ◌++◌, length, set, slice_index, refl, sym, ap, subst, ◌∙◌, ⊎_elim, append_assoc, append-nil, arith, length-set, length-append}
+use Rattle.std.proofs.Common.{◌≡◌, ℕ, ◌+◌, ◌<◌, ◌≤◌, List, [], ◌∷◌, ◌++◌, length, set, slice_index, refl, sym, ap, ◌∙◌, ⊎_elim, arith, length-set, length-append}
 use mathlib.Core.Option.{some}
 use lib.ListN.{get_elem?}
 use Rattle.atomic_table.specs.Table.{State, Me, Allows, Splits, Joins, keeps}
 use Rattle.atomic_table.proofs.Lists.{at_set}
 use Rattle.parallel_pool.specs.declared.latch.count_share.ShareView.{ShareView}
-use Rattle.parallel_pool.specs.CountHistory.{share_view, telling, hearing, stranger, times_given, GoesOn, FitsShare, CountsAs, IsCountOf, Given, Longer, SameShare}
+use Rattle.parallel_pool.specs.CountHistory.{share_view, telling, hearing, stranger, FitsShare, CountsAs, IsCountOf, Given, Longer, SameShare}
 use Rattle.parallel_pool.proofs.Beginnings.{longest}
 use Rattle.parallel_pool.proofs.CountSteps.{held, held_set, held_more, all_set, all_more}
-use Rattle.parallel_pool.proofs.Places.{within}
 
 -- a new seat, which has no share and has seen the gives that another has seen, keeps the rule
 pub tells : (n id : ℕ) (v : ShareView) → Splits (λ (s : State (Unit {0}) ShareView). IsCountOf n s.words s.views) id v v (telling v)

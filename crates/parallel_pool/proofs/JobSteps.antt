@@ -1,6 +1,5 @@
 -- Each push to a queue of jobs and each take from it keeps the history's rule.
-use Rattle.std.proofs.Common.{◌≡◌, ◌≢◌, ◌⊎◌, ℕ, ◌+◌, ◌<◌, ◌≤◌, ◌==◌, Bool, true, false, cond, List, [], ◌∷◌, ◌++◌, length, set, map, sum_by, refl, sym, ap, subst, ◌∙◌, ⊎_elim, append_assoc, append-nil, arith, eq-eqb, ne_eqb, length-set, length-append, Option, Some, None, Result, Ok, Err, MatchOption, MatchResult}
-use Rattle.std.proofs.lemmas.List.Sums.{sum_by-append}
+use Rattle.std.proofs.Common.{◌≡◌, ◌≢◌, ℕ, ◌+◌, ◌<◌, ◌≤◌, ◌==◌, Bool, true, false, cond, List, [], ◌∷◌, ◌++◌, length, set, map, refl, sym, ap, subst, ◌∙◌, ⊎_elim, append_assoc, append-nil, arith, eq-eqb, ne_eqb, length-set, length-append, Option, Some, None, Result, Ok, Err, MatchOption, MatchResult}
 use mathlib.Core.Logic.{dite}
 use native.Mathlib.Decide.{ℕ_discrete}
 use mathlib.Core.List.{cons-ne-nil, head-eq_of_cons-eq, tail-eq_of_cons-eq}
@@ -15,7 +14,7 @@ use Rattle.parallel_pool.specs.declared.rayon.job_history.Deed.{Deed}
 use Rattle.parallel_pool.specs.declared.rayon.job_history.Deed.TheVariants.{Push, TakeFirst, TakeLast}
 use Rattle.parallel_pool.specs.declared.rayon.job_history.Event.{Event}
 use Rattle.parallel_pool.specs.declared.rayon.job_history.JobView.{JobView}
-use Rattle.parallel_pool.specs.JobHistory.{Lineup, event, job_view, newcomer, opening, Moves, Leads, events_of, Goes, FitsJobs, IsJobHistoryOf, one_push, one_take, times_pushed, times_taken, IsEachOnce, Extends, HasPushed, HasTaken}
+use Rattle.parallel_pool.specs.JobHistory.{Lineup, event, job_view, newcomer, opening, Moves, Leads, events_of, FitsJobs, IsJobHistoryOf, one_push, one_take, times_pushed, times_taken, IsEachOnce, Extends, HasPushed, HasTaken}
 use Rattle.parallel_pool.proofs.Places.{within, at_end}
 
 none_either : (b : Bool) → cond {A = ℕ} b 0 0 ≡ 0

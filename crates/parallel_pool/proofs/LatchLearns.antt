@@ -1,16 +1,15 @@
 -- A seat of a core latch learns what another has seen.
-use Rattle.std.proofs.Common.{◌≡◌, ◌≢◌, ℕ, List, [], ◌∷◌, ◌++◌, length, set, slice_index, refl, sym, ap, subst, ◌∙◌, ⊎_elim, inl, inr, append_assoc, append-nil, arith, length-set}
+use Rattle.std.proofs.Common.{◌≡◌, ◌≢◌, ℕ, List, [], length, set, slice_index, refl, sym, ap, subst, ◌∙◌, ⊎_elim, arith, length-set}
 use mathlib.Core.Option.{some}
 use lib.ListN.{get_elem?}
 use Rattle.atomic_table.specs.Table.{State, Me, Allows, Joins, keeps}
 use Rattle.atomic_table.proofs.Lists.{at_set}
 use Rattle.parallel_pool.specs.declared.latch.history.Call.{Call}
 use Rattle.parallel_pool.specs.declared.latch.history.View.{View}
-use Rattle.parallel_pool.specs.LatchMoves.{Phase, unset, latched, phase_from, phase_after}
-use Rattle.parallel_pool.specs.LatchHistory.{view, newcomer, hearing, acts_of, Begins, Fits, IsHistoryOf, Longer, HasSeenSet}
+use Rattle.parallel_pool.specs.LatchMoves.{unset, latched, phase_from, phase_after}
+use Rattle.parallel_pool.specs.LatchHistory.{view, newcomer, hearing, Begins, Fits, IsHistoryOf, Longer}
 use Rattle.parallel_pool.proofs.Beginnings.{longest}
 use Rattle.parallel_pool.proofs.LatchSteps.{phase_from-append, set_stays}
-use Rattle.parallel_pool.proofs.Places.{within}
 
 -- the views of all seats, where one has changed
 all_set : (log : List Call) (views : List View) (id : ℕ) (w : View) → Fits log id w

@@ -82,7 +82,7 @@ impl ThreadPool {
         ensures each { IfOk result (λ answers. (index : ℕ) (other : _) → index < thread_count self.now → F.post op.now (context index (thread_count self.now)) (slice_index_or answers.items index other)) }
         ensures fault { IfErr result (λ refusal. refusal ≡ Fault.Memory) }
     {
-        let num_threads = self.num_threads.get();
+        let num_threads = self.current_num_threads();
         let answers = thread::map_indices(
             rt,
             alloc,

@@ -1,6 +1,6 @@
 -- Each give sees one give more than the one before it, and no more than three.
-use Rattle.std.proofs.Common.{rules, arith, ap, ◌≡◌, ◌<◌, ◌≤◌, true, false, Bool, IsTrue, ◌↔◌, ℕ, refl, length}
-use Rattle.parallel_pool.specs.CountLatch.{knows, gives_seen}
+use Rattle.std.proofs.Common.{arith, ◌≡◌, ◌<◌, ◌≤◌, true, false, Bool, IsTrue, ◌↔◌, ℕ, refl, length}
+use Rattle.parallel_pool.specs.CountLatch.{gives_seen}
 use Rattle.parallel_pool.proofs.CountLearns.{gives_more, learns_more}
 use Rattle.parallel_pool.proofs.tests.count_latches.give_three.Goals as goal
 

@@ -1,4 +1,4 @@
-use Rattle.std.proofs.Common.{◌≡◌, ◌+◌, List, ◌++◌, length}
+use Rattle.std.proofs.Common.{◌≡◌, List, ◌++◌, length}
 use Rattle.parallel_pool.specs.JobSeat.{PushesFrom}
 use Rattle.parallel_pool.proofs.rayon.job_seat.JobSeat.push_each.Given as goal
 

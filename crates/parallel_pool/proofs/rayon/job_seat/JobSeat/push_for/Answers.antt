@@ -1,10 +1,9 @@
 -- The pass of the queue has pushed, and no other did anything.
-use Rattle.std.proofs.Common.{◌≡◌, arith, ap, length, false}
+use Rattle.std.proofs.Common.{◌≡◌, arith, ap, length}
 use Rattle.std.proofs.lemmas.List.{get_or_read_under}
-use Rattle.parallel_pool.specs.JobHistory.{newcomer, HasPushed, HasTaken}
+use Rattle.parallel_pool.specs.JobHistory.{newcomer, HasPushed}
 use Rattle.parallel_pool.specs.JobSeat.{SeatView}
-use Rattle.parallel_pool.specs.declared.rayon.job_history.Deed.TheVariants.{TakeFirst}
-use Rattle.parallel_pool.specs.declared.rayon.queue.Queue.TheVariants.{Broadcast, Deque}
+use Rattle.parallel_pool.specs.declared.rayon.queue.Queue.TheVariants.{Broadcast}
 use Rattle.parallel_pool.proofs.JobSeats.{after_push}
 use Rattle.parallel_pool.proofs.rayon.job_seat.JobSeat.push_for.Goals as goal
 

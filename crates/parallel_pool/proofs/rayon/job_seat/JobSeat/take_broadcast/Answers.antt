@@ -1,10 +1,10 @@
 -- The pass of the queue has taken, and no other did anything.
 use Rattle.std.proofs.Common.{◌≡◌, arith, ap, length, false}
 use Rattle.std.proofs.lemmas.List.{get_or_read_under}
-use Rattle.parallel_pool.specs.JobHistory.{newcomer, HasPushed, HasTaken}
+use Rattle.parallel_pool.specs.JobHistory.{newcomer, HasTaken}
 use Rattle.parallel_pool.specs.JobSeat.{SeatView}
 use Rattle.parallel_pool.specs.declared.rayon.job_history.Deed.TheVariants.{TakeFirst}
-use Rattle.parallel_pool.specs.declared.rayon.queue.Queue.TheVariants.{Broadcast, Deque}
+use Rattle.parallel_pool.specs.declared.rayon.queue.Queue.TheVariants.{Broadcast}
 use Rattle.parallel_pool.proofs.JobSeats.{after_take}
 use Rattle.parallel_pool.proofs.rayon.job_seat.JobSeat.take_broadcast.Goals as goal
 
