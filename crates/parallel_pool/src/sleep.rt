@@ -146,7 +146,8 @@ impl Sleep {
         ensures worker { worker_of idle.new ≡ worker_of idle.old }
         ensures yields { rounds_of idle.old < ROUNDS_UNTIL_SLEEPY → rounds_of idle.new ≡ rounds_of idle.old + 1 }
         ensures announces { rounds_of idle.old ≡ ROUNDS_UNTIL_SLEEPY → (rounds_of idle.new ≡ ROUNDS_UNTIL_SLEEPING) × IsSome (recorded_of idle.new) }
-        ensures sleeps { ROUNDS_UNTIL_SLEEPING ≤ rounds_of idle.old → (idle.new ≡ idle.old) ⊎ ((recorded_of idle.new ≡ None) × ((rounds_of idle.new ≡ 0) ⊎ (rounds_of idle.new ≡ ROUNDS_UNTIL_SLEEPY))) }
+        ensures sleeps { ROUNDS_UNTIL_SLEEPING ≤ rounds_of idle.old
+            → (idle.new ≡ idle.old) ⊎ ((recorded_of idle.new ≡ None) × ((rounds_of idle.new ≡ 0) ⊎ (rounds_of idle.new ≡ ROUNDS_UNTIL_SLEEPY))) }
         ensures awake { rounds_of idle.old < ROUNDS_UNTIL_SLEEPING → known seat.new ≡ known seat.old }
         ensures tries { ROUNDS_UNTIL_SLEEPING ≤ rounds_of idle.old → TriesToSleep (known seat.old) (known seat.new) }
         ensures seat { IsSeatOf latch.now seat.new }

@@ -98,7 +98,8 @@ impl<T: Drop> JobSeat<T> {
     /// Takes the first job of a queue, where there is one.
     pub fn take<R: Wait>(&mut self, rt: &R, queue: Queue) -> Option<T>
         requires { IsQueueOf queue self.old }
-        ensures { MatchOption result (self.new ≡ self.old) (λ job. Does queue (λ v w. HasTaken TakeFirst false v job w) self.old self.new) }
+        ensures { MatchOption result (self.new ≡ self.old)
+            (λ job. Does queue (λ v w. HasTaken TakeFirst false v job w) self.old self.new) }
     {
         match queue {
             Queue::Injected => self.take_injected(rt),
@@ -109,7 +110,8 @@ impl<T: Drop> JobSeat<T> {
 
     // Takes the first of the injected jobs.
     fn take_injected<R: Wait>(&mut self, rt: &R) -> Option<T>
-        ensures { MatchOption result (self.new ≡ self.old) (λ job. Does Injected (λ v w. HasTaken TakeFirst false v job w) self.old self.new) }
+        ensures { MatchOption result (self.new ≡ self.old)
+            (λ job. Does Injected (λ v w. HasTaken TakeFirst false v job w) self.old self.new) }
     {
         self.injected.take(rt)
     }
@@ -117,7 +119,8 @@ impl<T: Drop> JobSeat<T> {
     // Takes the first job of a worker's broadcast queue.
     fn take_broadcast<R: Wait>(&mut self, rt: &R, worker: usize) -> Option<T>
         requires { worker < length self.old.broadcasts }
-        ensures { MatchOption result (self.new ≡ self.old) (λ job. Does (Broadcast worker) (λ v w. HasTaken TakeFirst false v job w) self.old self.new) }
+        ensures { MatchOption result (self.new ≡ self.old)
+            (λ job. Does (Broadcast worker) (λ v w. HasTaken TakeFirst false v job w) self.old self.new) }
     {
         self.broadcasts[worker].take(rt)
     }
@@ -125,7 +128,8 @@ impl<T: Drop> JobSeat<T> {
     // Takes the first job of a worker's deque.
     fn steal<R: Wait>(&mut self, rt: &R, worker: usize) -> Option<T>
         requires { worker < length self.old.deques }
-        ensures { MatchOption result (self.new ≡ self.old) (λ job. Does (Deque worker) (λ v w. HasTaken TakeFirst false v job w) self.old self.new) }
+        ensures { MatchOption result (self.new ≡ self.old)
+            (λ job. Does (Deque worker) (λ v w. HasTaken TakeFirst false v job w) self.old self.new) }
     {
         self.deques[worker].take(rt)
     }

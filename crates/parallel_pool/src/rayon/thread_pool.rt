@@ -77,9 +77,11 @@ impl ThreadPool {
         alloc: Global,
         op: &F,
     ) -> Result<Vec<T>, Fault>
-        requires { (index : ℕ) → index < thread_count self.now → F.pre op.now (context index (thread_count self.now)) }
+        requires { (index : ℕ) → index < thread_count self.now
+            → F.pre op.now (context index (thread_count self.now)) }
         ensures count { IfOk result (λ answers. vec_len answers ≡ thread_count self.now) }
-        ensures each { IfOk result (λ answers. (index : ℕ) (other : _) → index < thread_count self.now → F.post op.now (context index (thread_count self.now)) (slice_index_or answers.items index other)) }
+        ensures each { IfOk result (λ answers. (index : ℕ) (other : _) → index < thread_count self.now
+            → F.post op.now (context index (thread_count self.now)) (slice_index_or answers.items index other)) }
         ensures fault { IfErr result (λ refusal. refusal ≡ Fault.Memory) }
     {
         let num_threads = self.current_num_threads();
