@@ -8,20 +8,20 @@ use mathlib.Core.Logic.{dite}
 use native.Mathlib.Decide.{ℕ_discrete}
 use Rattle.atomic_table.specs.Table.{State, Me, Allows, Splits, Enters, keeps}
 use Rattle.atomic_table.proofs.Lists.{at_set}
-use Rattle.parallel_pool.specs.declared.latch.shares.ShareView.{ShareView}
+use Rattle.parallel_pool.specs.declared.latch.count_share.ShareView.{ShareView}
 use Rattle.parallel_pool.specs.CountHistory.{share_view, one_less, one_share, times_given, GoesOn, FitsShare, CountsAs, IsCountOf, CountsFrom, Sees}
 use Rattle.parallel_pool.proofs.Places.{within, at_end, at_get}
 
 -- how many shares the seats hold
-abbrev held : List ShareView → ℕ
+abbrev pub held : List ShareView → ℕ
 held views = sum_by (λ v. v.unspent) views
 
 -- the shares held after one seat's view has changed
-held_set : (views : List ShareView) (id : ℕ) (v w : ShareView) → get_elem? views id ≡ some v → held (set views id w) + v.unspent ≡ held views + w.unspent
+pub held_set : (views : List ShareView) (id : ℕ) (v w : ShareView) → get_elem? views id ≡ some v → held (set views id w) + v.unspent ≡ held views + w.unspent
 held_set views id v w at =
     ap (λ (x : ShareView). held (set views id w) + x.unspent) (sym (at_get views id v w at)) ∙ sum_by-set (λ v. v.unspent) views id w w (within views id v at)
 
-held_more : (views : List ShareView) (w : ShareView) → held (views ++ w ∷ []) ≡ held views + w.unspent
+pub held_more : (views : List ShareView) (w : ShareView) → held (views ++ w ∷ []) ≡ held views + w.unspent
 held_more views w = let e = sum_by-append (λ (v : ShareView). v.unspent) views (w ∷ []) in omega (arith, e)
 
 -- a share stands once more in the history that its give ends
@@ -45,7 +45,7 @@ counted_down n positive fits =
     ap (λ k. k % 2 ^ 64) e ∙ (add-mod_right (n - 1) (2 ^ 64) ∙ mod-eq_of_lt less)
 
 -- the views of all seats, where one has changed
-all_set : (F : ℕ → ShareView → Type 0) (views : List ShareView) (id : ℕ) (w : ShareView) → F id w
+pub all_set : (F : ℕ → ShareView → Type 0) (views : List ShareView) (id : ℕ) (w : ShareView) → F id w
     → ((by : ℕ) (v : ShareView) → by ≢ id → get_elem? views by ≡ some v → F by v) → (by : ℕ) (v : ShareView) → get_elem? (set views id w) by ≡ some v → F by v
 all_set F views id w mine others by v e = ⊎_elim
     (λ (t : (by ≡ id) × (w ≡ v)). subst (λ (x : ℕ × ShareView). F x.0 x.1) (λ i. (sym t.0 i, t.1 i)) mine)
@@ -53,7 +53,7 @@ all_set F views id w mine others by v e = ⊎_elim
     (at_set views id by w v e)
 
 -- the views of all seats, where one has come
-all_more : (F : ℕ → ShareView → Type 0) (views : List ShareView) (w : ShareView) → F (length views) w
+pub all_more : (F : ℕ → ShareView → Type 0) (views : List ShareView) (w : ShareView) → F (length views) w
     → ((by : ℕ) (v : ShareView) → get_elem? views by ≡ some v → F by v) → (by : ℕ) (v : ShareView) → get_elem? (views ++ w ∷ []) by ≡ some v → F by v
 all_more F views w new old by v e = ⊎_elim
     (λ (t : get_elem? views by ≡ some v). old by v t)
@@ -74,11 +74,13 @@ gives n slots id me whole s h homes at small =
     let kept : CountsAs n log s.words s.views = h.1 in
     let mine : FitsShare n log id me.0 = kept.fits id me.0 at in
     let w : ShareView = share_view 0 me.0.of (log ++ id ∷ []) in
-    let fresh : times_given id log ≡ 0 = mine.fresh (omega (arith, whole)) in
+    let left' : 0 < me.0.unspent = omega (arith, whole) in
+    let fresh : times_given id log ≡ 0 = mine.fresh left' in
     let less : held (set s.views id w) + me.0.unspent ≡ held s.views + 0 = held_set s.views id me.0 w at in
     let found : slice_index s.words 0 ≡ held s.views = ap (λ ws. slice_index ws 0) kept.word in
     let positive : 0 < held s.views = omega (arith, less, whole) in
     let fits : held s.views < 2 ^ 64 = subst (λ k. k < 2 ^ 64) found small in
+    let of : me.0.of ≡ n = mine.of left' in
     let once : (by : ℕ) → times_given by (log ++ id ∷ []) ≤ 1 = given_once id log fresh kept.once in (
       w,
       keeps,
@@ -90,13 +92,13 @@ gives n slots id me whole s h homes at small =
           left = omega (arith, less, whole, kept.left, length-append log (id ∷ []));
           fits =
               all_set (FitsShare n (log ++ id ∷ [])) s.views id w
-              (record { seen = ([], sym (append-nil (log ++ id ∷ []))); of = mine.of; fresh = λ none. absurd (omega arith) })
-              (λ by v ne there. let old = kept.fits by v there in record { seen = goes_on log v.seen (id ∷ []) old.seen; of = old.of; fresh = λ may. times_other id by log ne ∙ old.fresh may });
+              (record { seen = ([], sym (append-nil (log ++ id ∷ []))); heard = (log ++ id ∷ [], refl); of = λ _. of; fresh = λ none. absurd (omega arith) })
+              (λ by v ne there. let old = kept.fits by v there in record { seen = goes_on log v.seen (id ∷ []) old.seen; heard = goes_on log v.heard (id ∷ []) old.heard; of = old.of; fresh = λ may. times_other id by log ne ∙ old.fresh may });
           beyond = λ by far. let here = within s.views id me.0 at in let same = length-set s.views id w in times_other id by log (λ e. absurd (omega arith)) ∙ kept.beyond by (omega arith);
           once = once;
         },
       ),
-      ((log, id, record { begins = mine.seen; ends = refl; first = fresh; once = once; spends = sym whole }, omega (arith, found, kept.left, mine.of), refl), refl),
+      ((log, id, record { begins = mine.seen; ends = refl; first = fresh; once = once; spends = sym whole }, omega (arith, found, kept.left, of), refl, omega (arith, found, positive)), refl),
     )
 
 -- a share cut off the first seat keeps the rule
@@ -115,9 +117,9 @@ shares n id v left s h at =
         left = omega (arith, same, kept.left);
         fits =
             all_more (FitsShare n log) views (one_share v)
-            (record { seen = (log, refl); of = mine.of; fresh = λ _. kept.beyond (length views) (omega arith) })
+            (record { seen = (log, refl); heard = (log, refl); of = λ _. mine.of left; fresh = λ _. kept.beyond (length views) (omega arith) })
             (all_set (FitsShare n log) s.views id (one_less v)
-            (record { seen = mine.seen; of = mine.of; fresh = λ may. mine.fresh left })
+            (record { seen = mine.seen; heard = (log, refl); of = λ _. mine.of left; fresh = λ may. mine.fresh left })
             (λ by u ne there. kept.fits by u there));
         beyond = λ by far. kept.beyond by (omega (arith, length-append views (one_share v ∷ [])));
         once = kept.once;
@@ -141,7 +143,7 @@ looks n slots about of s h homes small =
           left = omega (arith, same, kept.left);
           fits =
               all_more (FitsShare n log) s.views w
-              (record { seen = ([], sym (append-nil log)); of = refl; fresh = λ none. absurd (omega arith) })
+              (record { seen = ([], sym (append-nil log)); heard = (log, refl); of = λ _. refl; fresh = λ none. absurd (omega arith) })
               kept.fits;
           beyond = λ by far. kept.beyond by (omega (arith, length-append s.views (w ∷ [])));
           once = kept.once;

@@ -58,7 +58,7 @@ steps act f moves slots id me s h homes at small =
     let log : List Call = h.0 in
     let fits : Fits log id me.0 = h.2 id me.0 at in
     let after : List Call = log ++ call id act ∷ [] in
-    let own : acts_of id after ≡ me.0.own ++ act ∷ [] = acts_of-own id act log ∙ ap (λ l. l ++ act ∷ []) fits.1 in
+    let own : acts_of id after ≡ me.0.own ++ act ∷ [] = acts_of-own id act log ∙ ap (λ l. l ++ act ∷ []) fits.2 in
     let w : View = view after (me.0.own ++ act ∷ []) in (
       w,
       keeps,
@@ -68,10 +68,10 @@ steps act f moves slots id me s h homes at small =
         ap (λ ws. set ws 0 (f (slice_index ws 0))) h.1
             ∙ ap (λ n. n ∷ []) (moves (phase_after log) ∙ ap word_of (sym (phase_from-append unset log (call id act ∷ [])))),
         (λ by v e. ⊎_elim
-            (λ (t : (by ≡ id) × (w ≡ v)). subst (λ (x : ℕ × View). Fits after x.0 x.1) (λ i. (sym t.0 i, t.1 i)) (([], sym (append-nil after)), own))
+            (λ (t : (by ≡ id) × (w ≡ v)). subst (λ (x : ℕ × View). Fits after x.0 x.1) (λ i. (sym t.0 i, t.1 i)) (([], sym (append-nil after)), (after, refl), own))
             (λ (t : (by ≢ id) × (get_elem? s.views by ≡ some v)).
             let old : Fits log by v = h.2 by v t.1 in
-            (begins_on log v.seen (call id act ∷ []) old.0, acts_of-other id by act log t.0 ∙ old.1))
+            (begins_on log v.seen (call id act ∷ []) old.0, begins_on log v.heard (call id act ∷ []) old.1, acts_of-other id by act log t.0 ∙ old.2))
             (at_set s.views id by w v e)),
         (λ by far.
             let here : id < length s.views = within s.views id me.0 at in
@@ -81,19 +81,20 @@ steps act f moves slots id me s h homes at small =
       ((log, id, record { begins = fits.0; ends = refl; own = refl; once = own }, ap (λ ws. slice_index ws 0) h.1), refl),
     )
 
--- a seat that has seen nothing is added
-pub seats : (id : ℕ) (v : View) → Splits (λ (s : State (Unit {0}) View). IsHistoryOf s.words s.views) id v v newcomer
-seats id v s h at =
+-- a seat that has made no call and seen no more than another is added beside it
+pub seats : (id : ℕ) (v new : View) → new.own ≡ [] → new.heard ≡ [] → ((log : List Call) → Begins log v.seen → Begins log new.seen)
+    → Splits (λ (s : State (Unit {0}) View). IsHistoryOf s.words s.views) id v v new
+seats id v new own heard less s h at =
     let views : List View = set s.views id v in
     let same : views ≡ s.views = set_again s.views id v at in (
       h.0,
       h.1,
       (λ by u e. ⊎_elim
           (λ (t : get_elem? views by ≡ some u). h.2 by u (subst (λ l. get_elem? l by ≡ some u) same t))
-          (λ (t : (by ≡ length views) × (newcomer ≡ u)).
-          subst (λ (x : View). Fits h.0 by x) t.1 ((h.0, refl), h.3 by (let n : length views ≡ length s.views = ap length same in omega (arith, t.0))))
-          (at_end views newcomer u by e)),
-      (λ by far. h.3 by (let n : length views ≡ length s.views = ap length same in omega (arith, length-append views (newcomer ∷ [])))),
+          (λ (t : (by ≡ length views) × (new ≡ u)).
+          subst (λ (x : View). Fits h.0 by x) t.1 (less h.0 (h.2 id v at).0, subst (λ l. Begins h.0 l) (sym heard) (h.0, refl), h.3 by (let n : length views ≡ length s.views = ap length same in omega (arith, t.0)) ∙ sym own))
+          (at_end views new u by e)),
+      (λ by far. h.3 by (let n : length views ≡ length s.views = ap length same in omega (arith, length-append views (new ∷ [])))),
     )
 
 -- at the beginning no call was made
@@ -103,7 +104,7 @@ opens = (
   refl,
   (λ by v e. ⊎_elim
       (λ (t : get_elem? (let none : List View = [] in none) by ≡ some v). absurd (some-ne-none v (sym t)))
-      (λ (t : (by ≡ 0) × (newcomer ≡ v)). subst (λ (x : View). Fits [] by x) t.1 (([], refl), refl))
+      (λ (t : (by ≡ 0) × (newcomer ≡ v)). subst (λ (x : View). Fits [] by x) t.1 (([], refl), ([], refl), refl))
       (at_end [] newcomer v by e)),
   (λ by far. refl),
 )

@@ -1,4 +1,9 @@
 mod Places
+mod Beginnings
 mod LatchSteps
+mod LatchLearns
 mod CountSteps
+mod CountLearns
 mod Standings
+mod JobSteps
+mod JobSeats

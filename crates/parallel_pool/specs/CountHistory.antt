@@ -1,12 +1,12 @@
 -- The history of a count latch: which shares were given, one after another.
-use Rattle.std.specs.Prelude.{◌≡◌, ℕ, ◌+◌, ◌-◌, ◌<◌, ◌≤◌, ◌==◌, List, [], ◌∷◌, ◌++◌, length, sum_by, count_by}
+use Rattle.std.specs.Prelude.{◌≡◌, ℕ, ◌+◌, ◌-◌, ◌<◌, ◌≤◌, ◌⊎◌, ◌==◌, List, [], ◌∷◌, ◌++◌, length, sum_by, count_by}
 use mathlib.Core.Option.{some}
 use lib.ListN.{get_elem?}
-use Rattle.parallel_pool.specs.declared.latch.shares.ShareView.{ShareView}
+use Rattle.parallel_pool.specs.declared.latch.count_share.ShareView.{ShareView}
 
 -- what a share knows that may give so many of the latch's shares, and has seen these gives
 abbrev pub share_view : ℕ → ℕ → List ℕ → ShareView
-share_view unspent of seen = record { unspent = unspent; of = of; seen = seen }
+share_view unspent of seen = record { unspent = unspent; of = of; seen = seen; heard = [] }
 
 -- the first seat of a latch of n shares holds them all
 abbrev pub founder : ℕ → ShareView
@@ -20,6 +20,18 @@ one_less v = share_view (v.unspent - 1) v.of v.seen
 abbrev pub one_share : ShareView → ShareView
 one_share v = share_view 1 v.of []
 
+-- what a new seat knows that tells which gives a share has seen
+abbrev pub telling : ShareView → ShareView
+telling v = share_view 0 0 v.seen
+
+-- what a share knows while it is told which gives another has seen
+abbrev pub hearing : ShareView → ShareView → ShareView
+hearing v w = record { unspent = v.unspent; of = v.of; seen = v.seen; heard = w.seen }
+
+-- a seat that has no share and has seen no give
+abbrev pub stranger : ShareView
+stranger = share_view 0 0 []
+
 -- how often a share stands in a history
 abbrev pub times_given : ℕ → List ℕ → ℕ
 times_given by log = count_by (λ other. other == by) log
@@ -28,10 +40,19 @@ times_given by log = count_by (λ other. other == by) log
 abbrev pub GoesOn : List ℕ → List ℕ → Type 0
 GoesOn log seen = (rest : List ℕ) × (log ≡ seen ++ rest)
 
--- a share has seen a beginning of the history, and does not stand in it while it is unspent
+-- of two beginnings of one history, a share has seen the longer
+abbrev pub Longer : List ℕ → List ℕ → List ℕ → Type 0
+Longer one other both = GoesOn both one × GoesOn both other × ((both ≡ one) ⊎ (both ≡ other))
+
+-- a share may be given as often as before, and is one of as many
+abbrev pub SameShare : ShareView → ShareView → Type 0
+SameShare old new = (new.unspent ≡ old.unspent) × (new.of ≡ old.of)
+
+-- a share has seen a beginning of the history, as has whom it hears, and does not stand in it while it is unspent
 pub record FitsShare (n : ℕ) (log : List ℕ) (by : ℕ) (v : ShareView) : Type 0 where
   pub seen : GoesOn log v.seen
-  pub of : v.of ≡ n
+  pub heard : GoesOn log v.heard
+  pub of : 0 < v.unspent → v.of ≡ n
   pub fresh : 0 < v.unspent → times_given by log ≡ 0
 
 -- there is one history of gives, in which each share stands at most once; the word is how many shares are left, and the seats hold as many
@@ -54,9 +75,9 @@ pub record Gives (before : List ℕ) (by : ℕ) (old new : ShareView) : Type 0 w
   pub once : (other : ℕ) → times_given other new.seen ≤ 1
   pub spends : new.unspent + 1 ≡ old.unspent
 
--- a give that found so many shares left
+-- a give that found so many shares left, its own among them
 abbrev pub CountsFrom : ℕ → ShareView → ShareView → Type 0
-CountsFrom found old new = (before : List ℕ) × (by : ℕ) × Gives before by old new × (found + length before ≡ old.of) × (new.of ≡ old.of)
+CountsFrom found old new = (before : List ℕ) × (by : ℕ) × Gives before by old new × (found + length before ≡ old.of) × (new.of ≡ old.of) × (0 < found)
 
 -- a share was given
 abbrev pub Given : ShareView → ShareView → Type 0

@@ -1,8 +1,8 @@
 -- A count latch and its shares, as contracts name them.
 use Rattle.std.specs.Prelude.{◌≡◌, ℕ, List, []}
 use Rattle.parallel_pool.specs.declared.latch.count_latch.CountLatch.{CountLatch}
-use Rattle.parallel_pool.specs.declared.latch.shares.CountShare.{CountShare}
-use Rattle.parallel_pool.specs.declared.latch.shares.ShareView.{ShareView}
+use Rattle.parallel_pool.specs.declared.latch.count_share.CountShare.{CountShare}
+use Rattle.parallel_pool.specs.declared.latch.count_share.ShareView.{ShareView}
 
 -- how many shares the latch was made of
 abbrev pub shares_of : CountLatch → ℕ

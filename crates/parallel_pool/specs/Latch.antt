@@ -1,7 +1,7 @@
 -- A core latch and its seats, as contracts name them.
 use Rattle.std.specs.Prelude.{◌≡◌, []}
 use Rattle.parallel_pool.specs.declared.latch.core_latch.CoreLatch.{CoreLatch}
-use Rattle.parallel_pool.specs.declared.latch.seats.LatchSeat.{LatchSeat}
+use Rattle.parallel_pool.specs.declared.latch.latch_seat.LatchSeat.{LatchSeat}
 use Rattle.parallel_pool.specs.declared.latch.history.View.{View}
 
 -- the seat is one of this latch

@@ -1,5 +1,5 @@
 -- The history of a core latch, what a seat has seen of it, and what a call says of both.
-use Rattle.std.specs.Prelude.{◌≡◌, ℕ, ◌≤◌, ◌==◌, cond, List, [], ◌∷◌, ◌++◌, length}
+use Rattle.std.specs.Prelude.{◌≡◌, ℕ, ◌≤◌, ◌⊎◌, ◌==◌, cond, List, [], ◌∷◌, ◌++◌, length}
 use mathlib.Core.Option.{some}
 use lib.ListN.{get_elem?}
 use Rattle.parallel_pool.specs.declared.latch.history.Act.{Act}
@@ -13,11 +13,19 @@ call by act = record { by = by; act = act }
 
 -- what a seat knows that has seen these calls, of which these are its own
 abbrev pub view : List Call → List Act → View
-view seen own = record { seen = seen; own = own }
+view seen own = record { seen = seen; own = own; heard = [] }
 
 -- a seat that has seen no call
 abbrev pub newcomer : View
 newcomer = view [] []
+
+-- what a new seat knows that tells what another has seen
+abbrev pub telling : View → View
+telling v = view v.seen []
+
+-- what a seat knows while it is told what another has seen
+abbrev pub hearing : View → View → View
+hearing v w = record { seen = v.seen; own = v.own; heard = w.seen }
 
 -- the calls of one seat in a history
 abbrev pub acts_of : ℕ → List Call → List Act
@@ -28,9 +36,9 @@ acts_of by (c ∷ cs) = cond (c.by == by) (c.act ∷ acts_of by cs) (acts_of by 
 abbrev pub Begins : List Call → List Call → Type 0
 Begins log seen = (rest : List Call) × (log ≡ seen ++ rest)
 
--- a seat has seen a beginning of the history, and its own acts are all that the history has of it
+-- a seat has seen a beginning of the history, as has whom it hears, and its own acts are all that the history has of it
 abbrev pub Fits : List Call → ℕ → View → Type 0
-Fits log by v = Begins log v.seen × (acts_of by log ≡ v.own)
+Fits log by v = Begins log v.seen × Begins log v.heard × (acts_of by log ≡ v.own)
 
 -- there is one history, whose phase is in the word: it fits each seat, and has the calls of no others
 abbrev pub IsHistoryOf : List ℕ → List View → Type 0
@@ -50,6 +58,14 @@ pub record Makes (act : Act) (before : List Call) (by : ℕ) (old new : View) : 
 -- a seat made one call of this kind, and `said` holds of the phase that the call found, to which the history before it leads
 abbrev pub Called : Act → (Phase → Type 0) → View → View → Type 0
 Called act said old new = (before : List Call) × (by : ℕ) × Makes act before by old new × said (phase_after before)
+
+-- of two beginnings of one history, a seat has seen the longer
+abbrev pub Longer : List Call → List Call → List Call → Type 0
+Longer one other both = Begins both one × Begins both other × ((both ≡ one) ⊎ (both ≡ other))
+
+-- a seat has learnt what another had seen, and did nothing else
+abbrev pub Learns : View → View → View → Type 0
+Learns old other new = Longer old.seen other.seen new.seen × (new.own ≡ old.own)
 
 -- a seat has seen or made the latch set
 abbrev pub HasSeenSet : View → Type 0

@@ -10,4 +10,10 @@ pub mod Counters
 pub mod Standings
 pub mod IdleState
 pub mod Sleepers
+pub mod SleepTries
 pub mod Blocks
+pub mod PlannedThreads
+pub mod JobHistory
+pub mod Broadcast
+pub mod JobSeat
+pub mod JobQueues

@@ -1,17 +1,17 @@
 // Latches: what one thread waits on until another has set it.
 pub mod core_latch;
 pub mod count_latch;
+pub mod count_share;
 pub mod history;
+pub mod latch_seat;
 pub mod lock_latch;
 pub mod once_latch;
-pub mod seats;
-pub mod shares;
 pub mod spin_latch;
 
 pub use core_latch::CoreLatch;
 pub use count_latch::CountLatch;
+pub use count_share::CountShare;
+pub use latch_seat::LatchSeat;
 pub use lock_latch::LockLatch;
 pub use once_latch::OnceLatch;
-pub use seats::LatchSeat;
-pub use shares::CountShare;
 pub use spin_latch::SpinLatch;

@@ -1,5 +1,8 @@
 // What no clause says: worked values, each call on its happy path, and waits across threads.
 mod count_latches;
+mod environments;
+mod jobs;
 mod latches;
+mod limits;
 mod sleeps;
 mod threads;

@@ -3,8 +3,9 @@ ghost use Rattle.std.specs.Prelude.{◌≡◌};
 ghost use Rattle.std.specs.NonZero.{non_zero_usize_get};
 
 use crate::latch::history::View;
-use crate::latch::seats::{
-    FallsAsleep, GetsSleepy, LatchSeat, OneHistory, Probes, Seating, Sets, WakesUp,
+use crate::latch::latch_seat::{
+    FallsAsleep, GetsSleepy, Hearing, LatchSeat, Learning, OneHistory, Probes, Seating, Sets,
+    Telling, WakesUp,
 };
 use atomic_table::{Seat, Table};
 use parallel_fault::Fault;
@@ -34,7 +35,7 @@ pub struct CoreLatch {
 impl CoreLatch {
     ghost use Rattle.std.specs.Prelude.{◌≡◌, ◌↔◌, All, IfErr, IfOk, IsTrue, false, vec_len, ⊤};
     ghost use Rattle.parallel_pool.specs.LatchMoves.{is_unset, is_sleepy, is_sleeping, is_latched};
-    ghost use Rattle.parallel_pool.specs.LatchHistory.{newcomer, Called, HasSeenSet};
+    ghost use Rattle.parallel_pool.specs.LatchHistory.{newcomer, Called, HasSeenSet, Learns};
     ghost use Rattle.parallel_pool.specs.Latch.{IsSeatOf, known};
     ghost use Rattle.parallel_pool.specs.declared.latch.history.Act.TheVariants.{GetSleepy, FallAsleep, WakeUp, Set, Probe};
 
@@ -135,5 +136,24 @@ impl CoreLatch {
         ensures seat { IsSeatOf self.now seat.new }
     {
         self.table.shared.load::<Probes>(&mut seat.seat, 0) == SET
+    }
+
+    /// Lets a seat learn what another has seen. There is one history: of two seats of one latch,
+    /// what the one has seen begins what the other has. It is no call of the latch.
+    pub fn learn(&self, seat: &mut LatchSeat, other: &mut LatchSeat)
+        requires seat { IsSeatOf self.now seat.old }
+        requires other { IsSeatOf self.now other.old }
+        ensures learns { Learns (known seat.old) (known other.old) (known seat.new) }
+        ensures stays { HasSeenSet (known seat.old) → HasSeenSet (known seat.new) }
+        ensures told { HasSeenSet (known other.old) → HasSeenSet (known seat.new) }
+        ensures same { known other.new ≡ known other.old }
+        ensures seat { IsSeatOf self.now seat.new }
+        ensures other { IsSeatOf self.now other.new }
+    {
+        let teller = self.table.shared.split_seat::<Telling>(&mut other.seat);
+        self.table
+            .shared
+            .join_seat::<Hearing>(&mut seat.seat, teller);
+        self.table.shared.load::<Learning>(&mut seat.seat, 0);
     }
 }

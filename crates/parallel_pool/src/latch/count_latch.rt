@@ -2,7 +2,9 @@
 ghost use Rattle.std.specs.Prelude.{◌≡◌};
 ghost use Rattle.std.specs.NonZero.{non_zero_usize_get};
 
-use crate::latch::shares::{CountShare, CountsDown, EachOnce, SeesCount, ShareView, Sharing};
+use crate::latch::count_share::{
+    CountShare, CountsDown, EachOnce, Hearing, Learning, SeesCount, ShareView, Sharing, Telling,
+};
 use atomic_table::Table;
 use parallel_fault::Fault;
 use std::alloc::Global;
@@ -26,7 +28,7 @@ pub struct CountLatch {
 
 impl CountLatch {
     ghost use Rattle.std.specs.Prelude.{◌≡◌, ◌≤◌, ◌-◌, ◌<◌, ℕ, ◌↔◌, All, IfErr, IfOk, IsTrue, [], length, vec_len};
-    ghost use Rattle.parallel_pool.specs.CountHistory.{Given, times_given};
+    ghost use Rattle.parallel_pool.specs.CountHistory.{Given, Longer, times_given};
     ghost use Rattle.parallel_pool.specs.CountLatch.{IsShareOf, shares_of, knows, unspent, gives_seen};
 
     /// A latch of `count` shares, and the shares, of which each has seen no give yet.
@@ -83,6 +85,7 @@ impl CountLatch {
         requires unspent { unspent share.old ≡ 1 }
         ensures given { Given (knows share.old) (knows share.new) }
         ensures last { IsTrue result ↔ (length (gives_seen share.new) ≡ shares_of self.now) }
+        ensures at_most { length (gives_seen share.new) ≤ shares_of self.now }
         ensures spent { unspent share.new ≡ 0 }
         ensures belongs { IsShareOf self.now share.new }
     {
@@ -95,6 +98,24 @@ impl CountLatch {
             self.table.shared.wake_all(0);
         }
         is_last
+    }
+
+    /// Lets a share learn which gives another has seen. There is one history: of two shares of one
+    /// latch, the gives that the one has seen begin those that the other has.
+    pub fn learn(&self, share: &mut CountShare, other: &mut CountShare)
+        requires share { IsShareOf self.now share.old }
+        requires other { IsShareOf self.now other.old }
+        ensures learns { Longer (gives_seen share.old) (gives_seen other.old) (gives_seen share.new) }
+        ensures unspent { unspent share.new ≡ unspent share.old }
+        ensures same { knows other.new ≡ knows other.old }
+        ensures share { IsShareOf self.now share.new }
+        ensures other { IsShareOf self.now other.new }
+    {
+        let teller = self.table.shared.split_seat::<Telling>(&mut other.seat);
+        self.table
+            .shared
+            .join_seat::<Hearing>(&mut share.seat, teller);
+        self.table.shared.load::<Learning>(&mut share.seat, 0);
     }
 
     /// Waits until all shares were given. The answer is a spent share that has seen them all.

@@ -18,9 +18,12 @@ pub struct Call {
     pub act: Act,
 }
 
-/// What a seat knows of its core latch: the history as far as the seat has seen it, and the acts in
-/// it that are the seat's own. No value of it is made.
+/// What a seat knows of its core latch. No value of it is made.
 pub struct View {
+    /// The history, as far as the seat has seen it.
     pub seen: LinkedList<Call>,
+    /// The acts in it that are the seat's own.
     pub own: LinkedList<Act>,
+    /// What another seat has seen of the history, while it is being told.
+    pub heard: LinkedList<Call>,
 }

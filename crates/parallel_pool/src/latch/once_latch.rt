@@ -3,7 +3,7 @@ ghost use Rattle.std.specs.Prelude.{◌≡◌};
 ghost use Rattle.std.specs.NonZero.{non_zero_usize_get};
 
 use crate::latch::core_latch::CoreLatch;
-use crate::latch::seats::LatchSeat;
+use crate::latch::latch_seat::LatchSeat;
 use parallel_fault::Fault;
 use std::alloc::Global;
 use std::num::NonZeroUsize;

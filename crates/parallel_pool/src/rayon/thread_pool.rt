@@ -1,7 +1,10 @@
 // A pool that holds a number of threads, and the call that runs a closure on a worker.
-ghost use Rattle.std.specs.Prelude.{◌≡◌, ◌≤◌, min};
+ghost use Rattle.std.specs.Prelude.{◌≡◌, ◌≤◌, ◌<◌, ℕ, min, vec_len, slice_index_or, IfErr, IfOk};
 ghost use Rattle.std.specs.NonZero.{non_zero_usize_get};
 
+use crate::rayon::broadcast_context::BroadcastContext;
+use parallel_fault::Fault;
+use std::alloc::Global;
 use std::num::NonZeroUsize;
 use std::thread;
 use std::thread::Threads;
@@ -21,6 +24,7 @@ pub struct ThreadPool {
 
 impl ThreadPool {
     ghost use Rattle.parallel_pool.specs.ThreadPool.{thread_count};
+    ghost use Rattle.parallel_pool.specs.Broadcast.{context};
 
     /// A pool of `num_threads` threads, or of `MAX_THREADS` where that is fewer.
     pub fn new(num_threads: NonZeroUsize) -> ThreadPool
@@ -61,6 +65,36 @@ impl ThreadPool {
         ensures { F.post op result }
     {
         install(rt, op)
+    }
+
+    /// Runs `op` once for each of the pool's threads and lists the answers, by index.
+    ///
+    /// Each call runs on a scoped worker where the system makes one. `Fault::Memory` where the list
+    /// can't grow; the answers so far are dropped.
+    pub fn broadcast<R: Threads + Sync, T: Send + Drop, F: Fn(BroadcastContext) -> T + Sync>(
+        &self,
+        rt: &R,
+        alloc: Global,
+        op: &F,
+    ) -> Result<Vec<T>, Fault>
+        requires { (index : ℕ) → index < thread_count self.now
+            → F.pre op.now (context index (thread_count self.now)) }
+        ensures count { IfOk result (λ answers. vec_len answers ≡ thread_count self.now) }
+        ensures each { IfOk result (λ answers. (index : ℕ) (other : _) → index < thread_count self.now
+            → F.post op.now (context index (thread_count self.now)) (slice_index_or answers.items index other)) }
+        ensures fault { IfErr result (λ refusal. refusal ≡ Fault.Memory) }
+    {
+        let num_threads = self.current_num_threads();
+        let answers = thread::map_indices(
+            rt,
+            alloc,
+            num_threads,
+            &|index: usize| -> T
+                requires { F.pre op.now (context index num_threads) }
+                ensures { F.post op.entry.now (context index num_threads) result }
+            { op(BroadcastContext { index, num_threads }) },
+        )?;
+        Ok(answers)
     }
 }
 

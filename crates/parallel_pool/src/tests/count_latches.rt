@@ -1,11 +1,22 @@
 // A latch of shares.
-ghost use Rattle.std.specs.Prelude.{◌≡◌, All, IfOk, IfSome};
-ghost use Rattle.parallel_pool.specs.CountLatch.{IsShareOf, unspent};
+ghost use Rattle.std.specs.Prelude.{◌≡◌, All, IfOk, IfSome, false, true};
+ghost use Rattle.parallel_pool.specs.CountLatch.{IsShareOf, shares_of, unspent};
 
 use crate::latch::{CountLatch, CountShare};
 use std::alloc::Global;
 use std::num::NonZeroUsize;
 use std::test::Fail;
+
+// The last share of a list.
+fn take_one(latch: &CountLatch, shares: &mut Vec<CountShare>) -> Option<CountShare>
+    requires belong { All (IsShareOf latch.now) shares.old.items }
+    requires unspent { All (λ share. unspent share ≡ 1) shares.old.items }
+    ensures share { IfSome result (λ share. IsShareOf latch.now share × (unspent share ≡ 1)) }
+    ensures belong { All (IsShareOf latch.now) shares.new.items }
+    ensures unspent { All (λ share. unspent share ≡ 1) shares.new.items }
+{
+    shares.pop()
+}
 
 // Gives the last share of a list, and answers whether it was the last of the latch.
 pub(crate) fn give_one(latch: &CountLatch, shares: &mut Vec<CountShare>) -> Option<bool>
@@ -14,19 +25,41 @@ pub(crate) fn give_one(latch: &CountLatch, shares: &mut Vec<CountShare>) -> Opti
     ensures belong { All (IsShareOf latch.now) shares.new.items }
     ensures unspent { All (λ share. unspent share ≡ 1) shares.new.items }
 {
-    let mut share = shares.pop()?;
+    let mut share = take_one(latch, shares)?;
     Some(latch.give(&mut share))
+}
+
+// Of three shares the third that is given is the last: each share learns which gives the one before
+// it has seen, its own among them.
+fn give_three(
+    latch: &CountLatch,
+    first: &mut CountShare,
+    second: &mut CountShare,
+    third: &mut CountShare,
+) -> (bool, bool, bool)
+    requires three { shares_of latch.now ≡ 3 }
+    requires belong { IsShareOf latch.now first.old × IsShareOf latch.now second.old × IsShareOf latch.now third.old }
+    requires unspent { (unspent first.old ≡ 1) × (unspent second.old ≡ 1) × (unspent third.old ≡ 1) }
+    ensures { result ≡ (false, false, true) }
+{
+    let one = latch.give(first);
+    latch.learn(second, first);
+    let two = latch.give(second);
+    latch.learn(third, second);
+    let three = latch.give(third);
+    (one, two, three)
 }
 
 #[test]
 fn the_third_of_three_shares_is_the_last(rt: HostRuntime) -> Result<(), Fail> {
     let three = NonZeroUsize::MIN.saturating_add(2);
     let (latch, mut shares) = CountLatch::with_count(rt.alloc(), three)?;
-    assert_eq!(rt; shares.len(), 3);
-    assert_eq!(rt; give_one(&latch, &mut shares), Some(false));
-    assert_eq!(rt; give_one(&latch, &mut shares), Some(false));
-    assert_eq!(rt; give_one(&latch, &mut shares), Some(true));
+    let mut first = take_one(&latch, &mut shares).ok_or("a share")?;
+    let mut second = take_one(&latch, &mut shares).ok_or("a share")?;
+    let mut third = take_one(&latch, &mut shares).ok_or("a share")?;
     assert_eq!(rt; give_one(&latch, &mut shares), None);
+    let given = give_three(&latch, &mut first, &mut second, &mut third);
+    assert_eq!(rt; given, (false, false, true));
     let _seen = latch.wait(&rt);
     Ok(())
 }

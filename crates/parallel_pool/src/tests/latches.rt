@@ -1,5 +1,5 @@
 // The core latch, and the latches that say which worker to wake.
-ghost use Rattle.std.specs.Prelude.{◌≡◌, IfOk};
+ghost use Rattle.std.specs.Prelude.{◌≡◌, IfOk, true};
 ghost use Rattle.parallel_pool.specs.Latch.{IsSeatOf};
 ghost use Rattle.parallel_pool.specs.SpinLatch.{core_of as core_of_spin};
 ghost use Rattle.parallel_pool.specs.OnceLatch.{core_of as core_of_once};
@@ -68,11 +68,25 @@ fn a_woken_worker_may_get_sleepy_again(rt: HostRuntime) -> Result<(), Fail> {
     Ok(())
 }
 
+// Whoever has learnt what the setter has seen, finds the latch set.
+fn set_and_tell(latch: &CoreLatch, setter: &mut LatchSeat, prober: &mut LatchSeat) -> bool
+    requires setter { IsSeatOf latch.now setter.old }
+    requires prober { IsSeatOf latch.now prober.old }
+    ensures { result ≡ true }
+{
+    latch.set(setter);
+    latch.learn(prober, setter);
+    latch.probe(prober)
+}
+
 #[test]
-fn as_many_seats_as_asked_for(rt: HostRuntime) -> Result<(), Fail> {
+fn what_one_seat_has_seen_another_may_learn(rt: HostRuntime) -> Result<(), Fail> {
     let three = NonZeroUsize::MIN.saturating_add(2);
-    let (_latch, seats) = CoreLatch::new(rt.alloc(), three)?;
+    let (latch, mut seats) = CoreLatch::new(rt.alloc(), three)?;
     assert_eq!(rt; seats.len(), 3);
+    let mut setter = seats.pop().ok_or("a seat")?;
+    let mut prober = seats.pop().ok_or("a seat")?;
+    assert!(rt; set_and_tell(&latch, &mut setter, &mut prober));
     Ok(())
 }
 

@@ -33,7 +33,7 @@ fn a_lock_latch_ends_a_wait(rt: HostRuntime) {
 }
 
 // Gives all shares, and counts those that were the last.
-fn give_all(latch: &CountLatch, mut shares: Vec<CountShare>) -> u32
+pub(crate) fn give_all(latch: &CountLatch, mut shares: Vec<CountShare>) -> u32
     requires belong { All (IsShareOf latch.now) shares.items }
     requires unspent { All (λ share. unspent share ≡ 1) shares.items }
 {

@@ -1,0 +1,5 @@
+use Rattle.std.proofs.Common.{◌≡◌, vec_len}
+use Rattle.parallel_pool.proofs.rayon.job_queues.thieves.Given as goal
+
+abbrev pub invariant-loop-place : goal.invariant-loop-place
+invariant-loop-place g l = vec_len l.all ≡ l.place

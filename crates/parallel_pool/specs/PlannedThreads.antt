@@ -1,0 +1,26 @@
+-- For how many threads a pool is planned.
+use Rattle.std.specs.Prelude.{◌≡◌, ℕ, ◌<◌, ◌^◌, ◌==◌, List, Option, None, Some, MatchOption, if◌then◌else◌}
+use Rattle.std.specs.Str.Parse.{IsNumeral, digits_value, without_leading_plus}
+
+-- the text writes a number of 64 bits: decimal digits, before which a plus may stand
+abbrev pub IsNumberText : List ℕ → Type 0
+IsNumberText text = IsNumeral 10 (without_leading_plus text) × (digits_value 10 (without_leading_plus text) < 2 ^ 64)
+
+-- the number that a text writes, where it writes one
+abbrev pub Writes : List ℕ → Option ℕ → Type 0
+Writes text number = MatchOption number (¬ (IsNumberText text)) (λ n. IsNumberText text × (n ≡ digits_value 10 (without_leading_plus text)))
+
+-- by the second text: a number above 0, or else the machine's
+abbrev pub by_cpus : Option ℕ → ℕ → ℕ
+by_cpus None machine = machine
+by_cpus (Some n) machine = if n == 0 then machine else n
+
+-- by both texts: the first one's number, where 0 stands for the machine's; without one, by the second
+abbrev pub by_texts : Option ℕ → Option ℕ → ℕ → ℕ
+by_texts None cpus machine = by_cpus cpus machine
+by_texts (Some n) cpus machine = if n == 0 then machine else n
+
+-- what a number is that may be missing, and what stands in for it
+abbrev pub number_or : {A : Type 0} → ℕ → (A → ℕ) → Option A → ℕ
+number_or other number None = other
+number_or other number (Some a) = number a

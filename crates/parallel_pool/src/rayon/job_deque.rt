@@ -1,0 +1,59 @@
+// A worker's own deque.
+use crate::rayon::job_history::{JobView, Numbered, Pushes, TakesLast};
+use crate::rayon::owned_job::OwnedJob;
+use crate::rayon::thief_port::Thief;
+use crossbeam_deque::Worker;
+use std::alloc::{AllocError, Global};
+use std::marker::Model;
+
+/// A worker's own deque: the job that was pushed last comes first. Contracts see what the worker
+/// knows of the deque.
+#[derive(Drop)]
+pub struct JobDeque<T: Drop = OwnedJob> {
+    own: Worker<T, Global, JobView<T>, Numbered>,
+}
+
+impl<T: Drop> Model for JobDeque<T> {
+    ghost use Rattle.std.specs.Prelude.{◌≡◌};
+    ghost use Rattle.crossbeam_deque.specs.Handles.{worker_flavor, worker_view};
+    ghost use Rattle.parallel_pool.specs.declared.rayon.job_history.JobView.{JobView};
+
+    ghost Value = { JobView T };
+
+    ghost view = { λ p. worker_view p.own };
+
+    ghost invariant = { λ p. worker_flavor p.own ≡ 1 };
+}
+
+impl<T: Drop> JobDeque<T> {
+    ghost use Rattle.std.specs.Prelude.{◌≡◌, IfOk, MatchOption, MatchResult, false};
+    ghost use Rattle.parallel_pool.specs.JobHistory.{HasPushed, HasTaken, newcomer};
+    ghost use Rattle.parallel_pool.specs.declared.rayon.job_history.Deed.TheVariants.{TakeLast};
+
+    /// A deque to which nothing was pushed yet, with room for 32 jobs before it has to grow.
+    pub(crate) fn new(alloc: Global) -> Result<JobDeque<T>, AllocError>
+        ensures { IfOk result (λ deque. deque ≡ newcomer) }
+    {
+        let own = Worker::lifo_as(alloc, 32)?;
+        Ok(JobDeque { own })
+    }
+
+    /// What takes jobs at the front of the deque.
+    pub(crate) fn thief(&self) -> Result<Thief<T>, AllocError> {
+        self.own.stealer()
+    }
+
+    /// Pushes a job behind the others. An Err hands it back where there is no memory for it.
+    pub fn push(&mut self, job: T) -> Result<(), T>
+        ensures { MatchResult result (λ _. HasPushed self.old job self.new) (λ back. (back ≡ job) × (self.new ≡ self.old)) }
+    {
+        self.own.push_as::<Pushes>(job)
+    }
+
+    /// Takes the last job, where there is one.
+    pub fn pop(&mut self) -> Option<T>
+        ensures { MatchOption result (self.new ≡ self.old) (λ job. HasTaken TakeLast false self.old job self.new) }
+    {
+        self.own.pop_as::<TakesLast>()
+    }
+}

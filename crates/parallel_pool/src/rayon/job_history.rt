@@ -1,0 +1,81 @@
+// The history of a queue of jobs, the rule that the queue and its passes keep, and what each step
+// tells.
+use crossbeam_deque::protocol::{Outcome, Protocol};
+use std::collections::LinkedList;
+
+/// What is done to a queue of jobs.
+#[derive(Clone, Copy, Debug)]
+pub enum Deed {
+    /// A job is pushed behind the others.
+    Push,
+    /// The first job is taken.
+    TakeFirst,
+    /// The last job is taken.
+    TakeLast,
+}
+
+/// One deed in the history of a queue of jobs. No value of it is made.
+pub struct Event<T> {
+    /// The number of the pass that did it.
+    pub by: u64,
+    pub deed: Deed,
+    /// The job's number in this queue: its pushes are numbered from 0 on.
+    pub number: u64,
+    pub job: T,
+    /// Whether the job was taken to be called at once.
+    pub called: bool,
+}
+
+/// What a pass knows of its queue. No value of it is made.
+pub struct JobView<T> {
+    /// The history, as far as the pass has seen it.
+    pub seen: LinkedList<Event<T>>,
+    /// The deeds in it that are the pass's own.
+    pub own: LinkedList<Event<T>>,
+}
+
+/// The rule: one history of pushes and takes leads to the jobs in the queue, and each pass has seen a
+/// beginning of it.
+pub struct Numbered;
+
+impl<T> Protocol<T, JobView<T>> for Numbered {
+    ghost use Rattle.parallel_pool.specs.JobHistory.{IsJobHistoryOf, newcomer};
+
+    ghost holds = { IsJobHistoryOf };
+
+    ghost first = { newcomer };
+
+    ghost guest = { newcomer };
+}
+
+/// The step of a push.
+pub(crate) struct Pushes;
+
+impl<T> Outcome<T, JobView<T>> for Pushes {
+    ghost use Rattle.std.specs.Prelude.{◌≡◌, [], ◌∷◌};
+    ghost use Rattle.parallel_pool.specs.JobHistory.{HasPushed};
+
+    ghost then = { λ v xs w. (x : _) → xs ≡ x ∷ [] → HasPushed v x w };
+}
+
+/// The step of a take of the first job.
+pub(crate) struct Takes;
+
+impl<T> Outcome<T, JobView<T>> for Takes {
+    ghost use Rattle.std.specs.Prelude.{◌≡◌, [], ◌∷◌, false};
+    ghost use Rattle.parallel_pool.specs.JobHistory.{HasTaken};
+    ghost use Rattle.parallel_pool.specs.declared.rayon.job_history.Deed.TheVariants.{TakeFirst};
+
+    ghost then = { λ v xs w. (x : _) → xs ≡ x ∷ [] → HasTaken TakeFirst false v x w };
+}
+
+/// The step of a take of the last job.
+pub(crate) struct TakesLast;
+
+impl<T> Outcome<T, JobView<T>> for TakesLast {
+    ghost use Rattle.std.specs.Prelude.{◌≡◌, [], ◌∷◌, false};
+    ghost use Rattle.parallel_pool.specs.JobHistory.{HasTaken};
+    ghost use Rattle.parallel_pool.specs.declared.rayon.job_history.Deed.TheVariants.{TakeLast};
+
+    ghost then = { λ v xs w. (x : _) → xs ≡ x ∷ [] → HasTaken TakeLast false v x w };
+}

@@ -1,0 +1,136 @@
+// One thread's views of a pool's queues, by which it pushes and takes jobs.
+use crate::rayon::inlet_port::InletPort;
+use crate::rayon::owned_job::OwnedJob;
+use crate::rayon::queue::Queue;
+use crate::rayon::thief_port::ThiefPort;
+use parallel_fault::Fault;
+use std::collections::VecDeque;
+use std::marker::Model;
+use std::sync::Wait;
+
+/// One thread's views of a pool's queues: what it has seen pushed and taken there, and what it pushed
+/// and took itself.
+///
+/// Contracts see it as `injected`, `broadcasts` and `deques`: what it knows of each queue. A call says
+/// of one queue that its history, as far as this seat had seen it, goes on and ends with the call; in
+/// that history each job that was taken was pushed, under the same number, and none was taken twice.
+#[derive(Drop)]
+pub struct JobSeat<T: Drop = OwnedJob> {
+    pub(crate) injected: InletPort<T>,
+    pub(crate) broadcasts: Vec<InletPort<T>>,
+    pub(crate) deques: Vec<ThiefPort<T>>,
+}
+
+impl<T: Drop> Model for JobSeat<T> {
+    ghost use Rattle.parallel_pool.specs.JobSeat.{SeatView};
+
+    ghost Value = { SeatView T };
+
+    ghost view = { λ s. record { injected = s.injected; broadcasts = s.broadcasts.items; deques = s.deques.items } };
+}
+
+impl<T: Drop> JobSeat<T> {
+    ghost use Rattle.std.specs.Prelude.{◌≡◌, ◌<◌, ◌≤◌, length, MatchOption, MatchResult, false};
+    ghost use Rattle.parallel_pool.specs.JobHistory.{HasPushed, HasTaken};
+    ghost use Rattle.parallel_pool.specs.JobSeat.{IsInlet, IsQueueOf, Does, PushesFrom, PushesSome};
+    ghost use Rattle.parallel_pool.specs.declared.rayon.job_history.Deed.TheVariants.{TakeFirst};
+    ghost use Rattle.parallel_pool.specs.declared.rayon.queue.Queue.TheVariants.{Injected, Broadcast, Deque};
+
+    /// Pushes a job to a queue. `Fault::Memory`, with the same job, where there is no memory for it.
+    pub fn push<R: Wait>(&mut self, rt: &R, queue: Queue, job: T) -> Result<(), (Fault, T)>
+        requires { IsInlet queue self.old }
+        ensures { MatchResult result (λ _. Does queue (λ v w. HasPushed v job w) self.old self.new)
+            (λ refused. (refused ≡ (Fault.Memory, job)) × (self.new ≡ self.old)) }
+    {
+        let pushed = match queue {
+            Queue::Injected => self.inject(rt, job),
+            Queue::Broadcast(worker) => self.push_for(rt, worker, job),
+            Queue::Deque(_) => Err(job),
+        };
+        match pushed {
+            Ok(()) => Ok(()),
+            Err(job) => Err((Fault::Memory, job)),
+        }
+    }
+
+    /// Pushes job 0 to the broadcast queue of worker 0, job 1 to that of worker 1, and so on.
+    ///
+    /// `Fault::Memory`, with the jobs that weren't pushed, in order, where there is no memory for one
+    /// of them; those before it stay pushed.
+    pub fn push_each<R: Wait>(
+        &mut self,
+        rt: &R,
+        mut jobs: VecDeque<T>,
+    ) -> Result<(), (Fault, VecDeque<T>)>
+        requires { length jobs.items ≤ length self.old.broadcasts }
+        ensures { MatchResult result (λ _. PushesFrom 0 jobs.items self.old self.new)
+            (λ refused. (refused.0 ≡ Fault.Memory) × PushesSome jobs.items refused.1.items self.old self.new) }
+    {
+        for worker in 0..jobs.len() {
+            let Some(job) = jobs.pop_front() else {
+                break;
+            };
+            if let Err(job) = self.push_for(rt, worker, job) {
+                jobs.push_front_reserved(job);
+                return Err((Fault::Memory, jobs));
+            }
+        }
+        Ok(())
+    }
+
+    // Pushes a job to the injected ones.
+    fn inject<R: Wait>(&mut self, rt: &R, job: T) -> Result<(), T>
+        ensures { MatchResult result (λ _. Does Injected (λ v w. HasPushed v job w) self.old self.new)
+            (λ back. (back ≡ job) × (self.new ≡ self.old)) }
+    {
+        self.injected.push(rt, job)
+    }
+
+    // Pushes a job to a worker's broadcast queue.
+    fn push_for<R: Wait>(&mut self, rt: &R, worker: usize, job: T) -> Result<(), T>
+        requires { worker < length self.old.broadcasts }
+        ensures { MatchResult result (λ _. Does (Broadcast worker) (λ v w. HasPushed v job w) self.old self.new)
+            (λ back. (back ≡ job) × (self.new ≡ self.old)) }
+    {
+        self.broadcasts[worker].push(rt, job)
+    }
+
+    /// Takes the first job of a queue, where there is one.
+    pub fn take<R: Wait>(&mut self, rt: &R, queue: Queue) -> Option<T>
+        requires { IsQueueOf queue self.old }
+        ensures { MatchOption result (self.new ≡ self.old)
+            (λ job. Does queue (λ v w. HasTaken TakeFirst false v job w) self.old self.new) }
+    {
+        match queue {
+            Queue::Injected => self.take_injected(rt),
+            Queue::Broadcast(worker) => self.take_broadcast(rt, worker),
+            Queue::Deque(worker) => self.steal(rt, worker),
+        }
+    }
+
+    // Takes the first of the injected jobs.
+    fn take_injected<R: Wait>(&mut self, rt: &R) -> Option<T>
+        ensures { MatchOption result (self.new ≡ self.old)
+            (λ job. Does Injected (λ v w. HasTaken TakeFirst false v job w) self.old self.new) }
+    {
+        self.injected.take(rt)
+    }
+
+    // Takes the first job of a worker's broadcast queue.
+    fn take_broadcast<R: Wait>(&mut self, rt: &R, worker: usize) -> Option<T>
+        requires { worker < length self.old.broadcasts }
+        ensures { MatchOption result (self.new ≡ self.old)
+            (λ job. Does (Broadcast worker) (λ v w. HasTaken TakeFirst false v job w) self.old self.new) }
+    {
+        self.broadcasts[worker].take(rt)
+    }
+
+    // Takes the first job of a worker's deque.
+    fn steal<R: Wait>(&mut self, rt: &R, worker: usize) -> Option<T>
+        requires { worker < length self.old.deques }
+        ensures { MatchOption result (self.new ≡ self.old)
+            (λ job. Does (Deque worker) (λ v w. HasTaken TakeFirst false v job w) self.old self.new) }
+    {
+        self.deques[worker].take(rt)
+    }
+}

@@ -1,0 +1,106 @@
+// Threads that sleep, which have to be woken within a limit of time.
+ghost use Rattle.std.specs.Prelude.{◌≡◌, All};
+ghost use Rattle.parallel_pool.specs.Latch.{IsSeatOf};
+
+use crate::latch::{CoreLatch, CountLatch, LatchSeat, LockLatch};
+use crate::sleep::Sleep;
+use crate::tests::latches::core_latch;
+use crate::tests::threads::give_all;
+use crossbeam_utils::sync::Parker;
+use std::num::NonZeroUsize;
+use std::sync::atomic::{AtomicU64, Ordering};
+use std::sync::{Arc, Wait};
+use std::test::Fail;
+use std::thread;
+use std::time::{Clock, Duration};
+
+// By then a thread that was started sleeps where it is to wait.
+fn let_it_sleep(rt: &impl Clock) {
+    thread::sleep(rt, Duration::from_millis(30));
+}
+
+// Whether a flag is raised within ten seconds.
+fn is_raised(rt: &impl Clock, flag: &AtomicU64) -> bool {
+    for _ in 0..10_000 {
+        if flag.load(Ordering::SeqCst) == 1 {
+            return true;
+        }
+        thread::sleep(rt, Duration::from_millis(1));
+    }
+    false
+}
+
+#[test]
+fn the_last_give_wakes_who_sleeps(rt: HostRuntime) -> Result<(), Fail> {
+    let two = NonZeroUsize::MIN.saturating_add(1);
+    let (latch, shares) = CountLatch::with_count(rt.alloc(), two)?;
+    let latch = Arc::new(rt.alloc(), latch)?;
+    let passed = Arc::new(rt.alloc(), AtomicU64::new(0))?;
+    let (theirs, flag) = (Arc::try_clone(&latch)?, Arc::try_clone(&passed)?);
+    let waiter = thread::spawn(&rt, move || {
+        theirs.wait(&rt);
+        flag.store(1, Ordering::SeqCst);
+    })?;
+    let_it_sleep(&rt);
+    assert_eq!(rt; passed.load(Ordering::SeqCst), 0);
+    assert_eq!(rt; give_all(&latch, shares), 1);
+    assert!(rt; is_raised(&rt, &passed));
+    waiter.join(&rt);
+    Ok(())
+}
+
+#[test]
+fn a_lock_latch_is_reset_and_wakes_who_sleeps(rt: HostRuntime) -> Result<(), Fail> {
+    let latch = Arc::new(rt.alloc(), LockLatch::new())?;
+    latch.set(&rt);
+    latch.wait_and_reset(&rt);
+    let passed = Arc::new(rt.alloc(), AtomicU64::new(0))?;
+    let (theirs, flag) = (Arc::try_clone(&latch)?, Arc::try_clone(&passed)?);
+    let waiter = thread::spawn(&rt, move || {
+        theirs.wait(&rt);
+        flag.store(1, Ordering::SeqCst);
+    })?;
+    let_it_sleep(&rt);
+    assert_eq!(rt; passed.load(Ordering::SeqCst), 0, "the latch was reset");
+    latch.set(&rt);
+    assert!(rt; is_raised(&rt, &passed));
+    waiter.join(&rt);
+    Ok(())
+}
+
+// An idle worker for which a job is always there, until it has tried to sleep. It answers whether it
+// starts at round 0, with an unset latch.
+fn idle_with_a_job<R: Wait>(
+    rt: &R,
+    sleep: &Sleep,
+    parker: &Parker,
+    latch: &CoreLatch,
+    mut seat: LatchSeat,
+) -> bool
+    requires { IsSeatOf latch.now seat }
+{
+    let Some(mut idle) = sleep.start_looking(rt, 0) else {
+        return false;
+    };
+    for _ in 0..34 {
+        sleep.no_work_found(rt, &mut idle, parker, latch, &mut seat, || true);
+    }
+    idle.rounds() == 0 && latch.get_sleepy(&mut seat)
+}
+
+#[test]
+fn a_worker_asks_for_jobs_before_it_sleeps(rt: HostRuntime) -> Result<(), Fail> {
+    let awake = Arc::new(rt.alloc(), AtomicU64::new(0))?;
+    let flag = Arc::try_clone(&awake)?;
+    let (sleep, mut parkers) = Sleep::new(rt.alloc(), NonZeroUsize::MIN)?;
+    let parker = parkers.pop().ok_or("a parker")?;
+    let (latch, seat) = core_latch(rt.alloc())?;
+    let worker = thread::spawn(&rt, move || {
+        if idle_with_a_job(&rt, &sleep, &parker, &latch, seat) {
+            flag.store(1, Ordering::SeqCst);
+        }
+    })?;
+    assert!(rt; is_raised(&rt, &awake));
+    worker.join(&rt);
+    Ok(())
+}
