@@ -1,9 +1,12 @@
 -- a call that is decided by a policy's choice, and measured
 use Rattle.std.specs.Prelude.{◌≡◌, ℕ, ◌-◌, Bool, Ok, Err, Result, MatchBool}
+use Rattle.std.specs.Borrow.{MutBor}
+use Rattle.std.specs.Fn.{Once, Mut, Called}
 use Rattle.parallel_fault.specs.declared.fault.Fault.TheVariants.{Memory}
 use Rattle.parallel_fault.specs.declared.fault.Trouble.{Trouble}
 use Rattle.parallel_fault.specs.declared.fault.Trouble.TheVariants.{Closure, Fault as OfFault}
 use Rattle.parallel_policy.specs.declared.execution.RunExecution.{RunExecution}
+use Rattle.parallel_policy.specs.declared.execution.RunExecution.TheVariants.{Serial}
 
 -- the answer is one that a body allows on this path, and there was no refusal
 abbrev pub AnswersOn : {R E : Type 0} → (RunExecution → Result R E → Type 0) → RunExecution → Result R (Trouble E) → Type 0
@@ -17,13 +20,57 @@ DecidesAs allowed (Ok r) = (path : RunExecution) × allowed path (Ok r)
 DecidesAs allowed (Err (Closure e)) = (path : RunExecution) × allowed path (Err e)
 DecidesAs allowed (Err (OfFault f)) = f ≡ Memory
 
--- one sample was recorded, of the path and of the time between two readings of a clock, a reading that went back as 0
-abbrev pub RecordsOnce : {C : Type 0} → (C → RunExecution → ℕ → C → Type 0) → (ℕ → Type 0) → C → RunExecution → C → Type 0
-RecordsOnce records reads chosen path new = (start : ℕ) × (stop : ℕ) × reads start × reads stop × records chosen path (stop - start) new
+-- a reading of a clock, which goes on by it
+abbrev pub ReadsAs : {C : Type 0} → Mut C (Unit {0}) ℕ → C → ℕ → C → Type 0
+ReadsAs g earlier reading later = Called g earlier tt reading later
 
--- the choices went on by one choice, on whose path the body allows the answer, and where it was measured and Ok by one sample of that path, and by nothing else; a refused choice is a want of memory
-abbrev pub Decides : {C R E : Type 0} → (RunExecution × Bool → C → Type 0) → (C → RunExecution → ℕ → C → Type 0) → (C → Type 0) → (ℕ → Type 0) → (RunExecution → Result R E → Type 0) → Result R (Trouble E) → C → Type 0
-Decides chooses records refused reads allowed (Ok r) new = (path : RunExecution) × (measured : Bool) × (chosen : _) × chooses (path, measured) chosen × allowed path (Ok r)
-    × MatchBool measured (RecordsOnce records reads chosen path new) (new ≡ chosen)
-Decides chooses records refused reads allowed (Err (Closure e)) new = (path : RunExecution) × (measured : Bool) × chooses (path, measured) new × allowed path (Err e)
-Decides chooses records refused reads allowed (Err (OfFault f)) new = (f ≡ Memory) × refused new
+-- a body that is lent a clock may answer r on this path, and leave the clock as the later one
+pub record RunsWith {F C R : Type 0} (g : Once F (MutBor C × (RunExecution × Unit {0})) (R × (MutBor C × Unit {0})))
+    (body : F) (earlier : C) (path : RunExecution) (r : R) (later : C) : Type 0 where
+  pub lent : MutBor C
+  pub lends : lent.now ≡ earlier
+  pub left : MutBor C
+  pub met : g.post body (lent, (path, tt)) (r, (left, tt))
+  pub leaves : left.now ≡ later
+
+-- the body may answer r on this path, at some state of the clock
+abbrev pub RunsSomewhen : {F C R : Type 0} → Once F (MutBor C × (RunExecution × Unit {0})) (R × (MutBor C × Unit {0})) → F → RunExecution → R → Type 0
+RunsSomewhen {C = C} g body path r = (earlier : C) × (later : C) × RunsWith g body earlier path r later
+
+-- planned for one thread: the body ran on the serial path, and the clock wasn't read
+abbrev pub RunsSerially : {C R E : Type 0} → (C → RunExecution → Result R E → C → Type 0) → Result R (Trouble E) → C → C → Type 0
+RunsSerially runs result earlier later = AnswersOn (λ path r. runs earlier path r later) Serial result
+
+module _ {S Q C R E : Type 0} (chooses : S → Q → ℕ → RunExecution × Bool → S → Type 0) (records : S → Q → RunExecution → ℕ → S → Type 0)
+    (refused : S → Q → S → Type 0) (reads : C → ℕ → C → Type 0) (runs : C → RunExecution → Result R E → C → Type 0) where
+  -- a measured run that answered: the clock was read, then the body ran, then the clock was read again; and one sample was
+  -- recorded, of the path and of the time between the two readings, a clock that went back as 0
+  pub record RecordsOnce (chosen : S) (key : Q) (path : RunExecution) (earlier : C) (r : R) (new : S) (later : C) : Type 0 where
+    pub start : ℕ
+    pub started : C
+    pub starts : reads earlier start started
+    pub ended : C
+    pub runs_between : runs started path (Ok r) ended
+    pub stop : ℕ
+    pub stops : reads ended stop later
+    pub recorded : records chosen key path (stop - start) new
+
+  -- a run that isn't measured: the body ran, the clock wasn't read, and nothing was recorded
+  pub record RecordsNothing (chosen : S) (path : RunExecution) (earlier : C) (r : R) (new : S) (later : C) : Type 0 where
+    pub runs_alone : runs earlier path (Ok r) later
+    pub same : new ≡ chosen
+
+  -- a measured run that failed: the clock was read, then the body ran
+  pub record FailsMeasured (path : RunExecution) (earlier : C) (e : E) (later : C) : Type 0 where
+    pub start : ℕ
+    pub started : C
+    pub starts : reads earlier start started
+    pub fails : runs started path (Err e) later
+
+  -- the choices went on by one choice, on whose path the body ran, and where it was measured and answered by one sample, and by nothing else; a refused choice is a want of memory, and nothing ran
+  abbrev pub Decides : S → Q → ℕ → C → Result R (Trouble E) → S → C → Type 0
+  Decides old key parallelism earlier (Ok r) new later = (path : RunExecution) × (measured : Bool) × (chosen : S) × chooses old key parallelism (path, measured) chosen
+      × MatchBool measured (RecordsOnce chosen key path earlier r new later) (RecordsNothing chosen path earlier r new later)
+  Decides old key parallelism earlier (Err (Closure e)) new later = (path : RunExecution) × (measured : Bool) × chooses old key parallelism (path, measured) new
+      × MatchBool measured (FailsMeasured path earlier e later) (runs earlier path (Err e) later)
+  Decides old key parallelism earlier (Err (OfFault f)) new later = (f ≡ Memory) × refused old key new × (later ≡ earlier)

@@ -1,5 +1,5 @@
 -- a policy's entries, by their keys
-use Rattle.std.specs.Prelude.{◌≡◌, ℕ, Bool, false, Option, unwrap_or, IsSome, ◌∷◌}
+use Rattle.std.specs.Prelude.{◌≡◌, ◌⊎◌, ℕ, Bool, false, Option, unwrap_or, IsSome, ◌∷◌}
 use Rattle.std.specs.HashMap.{get}
 use Rattle.parallel_policy.specs.declared.execution.RunExecution.{RunExecution}
 use Rattle.parallel_policy.specs.declared.history.RunEvent.TheVariants.{Chosen, Sampled}
@@ -49,8 +49,19 @@ pub record ChoosesRun (old : Table) (key : Key) (parallelism : ℕ) (answer : Ru
   pub others : HasOtherRuns old new key
   pub spawns : HasSameSpawns old new
 
--- a record carried a table on: the history that the key's entry holds is longer by the sample, and no other entry changed
+-- the history that the key's entry of runs holds is longer by the sample
+abbrev pub AddsSample : Table → Key → RunExecution → ℕ → Table → Type 0
+AddsSample old key execution sample new = (history : RunHistory) → HoldsRunAt old key history → HoldsRunAt new key (Sampled execution sample ∷ history)
+
+-- a record carried a table on: the history that the key's entry holds is longer by the sample, but where a new entry was refused; no other entry changed
 pub record RecordsRun (old : Table) (key : Key) (execution : RunExecution) (sample : ℕ) (new : Table) : Type 0 where
-  pub holds : (history : RunHistory) → HoldsRunAt old key history → HoldsRunAt new key (Sampled execution sample ∷ history)
+  pub known : IsSome (run_of old key) → AddsSample old key execution sample new
+  pub unknown : AddsSample old key execution sample new ⊎ HasSameRuns old new
   pub others : HasOtherRuns old new key
+  pub spawns : HasSameSpawns old new
+
+-- a choice was refused: the key has no entry, and the table is as before
+pub record RefusesRun (old : Table) (key : Key) (new : Table) : Type 0 where
+  pub unknown : ¬ (IsSome (run_of old key))
+  pub runs : HasSameRuns old new
   pub spawns : HasSameSpawns old new

@@ -1,7 +1,7 @@
 // One call, decided by a policy's choice and measured.
-ghost use Rattle.std.specs.Prelude.{◌≡◌, ℕ, ◌<◌, ◌≤◌, Bool, IfOk, IfErr, OnErr};
+ghost use Rattle.std.specs.Prelude.{◌≡◌, ℕ, ◌<◌, ◌≤◌, Bool, Result, IfOk, IfErr, OnErr};
 ghost use Rattle.parallel_policy.specs.declared.execution.RunExecution.{RunExecution};
-ghost use Rattle.parallel_policy.specs.Decisions.{AnswersOn, DecidesAs, Decides};
+ghost use Rattle.parallel_policy.specs.Decisions.{AnswersOn, DecidesAs, Decides, ReadsAs, RunsSomewhen, RunsSerially, RunsWith};
 
 use crate::execution::RunExecution;
 use parallel_fault::{Fault, Trouble};
@@ -16,7 +16,7 @@ pub trait Choices<Q> {
 
     ghost records: { Self → Q → RunExecution → ℕ → Self → Type 0 };
 
-    ghost refused: { Self → Self → Type 0 };
+    ghost refused: { Self → Q → Self → Type 0 };
 
     /// Chooses how a run planned for `parallelism` threads is to go, and says whether it is to be
     /// measured.
@@ -32,7 +32,7 @@ pub trait Choices<Q> {
     ) -> Result<(RunExecution, bool), Fault>
         ensures chosen { IfOk result (λ answer. chooses self.old key parallelism answer self.new) }
         ensures fault { IfErr result (λ fault. fault ≡ Fault.Memory) }
-        ensures refused { OnErr result (refused self.old self.new) };
+        ensures refused { OnErr result (refused self.old key self.new) };
 
     /// Records that a run of that kind took so many nanoseconds.
     fn record<Rt: Wait>(&mut self, rt: &Rt, key: Q, execution: RunExecution, nanoseconds: u64)
@@ -43,7 +43,8 @@ pub trait Choices<Q> {
 /// measured and answered `Ok`.
 ///
 /// Planned for one thread the body runs serially and the choices stay as they are. The time is the
-/// later reading of the clock `now` less the earlier one, and 0 where the clock went back.
+/// reading of the clock `now` after the body less the reading before it, and 0 where the clock went
+/// back. The body is lent the clock: what it reads, it reads between the two.
 ///
 /// # Errors
 ///
@@ -53,28 +54,56 @@ pub fn decide<
     Rt: Wait,
     Q: Copy,
     C: Choices<Q>,
-    N: Fn() -> u64,
+    N: FnMut() -> u64,
     R,
     E,
-    B: FnOnce(RunExecution) -> Result<R, E>,
->(rt: &Rt, choices: &mut C, key: Q, parallelism: usize, now: &N, body: B) -> Result<R, Trouble<E>>
+    B: FnOnce(&mut N, RunExecution) -> Result<R, E>,
+>(
+    rt: &Rt,
+    choices: &mut C,
+    key: Q,
+    parallelism: usize,
+    now: &mut N,
+    body: B,
+) -> Result<R, Trouble<E>>
     requires clock { N.IsAlwaysCallable now.now }
     requires body { B.IsAlwaysCallable body }
-    ensures answers { DecidesAs (λ path r. B.post body path r) result }
-    ensures planned_for_one { parallelism ≤ 1 → AnswersOn (λ path r. B.post body path r) RunExecution.Serial result }
+    requires lent { (earlier later : N) (path : RunExecution) (r : Result R E)
+        → N.IsAlwaysCallable earlier
+        → RunsWith B.FnOnce body earlier path r later
+        → N.IsAlwaysCallable later }
+    ensures answers { DecidesAs (RunsSomewhen B.FnOnce body) result }
+    ensures planned_for_one { parallelism ≤ 1 → RunsSerially (RunsWith B.FnOnce body) result now.old now.new }
     ensures untouched { parallelism ≤ 1 → choices.new ≡ choices.old }
-    ensures decided { 1 < parallelism → Decides (λ answer new. C.chooses choices.old key parallelism answer new) (λ old path sample new. C.records old key path sample new) (C.refused choices.old) (N.post now.now) (λ path r. B.post body path r) result choices.new }
+    ensures decided { 1 < parallelism
+        → Decides C.chooses C.records C.refused (ReadsAs N.FnMut) (RunsWith B.FnOnce body)
+        choices.old key parallelism now.old result choices.new now.new }
 {
     if parallelism <= 1 {
-        return body(RunExecution::Serial).map_err(Trouble::Closure);
+        return run_on(now, RunExecution::Serial, body);
     }
     let (execution, measured) = choices.choose(rt, key, parallelism)?;
     if !measured {
-        return body(execution).map_err(Trouble::Closure);
+        return run_on(now, execution, body);
     }
     let start = now();
-    let answer = body(execution).map_err(Trouble::Closure)?;
+    let answer = run_on(now, execution, body)?;
     let nanoseconds = now().saturating_sub(start);
     choices.record(rt, key, execution, nanoseconds);
     Ok(answer)
+}
+
+// Runs `body` on a path, and takes its error for the closure's.
+fn run_on<N, R, E, B: FnOnce(&mut N, RunExecution) -> Result<R, E>>(
+    now: &mut N,
+    path: RunExecution,
+    body: B,
+) -> Result<R, Trouble<E>>
+    requires { B.IsAlwaysCallable body }
+    ensures { AnswersOn (λ path r. RunsWith B.FnOnce body now.old path r now.new) path result }
+{
+    match body(now, path) {
+        Ok(answer) => Ok(answer),
+        Err(error) => Err(Trouble::Closure(error)),
+    }
 }

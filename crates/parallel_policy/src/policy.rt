@@ -71,12 +71,20 @@ impl Policy {
         ensures planned_for_one { parallelism ≤ 1 → AnswersOn (λ path r. B.post body path r) RunExecution.Serial result }
     {
         let key = Key::new(site.site(), len, work, parallelism);
-        decide(rt, &mut self.locked(), key, parallelism, now, body)
+        let mut clock = || now();
+        decide(
+            rt,
+            &mut self.locked(),
+            key,
+            parallelism,
+            &mut clock,
+            |_clock, path| body(path),
+        )
     }
 
     /// The choices of this policy, which take the lock for each choice and each record.
     pub fn locked(&self) -> Locked<'_> {
-        Locked { policy: self }
+        Locked { table: &self.table }
     }
 
     /// The entry of runs at `key`, as it is now, if there is one.
@@ -194,7 +202,7 @@ impl Policy {
 /// refused memory is left out; a key that was chosen for has its entry.
 #[derive(Drop)]
 pub struct Locked<'a> {
-    policy: &'a Policy,
+    table: &'a Mutex<Table>,
 }
 
 impl Choices<Key> for Locked<'_> {
@@ -202,7 +210,7 @@ impl Choices<Key> for Locked<'_> {
 
     ghost records = { λ _ _ _ _ _. ⊤ };
 
-    ghost refused = { λ _ _. ⊤ };
+    ghost refused = { λ _ _ _. ⊤ };
 
     fn choose<Rt: Wait>(
         &mut self,
@@ -210,10 +218,10 @@ impl Choices<Key> for Locked<'_> {
         key: Key,
         parallelism: usize,
     ) -> Result<(RunExecution, bool), Fault> {
-        self.policy.choose_run(rt, key, parallelism)
+        self.table.lock(rt).choose_run(key, parallelism)
     }
 
     fn record<Rt: Wait>(&mut self, rt: &Rt, key: Key, execution: RunExecution, nanoseconds: u64) {
-        let _ = self.policy.record_run(rt, key, execution, nanoseconds);
+        let _ = self.table.lock(rt).record_run(key, execution, nanoseconds);
     }
 }

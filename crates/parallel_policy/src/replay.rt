@@ -1,5 +1,7 @@
 // What an entry answers, reckoned from its whole history: plain, slow, and without an entry.
 ghost use Rattle.std.specs.Prelude.{◌≡◌, Some, ◌<◌, ◌≤◌};
+ghost use Rattle.parallel_policy.specs.declared.execution.RunExecution.{RunExecution};
+ghost use Rattle.parallel_policy.specs.declared.history.SpawnSample.{SpawnSample};
 ghost use Rattle.parallel_policy.specs.Estimates.{blended};
 ghost use Rattle.parallel_policy.specs.Arbitration.{contest_of, interval_of, arbitrated, count_after};
 ghost use Rattle.parallel_policy.specs.Runs.{run_estimate, run_answer, run_count_after, run_count, run_choice, projection};
@@ -9,68 +11,90 @@ use crate::estimate::blend;
 use crate::execution::{RunExecution, SpawnExecution};
 use crate::history::{RunEvent, SpawnEvent, SpawnSample};
 
+// What an entry of runs keeps after a history.
+#[derive(Clone, Copy)]
+struct Runs {
+    serial: Option<u64>,
+    parallel: Option<u64>,
+    count: u64,
+}
+
+// What an entry of jobs keeps after a history.
+#[derive(Clone, Copy)]
+struct Spawns {
+    inline: Option<u64>,
+    job: Option<u64>,
+    overhead: Option<u64>,
+    count: u64,
+}
+
 /// How long a run of that kind takes after a history, the latest event first: none before the first
 /// sample.
 pub fn replay_run_estimate(path: RunExecution, history: &[RunEvent]) -> Option<u64>
     ensures { result ≡ run_estimate path history.now }
 {
-    let (latest, older) = history.split_first()?;
-    let before = replay_run_estimate(path, older);
-    match (path, latest) {
-        (RunExecution::Serial, RunEvent::Sampled(RunExecution::Serial, sample))
-        | (RunExecution::Parallel, RunEvent::Sampled(RunExecution::Parallel, sample)) => {
-            Some(blended_time(before, *sample))
-        }
-        _ => before,
+    let runs = after_runs(history);
+    match path {
+        RunExecution::Serial => runs.serial,
+        RunExecution::Parallel => runs.parallel,
     }
 }
 
 /// How a run planned for `parallelism` threads is to go after a history, the latest event first, and
 /// whether it is to be measured: the answer of an entry that holds the history.
 ///
-/// It reckons each count anew from the events before it, and so takes time like the square of the
-/// history's length.
+/// It goes over the whole history, and so takes time like its length.
 pub fn replay_run(history: &[RunEvent], parallelism: usize) -> (RunExecution, bool)
     ensures { result ≡ run_choice history.now parallelism }
 {
-    let serial = replay_run_estimate(RunExecution::Serial, history);
-    let parallel = replay_run_estimate(RunExecution::Parallel, history);
-    decided_run(parallel, serial, run_count_after_all(history), parallelism).0
+    let runs = after_runs(history);
+    decided_run(&runs, parallelism).0
 }
 
-// How many choices the history has since the last probe.
-fn run_count_after_all(history: &[RunEvent]) -> u64
-    ensures value { result ≡ run_count history.now }
-    ensures most { result < 4294967296 }
+// The two estimates after a history, and how many choices there were since the last probe.
+fn after_runs(history: &[RunEvent]) -> Runs
+    ensures serial { result.serial ≡ run_estimate RunExecution.Serial history.now }
+    ensures parallel { result.parallel ≡ run_estimate RunExecution.Parallel history.now }
+    ensures count { result.count ≡ run_count history.now }
+    ensures most { result.count < 4294967296 }
 {
-    match history.split_first() {
-        None => 0,
-        Some((RunEvent::Sampled(_, _), older)) => run_count_after_all(older),
-        Some((RunEvent::Chosen(parallelism), older)) => {
-            let serial = replay_run_estimate(RunExecution::Serial, older);
-            let parallel = replay_run_estimate(RunExecution::Parallel, older);
-            decided_run(parallel, serial, run_count_after_all(older), *parallelism).1
-        }
+    let Some((latest, older)) = history.split_first() else {
+        return Runs {
+            serial: None,
+            parallel: None,
+            count: 0,
+        };
+    };
+    let runs = after_runs(older);
+    match *latest {
+        RunEvent::Sampled(RunExecution::Serial, sample) => Runs {
+            serial: Some(blended_time(runs.serial, sample)),
+            ..runs
+        },
+        RunEvent::Sampled(RunExecution::Parallel, sample) => Runs {
+            parallel: Some(blended_time(runs.parallel, sample)),
+            ..runs
+        },
+        RunEvent::Chosen(parallelism) => Runs {
+            count: decided_run(&runs, parallelism).1,
+            ..runs
+        },
     }
 }
 
 // The answer by the two estimates and the count, and the count after it.
-fn decided_run(
-    parallel: Option<u64>,
-    serial: Option<u64>,
-    count: u64,
-    parallelism: usize,
-) -> ((RunExecution, bool), u64)
-    requires { count < 4294967296 }
-    ensures answer { result.0 ≡ run_answer parallel serial count parallelism }
-    ensures count { result.1 ≡ run_count_after parallel serial count parallelism }
+fn decided_run(after: &Runs, parallelism: usize) -> ((RunExecution, bool), u64)
+    requires { after.now.count < 4294967296 }
+    ensures answer { result.0 ≡ run_answer after.now.parallel after.now.serial after.now.count parallelism }
+    ensures count { result.1 ≡ run_count_after after.now.parallel after.now.serial after.now.count parallelism }
     ensures most { result.1 < 4294967296 }
 {
-    let Some(parallel) = parallel else {
+    let Some(parallel) = after.parallel else {
         return ((RunExecution::Parallel, true), 4294967295);
     };
+    let count = after.count;
     let affordable = parallel.saturating_mul(parallelism as u64) < 10_000_000;
-    match serial {
+    match after.serial {
         None => contest(
             RunExecution::Parallel,
             RunExecution::Serial,
@@ -155,73 +179,74 @@ fn blended_time(before: Option<u64>, sample: u64) -> u64
 pub fn replay_spawn_estimate(kind: SpawnSample, history: &[SpawnEvent]) -> Option<u64>
     ensures { result ≡ spawn_estimate kind history.now }
 {
-    let (latest, older) = history.split_first()?;
-    let before = replay_spawn_estimate(kind, older);
-    match (kind, latest) {
-        (SpawnSample::InlineRun, SpawnEvent::Sampled(SpawnSample::InlineRun, sample))
-        | (SpawnSample::Job, SpawnEvent::Sampled(SpawnSample::Job, sample))
-        | (SpawnSample::Overhead, SpawnEvent::Sampled(SpawnSample::Overhead, sample)) => {
-            Some(blended_time(before, *sample))
-        }
-        _ => before,
+    let spawns = after_spawns(history);
+    match kind {
+        SpawnSample::InlineRun => spawns.inline,
+        SpawnSample::Job => spawns.job,
+        SpawnSample::Overhead => spawns.overhead,
     }
 }
 
 /// Where a job is to run after a history, the latest event first, and whether it is to be measured:
 /// the answer of an entry that holds the history.
 ///
-/// It reckons each count anew from the events before it, and so takes time like the square of the
-/// history's length.
+/// It goes over the whole history, and so takes time like its length.
 pub fn replay_spawn(history: &[SpawnEvent], budget: u64) -> (SpawnExecution, bool)
     ensures { result ≡ spawn_choice history.now budget }
 {
-    let overhead = replay_spawn_estimate(SpawnSample::Overhead, history);
-    let job = replay_spawn_estimate(SpawnSample::Job, history);
-    let inline = replay_spawn_estimate(SpawnSample::InlineRun, history);
-    decided_spawn(
-        overhead,
-        job,
-        inline,
-        spawn_count_after_all(history),
-        budget,
-    )
-    .0
+    let spawns = after_spawns(history);
+    decided_spawn(&spawns, budget).0
 }
 
-// How many choices the history has since the last probe.
-fn spawn_count_after_all(history: &[SpawnEvent]) -> u64
-    ensures value { result ≡ spawn_count history.now }
-    ensures most { result < 4294967296 }
+// The three estimates after a history, and how many choices there were since the last probe.
+fn after_spawns(history: &[SpawnEvent]) -> Spawns
+    ensures inline { result.inline ≡ spawn_estimate SpawnSample.InlineRun history.now }
+    ensures job { result.job ≡ spawn_estimate SpawnSample.Job history.now }
+    ensures overhead { result.overhead ≡ spawn_estimate SpawnSample.Overhead history.now }
+    ensures count { result.count ≡ spawn_count history.now }
+    ensures most { result.count < 4294967296 }
 {
-    match history.split_first() {
-        None => 0,
-        Some((SpawnEvent::Sampled(_, _), older)) => spawn_count_after_all(older),
-        Some((SpawnEvent::Chosen(budget), older)) => {
-            let overhead = replay_spawn_estimate(SpawnSample::Overhead, older);
-            let job = replay_spawn_estimate(SpawnSample::Job, older);
-            let inline = replay_spawn_estimate(SpawnSample::InlineRun, older);
-            decided_spawn(overhead, job, inline, spawn_count_after_all(older), *budget).1
-        }
+    let Some((latest, older)) = history.split_first() else {
+        return Spawns {
+            inline: None,
+            job: None,
+            overhead: None,
+            count: 0,
+        };
+    };
+    let spawns = after_spawns(older);
+    match *latest {
+        SpawnEvent::Sampled(SpawnSample::InlineRun, sample) => Spawns {
+            inline: Some(blended_time(spawns.inline, sample)),
+            ..spawns
+        },
+        SpawnEvent::Sampled(SpawnSample::Job, sample) => Spawns {
+            job: Some(blended_time(spawns.job, sample)),
+            ..spawns
+        },
+        SpawnEvent::Sampled(SpawnSample::Overhead, sample) => Spawns {
+            overhead: Some(blended_time(spawns.overhead, sample)),
+            ..spawns
+        },
+        SpawnEvent::Chosen(budget) => Spawns {
+            count: decided_spawn(&spawns, budget).1,
+            ..spawns
+        },
     }
 }
 
 // The answer by the three estimates and the count, and the count after it.
-fn decided_spawn(
-    overhead: Option<u64>,
-    job: Option<u64>,
-    inline: Option<u64>,
-    count: u64,
-    budget: u64,
-) -> ((SpawnExecution, bool), u64)
-    requires { count < 4294967296 }
-    ensures answer { result.0 ≡ spawn_answer overhead job inline count budget }
-    ensures count { result.1 ≡ spawn_count_after overhead job inline count budget }
+fn decided_spawn(after: &Spawns, budget: u64) -> ((SpawnExecution, bool), u64)
+    requires { after.now.count < 4294967296 }
+    ensures answer { result.0 ≡ spawn_answer after.now.overhead after.now.job after.now.inline after.now.count budget }
+    ensures count { result.1 ≡ spawn_count_after after.now.overhead after.now.job after.now.inline after.now.count budget }
     ensures most { result.1 < 4294967296 }
 {
-    let (Some(overhead), Some(job)) = (overhead, job) else {
+    let (Some(overhead), Some(job)) = (after.overhead, after.job) else {
         return ((SpawnExecution::Offload, true), 4294967295);
     };
-    let bound = inline.unwrap_or(job);
+    let count = after.count;
+    let bound = after.inline.unwrap_or(job);
     let threshold = if overhead < budget { overhead } else { budget };
     if threshold < bound {
         contest(

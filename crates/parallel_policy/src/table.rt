@@ -190,16 +190,17 @@ impl Table {
 
 /// The choices of a table, exactly: each is a choice or a record of its run entries.
 ///
-/// A record for a key that has an entry can't fail. One for a key without an entry is left out where
-/// the new entry was refused memory; a key that was chosen for has one.
+/// A choice for a key that has an entry isn't refused, and a record for one is never left out. A record
+/// for a key without an entry is left out where the new entry was refused memory; a key that was chosen
+/// for has one.
 impl Choices<Key> for Table {
-    ghost use Rattle.parallel_policy.specs.Tables.{run_of, ChoosesRun, RecordsRun, HasSameRuns, HasSameSpawns};
+    ghost use Rattle.parallel_policy.specs.Tables.{ChoosesRun, RecordsRun, RefusesRun};
 
     ghost chooses = { ChoosesRun };
 
-    ghost records = { λ old key execution sample new. IsSome (run_of old key) → RecordsRun old key execution sample new };
+    ghost records = { RecordsRun };
 
-    ghost refused = { λ old new. HasSameRuns old new × HasSameSpawns old new };
+    ghost refused = { RefusesRun };
 
     fn choose<Rt: Wait>(
         &mut self,

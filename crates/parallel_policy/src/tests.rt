@@ -1,4 +1,5 @@
 // Worked examples of entries, tables and policies. Expected values stand in the tests.
+mod decisions;
 mod histories;
 mod memory;
 mod policies;

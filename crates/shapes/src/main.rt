@@ -8,9 +8,13 @@ use std::{env, io};
 fn main(rt: HostRuntime) -> ExitCode {
     let mut out = rt.stdout();
     let mut err = rt.stderr();
-    let status = match words(&rt) {
+    let answered = match words(&rt) {
         Ok(words) => shapes_command::command(&rt, rt.alloc(), &words, &mut out, &mut err),
         Err(error) => shapes_command::unread(error.kind(), &mut err),
+    };
+    let status = match answered {
+        Ok(status) => status,
+        Err(error) => shapes_command::unwritten(&error, &mut err),
     };
     ExitCode::from(status)
 }

@@ -1,14 +1,16 @@
 -- The text that answers a request.
-use Rattle.std.specs.Prelude.{◌≡◌, ◌+◌, ℕ, List, [], ◌∷◌, ◌++◌, map, length, codes, if◌then◌else◌}
+use Rattle.std.specs.Prelude.{◌≡◌, ◌+◌, ℕ, List, [], ◌∷◌, ◌++◌, map, length, codes, if◌then◌else◌, String}
 use Rattle.std.specs.Fmt.{decimal}
 use Rattle.std.specs.List.{join_with_byte, range_with_len, sum_by}
 use Rattle.std.specs.NonZero.{non_zero_usize_get}
+use Rattle.std.specs.declared.alloc.Global.{Global}
 use Rattle.std.specs.declared.ops.Range.{Range}
 use Rattle.parallel_shares.specs.declared.plan.Grid.{Grid}
 use Rattle.parallel_shares.specs.Cut.{BalancedCut}
 use Rattle.parallel_shares.specs.Grid.{critical_cost, stays_whole}
 use Rattle.parallel_bridge.specs.Shapes.{cutdepth, Shape, leaf_lengths}
-use Rattle.shapes_command.specs.Request.{number_of}
+use Rattle.shapes_command.specs.Line.{as_line}
+use Rattle.shapes_command.specs.Request.{number_of, Says}
 use Rattle.shapes_command.specs.declared.request.Request.{Request}
 use Rattle.shapes_command.specs.declared.request.Request.TheVariants.{Drain, Batches, Grid as OfGrid, Segments, Fold}
 
@@ -33,3 +35,7 @@ Answers (OfGrid grid len workers) text = text ≡ grid_text grid len (non_zero_u
 Answers (Segments threads len) text =
     (items : List ℕ) → length items ≡ len → text ≡ spaced (map decimal (leaf_lengths (Shape (cutdepth (non_zero_usize_get threads)) items)))
 Answers (Fold identity items) text = text ≡ decimal (identity + sum_by number_of items.now)
+
+-- the line answers the request that the words say
+abbrev pub IsAnswer : List (String Global) → List ℕ → Type 0
+IsAnswer words line = (request : Request) × (text : List ℕ) × Says words request × Answers request text × (line ≡ as_line text)

@@ -1,9 +1,10 @@
 //! The commands of the program `shapes`, over any two writers.
 #![tactic(auto)]
 
-ghost use Rattle.std.specs.Prelude.{◌≡◌, ◌≢◌, ◌≤◌, ◌⊎◌, ℕ, List, OnOk, OnErr};
+ghost use Rattle.std.specs.Prelude.{◌≡◌, ◌≢◌, ◌≤◌, ◌↔◌, ℕ, List, IfOk, OnErr};
 ghost use Rattle.std.specs.Io.KnownBytes.{Appends};
-ghost use Rattle.shapes_command.specs.Line.{as_line, bad_arguments_line};
+ghost use Rattle.shapes_command.specs.Answer.{IsAnswer};
+ghost use Rattle.shapes_command.specs.Line.{bad_arguments_line, out_of_memory_line, AppendsPart, AppendsPartOf};
 ghost use Rattle.shapes_command.specs.Request.{IsCommandLine};
 
 mod answer;
@@ -11,89 +12,126 @@ pub mod drain;
 mod number;
 pub mod request;
 mod sum;
+mod write;
 
-use parallel_fault::Fault;
 pub use request::{Request, parse};
 use std::alloc::Global;
 use std::io;
 use std::io::{ErrorKind, Write};
 use std::sync::Wait;
 use std::thread::Threads;
+use write::write_line;
 
 /// Runs the command that the words say and answers the program's status.
 ///
-/// The status is 0 where the answer was written to `out`, as one line. It is 2 where the words are
-/// no command line, which is found before anything runs: `err` then gets `shapes: bad arguments`.
-/// It is 1 where the command was refused, and `err` then gets `shapes: ` and the refusal's text, and
-/// where a write failed. Nothing is written to `out` but a whole answer, in one call.
+/// The status is 0 where the answer was written to `out`, as one line (`IsAnswer`). It is 2 where the
+/// words are no command line, which is found before anything runs: `err` then gets `shapes: bad
+/// arguments`. It is 1 where memory was refused, and `err` then gets `shapes: out of memory`. The
+/// other writer gets nothing.
 ///
 /// `rt` is the right to run a command in threads, and to wait for them.
+///
+/// # Errors
+///
+/// The error of a write that failed. `out` has then got a beginning of the answer's line, or nothing;
+/// what the program says of it is `unwritten`.
 pub fn command<R: Threads + Wait + Sync, O: Write, E: Write>(
     rt: &R,
     alloc: Global,
     words: &[String],
     out: &mut O,
     err: &mut E,
-) -> u8
-    ensures status { result ≤ 2 }
+) -> io::Result<u8>
+    ensures status { IfOk result (λ status. status ≤ 2) }
 
-    // An answer is one line on `out`, and nothing on `err`.
-    ensures answer { result ≡ 0 → (text : List ℕ) × Appends (O.contents out.old) (O.contents out.new) (as_line text) }
-    ensures no_complaint { result ≡ 0 → err.new ≡ err.old }
+    // The answer is that of the request which the words say, as one line, and nothing is said on `err`.
+    ensures answer { IfOk result (λ status. status ≡ 0
+        → (line : List ℕ) × IsAnswer words.now line × Appends (O.contents out.old) (O.contents out.new) line) }
+    ensures no_complaint { IfOk result (λ status. status ≡ 0 → err.new ≡ err.old) }
 
-    // Words that are no command line get status 2, where that could be written, and no answer.
-    ensures only_bad_arguments { result ≡ 2 → ¬ (IsCommandLine words.now) }
-    ensures complaint { result ≡ 2 → Appends (E.contents err.old) (E.contents err.new) bad_arguments_line }
-    ensures no_answer { (¬ (IsCommandLine words.now)) → (result ≢ 0) × (out.new ≡ out.old) }
+    // A refusal is said on `err`, and there is no answer, half or whole.
+    ensures refusal { IfOk result (λ status. status ≡ 1
+        → Appends (E.contents err.old) (E.contents err.new) out_of_memory_line) }
+    ensures refused { IfOk result (λ status. status ≡ 1 → out.new ≡ out.old) }
+
+    // Just the words that are no command line get status 2, and no answer, even where a write failed.
+    ensures bad_arguments { IfOk result (λ status. status ≡ 2 ↔ (¬ (IsCommandLine words.now))) }
+    ensures complaint { IfOk result (λ status. status ≡ 2
+        → Appends (E.contents err.old) (E.contents err.new) bad_arguments_line) }
+    ensures no_answer { (¬ (IsCommandLine words.now)) → out.new ≡ out.old }
+
+    // A write that failed leaves a beginning of the answer's line, or nothing.
+    ensures unwritten { OnErr result (AppendsPartOf (IsAnswer words.now) (O.contents out.old) (O.contents out.new)) }
 {
     let Some(request) = request::parse(words) else {
         return bad_arguments(err);
     };
     match answer::line(rt, alloc, request) {
-        Ok(line) => status_of(out.write_all(line.as_bytes()), 0),
-        Err(fault) => refused(err, fault),
+        Ok(line) => {
+            write_line(out, line.as_bytes())?;
+            Ok(0)
+        }
+        Err(_) => out_of_memory(err),
     }
 }
 
 /// Answers for a program whose words could not be read: the status, and a line on `err`.
 ///
 /// A word that is no text is a bad argument, so the status is that of `bad_arguments`. Else memory
-/// ran out while the words were copied, and the status is 1.
-pub fn unread<E: Write>(kind: ErrorKind, err: &mut E) -> u8
-    ensures status { result ≡ 1 ⊎ result ≡ 2 }
-    ensures complaint { result ≡ 2 → Appends (E.contents err.old) (E.contents err.new) bad_arguments_line }
-    ensures refused { kind ≢ ErrorKind.InvalidData → result ≡ 1 }
+/// ran out while the words were copied, and the status is that of `out_of_memory`.
+///
+/// # Errors
+///
+/// The error of a write that failed.
+pub fn unread<E: Write>(kind: ErrorKind, err: &mut E) -> io::Result<u8>
+    ensures bad_arguments { IfOk result (λ status. status ≡ 2 ↔ kind ≡ ErrorKind.InvalidData) }
+    ensures refused { IfOk result (λ status. status ≡ 1 ↔ kind ≢ ErrorKind.InvalidData) }
+    ensures complaint { IfOk result (λ status. status ≡ 2
+        → Appends (E.contents err.old) (E.contents err.new) bad_arguments_line) }
+    ensures refusal { IfOk result (λ status. status ≡ 1
+        → Appends (E.contents err.old) (E.contents err.new) out_of_memory_line) }
 {
     match kind {
         ErrorKind::InvalidData => bad_arguments(err),
-        _ => refused(err, Fault::Memory),
+        _ => out_of_memory(err),
     }
 }
 
-/// Writes to `err` that the words are no command line. The status is 2, and 1 where the write fails.
-pub fn bad_arguments<E: Write>(err: &mut E) -> u8
-    ensures status { result ≡ 1 ⊎ result ≡ 2 }
-    ensures complaint { result ≡ 2 → Appends (E.contents err.old) (E.contents err.new) bad_arguments_line }
+/// Writes to `err` that the words are no command line. The status is 2.
+///
+/// # Errors
+///
+/// The error of a write that failed. `err` has then got a beginning of the line.
+pub fn bad_arguments<E: Write>(err: &mut E) -> io::Result<u8>
+    ensures status { IfOk result (λ status. status ≡ 2) }
+    ensures complaint { IfOk result (λ _. Appends (E.contents err.old) (E.contents err.new) bad_arguments_line) }
+    ensures unwritten { OnErr result (AppendsPart (E.contents err.old) (E.contents err.new) bad_arguments_line) }
 {
-    status_of(err.write_all(b"shapes: bad arguments\n"), 2)
+    write_line(err, b"shapes: bad arguments\n")?;
+    Ok(2)
 }
 
-/// Writes the refusal's text to `err`. The status is 1, whether or not the write fails.
-pub fn refused<E: Write>(err: &mut E, fault: Fault) -> u8
+/// Writes to `err` that memory was refused. The status is 1.
+///
+/// # Errors
+///
+/// The error of a write that failed. `err` has then got a beginning of the line.
+pub fn out_of_memory<E: Write>(err: &mut E) -> io::Result<u8>
+    ensures status { IfOk result (λ status. status ≡ 1) }
+    ensures refusal { IfOk result (λ _. Appends (E.contents err.old) (E.contents err.new) out_of_memory_line) }
+    ensures unwritten { OnErr result (AppendsPart (E.contents err.old) (E.contents err.new) out_of_memory_line) }
+{
+    write_line(err, b"shapes: out of memory\n")?;
+    Ok(1)
+}
+
+/// Writes to `err` which error a write failed by, where that can still be written. The status is 1.
+pub fn unwritten<E: Write>(error: &io::Error, err: &mut E) -> u8
     ensures { result ≡ 1 }
 {
-    status_of(writeln!(err, "shapes: {fault}"), 1)
-}
-
-// The status after a write: the one given, or 1 where the write failed.
-fn status_of(written: io::Result<()>, status: u8) -> u8
-    ensures ok { OnOk written (result ≡ status) }
-    ensures err { OnErr written (result ≡ 1) }
-{
-    match written {
-        Ok(()) => status,
-        Err(_) => 1,
-    }
+    // Where this fails too, there is nowhere left to say so.
+    let _ = writeln!(err, "shapes: {error}");
+    1
 }
 
 #[cfg(test)]

@@ -1,5 +1,6 @@
 use super::*;
 use crate::drain::{drain, gather};
+use parallel_fault::Fault;
 use parallel_shares::Shares;
 use std::alloc::AllocError;
 use std::num::NonZeroUsize;
@@ -29,7 +30,7 @@ fn run<R: Threads + Wait + Sync>(rt: &R, alloc: Global, line: &str) -> Result<Ra
     let words = words_of(alloc, line)?;
     let mut out = Vec::new(alloc);
     let mut err = Vec::new(alloc);
-    let status = command(rt, alloc, &words, &mut out, &mut err);
+    let status = command(rt, alloc, &words, &mut out, &mut err)?;
     Ok(Ran {
         status,
         out: String::from_utf8(out)?,
@@ -197,16 +198,72 @@ fn other_words_are_bad_arguments(rt: HostRuntime) -> Result<(), Fail> {
     Ok(())
 }
 
+// A writer that takes one byte at a time.
+#[derive(Drop)]
+struct Narrow {
+    taken: Vec<u8>,
+}
+
+impl Write for Narrow {
+    fn write(&mut self, buf: &[u8]) -> io::Result<usize> {
+        match buf.first() {
+            Some(byte) => {
+                self.taken.push(*byte)?;
+                Ok(1)
+            }
+            None => Ok(0),
+        }
+    }
+
+    fn flush(&mut self) -> io::Result<()> {
+        Ok(())
+    }
+}
+
 #[test]
-fn a_failed_write_is_status_one(rt: HostRuntime) -> Result<(), Fail> {
+fn a_line_is_written_in_parts(rt: HostRuntime) -> Result<(), Fail> {
+    let alloc = rt.alloc();
+    let mut out = Narrow {
+        taken: Vec::new(alloc),
+    };
+    let mut err = Narrow {
+        taken: Vec::new(alloc),
+    };
+    assert_eq!(rt; command(&rt, alloc, &[], &mut out, &mut err)?, 0);
+    let unknown = [String::from_str(alloc, "unknown")?];
+    assert_eq!(rt; command(&rt, alloc, &unknown, &mut out, &mut err)?, 2);
+    assert_eq!(rt; String::from_utf8(out.taken)?.as_str(), "0 1 2 3\n");
+    assert_eq!(rt;
+        String::from_utf8(err.taken)?.as_str(),
+        "shapes: bad arguments\n"
+    );
+    Ok(())
+}
+
+#[test]
+fn a_failed_write_is_named_and_is_status_one(rt: HostRuntime) -> Result<(), Fail> {
     let alloc = rt.alloc();
     let mut kept = Vec::new(alloc);
-    assert_eq!(rt; command(&rt, alloc, &[], &mut Closed, &mut kept), 1);
+    let error = command(&rt, alloc, &[], &mut Closed, &mut kept).expect_err(&rt, "a closed writer");
+    assert_eq!(rt; error.kind(), ErrorKind::BrokenPipe);
     assert_eq!(rt; kept.len(), 0);
     let unknown = [String::from_str(alloc, "unknown")?];
-    assert_eq!(rt; command(&rt, alloc, &unknown, &mut kept, &mut Closed), 1);
+    let answered = command(&rt, alloc, &unknown, &mut kept, &mut Closed);
+    assert!(rt; answered.is_err());
     assert_eq!(rt; kept.len(), 0);
-    assert_eq!(rt; refused(&mut Closed, Fault::Memory), 1);
+    assert_eq!(rt; unwritten(&error, &mut Closed), 1);
+    assert_eq!(rt; unwritten(&error, &mut kept), 1);
+    assert_eq!(rt; String::from_utf8(kept)?.as_str(), "shapes: broken pipe\n");
+    Ok(())
+}
+
+// What the line of a refusal says is the refusal's own text.
+#[test]
+fn a_refusal_says_its_text(rt: HostRuntime) -> Result<(), Fail> {
+    let mut err = Vec::new(rt.alloc());
+    assert_eq!(rt; out_of_memory(&mut err)?, 1);
+    let line = format!(in rt.alloc(); "shapes: {}\n", Fault::Memory)?;
+    assert_eq!(rt; String::from_utf8(err)?.as_str(), line.as_str());
     Ok(())
 }
 
@@ -231,7 +288,7 @@ fn a_refused_growth_leaves_no_answer(rt: HostRuntime) -> Result<(), Fail> {
         let Ok(mut err) = Vec::with_capacity(alloc, 64) else {
             continue;
         };
-        let status = command(&rt, alloc, &words, &mut out, &mut err);
+        let status = command(&rt, alloc, &words, &mut out, &mut err)?;
         let (out, err) = (String::from_utf8(out)?, String::from_utf8(err)?);
         if status == 0 {
             assert_eq!(rt; (out.as_str(), err.as_str()), (answer, ""), "at {line:?}");
@@ -249,8 +306,8 @@ fn a_refused_growth_leaves_no_answer(rt: HostRuntime) -> Result<(), Fail> {
 #[test]
 fn words_that_could_not_be_read(rt: HostRuntime) -> Result<(), Fail> {
     let mut err = Vec::new(rt.alloc());
-    assert_eq!(rt; unread(ErrorKind::InvalidData, &mut err), 2);
-    assert_eq!(rt; unread(ErrorKind::OutOfMemory, &mut err), 1);
+    assert_eq!(rt; unread(ErrorKind::InvalidData, &mut err)?, 2);
+    assert_eq!(rt; unread(ErrorKind::OutOfMemory, &mut err)?, 1);
     assert_eq!(rt;
         String::from_utf8(err)?.as_str(),
         "shapes: bad arguments\nshapes: out of memory\n"

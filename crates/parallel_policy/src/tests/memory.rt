@@ -40,10 +40,18 @@ fn a_refused_choice_calls_no_body(rt: HostRuntime) {
     let calls = AtomicU64::new(0);
     for column in 0..20u32 {
         let key = Key::new(Site { column, ..SITE }, 64, 64, 4);
-        let body = |_path: RunExecution| -> Result<u64, u8> {
-            Ok(calls.fetch_add(1, Ordering::SeqCst))
-        };
-        match decide(&rt, &mut table, key, 4, &|| 0, body) {
+        let mut now = || 0;
+        let called = decide(
+            &rt,
+            &mut table,
+            key,
+            4,
+            &mut now,
+            |_now, _path: RunExecution| -> Result<u64, u8> {
+                Ok(calls.fetch_add(1, Ordering::SeqCst))
+            },
+        );
+        match called {
             Ok(call) => {
                 assert_eq!(rt; call, expected);
                 expected = expected.wrapping_add(1);

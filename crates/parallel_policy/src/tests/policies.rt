@@ -1,16 +1,11 @@
-// Tables and policies: which key an answer goes by, what a run records, and what it doesn't.
-ghost use Rattle.std.specs.Prelude.{◌≡◌, IfOk};
-ghost use Rattle.parallel_policy.specs.Runs.{RunHistory, run_choice};
-ghost use Rattle.parallel_policy.specs.Tables.{HoldsRunAt, HasOtherRuns};
-
-use crate::choices::decide;
+// Tables and policies: which key an answer goes by, and what each call of a policy tells its table.
 use crate::execution::{RunExecution, SpawnExecution};
+use crate::history::SpawnSample;
 use crate::key::Key;
 use crate::policy::{INLINE_BUDGET, Policy};
 use crate::site::Site;
 use crate::table::Table;
 use parallel_fault::{Fault, Trouble};
-use std::sync::Wait;
 use std::sync::atomic::{AtomicU64, Ordering};
 use std::test::Fail;
 
@@ -45,6 +40,44 @@ fn a_table_keeps_an_entry_for_each_key(rt: HostRuntime) -> Result<(), Fail> {
 }
 
 #[test]
+fn a_policy_records_the_run_that_it_is_told(rt: HostRuntime) -> Result<(), Fail> {
+    let key = Key::new(SITE, 64, 64, 4);
+    let policy = Policy::new(rt.alloc())?;
+    let shared = policy.clone()?;
+    assert_eq!(rt; policy.choose_run(&rt, key, 4), Ok((P, true)));
+    assert_eq!(rt; shared.record_run(&rt, key, P, 100_000), Ok(()));
+    assert_eq!(rt; policy.choose_run(&rt, key, 4), Ok((S, true)));
+    assert_eq!(rt; shared.record_run(&rt, key, S, 95_001), Ok(()));
+    assert_eq!(rt; policy.choose_run(&rt, key, 4), Ok((S, false)));
+    let entry = policy.run_entry(&rt, key);
+    assert_eq!(rt; entry.and_then(|entry| entry.estimate(P)), Some(100_000));
+    let entry = policy.run_entry(&rt, key);
+    assert_eq!(rt; entry.and_then(|entry| entry.estimate(S)), Some(95_001));
+    assert!(rt; policy.spawn_entry(&rt, key).is_none());
+    Ok(())
+}
+
+#[test]
+fn a_policy_records_the_job_that_it_is_told(rt: HostRuntime) -> Result<(), Fail> {
+    let key = Key::new(SITE, 64, 64, 4);
+    let policy = Policy::new(rt.alloc())?;
+    assert_eq!(rt; policy.record_spawn_job(&rt, key, 25_003), Ok(()));
+    assert_eq!(rt; policy.record_spawn_overhead(&rt, key, 10_002), Ok(()));
+    assert_eq!(rt; policy.record_spawn_inline(&rt, key, 8_001), Ok(()));
+    let entry = policy.spawn_entry(&rt, key);
+    let estimate = |kind| entry.and_then(|entry| entry.estimate(kind));
+    assert_eq!(rt; estimate(SpawnSample::Job), Some(25_003));
+    assert_eq!(rt; estimate(SpawnSample::Overhead), Some(10_002));
+    assert_eq!(rt; estimate(SpawnSample::InlineRun), Some(8_001));
+    Ok(())
+}
+
+#[test]
+fn a_job_may_keep_its_caller_a_millisecond(rt: HostRuntime) {
+    assert_eq!(rt; INLINE_BUDGET, 1_000_000);
+}
+
+#[test]
 fn records_of_jobs_feed_their_choices(rt: HostRuntime) -> Result<(), Fail> {
     let key = Key::new(SITE, 64, 64, 4);
     let policy = Policy::new(rt.alloc())?;
@@ -76,55 +109,6 @@ fn records_of_jobs_feed_their_choices(rt: HostRuntime) -> Result<(), Fail> {
     Ok(())
 }
 
-// The path that a run of a table's entry takes, measured by `now`.
-fn path_of<Rt: Wait, N: Fn() -> u64>(
-    rt: &Rt,
-    table: &mut Table,
-    key: Key,
-    now: &N,
-) -> Result<RunExecution, Trouble<u8>>
-    requires { N.IsAlwaysCallable now.now }
-    ensures path { IfOk result (λ path. (history : RunHistory) → HoldsRunAt table.old key history → path ≡ (run_choice history 4).0) }
-    ensures others { HasOtherRuns table.old table.new key }
-{
-    let path = decide(rt, table, key, 4, now, |path| Ok(path))?;
-    Ok(path)
-}
-
-#[test]
-fn a_decided_run_records_what_it_took(rt: HostRuntime) {
-    let mut table = Table::new(rt.alloc());
-    let key = Key::new(SITE, 64, 64, 4);
-    let ticks = AtomicU64::new(0);
-    let now = || ticks.fetch_add(100_000, Ordering::SeqCst);
-    let path = path_of(&rt, &mut table, key, &now);
-    assert_eq!(rt; path, Ok(P));
-    let path = path_of(&rt, &mut table, key, &now);
-    assert_eq!(rt; path, Ok(S));
-    let path = path_of(&rt, &mut table, key, &now);
-    assert_eq!(rt; path, Ok(S));
-    let estimate = table.run_entry(key).and_then(|entry| entry.estimate(P));
-    assert_eq!(rt; estimate, Some(100_000));
-    let estimate = table.run_entry(key).and_then(|entry| entry.estimate(S));
-    assert_eq!(rt; estimate, Some(100_000));
-}
-
-#[test]
-fn a_clock_that_goes_back_gives_no_time(rt: HostRuntime) {
-    let mut table = Table::new(rt.alloc());
-    let key = Key::new(SITE, 64, 64, 4);
-    let ticks = AtomicU64::new(1_000_000);
-    let now = || ticks.fetch_sub(100_000, Ordering::SeqCst);
-    let path = path_of(&rt, &mut table, key, &now);
-    assert_eq!(rt; path, Ok(P));
-    let path = path_of(&rt, &mut table, key, &now);
-    assert_eq!(rt; path, Ok(S));
-    let estimate = table.run_entry(key).and_then(|entry| entry.estimate(P));
-    assert_eq!(rt; estimate, Some(0));
-    let estimate = table.run_entry(key).and_then(|entry| entry.estimate(S));
-    assert_eq!(rt; estimate, Some(0));
-}
-
 #[test]
 fn a_run_planned_for_one_asks_no_policy(rt: HostRuntime) -> Result<(), Fail> {
     let policy = Policy::new(rt.alloc())?;
@@ -138,6 +122,47 @@ fn a_run_planned_for_one_asks_no_policy(rt: HostRuntime) -> Result<(), Fail> {
                 .is_none()
         );
     }
+    Ok(())
+}
+
+#[test]
+fn a_fresh_policy_runs_in_parallel_and_then_serially(rt: HostRuntime) -> Result<(), Fail> {
+    let policy = Policy::new(rt.alloc())?;
+    let body = |path: RunExecution| -> Result<RunExecution, u8> { Ok(path) };
+    for path in [P, S, S] {
+        let answer = policy.try_run(&rt, SITE, 64, 640, 4, &|| 0, body);
+        assert_eq!(rt; answer, Ok(path));
+    }
+    assert!(rt; policy.run_entry(&rt, Key::new(SITE, 64, 640, 4)).is_some());
+    assert!(rt; policy.run_entry(&rt, Key::new(SITE, 64, 64, 4)).is_none());
+    assert!(rt; policy.run_entry(&rt, Key::new(SITE, 640, 64, 4)).is_none());
+    assert!(rt; policy.run_entry(&rt, Key::new(SITE, 64, 640, 1)).is_none());
+    Ok(())
+}
+
+// The clock stands still but while a body runs: 70000 nanoseconds in parallel, 30000 serially.
+#[test]
+fn a_policy_measures_what_passes_in_the_body(rt: HostRuntime) -> Result<(), Fail> {
+    let policy = Policy::new(rt.alloc())?;
+    let ticks = AtomicU64::new(5);
+    let now = || ticks.load(Ordering::SeqCst);
+    let body = |path: RunExecution| -> Result<RunExecution, u8> {
+        let takes = match path {
+            RunExecution::Parallel => 70_000,
+            RunExecution::Serial => 30_000,
+        };
+        let _before = ticks.fetch_add(takes, Ordering::SeqCst);
+        Ok(path)
+    };
+    for path in [P, S] {
+        let answer = policy.try_run(&rt, SITE, 64, 64, 4, &now, body);
+        assert_eq!(rt; answer, Ok(path));
+    }
+    let key = Key::new(SITE, 64, 64, 4);
+    let entry = policy.run_entry(&rt, key);
+    assert_eq!(rt; entry.and_then(|entry| entry.estimate(P)), Some(70_000));
+    let entry = policy.run_entry(&rt, key);
+    assert_eq!(rt; entry.and_then(|entry| entry.estimate(S)), Some(30_000));
     Ok(())
 }
 

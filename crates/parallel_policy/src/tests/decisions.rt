@@ -1,0 +1,105 @@
+// Runs that a table decides, and what they record of the clock.
+ghost use Rattle.std.specs.Prelude.{◌≡◌, ◌+◌, ◌%◌, ◌^◌, [], ◌∷◌, IfOk};
+ghost use Rattle.parallel_policy.specs.Runs.{RunHistory, run_choice};
+ghost use Rattle.parallel_policy.specs.Tables.{HoldsRunAt, HasOtherRuns};
+ghost use Rattle.parallel_policy.specs.declared.execution.RunExecution.{RunExecution};
+ghost use Rattle.parallel_policy.specs.declared.history.RunEvent.{RunEvent};
+
+use crate::choices::decide;
+use crate::execution::RunExecution;
+use crate::key::Key;
+use crate::site::Site;
+use crate::table::Table;
+use parallel_fault::Trouble;
+use std::sync::Wait;
+use std::sync::atomic::{AtomicU64, Ordering};
+
+const SITE: Site = Site {
+    file: "tests",
+    line: 1,
+    column: 1,
+};
+
+const P: RunExecution = RunExecution::Parallel;
+
+const S: RunExecution = RunExecution::Serial;
+
+// The path that a run of a table's entry takes, measured by `now`.
+fn path_of<Rt: Wait, N: FnMut() -> u64>(
+    rt: &Rt,
+    table: &mut Table,
+    key: Key,
+    now: &mut N,
+) -> Result<RunExecution, Trouble<u8>>
+    requires { N.IsAlwaysCallable now.now }
+    ensures path { IfOk result (λ path. (history : RunHistory) → HoldsRunAt table.old key history → path ≡ (run_choice history 4).0) }
+    ensures others { HasOtherRuns table.old table.new key }
+{
+    let path = decide(rt, table, key, 4, now, |_now, path| Ok(path))?;
+    Ok(path)
+}
+
+// A clock that goes on by 100 at each reading, and a body that reads it twice: the first run of an
+// entry takes 300.
+fn first_of<Rt: Wait>(rt: &Rt, table: &mut Table, key: Key) -> Result<RunExecution, Trouble<u8>>
+    requires { HoldsRunAt table.now key [] }
+    ensures { IfOk result (λ _. HoldsRunAt table.new key (RunEvent.Sampled RunExecution.Parallel 300 ∷ RunEvent.Chosen 4 ∷ [])) }
+{
+    let mut ticks = 0u64;
+    let mut now = move ||
+        ensures reading { result ≡ (ticks.entry + 100) % 2 ^ 64 }
+        ensures moved { ticks.exit ≡ (ticks.entry + 100) % 2 ^ 64 }
+    {
+        ticks = ticks.wrapping_add(100);
+        ticks
+    };
+    let path = decide(rt, table, key, 4, &mut now, |now, path| {
+        now();
+        now();
+        Ok(path)
+    })?;
+    Ok(path)
+}
+
+#[test]
+fn a_decided_run_records_what_it_took(rt: HostRuntime) {
+    let mut table = Table::new(rt.alloc());
+    let key = Key::new(SITE, 64, 64, 4);
+    let ticks = AtomicU64::new(0);
+    let mut now = || ticks.fetch_add(100_000, Ordering::SeqCst);
+    let path = path_of(&rt, &mut table, key, &mut now);
+    assert_eq!(rt; path, Ok(P));
+    let path = path_of(&rt, &mut table, key, &mut now);
+    assert_eq!(rt; path, Ok(S));
+    let path = path_of(&rt, &mut table, key, &mut now);
+    assert_eq!(rt; path, Ok(S));
+    let estimate = table.run_entry(key).and_then(|entry| entry.estimate(P));
+    assert_eq!(rt; estimate, Some(100_000));
+    let estimate = table.run_entry(key).and_then(|entry| entry.estimate(S));
+    assert_eq!(rt; estimate, Some(100_000));
+}
+
+#[test]
+fn a_clock_that_goes_back_gives_no_time(rt: HostRuntime) {
+    let mut table = Table::new(rt.alloc());
+    let key = Key::new(SITE, 64, 64, 4);
+    let ticks = AtomicU64::new(1_000_000);
+    let mut now = || ticks.fetch_sub(100_000, Ordering::SeqCst);
+    let path = path_of(&rt, &mut table, key, &mut now);
+    assert_eq!(rt; path, Ok(P));
+    let path = path_of(&rt, &mut table, key, &mut now);
+    assert_eq!(rt; path, Ok(S));
+    let estimate = table.run_entry(key).and_then(|entry| entry.estimate(P));
+    assert_eq!(rt; estimate, Some(0));
+    let estimate = table.run_entry(key).and_then(|entry| entry.estimate(S));
+    assert_eq!(rt; estimate, Some(0));
+}
+
+#[test]
+fn a_body_that_reads_the_clock_reads_it_between(rt: HostRuntime) {
+    let mut table = Table::new(rt.alloc());
+    let key = Key::new(SITE, 64, 64, 4);
+    assert_eq!(rt; first_of(&rt, &mut table, key), Ok(P));
+    let estimate = table.run_entry(key).and_then(|entry| entry.estimate(P));
+    assert_eq!(rt; estimate, Some(300));
+}

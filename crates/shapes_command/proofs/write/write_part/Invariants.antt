@@ -1,0 +1,6 @@
+-- Nothing was written yet.
+use Rattle.std.specs.Io.KnownBytes.{Keeps}
+use Rattle.shapes_command.proofs.write.write_part.Given as goal
+
+abbrev pub invariant-loop : goal.invariant-loop
+invariant-loop g l = Keeps (g.W.Write.contents l.initial.writer) (g.W.Write.contents l.writer)
