@@ -1,5 +1,5 @@
 //! Sorts.
-ghost use Rattle.std.specs.Prelude.{◌≡◌, ◌<◌, ◌≤◌, OnOk};
+ghost use Rattle.std.specs.Prelude.{◌≤◌, OnOk};
 ghost use Rattle.std.specs.List.Sorted.{IsPermutation, IsSortedByClosure, IsStableByClosure};
 ghost use Rattle.std.specs.Thread.{IsSync, IsSend};
 ghost use Rattle.parallel_fault.specs.Trouble.{IsMemoryOnErr};
@@ -17,11 +17,7 @@ const LEAST: usize = 4096;
 /// to gain, and then the whole by std's sort; items that tie keep their order. The one refusal is
 /// `Fault::Memory`, of a sort's buffer, and the items are then a permutation of what they were. The
 /// caller's thread is one of the threads, so that at most `threads - 1` threads are started.
-pub fn sort_parallel<
-    Rt: Threads + Sync,
-    T: Send,
-    C: Fn(&T, &T) -> Ordering + Send + Sync,
->(
+pub fn sort_parallel<Rt: Threads + Sync, T: Send, C: Fn(&T, &T) -> Ordering + Send + Sync>(
     rt: &Rt,
     alloc: Global,
     threads: NonZeroUsize,
