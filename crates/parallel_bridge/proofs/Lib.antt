@@ -14,3 +14,4 @@ pub mod Statefuls
 pub mod TryBracketings
 pub mod Drivers
 pub mod Picked
+pub mod Sorting

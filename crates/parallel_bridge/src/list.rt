@@ -5,5 +5,6 @@ pub mod fold_init;
 pub mod map;
 pub mod map_init;
 pub mod partition;
+pub mod sort;
 pub mod try_fold;
 pub mod try_map;
