@@ -28,6 +28,7 @@ use parallel_bridge::list::fold_init::fold_init_iter;
 use parallel_bridge::list::map::map_iter;
 use parallel_bridge::list::map_init::map_init_iter;
 use parallel_bridge::list::partition::partition_iter;
+use parallel_bridge::list::sort::sort_parallel;
 use parallel_bridge::list::try_fold::try_fold_iter;
 use parallel_bridge::list::try_map::try_map_iter;
 use parallel_fault::{Fault, Trouble};
@@ -312,8 +313,7 @@ pub trait Strategy: Clone + Send + Sync + Debug + 'static {
             _ => self.thread_number(),
         };
         meter.begin();
-        let _ = threads;
-        items.sort_by(alloc, compare)?;
+        sort_parallel(rt, alloc, threads, items, &compare)?;
         meter.end(rt);
         Ok(())
     }
