@@ -1,7 +1,6 @@
 -- The outcomes of two halves of a list, put together, go along the shape of the list.
-use Rattle.std.proofs.Common.{◌≡◌, ℕ, zero, ◌-◌, ◌/◌, ◌<◌, ◌≤◌, List, ◌++◌, length, take, drop, Result, Ok, Err, refl, sym, ◌∙◌, ap, subst, arith, inl, inr, ◌⊎◌}
+use Rattle.std.proofs.Common.{◌≡◌, ℕ, zero, ◌-◌, ◌/◌, ◌<◌, ◌≤◌, List, ◌++◌, length, take, drop, Result, Ok, Err, refl, sym, subst, arith, inl, inr, ◌⊎◌}
 use Rattle.std.proofs.Math.Seq.{take-append_seam, drop-append_seam}
-use Rattle.parallel_fault.specs.declared.fault.Fault.TheVariants.{Memory}
 use Rattle.parallel_fault.specs.declared.fault.Trouble.{Trouble}
 use Rattle.parallel_fault.specs.declared.fault.Trouble.TheVariants.{Closure}
 use Rattle.parallel_fault.specs.declared.fault.Trouble.TheVariants.{Fault as OfFault}

@@ -1,9 +1,9 @@
 -- What a list call answers at pick 0, and at any other.
-use Rattle.std.proofs.Common.{◌≡◌, ◌≢◌, ℕ, zero, suc, List, Result, refl, sym, subst}
+use Rattle.std.proofs.Common.{◌≡◌, ◌≢◌, ℕ, zero, suc, List, Result, refl}
 use Rattle.parallel_bridge.specs.Lists.{FoldSegment, of_segment}
-use Rattle.parallel_bridge.specs.Shapes.{Along, AlongLeaves, FoldsAs, Shape}
-use Rattle.parallel_bridge.specs.States.{FoldInitSegment, StateSegment, StatesAlong, StatesAs}
-use Rattle.parallel_bridge.specs.Tries.{TryAlong, TryFoldSegment, TryFoldsAs, of_try_segment}
+use Rattle.parallel_bridge.specs.Shapes.{Along, AlongLeaves, Shape}
+use Rattle.parallel_bridge.specs.States.{FoldInitSegment, StateSegment, StatesAlong}
+use Rattle.parallel_bridge.specs.Tries.{TryAlong, TryFoldSegment, of_try_segment}
 use Rattle.parallel_bridge.specs.Ways.{FoldedAs, FoldedInitAs, TryFoldedAs, MappedInitAs}
 use Rattle.parallel_bridge.proofs.Bracketings.{bracketing_from_folds}
 use Rattle.parallel_bridge.proofs.Statefuls.{stateful_from_states}

@@ -1,11 +1,7 @@
 -- One turn of a loop over items that come, over plain variables.
-use Rattle.std.proofs.Common.{◌≡◌, List, [], ◌∷◌, ◌++◌, Result, Ok, Err, Option, Some, None, refl, sym, ◌∙◌, ap, subst, append_assoc, inl, inr}
+use Rattle.std.proofs.Common.{◌≡◌, List, [], ◌∷◌, ◌++◌, Result, Err, Option, Some, None, refl, sym, subst}
 use Rattle.std.proofs.lemmas.List.{append-nil}
-use Rattle.std.proofs.lemmas.List.Elements.{All-tail}
-use Rattle.std.specs.List.{All}
-use Rattle.parallel_bridge.specs.States.{StatesFrom, StateChain}
-use Rattle.parallel_bridge.specs.Tries.{TryChain}
-use Rattle.parallel_bridge.specs.Onto.{TryMapOnto, PartitionOnto, ReducesTo}
+use Rattle.parallel_bridge.specs.Onto.{TryMapOnto, PartitionOnto}
 
 module _ {X Y E : Type 0} (allowed : X → Result Y E → Type 0) where
   -- the first item that is left fails

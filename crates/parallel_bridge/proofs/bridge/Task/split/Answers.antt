@@ -1,5 +1,5 @@
 -- The outcomes of the halves go along the shape, and of two errors the left one stands.
-use Rattle.std.proofs.Common.{◌/◌, arith, rules, refl}
+use Rattle.std.proofs.Common.{◌/◌, arith, refl}
 use Rattle.parallel_bridge.proofs.Halves.{driven_node}
 use Rattle.parallel_bridge.proofs.bridge.Task.split.Goals as goal
 

@@ -1,5 +1,5 @@
 -- One turn is one value or one key more.
-use Rattle.std.proofs.Common.{rules, ◌≡◌, ◌∷◌, ◌++◌, [], Option, Some, None, refl, subst}
+use Rattle.std.proofs.Common.{rules, ◌∷◌, [], Option, refl}
 use Rattle.parallel_bridge.proofs.Chains.{next_has}
 use Rattle.parallel_bridge.proofs.Onward.{part_append}
 use Rattle.parallel_bridge.proofs.Turns.{part_end, part_one_value, part_one_key}

@@ -1,5 +1,5 @@
 -- One turn is one value more, or the error.
-use Rattle.std.proofs.Common.{rules, Result, ◌∷◌, []}
+use Rattle.std.proofs.Common.{rules, ◌∷◌, []}
 use Rattle.parallel_bridge.specs.Outcomes.{listed}
 use Rattle.parallel_bridge.proofs.Chains.{next_has}
 use Rattle.parallel_bridge.proofs.Onward.{behind_append, behind_rests}

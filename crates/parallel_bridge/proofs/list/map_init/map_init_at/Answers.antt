@@ -1,5 +1,5 @@
 -- One state at pick 0, one for each segment at any other; either way the answers fall into segments.
-use Rattle.std.proofs.Common.{rules, arith}
+use Rattle.std.proofs.Common.{rules}
 use Rattle.std.specs.Borrow.{MutBor}
 use Rattle.parallel_bridge.specs.Shapes.{cutdepth}
 use Rattle.parallel_bridge.specs.States.{MapStep}

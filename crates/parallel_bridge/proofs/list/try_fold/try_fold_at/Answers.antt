@@ -33,8 +33,10 @@ returns g c =
     let reduce = λ (a : g.row.R.Denot) (b : g.row.R.Denot) (r : g.row.R.Denot). g.G.Fn.post c.args.reduce_op.now (a, (b, tt)) r in
     let k = cutdepth c.args.threads.value in
     let gives = g.P.Producer.gives in
-    record { folds = unless_weaker c.try_fold_parallel.result
-    (λ out. GivesSome gives c.args.parts (λ xs. TryAlong identity step reduce (Shape k xs) out))
-    (λ out. GivesSome gives c.args.parts (λ xs. TryFoldedAs identity step reduce k c.args.pick xs out))
-    (λ out h. (h.0, h.1, try_folded_later identity step reduce k h.0 out c.args.pick (search rules) h.2))
-    c.try_fold_parallel.ensures.along }
+    record {
+      folds = unless_weaker c.try_fold_parallel.result
+          (λ out. GivesSome gives c.args.parts (λ xs. TryAlong identity step reduce (Shape k xs) out))
+          (λ out. GivesSome gives c.args.parts (λ xs. TryFoldedAs identity step reduce k c.args.pick xs out))
+          (λ out h. (h.0, h.1, try_folded_later identity step reduce k h.0 out c.args.pick (search rules) h.2))
+          c.try_fold_parallel.ensures.along;
+    }

@@ -15,8 +15,10 @@ returns g c =
     let reduce = λ (a : g.row.R.Denot) (b : g.row.R.Denot) (r : g.row.R.Denot). g.G.Fn.post c.args.reduce_op.now (a, (b, tt)) r in
     let k = cutdepth c.args.threads.value in
     let gives = g.P.Producer.gives in
-    record { along = unless_weaker c.bridge.result
-    (λ out. GivesSome gives c.args.parts (λ xs. TryAlongCut (λ l o. (v : Result g.row.R.Denot g.row.E.Denot) × TryFoldSegment identity step l v × TryFoldSegment identity (ReducesTo reduce) (v ∷ []) o) (λ a b o. OnlyOk (λ v. reduce a b v) o) (Shape k xs) out))
-    (λ out. GivesSome gives c.args.parts (λ xs. TryAlong identity step reduce (Shape k xs) out))
-    (λ out h. (h.0, h.1, try_fold_driven identity (TryFoldSegment identity step) reduce (Shape k h.0) out h.2))
-    c.bridge.ensures.along }
+    record {
+      along = unless_weaker c.bridge.result
+          (λ out. GivesSome gives c.args.parts (λ xs. TryAlongCut (λ l o. (v : Result g.row.R.Denot g.row.E.Denot) × TryFoldSegment identity step l v × TryFoldSegment identity (ReducesTo reduce) (v ∷ []) o) (λ a b o. OnlyOk (λ v. reduce a b v) o) (Shape k xs) out))
+          (λ out. GivesSome gives c.args.parts (λ xs. TryAlong identity step reduce (Shape k xs) out))
+          (λ out h. (h.0, h.1, try_fold_driven identity (TryFoldSegment identity step) reduce (Shape k h.0) out h.2))
+          c.bridge.ensures.along;
+    }

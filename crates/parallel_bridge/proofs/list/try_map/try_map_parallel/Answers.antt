@@ -15,8 +15,10 @@ returns g c =
     let allowed = λ (x : g.row.P-Item.Denot) (o : Result g.row.T.Denot g.row.E.Denot). g.F.Fn.post c.args.map_op.now (x, tt) o in
     let k = cutdepth c.args.threads.value in
     let gives = g.P.Producer.gives in
-    record { maps = unless_weaker c.bridge.result
-    (λ out. GivesSome gives c.args.parts (λ xs. TryAlongCut {R = Vec g.row.T.Denot Global} (λ l o. TryMapOf allowed l (listed o)) (λ a b o. OnlyOk (λ v. v.items ≡ a.items ++ b.items) o) (Shape k xs) out))
-    (λ out. GivesSome gives c.args.parts (λ xs. TryMapOf allowed xs (listed out)))
-    (λ out h. (h.0, h.1, try_map_shape allowed k h.0 out h.2))
-    c.bridge.ensures.along }
+    record {
+      maps = unless_weaker c.bridge.result
+          (λ out. GivesSome gives c.args.parts (λ xs. TryAlongCut {R = Vec g.row.T.Denot Global} (λ l o. TryMapOf allowed l (listed o)) (λ a b o. OnlyOk (λ v. v.items ≡ a.items ++ b.items) o) (Shape k xs) out))
+          (λ out. GivesSome gives c.args.parts (λ xs. TryMapOf allowed xs (listed out)))
+          (λ out h. (h.0, h.1, try_map_shape allowed k h.0 out h.2))
+          c.bridge.ensures.along;
+    }
