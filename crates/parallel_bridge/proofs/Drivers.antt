@@ -1,23 +1,31 @@
 -- What the bridge gives along a list's shape, by the consumers that are driven along it.
-use Rattle.std.proofs.Common.{◌≡◌, ℕ, List, [], ◌∷◌, ◌++◌, Result, Ok, Err, Option, IfOk, refl, sym, ◌∙◌, subst, inl, inr}
+use Rattle.std.proofs.Common.{◌≡◌, ℕ, List, [], ◌∷◌, ◌++◌, Result, Ok, Err, Option, IfOk, refl, sym, ◌∙◌, ap, subst, inl, inr}
 use Rattle.parallel_fault.specs.declared.fault.Trouble.{Trouble}
 use Rattle.parallel_fault.specs.declared.fault.Fault.{Fault}
 use Rattle.parallel_bridge.specs.Lists.{MapOf, FoldSegment}
 use Rattle.parallel_bridge.specs.Shapes.{Cut, segment, halves, cut_items, Shape, AlongCut, AlongLeaves}
 use Rattle.std.specs.declared.vec.Vec.{Vec}
 use Rattle.std.specs.declared.alloc.Global.{Global}
-use Rattle.parallel_bridge.specs.Outcomes.{UnlessRefused, listed}
+use Rattle.parallel_bridge.specs.Outcomes.{IsListed, UnlessRefused, joined, listed}
 use Rattle.parallel_bridge.specs.Tries.{TryAlongCut, OnlyOk, TryFoldSegment, TryReducedSegment, TryAlongLeaves, TryMapOf, EachOk}
 use Rattle.parallel_bridge.specs.Parts.{PartitionOf}
 use Rattle.parallel_bridge.specs.Onto.{ReducesTo}
 use Rattle.parallel_bridge.proofs.Shapes.{Shape-items, map_along_shape, MapOf-append}
 use Rattle.parallel_bridge.proofs.TryShapes.{try_along_wider}
-use Rattle.parallel_bridge.proofs.Onward.{onto_append, PartitionOf-append}
+use Rattle.parallel_bridge.proofs.Onward.{joined-append, onto_append, PartitionOf-append}
 
 -- of an answer that is handed on holds what follows from what is said of the outcome
 pub driven : {R E : Type 0} (answer : Result R (Trouble E)) (result : Result R Fault) (P : Result R E → Type 0) (Q : R → Type 0) → ((r : R) → P (Ok r) → Q r) → IfOk result (λ r. answer ≡ Ok r) → UnlessRefused answer P → IfOk result Q
 driven answer (Ok r) P Q f same h = f r (subst (λ a. UnlessRefused a P) same h)
 driven answer (Err f) P Q g same h = tt
+
+listed_only : {Y E : Type 0} (ys : List Y) (out : Result (List (Vec Y Global)) E) → OnlyOk (λ v. IsListed ys v) out → OnlyOk (λ v. joined v ≡ ys) out
+listed_only ys (Ok v) h = h.0
+listed_only ys (Err e) h = h
+
+joined_only : {Y E : Type 0} (a b : List (Vec Y Global)) (out : Result (List (Vec Y Global)) E) → OnlyOk (λ v. v ≡ a ++ b) out → OnlyOk (λ v. joined v ≡ joined a ++ joined b) out
+joined_only a b (Ok v) h = ap joined h ∙ joined-append a b
+joined_only a b (Err e) h = h
 
 module _ {X Y V : Type 0} (E : Type 0) (list : V → List Y) where
   -- lists of the answers that segment allows, joined
@@ -87,3 +95,10 @@ module _ {X K U : Type 0} (E : Type 0) (allowed : X → (K × Option U) → Type
 
   pub partition_shape : (k : ℕ) (xs : List X) (r : Vec U Global × Vec K Global) → TryAlongCut {E = E} (λ l o. OnlyOk (λ v. PartitionOf allowed l v.0.items v.1.items) o) (λ a b o. OnlyOk (λ c. (c.0.items ≡ a.0.items ++ b.0.items) × (c.1.items ≡ a.1.items ++ b.1.items)) o) (Shape k xs) (Ok r) → PartitionOf allowed xs r.0.items r.1.items
   partition_shape k xs r h = subst (λ l. PartitionOf allowed l r.0.items r.1.items) (Shape-items k xs) (partition_driven (Shape k xs) r h)
+
+-- the answers of a map whose segments' lists are kept apart, joined
+pub map_listed : {X Y : Type 0} (E : Type 0) (allowed : X → Y → Type 0) (k : ℕ) (xs : List X) (all : List (Vec Y Global)) → TryAlongCut {E = E} (λ l out. (ys : List Y) × MapOf allowed l ys × OnlyOk (λ v. IsListed ys v) out) (λ a b out. OnlyOk (λ v. v ≡ a ++ b) out) (Shape k xs) (Ok all) → MapOf allowed xs (joined all)
+map_listed {X = X} {Y = Y} E allowed k xs all h =
+    map_driven E joined allowed k xs all
+    (try_along_wider (λ l out. (ys : List Y) × MapOf allowed l ys × OnlyOk (λ v. IsListed ys v) out) (λ l out. (ys : List Y) × MapOf allowed l ys × OnlyOk (λ v. joined v ≡ ys) out) (λ a b out. OnlyOk (λ v. v ≡ a ++ b) out) (λ a b out. OnlyOk (λ v. joined v ≡ joined a ++ joined b) out)
+        (λ l out w. (w.0, w.1, listed_only w.0 out w.2)) (λ a b out n. joined_only a b out n) (Shape k xs) (Ok all) h)

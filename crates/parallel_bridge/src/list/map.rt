@@ -1,17 +1,19 @@
 //! Maps.
-ghost use Rattle.std.specs.Prelude.{IfOk, List};
+ghost use Rattle.std.specs.Prelude.{◌≡◌, IfOk, List};
 ghost use Rattle.std.specs.Iterator.{Drains, HoldsAlong, IsFinite};
 ghost use Rattle.std.specs.List.{All};
 ghost use Rattle.parallel_fault.specs.Trouble.{IsMemoryOnErr};
 ghost use Rattle.parallel_bridge.specs.Lists.{MapOf};
+ghost use Rattle.parallel_bridge.specs.Outcomes.{joined};
 ghost use Rattle.parallel_bridge.specs.Sources.{GivesSome};
 
 use crate::bridge::{bridge, unfailing};
-use crate::consumer::collect::CollectConsumer;
+use crate::consumer::list_vec::ListVecConsumer;
 use crate::consumer::map::MapConsumer;
 use crate::producer::Producer;
 use parallel_fault::Fault;
 use std::alloc::Global;
+use std::collections::LinkedList;
 use std::num::NonZeroUsize;
 use std::thread::Threads;
 
@@ -37,7 +39,8 @@ pub fn map_iter<I: Iterator, T: Drop, F: Fn(I::Item) -> T>(
 }
 
 /// The answers of `map_op` for the items of a list, in their order, where the segments of the list's
-/// shape for that many threads are answered side by side.
+/// shape for that many threads are answered side by side. The segments' lists are joined once, at the
+/// end.
 pub fn map_parallel<
     Rt: Threads + Sync,
     P: Producer,
@@ -50,10 +53,30 @@ pub fn map_parallel<
     ensures fault { IsMemoryOnErr result }
 {
     let mapping = MapConsumer {
-        base: CollectConsumer,
+        base: ListVecConsumer,
         map_op,
     };
-    unfailing(bridge(rt, alloc, threads, parts, mapping))
+    let len = parts.len();
+    let lists = unfailing(bridge(rt, alloc, threads, parts, mapping))?;
+    let answers = join_lists(alloc, len, lists)?;
+    Ok(answers)
+}
+
+// The items of the lists one after another, in one list with room for `len` of them from the start.
+fn join_lists<T: Drop>(
+    alloc: Global,
+    len: usize,
+    lists: LinkedList<Vec<T>>,
+) -> Result<Vec<T>, Fault>
+    ensures joined { IfOk result (λ all. all.items ≡ joined lists) }
+    ensures fault { IsMemoryOnErr result }
+{
+    let mut all = Vec::with_capacity(alloc, len)?;
+    for list in lists {
+        let mut more = list;
+        all.append(&mut more)?;
+    }
+    Ok(all)
 }
 
 /// The answers of `map_op` for the items of a list, in their order: as they come at pick 0, side by
