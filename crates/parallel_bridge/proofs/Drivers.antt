@@ -101,4 +101,4 @@ pub map_listed : {X Y : Type 0} (E : Type 0) (allowed : X → Y → Type 0) (k :
 map_listed {X = X} {Y = Y} E allowed k xs all h =
     map_driven E joined allowed k xs all
     (try_along_wider (λ l out. (ys : List Y) × MapOf allowed l ys × OnlyOk (λ v. IsListed ys v) out) (λ l out. (ys : List Y) × MapOf allowed l ys × OnlyOk (λ v. joined v ≡ ys) out) (λ a b out. OnlyOk (λ v. v ≡ a ++ b) out) (λ a b out. OnlyOk (λ v. joined v ≡ joined a ++ joined b) out)
-        (λ l out w. (w.0, w.1, listed_only w.0 out w.2)) (λ a b out n. joined_only a b out n) (Shape k xs) (Ok all) h)
+    (λ l out w. (w.0, w.1, listed_only w.0 out w.2)) (λ a b out n. joined_only a b out n) (Shape k xs) (Ok all) h)

@@ -18,11 +18,11 @@ returns-clause-maps g c =
     let k = cutdepth c.args.threads.value in
     let gives = g.P.Producer.gives in
     let kept : IfOk c.unfailing.result (λ r. GivesSome gives c.args.parts (λ xs. MapOf allowed xs (joined r))) =
-        driven c.bridge.result c.unfailing.result
-        (λ o. GivesSome gives c.args.parts (λ xs. TryAlongCut {E = Infallible} (λ l out. (ys : List g.row.T.Denot) × MapOf allowed l ys × OnlyOk (λ v. IsListed ys v) out) (λ a b out. OnlyOk (λ v. v ≡ a ++ b) out) (Shape k xs) o))
-        (λ r. GivesSome gives c.args.parts (λ xs. MapOf allowed xs (joined r)))
-        (λ r h. (h.0, h.1, map_listed Infallible allowed k h.0 r h.2))
-        c.unfailing.ensures.same c.bridge.ensures.along in
+    driven c.bridge.result c.unfailing.result
+    (λ o. GivesSome gives c.args.parts (λ xs. TryAlongCut {E = Infallible} (λ l out. (ys : List g.row.T.Denot) × MapOf allowed l ys × OnlyOk (λ v. IsListed ys v) out) (λ a b out. OnlyOk (λ v. v ≡ a ++ b) out) (Shape k xs) o))
+    (λ r. GivesSome gives c.args.parts (λ xs. MapOf allowed xs (joined r)))
+    (λ r h. (h.0, h.1, map_listed Infallible allowed k h.0 r h.2))
+    c.unfailing.ensures.same c.bridge.ensures.along in
     let lists = c.in_ok-lists.lists in
     let at : c.unfailing.result ≡ Ok lists = search rules in
     let w : GivesSome gives c.args.parts (λ xs. MapOf allowed xs (joined lists)) = subst (λ r. IfOk r (λ v. GivesSome gives c.args.parts (λ xs. MapOf allowed xs (joined v)))) at kept in
