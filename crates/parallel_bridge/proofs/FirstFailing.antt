@@ -33,11 +33,14 @@ module _ {Y E : Type 0} (allowed : ℕ → Result Y E → Type 0) (passes : ℕ 
   first_from n (suc count) (b ∷ before) x after (y ∷ ys) split each =
       let same : b ≡ n = cc in
       let rest : range_with_len (n + 1) count ≡ before ++ (x ∷ after) = cc in
-      let (low, high, below) = first_from (n + 1) count before x after ys rest each.1 in
-      (omega (arith, low), omega (arith, high), λ i from to. elim (cases_lt n i) [
-        | inl later ↦ below i (omega (arith, later)) to
-        | inr here ↦ let at : b ≡ i = omega (arith, same, here, from) in subst passes at (passing b y each.0)
-      ])
+      let (low, high, below) = first_from (n + 1) count before x after ys rest each.1 in (
+        omega (arith, low),
+        omega (arith, high),
+        λ i from to. elim (cases_lt n i) [
+          | inl later ↦ below i (omega (arith, later)) to
+          | inr here ↦ let at : b ≡ i = omega (arith, same, here, from) in subst passes at (passing b y each.0)
+        ],
+      )
 
   -- what came of a map over the indices below n
   pub first_failing : (n : ℕ) (result : Result (Vec Y Global) (Trouble E)) → UnlessRefused result (λ out. (xs : List ℕ) × (xs ≡ range_with_len 0 (n - 0)) × TryMapOf allowed xs (listed out)) → MatchResult result (λ _. (i : ℕ) → i < n → passes i) (λ trouble. IfClosure trouble (FailsFirst allowed passes n))
