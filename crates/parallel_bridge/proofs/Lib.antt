@@ -15,3 +15,6 @@ pub mod TryBracketings
 pub mod Drivers
 pub mod Picked
 pub mod Sorting
+pub mod OverLists
+pub mod FirstFailing
+pub mod WrappingSums
