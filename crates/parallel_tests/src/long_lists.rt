@@ -1,5 +1,5 @@
 // A strategy of a user's own, and what calls through it are known to answer.
-ghost use Rattle.std.specs.Prelude.{◌≡◌, ◌*◌, ◌<◌, ◌≤◌, List, true, length, map, IfOk, IfErr};
+ghost use Rattle.std.specs.Prelude.{◌≡◌, ◌*◌, ◌<◌, ◌≤◌, List, false, true, length, map, IfOk, IfErr};
 ghost use Rattle.std.specs.Int.NonZero.{non_zero_usize_get};
 ghost use Rattle.std.specs.Iterator.{IsFinite, Drains};
 ghost use Rattle.parallel_fault.specs.declared.fault.Fault.TheVariants.{Memory};
@@ -68,6 +68,9 @@ impl Strategy for LongLists {
 
     ghost starts = { λ _. true };
 
+    // It is asked about every call.
+    ghost unasked = { λ _. false };
+
     // How long a call ran is of no use to this strategy.
     type Measure = Unmeasured;
 
@@ -79,12 +82,14 @@ impl Strategy for LongLists {
         self.threads
     }
 
+    // A long list takes another pick than the first, so each call has to ask.
+    fn is_serial(&self) -> bool {
+        false
+    }
+
     fn starts_workers(&self) -> bool {
         true
     }
-
-    // `is_serial` keeps the trait's answer, which is no: a long list takes another pick than the first,
-    // so each call has to ask.
 
     // It has no policy, so the strategy without one is a copy of it.
     fn inner(&self) -> Result<LongLists, Fault> {

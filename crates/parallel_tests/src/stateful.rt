@@ -88,7 +88,7 @@ where
 /// # Errors
 ///
 /// `Fault::Memory` alone; the pairs are then a permutation of what they were.
-pub fn sort_by_first<Rt: Wait, P: Place, S: Strategy>(
+pub fn sort_by_first<Rt: Threads + Wait + Sync, P: Place, S: Strategy>(
     rt: &Rt,
     alloc: Global,
     strategy: &S,

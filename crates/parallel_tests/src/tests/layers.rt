@@ -1,10 +1,10 @@
 // Each call of the layers below a strategy, once by itself.
 use crate::tests::strategies::{SITE, number, pool};
 use commonware_parallel::bridge::bridge::depth_of;
-use commonware_parallel::bridge::parallel::{fold_parallel, map_parallel};
-use commonware_parallel::bridge::serial::{fold_iter, fold_serial, map_serial};
+use commonware_parallel::bridge::list::fold::{fold_iter, fold_parallel};
+use commonware_parallel::bridge::list::map::{map_iter, map_parallel};
 use commonware_parallel::rayon::install;
-use commonware_parallel::{Call, Kind, Sequential, Strategy, ThreadPool};
+use commonware_parallel::{Call, Copies, Kind, Sequential, Strategy, ThreadPool};
 use parallel_policy::Place;
 use std::num::NonZeroUsize;
 use std::test::Fail;
@@ -54,16 +54,21 @@ fn lists_are_driven_without_a_strategy(rt: HostRuntime) -> Result<(), Fail> {
     assert_eq!(rt; depth_of(NonZeroUsize::MAX), 64);
 
     let half = |number: u32| number / 2;
-    let halves = map_serial(alloc, vec![in alloc; 10, 20, 30]?, &half)?;
+    let halves = map_iter(alloc, vec![in alloc; 10, 20, 30]?.into_iter(), &half)?;
     assert_eq!(rt; halves.as_slice(), [5, 10, 15].as_slice());
-    let halves = map_parallel(&rt, alloc, two, vec![in alloc; 10, 20, 30]?, &half)?;
+    let tens = Copies {
+        slice: [10, 20, 30].as_slice(),
+    };
+    let halves = map_parallel(&rt, alloc, two, tens, &half)?;
     assert_eq!(rt; halves.as_slice(), [5, 10, 15].as_slice());
 
     let ten = || 10u32;
     let add = |left: u32, right: u32| left.wrapping_add(right);
-    assert_eq!(rt; fold_serial(vec![in alloc; 1, 2, 3]?, &ten, &add), 16);
     assert_eq!(rt; fold_iter(1..4u32, &ten, &add), 16);
-    let sum = fold_parallel(&rt, alloc, two, vec![in alloc; 1, 2, 3]?, &ten, &add, &add)?;
+    let few = Copies {
+        slice: [1, 2, 3].as_slice(),
+    };
+    let sum = fold_parallel(&rt, alloc, two, few, &ten, &add, &add)?;
     assert_eq!(rt; sum, 66);
     Ok(())
 }

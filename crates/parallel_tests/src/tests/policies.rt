@@ -120,3 +120,69 @@ fn folds_ask_the_policy_by_their_site(rt: HostRuntime) -> Result<(), Fail> {
     assert_eq!(rt; sum_from_ten(&rt, alloc, &strategy, other)?, 16);
     Ok(())
 }
+
+#[test]
+fn a_run_of_the_whole_budget_stays_parallel(rt: HostRuntime) -> Result<(), Fail> {
+    let alloc = rt.alloc();
+    let strategy = learning(&rt, alloc, 2_500_000);
+    assert_eq!(rt; which(&rt, alloc, &strategy)?, "parallel");
+    assert_eq!(rt; which(&rt, alloc, &strategy)?, "parallel");
+    Ok(())
+}
+
+#[test]
+fn a_policy_learns_apart_by_length(rt: HostRuntime) -> Result<(), Fail> {
+    let alloc = rt.alloc();
+    let strategy = learning(&rt, alloc, 100_000);
+    let take = |len: usize| one_of(&rt, alloc, &strategy, SITE, len, "serial", "parallel");
+    assert_eq!(rt; take(64)?, "parallel");
+    assert_eq!(rt; take(1000)?, "parallel");
+    assert_eq!(rt; take(64)?, "serial");
+    assert_eq!(rt; take(1000)?, "serial");
+    Ok(())
+}
+
+// The states of a map of three items: one for the whole list, or one for each segment.
+fn states_of_three<Rt: Threads + Wait + Sync, S: Strategy>(
+    rt: &Rt,
+    alloc: Global,
+    strategy: &S,
+    multiplier: usize,
+) -> Result<Vec<u32>, Fault> {
+    let numbers = [7u32, 7, 7];
+    let count = |state: &mut u32, _number: &u32| {
+        *state = state.wrapping_add(1);
+        *state
+    };
+    strategy.map_init_collect_vec_with_multiplier(
+        rt,
+        alloc,
+        SITE,
+        numbers.as_slice(),
+        multiplier,
+        || 0u32,
+        count,
+    )
+}
+
+#[test]
+fn a_policy_learns_apart_by_multiplier(rt: HostRuntime) -> Result<(), Fail> {
+    let alloc = rt.alloc();
+    let strategy = learning(&rt, alloc, 100_000);
+    assert_eq!(rt; states_of_three(&rt, alloc, &strategy, 1)?.as_slice(), [1, 1, 1].as_slice());
+    assert_eq!(rt; states_of_three(&rt, alloc, &strategy, 100)?.as_slice(), [1, 1, 1].as_slice());
+    assert_eq!(rt; states_of_three(&rt, alloc, &strategy, 1)?.as_slice(), [1, 2, 3].as_slice());
+    assert_eq!(rt; states_of_three(&rt, alloc, &strategy, 100)?.as_slice(), [1, 2, 3].as_slice());
+    Ok(())
+}
+
+#[test]
+fn a_sort_tells_the_policy_its_time(rt: HostRuntime) -> Result<(), Fail> {
+    let alloc = rt.alloc();
+    let strategy = learning(&rt, alloc, 100_000);
+    let mut numbers = [3u32, 1, 2];
+    strategy.sort_by(&rt, alloc, SITE, &mut numbers, |a: &u32, b: &u32| a.cmp(b))?;
+    assert_eq!(rt; numbers, [1, 2, 3]);
+    assert_eq!(rt; one_of(&rt, alloc, &strategy, SITE, 3, "serial", "parallel")?, "serial");
+    Ok(())
+}

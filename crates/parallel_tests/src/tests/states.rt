@@ -281,3 +281,20 @@ fn joins_are_parallel_whatever_a_pool_is_planned_for(rt: HostRuntime) -> Result<
     );
     Ok(())
 }
+
+#[test]
+fn many_numbers_are_sorted_on_four_threads(rt: HostRuntime) -> Result<(), Fail> {
+    let alloc = rt.alloc();
+    let strategy = pool(&rt, alloc, 4, 4);
+    let mut numbers = Vec::new(alloc);
+    for index in 0..20_000u32 {
+        numbers.push(index.wrapping_mul(7919) % 20_000)?;
+    }
+    strategy.sort_by(&rt, alloc, SITE, numbers.as_mut_slice(), |a: &u32, b: &u32| a.cmp(b))?;
+    let mut sorted = 0u32;
+    for number in numbers {
+        assert_eq!(rt; number, sorted);
+        sorted = sorted.wrapping_add(1);
+    }
+    Ok(())
+}

@@ -32,3 +32,39 @@ fn two_items_see_each_other_on_two_threads(rt: HostRuntime) -> Result<(), Fail> 
     assert_eq!(rt; seen.as_slice(), [true, true].as_slice());
     Ok(())
 }
+
+#[test]
+fn two_items_of_a_fallible_map_see_each_other(rt: HostRuntime) -> Result<(), Fail> {
+    let strategy = pool(&rt, rt.alloc(), 2, 2);
+    let first = AtomicBool::new(false);
+    let second = AtomicBool::new(false);
+    let both = |item: u32| -> Result<bool, u32> {
+        if item == 0 {
+            Ok(sees(&first, &second))
+        } else {
+            Ok(sees(&second, &first))
+        }
+    };
+    let seen = strategy.try_map_collect_vec(&rt, rt.alloc(), SITE, 0..2u32, both);
+    assert!(rt; matches!(seen, Ok(answers) if answers.as_slice() == [true, true].as_slice()));
+    Ok(())
+}
+
+#[test]
+fn two_items_of_a_partition_see_each_other(rt: HostRuntime) -> Result<(), Fail> {
+    let strategy = pool(&rt, rt.alloc(), 2, 2);
+    let first = AtomicBool::new(false);
+    let second = AtomicBool::new(false);
+    let both = |item: u32| {
+        let seen = if item == 0 {
+            sees(&first, &second)
+        } else {
+            sees(&second, &first)
+        };
+        (item, Some(seen))
+    };
+    let (seen, left) = strategy.map_partition_collect_vec(&rt, rt.alloc(), SITE, 0..2u32, both)?;
+    assert_eq!(rt; seen.as_slice(), [true, true].as_slice());
+    assert!(rt; left.is_empty());
+    Ok(())
+}

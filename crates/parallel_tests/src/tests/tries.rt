@@ -154,8 +154,8 @@ fn a_fold_stops_at_its_first_error(rt: HostRuntime) -> Result<(), Fail> {
     );
     assert!(rt; matches!(sum_to_ten(&rt, alloc, &one), Err(Trouble::Closure(6))));
     assert!(rt; matches!(sum_to_ten(&rt, alloc, &two), Ok(12)));
-    let own = Sequential.try_fold(alloc, SITE, 6..8u32, zero, add_to_ten, add);
-    assert!(rt; matches!(own, Err(Trouble::Closure(7))));
+    let own = Sequential.try_fold(SITE, 6..8u32, zero, add_to_ten, add);
+    assert!(rt; matches!(own, Err(7)));
 
     let one_piece = try_fold_in_one(
         &rt,
