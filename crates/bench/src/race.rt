@@ -190,6 +190,8 @@ fn run_round<Rt: Threads + Wait + Sync, C: Clock>(
         let before = work(way)?;
         if trial.is_fresh {
             kept.push(before)?;
+        } else {
+            drop(before);
         }
         let start = clock.now();
         let answer = work(way);
