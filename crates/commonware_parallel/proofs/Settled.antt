@@ -1,5 +1,5 @@
 -- What an answer at a pick says of the list that a source gave.
-use Rattle.std.proofs.Common.{◌≡◌, ℕ, ◌<◌, List, length, Result, Ok, Err, IfOk, subst, arith}
+use Rattle.std.proofs.Common.{◌≡◌, ℕ, ◌<◌, List, Bool, length, Result, Ok, Err, IfOk, sym, subst, arith}
 use Rattle.parallel_fault.specs.declared.fault.Trouble.{Trouble}
 use Rattle.parallel_fault.specs.declared.fault.Trouble.TheVariants.{Closure}
 use Rattle.parallel_fault.specs.declared.fault.Trouble.TheVariants.{Fault as OfFault}
@@ -7,7 +7,9 @@ use Rattle.parallel_bridge.specs.Outcomes.{UnlessRefused}
 use Rattle.parallel_bridge.specs.Shapes.{cutdepth}
 use Rattle.parallel_bridge.specs.Sources.{GivesSome}
 use Rattle.commonware_parallel.specs.Answers.{UnlessFault}
-use Rattle.commonware_parallel.specs.Calls.{AtSomePick}
+use Rattle.commonware_parallel.specs.Calls.{AtSomePick, IsInnerOf}
+use Rattle.parallel_fault.specs.declared.fault.Fault.{Fault}
+use Rattle.parallel_policy.specs.declared.Site.{Site}
 use Rattle.commonware_parallel.specs.declared.call.Call.{Call}
 
 -- a fact at the depth for the thread number that the code took holds at the one for the clause's
@@ -47,3 +49,7 @@ outcome_at_threads gives parts takes fact taken threads same (Ok r) answered w f
 outcome_at_threads gives parts takes fact taken threads same (Err (Closure e)) answered w fault says =
     at_threads gives parts takes (λ depth pick xs. fact depth pick xs (Err e)) taken threads same w.0 w.1 w.2 (says w.0 w.3)
 outcome_at_threads gives parts takes fact taken threads same (Err (OfFault f)) answered w fault says = fault
+
+-- the inner strategy, where it is named through an equation
+pub inner_of : {S : Type 0} (takes : S → Site → Call → ℕ → Type 0) (refuses : S → Site → Call → Fault → Type 0) (plans threads : S → ℕ) (starts : S → Bool) (outer inner named : S) → named ≡ inner → IsInnerOf takes refuses plans threads starts outer inner → IsInnerOf takes refuses plans threads starts outer named
+inner_of takes refuses plans threads starts outer inner named same h = subst (IsInnerOf takes refuses plans threads starts outer) (sym same) h

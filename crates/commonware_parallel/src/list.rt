@@ -7,13 +7,14 @@
 ghost use Rattle.std.specs.Prelude.{◌≡◌, ◌<◌, ℕ, List, IfOk, IfErr, length};
 ghost use Rattle.std.specs.Borrow.{MutBor};
 ghost use Rattle.std.specs.Int.NonZero.{non_zero_usize_get};
+ghost use Rattle.std.specs.Iterator.{Drains, IsFinite};
 ghost use Rattle.parallel_bridge.specs.Lists.{MapOf};
 ghost use Rattle.parallel_bridge.specs.Outcomes.{UnlessRefused, listed};
 ghost use Rattle.parallel_bridge.specs.Parts.{PartitionOf};
 ghost use Rattle.parallel_bridge.specs.Shapes.{cutdepth};
 ghost use Rattle.parallel_bridge.specs.Sources.{GivesSome};
 ghost use Rattle.parallel_bridge.specs.States.{FoldStep, MapStep};
-ghost use Rattle.parallel_bridge.specs.Tries.{TryMapOf};
+ghost use Rattle.parallel_bridge.specs.Tries.{TryFoldSegment, TryMapOf};
 ghost use Rattle.parallel_bridge.specs.Ways.{FoldedAs, FoldedInitAs, MappedInitAs, TryFoldedAs};
 ghost use Rattle.parallel_fault.specs.Trouble.{IsMemoryOnErr};
 ghost use Rattle.parallel_fault.specs.declared.fault.Fault.{Fault};
@@ -31,7 +32,7 @@ use parallel_bridge::list::fold_init::fold_init_at;
 use parallel_bridge::list::map::map_at;
 use parallel_bridge::list::map_init::map_init_at;
 use parallel_bridge::list::partition::partition_at;
-use parallel_bridge::list::try_fold::try_fold_at;
+use parallel_bridge::list::try_fold::{try_fold_at, try_fold_iter};
 use parallel_bridge::list::try_map::try_map_at;
 use parallel_fault::{Fault, Trouble};
 use parallel_policy::Place;
@@ -416,6 +417,29 @@ pub fn try_fold_through<
         )
     };
     dispatch_fallible(strategy, rt, alloc, site, call, body)
+}
+
+/// A fold by steps that may fail over the items that an iterator gives, as they come.
+pub fn try_fold_as_it_comes<
+    I: Iterator,
+    R: Drop,
+    E: Drop,
+    ID: Fn() -> R,
+    F: Fn(R, I::Item) -> Result<R, E>,
+>(iter: I, identity: &ID, fold_op: &F) -> Result<R, Trouble<E>>
+where
+    I::Item: Drop,
+    requires can { I.can_next iter }
+    requires ends { IsFinite (I.remaining iter) }
+    requires identity_accepts { ID.IsAlwaysCallable identity.now }
+    requires fold_accepts { F.IsAlwaysCallable fold_op.now }
+    ensures { UnlessRefused result (λ out. GivesSome (Drains I.next_gives) iter
+        (λ xs. TryFoldSegment (ID.post identity.now) (λ a x o. F.post fold_op.now a x o) xs out)) }
+{
+    match try_fold_iter(iter, identity, fold_op) {
+        Ok(value) => Ok(value),
+        Err(error) => Err(Trouble::Closure(error)),
+    }
 }
 
 // The next three are calls of another crate's functions, written as functions of this one: from a closure

@@ -19,7 +19,8 @@ use crate::batches::Batches;
 use crate::call::{Call, Kind};
 use crate::list::{
     body_over, dispatch_call, fold_init_through, fold_through, map_init_through, map_through,
-    multiplied_body_over, partition_through, try_fold_through, try_map_through,
+    multiplied_body_over, partition_through, try_fold_as_it_comes, try_fold_through,
+    try_map_through,
 };
 use crate::meter::Meter;
 use parallel_bridge::Source;
@@ -29,7 +30,6 @@ use parallel_bridge::list::map::map_iter;
 use parallel_bridge::list::map_init::map_init_iter;
 use parallel_bridge::list::partition::partition_iter;
 use parallel_bridge::list::sort::sort_parallel;
-use parallel_bridge::list::try_fold::try_fold_iter;
 use parallel_bridge::list::try_map::try_map_iter;
 use parallel_fault::{Fault, Trouble};
 use parallel_policy::Place;
@@ -590,10 +590,7 @@ pub trait Strategy: Clone + Send + Sync + Debug + 'static {
         ensures fault { IfErr result (λ trouble. IfFault trouble (λ fault. fault ≡ Memory)) }
     {
         if self.is_serial() {
-            return match try_fold_iter(source.into_items(), &identity, &fold_op) {
-                Ok(value) => Ok(value),
-                Err(error) => Err(Trouble::Closure(error)),
-            };
+            return try_fold_as_it_comes(source.into_items(), &identity, &fold_op);
         }
         let parts = source.into_parts(alloc)?;
         let call = body_over(&parts);

@@ -23,6 +23,10 @@ abbrev pub joined : {T : Type 0} → List (Vec T Global) → List T
 joined [] = []
 joined (v ∷ vs) = v.items ++ joined vs
 
+-- the items in one list, and no list where there are no items
+abbrev pub IsListed : {T : Type 0} → List T → List (Vec T Global) → Type 0
+IsListed xs all = (joined all ≡ xs) × (xs ≡ [] → all ≡ [])
+
 -- of two neighbours' outcomes the left one's trouble stands, behind a value of it the right one's, and two values are put together as node allows
 abbrev pub PutTogether : {R E : Type 0} → (R → R → Result R E → Type 0) → Result R (Trouble E) → Result R (Trouble E) → Result R (Trouble E) → Type 0
 PutTogether node (Err t) second result = result ≡ Err t

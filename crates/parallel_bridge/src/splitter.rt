@@ -1,5 +1,5 @@
 //! How often a list is split.
-ghost use Rattle.std.specs.Prelude.{◌≡◌, ◌/◌, ◌<◌, ◌≤◌, ◌↔◌, IsTrue, max};
+ghost use Rattle.std.specs.Prelude.{◌≡◌, ◌/◌, ◌<◌, ◌≤◌, ◌↔◌, IsTrue, false, max};
 ghost use Rattle.std.specs.Int.NonZero.{non_zero_usize_get};
 
 use std::num::NonZeroUsize;
@@ -57,6 +57,7 @@ impl LengthSplitter {
     pub fn try_split(&mut self, len: usize) -> bool
         ensures splits { IsTrue result ↔ ((self.old.min ≤ len / 2) × (0 < self.old.inner.splits)) }
         ensures halved { IsTrue result → self.new.inner.splits ≡ self.old.inner.splits / 2 }
+        ensures kept { result ≡ false → self.new.inner.splits ≡ self.old.inner.splits }
         ensures least { self.new.min ≡ self.old.min }
     {
         len / 2 >= self.min && self.inner.try_split()

@@ -17,3 +17,4 @@ pub mod JobHistory
 pub mod Broadcast
 pub mod JobSeat
 pub mod JobQueues
+pub mod BuildErrors

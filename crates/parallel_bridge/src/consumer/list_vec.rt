@@ -1,7 +1,7 @@
 //! A list of lists, one for each segment.
 ghost use Rattle.std.specs.Prelude.{◌≡◌, ◌++◌, IfOk, List, Result};
 ghost use Rattle.parallel_bridge.specs.Tries.{OnlyOk};
-ghost use Rattle.parallel_bridge.specs.Outcomes.{joined};
+ghost use Rattle.parallel_bridge.specs.Outcomes.{IsListed};
 
 use crate::plumbing::{Consumer, Folder, Reducer};
 use parallel_fault::{Fault, Trouble};
@@ -28,7 +28,7 @@ pub struct ListReducer;
 impl<T: Drop, E> Reducer<LinkedList<Vec<T>>, E> for ListReducer {
     ghost can_reduce = { λ _ _ _. Unit {0} };
 
-    ghost reduce_gives = { λ _ left right out. OnlyOk (λ all. joined all ≡ joined left ++ joined right) out };
+    ghost reduce_gives = { λ _ left right out. OnlyOk (λ all. all ≡ left ++ right) out };
 
     fn reduce(
         self,
@@ -47,7 +47,7 @@ impl<T: Drop, E> Folder<T, LinkedList<Vec<T>>, E> for ListVecFolder<T> {
 
     ghost takes = { λ _ _. Unit {0} };
 
-    ghost gives = { λ s xs out. OnlyOk (λ all. joined all ≡ s.vec.items ++ xs) out };
+    ghost gives = { λ s xs out. OnlyOk (λ all. IsListed (s.vec.items ++ xs) all) out };
 
     fn consume(self, _alloc: Global, item: T) -> Result<Self, Fault> {
         let mut vec = self.vec;
@@ -94,9 +94,9 @@ impl<T: Send + Drop> Consumer<T> for ListVecConsumer {
 
     ghost fits = { λ _ _. Unit {0} };
 
-    ghost leaf_gives = { λ _ xs out. OnlyOk (λ all. joined all ≡ xs) out };
+    ghost leaf_gives = { λ _ xs out. OnlyOk (λ all. IsListed xs all) out };
 
-    ghost node_gives = { λ _ left right out. OnlyOk (λ all. joined all ≡ joined left ++ joined right) out };
+    ghost node_gives = { λ _ left right out. OnlyOk (λ all. all ≡ left ++ right) out };
 
     fn split_at(self, _index: usize) -> Result<(Self, Self, ListReducer), Fault> {
         Ok((ListVecConsumer, ListVecConsumer, ListReducer))

@@ -1,6 +1,7 @@
 // Why a pool could not be made.
 ghost use Rattle.std.specs.Prelude.{◌≡◌};
 
+use parallel_fault::Fault;
 use std::alloc::{AllocError, AllocFailed};
 use thiserror::Error;
 
@@ -34,5 +35,19 @@ impl<T: Drop> From<AllocFailed<T>> for ThreadPoolBuildError {
 
     fn from(_error: AllocFailed<T>) -> ThreadPoolBuildError {
         ThreadPoolBuildError::Memory
+    }
+}
+
+/// Want of memory is `Fault::Memory`, and a worker that could not be started `Fault::Worker`.
+impl From<ThreadPoolBuildError> for Fault {
+    ghost use Rattle.parallel_pool.specs.BuildErrors.{fault_of};
+
+    ghost from_gives = { λ error fault. fault ≡ fault_of error };
+
+    fn from(error: ThreadPoolBuildError) -> Fault {
+        match error {
+            ThreadPoolBuildError::Memory => Fault::Memory,
+            ThreadPoolBuildError::Spawn => Fault::Worker,
+        }
     }
 }
