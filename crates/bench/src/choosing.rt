@@ -22,7 +22,8 @@ pub const LENGTHS: u32 = 8;
 /// Times a trial of choices, and prints a line for each way and recording.
 pub fn race_choices<Rt>(rt: &Rt, trial: ChoiceTrial) -> Result<()>
 where
-    Rt: time::Clock + Print + AllocGlobal + Wait + Clone + Drop + Send + Sync + Debug + 'static, {
+    Rt: time::Clock + Print + AllocGlobal + Wait + Clone + Drop + Send + Sync + Debug + 'static,
+{
     let alloc = rt.alloc();
     let clock = MonotonicClock::new(rt.clone()?)?;
     let keys = keys_of(alloc, trial.threads.get())?;

@@ -18,8 +18,11 @@ const FORTH: [Way; 4] = [Way::Loop, Way::Sequential, Way::Rayon, Way::Policy];
 /// Their order in the rounds between, so that no way always comes after the same other one.
 const BACK: [Way; 4] = [Way::Policy, Way::Rayon, Way::Sequential, Way::Loop];
 
-/// How many calls a policy sees before the first round.
-const WARM_UP: u64 = 64;
+/// How many calls a policy sees before the first round, at most.
+const WARM_UP: usize = 1000;
+
+/// After how many nanoseconds no more such calls are made.
+const WARM_UP_TIME: u64 = 500_000_000;
 
 /// A number for each way, of one round.
 #[derive(Clone, Copy, Debug, Default, PartialEq, Eq)]
@@ -80,7 +83,12 @@ impl Readings {
         report(rt, "loop", plain, plain)?;
         report(rt, "Sequential", Times::of(self.sequential)?, plain)?;
         report(rt, "Rayon", Times::of(self.parallel)?, plain)?;
-        report(rt, "Rayon with its policy", Times::of(self.learning)?, plain)
+        report(
+            rt,
+            "Rayon with its policy",
+            Times::of(self.learning)?,
+            plain,
+        )
     }
 }
 
@@ -111,7 +119,7 @@ where
         learning: &learning,
     };
     let mut items = items_of(alloc, trial.case, trial.len)?;
-    warm_up(rt, alloc, &strategies, trial, items.as_slice())?;
+    warm_up(rt, alloc, &clock, &strategies, trial, items.as_slice())?;
     let mut readings = Readings::new(alloc);
     let mut kept = Vec::new(alloc);
     for number in 0..rounds_of(trial.len) {
@@ -141,16 +149,20 @@ pub fn rounds_of(len: usize) -> u64 {
     pairs.clamp(3, 500) as u64 * 2 + 1
 }
 
-/// Calls the strategy that has a policy, so that the policy knows both of its choices: 64 times, and
-/// as often as there are rounds where the list is long.
+/// Calls the strategy that has a policy, until the policy has settled: 1000 times, or for half a second.
 fn warm_up<Rt: Threads + Wait + Sync, C: Clock>(
     rt: &Rt,
     alloc: Global,
+    clock: &C,
     strategies: &Strategies<'_, C>,
     trial: Trial,
     items: &[u64],
 ) -> Result<()> {
-    for _ in 0..rounds_of(trial.len).min(WARM_UP) {
+    let start = clock.now();
+    for _ in 0..WARM_UP {
+        if clock.now().saturating_sub(start) > WARM_UP_TIME {
+            return Ok(());
+        }
         let _ = by_way(
             rt,
             alloc,

@@ -15,9 +15,7 @@ impl Times {
         let mut sorted = readings;
         sorted.sort()?;
         let best = *sorted.first().context("nothing was timed")?;
-        let median = *sorted
-            .get(sorted.len() / 2)
-            .context("nothing was timed")?;
+        let median = *sorted.get(sorted.len() / 2).context("nothing was timed")?;
         Ok(Times { best, median })
     }
 }
