@@ -1,31 +1,113 @@
-// The same cases by a strategy.
-ghost use Rattle.std.specs.Prelude.{◌≡◌, ◌+◌, ◌%◌, ◌^◌, Ok, IfOk, map, filter, sum};
-ghost use Rattle.std.specs.List.Sorted.{IsPermutation, IsNonDecreasing};
-ghost use Rattle.std.specs.Ordering.{nat_cmp};
-ghost use Rattle.bench.specs.Work.{light_of, pair_of, is_even, is_odd};
-
-use crate::ways::SITE;
-use crate::work::{light, try_light};
-use commonware_parallel::{Fault, Strategy, Trouble};
+// The same cases by a strategy, over any source of the items.
+use crate::work::{heavy, light, rising, try_light};
+use commonware_parallel::{Fault, Site, Source, Strategy, Trouble};
 use std::alloc::Global;
 use std::cmp::Ordering;
 use std::sync::Wait;
 use std::thread::Threads;
 
-/// What the light function makes of each item, by a closure that may fail.
-pub fn try_map_light<Rt: Threads + Wait + Sync, S: Strategy>(
+/// The place of every call.
+pub const SITE: Site = Site {
+    file: "bench",
+    line: 1,
+    column: 1,
+};
+
+/// What the light function makes of each item.
+#[inline(never)]
+pub fn map_light<Rt: Threads + Wait + Sync, S: Strategy, M, I: Source<M, Item = u64>>(
     rt: &Rt,
     alloc: Global,
     strategy: &S,
-    items: &[u64],
+    source: I,
 ) -> Result<Vec<u64>, Fault>
-    ensures { IfOk result (λ ys. ys.items ≡ map light_of items.now) }
+    requires { I.can source }
 {
-    let iter = items.iter().copied();
-    let op = |item: u64| -> Result<u64, Fault>
-        ensures { result ≡ Ok (light_of item) }
-    { try_light(item) };
-    match strategy.try_map_collect_vec(rt, alloc, SITE, iter, op) {
+    strategy.map_collect_vec(rt, alloc, SITE, source, |item: u64| light(item))
+}
+
+/// What the heavy function makes of each item.
+#[inline(never)]
+pub fn map_heavy<Rt: Threads + Wait + Sync, S: Strategy, M, I: Source<M, Item = u64>>(
+    rt: &Rt,
+    alloc: Global,
+    strategy: &S,
+    source: I,
+) -> Result<Vec<u64>, Fault>
+    requires { I.can source }
+{
+    strategy.map_collect_vec(rt, alloc, SITE, source, |item: u64| heavy(item))
+}
+
+/// What the function of rising work makes of each item.
+#[inline(never)]
+pub fn map_rising<Rt: Threads + Wait + Sync, S: Strategy, M, I: Source<M, Item = u64>>(
+    rt: &Rt,
+    alloc: Global,
+    strategy: &S,
+    source: I,
+) -> Result<Vec<u64>, Fault>
+    requires { I.can source }
+{
+    strategy.map_collect_vec(rt, alloc, SITE, source, |item: u64| rising(item))
+}
+
+/// The sum of the items.
+#[inline(never)]
+pub fn fold_light<Rt: Threads + Wait + Sync, S: Strategy, M, I: Source<M, Item = u64>>(
+    rt: &Rt,
+    alloc: Global,
+    strategy: &S,
+    source: I,
+) -> Result<u64, Fault>
+    requires { I.can source }
+{
+    let add = |left: u64, right: u64| left.wrapping_add(right);
+    strategy.fold(rt, alloc, SITE, source, || 0u64, add, add)
+}
+
+/// The sum of what the heavy function makes of each item.
+#[inline(never)]
+pub fn fold_heavy<Rt: Threads + Wait + Sync, S: Strategy, M, I: Source<M, Item = u64>>(
+    rt: &Rt,
+    alloc: Global,
+    strategy: &S,
+    source: I,
+) -> Result<u64, Fault>
+    requires { I.can source }
+{
+    let op = |total: u64, item: u64| total.wrapping_add(heavy(item));
+    let add = |left: u64, right: u64| left.wrapping_add(right);
+    strategy.fold(rt, alloc, SITE, source, || 0u64, op, add)
+}
+
+/// The sum of what the function of rising work makes of each item.
+#[inline(never)]
+pub fn fold_rising<Rt: Threads + Wait + Sync, S: Strategy, M, I: Source<M, Item = u64>>(
+    rt: &Rt,
+    alloc: Global,
+    strategy: &S,
+    source: I,
+) -> Result<u64, Fault>
+    requires { I.can source }
+{
+    let op = |total: u64, item: u64| total.wrapping_add(rising(item));
+    let add = |left: u64, right: u64| left.wrapping_add(right);
+    strategy.fold(rt, alloc, SITE, source, || 0u64, op, add)
+}
+
+/// What the light function makes of each item, by a closure that may fail.
+#[inline(never)]
+pub fn try_map_light<Rt: Threads + Wait + Sync, S: Strategy, M, I: Source<M, Item = u64>>(
+    rt: &Rt,
+    alloc: Global,
+    strategy: &S,
+    source: I,
+) -> Result<Vec<u64>, Fault>
+    requires { I.can source }
+{
+    let op = |item: u64| try_light(item);
+    match strategy.try_map_collect_vec(rt, alloc, SITE, source, op) {
         Ok(answers) => Ok(answers),
         Err(Trouble::Closure(fault)) => Err(fault),
         Err(Trouble::Fault(fault)) => Err(fault),
@@ -33,70 +115,64 @@ pub fn try_map_light<Rt: Threads + Wait + Sync, S: Strategy>(
 }
 
 /// The sum of the items, with a state at hand that counts them.
-pub fn fold_init<Rt: Threads + Wait + Sync, S: Strategy>(
+#[inline(never)]
+pub fn fold_init<Rt: Threads + Wait + Sync, S: Strategy, M, I: Source<M, Item = u64>>(
     rt: &Rt,
     alloc: Global,
     strategy: &S,
-    items: &[u64],
+    source: I,
 ) -> Result<u64, Fault>
-    ensures { IfOk result (λ total. total ≡ sum items.now % 2 ^ 64) }
+    requires { I.can source }
 {
-    let iter = items.iter().copied();
-    let init = || 0u64;
-    let zero = || -> u64
-        ensures { result ≡ 0 }
-    { 0 };
-    let count_and_add = |total: u64, count: &mut u64, item: u64| -> u64
-        ensures { result ≡ (total + item) % 2 ^ 64 }
-    {
+    let count_and_add = |total: u64, count: &mut u64, item: u64| -> u64 {
         *count = count.wrapping_add(1);
         total.wrapping_add(item)
     };
-    let add = |left: u64, right: u64| -> u64
-        ensures { result ≡ (left + right) % 2 ^ 64 }
-    { left.wrapping_add(right) };
-    let total = strategy.fold_init(rt, alloc, SITE, iter, init, zero, count_and_add, add)?;
-    Ok(total)
+    let add = |left: u64, right: u64| left.wrapping_add(right);
+    strategy.fold_init(
+        rt,
+        alloc,
+        SITE,
+        source,
+        || 0u64,
+        || 0u64,
+        count_and_add,
+        add,
+    )
 }
 
 /// What the light function makes of the even items, and the odd items, in order.
-pub fn partition<Rt: Threads + Wait + Sync, S: Strategy>(
+#[inline(never)]
+pub fn partition<Rt: Threads + Wait + Sync, S: Strategy, M, I: Source<M, Item = u64>>(
     rt: &Rt,
     alloc: Global,
     strategy: &S,
-    items: &[u64],
+    source: I,
 ) -> Result<(Vec<u64>, Vec<u64>), Fault>
-    ensures values { IfOk result (λ parts. parts.0.items ≡ map light_of (filter is_even items.now)) }
-    ensures keys { IfOk result (λ parts. parts.1.items ≡ filter is_odd items.now) }
+    requires { I.can source }
 {
-    let iter = items.iter().copied();
-    let op = |item: u64| -> (u64, Option<u64>)
-        ensures { result ≡ pair_of item }
-    {
+    let op = |item: u64| -> (u64, Option<u64>) {
         if item % 2 == 0 {
             (item, Some(light(item)))
         } else {
             (item, None)
         }
     };
-    let parts = strategy.map_partition_collect_vec(rt, alloc, SITE, iter, op)?;
-    Ok(parts)
+    strategy.map_partition_collect_vec(rt, alloc, SITE, source, op)
 }
 
 /// The items in rising order.
-pub fn sort<Rt: Threads + Wait + Sync, S: Strategy>(
+#[inline(never)]
+pub fn sort<Rt: Threads + Wait + Sync, S: Strategy, M, I: Source<M, Item = u64>>(
     rt: &Rt,
     alloc: Global,
     strategy: &S,
-    items: &[u64],
+    source: I,
 ) -> Result<Vec<u64>, Fault>
-    ensures permutation { IfOk result (λ ys. IsPermutation items.now ys.items) }
-    ensures sorted { IfOk result (λ ys. IsNonDecreasing ys.items) }
+    requires { I.can source }
 {
-    let mut sorted: Vec<u64> = items.iter().copied().collect(alloc)?;
-    let rising = |left: &u64, right: &u64| -> Ordering
-        ensures { result ≡ nat_cmp left.now right.now }
-    { left.cmp(right) };
+    let mut sorted: Vec<u64> = source.into_items().collect(alloc)?;
+    let rising = |left: &u64, right: &u64| -> Ordering { left.cmp(right) };
     strategy.sort_by(rt, alloc, SITE, sorted.as_mut_slice(), rising)?;
     Ok(sorted)
 }

@@ -1,5 +1,4 @@
 // Rounds of choices by keys that are known, and what a choice with its record takes.
-ghost use Rattle.std.specs.Prelude.{◌≡◌, ◌*◌, ◌<◌, ◌≤◌, All, IsOk, IfOk, OnOk, length};
 
 use crate::decimal::Decimal;
 use crate::learner::{Learner, Recording, Shared};
@@ -45,9 +44,7 @@ where
 }
 
 /// The keys that are chosen for: each site with each length.
-pub fn keys_of(alloc: Global, parallelism: usize) -> Result<Vec<Key>, AllocError>
-    ensures { IfOk result (λ keys. length keys.items ≡ 64) }
-{
+pub fn keys_of(alloc: Global, parallelism: usize) -> Result<Vec<Key>, AllocError> {
     let mut keys = Vec::new(alloc);
     for number in 0..SITES * LENGTHS {
         let site = Site {
@@ -71,20 +68,18 @@ fn time_rounds<C: Clock, L: Learner>(
     keys: &[Key],
     trial: ChoiceTrial,
     recording: Recording,
-) -> Result<Times>
-    requires { 0 < length keys.now }
-{
+) -> Result<Times> {
     let parallelism = trial.threads.get();
     learn(learner, keys, parallelism)?;
     let mut readings = Vec::new(alloc);
     for _ in 0..rounds_of(trial.len) {
-        let _ = round(learner, keys, trial.len, parallelism, recording)?;
+        round(learner, keys, trial.len, parallelism, recording)?;
         let start = clock.now();
-        let _ = round(learner, keys, trial.len, parallelism, recording)?;
+        round(learner, keys, trial.len, parallelism, recording)?;
         let end = clock.now();
         readings.push(end.saturating_sub(start))?;
     }
-    Ok(Times::of(readings)?)
+    Times::of(readings)
 }
 
 /// Asks once for each key, so that it is known from then on.
@@ -92,9 +87,7 @@ fn time_rounds<C: Clock, L: Learner>(
 /// # Errors
 ///
 /// `Fault::Memory` where a new entry was refused memory.
-pub fn learn<L: Learner>(learner: &mut L, keys: &[Key], parallelism: usize) -> Result<(), Fault>
-    ensures { OnOk result (All (L.knows learner.new) keys.now) }
-{
+pub fn learn<L: Learner>(learner: &mut L, keys: &[Key], parallelism: usize) -> Result<(), Fault> {
     for key in keys {
         let _ = learner.ask(*key, parallelism, nanoseconds_of(0), Recording::Every)?;
     }
@@ -102,10 +95,7 @@ pub fn learn<L: Learner>(learner: &mut L, keys: &[Key], parallelism: usize) -> R
 }
 
 /// `len` choices one after the other, over the keys in turn, each with its record where it is
-/// recorded. Answers how many were.
-///
-/// Where nothing else changes the learner and every key is known, the round isn't refused: it needs
-/// no memory.
+/// recorded.
 ///
 /// # Errors
 ///
@@ -116,28 +106,19 @@ pub fn round<L: Learner>(
     len: usize,
     parallelism: usize,
     recording: Recording,
-) -> Result<usize, Fault>
-    requires { 0 < length keys.now }
-    ensures known { L.alone → All (L.knows learner.old) keys.now → IsOk result }
-    ensures most { IfOk result (λ recorded. recorded ≤ len) }
-    ensures every { recording ≡ Recording.Every → IfOk result (λ recorded. recorded ≡ len) }
-{
-    let mut recorded = 0;
+) -> Result<(), Fault> {
     for number in 0..len {
-        let key = keys[number % keys.len()];
-        if learner.ask(key, parallelism, nanoseconds_of(number), recording)? {
-            recorded += 1;
-        }
+        let Some(key) = keys.get(number % keys.len().max(1)) else {
+            return Ok(());
+        };
+        let _ = learner.ask(*key, parallelism, nanoseconds_of(number), recording)?;
     }
-    Ok(recorded)
+    Ok(())
 }
 
 /// What the choice of that number is said to have taken: half a millisecond, and up to a microsecond
 /// more.
-fn nanoseconds_of(number: usize) -> u64
-    ensures at_least { 500000 ≤ result }
-    ensures at_most { result ≤ 501023 }
-{
+fn nanoseconds_of(number: usize) -> u64 {
     500_000 + (number % 1024) as u64
 }
 

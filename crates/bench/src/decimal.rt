@@ -1,6 +1,4 @@
 // Numbers that are printed with three places after the point.
-ghost use Rattle.std.specs.Prelude.{◌≡◌, ◌*◌, ◌/◌, ◌↔◌, IfSome, IsNone};
-
 use std::fmt;
 
 /// A number of thousandths, which prints as `1.250` for 1250 of them.
@@ -11,19 +9,14 @@ pub struct Decimal {
 
 impl Decimal {
     /// So many nanoseconds in microseconds.
-    pub fn microseconds(nanoseconds: u64) -> Decimal
-        ensures { result.thousandths ≡ nanoseconds }
-    {
+    pub fn microseconds(nanoseconds: u64) -> Decimal {
         Decimal {
             thousandths: u128::from(nanoseconds),
         }
     }
 
     /// How many times a whole goes into a number, rounded down to a thousandth; none where the whole is 0.
-    pub fn ratio(number: u64, whole: u64) -> Option<Decimal>
-        ensures none { IsNone result ↔ (whole ≡ 0) }
-        ensures ratio { IfSome result (λ ratio. ratio.thousandths ≡ number * 1000 / whole) }
-    {
+    pub fn ratio(number: u64, whole: u64) -> Option<Decimal> {
         if whole == 0 {
             return None;
         }

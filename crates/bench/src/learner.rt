@@ -1,9 +1,4 @@
 // What chooses by the entries of a policy: a table alone, and a shared policy under its lock.
-ghost use Rattle.std.specs.Prelude.{◌≡◌, ⊤, true, IsSome, IsOk, IfOk, OnOk};
-ghost use Rattle.parallel_policy.specs.Runs.{RunHistory, run_choice};
-ghost use Rattle.parallel_policy.specs.Tables.{run_of, HasOtherRuns, HoldsRunAt};
-ghost use Rattle.bench.specs.Recordings.{is_recorded, asked};
-
 use commonware_parallel::Fault;
 use parallel_policy::{Key, Policy, Table};
 use std::sync::Wait;
@@ -19,9 +14,7 @@ pub enum Recording {
 
 impl Recording {
     /// Whether a choice is recorded that was to be measured, or wasn't.
-    pub fn includes(self, measured: bool) -> bool
-        ensures { result ≡ is_recorded self measured }
-    {
+    pub fn includes(self, measured: bool) -> bool {
         match self {
             Recording::Measured => measured,
             Recording::Every => true,
@@ -37,46 +30,10 @@ impl Recording {
     }
 }
 
-/// Asks a table for a choice, and records `nanoseconds` for it where the choice is recorded. Answers
-/// whether it was.
-///
-/// # Errors
-///
-/// `Fault::Memory` where a new entry was refused memory. A key that has an entry is never refused.
-pub fn ask_table(
-    table: &mut Table,
-    key: Key,
-    parallelism: usize,
-    nanoseconds: u64,
-    recording: Recording,
-) -> Result<bool, Fault>
-    ensures answer { IfOk result (λ recorded. (history : RunHistory) → HoldsRunAt table.old key history → recorded ≡ is_recorded recording (run_choice history parallelism).1) }
-    ensures holds { OnOk result ((history : RunHistory) → HoldsRunAt table.old key history → HoldsRunAt table.new key (asked recording (run_choice history parallelism) parallelism nanoseconds history)) }
-    ensures known { IsSome (run_of table.old key) → IsOk result }
-    ensures entry { OnOk result (IsSome (run_of table.new key)) }
-    ensures others { HasOtherRuns table.old table.new key }
-    ensures every { recording ≡ Recording.Every → IfOk result (λ recorded. recorded ≡ true) }
-{
-    let (execution, measured) = table.choose_run(key, parallelism)?;
-    let recorded = recording.includes(measured);
-    if recorded {
-        table.record_run(key, execution, nanoseconds)?;
-    }
-    Ok(recorded)
-}
-
 /// What chooses for a key, and takes a record of it.
 pub trait Learner {
-    ghost use Rattle.parallel_policy.specs.declared.key.Key.{Key};
-
-    /// That nothing else changes the learner between two calls.
-    ghost alone: { Type 0 };
-
-    /// Whether a key was asked for before.
-    ghost knows: { Self → Key → Type 0 };
-
     /// Asks for a choice, and records `nanoseconds` for it where the choice is recorded. Answers whether
-    /// it was. Where nothing else changes the learner, a key that it knows is never refused.
+    /// it was.
     ///
     /// # Errors
     ///
@@ -87,18 +44,10 @@ pub trait Learner {
         parallelism: usize,
         nanoseconds: u64,
         recording: Recording,
-    ) -> Result<bool, Fault>
-        ensures known { alone → knows self.old key → IsOk result }
-        ensures learnt { OnOk result (knows self.new key) }
-        ensures kept { OnOk result ((other : Key) → knows self.old other → knows self.new other) }
-        ensures every { recording ≡ Recording.Every → IfOk result (λ recorded. recorded ≡ true) };
+    ) -> Result<bool, Fault>;
 }
 
 impl Learner for Table {
-    ghost alone = { ⊤ };
-
-    ghost knows = { λ table key. IsSome (run_of table key) };
-
     fn ask(
         &mut self,
         key: Key,
@@ -106,7 +55,12 @@ impl Learner for Table {
         nanoseconds: u64,
         recording: Recording,
     ) -> Result<bool, Fault> {
-        ask_table(self, key, parallelism, nanoseconds, recording)
+        let (execution, measured) = self.choose_run(key, parallelism)?;
+        let recorded = recording.includes(measured);
+        if recorded {
+            self.record_run(key, execution, nanoseconds)?;
+        }
+        Ok(recorded)
     }
 }
 
@@ -118,10 +72,6 @@ pub struct Shared<'a, Rt> {
 }
 
 impl<Rt: Wait> Learner for Shared<'_, Rt> {
-    ghost alone = { ⊥ };
-
-    ghost knows = { λ _ _. ⊤ };
-
     fn ask(
         &mut self,
         key: Key,

@@ -1,12 +1,8 @@
 // Rounds in which the ways of a case run one after the other.
-ghost use Rattle.std.specs.Prelude.{◌≡◌, ◌%◌, ◌≤◌};
-ghost use Rattle.bench.specs.Laps.{lap_with};
-
-use crate::case::Case;
 use crate::decimal::Decimal;
 use crate::request::Trial;
 use crate::times::Times;
-use crate::ways::{Way, by_way};
+use crate::ways::{Answer, Strategies, Way, by_way};
 use crate::work::items_of;
 use anyhow::{Context, Result, ensure};
 use commonware_parallel::{Clock, MonotonicClock, Rayon};
@@ -17,10 +13,16 @@ use std::thread::Threads;
 use std::time;
 
 /// The order of the ways in every other round, from the first on.
-const FORTH: [Way; 3] = [Way::Loop, Way::Sequential, Way::Rayon];
+const FORTH: [Way; 4] = [Way::Loop, Way::Sequential, Way::Rayon, Way::Policy];
 
 /// Their order in the rounds between, so that no way always comes after the same other one.
-const BACK: [Way; 3] = [Way::Rayon, Way::Sequential, Way::Loop];
+const BACK: [Way; 4] = [Way::Policy, Way::Rayon, Way::Sequential, Way::Loop];
+
+/// How many calls a policy sees before the first round, at most.
+const WARM_UP: usize = 1000;
+
+/// After how many nanoseconds no more such calls are made.
+const WARM_UP_TIME: u64 = 500_000_000;
 
 /// A number for each way, of one round.
 #[derive(Clone, Copy, Debug, Default, PartialEq, Eq)]
@@ -28,24 +30,72 @@ pub struct Lap {
     pub plain: u64,
     pub sequential: u64,
     pub parallel: u64,
+    pub learning: u64,
 }
 
 impl Lap {
     /// Puts a way's number in. Those of the other ways stay.
-    pub fn set(&mut self, way: Way, number: u64)
-        ensures { self.new ≡ lap_with self.old way number }
-    {
+    pub fn set(&mut self, way: Way, number: u64) {
         match way {
             Way::Loop => self.plain = number,
             Way::Sequential => self.sequential = number,
             Way::Rayon => self.parallel = number,
+            Way::Policy => self.learning = number,
         }
+    }
+
+    /// Whether the numbers of all ways are one.
+    pub fn is_level(&self) -> bool {
+        self.plain == self.sequential && self.plain == self.parallel && self.plain == self.learning
+    }
+}
+
+/// The readings of each way.
+#[derive(Drop)]
+struct Readings {
+    plain: Vec<u64>,
+    sequential: Vec<u64>,
+    parallel: Vec<u64>,
+    learning: Vec<u64>,
+}
+
+impl Readings {
+    fn new(alloc: Global) -> Readings {
+        Readings {
+            plain: Vec::new(alloc),
+            sequential: Vec::new(alloc),
+            parallel: Vec::new(alloc),
+            learning: Vec::new(alloc),
+        }
+    }
+
+    fn push(&mut self, lap: Lap) -> Result<()> {
+        self.plain.push(lap.plain)?;
+        self.sequential.push(lap.sequential)?;
+        self.parallel.push(lap.parallel)?;
+        self.learning.push(lap.learning)?;
+        Ok(())
+    }
+
+    /// Prints a line for each way.
+    fn report(self, rt: &impl Print) -> Result<()> {
+        let plain = Times::of(self.plain)?;
+        report(rt, "loop", plain, plain)?;
+        report(rt, "Sequential", Times::of(self.sequential)?, plain)?;
+        report(rt, "Rayon", Times::of(self.parallel)?, plain)?;
+        report(
+            rt,
+            "Rayon with its policy",
+            Times::of(self.learning)?,
+            plain,
+        )
     }
 }
 
 /// Times a trial, and prints a line for each way.
 ///
-/// The first item is another one in each round, so that no round's answer serves for the next.
+/// The first item is another one in each round, so that no round's answer serves for the next. One
+/// policy is kept over all rounds, and its strategy is called a few times before the first.
 pub fn race<Rt>(rt: &Rt, trial: Trial) -> Result<()>
 where
     Rt: time::Clock
@@ -63,46 +113,74 @@ where
     let alloc = rt.alloc();
     let clock = MonotonicClock::new(rt.clone()?)?;
     let learning = Rayon::new(rt, alloc, trial.threads, clock.clone()?)?;
-    let rayon = learning.without_policy()?;
-    let mut items = items_of(alloc, trial.len)?;
-    let mut plain = Vec::new(alloc);
-    let mut sequential = Vec::new(alloc);
-    let mut parallel = Vec::new(alloc);
+    let parallel = learning.without_policy()?;
+    let strategies = Strategies {
+        parallel: &parallel,
+        learning: &learning,
+    };
+    let mut items = items_of(alloc, trial.case, trial.len)?;
+    warm_up(rt, alloc, &clock, &strategies, trial, items.as_slice())?;
+    let mut readings = Readings::new(alloc);
+    let mut kept = Vec::new(alloc);
     for number in 0..rounds_of(trial.len) {
         if let Some(first) = items.first_mut() {
             *first = number;
         }
         let order = if number % 2 == 0 { FORTH } else { BACK };
+        let items = items.as_slice();
         let lap = run_round(
             rt,
             alloc,
             &clock,
-            &rayon,
+            &strategies,
             order,
-            trial.case,
-            items.as_slice(),
+            trial,
+            items,
+            &mut kept,
         )?;
-        plain.push(lap.plain)?;
-        sequential.push(lap.sequential)?;
-        parallel.push(lap.parallel)?;
+        readings.push(lap)?;
     }
-    let plain = Times::of(plain)?;
-    report(rt, "loop", plain, plain)?;
-    report(rt, "Sequential", Times::of(sequential)?, plain)?;
-    report(rt, "Rayon", Times::of(parallel)?, plain)
+    readings.report(rt)
 }
 
 /// An odd number of rounds: 7 for a long list, and up to 1001 for a short one.
-pub fn rounds_of(len: usize) -> u64
-    ensures odd { result % 2 ≡ 1 }
-    ensures at_least { 7 ≤ result }
-    ensures at_most { result ≤ 1001 }
-{
+pub fn rounds_of(len: usize) -> u64 {
     let pairs = 10_000 / len.max(1);
     pairs.clamp(3, 500) as u64 * 2 + 1
 }
 
+/// Calls the strategy that has a policy, until the policy has settled: 1000 times, or for half a second.
+fn warm_up<Rt: Threads + Wait + Sync, C: Clock>(
+    rt: &Rt,
+    alloc: Global,
+    clock: &C,
+    strategies: &Strategies<'_, C>,
+    trial: Trial,
+    items: &[u64],
+) -> Result<()> {
+    let start = clock.now();
+    for _ in 0..WARM_UP {
+        if clock.now().saturating_sub(start) > WARM_UP_TIME {
+            return Ok(());
+        }
+        let _ = by_way(
+            rt,
+            alloc,
+            strategies,
+            Way::Policy,
+            trial.form,
+            trial.case,
+            items,
+        )?;
+    }
+    Ok(())
+}
+
 /// What each way took in one round, in nanoseconds.
+///
+/// Each call is made once before the clock is read, so that it meets the caches and the allocator as
+/// it leaves them itself, and not as another way left them. Where the memory is to be fresh the
+/// answers of both calls are kept, so that no later call gets their memory.
 ///
 /// # Errors
 ///
@@ -111,36 +189,34 @@ fn run_round<Rt: Threads + Wait + Sync, C: Clock>(
     rt: &Rt,
     alloc: Global,
     clock: &C,
-    rayon: &Rayon<C>,
-    order: [Way; 3],
-    case: Case,
+    strategies: &Strategies<'_, C>,
+    order: [Way; 4],
+    trial: Trial,
     items: &[u64],
+    kept: &mut Vec<Answer>,
 ) -> Result<Lap> {
     let mut lap = Lap::default();
     let mut checksums = Lap::default();
+    let work = |way: Way| by_way(rt, alloc, strategies, way, trial.form, trial.case, items);
     for way in order {
-        let (time, answer) = timed(clock, || by_way(rt, alloc, rayon, way, case, items));
-        lap.set(way, time);
-        checksums.set(way, answer?.checksum());
+        let before = work(way)?;
+        if trial.is_fresh {
+            kept.push(before)?;
+        } else {
+            drop(before);
+        }
+        let start = clock.now();
+        let answer = work(way);
+        let end = clock.now();
+        let answer = answer?;
+        lap.set(way, end.saturating_sub(start));
+        checksums.set(way, answer.checksum());
+        if trial.is_fresh {
+            kept.push(answer)?;
+        }
     }
-    let same = checksums.plain == checksums.sequential && checksums.plain == checksums.parallel;
-    ensure!(same, "the answers differ");
+    ensure!(checksums.is_level(), "the answers differ");
     Ok(lap)
-}
-
-/// The nanoseconds that the work took by the clock, and what it answered.
-///
-/// The work is done once before the clock is read, so that it meets the caches and the allocator as
-/// it leaves them itself, and not as another way left them.
-fn timed<C: Clock, T: Drop, F: Fn() -> T>(clock: &C, work: F) -> (u64, T)
-    requires { F.IsAlwaysCallable work }
-    ensures { F.post work result.1 }
-{
-    let _ = work();
-    let start = clock.now();
-    let answer = work();
-    let end = clock.now();
-    (end.saturating_sub(start), answer)
 }
 
 /// Prints a way's times in microseconds, and how many times the loop's they are.

@@ -1,9 +1,6 @@
 // What the words of the command line ask for.
-ghost use Rattle.std.specs.Prelude.{ℕ, IfSome, IsNone};
-ghost use Rattle.bench.specs.Requests.{AsksFor, Writes};
-ghost use Rattle.bench.specs.declared.request.Request.{Request};
-
 use crate::case::Case;
+use crate::ways::Form;
 use std::num::NonZeroUsize;
 
 /// The name by which the command line asks for the choices of a policy.
@@ -15,6 +12,10 @@ pub struct Trial {
     pub case: Case,
     pub len: usize,
     pub threads: NonZeroUsize,
+    /// What a strategy is given the items by.
+    pub form: Form,
+    /// Whether every answer is kept to the end, so that no call meets memory that was freed.
+    pub is_fresh: bool,
 }
 
 /// Rounds of `len` choices to be timed, planned for `threads` threads.
@@ -35,31 +36,39 @@ pub enum Request {
     Choose(ChoiceTrial),
 }
 
-/// What the words after the program's name ask for: nothing for the names, and `CASE LEN THREADS` or
-/// `policy LEN THREADS` for a trial of one thread at least. Any other words ask for nothing.
-pub fn parse_request(words: &[String]) -> Option<Request>
-    ensures request { IfSome result (AsksFor words.now) }
-    ensures none { IsNone result → (request : Request) → AsksFor words.now request → ⊥ }
-{
+/// What the words after the program's name ask for: nothing for the names, and `policy LEN THREADS` or
+/// `CASE LEN THREADS` for a trial of one thread at least, a case's with `iter`, with `fresh` or with
+/// both behind it, in that order. Any other words ask for nothing.
+pub fn parse_request(words: &[String]) -> Option<Request> {
+    let [case, len, threads, options @ ..] = words else {
+        return words.is_empty().then_some(Request::Names);
+    };
+    let len = len.parse().ok()?;
+    let threads = NonZeroUsize::new(threads.parse().ok()?)?;
+    if case.as_str() == POLICY {
+        let trial = ChoiceTrial { len, threads };
+        return options.is_empty().then_some(Request::Choose(trial));
+    }
+    let case = Case::named(case.as_str())?;
+    let (form, is_fresh) = parse_options(options)?;
+    Some(Request::Time(Trial {
+        case,
+        len,
+        threads,
+        form,
+        is_fresh,
+    }))
+}
+
+// The form of the source, and whether answers are kept.
+fn parse_options(words: &[String]) -> Option<(Form, bool)> {
     match words {
-        [] => Some(Request::Names),
-        [case, len, threads] => {
-            let len = number(len.as_str())?;
-            let threads = NonZeroUsize::new(number(threads.as_str())?)?;
-            if case.as_str() == POLICY {
-                return Some(Request::Choose(ChoiceTrial { len, threads }));
-            }
-            let case = Case::named(case.as_str())?;
-            Some(Request::Time(Trial { case, len, threads }))
+        [] => Some((Form::Slice, false)),
+        [word] if word.as_str() == "iter" => Some((Form::Iterator, false)),
+        [word] if word.as_str() == "fresh" => Some((Form::Slice, true)),
+        [form, fresh] if form.as_str() == "iter" && fresh.as_str() == "fresh" => {
+            Some((Form::Iterator, true))
         }
         _ => None,
     }
-}
-
-/// The number that a word writes in decimal digits, if it writes one of 64 bits at most.
-fn number(word: &str) -> Option<usize>
-    ensures found { IfSome result (Writes word.now) }
-    ensures none { IsNone result → (n : ℕ) → Writes word.now n → ⊥ }
-{
-    word.parse().ok()
 }

@@ -1,33 +1,40 @@
 // The ways in which a case is run.
-ghost use Rattle.std.specs.Prelude.{◌≡◌, ◌+◌, ◌%◌, ◌^◌, IfOk, map, sum};
-ghost use Rattle.std.specs.List.{sum_by};
-ghost use Rattle.bench.specs.Work.{light_of, heavy_of};
-ghost use Rattle.bench.specs.Cases.{IsAnswer};
-
 use crate::case::Case;
-use crate::work::{heavy, light};
 use crate::{calls, loops};
-use commonware_parallel::{Clock, Fault, Rayon, Sequential, Site, Strategy};
-use std::alloc::{AllocError, Global};
+use commonware_parallel::{Clock, Copies, Fault, Rayon, Sequential, Source, Strategy};
+use std::alloc::Global;
 use std::sync::Wait;
 use std::thread::Threads;
-
-/// The place of every call.
-pub const SITE: Site = Site {
-    file: "bench",
-    line: 1,
-    column: 1,
-};
 
 /// A way in which a case is run.
 #[derive(Clone, Copy, Debug, PartialEq, Eq, Hash)]
 pub enum Way {
-    /// A plain loop, or the plain chain that stands for a loop that collects.
+    /// A plain loop over the slice, or the plain chain that stands for a loop that collects.
     Loop,
     /// The strategy `Sequential`.
     Sequential,
-    /// The strategy `Rayon`.
+    /// The strategy `Rayon`, without a policy.
     Rayon,
+    /// The strategy `Rayon`, with its policy.
+    Policy,
+}
+
+/// What a strategy is given the items by.
+#[derive(Clone, Copy, Debug, PartialEq, Eq, Hash)]
+pub enum Form {
+    /// The slice, each item copied as it comes.
+    Slice,
+    /// An iterator over it, which is no list.
+    Iterator,
+}
+
+/// The strategies over a pool.
+#[derive(Drop)]
+pub struct Strategies<'a, C> {
+    /// The one without a policy.
+    pub parallel: &'a Rayon<C>,
+    /// The one with its policy.
+    pub learning: &'a Rayon<C>,
 }
 
 /// What a case answers.
@@ -62,35 +69,35 @@ fn checksum_of(numbers: &[u64]) -> u64 {
     sum
 }
 
-/// The case's answer in a way, where `rayon` is the strategy of the last one.
+/// The case's answer in a way.
 pub fn by_way<Rt: Threads + Wait + Sync, C: Clock>(
     rt: &Rt,
     alloc: Global,
-    rayon: &Rayon<C>,
+    strategies: &Strategies<'_, C>,
     way: Way,
+    form: Form,
     case: Case,
     items: &[u64],
-) -> Result<Answer, Fault>
-    ensures { IfOk result (IsAnswer case items.now) }
-{
+) -> Result<Answer, Fault> {
     match way {
         Way::Loop => by_loop(alloc, case, items),
-        Way::Sequential => by_strategy(rt, alloc, &Sequential, case, items),
-        Way::Rayon => by_strategy(rt, alloc, rayon, case, items),
+        Way::Sequential => by_strategy(rt, alloc, &Sequential, form, case, items),
+        Way::Rayon => by_strategy(rt, alloc, strategies.parallel, form, case, items),
+        Way::Policy => by_strategy(rt, alloc, strategies.learning, form, case, items),
     }
 }
 
 /// The case's answer by a plain loop.
-fn by_loop(alloc: Global, case: Case, items: &[u64]) -> Result<Answer, Fault>
-    ensures { IfOk result (IsAnswer case items.now) }
-{
+fn by_loop(alloc: Global, case: Case, items: &[u64]) -> Result<Answer, Fault> {
     match case {
-        Case::MapLight => Ok(Answer::Numbers(map_light(alloc, items)?)),
-        Case::MapHeavy => Ok(Answer::Numbers(map_heavy(alloc, items)?)),
-        Case::FoldLight => Ok(Answer::Number(fold_light(items))),
-        Case::FoldHeavy => Ok(Answer::Number(fold_heavy(items))),
+        Case::MapLight => Ok(Answer::Numbers(loops::map_light(alloc, items)?)),
+        Case::MapHeavy => Ok(Answer::Numbers(loops::map_heavy(alloc, items)?)),
+        Case::MapRising => Ok(Answer::Numbers(loops::map_rising(alloc, items)?)),
+        Case::FoldLight => Ok(Answer::Number(loops::fold_light(items))),
+        Case::FoldHeavy => Ok(Answer::Number(loops::fold_heavy(items))),
+        Case::FoldRising => Ok(Answer::Number(loops::fold_rising(items))),
         Case::TryMapLight => Ok(Answer::Numbers(loops::try_map_light(alloc, items)?)),
-        Case::FoldInit => Ok(Answer::Number(fold_light(items))),
+        Case::FoldInit => Ok(Answer::Number(loops::fold_light(items))),
         Case::Partition => {
             let (values, keys) = loops::partition(alloc, items)?;
             Ok(Answer::Parts(values, keys))
@@ -99,100 +106,45 @@ fn by_loop(alloc: Global, case: Case, items: &[u64]) -> Result<Answer, Fault>
     }
 }
 
-#[inline(never)]
-fn map_light(alloc: Global, items: &[u64]) -> Result<Vec<u64>, AllocError>
-    ensures { IfOk result (λ ys. ys.items ≡ map light_of items.now) }
-{
-    items.iter().map(|item| light(*item)).collect(alloc)
-}
-
-#[inline(never)]
-fn map_heavy(alloc: Global, items: &[u64]) -> Result<Vec<u64>, AllocError>
-    ensures { IfOk result (λ ys. ys.items ≡ map heavy_of items.now) }
-{
-    items.iter().map(|item| heavy(*item)).collect(alloc)
-}
-
-#[inline(never)]
-fn fold_light(items: &[u64]) -> u64
-    ensures { result ≡ sum items.now % 2 ^ 64 }
-{
-    let mut total = 0u64;
-    for item in items {
-        total = total.wrapping_add(*item);
-    }
-    total
-}
-
-#[inline(never)]
-fn fold_heavy(items: &[u64]) -> u64
-    ensures { result ≡ sum_by heavy_of items.now % 2 ^ 64 }
-{
-    let mut total = 0u64;
-    for item in items {
-        total = total.wrapping_add(heavy(*item));
-    }
-    total
-}
-
 /// The case's answer by a strategy.
 fn by_strategy<Rt: Threads + Wait + Sync, S: Strategy>(
     rt: &Rt,
     alloc: Global,
     strategy: &S,
+    form: Form,
     case: Case,
     items: &[u64],
-) -> Result<Answer, Fault>
-    ensures { IfOk result (IsAnswer case items.now) }
-{
-    let iter = items.iter().copied();
-    let zero = || -> u64
-        ensures { result ≡ 0 }
-    { 0 };
-    let add = |left: u64, right: u64| -> u64
-        ensures { result ≡ (left + right) % 2 ^ 64 }
-    { left.wrapping_add(right) };
-    match case {
-        Case::MapLight => {
-            let op = |item: u64| -> u64
-                ensures { result ≡ light_of item }
-            { light(item) };
-            let numbers = strategy.map_collect_vec(rt, alloc, SITE, iter, op)?;
-            Ok(Answer::Numbers(numbers))
-        }
-        Case::MapHeavy => {
-            let op = |item: u64| -> u64
-                ensures { result ≡ heavy_of item }
-            { heavy(item) };
-            let numbers = strategy.map_collect_vec(rt, alloc, SITE, iter, op)?;
-            Ok(Answer::Numbers(numbers))
-        }
-        Case::FoldLight => {
-            let total = strategy.fold(rt, alloc, SITE, iter, zero, add, add)?;
-            Ok(Answer::Number(total))
-        }
-        Case::FoldHeavy => {
-            let op = |total: u64, item: u64| -> u64
-                ensures { result ≡ (total + heavy_of item) % 2 ^ 64 }
-            { total.wrapping_add(heavy(item)) };
-            let total = strategy.fold(rt, alloc, SITE, iter, zero, op, add)?;
-            Ok(Answer::Number(total))
-        }
-        Case::TryMapLight => {
-            let numbers = calls::try_map_light(rt, alloc, strategy, items)?;
-            Ok(Answer::Numbers(numbers))
-        }
-        Case::FoldInit => {
-            let total = calls::fold_init(rt, alloc, strategy, items)?;
-            Ok(Answer::Number(total))
-        }
-        Case::Partition => {
-            let (values, keys) = calls::partition(rt, alloc, strategy, items)?;
-            Ok(Answer::Parts(values, keys))
-        }
-        Case::Sort => {
-            let numbers = calls::sort(rt, alloc, strategy, items)?;
-            Ok(Answer::Numbers(numbers))
-        }
+) -> Result<Answer, Fault> {
+    match form {
+        Form::Slice => by_source(rt, alloc, strategy, case, Copies { slice: items }),
+        Form::Iterator => by_source(rt, alloc, strategy, case, items.iter().copied()),
     }
+}
+
+/// The case's answer by a strategy over a source.
+fn by_source<Rt: Threads + Wait + Sync, S: Strategy, M, I: Source<M, Item = u64>>(
+    rt: &Rt,
+    alloc: Global,
+    strategy: &S,
+    case: Case,
+    source: I,
+) -> Result<Answer, Fault>
+    requires { I.can source }
+{
+    let answer = match case {
+        Case::MapLight => Answer::Numbers(calls::map_light(rt, alloc, strategy, source)?),
+        Case::MapHeavy => Answer::Numbers(calls::map_heavy(rt, alloc, strategy, source)?),
+        Case::MapRising => Answer::Numbers(calls::map_rising(rt, alloc, strategy, source)?),
+        Case::FoldLight => Answer::Number(calls::fold_light(rt, alloc, strategy, source)?),
+        Case::FoldHeavy => Answer::Number(calls::fold_heavy(rt, alloc, strategy, source)?),
+        Case::FoldRising => Answer::Number(calls::fold_rising(rt, alloc, strategy, source)?),
+        Case::TryMapLight => Answer::Numbers(calls::try_map_light(rt, alloc, strategy, source)?),
+        Case::FoldInit => Answer::Number(calls::fold_init(rt, alloc, strategy, source)?),
+        Case::Partition => {
+            let (values, keys) = calls::partition(rt, alloc, strategy, source)?;
+            Answer::Parts(values, keys)
+        }
+        Case::Sort => Answer::Numbers(calls::sort(rt, alloc, strategy, source)?),
+    };
+    Ok(answer)
 }

@@ -1,9 +1,0 @@
-pub mod Copies
-pub mod Histories
-pub mod Keys
-pub mod Middles
-pub mod Parities
-pub mod StateTotals
-pub mod Slices
-pub mod Stirs
-pub mod Totals
