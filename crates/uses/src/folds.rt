@@ -1,0 +1,67 @@
+// Folds that are the plain fold from the left, since their closures keep the laws that `FoldLaws` names.
+ghost use Rattle.std.specs.Prelude.{◌≡◌, ◌*◌, ◌+◌, ◌%◌, ◌^◌, fold, sum_by, IfOk, IfErr};
+ghost use Rattle.parallel_fault.specs.declared.fault.Fault.TheVariants.{Memory};
+ghost use Rattle.parallel_bridge.specs.Folds.{IsPlainFold};
+ghost use Rattle.parallel_bridge.specs.Sources.{GivesSome};
+
+use commonware_parallel::bridge::fold_law;
+use commonware_parallel::{Copies, Fault, Place, Source, Strategy};
+use std::alloc::Global;
+use std::sync::Wait;
+use std::thread::Threads;
+
+/// The sum of the numbers' squares, which wraps around at 2 to the power of 32.
+pub fn sum_of_squares<Rt: Threads + Wait + Sync, P: Place, S: Strategy>(
+    rt: &Rt,
+    alloc: Global,
+    strategy: &S,
+    site: P,
+    numbers: &[u32],
+) -> Result<u32, Fault>
+    ensures sum { IfOk result (λ sum. sum ≡ sum_by (λ x. x * x) numbers.now % 2 ^ 32) }
+    ensures fault { IfErr result (λ fault. fault ≡ Memory) }
+{
+    strategy.fold(
+        rt,
+        alloc,
+        site,
+        Copies { slice: numbers },
+        || 0,
+        |sum: u32, number: u32| sum.wrapping_add(number.wrapping_mul(number)),
+        |left: u32, right: u32| left.wrapping_add(right),
+    )
+}
+
+/// A fold through any strategy, which is the plain fold from the left wherever its closures keep
+/// the laws that `FoldLaws` names.
+pub fn plain_fold<
+    Rt: Threads + Wait + Sync,
+    P: Place,
+    S: Strategy,
+    M,
+    I: Source<M>,
+    R: Send + Drop,
+    ID: Fn() -> R + Send + Sync + Drop,
+    F: Fn(R, I::Item) -> R + Send + Sync + Drop,
+    G: Fn(R, R) -> R + Send + Sync + Drop,
+>(
+    rt: &Rt,
+    alloc: Global,
+    strategy: &S,
+    site: P,
+    source: I,
+    identity: ID,
+    fold_op: F,
+    reduce_op: G,
+) -> Result<R, Fault>
+    requires can { I.can source }
+    requires identity_accepts { ID.IsAlwaysCallable identity }
+    requires fold_accepts { F.IsAlwaysCallable fold_op }
+    requires reduce_accepts { G.IsAlwaysCallable reduce_op }
+    ensures plain { IfOk result (λ r. GivesSome I.gives source
+        (λ xs. IsPlainFold (ID.post identity) (λ a x b. F.post fold_op a x b) (λ a b c. G.post reduce_op a b c) xs r)) }
+    ensures fault { IfErr result (λ fault. fault ≡ Memory) }
+{
+    fold_law(&identity, &fold_op, &reduce_op);
+    strategy.fold(rt, alloc, site, source, identity, fold_op, reduce_op)
+}

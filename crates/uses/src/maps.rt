@@ -1,0 +1,94 @@
+// Further maps: over borrowed items, over indices, by a closure that looks into a table, and over an
+// iterator.
+ghost use Rattle.std.specs.Prelude.{◌≡◌, ◌*◌, ◌-◌, ◌%◌, ◌^◌, ◌<◌, ◌++◌, map, length, IfOk, IfErr};
+ghost use Rattle.std.specs.List.{range_with_len, slice_index};
+ghost use Rattle.parallel_fault.specs.declared.fault.Fault.TheVariants.{Memory};
+
+use commonware_parallel::{Fault, Indices, Place, Strategy};
+use std::alloc::Global;
+use std::sync::Wait;
+use std::thread::Threads;
+
+/// The squares of the numbers, which the closure borrows.
+pub fn borrowed_squares<Rt: Threads + Wait + Sync, P: Place, S: Strategy>(
+    rt: &Rt,
+    alloc: Global,
+    strategy: &S,
+    site: P,
+    numbers: &[u32],
+) -> Result<Vec<u64>, Fault>
+    ensures squares { IfOk result (λ answers. answers.items ≡ map (λ x. x * x) numbers.now) }
+    ensures fault { IfErr result (λ fault. fault ≡ Memory) }
+{
+    strategy.map_collect_vec(rt, alloc, site, numbers, |number: &u32| {
+        u64::from(*number) * u64::from(*number)
+    })
+}
+
+/// The squares of the numbers below `count`, from 0 up, each of which wraps around at 2 to the power
+/// of 64.
+pub fn first_squares<Rt: Threads + Wait + Sync, P: Place, S: Strategy>(
+    rt: &Rt,
+    alloc: Global,
+    strategy: &S,
+    site: P,
+    count: usize,
+) -> Result<Vec<usize>, Fault>
+    ensures squares { IfOk result (λ answers.
+        answers.items ≡ map (λ x. (x * x) % 2 ^ 64) (range_with_len 0 (count - 0))) }
+    ensures fault { IfErr result (λ fault. fault ≡ Memory) }
+{
+    let indices = Indices {
+        start: 0,
+        end: count,
+    };
+    strategy.map_collect_vec(rt, alloc, site, indices, |index: usize| {
+        index.wrapping_mul(index)
+    })
+}
+
+/// The entries of a table at its first `count` indices, from the table's last entry back. The closure
+/// looks into the table at what its item says, which is in range for each index that may come.
+pub fn last_entries<Rt: Threads + Wait + Sync, P: Place, S: Strategy>(
+    rt: &Rt,
+    alloc: Global,
+    strategy: &S,
+    site: P,
+    table: &[u64],
+    count: usize,
+) -> Result<Vec<u64>, Fault>
+    requires short { count < length table.now }
+    ensures entries { IfOk result (λ answers. answers.items
+        ≡ map (λ i. slice_index table.now (length table.now - 1 - i)) (range_with_len 0 (count - 0))) }
+    ensures fault { IfErr result (λ fault. fault ≡ Memory) }
+{
+    let indices = Indices {
+        start: 0,
+        end: count,
+    };
+    let entry = |index: usize| -> u64
+        requires { index < length table.now }
+        ensures { result ≡ slice_index table.entry.now (length table.entry.now - 1 - index) }
+    { table[table.len() - 1 - index] };
+    strategy.map_collect_vec(rt, alloc, site, indices, entry)
+}
+
+/// The squares of two lists' numbers, of the front's first, over an iterator. An iterator's items are
+/// gathered where the strategy is asked by their number.
+pub fn squares_of_both<Rt: Threads + Wait + Sync, P: Place, S: Strategy>(
+    rt: &Rt,
+    alloc: Global,
+    strategy: &S,
+    site: P,
+    front: &[u32],
+    back: &[u32],
+) -> Result<Vec<u64>, Fault>
+    ensures squares { IfOk result (λ answers.
+        answers.items ≡ map (λ x. x * x) (front.now ++ back.now)) }
+    ensures fault { IfErr result (λ fault. fault ≡ Memory) }
+{
+    let numbers = front.iter().copied().chain(back.iter().copied());
+    strategy.map_collect_vec(rt, alloc, site, numbers, |number| {
+        u64::from(number) * u64::from(number)
+    })
+}

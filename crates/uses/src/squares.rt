@@ -1,0 +1,24 @@
+// The shortest caller: a map over a list, through whichever strategy the program runs.
+ghost use Rattle.std.specs.Prelude.{◌≡◌, ◌*◌, map, IfOk, IfErr};
+ghost use Rattle.parallel_fault.specs.declared.fault.Fault.TheVariants.{Memory};
+
+use commonware_parallel::{Copies, Fault, Place, Strategy};
+use std::alloc::Global;
+use std::sync::Wait;
+use std::thread::Threads;
+
+/// The squares of the numbers, in the numbers' order.
+pub fn squares<Rt: Threads + Wait + Sync, P: Place, S: Strategy>(
+    rt: &Rt,
+    alloc: Global,
+    strategy: &S,
+    site: P,
+    numbers: &[u32],
+) -> Result<Vec<u64>, Fault>
+    ensures squares { IfOk result (λ answers. answers.items ≡ map (λ x. x * x) numbers.now) }
+    ensures fault { IfErr result (λ fault. fault ≡ Memory) }
+{
+    strategy.map_collect_vec(rt, alloc, site, Copies { slice: numbers }, |number| {
+        u64::from(number) * u64::from(number)
+    })
+}
