@@ -7,6 +7,8 @@ use Rattle.std.proofs.lemmas.Iterator.{YieldsList, items_from_drains}
 use Rattle.std.proofs.lemmas.List.{map-id}
 use Rattle.std.proofs.lemmas.Result.{IfOk-weaker}
 use Rattle.parallel_bridge.specs.Parts.{PartitionOf}
+use Rattle.parallel_bridge.specs.Sources.{MayCome}
+use Rattle.parallel_bridge.proofs.Chains.{next_has}
 
 -- what came of a run is the list that every run gives
 pub drained : {S A : Type 0} {steps : S → Option A → S → Type 0} {s : S} {all : List A} (xs : List A) → Drains steps s xs → YieldsList steps (λ x. x) s all → xs ≡ all
@@ -44,3 +46,7 @@ module _ {S A : Type 0} (steps : S → Option A → S → Type 0) (K : A → Typ
 -- a closure that accepts each item of that list accepts what the iterator gives
 pub accepted_along : {S A : Type 0} {steps : S → Option A → S → Type 0} {s : S} {all : List A} (K : A → Type 0) → YieldsList steps (λ x. x) s all → All K all → HoldsAlong steps s (All K)
 accepted_along {steps = steps} {s = s} {all = all} K road each seen t came = All-from_recursion K seen (seen_of steps K seen all s t road.runs came (recursion_from_All K all each))
+
+-- what is true of each item of the list that every run gives is true of each item that may come
+pub may_of_list : {S A : Type 0} {steps : S → Option A → S → Type 0} {s : S} {all : List A} (K : A → Type 0) → YieldsList steps (λ x. x) s all → All K all → (x : A) → MayCome steps s x → K x
+may_of_list {steps = steps} {s = s} K road each x may = next_has steps K s may.1 may.2 may.0 x (accepted_along K road each) may.3 may.4

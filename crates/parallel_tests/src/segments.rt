@@ -2,11 +2,12 @@
 // say more than the trait's clauses: in which segments a list goes.
 ghost use Rattle.std.specs.Prelude.{◌≡◌, ◌<◌, List, All, false, IfOk, IfErr, IsOk};
 ghost use Rattle.std.specs.Borrow.{MutBor};
-ghost use Rattle.std.specs.Iterator.{IsFinite, Drains, HoldsAlong};
+ghost use Rattle.std.specs.Iterator.{IsFinite, Drains};
 ghost use Rattle.parallel_fault.specs.declared.fault.Fault.TheVariants.{Memory};
 ghost use Rattle.parallel_fault.specs.Trouble.{IfFault};
 ghost use Rattle.parallel_bridge.specs.Outcomes.{UnlessRefused};
 ghost use Rattle.parallel_bridge.specs.Shapes.{AlongLeaves, Shape, cutdepth};
+ghost use Rattle.parallel_bridge.specs.Sources.{MayCome};
 ghost use Rattle.parallel_bridge.specs.States.{FoldInitSegment, FoldStep, MapStep, StateSegment, StatesAlong};
 ghost use Rattle.parallel_bridge.specs.Tries.{TryAlong, TryFoldSegment};
 ghost use Rattle.commonware_parallel.specs.Rayon.{planning_of, threads_of, chooses_of};
@@ -163,7 +164,8 @@ where
     requires can { I.can_next iter }
     requires ends { IsFinite (I.remaining iter) }
     requires init_accepts { N.IsAlwaysCallable init }
-    requires map_accepts { HoldsAlong I.next_gives iter (All (λ x. (state : MutBor W) → F.pre map_op state x)) }
+    requires map_accepts { (x : I.Item) → MayCome I.next_gives iter x
+        → (state : MutBor W) → F.pre map_op state x }
     ensures segment { IfOk result (λ ys. (xs : List I.Item) × Drains I.next_gives iter xs
         × StateSegment (N.post init) (MapStep (λ p x y q. F.post map_op p x y q)) xs ys.items) }
     ensures fault { IfErr result (λ fault. fault ≡ Memory) }
@@ -199,7 +201,8 @@ where
     requires can { I.can_next iter }
     requires ends { IsFinite (I.remaining iter) }
     requires init_accepts { N.IsAlwaysCallable init }
-    requires map_accepts { HoldsAlong I.next_gives iter (All (λ x. (state : MutBor W) → F.pre map_op state x)) }
+    requires map_accepts { (x : I.Item) → MayCome I.next_gives iter x
+        → (state : MutBor W) → F.pre map_op state x }
     ensures along { IfOk result (λ ys. (xs : List I.Item) × Drains I.next_gives iter xs
         × StatesAlong (N.post init) (MapStep (λ p x y q. F.post map_op p x y q)) (Shape (cutdepth (threads_of strategy.now)) xs) ys.items) }
     ensures fault { IfErr result (λ fault. fault ≡ Memory) }
@@ -233,7 +236,8 @@ where
     requires can { I.can_next iter }
     requires ends { IsFinite (I.remaining iter) }
     requires init_accepts { N.IsAlwaysCallable init }
-    requires map_accepts { HoldsAlong I.next_gives iter (All (λ x. (state : MutBor W) → F.pre map_op state x)) }
+    requires map_accepts { (x : I.Item) → MayCome I.next_gives iter x
+        → (state : MutBor W) → F.pre map_op state x }
     ensures segment { IfOk result (λ ys. (xs : List I.Item) × Drains I.next_gives iter xs
         × StateSegment (N.post init) (MapStep (λ p x y q. F.post map_op p x y q)) xs ys.items) }
     ensures fault { IfErr result (λ fault. fault ≡ Memory) }

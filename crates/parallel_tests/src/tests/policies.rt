@@ -169,10 +169,22 @@ fn states_of_three<Rt: Threads + Wait + Sync, S: Strategy>(
 fn a_policy_learns_apart_by_multiplier(rt: HostRuntime) -> Result<(), Fail> {
     let alloc = rt.alloc();
     let strategy = learning(&rt, alloc, 100_000);
-    assert_eq!(rt; states_of_three(&rt, alloc, &strategy, 1)?.as_slice(), [1, 1, 1].as_slice());
-    assert_eq!(rt; states_of_three(&rt, alloc, &strategy, 100)?.as_slice(), [1, 1, 1].as_slice());
-    assert_eq!(rt; states_of_three(&rt, alloc, &strategy, 1)?.as_slice(), [1, 2, 3].as_slice());
-    assert_eq!(rt; states_of_three(&rt, alloc, &strategy, 100)?.as_slice(), [1, 2, 3].as_slice());
+    assert_eq!(rt;
+        states_of_three(&rt, alloc, &strategy, 1)?.as_slice(),
+        [1, 1, 1].as_slice()
+    );
+    assert_eq!(rt;
+        states_of_three(&rt, alloc, &strategy, 100)?.as_slice(),
+        [1, 1, 1].as_slice()
+    );
+    assert_eq!(rt;
+        states_of_three(&rt, alloc, &strategy, 1)?.as_slice(),
+        [1, 2, 3].as_slice()
+    );
+    assert_eq!(rt;
+        states_of_three(&rt, alloc, &strategy, 100)?.as_slice(),
+        [1, 2, 3].as_slice()
+    );
     Ok(())
 }
 
@@ -183,6 +195,9 @@ fn a_sort_tells_the_policy_its_time(rt: HostRuntime) -> Result<(), Fail> {
     let mut numbers = [3u32, 1, 2];
     strategy.sort_by(&rt, alloc, SITE, &mut numbers, |a: &u32, b: &u32| a.cmp(b))?;
     assert_eq!(rt; numbers, [1, 2, 3]);
-    assert_eq!(rt; one_of(&rt, alloc, &strategy, SITE, 3, "serial", "parallel")?, "serial");
+    assert_eq!(rt;
+        one_of(&rt, alloc, &strategy, SITE, 3, "serial", "parallel")?,
+        "serial"
+    );
     Ok(())
 }

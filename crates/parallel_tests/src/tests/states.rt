@@ -290,7 +290,13 @@ fn many_numbers_are_sorted_on_four_threads(rt: HostRuntime) -> Result<(), Fail> 
     for index in 0..20_000u32 {
         numbers.push(index.wrapping_mul(7919) % 20_000)?;
     }
-    strategy.sort_by(&rt, alloc, SITE, numbers.as_mut_slice(), |a: &u32, b: &u32| a.cmp(b))?;
+    strategy.sort_by(
+        &rt,
+        alloc,
+        SITE,
+        numbers.as_mut_slice(),
+        |a: &u32, b: &u32| a.cmp(b),
+    )?;
     let mut sorted = 0u32;
     for number in numbers {
         assert_eq!(rt; number, sorted);
