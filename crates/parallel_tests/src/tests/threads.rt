@@ -45,8 +45,8 @@ fn two_items_of_a_fallible_map_see_each_other(rt: HostRuntime) -> Result<(), Fai
             Ok(sees(&second, &first))
         }
     };
-    let seen = strategy.try_map_collect_vec(&rt, rt.alloc(), SITE, 0..2u32, both);
-    assert!(rt; matches!(seen, Ok(answers) if answers.as_slice() == [true, true].as_slice()));
+    let seen = strategy.try_map_collect_vec(&rt, rt.alloc(), SITE, 0..2u32, both)?;
+    assert_eq!(rt; seen.as_slice(), [true, true].as_slice());
     Ok(())
 }
 
