@@ -13,7 +13,7 @@ returns-clause-sum g c =
     let items = c.args.items.now in
     let v : Bor (String Global) → String Global = λ word. word.now in
     let same : map v h.0 ≡ items = drained h.0 h.1 (YieldsList-from_slice {s = c.iter.result} items (search rules)) in
-    let segment = one_segment _ _ _ _ h.2 h.0 r h.4 h.5 in
+    let segment = one_segment _ _ _ _ h.2.0 h.0 r h.2.2 h.2.3.1 in
     let begins : segment.0 ≡ c.args.identity = search rules in
     let good : All IsItem (map v h.0) = subst (All IsItem) (sym same) c.requires.items.1 in
     let few = ap length same in
