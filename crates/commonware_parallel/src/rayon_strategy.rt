@@ -22,8 +22,8 @@ use std::thread::Threads;
 /// no policy and is always parallel. A clone has the same pool, the same numbers and the same policy.
 #[derive(Clone, Debug, Drop)]
 pub struct Rayon<C> {
-    pool: Arc<ThreadPool, Global>,
-    parallelism: NonZeroUsize,
+    pub(crate) pool: Arc<ThreadPool, Global>,
+    pub(crate) parallelism: NonZeroUsize,
     clock: C,
     policy: Option<Policy>,
 }

@@ -1,0 +1,48 @@
+-- the numbers of an explorer, and the picks that it takes
+use Rattle.std.specs.Prelude.{◌≡◌, ◌≤◌, ◌<◌, ◌≤◌, ℕ, nat_le, if◌then◌else◌}
+use Rattle.std.specs.Int.NonZero.{non_zero_usize_get}
+use Rattle.std.specs.Arc.{arc_value}
+use Rattle.parallel_fault.specs.declared.fault.Fault.{Fault}
+use Rattle.parallel_fault.specs.declared.fault.Fault.TheVariants.{HandOff}
+use Rattle.parallel_policy.specs.declared.Site.{Site}
+use Rattle.parallel_pool.specs.ThreadPool.{thread_count}
+use Rattle.commonware_parallel.specs.declared.call.Call.{Call}
+use Rattle.commonware_parallel.specs.declared.call.Kind.{Kind}
+use Rattle.commonware_parallel.specs.declared.call.Kind.TheVariants.{Body, Batches, Tiles, Spawn, Join}
+use Rattle.commonware_parallel.specs.declared.mocks.rule.Rule.{Rule}
+use Rattle.commonware_parallel.specs.declared.mocks.explorer.Explorer.{Explorer}
+use Rattle.commonware_parallel.specs.Mixes.{pick_of}
+
+-- the planning number
+abbrev pub plans_of : Explorer → ℕ
+plans_of explorer = non_zero_usize_get explorer.parallelism
+
+-- the thread number of the pool, by which lists are halved
+abbrev pub pool_threads : Explorer → ℕ
+pool_threads explorer = thread_count (arc_value explorer.pool)
+
+-- by what it picks
+abbrev pub rule_of : Explorer → Rule
+rule_of explorer = explorer.rule
+
+-- a body that is planned for one is serial; all else goes by the rule
+abbrev pub picked_as : Kind → ℕ → ℕ → ℕ
+picked_as Body planned pick = if nat_le planned 1 then 0 else pick
+picked_as Batches planned pick = pick
+picked_as Tiles planned pick = pick
+picked_as Spawn planned pick = pick
+picked_as Join planned pick = pick
+
+-- the pick of a call
+abbrev pub picked : ℕ → Rule → Site → Call → ℕ
+picked planned rule site call = picked_as call.kind planned (pick_of rule site call.len call.options)
+
+-- that pick alone; a job isn't handed off to a pool of one thread
+abbrev pub ExplorerTakes : Explorer → Site → Call → ℕ → Type 0
+ExplorerTakes explorer site call pick =
+    (pick ≡ picked (plans_of explorer) (rule_of explorer) site call) × (call.kind ≡ Spawn → pool_threads explorer ≡ 1 → pick ≡ 0)
+
+-- a job that the rule hands off, where the pool has one thread
+abbrev pub ExplorerRefuses : Explorer → Site → Call → Fault → Type 0
+ExplorerRefuses explorer site call fault = (call.kind ≡ Spawn) × (fault ≡ HandOff) × (pool_threads explorer ≡ 1)
+    × (0 < picked (plans_of explorer) (rule_of explorer) site call)

@@ -1,0 +1,42 @@
+// Why a search through the rules gave no answer.
+ghost use Rattle.std.specs.Prelude.{◌≡◌};
+
+use crate::mocks::rule::Rule;
+use parallel_pool::rayon::ThreadPoolBuildError;
+use std::alloc::{AllocError, AllocFailed};
+use thiserror::Error;
+
+/// Why `explore` gave no answer.
+#[derive(Debug, Drop, Error)]
+pub enum ExploreError {
+    /// The run by this rule answered otherwise than the serial run.
+    #[error("the {0:?} run must return the serial run's output")]
+    Differs(Rule),
+    /// The pool could not be built.
+    #[error(transparent)]
+    Build(ThreadPoolBuildError),
+}
+
+/// A refused growth is the pool's want of memory.
+impl From<AllocError> for ExploreError {
+    ghost use Rattle.commonware_parallel.specs.declared.mocks.explore_error.ExploreError.TheVariants.{Build};
+    ghost use Rattle.parallel_pool.specs.declared.rayon.build_error.ThreadPoolBuildError.TheVariants.{Memory};
+
+    ghost from_gives = { λ _ error. error ≡ Build Memory };
+
+    fn from(_error: AllocError) -> ExploreError {
+        ExploreError::Build(ThreadPoolBuildError::Memory)
+    }
+}
+
+/// A refused growth that hands a value back is the pool's want of memory, and the value is dropped.
+impl<T: Drop> From<AllocFailed<T>> for ExploreError {
+    ghost use Rattle.commonware_parallel.specs.declared.mocks.explore_error.ExploreError.TheVariants.{Build};
+    ghost use Rattle.parallel_pool.specs.declared.rayon.build_error.ThreadPoolBuildError.TheVariants.{Memory};
+
+    ghost from_gives = { λ _ error. error ≡ Build Memory };
+
+    fn from(_error: AllocFailed<T>) -> ExploreError {
+        ExploreError::Build(ThreadPoolBuildError::Memory)
+    }
+}

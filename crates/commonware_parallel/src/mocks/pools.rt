@@ -1,0 +1,53 @@
+// Pools for tests.
+ghost use Rattle.std.specs.Prelude.{◌≡◌, IfOk, IfErr, min, true};
+ghost use Rattle.std.specs.Int.NonZero.{non_zero_usize_get};
+ghost use Rattle.parallel_pool.specs.declared.rayon.build_error.ThreadPoolBuildError.TheVariants.{Memory};
+ghost use Rattle.commonware_parallel.specs.Rayon.{planning_of, threads_of, chooses_of};
+
+use crate::rayon_strategy::Rayon;
+use parallel_policy::Clock;
+use parallel_pool::rayon::{MAX_THREADS, ThreadPoolBuildError};
+use std::alloc::Global;
+use std::num::NonZeroUsize;
+use std::thread::Threads;
+
+/// A strategy over a pool of `workers` threads, 65535 at most, planned for `parallelism`, with a policy
+/// that knows nothing yet.
+///
+/// # Errors
+///
+/// Those of `Rayon::new`.
+pub fn pooled<Rt: Threads, C: Clock>(
+    rt: &Rt,
+    alloc: Global,
+    workers: NonZeroUsize,
+    parallelism: NonZeroUsize,
+    clock: C,
+) -> Result<Rayon<C>, ThreadPoolBuildError>
+    ensures threads { IfOk result (λ strategy. threads_of strategy ≡ min (non_zero_usize_get workers) MAX_THREADS) }
+    ensures planning { IfOk result (λ strategy. planning_of strategy ≡ non_zero_usize_get parallelism) }
+    ensures chooses { IfOk result (λ strategy. chooses_of strategy ≡ true) }
+    ensures refused { IfErr result (λ error. error ≡ Memory) }
+{
+    let strategy = Rayon::new(rt, alloc, workers, clock)?;
+    Ok(strategy.with_parallelism(parallelism))
+}
+
+/// As `pooled`, over one thread: batches are still cut as they are planned.
+///
+/// # Errors
+///
+/// Those of `Rayon::new`.
+pub fn inline<Rt: Threads, C: Clock>(
+    rt: &Rt,
+    alloc: Global,
+    parallelism: NonZeroUsize,
+    clock: C,
+) -> Result<Rayon<C>, ThreadPoolBuildError>
+    ensures threads { IfOk result (λ strategy. threads_of strategy ≡ 1) }
+    ensures planning { IfOk result (λ strategy. planning_of strategy ≡ non_zero_usize_get parallelism) }
+    ensures chooses { IfOk result (λ strategy. chooses_of strategy ≡ true) }
+    ensures refused { IfErr result (λ error. error ≡ Memory) }
+{
+    pooled(rt, alloc, NonZeroUsize::MIN, parallelism, clock)
+}

@@ -1,0 +1,266 @@
+//! The calls of one place, with what they have in common written once.
+ghost use Rattle.std.specs.Prelude.{◌≡◌, ◌×◌, IfOk, IfErr, OnOk, length};
+ghost use Rattle.std.specs.Borrow.{MutBor};
+ghost use Rattle.std.specs.List.Sorted.{IsPermutation, IsSortedByClosure, IsStableByClosure};
+ghost use Rattle.parallel_bridge.specs.Lists.{Bracketing, Brackets, MapOf};
+ghost use Rattle.parallel_bridge.specs.Outcomes.{UnlessRefused, listed};
+ghost use Rattle.parallel_bridge.specs.Parts.{PartitionOf};
+ghost use Rattle.parallel_bridge.specs.Shapes.{cutdepth};
+ghost use Rattle.parallel_bridge.specs.Sources.{GivesSome};
+ghost use Rattle.parallel_bridge.specs.States.{FoldInitSegment, FoldStep, MapStep, Stateful};
+ghost use Rattle.parallel_bridge.specs.Tries.{TryBracketing, TryMapOf};
+ghost use Rattle.parallel_bridge.specs.Ways.{FoldedAs, FoldedInitAs, MappedInitAs, TryFoldedAs};
+ghost use Rattle.parallel_fault.specs.Trouble.{IfFault, IsMemoryOnErr};
+ghost use Rattle.parallel_fault.specs.declared.fault.Fault.TheVariants.{Memory};
+ghost use Rattle.commonware_parallel.specs.Calls.{AtSomePick, body_call, join_call};
+
+use crate::strategy::Strategy;
+use parallel_bridge::Source;
+use parallel_fault::{Fault, Trouble};
+use parallel_policy::Place;
+use std::alloc::Global;
+use std::cmp::Ordering;
+use std::sync::Wait;
+use std::thread::Threads;
+
+/// What the calls of a place have in common: the runtime, the allocator, the strategy and the place.
+///
+/// A function makes one at its beginning, `let on = On { rt, alloc, strategy, site };`, and then writes
+/// `on.map(items, f)`. Each method is the strategy's call of the name in its comment, with that call's
+/// clauses and errors.
+pub struct On<'s, Rt, S, P> {
+    /// The runtime.
+    pub rt: &'s Rt,
+    /// What memory is taken from.
+    pub alloc: Global,
+    /// The strategy that the calls go through.
+    pub strategy: &'s S,
+    /// The place of the calls, by which a policy tells them apart.
+    pub site: P,
+}
+
+impl<'s, Rt: Threads + Wait + Sync, S: Strategy, P: Place> On<'s, Rt, S, P> {
+    /// An answer of each of two closures: `Strategy::join`.
+    pub fn join<
+        A: FnOnce() -> RA + Send + Drop,
+        B: FnOnce() -> RB + Send + Drop,
+        RA: Send + Drop,
+        RB: Send + Drop,
+    >(&self, a: A, b: B) -> Result<(RA, RB), Fault>
+        requires first_runs { A.pre a }
+        requires second_runs { B.pre b }
+        ensures answers { IfOk result (λ answers. A.post a answers.0 × B.post b answers.1) }
+        ensures refused { IfErr result (S.refuses self.now.strategy.now (P.site_of self.now.site) join_call) }
+        ensures fault { IsMemoryOnErr result }
+    {
+        self.strategy.join(self.rt, self.alloc, self.site, a, b)
+    }
+
+    /// Sorts the items, those that tie in their order: `Strategy::sort_by`.
+    pub fn sort_by<T: Send, C: Fn(&T, &T) -> Ordering + Send + Sync + Drop>(
+        &self,
+        items: &mut [T],
+        compare: C,
+    ) -> Result<(), Fault>
+        requires { C.IsAlwaysCallable compare }
+        ensures permutation { IsPermutation items.old items.new }
+        ensures sorted { OnOk result (IsSortedByClosure C.FnMut compare items.new) }
+        ensures stable { IsStableByClosure C.FnMut compare items.old items.new }
+        ensures asked { OnOk result (AtSomePick
+            (S.takes self.now.strategy.now (P.site_of self.now.site) (body_call (length items.old))) (λ _. Unit {0})) }
+        ensures fault { IsMemoryOnErr result }
+    {
+        self.strategy
+            .sort_by(self.rt, self.alloc, self.site, items, compare)
+    }
+
+    /// Sorts the items: `Strategy::sort_unstable_by`.
+    pub fn sort_unstable_by<T: Send, C: Fn(&T, &T) -> Ordering + Send + Sync + Drop>(
+        &self,
+        items: &mut [T],
+        compare: C,
+    ) -> Result<(), Fault>
+        requires { C.IsAlwaysCallable compare }
+        ensures permutation { IsPermutation items.old items.new }
+        ensures sorted { OnOk result (IsSortedByClosure C.FnMut compare items.new) }
+        ensures asked { OnOk result (AtSomePick
+            (S.takes self.now.strategy.now (P.site_of self.now.site) (body_call (length items.old))) (λ _. Unit {0})) }
+        ensures fault { IsMemoryOnErr result }
+    {
+        self.strategy
+            .sort_unstable_by(self.rt, self.alloc, self.site, items, compare)
+    }
+
+    /// The answers for the items, in their order: `Strategy::map_collect_vec`.
+    pub fn map<M, I: Source<M>, T: Send + Drop, F: Fn(I::Item) -> T + Send + Sync + Drop>(
+        &self,
+        source: I,
+        map_op: F,
+    ) -> Result<Vec<T>, Fault>
+        requires can { I.can source }
+        requires accepts { (x : I.Item) → I.may source x → F.pre map_op x }
+        ensures answers { IfOk result (λ ys. GivesSome I.gives source
+            (λ xs. MapOf (F.post map_op) xs ys.items)) }
+        ensures asked { OnOk result (GivesSome I.gives source
+            (λ xs. AtSomePick (S.takes self.now.strategy.now (P.site_of self.now.site) (body_call (length xs))) (λ _. Unit {0}))) }
+        ensures fault { IsMemoryOnErr result }
+    {
+        self.strategy
+            .map_collect_vec(self.rt, self.alloc, self.site, source, map_op)
+    }
+
+    /// The items folded: `Strategy::fold`.
+    pub fn fold<
+        M,
+        I: Source<M>,
+        R: Send + Drop,
+        ID: Fn() -> R + Send + Sync + Drop,
+        F: Fn(R, I::Item) -> R + Send + Sync + Drop,
+        G: Fn(R, R) -> R + Send + Sync + Drop,
+    >(&self, source: I, identity: ID, fold_op: F, reduce_op: G) -> Result<R, Fault>
+        requires can { I.can source }
+        requires identity_accepts { ID.IsAlwaysCallable identity }
+        requires fold_accepts { F.IsAlwaysCallable fold_op }
+        requires reduce_accepts { G.IsAlwaysCallable reduce_op }
+        ensures brackets { IfOk result (λ r. GivesSome I.gives source
+            (λ xs. Bracketing (ID.post identity) (λ a x b. F.post fold_op a x b)
+            (λ a b c. G.post reduce_op a b c) xs r)) }
+        ensures along { IfOk result (λ r. GivesSome I.gives source
+            (λ xs. AtSomePick (S.takes self.now.strategy.now (P.site_of self.now.site) (body_call (length xs)))
+            (λ pick. FoldedAs (ID.post identity) (λ a x b. F.post fold_op a x b)
+            (λ a b c. G.post reduce_op a b c) (cutdepth (S.threads self.now.strategy.now)) pick xs r))) }
+        ensures fault { IsMemoryOnErr result }
+    {
+        self.strategy.fold(
+            self.rt, self.alloc, self.site, source, identity, fold_op, reduce_op,
+        )
+    }
+
+    /// The items folded with a state at hand: `Strategy::fold_init`.
+    pub fn fold_init<
+        M,
+        I: Source<M>,
+        V: Send + Drop,
+        R: Send + Drop,
+        N: Fn() -> V + Send + Sync + Drop,
+        ID: Fn() -> R + Send + Sync + Drop,
+        F: Fn(R, &mut V, I::Item) -> R + Send + Sync + Drop,
+        G: Fn(R, R) -> R + Send + Sync + Drop,
+    >(&self, source: I, init: N, identity: ID, fold_op: F, reduce_op: G) -> Result<R, Fault>
+        requires can { I.can source }
+        requires init_accepts { N.IsAlwaysCallable init }
+        requires identity_accepts { ID.IsAlwaysCallable identity }
+        requires fold_accepts { F.IsAlwaysCallable fold_op }
+        requires reduce_accepts { G.IsAlwaysCallable reduce_op }
+        ensures brackets { IfOk result (λ r. GivesSome I.gives source
+            (λ xs. Brackets (FoldInitSegment (N.post init) (ID.post identity)
+            (FoldStep (λ a p x b q. F.post fold_op a p x b q)))
+            (λ a b c. G.post reduce_op a b c) xs r)) }
+        ensures along { IfOk result (λ r. GivesSome I.gives source
+            (λ xs. AtSomePick (S.takes self.now.strategy.now (P.site_of self.now.site) (body_call (length xs)))
+            (λ pick. FoldedInitAs (N.post init) (ID.post identity)
+            (FoldStep (λ a p x b q. F.post fold_op a p x b q))
+            (λ a b c. G.post reduce_op a b c) (cutdepth (S.threads self.now.strategy.now)) pick xs r))) }
+        ensures fault { IsMemoryOnErr result }
+    {
+        self.strategy.fold_init(
+            self.rt, self.alloc, self.site, source, init, identity, fold_op, reduce_op,
+        )
+    }
+
+    /// The items folded by steps that may fail: `Strategy::try_fold`.
+    pub fn try_fold<
+        M,
+        I: Source<M>,
+        R: Send + Drop,
+        E: Send + Drop,
+        ID: Fn() -> R + Send + Sync + Drop,
+        F: Fn(R, I::Item) -> Result<R, E> + Send + Sync + Drop,
+        G: Fn(R, R) -> R + Send + Sync + Drop,
+    >(&self, source: I, identity: ID, fold_op: F, reduce_op: G) -> Result<R, Trouble<E>>
+        requires can { I.can source }
+        requires identity_accepts { ID.IsAlwaysCallable identity }
+        requires fold_accepts { F.IsAlwaysCallable fold_op }
+        requires reduce_accepts { G.IsAlwaysCallable reduce_op }
+        ensures brackets { UnlessRefused result (λ out. GivesSome I.gives source
+            (λ xs. TryBracketing (ID.post identity) (λ a x b. F.post fold_op a x b)
+            (λ a b c. G.post reduce_op a b c) xs out)) }
+        ensures along { UnlessRefused result (λ out. GivesSome I.gives source
+            (λ xs. AtSomePick (S.takes self.now.strategy.now (P.site_of self.now.site) (body_call (length xs)))
+            (λ pick. TryFoldedAs (ID.post identity) (λ a x b. F.post fold_op a x b)
+            (λ a b c. G.post reduce_op a b c) (cutdepth (S.threads self.now.strategy.now)) pick xs out))) }
+        ensures fault { IfErr result (λ trouble. IfFault trouble (λ fault. fault ≡ Memory)) }
+    {
+        self.strategy.try_fold(
+            self.rt, self.alloc, self.site, source, identity, fold_op, reduce_op,
+        )
+    }
+
+    /// The answers, or the first failing item's error: `Strategy::try_map_collect_vec`.
+    pub fn try_map<
+        M,
+        I: Source<M>,
+        T: Send + Drop,
+        E: Send + Drop,
+        F: Fn(I::Item) -> Result<T, E> + Send + Sync + Drop,
+    >(&self, source: I, map_op: F) -> Result<Vec<T>, Trouble<E>>
+        requires can { I.can source }
+        requires accepts { (x : I.Item) → I.may source x → F.pre map_op x }
+        ensures answers { UnlessRefused result (λ out. GivesSome I.gives source
+            (λ xs. TryMapOf (F.post map_op) xs (listed out))) }
+        ensures asked { UnlessRefused result (λ _. GivesSome I.gives source
+            (λ xs. AtSomePick (S.takes self.now.strategy.now (P.site_of self.now.site) (body_call (length xs)))
+            (λ _. Unit {0}))) }
+        ensures fault { IfErr result (λ trouble. IfFault trouble (λ fault. fault ≡ Memory)) }
+    {
+        self.strategy
+            .try_map_collect_vec(self.rt, self.alloc, self.site, source, map_op)
+    }
+
+    /// The answers with a state at hand: `Strategy::map_init_collect_vec`.
+    pub fn map_init<
+        M,
+        I: Source<M>,
+        V: Send + Drop,
+        T: Send + Drop,
+        N: Fn() -> V + Send + Sync + Drop,
+        F: Fn(&mut V, I::Item) -> T + Send + Sync + Drop,
+    >(&self, source: I, init: N, map_op: F) -> Result<Vec<T>, Fault>
+        requires can { I.can source }
+        requires init_accepts { N.IsAlwaysCallable init }
+        requires map_accepts { (x : I.Item) → I.may source x
+            → (state : MutBor V) → F.pre map_op state x }
+        ensures stateful { IfOk result (λ ys. GivesSome I.gives source
+            (λ xs. Stateful (N.post init) (MapStep (λ p x y q. F.post map_op p x y q))
+            xs ys.items)) }
+        ensures along { IfOk result (λ ys. GivesSome I.gives source
+            (λ xs. AtSomePick (S.takes self.now.strategy.now (P.site_of self.now.site) (body_call (length xs)))
+            (λ pick. MappedInitAs (N.post init) (MapStep (λ p x y q. F.post map_op p x y q))
+            (cutdepth (S.threads self.now.strategy.now)) pick xs ys.items))) }
+        ensures fault { IsMemoryOnErr result }
+    {
+        self.strategy
+            .map_init_collect_vec(self.rt, self.alloc, self.site, source, init, map_op)
+    }
+
+    /// Values, and the keys of items without one: `Strategy::map_partition_collect_vec`.
+    pub fn map_partition<
+        M,
+        I: Source<M>,
+        K: Send + Drop,
+        U: Send + Drop,
+        F: Fn(I::Item) -> (K, Option<U>) + Send + Sync + Drop,
+    >(&self, source: I, map_op: F) -> Result<(Vec<U>, Vec<K>), Fault>
+        requires can { I.can source }
+        requires accepts { (x : I.Item) → I.may source x → F.pre map_op x }
+        ensures answers { IfOk result (λ parts. GivesSome I.gives source
+            (λ xs. PartitionOf (F.post map_op) xs parts.0.items parts.1.items)) }
+        ensures asked { OnOk result (GivesSome I.gives source
+            (λ xs. AtSomePick (S.takes self.now.strategy.now (P.site_of self.now.site) (body_call (length xs)))
+            (λ _. Unit {0}))) }
+        ensures fault { IsMemoryOnErr result }
+    {
+        self.strategy
+            .map_partition_collect_vec(self.rt, self.alloc, self.site, source, map_op)
+    }
+}

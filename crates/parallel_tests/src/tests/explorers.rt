@@ -1,0 +1,263 @@
+// Explorers: what they pick, and what the search through the rules answers.
+use crate::tests::strategies::{SITE, Stopped, number, pool};
+use commonware_parallel::mocks::{
+    ExploreError, Explorer, Rule, TASKS, WORKERS, explore, inline, mix, pick, pooled,
+};
+use commonware_parallel::{Fault, Site, Strategy, Trouble};
+use std::alloc::Global;
+use std::process::Abort;
+use std::sync::Wait;
+use std::sync::atomic::{AtomicU64, Ordering};
+use std::test::Fail;
+use std::thread::Threads;
+
+// The first place of a file whose name is one byte.
+const PLACE: Site = Site {
+    file: "a",
+    line: 1,
+    column: 1,
+};
+
+// An explorer over a pool of four threads, planned for eight.
+fn by_seed(rt: &(impl Threads + Abort), alloc: Global, seed: u64) -> Explorer {
+    let strategy = pool(rt, alloc, WORKERS, TASKS);
+    Explorer::seeded(&strategy, seed).expect(rt, "memory for a handle")
+}
+
+#[test]
+fn the_hash_is_the_same_everywhere(rt: HostRuntime) -> Result<(), Fail> {
+    for (seed, none, two, many) in [
+        (0, 2107625261, 2107625262, 2107625324),
+        (1, 1104250544, 1104250545, 1104250607),
+        (2, 100875827, 100875828, 100875890),
+        (3, 1244984757, 1244984758, 1244984820),
+    ] {
+        assert_eq!(rt; mix(seed, PLACE, 1), none, "seed {seed}");
+        assert_eq!(rt; mix(seed, PLACE, 2), two, "seed {seed}");
+        assert_eq!(rt; mix(seed, PLACE, 64), many, "seed {seed}");
+    }
+    let lower = Site { line: 2, ..PLACE };
+    let further = Site { column: 2, ..PLACE };
+    let longer = Site {
+        file: "aa",
+        ..PLACE
+    };
+    let other = Site { file: "b", ..PLACE };
+    for site in [lower, further, longer, other] {
+        assert!(rt; mix(0, site, 64) != mix(0, PLACE, 64), "{site:?}");
+    }
+    Ok(())
+}
+
+#[test]
+fn a_rule_picks_the_first_the_last_or_by_the_hash(rt: HostRuntime) -> Result<(), Fail> {
+    assert_eq!(rt; pick(Rule::Serial, PLACE, 64, 8), 0);
+    assert_eq!(rt; pick(Rule::Parallel, PLACE, 64, 8), 7);
+    for (seed, of_two, of_eight) in [(0, 0, 4), (1, 1, 7), (2, 0, 2), (3, 0, 4)] {
+        assert_eq!(rt;
+            pick(Rule::Seeded(seed), PLACE, 64, 2),
+            of_two,
+            "seed {seed}"
+        );
+        assert_eq!(rt;
+            pick(Rule::Seeded(seed), PLACE, 64, 8),
+            of_eight,
+            "seed {seed}"
+        );
+    }
+    Ok(())
+}
+
+#[test]
+fn a_seed_picks_the_body_and_the_number_of_ranges(rt: HostRuntime) -> Result<(), Fail> {
+    let alloc = rt.alloc();
+    for (seed, body, count) in [
+        (0, "serial", 5),
+        (1, "parallel", 8),
+        (2, "serial", 3),
+        (3, "serial", 5),
+    ] {
+        let explorer = by_seed(&rt, alloc, seed);
+        assert_eq!(rt; explorer.rule(), Rule::Seeded(seed));
+        let ran = explorer.run(&rt, alloc, PLACE, 64, || "serial", || "parallel")?;
+        assert_eq!(rt; ran, body, "seed {seed}");
+        let ranges = explorer.run_batches(&rt, alloc, PLACE, 64, number(&rt, 1), 1, |batches| {
+            batches.ranges().len()
+        })?;
+        assert_eq!(rt; ranges, count, "seed {seed}");
+    }
+    let first = by_seed(&rt, alloc, 0);
+    let same = first.run_batches(&rt, alloc, PLACE, 64, number(&rt, 1), 1, |batches| {
+        batches.ranges() == [0..13, 13..26, 26..39, 39..52, 52..64].as_slice()
+    })?;
+    assert!(rt; same);
+    Ok(())
+}
+
+#[test]
+fn an_explorer_keeps_the_numbers_and_asks_no_policy(rt: HostRuntime) -> Result<(), Fail> {
+    let alloc = rt.alloc();
+    let strategy = pooled(&rt, alloc, number(&rt, 2), number(&rt, 3), Stopped)?;
+    let explorer = Explorer::parallel(&strategy)?;
+    assert_eq!(rt; explorer.thread_number().get(), 2);
+    assert_eq!(rt; explorer.planning().get(), 3);
+    for _ in 0..4 {
+        let ran = explorer.run(&rt, alloc, SITE, 64, || "serial", || "parallel")?;
+        assert_eq!(rt; ran, "parallel");
+    }
+    let copied = explorer.clone()?;
+    assert_eq!(rt; copied.rule(), Rule::Parallel);
+    let alone = inline(&rt, alloc, number(&rt, 4), Stopped)?;
+    assert_eq!(rt; alone.thread_number().get(), 1);
+    assert_eq!(rt; alone.planning().get(), 4);
+    Ok(())
+}
+
+#[test]
+fn an_explorer_planned_for_one_runs_bodies_serially(rt: HostRuntime) -> Result<(), Fail> {
+    let alloc = rt.alloc();
+    let strategy = pooled(&rt, alloc, number(&rt, 2), number(&rt, 1), Stopped)?;
+    let explorer = Explorer::parallel(&strategy)?;
+    let ran = explorer.run(&rt, alloc, SITE, 64, || "serial", || "parallel")?;
+    assert_eq!(rt; ran, "serial");
+    let whole = explorer.run_batches(&rt, alloc, SITE, 64, number(&rt, 1), 1, |batches| {
+        batches.is_whole()
+    })?;
+    assert!(rt; whole);
+    Ok(())
+}
+
+// The fold of the items by addition, from 10.
+fn sum_from_ten<Rt: Threads + Wait + Sync, S: Strategy>(
+    rt: &Rt,
+    alloc: Global,
+    strategy: &S,
+    items: &[u64],
+) -> Result<u64, Fault> {
+    strategy.fold(
+        rt,
+        alloc,
+        SITE,
+        items,
+        || 10,
+        |sum: u64, item: &u64| sum.wrapping_add(*item),
+        |left: u64, right: u64| left.wrapping_add(right),
+    )
+}
+
+#[test]
+fn the_parallel_rule_folds_and_maps_along_the_shape(rt: HostRuntime) -> Result<(), Fail> {
+    let alloc = rt.alloc();
+    let strategy = pooled(&rt, alloc, number(&rt, 2), number(&rt, 3), Stopped)?;
+    let explorer = Explorer::parallel(&strategy)?;
+    assert_eq!(rt; sum_from_ten(&rt, alloc, &explorer, &[1, 2, 3])?, 66);
+    assert_eq!(rt; sum_from_ten(&rt, alloc, &explorer, &[])?, 20);
+    let states = explorer.map_init_collect_vec(
+        &rt,
+        alloc,
+        SITE,
+        0..3u64,
+        || 0u64,
+        |state, _| {
+            *state = state.wrapping_add(1);
+            *state
+        },
+    )?;
+    assert_eq!(rt; states.as_slice(), [1, 1, 1].as_slice());
+    Ok(())
+}
+
+#[test]
+fn outputs_that_the_shape_does_not_change_are_answered(rt: HostRuntime) -> Result<(), Fail> {
+    let alloc = rt.alloc();
+    let squares = explore(&rt, alloc, |explorer| {
+        match explorer.map_collect_vec(&rt, alloc, SITE, 0..100u64, |n| n.wrapping_mul(n)) {
+            Ok(squares) => squares
+                .iter()
+                .enumerate()
+                .all(|(n, square)| *square == (n as u64).wrapping_mul(n as u64)),
+            Err(_) => false,
+        }
+    })?;
+    assert!(rt; squares);
+    let sum = explore(&rt, alloc, |explorer| {
+        explorer
+            .fold(
+                &rt,
+                alloc,
+                SITE,
+                0..100u64,
+                || 0,
+                |a: u64, n| a.wrapping_add(n),
+                |a: u64, b: u64| a.wrapping_add(b),
+            )
+            .ok()
+    })?;
+    assert_eq!(rt; sum, Some(4950));
+    let first = explore(&rt, alloc, |explorer| {
+        let checked = explorer.try_map_collect_vec(&rt, alloc, SITE, 0..100u64, |n| {
+            if n == 57 || n == 99 { Err(n) } else { Ok(n) }
+        });
+        match checked {
+            Err(Trouble::Closure(n)) => Some(n),
+            _ => None,
+        }
+    })?;
+    assert_eq!(rt; first, Some(57));
+    Ok(())
+}
+
+#[test]
+fn an_output_that_the_shape_changes_is_told(rt: HostRuntime) -> Result<(), Fail> {
+    let alloc = rt.alloc();
+    let calls = AtomicU64::new(0);
+    let told = explore(&rt, alloc, |explorer| {
+        calls.fetch_add(1, Ordering::SeqCst);
+        explorer
+            .run(&rt, alloc, SITE, 64, || "serial", || "parallel")
+            .ok()
+    });
+    assert!(rt; matches!(told, Err(ExploreError::Differs(Rule::Parallel))));
+    assert_eq!(rt; calls.load(Ordering::SeqCst), 2);
+    Ok(())
+}
+
+#[test]
+fn the_rules_come_in_their_order(rt: HostRuntime) -> Result<(), Fail> {
+    let alloc = rt.alloc();
+    let mut rules = Vec::with_capacity(alloc, 6)?;
+    let output = explore(&rt, alloc, |explorer| {
+        let numbers = (explorer.thread_number().get(), explorer.planning().get());
+        rules.push(explorer.rule()).is_ok() && numbers == (4, 8)
+    })?;
+    assert!(rt; output);
+    assert_eq!(rt;
+        rules.as_slice(),
+        [
+            Rule::Serial,
+            Rule::Parallel,
+            Rule::Seeded(0),
+            Rule::Seeded(1),
+            Rule::Seeded(2),
+            Rule::Seeded(3),
+        ]
+        .as_slice()
+    );
+    Ok(())
+}
+
+#[test]
+fn errors_of_a_search_print_their_text(rt: HostRuntime) -> Result<(), Fail> {
+    let alloc = rt.alloc();
+    let parallel = format!(in alloc; "{}", ExploreError::Differs(Rule::Parallel))?;
+    assert_eq!(rt;
+        parallel.as_str(),
+        "the Parallel run must return the serial run's output"
+    );
+    let seeded = format!(in alloc; "{}", ExploreError::Differs(Rule::Seeded(2)))?;
+    assert_eq!(rt;
+        seeded.as_str(),
+        "the Seeded(2) run must return the serial run's output"
+    );
+    Ok(())
+}
