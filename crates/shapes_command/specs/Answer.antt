@@ -5,7 +5,7 @@ use Rattle.std.specs.List.{join_with_byte, range_with_len, sum_by}
 use Rattle.std.specs.NonZero.{non_zero_usize_get}
 use Rattle.std.specs.declared.alloc.Global.{Global}
 use Rattle.std.specs.declared.ops.Range.{Range}
-use Rattle.parallel_shares.specs.declared.plan.Grid.{Grid}
+use Rattle.parallel_shares.specs.declared.grid.Grid.{Grid}
 use Rattle.parallel_shares.specs.Cut.{BalancedCut}
 use Rattle.parallel_shares.specs.Grid.{critical_cost, stays_whole}
 use Rattle.parallel_bridge.specs.Shapes.{cutdepth, Shape, leaf_lengths}
