@@ -9,6 +9,3 @@ pub mod shares;
 pub use balanced::cut;
 pub use grid::Grid;
 pub use shares::{Seat, Shares, Stretch, Tried, pack, stretches, unpack};
-
-#[cfg(test)]
-mod tests;
