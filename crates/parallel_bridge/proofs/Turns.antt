@@ -1,12 +1,18 @@
 -- One turn of a loop over items that come, over plain variables.
-use Rattle.std.proofs.Common.{◌≡◌, List, [], ◌∷◌, ◌++◌, Result, Err, Option, Some, None, refl, sym, subst}
+use Rattle.std.proofs.Common.{◌≡◌, List, [], ◌∷◌, ◌++◌, Result, Err, Option, Some, None, false, is_some, refl, sym, subst}
 use Rattle.std.proofs.lemmas.List.{append-nil}
-use Rattle.parallel_bridge.specs.Onto.{TryMapOnto, PartitionOnto}
+use Rattle.parallel_bridge.specs.Onto.{TryMapBehind, TryMapOnto, PartitionOnto}
+use Rattle.parallel_bridge.specs.Outcomes.{ended}
 
 module _ {X Y E : Type 0} (allowed : X → Result Y E → Type 0) where
   -- the first item that is left fails
   pub onto_fails : (before : List Y) (rest rest' : List X) (x : X) (f : E) → rest ≡ x ∷ rest' → allowed x (Err f) → TryMapOnto allowed before rest (Err f)
   onto_fails before rest rest' x f e one = subst (λ l. TryMapOnto allowed before l (Err f)) (sym e) ([], x, rest', [], refl, tt, one)
+
+  -- the item fails where none did before it
+  pub first_fails : (values : List Y) (failed : Option E) (x : X) (e : E) → is_some failed ≡ false → allowed x (Err e) → TryMapBehind allowed (ended values failed) (x ∷ []) (Err e)
+  first_fails values None x e none one = onto_fails values (x ∷ []) [] x e refl one
+  first_fails values (Some b) x e none one = absurd (cc none)
 
 module _ {X K U : Type 0} (allowed : X → (K × Option U) → Type 0) where
   -- one item with a value

@@ -1,5 +1,5 @@
 -- What is said of an answer that may be an error of the caller's closure, or a refusal.
-use Rattle.std.specs.Prelude.{◌≡◌, List, [], ◌∷◌, ◌++◌, Result, Ok, Err}
+use Rattle.std.specs.Prelude.{◌≡◌, List, [], ◌∷◌, ◌++◌, Result, Ok, Err, Option, Some, None}
 use Rattle.std.specs.declared.vec.Vec.{Vec}
 use Rattle.std.specs.declared.alloc.Global.{Global}
 use Rattle.parallel_fault.specs.declared.fault.Trouble.{Trouble}
@@ -17,6 +17,11 @@ UnlessRefused (Err (OfFault f)) allowed = f ≡ Memory
 abbrev pub listed : {T E : Type 0} → Result (Vec T Global) E → Result (List T) E
 listed (Ok v) = Ok v.items
 listed (Err e) = Err e
+
+-- the values so far, or the error that ended them
+abbrev pub ended : {T E : Type 0} → List T → Option E → Result (List T) E
+ended xs None = Ok xs
+ended xs (Some e) = Err e
 
 -- the items of several owned lists, one list after another
 abbrev pub joined : {T : Type 0} → List (Vec T Global) → List T

@@ -10,8 +10,6 @@ pub mod producer;
 pub mod segments;
 pub mod source;
 pub mod splitter;
-#[cfg(test)]
-mod tests;
 
 pub use consumer::collect::{CollectConsumer, CollectReducer};
 pub use consumer::fold::FoldConsumer;

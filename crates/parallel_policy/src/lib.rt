@@ -33,6 +33,3 @@ pub use run::RunEntry;
 pub use site::{Place, Site};
 pub use spawn::SpawnEntry;
 pub use table::Table;
-
-#[cfg(test)]
-mod tests;

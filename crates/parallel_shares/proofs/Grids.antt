@@ -3,7 +3,7 @@ use Rattle.std.proofs.Common.{◌≡◌, ℕ, ◌+◌, ◌<◌, ◌≤◌, Bool,
 use Rattle.std.specs.List.{AllWithin}
 use Rattle.std.proofs.lemmas.List.{get_or-map}
 use Rattle.std.proofs.lemmas.List.Elements.{at_read, AllWithin-more}
-use Rattle.parallel_shares.specs.declared.plan.Grid.{Grid}
+use Rattle.parallel_shares.specs.declared.grid.Grid.{Grid}
 use Rattle.parallel_shares.specs.Grid.{critical_cost, stays_whole, costs_of, IsChosenGrid}
 
 module _ (grids : List Grid) (len workers : ℕ) where

@@ -2,7 +2,7 @@
 use Rattle.std.specs.Prelude.{ℕ, ◌+◌, ◌-◌, ◌*◌, ◌/◌, ◌^◌, ◌<◌, ◌≤◌, min, Bool, ◌||◌, if◌then◌else◌, nat_lt, nat_le, List, length, map, slice_index, EachIndex, All}
 use Rattle.std.specs.Int.{div_ceil}
 use Rattle.std.specs.Int.NonZero.{non_zero_usize_get}
-use Rattle.parallel_shares.specs.declared.plan.Grid.{Grid}
+use Rattle.parallel_shares.specs.declared.grid.Grid.{Grid}
 
 -- a sum or product that stops at the greatest usize
 abbrev pub stopping : ℕ → ℕ

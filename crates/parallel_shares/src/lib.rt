@@ -2,13 +2,10 @@
 #![tactic(auto)]
 
 mod balanced;
+pub mod grid;
 pub mod machine;
-pub mod plan;
 pub mod shares;
 
 pub use balanced::cut;
-pub use plan::Grid;
+pub use grid::Grid;
 pub use shares::{Seat, Shares, Stretch, Tried, pack, stretches, unpack};
-
-#[cfg(test)]
-mod tests;

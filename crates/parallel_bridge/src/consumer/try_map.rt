@@ -4,7 +4,7 @@ ghost use Rattle.std.specs.Iterator.{Drains, HoldsAlong, IsFinite};
 ghost use Rattle.std.specs.List.{All};
 ghost use Rattle.parallel_fault.specs.Trouble.{IsMemoryOnErr};
 ghost use Rattle.parallel_bridge.specs.Onto.{TryMapBehind};
-ghost use Rattle.parallel_bridge.specs.Outcomes.{listed};
+ghost use Rattle.parallel_bridge.specs.Outcomes.{ended, listed};
 ghost use Rattle.parallel_bridge.specs.Sources.{GivesSome};
 ghost use Rattle.parallel_bridge.specs.Tries.{OnlyOk, TryMapOf};
 
@@ -21,11 +21,13 @@ pub struct TryMapConsumer<'f, F> {
     pub map_op: &'f F,
 }
 
-/// The values of a segment so far, in order, or the error of its first item that failed.
+/// The values of a segment so far, in order, and the error of its first item that failed.
 #[derive(Drop)]
 pub struct TryMapFolder<'f, T, E, F> {
-    /// The values, or the error.
-    pub control: Result<Vec<T>, E>,
+    /// The values of the items before the first that failed.
+    pub values: Vec<T>,
+    /// The error, which stands from then on.
+    pub failed: Option<E>,
     /// The closure that answers an item.
     pub map_op: &'f F,
 }
@@ -36,33 +38,47 @@ impl<'f, X: Drop, T: Drop, E: Drop, F: Fn(X) -> Result<T, E>> Folder<X, Vec<T>, 
 
     ghost takes = { λ s x. F.pre s.map_op.now x };
 
-    ghost gives = { λ s xs out. TryMapBehind (F.post s.map_op.now) (listed s.control) xs (listed out) };
+    ghost gives = { λ s xs out. TryMapBehind (F.post s.map_op.now)
+        (ended s.values.items s.failed) xs (listed out) };
 
     fn consume(self, _alloc: Global, item: X) -> Result<Self, Fault> {
-        let control = try_map_step(self.control, item, self.map_op)?;
+        let TryMapFolder {
+            mut values,
+            mut failed,
+            map_op,
+        } = self;
+        try_map_step(&mut values, &mut failed, item, map_op)?;
         Ok(TryMapFolder {
-            control,
-            map_op: self.map_op,
+            values,
+            failed,
+            map_op,
         })
     }
 
     fn consume_iter<I: Iterator<Item = X>>(self, _alloc: Global, iter: I) -> Result<Self, Fault> {
-        let control = try_map_onward(self.control, iter, self.map_op)?;
+        let TryMapFolder {
+            mut values,
+            mut failed,
+            map_op,
+        } = self;
+        try_map_onward(&mut values, &mut failed, iter, map_op)?;
         Ok(TryMapFolder {
-            control,
-            map_op: self.map_op,
+            values,
+            failed,
+            map_op,
         })
     }
 
     fn complete(self, _alloc: Global) -> Result<Vec<T>, Trouble<E>> {
-        match self.control {
-            Ok(values) => Ok(values),
-            Err(error) => Err(Trouble::Closure(error)),
+        let TryMapFolder { values, failed, .. } = self;
+        match failed {
+            None => Ok(values),
+            Some(error) => Err(Trouble::Closure(error)),
         }
     }
 
     fn full(&self) -> bool {
-        self.control.is_err()
+        self.failed.is_some()
     }
 }
 
@@ -95,55 +111,56 @@ impl<'f, X: Drop, T: Send + Drop, E: Send + Drop, F: Fn(X) -> Result<T, E> + Syn
 
     fn into_folder(self, alloc: Global) -> Result<TryMapFolder<'f, T, E, F>, Fault> {
         Ok(TryMapFolder {
-            control: Ok(Vec::new(alloc)),
+            values: Vec::new(alloc),
+            failed: None,
             map_op: self.map_op,
         })
     }
 }
 
-/// The values of the items that come behind those that are there, in order, or the error of the first
-/// item that fails; or the error that is there, which stands. Items behind an error are passed over.
+/// Puts the values of the items that come behind those that are there, in order, up to the first item
+/// that fails, whose error is put down. Behind an error, also one that was there, the items are passed
+/// over and the closure isn't called.
 pub(crate) fn try_map_onward<I: Iterator, T: Drop, E: Drop, F: Fn(I::Item) -> Result<T, E>>(
-    control: Result<Vec<T>, E>,
+    values: &mut Vec<T>,
+    failed: &mut Option<E>,
     iter: I,
     map_op: &F,
-) -> Result<Result<Vec<T>, E>, Fault>
+) -> Result<(), Fault>
 where
     I::Item: Drop,
     requires can { I.can_next iter }
     requires ends { IsFinite (I.remaining iter) }
     requires accepts { HoldsAlong I.next_gives iter (All (F.pre map_op.now)) }
-    ensures gives { IfOk result (λ out. GivesSome (Drains I.next_gives) iter
-        (λ xs. TryMapBehind (F.post map_op.now) (listed control) xs (listed out))) }
+    ensures gives { IfOk result (λ _. GivesSome (Drains I.next_gives) iter
+        (λ xs. TryMapBehind (F.post map_op.now) (ended values.old.items failed.old) xs
+        (ended values.new.items failed.new))) }
     ensures fault { IsMemoryOnErr result }
 {
-    let mut control = control;
     for item in iter {
-        control = try_map_step(control, item, map_op)?;
+        try_map_step(values, failed, item, map_op)?;
     }
-    Ok(control)
+    Ok(())
 }
 
 /// The same for one item.
 pub(crate) fn try_map_step<X: Drop, T: Drop, E: Drop, F: Fn(X) -> Result<T, E>>(
-    control: Result<Vec<T>, E>,
+    values: &mut Vec<T>,
+    failed: &mut Option<E>,
     item: X,
     map_op: &F,
-) -> Result<Result<Vec<T>, E>, Fault>
+) -> Result<(), Fault>
     requires { F.pre map_op.now item }
-    ensures gives { IfOk result (λ out. TryMapBehind (F.post map_op.now) (listed control)
-        (item ∷ []) (listed out)) }
+    ensures gives { IfOk result (λ _. TryMapBehind (F.post map_op.now)
+        (ended values.old.items failed.old) (item ∷ []) (ended values.new.items failed.new)) }
     ensures fault { IsMemoryOnErr result }
 {
-    let values = match control {
-        Ok(values) => values,
-        Err(error) => return Ok(Err(error)),
-    };
-    let value = match map_op(item) {
-        Ok(value) => value,
-        Err(error) => return Ok(Err(error)),
-    };
-    let mut values = values;
-    values.push(value)?;
-    Ok(Ok(values))
+    if failed.is_some() {
+        return Ok(());
+    }
+    match map_op(item) {
+        Ok(value) => values.push(value)?,
+        Err(error) => *failed = Some(error),
+    }
+    Ok(())
 }

@@ -30,11 +30,12 @@ where
     ensures maps { UnlessRefused result (λ out. GivesSome (Drains I.next_gives) iter
         (λ xs. TryMapOf (F.post map_op.now) xs (listed out))) }
 {
-    let room = Vec::with_capacity(alloc, iter.size_hint().0)?;
-    match try_map_onward(Ok(room), iter, map_op) {
-        Ok(Ok(values)) => Ok(values),
-        Ok(Err(error)) => Err(Trouble::Closure(error)),
-        Err(fault) => Err(Trouble::Fault(fault)),
+    let mut values = Vec::with_capacity(alloc, iter.size_hint().0)?;
+    let mut failed = None;
+    try_map_onward(&mut values, &mut failed, iter, map_op)?;
+    match failed {
+        None => Ok(values),
+        Some(error) => Err(Trouble::Closure(error)),
     }
 }
 

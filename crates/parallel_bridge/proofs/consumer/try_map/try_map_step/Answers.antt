@@ -1,13 +1,7 @@
 -- The item fails.
-use Rattle.std.proofs.Common.{Result, Err, ◌∷◌, [], refl, sym, subst}
-use Rattle.parallel_bridge.specs.Outcomes.{listed}
-use Rattle.parallel_bridge.specs.Onto.{TryMapBehind}
-use Rattle.parallel_bridge.proofs.Turns.{onto_fails}
+use Rattle.std.proofs.Common.{rules, Result}
+use Rattle.parallel_bridge.proofs.Turns.{first_fails}
 use Rattle.parallel_bridge.proofs.consumer.try_map.try_map_step.Goals as goal
 
-pub returns-in-Err-map_op-clause-gives : goal.returns-in-Err-map_op-clause-gives
-returns-in-Err-map_op-clause-gives g c =
-    let allowed = λ (x : g.row.X.Denot) (o : Result g.row.T.Denot g.row.E.Denot). g.F.Fn.post c.args.map_op.now (x, tt) o in
-    let item = c.args.item in
-    let e = c.in-Err-map_op.error in
-    subst (λ r. TryMapBehind allowed (listed r) (item ∷ []) (Err e)) (sym c.in-Ok.is) (onto_fails allowed c.in-Ok.values.items (item ∷ []) [] item e refl c.in-Err-map_op.ensures)
+pub returns-in-Err-clause-gives : goal.returns-in-Err-clause-gives
+returns-in-Err-clause-gives g c = first_fails (λ (x : g.row.X.Denot) (o : Result g.row.T.Denot g.row.E.Denot). g.F.Fn.post c.args.map_op.now (x, tt) o) c.args.values.now.items c.args.failed.now c.args.item c.in-Err.error (search rules) (search rules)

@@ -1,11 +1,13 @@
 // Long histories: an entry answers as the plain program that reckons from all that happened, and that program
 // answers the worked examples.
-use crate::execution::{RunExecution, SpawnExecution};
-use crate::history::{RunEvent, SpawnEvent, SpawnSample};
-use crate::policy::INLINE_BUDGET;
-use crate::replay::{replay_run, replay_run_estimate, replay_spawn, replay_spawn_estimate};
-use crate::run::RunEntry;
-use crate::spawn::SpawnEntry;
+use parallel_policy::execution::{RunExecution, SpawnExecution};
+use parallel_policy::history::{RunEvent, SpawnEvent, SpawnSample};
+use parallel_policy::policy::INLINE_BUDGET;
+use parallel_policy::replay::{
+    replay_run, replay_run_estimate, replay_spawn, replay_spawn_estimate,
+};
+use parallel_policy::run::RunEntry;
+use parallel_policy::spawn::SpawnEntry;
 use std::test::Fail;
 
 const P: RunExecution = RunExecution::Parallel;

@@ -1,11 +1,11 @@
 // Tables and policies: which key an answer goes by, and what each call of a policy tells its table.
-use crate::execution::{RunExecution, SpawnExecution};
-use crate::history::SpawnSample;
-use crate::key::Key;
-use crate::policy::{INLINE_BUDGET, Policy};
-use crate::site::Site;
-use crate::table::Table;
 use parallel_fault::{Fault, Trouble};
+use parallel_policy::execution::{RunExecution, SpawnExecution};
+use parallel_policy::history::SpawnSample;
+use parallel_policy::key::Key;
+use parallel_policy::policy::{INLINE_BUDGET, Policy};
+use parallel_policy::site::Site;
+use parallel_policy::table::Table;
 use std::sync::atomic::{AtomicU64, Ordering};
 use std::test::Fail;
 

@@ -5,12 +5,12 @@ ghost use Rattle.parallel_policy.specs.Tables.{HoldsRunAt, HasOtherRuns};
 ghost use Rattle.parallel_policy.specs.declared.execution.RunExecution.{RunExecution};
 ghost use Rattle.parallel_policy.specs.declared.history.RunEvent.{RunEvent};
 
-use crate::choices::decide;
-use crate::execution::RunExecution;
-use crate::key::Key;
-use crate::site::Site;
-use crate::table::Table;
 use parallel_fault::Trouble;
+use parallel_policy::choices::decide;
+use parallel_policy::execution::RunExecution;
+use parallel_policy::key::Key;
+use parallel_policy::site::Site;
+use parallel_policy::table::Table;
 use std::sync::Wait;
 use std::sync::atomic::{AtomicU64, Ordering};
 

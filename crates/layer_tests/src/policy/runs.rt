@@ -1,6 +1,6 @@
 // Entries of runs, by rows of what happens to a fresh one and what it answers.
-use crate::execution::RunExecution;
-use crate::run::RunEntry;
+use parallel_policy::execution::RunExecution;
+use parallel_policy::run::RunEntry;
 use std::process::Abort;
 
 // One step of a row.

@@ -1,11 +1,11 @@
 // Calls whose memory may be refused at any point: each answers what it always does, or `Fault::Memory`, and then the
 // table is as it was and no body was called. Run with each allocation failing in turn.
-use crate::choices::decide;
-use crate::execution::RunExecution;
-use crate::key::Key;
-use crate::site::Site;
-use crate::table::Table;
 use parallel_fault::{Fault, Trouble};
+use parallel_policy::choices::decide;
+use parallel_policy::execution::RunExecution;
+use parallel_policy::key::Key;
+use parallel_policy::site::Site;
+use parallel_policy::table::Table;
 use std::sync::atomic::{AtomicU64, Ordering};
 
 const SITE: Site = Site {

@@ -1,8 +1,8 @@
 // Consumers and producers at concrete types.
-use crate::bridge::bridge;
-use crate::consumer::list_vec::ListVecConsumer;
-use crate::consumer::while_some::WhileSomeConsumer;
-use crate::producer::{Copies, DrainProducer, Indices, Producer};
+use parallel_bridge::bridge::bridge;
+use parallel_bridge::consumer::list_vec::ListVecConsumer;
+use parallel_bridge::consumer::while_some::WhileSomeConsumer;
+use parallel_bridge::producer::{Copies, DrainProducer, Indices, Producer};
 use std::num::NonZeroUsize;
 use std::process::Abort;
 use std::test::Fail;

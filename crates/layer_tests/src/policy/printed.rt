@@ -1,13 +1,13 @@
 // What is printed, and which traits the plain types have.
-use crate::bucket::len_bucket;
-use crate::cadence::Cadence;
-use crate::estimate::Estimate;
-use crate::execution::{RunExecution, SpawnExecution};
-use crate::key::Key;
-use crate::policy::Policy;
-use crate::run::RunEntry;
-use crate::site::Site;
-use crate::spawn::SpawnEntry;
+use parallel_policy::bucket::len_bucket;
+use parallel_policy::cadence::Cadence;
+use parallel_policy::estimate::Estimate;
+use parallel_policy::execution::{RunExecution, SpawnExecution};
+use parallel_policy::key::Key;
+use parallel_policy::policy::Policy;
+use parallel_policy::run::RunEntry;
+use parallel_policy::site::Site;
+use parallel_policy::spawn::SpawnEntry;
 use std::collections::HashSet;
 use std::test::Fail;
 

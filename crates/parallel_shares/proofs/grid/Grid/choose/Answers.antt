@@ -2,8 +2,8 @@
 use Rattle.std.proofs.Common.{arith}
 use Rattle.std.specs.Int.NonZero.{non_zero_usize_get}
 use Rattle.parallel_shares.proofs.Grids.{IsChosenSoFar-keeps, IsChosenSoFar-takes, IsChosenGrid-from_scan}
-use Rattle.parallel_shares.proofs.plan.Grid.choose.Goals as goal
-use Rattle.parallel_shares.proofs.plan.Grid.choose.Goals.{then-next_cost-cost, else-next_cost-cost}
+use Rattle.parallel_shares.proofs.grid.Grid.choose.Goals as goal
+use Rattle.parallel_shares.proofs.grid.Grid.choose.Goals.{then-next_cost-cost, else-next_cost-cost}
 
 pub loop-index-preserved : goal.loop-index-preserved
 loop-index-preserved c =

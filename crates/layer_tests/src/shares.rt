@@ -3,8 +3,8 @@ ghost use Rattle.std.specs.Prelude.{◌≡◌};
 ghost use Rattle.std.specs.Int.NonZero.{non_zero_usize_get};
 ghost use Rattle.parallel_shares.specs.Seats.{AreSeatsOf};
 
-use crate::machine::{Event, Outcome, Plan, State, replay};
-use crate::{Seat, Shares, Stretch, Tried, pack, stretches};
+use parallel_shares::machine::{Event, Outcome, Plan, State, replay};
+use parallel_shares::{Seat, Shares, Stretch, Tried, pack, stretches};
 use std::num::NonZeroUsize;
 use std::ops::Range;
 use std::process::Abort;

@@ -7,7 +7,7 @@ use Rattle.parallel_policy.specs.declared.key.Key.{Key}
 use Rattle.parallel_policy.specs.declared.table.Table.{Table}
 use Rattle.parallel_policy.specs.Decisions.{Decides}
 use Rattle.parallel_policy.specs.Tables.{ChoosesRun, RecordsRun, RefusesRun, HoldsRunAt}
-use Rattle.parallel_policy.proofs.tests.decisions.first_of.Goals as goal
+use Rattle.layer_tests.proofs.policy.decisions.first_of.Goals as goal
 
 module _ {C R E : Type 0} (reads : C → ℕ → C → Type 0) (runs : C → RunExecution → Result R E → C → Type 0) where
   -- between two readings with a run between them 300 pass

@@ -1,8 +1,8 @@
 // Entries of spawned jobs, by rows of what happens to a fresh one and what it answers.
-use crate::execution::SpawnExecution;
-use crate::history::SpawnSample;
-use crate::policy::INLINE_BUDGET;
-use crate::spawn::SpawnEntry;
+use parallel_policy::execution::SpawnExecution;
+use parallel_policy::history::SpawnSample;
+use parallel_policy::policy::INLINE_BUDGET;
+use parallel_policy::spawn::SpawnEntry;
 use std::process::Abort;
 
 // One step of a row.

@@ -1,7 +1,7 @@
 -- The grid chosen so far is the first of least cost among those seen.
 use Rattle.std.specs.Int.NonZero.{non_zero_usize_get}
 use Rattle.parallel_shares.proofs.Grids.{IsChosenSoFar}
-use Rattle.parallel_shares.proofs.plan.Grid.choose.Given as goal
+use Rattle.parallel_shares.proofs.grid.Grid.choose.Given as goal
 
 abbrev pub invariant-loop-index : goal.invariant-loop-index
 invariant-loop-index l = IsChosenSoFar l.grids l.len (non_zero_usize_get l.workers) l.index l.chosen l.cost l.whole

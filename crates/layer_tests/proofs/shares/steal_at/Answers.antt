@@ -1,7 +1,7 @@
 -- The seat that took the step is back in its place.
 use Rattle.std.proofs.Common.{rules}
 use Rattle.parallel_shares.proofs.Gatherings.{seats_stepped}
-use Rattle.parallel_shares.proofs.tests.steal_at.Goals as goal
+use Rattle.layer_tests.proofs.shares.steal_at.Goals as goal
 
 pub returns : goal.returns
 returns g c =
