@@ -1,16 +1,16 @@
 //! Many parallel shapes, for tests: a strategy that picks by a rule, and a search through the rules.
-mod explore;
+mod choice;
 mod explore_error;
 mod explorer;
-mod mix;
-mod pick;
+mod hash;
 mod pools;
 mod rule;
+mod search;
 
-pub use explore::{TASKS, WORKERS, explore};
+pub use choice::pick;
 pub use explore_error::ExploreError;
 pub use explorer::Explorer;
-pub use mix::mix;
-pub use pick::pick;
+pub use hash::mix;
 pub use pools::{inline, pooled};
 pub use rule::Rule;
+pub use search::{TASKS, WORKERS, explore};

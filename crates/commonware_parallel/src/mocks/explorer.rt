@@ -4,7 +4,7 @@ ghost use Rattle.parallel_fault.specs.Trouble.{IsMemoryOnErr};
 
 use crate::call::{Call, Kind};
 use crate::meter::Unmeasured;
-use crate::mocks::pick::pick;
+use crate::mocks::choice::pick;
 use crate::mocks::rule::Rule;
 use crate::rayon_strategy::Rayon;
 use crate::strategy::Strategy;

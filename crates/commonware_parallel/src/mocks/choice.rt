@@ -1,7 +1,7 @@
 ghost use Rattle.std.specs.Prelude.{◌≡◌, ◌<◌};
 ghost use Rattle.commonware_parallel.specs.Mixes.{pick_of};
 
-use crate::mocks::mix::mix;
+use crate::mocks::hash::mix;
 use crate::mocks::rule::Rule;
 use parallel_policy::Site;
 
