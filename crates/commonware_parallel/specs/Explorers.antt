@@ -1,5 +1,5 @@
 -- the numbers of an explorer, and the picks that it takes
-use Rattle.std.specs.Prelude.{◌≡◌, ◌≤◌, ◌<◌, ◌≤◌, ℕ, nat_le, if◌then◌else◌}
+use Rattle.std.specs.Prelude.{◌≡◌, ◌<◌, ℕ, nat_le, if◌then◌else◌}
 use Rattle.std.specs.Int.NonZero.{non_zero_usize_get}
 use Rattle.std.specs.Arc.{arc_value}
 use Rattle.parallel_fault.specs.declared.fault.Fault.{Fault}

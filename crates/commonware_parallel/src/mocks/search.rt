@@ -39,7 +39,7 @@ pub fn explore<Rt: Threads, R: PartialEq + Debug + Drop, F: FnMut(&Explorer) -> 
     run: F,
 ) -> Result<R, ExploreError>
     requires { F.IsAlwaysCallable run }
-    ensures { Explored (λ f explorer r g. F.step f explorer r g) (λ a b. R.eq a b) run.entry result }
+    ensures { Explored (λ f explorer r g. F.step f explorer r g) (λ a b. R.eq a b) run result }
 {
     let mut run = run;
     let pool = Arc::new(
