@@ -1,6 +1,7 @@
 // The tests that cross crates, at concrete types. Expected values stand in the tests.
 mod batches;
 mod folds;
+mod known;
 mod layers;
 mod machine;
 mod maps;
