@@ -1,5 +1,1 @@
-pub mod Drained
-pub mod States
-pub mod Sums
-pub mod Verdicts
-pub mod Words
+pub mod OneAnswer

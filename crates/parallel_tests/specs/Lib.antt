@@ -1,5 +1,1 @@
-pub mod Batches
-pub mod LongLists
-pub mod Repeats
-pub mod Verdicts
-pub mod Words
+pub mod Known

@@ -1,11 +1,8 @@
-//! Callers of the strategies, proved from the trait's clauses, and the tests that cross crates.
+//! Checks that go beyond the trait, known answers, and the tests that cross crates.
 #![tactic(auto)]
 
 pub mod beyond;
-pub mod callers;
-pub mod long_lists;
+pub mod known;
 pub mod segments;
-pub mod stateful;
 #[cfg(test)]
 mod tests;
-pub mod verifier;

@@ -2,6 +2,7 @@
 mod batches;
 mod explorers;
 mod folds;
+mod known;
 mod layers;
 mod machine;
 mod maps;

@@ -2,6 +2,13 @@
 //! alone.
 #![tactic(auto)]
 
+pub mod batches;
 pub mod folds;
+pub mod long_lists;
 pub mod maps;
+pub mod own_lists;
+pub mod runs;
 pub mod squares;
+pub mod stateful;
+pub mod verifier;
+pub mod words;

@@ -1,10 +1,10 @@
-// Further maps: over borrowed items, over indices, by a closure that looks into a table, and over an
-// iterator.
-ghost use Rattle.std.specs.Prelude.{◌≡◌, ◌*◌, ◌-◌, ◌%◌, ◌^◌, ◌<◌, ◌++◌, map, length, IfOk, IfErr};
+// Further maps: over borrowed items, over indices, by a closure that looks into a table or asks
+// something of its item, and over an iterator.
+ghost use Rattle.std.specs.Prelude.{◌≡◌, ◌*◌, ◌-◌, ◌%◌, ◌^◌, ◌<◌, ◌++◌, map, length, All, IfOk, IfErr};
 ghost use Rattle.std.specs.List.{range_with_len, slice_index};
 ghost use Rattle.parallel_fault.specs.declared.fault.Fault.TheVariants.{Memory};
 
-use commonware_parallel::{Fault, Indices, Place, Strategy};
+use commonware_parallel::{Copies, Fault, Indices, Place, Strategy};
 use std::alloc::Global;
 use std::sync::Wait;
 use std::thread::Threads;
@@ -91,4 +91,24 @@ pub fn squares_of_both<Rt: Threads + Wait + Sync, P: Place, S: Strategy>(
     strategy.map_collect_vec(rt, alloc, site, numbers, |number| {
         u64::from(number) * u64::from(number)
     })
+}
+
+/// The doubles of numbers below 2 to the power of 31, in the numbers' order. The closure accepts no
+/// greater number, and a map asks it for the list's own items alone.
+pub fn doubles<Rt: Threads + Wait + Sync, P: Place, S: Strategy>(
+    rt: &Rt,
+    alloc: Global,
+    strategy: &S,
+    site: P,
+    numbers: &[u32],
+) -> Result<Vec<u32>, Fault>
+    requires small { All (λ x. x < 2 ^ 31) numbers.now }
+    ensures doubles { IfOk result (λ answers. answers.items ≡ map (λ x. 2 * x) numbers.now) }
+    ensures fault { IfErr result (λ fault. fault ≡ Memory) }
+{
+    let double = |number: u32| -> u32
+        requires { number < 2 ^ 31 }
+        ensures { result ≡ 2 * number }
+    { 2 * number };
+    strategy.map_collect_vec(rt, alloc, site, Copies { slice: numbers }, double)
 }

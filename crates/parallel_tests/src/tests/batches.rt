@@ -1,6 +1,5 @@
 // Batches: in which ranges their indices go.
 use crate::beyond::ranges_at_pool;
-use crate::callers::batch_ranges;
 use crate::tests::strategies::{SITE, number, pool};
 use commonware_parallel::{Batches, Fault, Sequential, Strategy};
 use std::alloc::Global;
@@ -8,6 +7,7 @@ use std::num::NonZeroUsize;
 use std::sync::Wait;
 use std::sync::atomic::{AtomicU64, Ordering};
 use std::test::Fail;
+use uses::batches::{batch_ranges, count_by_ranges};
 
 #[test]
 fn balanced_ranges_differ_by_one_at_most(rt: HostRuntime) -> Result<(), Fail> {
@@ -60,6 +60,21 @@ fn a_batch_has_no_range_below_the_minimum(rt: HostRuntime) -> Result<(), Fail> {
     ] {
         let ranges = batch_ranges(&rt, rt.alloc(), &eight, SITE, len, number(&rt, minimum))?;
         assert_eq!(rt; ranges.len(), count, "{len} by {minimum}");
+    }
+    Ok(())
+}
+
+#[test]
+fn a_batch_looks_into_a_list_by_its_ranges(rt: HostRuntime) -> Result<(), Fail> {
+    let flags = [true, false, true, true, false];
+    assert_eq!(rt;
+        count_by_ranges(&rt, rt.alloc(), &Sequential, SITE, &flags)?,
+        3
+    );
+    for threads in 1..9usize {
+        let strategy = pool(&rt, rt.alloc(), 1, threads);
+        let count = count_by_ranges(&rt, rt.alloc(), &strategy, SITE, &flags)?;
+        assert_eq!(rt; count, 3, "{threads} threads");
     }
     Ok(())
 }

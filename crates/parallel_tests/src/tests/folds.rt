@@ -3,8 +3,6 @@
 use crate::beyond::{
     fold_along_shape, fold_by_own, fold_in_one, fold_planned_for_one, planned_pool,
 };
-use crate::callers::{longest_word, sum_of_squares};
-use crate::long_lists::{LongLists, fold_by_length};
 use crate::tests::strategies::{SITE, Stopped, number, pool};
 use commonware_parallel::{Fault, Sequential, Strategy};
 use std::alloc::Global;
@@ -12,6 +10,9 @@ use std::num::NonZeroUsize;
 use std::sync::Wait;
 use std::test::Fail;
 use std::thread::Threads;
+use uses::folds::sum_of_squares;
+use uses::long_lists::{LongLists, fold_by_length};
+use uses::words::longest_word;
 
 const ONE_TO_THREE: [u32; 3] = [1, 2, 3];
 

@@ -1,6 +1,4 @@
 // Maps through each strategy.
-use crate::callers::{doubles, first_squares, squares};
-use crate::long_lists::{LongLists, squares_by_length};
 use crate::tests::strategies::{SITE, number, pool};
 use commonware_parallel::{Fault, Sequential, Strategy};
 use std::alloc::Global;
@@ -9,6 +7,10 @@ use std::sync::Wait;
 use std::sync::atomic::{AtomicU64, Ordering};
 use std::test::Fail;
 use std::thread::Threads;
+use uses::long_lists::{LongLists, squares_by_length};
+use uses::maps::{borrowed_squares, doubles, first_squares, last_entries, squares_of_both};
+use uses::own_lists::{squares_backwards, squares_of_wrapped};
+use uses::squares::squares;
 
 // The squares of 0 to 99.
 const SQUARES: [u64; 100] = [
@@ -66,7 +68,10 @@ fn squares_of_a_slice_come_in_order(rt: HostRuntime) -> Result<(), Fail> {
 fn squares_of_a_range_come_in_order(rt: HostRuntime) -> Result<(), Fail> {
     let strategy = pool(&rt, rt.alloc(), 3, 3);
     let answers = first_squares(&rt, rt.alloc(), &strategy, SITE, 100)?;
-    assert_eq!(rt; answers.as_slice(), SQUARES.as_slice());
+    assert_eq!(rt; answers.len(), 100);
+    for (index, square) in SQUARES.iter().enumerate() {
+        assert_eq!(rt; answers[index] as u64, *square);
+    }
     Ok(())
 }
 
@@ -79,6 +84,46 @@ fn a_closure_is_asked_for_the_items_alone(rt: HostRuntime) -> Result<(), Fail> {
     let strategy = pool(&rt, rt.alloc(), 3, 3);
     let parallel = doubles(&rt, rt.alloc(), &strategy, SITE, &numbers)?;
     assert_eq!(rt; parallel.as_slice(), expected.as_slice());
+    Ok(())
+}
+
+// The squares of a list from its end, and of a buffer that wraps around.
+fn own_lists_are_mapped<Rt: Threads + Wait + Abort + Sync, S: Strategy>(
+    rt: &Rt,
+    alloc: Global,
+    strategy: &S,
+) -> Result<(), Fault> {
+    let back = squares_backwards(rt, alloc, strategy, SITE, &[1, 2, 3, 4, 5])?;
+    assert_eq!(rt; back.as_slice(), [25, 16, 9, 4, 1].as_slice());
+    let none = squares_backwards(rt, alloc, strategy, SITE, &[])?;
+    assert_eq!(rt; none.len(), 0);
+    let wrapped = squares_of_wrapped(rt, alloc, strategy, SITE, &[4, 5], &[1, 2, 3])?;
+    assert_eq!(rt; wrapped.as_slice(), [16, 25, 1, 4, 9].as_slice());
+    Ok(())
+}
+
+#[test]
+fn lists_of_ones_own_are_mapped(rt: HostRuntime) -> Result<(), Fail> {
+    own_lists_are_mapped(&rt, rt.alloc(), &Sequential)?;
+    for threads in 1..9usize {
+        own_lists_are_mapped(&rt, rt.alloc(), &pool(&rt, rt.alloc(), threads, threads))?;
+    }
+    own_lists_are_mapped(&rt, rt.alloc(), &LongLists::new(number(&rt, 2), 4))?;
+    Ok(())
+}
+
+#[test]
+fn a_table_is_looked_into_at_the_items(rt: HostRuntime) -> Result<(), Fail> {
+    let table = [10, 20, 30, 40];
+    let serial = last_entries(&rt, rt.alloc(), &Sequential, SITE, &table, 3)?;
+    assert_eq!(rt; serial.as_slice(), [40, 30, 20].as_slice());
+    let strategy = pool(&rt, rt.alloc(), 2, 2);
+    let parallel = last_entries(&rt, rt.alloc(), &strategy, SITE, &table, 3)?;
+    assert_eq!(rt; parallel.as_slice(), [40, 30, 20].as_slice());
+    let borrowed = borrowed_squares(&rt, rt.alloc(), &strategy, SITE, &[3, 4])?;
+    assert_eq!(rt; borrowed.as_slice(), [9, 16].as_slice());
+    let both = squares_of_both(&rt, rt.alloc(), &strategy, SITE, &[3], &[4, 5])?;
+    assert_eq!(rt; both.as_slice(), [9, 16, 25].as_slice());
     Ok(())
 }
 

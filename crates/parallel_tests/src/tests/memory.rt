@@ -1,28 +1,29 @@
 // Calls whose memory may be refused at any point: each one answers what it always does, or
 // `Fault::Memory`, and nothing else. Run with each allocation failing in turn.
-use crate::callers::{first_squares, sum_of_squares};
-use crate::stateful::{leave_out_repeats, sort_by_first};
 use crate::tests::strategies::{SITE, Stopped, number};
-use crate::verifier::{split_by_check, sum_within, verify_all};
 use commonware_parallel::{Fault, Rayon, Sequential, Strategy, Trouble};
 use parallel_pool::rayon::ThreadPoolBuildError;
 use std::alloc::Global;
 use std::process::Abort;
 use std::sync::Wait;
 use std::thread::Threads;
+use uses::folds::sum_of_squares;
+use uses::maps::first_squares;
+use uses::stateful::{leave_out_repeats, sort_by_first};
+use uses::verifier::{split_by_check, sum_within, verify_all};
 
 // The squares of the numbers below `count`, or a refusal.
 fn map_or_refusal<Rt: Threads + Wait + Abort + Sync, S: Strategy>(
     rt: &Rt,
     alloc: Global,
     strategy: &S,
-    count: u32,
+    count: usize,
 ) {
     match first_squares(rt, alloc, strategy, SITE, count) {
         Ok(answers) => {
-            assert_eq!(rt; answers.len(), count as usize);
-            let mut expected = 0u64;
-            let mut step = 1u64;
+            assert_eq!(rt; answers.len(), count);
+            let mut expected = 0usize;
+            let mut step = 1usize;
             for answer in &answers {
                 assert_eq!(rt; *answer, expected);
                 expected = expected.wrapping_add(step);

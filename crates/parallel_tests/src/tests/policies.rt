@@ -1,5 +1,4 @@
 // What a policy learns, through the calls of a pool.
-use crate::callers::one_of;
 use crate::tests::strategies::{SITE, Stopped, number};
 use commonware_parallel::{Clock, Fault, Rayon, Sequential, Site, Strategy};
 use std::alloc::Global;
@@ -8,6 +7,8 @@ use std::sync::atomic::{AtomicU64, Ordering};
 use std::sync::{Arc, Wait};
 use std::test::Fail;
 use std::thread::Threads;
+use uses::batches::batch_ranges;
+use uses::runs::one_of;
 
 // A clock that goes on by `step` at each reading, or back where `step` is near 2 to the power of 64.
 #[derive(Clone, Debug, Drop)]
@@ -118,6 +119,23 @@ fn folds_ask_the_policy_by_their_site(rt: HostRuntime) -> Result<(), Fail> {
     assert_eq!(rt; sum_from_ten(&rt, alloc, &strategy, SITE)?, 16);
     assert_eq!(rt; sum_from_ten(&rt, alloc, &strategy, other)?, 66);
     assert_eq!(rt; sum_from_ten(&rt, alloc, &strategy, other)?, 16);
+    Ok(())
+}
+
+#[test]
+fn batches_ask_the_policy(rt: HostRuntime) -> Result<(), Fail> {
+    let alloc = rt.alloc();
+    let strategy = learning(&rt, alloc, 100_000);
+    let one = number(&rt, 1);
+    let four = [0..4, 4..8, 8..12, 12..16];
+    let ranges = batch_ranges(&rt, alloc, &strategy, SITE, 16, one)?;
+    assert_eq!(rt; ranges.as_slice(), four.as_slice());
+    let ranges = batch_ranges(&rt, alloc, &strategy, SITE, 16, one)?;
+    assert_eq!(rt; ranges.as_slice(), [0..16].as_slice());
+    // Runs over so many items have a history of their own at another site alone.
+    let other = Site { column: 2, ..SITE };
+    let ranges = batch_ranges(&rt, alloc, &strategy, other, 16, one)?;
+    assert_eq!(rt; ranges.as_slice(), four.as_slice());
     Ok(())
 }
 

@@ -1,11 +1,11 @@
 // What is printed, and which traits the plain types have.
-use crate::long_lists::LongLists;
 use crate::tests::strategies::{SITE, number, pool};
 use commonware_parallel::{Call, Fault, Grid, Kind, Sequential, Site, Trouble, Unmeasured};
 use parallel_pool::rayon::ThreadPoolBuildError;
 use std::collections::HashSet;
 use std::num::NonZeroUsize;
 use std::test::Fail;
+use uses::long_lists::LongLists;
 
 #[test]
 fn refusals_print_their_reason(rt: HostRuntime) -> Result<(), Fail> {

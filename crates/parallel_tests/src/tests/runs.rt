@@ -1,10 +1,10 @@
 // Runs, and the numbers of a pool.
 use crate::beyond::{planned_pool, run_parallel, run_serial};
-use crate::callers::{count_set, one_of};
-use crate::long_lists::LongLists;
 use crate::tests::strategies::{SITE, Stopped, number, pool};
 use commonware_parallel::{Clock, MonotonicClock, Rayon, Sequential, Strategy};
 use std::test::Fail;
+use uses::long_lists::LongLists;
+use uses::runs::{count_set, one_of};
 
 #[test]
 fn a_run_takes_the_body_of_its_strategy(rt: HostRuntime) -> Result<(), Fail> {

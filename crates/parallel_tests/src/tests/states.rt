@@ -3,17 +3,18 @@ use crate::segments::{
     fold_init_along_shape, fold_init_in_one, fold_init_planned_for_one, join_on_pool, join_serial,
     map_init_along_shape, map_init_in_one, map_init_planned_for_one,
 };
-use crate::stateful::{leave_out_repeats, plain_fold_init, sort_by_first};
 use crate::tests::strategies::{SITE, Stopped, number, pool};
 use crate::tests::threads::sees;
-use crate::verifier::split_by_check;
 use commonware_parallel::{Fault, Rayon, Sequential, Strategy};
 use std::alloc::Global;
 use std::process::Abort;
 use std::sync::Wait;
-use std::sync::atomic::AtomicBool;
+use std::sync::atomic::{AtomicBool, AtomicU32, Ordering};
 use std::test::Fail;
 use std::thread::Threads;
+use uses::long_lists::LongLists;
+use uses::stateful::{leave_out_repeats, plain_fold_init, sort_by_first};
+use uses::verifier::split_by_check;
 
 fn zero() -> u32 {
     0
@@ -279,6 +280,31 @@ fn joins_are_parallel_whatever_a_pool_is_planned_for(rt: HostRuntime) -> Result<
         join_serial(&rt, alloc, &Sequential, SITE, || 1u32, || 2u32)?,
         (1, 2)
     );
+    Ok(())
+}
+
+// Which of the two closures of a join was called first, by a number that each takes.
+fn order_of_join<Rt: Threads + Wait + Sync, S: Strategy>(
+    rt: &Rt,
+    alloc: Global,
+    strategy: &S,
+) -> Result<(u32, u32), Fault> {
+    let calls = AtomicU32::new(0);
+    strategy.join(
+        rt,
+        alloc,
+        SITE,
+        || calls.fetch_add(1, Ordering::SeqCst),
+        || calls.fetch_add(1, Ordering::SeqCst),
+    )
+}
+
+#[test]
+fn a_serial_join_runs_its_first_closure_first(rt: HostRuntime) -> Result<(), Fail> {
+    let alloc = rt.alloc();
+    assert_eq!(rt; order_of_join(&rt, alloc, &Sequential)?, (0, 1));
+    let short = LongLists::new(number(&rt, 2), 3);
+    assert_eq!(rt; order_of_join(&rt, alloc, &short)?, (0, 1));
     Ok(())
 }
 

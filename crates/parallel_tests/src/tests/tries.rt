@@ -2,7 +2,6 @@
 // list ended first.
 use crate::segments::{try_fold_along_shape, try_fold_in_one, try_fold_planned_for_one};
 use crate::tests::strategies::{SITE, Stopped, number, pool};
-use crate::verifier::{sum_within, verify_all};
 use commonware_parallel::{Rayon, Sequential, Strategy, Trouble};
 use std::alloc::Global;
 use std::process::Abort;
@@ -10,6 +9,7 @@ use std::sync::Wait;
 use std::sync::atomic::{AtomicU32, Ordering};
 use std::test::Fail;
 use std::thread::Threads;
+use uses::verifier::{sum_within, verify_all};
 
 // The numbers below 100, of which 57 and 99 fail, and `more` too.
 fn map_or_fail<Rt: Threads + Wait + Sync, S: Strategy>(

@@ -1,6 +1,6 @@
 -- The one pick is the first, at which the list is one segment.
 use Rattle.std.proofs.lemmas.Result.{IfOk-weaker}
-use Rattle.parallel_tests.proofs.States.{in_one}
+use Rattle.parallel_bridge.proofs.OverLists.{in_one}
 use Rattle.parallel_tests.proofs.segments.fold_init_in_one.Goals as goal
 
 pub returns-clause-segment : goal.returns-clause-segment

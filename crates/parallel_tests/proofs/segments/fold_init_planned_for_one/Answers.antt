@@ -1,7 +1,7 @@
 -- Planned for one the pick is the first, at which the list is one segment.
 use Rattle.std.proofs.Common.{◌≡◌, ◌≤◌, arith}
 use Rattle.std.proofs.lemmas.Result.{IfOk-weaker}
-use Rattle.parallel_tests.proofs.States.{in_one}
+use Rattle.parallel_bridge.proofs.OverLists.{in_one}
 use Rattle.parallel_tests.proofs.segments.fold_init_planned_for_one.Goals as goal
 
 pub returns-clause-segment : goal.returns-clause-segment

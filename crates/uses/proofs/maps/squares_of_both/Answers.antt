@@ -1,5 +1,5 @@
 -- The iterator gives the one list and then the other.
-use Rattle.std.proofs.Common.{rules, refl, ◌*◌, ℕ}
+use Rattle.std.proofs.Common.{rules, ◌*◌, ℕ}
 use Rattle.std.proofs.lemmas.Iterator.{YieldsList-from_slice}
 use Rattle.std.proofs.lemmas.Iterator.Consumers.{YieldsList-at, YieldsList-from_chain, YieldsList-from_copied}
 use Rattle.parallel_bridge.proofs.OverLists.{map_of_iterator}

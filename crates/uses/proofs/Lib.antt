@@ -1,0 +1,5 @@
+pub mod Counts
+pub mod LongestWords
+pub mod Repeats
+pub mod Reversed
+pub mod Verdicts

@@ -1,0 +1,5 @@
+pub mod Batches
+pub mod LongLists
+pub mod Repeats
+pub mod Verdicts
+pub mod Words

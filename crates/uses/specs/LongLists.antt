@@ -1,0 +1,17 @@
+-- Which pick a strategy takes that runs long lists alone in parallel.
+use Rattle.std.specs.Prelude.{◌≡◌, ℕ, ◌-◌, ◌<◌, ◌≤◌}
+use Rattle.std.specs.Int.NonZero.{non_zero_usize_get}
+use Rattle.commonware_parallel.specs.declared.call.Call.{Call}
+use Rattle.uses.specs.declared.long_lists.LongLists.{LongLists}
+
+-- the number of items from which on a list is long
+abbrev pub from_of : LongLists → ℕ
+from_of strategy = strategy.from
+
+-- the thread number, by which long lists are halved and batches are planned
+abbrev pub thread_number_of : LongLists → ℕ
+thread_number_of strategy = non_zero_usize_get strategy.threads
+
+-- the first pick for a short list, and the last one for a long list
+abbrev pub TakesByLength : ℕ → Call → ℕ → Type 0
+TakesByLength from call pick = (call.len < from → pick ≡ 0) × (from ≤ call.len → pick ≡ call.options - 1)

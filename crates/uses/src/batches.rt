@@ -1,0 +1,67 @@
+// Batches: a closure that is handed balanced ranges, and looks into a list by them.
+ghost use Rattle.std.specs.Prelude.{◌≡◌, ◌≤◌, All, count_by, length, max, IfOk, IfErr};
+ghost use Rattle.std.specs.Int.NonZero.{non_zero_usize_get};
+ghost use Rattle.parallel_fault.specs.declared.fault.Fault.TheVariants.{Memory};
+ghost use Rattle.parallel_shares.specs.Cut.{BalancedCut, CutsFrom, range_length};
+ghost use Rattle.commonware_parallel.specs.Batches.{ranges_of};
+ghost use Rattle.uses.specs.Batches.{CoversOnce};
+
+use crate::runs::count_in_one;
+use commonware_parallel::{Batches, Fault, Place, Strategy};
+use std::alloc::Global;
+use std::num::NonZeroUsize;
+use std::ops::Range;
+use std::sync::Wait;
+
+/// The ranges that the strategy runs a batch of `len` indices over, where no range of several is
+/// to be shorter than `minimum`.
+pub fn batch_ranges<Rt: Wait, P: Place, S: Strategy>(
+    rt: &Rt,
+    alloc: Global,
+    strategy: &S,
+    site: P,
+    len: usize,
+    minimum: NonZeroUsize,
+) -> Result<Vec<Range<usize>>, Fault>
+    ensures each_once { IfOk result (λ ranges. CoversOnce len ranges.items) }
+    ensures planned { IfOk result (λ ranges. length ranges.items ≤ max 1 (S.plans strategy.now)) }
+    ensures minimum { IfOk result (λ ranges. 2 ≤ length ranges.items
+        → All (λ range. non_zero_usize_get minimum ≤ range_length range) ranges.items) }
+    ensures fault { IfErr result (λ fault. fault ≡ Memory) }
+{
+    let ranges = strategy.run_batches(rt, alloc, site, len, minimum, 1, |batches| {
+        batches.ranges().to_vec(alloc)
+    })?;
+    Ok(ranges?)
+}
+
+/// How many of the flags are set, counted range by range. The closure is asked for balanced ranges of
+/// the list's indices alone, so each of them may be cut out of the list.
+pub fn count_by_ranges<Rt: Wait, P: Place, S: Strategy>(
+    rt: &Rt,
+    alloc: Global,
+    strategy: &S,
+    site: P,
+    flags: &[bool],
+) -> Result<usize, Fault>
+    ensures counted { IfOk result (λ count. count ≡ count_by (λ flag. flag) flags.now) }
+    ensures fault { IfErr result (λ fault. fault ≡ Memory) }
+{
+    let count = |batches: Batches<'_, S, P>| -> usize
+        requires { BalancedCut (length flags.now) (ranges_of batches) }
+        ensures { result ≡ count_by (λ flag. flag) flags.entry.now }
+    { count_ranges(flags, batches.ranges()) };
+    strategy.run_batches(rt, alloc, site, flags.len(), NonZeroUsize::MIN, 1, count)
+}
+
+// The set flags in each of the ranges, which cut the list's indices.
+fn count_ranges(flags: &[bool], ranges: &[Range<usize>]) -> usize
+    requires { CutsFrom 0 ranges.now (length flags.now) }
+    ensures { result ≡ count_by (λ flag. flag) flags.now }
+{
+    let mut count = 0;
+    for range in ranges {
+        count += count_in_one(&flags[range.start..range.end]);
+    }
+    count
+}
