@@ -1,4 +1,6 @@
 // Consumers and producers at concrete types.
+mod windows;
+
 use crate::bridge::bridge;
 use crate::consumer::list_vec::ListVecConsumer;
 use crate::consumer::while_some::WhileSomeConsumer;
