@@ -1,7 +1,7 @@
 -- A vector's block is a row of places and the right to free it, and back. Assumes `Logic`.
 use mathlib.Core.Path.{◌≡◌, refl, sym, ap, ◌∙◌}
 use mathlib.Core.Bool.{Bool, true, false, not}
-use Prim.Native.Nat.{ℕ, zero, suc, ◌+◌, ◌-◌, ◌*◌, ◌≤◌}
+use Prim.Native.Nat.{ℕ, suc, ◌+◌, ◌-◌, ◌*◌, ◌≤◌}
 use native.Mathlib.Omega.{arith}
 use mathlib.Core.List.{List, [], ◌∷◌, ◌++◌, map}
 use lib.Dec.{T}
@@ -13,7 +13,7 @@ use mir.Raw.{raw as bare}
 use base.Logic.{ent, sep}
 use base.Fml.{Fml, ftrue, froom}
 use types.Logic.{Logic, sem}
-use types.Kit.{‵, ◌⊛◌, given, ◌$◌, ◌∵◌, !, qed, move, keep, drop as leave, use1, use2, split, learn, rewrite, fsplit, fjoin, done}
+use types.Kit.{‵, ◌⊛◌, given, ◌$◌, ◌∵◌, !, qed, move, keep, use1, use2, split, learn, rewrite, fsplit, fjoin, done}
 use denote.Memory.{part_at}
 use denote.Array.{Array}
 use denote.Index.{row}
@@ -27,7 +27,7 @@ use Rattle.std_alloc.specs.Vec.Ownership.{owns_if}
 use Rattle.std_alloc.proofs.RawLayout.{as_raw, as_written}
 use Rattle.std_alloc.proofs.VecSteps.El.{El, el_x, elτ, R, sz, Hd}
 use Rattle.std_alloc.proofs.VecSteps.Rows.{apart, whole}
-use Rattle.parallel_bridge.specs.Places.{slots, values}
+use Rattle.parallel_bridge.specs.Places.{slots}
 use Rattle.parallel_bridge.proofs.Rows.{cut, glue, of_items, to_items, of_room, to_room}
 
 module _ {X : Type 0} where

@@ -23,3 +23,4 @@ pub mod Rows
 pub mod Blocks
 pub mod Runs
 pub mod Writes
+pub mod TryWrites

@@ -1,18 +1,18 @@
 -- Answers that are written one after another into a window.
-use Rattle.std.proofs.Common.{◌≡◌, ℕ, zero, suc, ◌+◌, ◌<◌, ◌≤◌, ◌^◌, List, [], ◌∷◌, ◌++◌, Ok, Err, length, refl, sym, ap, ◌∙◌, subst, arith, ◌⊎◌, inl, inr}
+use Rattle.std.proofs.Common.{◌≡◌, ℕ, zero, suc, ◌+◌, ◌<◌, ◌≤◌, ◌^◌, List, [], ◌∷◌, ◌++◌, Ok, length, refl, sym, ap, subst, arith, ◌⊎◌, inl, inr}
 use Rattle.std.proofs.lemmas.List.{length-append}
 use Rattle.std.specs.Mem.{type_size}
 use Rattle.std.specs.Vec.Ownership.{FitsInBlock}
 use denote.RattleType.{RattleType}
 use Rattle.core.proofs.ptr.Rows.{times_below}
-use Rattle.parallel_bridge.specs.Fills.{IsFull, OneAfterAnother, SamePlaces}
+use Rattle.parallel_bridge.specs.Fills.{IsFull, OneAfterAnother}
 use Rattle.parallel_bridge.specs.Lists.{MapOf}
 use Rattle.parallel_bridge.specs.Shapes.{Cut, segment, halves, cut_items, Shape}
 use Rattle.parallel_bridge.specs.Tries.{TryAlongCut, OnlyOk}
 use Rattle.parallel_bridge.specs.Windows.{View}
 use Rattle.parallel_bridge.proofs.Shapes.{MapOf-append, Shape-items}
 
-low_or_high : (m n : ℕ) → (m < n) ⊎ (n ≤ m)
+pub low_or_high : (m n : ℕ) → (m < n) ⊎ (n ≤ m)
 low_or_high m zero = inr (omega arith)
 low_or_high zero (suc n) = inl (omega arith)
 low_or_high (suc m) (suc n) = elim (low_or_high m n) [ inl h ↦ inl (omega arith) | inr h ↦ inr (omega arith) ]

@@ -1,5 +1,5 @@
 -- Lists whose answers are written into windows.
-use Rattle.std.specs.Prelude.{◌≡◌, ℕ, ◌+◌, List, [], ◌++◌, length, Result, Ok, Err, IfOk}
+use Rattle.std.specs.Prelude.{◌≡◌, ℕ, List, [], ◌++◌, length, Result, Ok, Err, IfOk}
 use Rattle.std.specs.Vec.Ownership.{FitsInBlock}
 use denote.RattleType.{RattleType}
 use Rattle.parallel_fault.specs.declared.fault.Trouble.{Trouble}
@@ -23,6 +23,11 @@ IsRoom window = (window.before ≡ 0) × (window.items ≡ [])
 abbrev pub written : {T E : Type 0} → View T → Result (Unit {0}) (Trouble E) → Result (List T) (Trouble E)
 written window (Ok done) = Ok window.items
 written window (Err trouble) = Err trouble
+
+-- the values so far, or the error
+abbrev pub kept : {T E : Type 0} → Result (Unit {0}) E → List T → Result (List T) E
+kept (Ok done) ys = Ok ys
+kept (Err e) ys = Err e
 
 -- the answers of two parts one after another
 abbrev pub OneAfterAnother : {T E : Type 0} → List T → List T → Result (List T) E → Type 0

@@ -19,6 +19,7 @@ use std::alloc::Global;
 use std::thread::{Threads, join};
 
 pub mod map;
+pub mod try_map;
 
 /// Writes the answers for the items of a segment into the room for them.
 pub trait Writer<Item: Drop>: Sized + Drop {

@@ -29,6 +29,7 @@ pub use consumer::try_reduce::TryReduceConsumer;
 pub use consumer::while_some::WhileSomeConsumer;
 pub use fill::Writer;
 pub use fill::map::MapWriter;
+pub use fill::try_map::TryMapWriter;
 pub use law::{fold_init_law, fold_law, map_law};
 pub use plumbing::{Consumer, Folder, Reducer};
 pub use producer::{Copies, DrainProducer, Indices, Producer, SliceDrain};

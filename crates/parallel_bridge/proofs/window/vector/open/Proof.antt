@@ -1,53 +1,49 @@
 -- `open` takes a vector's block out as a row of places with the right to free it. Assumes `Logic`.
-use mathlib.Core.Path.{◌≡◌, refl, sym, ap, subst, ◌∙◌}
-use Prim.Native.Nat.{ℕ, ◌-◌, ◌*◌, ◌≤◌, ◌<◌, ◌^◌}
+use mathlib.Core.Path.{◌≡◌, refl, sym, ap, subst}
+use Prim.Native.Nat.{ℕ, ◌-◌, ◌*◌, ◌<◌, ◌^◌}
 use native.Mathlib.Nat.{zero-mul}
 use native.Mathlib.Omega.{arith}
 use mathlib.Core.List.{List, [], ◌∷◌, ◌++◌, map}
 use lib.Dec.{lit<}
 use lib.ListN.{length, replicate}
 use seplogic.Ra.Ura.{Ura}
-use base.Fraction.{full_share}
-use mir.Syntax.{Fn, w64, ty_array}
+use mir.Syntax.{Fn, ty_array}
 use mir.MapTy.{inst_fn}
 use mir.Raw.{raw as bare}
-use mir.Val.{Val, vunit, vint, vptr}
-use base.Logic.{SProp, ent, never, id⊢}
-use base.Fml.{ftrue, fat, flft}
+use mir.Val.{Val, vptr}
+use base.Logic.{SProp, ent, id⊢}
+use base.Fml.{ftrue, flft}
 use prog.Memory.{Memory}
 use prog.Routine.{Routine}
 use prog.Wp.{Env, WpFn, Tables}
 use types.Logic.{Logic}
-use contract.BorrowLft.{◌⊑◌}
-use contract.Monad.{Fun, fact}
+use contract.Monad.{Fun}
 use contract.Running.{tables, tables_of}
 use sound.WpLaws.{WpFn-mono}
-use types.Kit.{‵, raw, ◌⊛◌, at_ret, ◌$◌, ◌∵◌, !, qed, move, keep, drop, use0, use1, use2, use3, split, split3, join, rewrite, fsplit, fsplit3, fjoin, fjoin3, feq_i, feq_l, flt_l, flt_i, suffices, done}
+use types.Kit.{‵, raw, ◌⊛◌, at_ret, ◌$◌, ◌∵◌, !, qed, move, keep, drop, use0, use1, use3, split, split3, join, fsplit, fsplit3, fjoin, fjoin3, feq_i, feq_l, flt_i, suffices, done}
 use types.Part.{whole, sub, agg, look_in, store_in}
-use types.Run.{addr, stop, fld, load, lit, unit_lit, of_opd, no_more, and_then, assigns, assigns_last, first, blocks, exec, returns, enter}
-use types.ByLocal.{alloc_all, pass_all, free_all, look_at, get, get_in, take_at, give_at, through, sets, sets_last, env}
-use denote.Exit.{yes, no}
+use types.Run.{addr, stop, fld, load, lit, of_opd, no_more, and_then, assigns, first, blocks, exec, returns, enter}
+use types.ByLocal.{alloc_all, pass_all, free_all, look_at, get, through, sets, sets_last, env}
 use denote.RattleType.{RattleType, owns}
-use denote.Builtin.{usize}
 use denote.Param.{layout}
-use denote.RawPtr.{Ptr, block_ptr, in_a_block}
+use denote.RawPtr.{Ptr, block_ptr}
 use denote.Signature.{plain, types_at}
-use denote.Steps.{heard, nothing}
+use denote.Steps.{nothing}
 use denote.Struct.Tuple.{Tuple}
 use denote.Triple.Clauses.{Clauses, Ended, closing}
 use denote.Triple.Spec.{Meets, triple_of}
 use denote.Triple.Table.{entered}
-use denote.Triple.Walked.{says, Stays, stay_dropped, stay_ref, walk_of, ends_at, Goes-dropped, Goes-ref, walk_Meets}
+use denote.Triple.Walked.{Stays, stay_ref, walk_of, ends_at, Goes-ref, walk_Meets}
 use Rattle.std.specs.Prelude.{Option, Some, None}
-use Rattle.core.proofs.alloc.Calls.{Goes-blank, token}
+use Rattle.core.proofs.alloc.Calls.{token}
 use Rattle.std_alloc.specs.Vec.Ownership.{owns_if, has_block}
 use Rattle.std_alloc.proofs.RcSteps.{Good, word, word-Good}
 use Rattle.std_alloc.proofs.VecSteps.El.{El, args, el_x, el_d, elτ, R, P, Vr, Hd, sz}
-use Rattle.std_alloc.proofs.VecSteps.Opens.{Blk, not_live, vec_opens⁰, vec_closes⁰}
+use Rattle.std_alloc.proofs.VecSteps.Opens.{not_live, vec_opens⁰, vec_closes⁰}
 use Rattle.std_alloc.proofs.VecSteps.Shapes.{after}
-use Rattle.parallel_bridge.specs.Places.{slots, cells_own, deed_owns, values}
-use Rattle.parallel_bridge.proofs.Rows.{Places, Start, Mark, mark, mark_from, mark_had, start_had, start_made, says_three, triple, triple_made}
-use Rattle.parallel_bridge.proofs.Blocks.{plainly, stored, stored_length, stored_within, block_out, block_in}
+use Rattle.parallel_bridge.specs.Places.{slots}
+use Rattle.parallel_bridge.proofs.Rows.{Places, Start, Mark, mark, mark_from, start_made, says_three, triple, triple_made}
+use Rattle.parallel_bridge.proofs.Blocks.{plainly, stored, stored_length, block_out}
 use Rattle.parallel_bridge.specs.contracts.window.cells.Deed as deeds
 use Rattle.parallel_bridge.specs.contracts.window.vector.open as F
 use Rattle.parallel_bridge.specs.contracts.window.vector.open.Key.{name as #self}

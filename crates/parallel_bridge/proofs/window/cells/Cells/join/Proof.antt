@@ -17,7 +17,7 @@ use contract.BorrowLft.{◌⊑◌}
 use contract.Monad.{Fun, fact}
 use contract.Running.{tables, tables_of}
 use sound.WpLaws.{WpFn-mono}
-use types.Kit.{‵, raw, ◌⊛◌, ◌$◌, ◌∵◌, !, qed, move, keep, drop, use0, use2, split, join, rewrite, fsplit, fjoin, fjoin3, flt_l, flt_i, suffices, done}
+use types.Kit.{‵, raw, ◌⊛◌, ◌$◌, ◌∵◌, !, qed, move, keep, drop, use0, use2, split, join, rewrite, fsplit, fjoin, fjoin3, flt_i, suffices, done}
 use types.Part.{agg}
 use types.Run.{and_then, no_more, returns, enter}
 use types.ByLocal.{alloc_all, pass_all, free_all, look_at, get, sets}
@@ -33,7 +33,6 @@ use denote.Triple.Walked.{says, Stays, stay_dropped, walk_of, ends_at, walk_Meet
 use Rattle.std.specs.Vec.Ownership.{FitsInBlock}
 use Rattle.core.proofs.alloc.Calls.{Goes-blank}
 use Rattle.core.proofs.mem.Param.{El, R, args}
-use Rattle.std_alloc.proofs.VecSteps.Shapes.{after}
 use Rattle.parallel_bridge.specs.Places.{shifted, slots, cells_own}
 use Rattle.parallel_bridge.proofs.Rows.{Places, Mark, Place, sz, mark, mark_from, mark_had, glue}
 use Rattle.parallel_bridge.specs.contracts.window.cells.Cells.join as F

@@ -8,7 +8,7 @@ use seplogic.Ra.Ura.{Ura}
 use base.Fraction.{full_share}
 use mir.Syntax.{Fn, w64}
 use mir.MapTy.{inst_fn}
-use mir.Val.{Val, vptr, vint, vunit}
+use mir.Val.{Val, vptr, vint}
 use base.Logic.{SProp, ent, never, id⊢}
 use base.Fml.{ftrue, fat, froom, flft}
 use prog.Memory.{Memory}
@@ -21,7 +21,7 @@ use contract.Running.{tables, tables_of}
 use sound.WpLaws.{WpFn-mono}
 use types.Kit.{‵, raw, ◌⊛◌, some, given, pick, learn, at_ret, ◌$◌, ◌∵◌, !, qed, move, keep, drop, use1, use2, split, split3, join, rewrite, fsplit, fsplit3, fjoin, fjoin3, feq_i, feq_l, flt_l, flt_i, suffices, done}
 use types.Part.{whole, sub}
-use types.Run.{look, load, stop, fld, bin, size_lit, unit_lit, of_opd, assigns_last, first, blocks, exec, returns, enter}
+use types.Run.{look, load, stop, fld, bin, size_lit, of_opd, first, blocks, exec, returns, enter}
 use types.ByLocal.{alloc_all, pass_all, free_all, look_at, get, get_in, take_at, give_at, through, sets, sets_last, env}
 use denote.Exit.{yes, no}
 use denote.RattleType.{owns}
@@ -33,8 +33,8 @@ use denote.Steps.{heard, nothing, opens, closes}
 use denote.Triple.Clauses.{Clauses, Ended, closing}
 use denote.Triple.Spec.{Meets, triple_of}
 use denote.Triple.Table.{entered}
-use denote.Triple.Walked.{says, Stays, stay_dropped, stay_ref, walk_of, ends_at, Goes-dropped, Goes-ref, walk_Meets}
-use Rattle.std.specs.Prelude.{Some, None}
+use denote.Triple.Walked.{Stays, stay_dropped, stay_ref, walk_of, ends_at, Goes-dropped, Goes-ref, walk_Meets}
+use Rattle.std.specs.Prelude.{None}
 use Rattle.core.proofs.mem.Param.{El, R, args, elτ}
 use Rattle.core.proofs.ptr.Rows.{times_below, one_below}
 use Rattle.std_alloc.proofs.RawLayout.{as_raw}

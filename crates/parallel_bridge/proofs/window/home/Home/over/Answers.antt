@@ -1,6 +1,6 @@
 -- The block is cut behind its first places.
 use Rattle.std.proofs.Common.{◌≡◌, ◌≤◌, ◌<◌, ◌-◌, ◌^◌, length, replicate, None, refl, sym, ap, subst, ◌∙◌}
-use Rattle.parallel_bridge.specs.Places.{laid, values}
+use Rattle.parallel_bridge.specs.Places.{values}
 use Rattle.parallel_bridge.specs.Windows.{IsRow, part}
 use Rattle.parallel_bridge.proofs.Runs.{opened_rows}
 use Rattle.parallel_bridge.proofs.window.home.Home.over.Goals as goal

@@ -1,6 +1,5 @@
 -- No item is left, and so all places are room.
-use Rattle.std.proofs.Common.{◌≡◌, ◌+◌, length, sym, ap, subst, ◌∙◌, arith}
-use Rattle.parallel_bridge.specs.Places.{values}
+use Rattle.std.proofs.Common.{◌≡◌, length, sym, ap, subst, arith}
 use Rattle.parallel_bridge.specs.Windows.{IsRow}
 use Rattle.parallel_bridge.proofs.Runs.{rewound_row}
 use Rattle.parallel_bridge.proofs.window.part.Window.clear.Goals as goal

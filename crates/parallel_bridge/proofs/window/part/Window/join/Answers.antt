@@ -1,9 +1,9 @@
 -- Two rows side by side as one.
-use Rattle.std.proofs.Common.{◌≡◌, ◌+◌, ◌++◌, [], length, sym, ap, subst, ◌∙◌, ◌⊎◌, inl, inr}
+use Rattle.std.proofs.Common.{◌≡◌, ◌+◌, ◌++◌, length, sym, ap, subst, ◌∙◌, ◌⊎◌, inl, inr}
 use Rattle.std.specs.Vec.Ownership.{FitsInBlock}
 use denote.Param.{param}
 use Rattle.parallel_bridge.specs.Places.{shifted, values}
-use Rattle.parallel_bridge.specs.Windows.{Adjoins, Follows, IsRow, part}
+use Rattle.parallel_bridge.specs.Windows.{Adjoins, IsRow, part}
 use Rattle.parallel_bridge.proofs.Runs.{row_length, two_rows}
 use Rattle.parallel_bridge.proofs.window.part.Window.join.Goals as goal
 

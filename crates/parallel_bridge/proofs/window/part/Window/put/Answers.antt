@@ -1,5 +1,5 @@
 -- The items with one more, in the place behind them.
-use Rattle.std.proofs.Common.{◌≡◌, ◌+◌, ◌<◌, ◌++◌, ◌∷◌, [], length, sym, ap, subst, ◌∙◌, arith}
+use Rattle.std.proofs.Common.{◌+◌, ◌<◌, ◌++◌, ◌∷◌, [], length, sym, ap, subst, ◌∙◌}
 use Rattle.parallel_bridge.specs.Places.{values}
 use Rattle.parallel_bridge.specs.Windows.{IsRow, part}
 use Rattle.parallel_bridge.proofs.Runs.{put_row}

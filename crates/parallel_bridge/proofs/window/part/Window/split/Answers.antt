@@ -1,6 +1,5 @@
 -- The first places, and the rest.
-use Rattle.std.proofs.Common.{◌≡◌, ◌+◌, ◌-◌, ◌<◌, ◌≤◌, ◌++◌, ◌∷◌, [], length, take, drop, sym, ap, subst, ◌∙◌, arith, ◌⊎◌, inl, inr}
-use Rattle.std.specs.Prelude.{Option, Some, None}
+use Rattle.std.proofs.Common.{◌≡◌, ◌-◌, ◌≤◌, take, drop, sym, ap, subst, ◌∙◌, arith, ◌⊎◌, inl, inr}
 use denote.Param.{param}
 use Rattle.parallel_bridge.specs.Places.{shifted, values}
 use Rattle.parallel_bridge.specs.Windows.{IsRow, part}

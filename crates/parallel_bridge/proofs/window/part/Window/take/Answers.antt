@@ -1,6 +1,5 @@
 -- The items without the first.
-use Rattle.std.proofs.Common.{◌≡◌, ◌+◌, ◌-◌, ◌<◌, ◌++◌, ◌∷◌, [], length, set, sym, ap, subst, ◌∙◌}
-use Rattle.std.specs.Prelude.{Option, Some, None}
+use Rattle.std.proofs.Common.{◌+◌, ◌-◌, ◌<◌, ◌∷◌, length, sym, ap, subst, ◌∙◌}
 use Rattle.parallel_bridge.specs.Places.{values}
 use Rattle.parallel_bridge.specs.Windows.{IsRow}
 use Rattle.parallel_bridge.proofs.Runs.{take_row, some_same}
