@@ -1,4 +1,6 @@
 // Consumers and producers at concrete types.
+mod windows;
+
 use parallel_bridge::bridge::bridge;
 use parallel_bridge::consumer::list_vec::ListVecConsumer;
 use parallel_bridge::consumer::while_some::WhileSomeConsumer;

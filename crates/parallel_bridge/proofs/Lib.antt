@@ -18,3 +18,9 @@ pub mod Sorting
 pub mod OverLists
 pub mod FirstFailing
 pub mod WrappingSums
+pub mod Crosses
+pub mod Rows
+pub mod Blocks
+pub mod Runs
+pub mod Writes
+pub mod TryWrites

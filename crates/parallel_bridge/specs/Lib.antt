@@ -9,3 +9,6 @@ pub mod Onto
 pub mod Producers
 pub mod Sources
 pub mod Ways
+pub mod Places
+pub mod Windows
+pub mod Fills

@@ -3,6 +3,7 @@
 
 pub mod bridge;
 pub mod consumer;
+pub mod fill;
 pub mod law;
 pub mod list;
 pub mod plumbing;
@@ -10,6 +11,7 @@ pub mod producer;
 pub mod segments;
 pub mod source;
 pub mod splitter;
+pub mod window;
 
 pub use consumer::collect::{CollectConsumer, CollectReducer};
 pub use consumer::fold::FoldConsumer;
@@ -23,8 +25,13 @@ pub use consumer::try_fold::TryFoldConsumer;
 pub use consumer::try_map::TryMapConsumer;
 pub use consumer::try_reduce::TryReduceConsumer;
 pub use consumer::while_some::WhileSomeConsumer;
+pub use fill::Writer;
+pub use fill::map::MapWriter;
+pub use fill::try_map::TryMapWriter;
 pub use law::{fold_init_law, fold_law, map_law};
 pub use plumbing::{Consumer, Folder, Reducer};
 pub use producer::{Copies, DrainProducer, Indices, Producer, SliceDrain};
 pub use source::{ByIter, ByParts, ByVec, Source};
 pub use splitter::{LengthSplitter, Splitter};
+pub use window::home::Home;
+pub use window::part::Window;

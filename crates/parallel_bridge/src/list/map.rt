@@ -4,16 +4,15 @@ ghost use Rattle.std.specs.Iterator.{Drains, HoldsAlong, IsFinite};
 ghost use Rattle.std.specs.List.{All};
 ghost use Rattle.parallel_fault.specs.Trouble.{IsMemoryOnErr};
 ghost use Rattle.parallel_bridge.specs.Lists.{MapOf};
-ghost use Rattle.parallel_bridge.specs.Outcomes.{joined};
 ghost use Rattle.parallel_bridge.specs.Sources.{GivesSome};
 
-use crate::bridge::{bridge, unfailing};
-use crate::consumer::list_vec::ListVecConsumer;
-use crate::consumer::map::MapConsumer;
+use crate::bridge::{depth_of, unfailing};
+use crate::fill::fill;
+use crate::fill::map::MapWriter;
 use crate::producer::Producer;
+use crate::window::home::Home;
 use parallel_fault::Fault;
 use std::alloc::Global;
-use std::collections::LinkedList;
 use std::num::NonZeroUsize;
 use std::thread::Threads;
 
@@ -39,8 +38,8 @@ pub fn map_iter<I: Iterator, T: Drop, F: Fn(I::Item) -> T>(
 }
 
 /// The answers of `map_op` for the items of a list, in their order, where the segments of the list's
-/// shape for that many threads are answered side by side. The segments' lists are joined once, at the
-/// end.
+/// shape for that many threads are answered side by side. Memory for the answers is reserved once,
+/// before any segment starts, and each answer is written where it stays.
 pub fn map_parallel<
     Rt: Threads + Sync,
     P: Producer,
@@ -52,31 +51,18 @@ pub fn map_parallel<
         (λ xs. MapOf (F.post map_op.now) xs ys.items)) }
     ensures fault { IsMemoryOnErr result }
 {
-    let mapping = MapConsumer {
-        base: ListVecConsumer,
-        map_op,
-    };
     let len = parts.len();
-    let lists = unfailing(bridge(rt, alloc, threads, parts, mapping))?;
-    let answers = join_lists(alloc, len, lists)?;
-    Ok(answers)
-}
-
-// The items of the lists one after another, in one list with room for `len` of them from the start.
-fn join_lists<T: Drop>(
-    alloc: Global,
-    len: usize,
-    lists: LinkedList<Vec<T>>,
-) -> Result<Vec<T>, Fault>
-    ensures joined { IfOk result (λ all. all.items ≡ joined lists) }
-    ensures fault { IsMemoryOnErr result }
-{
-    let mut all = Vec::with_capacity(alloc, len)?;
-    for list in lists {
-        let mut more = list;
-        all.append(&mut more)?;
+    let (room, home) = Home::reserve(alloc, len)?;
+    let writer = MapWriter { map_op };
+    let depth = depth_of(threads);
+    let (answers, done) = fill(rt, alloc, depth, threads.get(), parts, &writer, room);
+    match unfailing(done) {
+        Ok(()) => Ok(answers.into_vec(home)),
+        Err(fault) => {
+            home.free(answers);
+            Err(fault)
+        }
     }
-    Ok(all)
 }
 
 /// The answers of `map_op` for the items of a list, in their order: as they come at pick 0, side by

@@ -6,9 +6,12 @@ ghost use Rattle.parallel_bridge.specs.Outcomes.{UnlessRefused, listed};
 ghost use Rattle.parallel_bridge.specs.Sources.{GivesSome};
 ghost use Rattle.parallel_bridge.specs.Tries.{TryMapOf};
 
-use crate::bridge::bridge;
-use crate::consumer::try_map::{TryMapConsumer, try_map_onward};
+use crate::bridge::depth_of;
+use crate::consumer::try_map::try_map_onward;
+use crate::fill::fill;
+use crate::fill::try_map::TryMapWriter;
 use crate::producer::Producer;
+use crate::window::home::Home;
 use parallel_fault::Trouble;
 use std::alloc::Global;
 use std::num::NonZeroUsize;
@@ -41,7 +44,8 @@ where
 
 /// The values that `map_op` answers for the items of a list, in their order, where the segments of the
 /// list's shape for that many threads are answered side by side; or the error of the first item that
-/// fails, whichever segment ends first. A segment stops at its own first error.
+/// fails, whichever segment ends first. A segment stops at its own first error. Memory for the values
+/// is reserved once, before any segment starts, and each value is written where it stays.
 pub fn try_map_parallel<
     Rt: Threads + Sync,
     P: Producer,
@@ -53,7 +57,18 @@ pub fn try_map_parallel<
     ensures maps { UnlessRefused result (λ out. GivesSome P.gives parts
         (λ xs. TryMapOf (F.post map_op.now) xs (listed out))) }
 {
-    bridge(rt, alloc, threads, parts, TryMapConsumer { map_op })
+    let len = parts.len();
+    let (room, home) = Home::reserve(alloc, len)?;
+    let writer = TryMapWriter { map_op };
+    let depth = depth_of(threads);
+    let (values, done) = fill(rt, alloc, depth, threads.get(), parts, &writer, room);
+    match done {
+        Ok(()) => Ok(values.into_vec(home)),
+        Err(trouble) => {
+            home.free(values);
+            Err(trouble)
+        }
+    }
 }
 
 /// The values, or the first failing item's error: as the items come at pick 0, side by side at any

@@ -1,0 +1,29 @@
+-- A row of places may go to another thread where its items may.
+use Rattle.std.specs.Prelude.{ℕ, ◌+◌, List, [], ◌∷◌, Option, Some, None}
+use Rattle.std.specs.Mem.{type_size}
+use base.Fraction.{full_share}
+use base.Shift.{Keyless}
+use denote.RattleType.{RattleType}
+use denote.RawPtr.{Ptr, block_ptr, null_ptr}
+use denote.Struct.Struct.{exits_of}
+use denote.Struct.Owning.{shape, fields, to}
+use denote.Param.Send.{IsSend, AllSend, part_keyless, owning_send, struct_send, sendable}
+use Rattle.std_alloc.proofs.SendSync.{quiet}
+use Rattle.parallel_bridge.specs.Places.{slots, cells_own}
+use Rattle.parallel_bridge.specs.contracts.window.cells.Cells as cells
+
+module _ (R : RattleType) (s : IsSend R) where
+  places_keyless : (b o : ℕ) (cs : List (Option R.Denot)) → Keyless (slots R b o cs)
+  places_keyless b o [] = tt
+  places_keyless b o (None ∷ cs) = (tt, places_keyless b (o + type_size R) cs)
+  places_keyless b o (Some x ∷ cs) = (part_keyless R s full_share x b o, places_keyless b (o + type_size R) cs)
+
+  row_keyless : (p : Ptr) (cs : List (Option R.Denot)) → Keyless (cells_own R p cs)
+  row_keyless (block_ptr b o) cs = (tt, places_keyless b o cs)
+  row_keyless null_ptr cs = tt
+
+  pub cells_send : IsSend (cells.the_row R)
+  cells_send =
+      let owned = cells.the_type R in
+      let parts : AllSend (fields owned) = (search sendable, tt) in
+      owning_send owned parts (λ d. row_keyless d.at d.slots) (λ k. quiet (to owned) (exits_of k (fields owned)) ((struct_send (shape owned) parts).leaving k))

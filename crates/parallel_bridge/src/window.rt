@@ -1,0 +1,5 @@
+//! One window over reserved memory: items are written where they stay.
+pub mod cells;
+pub mod home;
+pub mod part;
+pub mod vector;
