@@ -85,7 +85,7 @@ fn a_worker_of_another_pool_injects_its_job(rt: HostRuntime) -> Result<(), Fail>
     let called = Arc::new(rt.alloc(), AtomicU64::new(0))?;
     let count = Arc::try_clone(&called)?;
     let job = OwnedJob::new(Box::new(rt.alloc(), move |index: usize| {
-        count.store(index as u64 + 1, Ordering::SeqCst);
+        count.store((index as u64).wrapping_add(1), Ordering::SeqCst);
     })?);
     assert!(rt; pool.spawn_from(&rt, &mut stranger, job).is_ok());
     assert!(rt; theirs.yield_now(&rt, &mut stranger) == Some(Yield::Idle));

@@ -96,18 +96,23 @@ fn jobs_that_were_not_broadcast_come_back_in_order(rt: HostRuntime) -> Result<()
         .build(&rt, rt.alloc())?;
     let called = Arc::new(rt.alloc(), AtomicU64::new(0))?;
     let mut jobs = VecDeque::new(rt.alloc());
-    for worker in 0..4u32 {
+    for unit in [1u64, 256, 65_536, 16_777_216] {
         let theirs = Arc::try_clone(&called)?;
         jobs.push_back(OwnedJob::new(Box::new(rt.alloc(), move |_: usize| {
-            theirs.fetch_add(1u64 << (8 * worker), Ordering::SeqCst);
+            theirs.fetch_add(unit, Ordering::SeqCst);
         })?))?;
     }
     assert!(rt; jobs.len() == pool.current_num_threads());
-    if let Err((fault, mut refused)) = pool.spawn_broadcast(&rt, jobs) {
+    if let Err((fault, refused)) = pool.spawn_broadcast(&rt, jobs) {
         assert_eq!(rt; fault, Fault::Memory);
-        let queued = 4usize.saturating_sub(refused.len());
-        assert!(rt; becomes(&rt, &called, 0x0101_0101u64 & !(u64::MAX << (8 * queued))));
-        for job in refused.drain(..) {
+        let queued = match refused.len() {
+            1 => 65_793,
+            2 => 257,
+            3 => 1,
+            _ => 0,
+        };
+        assert!(rt; becomes(&rt, &called, queued));
+        for job in refused {
             job.call(0);
         }
     }
