@@ -3,7 +3,7 @@ use Rattle.std.proofs.Common.{◌≡◌, ◌≢◌, ℕ, ◌<◌, ◌==◌, Bool
 use mathlib.Core.Option.{some, some-ne-none}
 use lib.ListN.{get_elem?}
 use prog.Atomic.{either}
-use Rattle.atomic_table.specs.Table.{State, Me, Allows, Splits, keeps}
+use Rattle.atomic_table.specs.Table.{State, Me, Allows, Enters, Splits, keeps}
 use Rattle.atomic_table.proofs.Lists.{at_set, set_again}
 use Rattle.parallel_pool.specs.declared.latch.history.Act.{Act}
 use Rattle.parallel_pool.specs.declared.latch.history.Act.TheVariants.{GetSleepy, FallAsleep, WakeUp, Set, Probe}
@@ -96,6 +96,22 @@ seats id v new own heard less s h at =
           (at_end views new u by e)),
       (λ by far. h.3 by (let n : length views ≡ length s.views = ap length same in omega (arith, length-append views (new ∷ [])))),
     )
+
+-- nor does a new seat that comes at a look at the word
+pub enters : (slots : ℕ) → Enters (λ (s : State (Unit {0}) View). IsHistoryOf s.words s.views) slots 0 (λ found w. w ≡ newcomer)
+enters slots s h homes small = (
+  newcomer,
+  (
+    h.0,
+    h.1,
+    (λ by u e. ⊎_elim
+        (λ (t : get_elem? s.views by ≡ some u). h.2 by u t)
+        (λ (t : (by ≡ length s.views) × (newcomer ≡ u)). subst (λ (x : View). Fits h.0 by x) t.1 ((h.0, refl), (h.0, refl), h.3 by (omega (arith, t.0))))
+        (at_end s.views newcomer u by e)),
+    (λ by far. h.3 by (omega (arith, far, length-append s.views (newcomer ∷ [])))),
+  ),
+  refl,
+)
 
 -- at the beginning no call was made
 pub opens : IsHistoryOf (0 ∷ []) (newcomer ∷ [])

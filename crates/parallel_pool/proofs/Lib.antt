@@ -7,3 +7,5 @@ mod CountLearns
 mod Standings
 mod JobSteps
 mod JobSeats
+mod WorkerCalls
+mod Probes

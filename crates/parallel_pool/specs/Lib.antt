@@ -18,3 +18,4 @@ pub mod Broadcast
 pub mod JobSeat
 pub mod JobQueues
 pub mod BuildErrors
+pub mod WorkerThread

@@ -1,6 +1,8 @@
 -- For how many threads a pool is planned.
-use Rattle.std.specs.Prelude.{◌≡◌, ℕ, ◌<◌, ◌^◌, ◌==◌, List, Option, None, Some, MatchOption, if◌then◌else◌}
+use Rattle.std.specs.Prelude.{◌≡◌, ℕ, ◌<◌, ◌^◌, ◌==◌, List, Option, None, Some, MatchOption, if◌then◌else◌, min}
+use Rattle.std.specs.NonZero.{non_zero_usize_get}
 use Rattle.std.specs.Str.Parse.{IsNumeral, digits_value, without_leading_plus}
+use Rattle.parallel_pool.specs.declared.rayon.pool_plan.PoolPlan.{PoolPlan}
 
 -- the text writes a number of 64 bits: decimal digits, before which a plus may stand
 abbrev pub IsNumberText : List ℕ → Type 0
@@ -24,3 +26,12 @@ by_texts (Some n) cpus machine = if n == 0 then machine else n
 abbrev pub number_or : {A : Type 0} → ℕ → (A → ℕ) → Option A → ℕ
 number_or other number None = other
 number_or other number (Some a) = number a
+
+-- for how many threads a pool is planned of which this is set, and found: what is set, above 0, or else the number by both texts and the machine's
+abbrev pub IsPlanned : PoolPlan → ℕ → Type 0
+IsPlanned plan planned =
+    (0 < plan.num_threads → planned ≡ min plan.num_threads 65535)
+    × (plan.num_threads ≡ 0 → (threads : Option ℕ) × (cpus : Option ℕ)
+    × MatchOption plan.environment.num_threads (threads ≡ None) (λ text. Writes text.bytes.items threads)
+    × MatchOption plan.environment.num_cpus (cpus ≡ None) (λ text. Writes text.bytes.items cpus)
+    × (planned ≡ min (by_texts threads cpus (number_or 1 non_zero_usize_get plan.environment.machine)) 65535))

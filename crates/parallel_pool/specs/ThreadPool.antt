@@ -3,5 +3,9 @@ use Rattle.std.specs.NonZero.{non_zero_usize_get}
 use Rattle.parallel_pool.specs.declared.rayon.thread_pool.ThreadPool.{ThreadPool}
 
 -- the number of a pool's threads, which is 1 to 65535
-abbrev pub thread_count : ThreadPool → ℕ
+abbrev pub thread_count : {W : Type 0} → ThreadPool W → ℕ
 thread_count pool = non_zero_usize_get pool.num_threads
+
+-- the label of a pool, by which its workers are known
+abbrev pub label_of : {W : Type 0} → ThreadPool W → ℕ
+label_of pool = pool.label

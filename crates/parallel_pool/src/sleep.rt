@@ -1,12 +1,13 @@
 // The sleep of idle workers: who looks for work, who sleeps, and who is woken when work comes.
-ghost use Rattle.std.specs.Prelude.{◌≡◌, ◌≢◌, ◌⊎◌, ◌+◌, ◌<◌, ◌≤◌, ◌↔◌, true, IfErr, IfOk, IfSome, IsSome, None, vec_len};
+ghost use Rattle.std.specs.Prelude.{◌≡◌, ◌≢◌, ◌⊎◌, ◌+◌, ◌<◌, ◌≤◌, ◌↔◌, true, IfErr, IfOk, IfSome, IsSome, None, vec_len, ⊤};
 ghost use Rattle.parallel_pool.specs.declared.sleep.sleep_state.Block.TheVariants.{Blocked};
 ghost use Rattle.std.specs.NonZero.{non_zero_usize_get};
 ghost use Rattle.parallel_pool.specs.Counters.{sleeping_of, inactive_of};
 ghost use Rattle.parallel_pool.specs.IdleState.{worker_of, rounds_of, recorded_of};
-ghost use Rattle.parallel_pool.specs.LatchHistory.{HasSeenSet};
+ghost use Rattle.parallel_pool.specs.LatchHistory.{Called, HasSeenSet};
+ghost use Rattle.parallel_pool.specs.declared.latch.history.Act.TheVariants.{Probe};
 ghost use Rattle.parallel_pool.specs.Latch.{IsSeatOf, known};
-ghost use Rattle.parallel_pool.specs.SleepTries.{TriesToSleep};
+ghost use Rattle.parallel_pool.specs.SleepTries.{OnlyProbes, TriesToSleep};
 ghost use Rattle.parallel_pool.specs.Standings.{is_blocked, standing_at};
 
 pub mod counters;
@@ -120,9 +121,15 @@ impl Sleep {
 
     fn unpark(&self, woken: &[usize]) {
         for worker_index in woken {
-            if let Some(unparker) = self.unparkers.get(*worker_index) {
-                unparker.unpark();
-            }
+            self.unpark_worker(*worker_index);
+        }
+    }
+
+    /// Lets a worker that sleeps look whether its latch is set, which wakes it. It takes no lock and
+    /// never waits.
+    pub fn unpark_worker(&self, worker_index: usize) {
+        if let Some(unparker) = self.unparkers.get(worker_index) {
+            unparker.unpark();
         }
     }
 
@@ -196,21 +203,76 @@ impl Sleep {
         let injected = has_injected_jobs();
         let block = block(&mut state, idle, injected);
         drop(state);
-        if block == Block::Blocked {
-            self.park(rt, parker, idle.worker_index());
-            idle.wake_fully();
-        }
+        self.sleep_if_blocked(rt, block, idle, parker, latch, seat);
         latch.wake_up(seat);
     }
 
-    // Sleeps until the worker was woken.
-    fn park<R: Wait>(&self, rt: &R, parker: &Parker, worker_index: usize) {
+    // A worker that is blocked sleeps until it is woken, and then starts again.
+    fn sleep_if_blocked<R: Wait>(
+        &self,
+        rt: &R,
+        block: Block,
+        idle: &mut IdleState,
+        parker: &Parker,
+        latch: &CoreLatch,
+        seat: &mut LatchSeat,
+    )
+        requires seat { IsSeatOf latch.now seat.old }
+        ensures worker { worker_of idle.new ≡ worker_of idle.old }
+        ensures awake { block ≢ Blocked → idle.new ≡ idle.old }
+        ensures blocked { block ≡ Blocked → (rounds_of idle.new ≡ 0) × (recorded_of idle.new ≡ None) }
+        ensures probes { OnlyProbes (known seat.old) (known seat.new) }
+        ensures seat { IsSeatOf latch.now seat.new }
+        ensures stays { HasSeenSet (known seat.old) → HasSeenSet (known seat.new) }
+    {
+        if block == Block::Blocked {
+            self.park(rt, idle.worker_index(), parker, latch, seat);
+            idle.wake_fully();
+        }
+    }
+
+    // Sleeps until the worker was woken, or its latch was set.
+    fn park<R: Wait>(
+        &self,
+        rt: &R,
+        sleeper: usize,
+        parker: &Parker,
+        latch: &CoreLatch,
+        seat: &mut LatchSeat,
+    )
+        requires seat { IsSeatOf latch.now seat.old }
+        ensures probes { OnlyProbes (known seat.old) (known seat.new) }
+        ensures seat { IsSeatOf latch.now seat.new }
+        ensures stays { HasSeenSet (known seat.old) → HasSeenSet (known seat.new) }
+    {
         for _ in rt.forever() {
             parker.park(rt);
-            if !self.state.lock(rt).is_blocked(worker_index) {
-                break;
+            if self.is_awake(rt, sleeper, latch, seat) {
+                return;
             }
         }
+        unreachable!()
+    }
+
+    // Whether a sleeper was woken. One whose latch was set wakes itself.
+    fn is_awake<R: Wait>(
+        &self,
+        rt: &R,
+        sleeper: usize,
+        latch: &CoreLatch,
+        seat: &mut LatchSeat,
+    ) -> bool
+        requires seat { IsSeatOf latch.now seat.old }
+        ensures probe { Called Probe (λ _. ⊤) (known seat.old) (known seat.new) }
+        ensures seat { IsSeatOf latch.now seat.new }
+        ensures stays { HasSeenSet (known seat.old) → HasSeenSet (known seat.new) }
+    {
+        let is_set = latch.probe(seat);
+        let mut state = self.state.lock(rt);
+        if is_set {
+            state.wake(sleeper);
+        }
+        !state.is_blocked(sleeper)
     }
 }
 

@@ -4,5 +4,7 @@ mod environments;
 mod jobs;
 mod latches;
 mod limits;
+mod pools;
+mod refusals;
 mod sleeps;
 mod threads;

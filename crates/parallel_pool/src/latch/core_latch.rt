@@ -4,8 +4,8 @@ ghost use Rattle.std.specs.NonZero.{non_zero_usize_get};
 
 use crate::latch::history::View;
 use crate::latch::latch_seat::{
-    FallsAsleep, GetsSleepy, Hearing, LatchSeat, Learning, OneHistory, Probes, Seating, Sets,
-    Telling, WakesUp,
+    Enters, FallsAsleep, GetsSleepy, Hearing, LatchSeat, Learning, OneHistory, Probes, Seating,
+    Sets, Telling, WakesUp,
 };
 use atomic_table::{Seat, Table};
 use parallel_fault::Fault;
@@ -74,6 +74,15 @@ impl CoreLatch {
         LatchSeat {
             seat: self.table.shared.split_seat::<Seating>(&mut founder.seat),
         }
+    }
+
+    /// A further seat, which has seen no call. It is no call of the latch, and takes no memory.
+    pub fn newcomer(&self) -> LatchSeat
+        ensures seat { IsSeatOf self.now result }
+        ensures fresh { known result ≡ newcomer }
+    {
+        let (_, seat) = self.table.shared.load_new_seat::<Enters>(0);
+        LatchSeat { seat }
     }
 
     /// Makes an unset latch sleepy, and says whether it did.

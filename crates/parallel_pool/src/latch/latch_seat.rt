@@ -65,6 +65,16 @@ impl Play<(), View> for Learning {
     ghost then = { λ _ me found after. Longer me.0.seen me.0.heard after.0.seen × (after.0.own ≡ me.0.own) × (after.1 ≡ me.1) };
 }
 
+/// A new seat has seen nothing, whatever the latch is.
+pub(crate) struct Enters;
+
+impl Play<(), View> for Enters {
+    ghost use Rattle.std.specs.Prelude.{◌≡◌};
+    ghost use Rattle.parallel_pool.specs.LatchHistory.{newcomer};
+
+    ghost then = { λ _ _ _ after. after.0 ≡ newcomer };
+}
+
 /// The step of `get_sleepy`.
 pub(crate) struct GetsSleepy;
 

@@ -1,5 +1,5 @@
 // A pass of one queue that any thread may push to.
-use crate::rayon::job_history::{JobView, Numbered, Pushes, Takes};
+use crate::rayon::job_history::{JobView, Numbered, Purpose, Pushes, Takes};
 use crossbeam_deque::{Injector, InjectorPass, Steal};
 use std::alloc::Global;
 use std::marker::Model;
@@ -27,7 +27,7 @@ impl<T: Drop> Model for InletPort<T> {
 }
 
 impl<T: Drop> InletPort<T> {
-    ghost use Rattle.std.specs.Prelude.{◌≡◌, MatchOption, MatchResult, false};
+    ghost use Rattle.std.specs.Prelude.{◌≡◌, MatchOption, MatchResult};
     ghost use Rattle.crossbeam_deque.specs.Steals.{MatchSteal};
     ghost use Rattle.parallel_pool.specs.JobHistory.{HasPushed, HasTaken, newcomer};
     ghost use Rattle.parallel_pool.specs.declared.rayon.job_history.Deed.TheVariants.{TakeFirst};
@@ -47,19 +47,25 @@ impl<T: Drop> InletPort<T> {
         self.queue.push_as::<Pushes, R>(rt, &mut self.pass, job)
     }
 
+    /// Whether no job is there, at one moment of the call.
+    pub(crate) fn is_empty(&self) -> bool {
+        let mut pass = self.queue.pass();
+        self.queue.is_empty_as::<Pushes>(&mut pass)
+    }
+
     // One try to take the first job.
-    fn try_take<R: Wait>(&mut self, rt: &R) -> Steal<T>
-        ensures { MatchSteal result (self.new ≡ self.old) (self.new ≡ self.old) (λ job. HasTaken TakeFirst false self.old job self.new) }
+    fn try_take<U: Purpose, R: Wait>(&mut self, rt: &R) -> Steal<T>
+        ensures { MatchSteal result (self.new ≡ self.old) (self.new ≡ self.old) (λ job. HasTaken TakeFirst U.called self.old job self.new) }
     {
-        self.queue.steal_as::<Takes, R>(rt, &mut self.pass)
+        self.queue.steal_as::<Takes<U>, R>(rt, &mut self.pass)
     }
 
     /// Takes the first job.
-    pub(crate) fn take<R: Wait>(&mut self, rt: &R) -> Option<T>
-        ensures { MatchOption result (self.new ≡ self.old) (λ job. HasTaken TakeFirst false self.old job self.new) }
+    pub(crate) fn take<U: Purpose, R: Wait>(&mut self, rt: &R) -> Option<T>
+        ensures { MatchOption result (self.new ≡ self.old) (λ job. HasTaken TakeFirst U.called self.old job self.new) }
     {
         for _ in rt.forever() {
-            match self.try_take(rt) {
+            match self.try_take::<U, R>(rt) {
                 Steal::Success(job) => return Some(job),
                 Steal::Empty => return None,
                 Steal::Retry => {}

@@ -1,5 +1,7 @@
 // A worker's own deque.
-use crate::rayon::job_history::{JobView, Numbered, Pushes, TakesLast};
+use crate::rayon::job_history::{
+    JobView, Looks, Numbered, Purpose, Pushes, TakesLast, ToCall, ToKeep,
+};
 use crate::rayon::owned_job::OwnedJob;
 use crate::rayon::thief_port::Thief;
 use crossbeam_deque::Worker;
@@ -26,7 +28,7 @@ impl<T: Drop> Model for JobDeque<T> {
 }
 
 impl<T: Drop> JobDeque<T> {
-    ghost use Rattle.std.specs.Prelude.{◌≡◌, IfOk, MatchOption, MatchResult, false};
+    ghost use Rattle.std.specs.Prelude.{◌≡◌, IfOk, MatchOption, MatchResult, false, true};
     ghost use Rattle.parallel_pool.specs.JobHistory.{HasPushed, HasTaken, newcomer};
     ghost use Rattle.parallel_pool.specs.declared.rayon.job_history.Deed.TheVariants.{TakeLast};
 
@@ -50,10 +52,30 @@ impl<T: Drop> JobDeque<T> {
         self.own.push_as::<Pushes>(job)
     }
 
+    /// Whether no job is there, at one moment of the call.
+    pub fn is_empty(&mut self) -> bool
+        ensures { self.new ≡ self.old }
+    {
+        self.own.len_as::<Looks>() == 0
+    }
+
     /// Takes the last job, where there is one.
     pub fn pop(&mut self) -> Option<T>
         ensures { MatchOption result (self.new ≡ self.old) (λ job. HasTaken TakeLast false self.old job self.new) }
     {
-        self.own.pop_as::<TakesLast>()
+        self.pop_as::<ToKeep>()
+    }
+
+    /// Takes the last job, where there is one, to call it at once.
+    pub(crate) fn pop_to_call(&mut self) -> Option<T>
+        ensures { MatchOption result (self.new ≡ self.old) (λ job. HasTaken TakeLast true self.old job self.new) }
+    {
+        self.pop_as::<ToCall>()
+    }
+
+    fn pop_as<U: Purpose>(&mut self) -> Option<T>
+        ensures { MatchOption result (self.new ≡ self.old) (λ job. HasTaken TakeLast U.called self.old job self.new) }
+    {
+        self.own.pop_as::<TakesLast<U>>()
     }
 }

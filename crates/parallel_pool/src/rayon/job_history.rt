@@ -1,7 +1,10 @@
 // The history of a queue of jobs, the rule that the queue and its passes keep, and what each step
 // tells.
-use crossbeam_deque::protocol::{Outcome, Protocol};
+ghost use Rattle.std.specs.Prelude.{Bool};
+
+use crossbeam_deque::protocol::{Lesson, Outcome, Protocol};
 use std::collections::LinkedList;
+use std::marker::PhantomData;
 
 /// What is done to a queue of jobs.
 #[derive(Clone, Copy, Debug)]
@@ -58,24 +61,60 @@ impl<T> Outcome<T, JobView<T>> for Pushes {
     ghost then = { λ v xs w. (x : _) → xs ≡ x ∷ [] → HasPushed v x w };
 }
 
-/// The step of a take of the first job.
-pub(crate) struct Takes;
+/// What becomes of a job that is taken.
+pub(crate) trait Purpose {
+    ghost called: { Bool };
+}
 
-impl<T> Outcome<T, JobView<T>> for Takes {
-    ghost use Rattle.std.specs.Prelude.{◌≡◌, [], ◌∷◌, false};
+/// The job is handed out.
+pub(crate) struct ToKeep;
+
+impl Purpose for ToKeep {
+    ghost use Rattle.std.specs.Prelude.{false};
+
+    ghost called = { false };
+}
+
+/// The job is called at once: it counts as called from this very step on.
+pub(crate) struct ToCall;
+
+impl Purpose for ToCall {
+    ghost use Rattle.std.specs.Prelude.{true};
+
+    ghost called = { true };
+}
+
+/// The step of a take of the first job.
+pub(crate) struct Takes<U> {
+    purpose: PhantomData<U>,
+}
+
+impl<T, U: Purpose> Outcome<T, JobView<T>> for Takes<U> {
+    ghost use Rattle.std.specs.Prelude.{◌≡◌, [], ◌∷◌};
     ghost use Rattle.parallel_pool.specs.JobHistory.{HasTaken};
     ghost use Rattle.parallel_pool.specs.declared.rayon.job_history.Deed.TheVariants.{TakeFirst};
 
-    ghost then = { λ v xs w. (x : _) → xs ≡ x ∷ [] → HasTaken TakeFirst false v x w };
+    ghost then = { λ v xs w. (x : _) → xs ≡ x ∷ [] → HasTaken TakeFirst U.called v x w };
 }
 
 /// The step of a take of the last job.
-pub(crate) struct TakesLast;
+pub(crate) struct TakesLast<U> {
+    purpose: PhantomData<U>,
+}
 
-impl<T> Outcome<T, JobView<T>> for TakesLast {
-    ghost use Rattle.std.specs.Prelude.{◌≡◌, [], ◌∷◌, false};
+impl<T, U: Purpose> Outcome<T, JobView<T>> for TakesLast<U> {
+    ghost use Rattle.std.specs.Prelude.{◌≡◌, [], ◌∷◌};
     ghost use Rattle.parallel_pool.specs.JobHistory.{HasTaken};
     ghost use Rattle.parallel_pool.specs.declared.rayon.job_history.Deed.TheVariants.{TakeLast};
 
-    ghost then = { λ v xs w. (x : _) → xs ≡ x ∷ [] → HasTaken TakeLast false v x w };
+    ghost then = { λ v xs w. (x : _) → xs ≡ x ∷ [] → HasTaken TakeLast U.called v x w };
+}
+
+/// A look at how many jobs there are, of which nothing is to be known.
+pub(crate) struct Looks;
+
+impl<T> Lesson<T, JobView<T>> for Looks {
+    ghost use Rattle.std.specs.Prelude.{⊤};
+
+    ghost fact = { λ _ _. ⊤ };
 }

@@ -1,5 +1,6 @@
 // One thread's views of a pool's queues, by which it pushes and takes jobs.
 use crate::rayon::inlet_port::InletPort;
+use crate::rayon::job_history::{Purpose, ToCall, ToKeep};
 use crate::rayon::owned_job::OwnedJob;
 use crate::rayon::queue::Queue;
 use crate::rayon::thief_port::ThiefPort;
@@ -30,7 +31,7 @@ impl<T: Drop> Model for JobSeat<T> {
 }
 
 impl<T: Drop> JobSeat<T> {
-    ghost use Rattle.std.specs.Prelude.{◌≡◌, ◌<◌, ◌≤◌, length, MatchOption, MatchResult, false};
+    ghost use Rattle.std.specs.Prelude.{◌≡◌, ◌<◌, ◌≤◌, ◌↔◌, IsTrue, length, MatchOption, MatchResult, false, true};
     ghost use Rattle.parallel_pool.specs.JobHistory.{HasPushed, HasTaken};
     ghost use Rattle.parallel_pool.specs.JobSeat.{IsInlet, IsQueueOf, Does, PushesFrom, PushesSome};
     ghost use Rattle.parallel_pool.specs.declared.rayon.job_history.Deed.TheVariants.{TakeFirst};
@@ -95,42 +96,94 @@ impl<T: Drop> JobSeat<T> {
         self.broadcasts[worker].push(rt, job)
     }
 
+    /// How many workers the pool has: so many broadcast queues, and so many deques.
+    pub fn workers(&self) -> usize
+        ensures broadcasts { result ≡ length self.now.broadcasts }
+    {
+        self.broadcasts.len()
+    }
+
+    /// Whether the queue is one of the pool.
+    pub fn has(&self, queue: Queue) -> bool
+        ensures { IsTrue result ↔ IsQueueOf queue self.now }
+    {
+        match queue {
+            Queue::Injected => true,
+            Queue::Broadcast(worker) => worker < self.broadcasts.len(),
+            Queue::Deque(worker) => worker < self.deques.len(),
+        }
+    }
+
+    /// Whether a job is there that only this worker may call or that came from outside: one of the
+    /// injected jobs, or of its broadcast queue, each at one moment of the call.
+    pub(crate) fn has_job_for(&self, worker: usize) -> bool {
+        if let Some(own) = self.broadcasts.get(worker)
+            && !own.is_empty()
+        {
+            return true;
+        }
+        self.has_injected()
+    }
+
+    /// Whether there are injected jobs, at one moment of the call.
+    pub(crate) fn has_injected(&self) -> bool {
+        !self.injected.is_empty()
+    }
+
     /// Takes the first job of a queue, where there is one.
     pub fn take<R: Wait>(&mut self, rt: &R, queue: Queue) -> Option<T>
         requires { IsQueueOf queue self.old }
         ensures { MatchOption result (self.new ≡ self.old)
             (λ job. Does queue (λ v w. HasTaken TakeFirst false v job w) self.old self.new) }
     {
+        self.take_as::<ToKeep, R>(rt, queue)
+    }
+
+    /// Takes the first job of a queue, where there is one, to call it at once.
+    pub(crate) fn take_to_call<R: Wait>(&mut self, rt: &R, queue: Queue) -> Option<T>
+        requires { IsQueueOf queue self.old }
+        ensures { MatchOption result (self.new ≡ self.old)
+            (λ job. Does queue (λ v w. HasTaken TakeFirst true v job w) self.old self.new) }
+    {
+        self.take_as::<ToCall, R>(rt, queue)
+    }
+
+    // Takes the first job of a queue, for a purpose.
+    fn take_as<U: Purpose, R: Wait>(&mut self, rt: &R, queue: Queue) -> Option<T>
+        requires { IsQueueOf queue self.old }
+        ensures { MatchOption result (self.new ≡ self.old)
+            (λ job. Does queue (λ v w. HasTaken TakeFirst U.called v job w) self.old self.new) }
+    {
         match queue {
-            Queue::Injected => self.take_injected(rt),
-            Queue::Broadcast(worker) => self.take_broadcast(rt, worker),
-            Queue::Deque(worker) => self.steal(rt, worker),
+            Queue::Injected => self.take_injected::<U, R>(rt),
+            Queue::Broadcast(worker) => self.take_broadcast::<U, R>(rt, worker),
+            Queue::Deque(worker) => self.steal::<U, R>(rt, worker),
         }
     }
 
     // Takes the first of the injected jobs.
-    fn take_injected<R: Wait>(&mut self, rt: &R) -> Option<T>
+    fn take_injected<U: Purpose, R: Wait>(&mut self, rt: &R) -> Option<T>
         ensures { MatchOption result (self.new ≡ self.old)
-            (λ job. Does Injected (λ v w. HasTaken TakeFirst false v job w) self.old self.new) }
+            (λ job. Does Injected (λ v w. HasTaken TakeFirst U.called v job w) self.old self.new) }
     {
-        self.injected.take(rt)
+        self.injected.take::<U, R>(rt)
     }
 
     // Takes the first job of a worker's broadcast queue.
-    fn take_broadcast<R: Wait>(&mut self, rt: &R, worker: usize) -> Option<T>
+    fn take_broadcast<U: Purpose, R: Wait>(&mut self, rt: &R, worker: usize) -> Option<T>
         requires { worker < length self.old.broadcasts }
         ensures { MatchOption result (self.new ≡ self.old)
-            (λ job. Does (Broadcast worker) (λ v w. HasTaken TakeFirst false v job w) self.old self.new) }
+            (λ job. Does (Broadcast worker) (λ v w. HasTaken TakeFirst U.called v job w) self.old self.new) }
     {
-        self.broadcasts[worker].take(rt)
+        self.broadcasts[worker].take::<U, R>(rt)
     }
 
     // Takes the first job of a worker's deque.
-    fn steal<R: Wait>(&mut self, rt: &R, worker: usize) -> Option<T>
+    fn steal<U: Purpose, R: Wait>(&mut self, rt: &R, worker: usize) -> Option<T>
         requires { worker < length self.old.deques }
         ensures { MatchOption result (self.new ≡ self.old)
-            (λ job. Does (Deque worker) (λ v w. HasTaken TakeFirst false v job w) self.old self.new) }
+            (λ job. Does (Deque worker) (λ v w. HasTaken TakeFirst U.called v job w) self.old self.new) }
     {
-        self.deques[worker].take(rt)
+        self.deques[worker].take::<U, R>(rt)
     }
 }

@@ -1,5 +1,5 @@
 // A pass of a worker's own deque, for any thread.
-use crate::rayon::job_history::{JobView, Numbered, Takes};
+use crate::rayon::job_history::{JobView, Numbered, Purpose, Takes};
 use crossbeam_deque::{Pass, Steal, Stealer};
 use std::alloc::Global;
 use std::marker::Model;
@@ -28,7 +28,7 @@ impl<T: Drop> Model for ThiefPort<T> {
 }
 
 impl<T: Drop> ThiefPort<T> {
-    ghost use Rattle.std.specs.Prelude.{◌≡◌, MatchOption, false};
+    ghost use Rattle.std.specs.Prelude.{◌≡◌, MatchOption};
     ghost use Rattle.crossbeam_deque.specs.Steals.{MatchSteal};
     ghost use Rattle.parallel_pool.specs.JobHistory.{HasTaken, newcomer};
     ghost use Rattle.parallel_pool.specs.declared.rayon.job_history.Deed.TheVariants.{TakeFirst};
@@ -42,18 +42,18 @@ impl<T: Drop> ThiefPort<T> {
     }
 
     // One try to take the first job.
-    fn try_take(&mut self) -> Steal<T>
-        ensures { MatchSteal result (self.new ≡ self.old) (self.new ≡ self.old) (λ job. HasTaken TakeFirst false self.old job self.new) }
+    fn try_take<U: Purpose>(&mut self) -> Steal<T>
+        ensures { MatchSteal result (self.new ≡ self.old) (self.new ≡ self.old) (λ job. HasTaken TakeFirst U.called self.old job self.new) }
     {
-        self.thief.steal_as::<Takes>(&mut self.pass)
+        self.thief.steal_as::<Takes<U>>(&mut self.pass)
     }
 
     /// Takes the first job.
-    pub(crate) fn take<R: Wait>(&mut self, rt: &R) -> Option<T>
-        ensures { MatchOption result (self.new ≡ self.old) (λ job. HasTaken TakeFirst false self.old job self.new) }
+    pub(crate) fn take<U: Purpose, R: Wait>(&mut self, rt: &R) -> Option<T>
+        ensures { MatchOption result (self.new ≡ self.old) (λ job. HasTaken TakeFirst U.called self.old job self.new) }
     {
         for _ in rt.forever() {
-            match self.try_take() {
+            match self.try_take::<U>() {
                 Steal::Success(job) => return Some(job),
                 Steal::Empty => return None,
                 Steal::Retry => {}

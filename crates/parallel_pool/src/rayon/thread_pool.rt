@@ -5,29 +5,37 @@ ghost use Rattle.std.specs.NonZero.{non_zero_usize_get};
 use crate::rayon::broadcast_context::BroadcastContext;
 use parallel_fault::Fault;
 use std::alloc::Global;
+use std::fmt::{Debug, Formatter, Write};
 use std::num::NonZeroUsize;
-use std::thread;
 use std::thread::Threads;
+use std::{fmt, thread};
 
 /// The greatest number of threads that a pool has.
 pub const MAX_THREADS: usize = 65_535;
 
-/// A number of threads, 1 to `MAX_THREADS`, and the calls that run closures on workers.
+/// A number of threads, 1 to `MAX_THREADS`, the calls that run closures on scoped workers, and what
+/// stands behind them: `Staff`, the workers and the queues of a pool that was built, or nothing.
 ///
-/// No thread is kept waiting: each call that needs a worker starts it and joins it. Contracts name
-/// the number by `thread_count`.
-#[derive(Debug, Drop)]
-pub struct ThreadPool {
+/// Contracts name the number by `thread_count` and the label by `label_of`.
+#[derive(Drop)]
+pub struct ThreadPool<W: Drop = Scoped> {
     num_threads: NonZeroUsize,
+    label: u64,
+    pub(crate) staff: W,
     pub ghost at_most: { non_zero_usize_get num_threads ≤ 65535 },
 }
 
-impl ThreadPool {
-    ghost use Rattle.parallel_pool.specs.ThreadPool.{thread_count};
-    ghost use Rattle.parallel_pool.specs.Broadcast.{context};
+/// Behind a pool stands nothing but its number: no thread is kept waiting, and each call that needs a
+/// worker starts it and joins it.
+#[derive(Debug, Drop)]
+pub struct Scoped;
 
-    /// A pool of `num_threads` threads, or of `MAX_THREADS` where that is fewer.
-    pub fn new(num_threads: NonZeroUsize) -> ThreadPool
+impl ThreadPool<Scoped> {
+    ghost use Rattle.parallel_pool.specs.ThreadPool.{thread_count};
+
+    /// A pool of `num_threads` threads, or of `MAX_THREADS` where that is fewer, of which none is
+    /// started before a call needs it.
+    pub fn new(num_threads: NonZeroUsize) -> ThreadPool<Scoped>
         ensures { thread_count result ≡ min (non_zero_usize_get num_threads) MAX_THREADS }
     {
         let most = NonZeroUsize::MIN.saturating_add(MAX_THREADS - 1);
@@ -36,7 +44,44 @@ impl ThreadPool {
         } else {
             most
         };
-        ThreadPool { num_threads }
+        ThreadPool {
+            num_threads,
+            label: 0,
+            staff: Scoped,
+        }
+    }
+}
+
+impl Debug for ThreadPool<Scoped> {
+    fn fmt<W: Write>(&self, f: &mut Formatter<W>) -> fmt::Result {
+        f.debug_struct("ThreadPool")
+            .field("num_threads", &self.num_threads)
+            .finish()
+    }
+}
+
+impl<W: Drop> ThreadPool<W> {
+    ghost use Rattle.parallel_pool.specs.ThreadPool.{thread_count, label_of};
+    ghost use Rattle.parallel_pool.specs.Broadcast.{context};
+
+    /// The pool of so many threads, with this label, and what stands behind it.
+    pub(crate) fn over(num_threads: NonZeroUsize, label: u64, staff: W) -> ThreadPool<W>
+        requires { non_zero_usize_get num_threads ≤ MAX_THREADS }
+        ensures count { thread_count result ≡ non_zero_usize_get num_threads }
+        ensures label { label_of result ≡ label }
+    {
+        ThreadPool {
+            num_threads,
+            label,
+            staff,
+        }
+    }
+
+    /// The pool's label, 0 where none was set: a worker belongs to the pool where it has the same.
+    pub fn label(&self) -> u64
+        ensures { result ≡ label_of self.now }
+    {
+        self.label
     }
 
     /// The number of the pool's threads.

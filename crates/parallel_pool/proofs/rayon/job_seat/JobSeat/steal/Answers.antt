@@ -1,5 +1,5 @@
 -- The pass of the deque has taken, and no other did anything.
-use Rattle.std.proofs.Common.{◌≡◌, arith, ap, length, false}
+use Rattle.std.proofs.Common.{◌≡◌, arith, ap, length}
 use Rattle.std.proofs.lemmas.List.{get_or_read_under}
 use Rattle.parallel_pool.specs.JobHistory.{newcomer, HasTaken}
 use Rattle.parallel_pool.specs.JobSeat.{SeatView}
@@ -12,4 +12,4 @@ pub returns : goal.returns
 returns g c =
     let long : length c.self.inside.deques.items ≡ length c.args.self.now.deques = ap (λ (s : SeatView _). length s.deques) c.self.view_is in
     let read = get_or_read_under c.self.inside.deques.items c.args.worker _ _ newcomer c.index_mut.ensures.value (omega (arith, c.requires, long, c.self.inside.deques.ok.0)) c.self.inside.deques.ok.0 in
-    after_take (Deque c.args.worker) (λ job v w. HasTaken TakeFirst false v job w) _ _ _ _ _ c.self.view_is read c.take.ensures
+    after_take (Deque c.args.worker) (λ job v w. HasTaken TakeFirst g.U.Purpose.called v job w) _ _ _ _ _ c.self.view_is read c.take.ensures

@@ -1,0 +1,15 @@
+-- Looks at a latch, one after another.
+use Rattle.std.proofs.Common.{refl, suc}
+use Rattle.std.specs.Prelude.{⊤}
+use Rattle.parallel_pool.specs.declared.latch.history.View.{View}
+use Rattle.parallel_pool.specs.declared.latch.history.Act.TheVariants.{Probe}
+use Rattle.parallel_pool.specs.LatchHistory.{Called}
+use Rattle.parallel_pool.specs.SleepTries.{OnlyProbes}
+
+-- none
+pub no_probe : (v : View) → OnlyProbes v v
+no_probe v = (0, refl)
+
+-- and one more
+pub one_probe : (old mid new : View) → OnlyProbes old mid → Called Probe (λ _. ⊤) mid new → OnlyProbes old new
+one_probe old mid new p c = (suc p.0, (mid, p.1, c))

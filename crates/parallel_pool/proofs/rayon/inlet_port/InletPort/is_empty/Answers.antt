@@ -1,0 +1,6 @@
+-- A new pass keeps the rule.
+use Rattle.parallel_pool.proofs.JobSteps.{admits}
+use Rattle.parallel_pool.proofs.rayon.inlet_port.InletPort.is_empty.Goals as goal
+
+pub pass-pass-requires : goal.pass-pass-requires
+pass-pass-requires g c = admits

@@ -1,0 +1,81 @@
+// Starting the workers of a pool.
+ghost use Rattle.std.specs.Prelude.{◌≡◌};
+
+use crate::rayon::build_error::ThreadPoolBuildError;
+use crate::rayon::handlers::StartHandler;
+use crate::rayon::worker_thread::WorkerThread;
+use std::alloc::Global;
+use std::sync::{Arc, Wait};
+use std::thread;
+use std::thread::{JoinHandle, Threads};
+
+/// What a started thread does.
+pub(crate) trait Work: Drop {
+    fn run<R: Wait>(self, rt: &R);
+}
+
+/// A worker, and what it calls first.
+#[derive(Drop)]
+pub(crate) struct Starter {
+    pub(crate) worker: WorkerThread,
+    pub(crate) start: Option<Arc<StartHandler, Global>>,
+}
+
+impl Work for Starter {
+    fn run<R: Wait>(self, rt: &R) {
+        let Starter { mut worker, start } = self;
+        if let Some(start) = &start {
+            start.call(worker.index());
+        }
+        worker.work(rt);
+    }
+}
+
+/// Starts each worker, with its name, and lists the threads, for which there is room.
+///
+/// `ThreadPoolBuildError::Spawn` where a start was refused: those before it run.
+pub(crate) fn start_workers<R: Threads + Wait + Copy + Send + 'static>(
+    rt: &R,
+    stack_size: Option<usize>,
+    workers: Vec<(Option<String>, Starter)>,
+    started: &mut Vec<JoinHandle<()>>,
+) -> Result<(), ThreadPoolBuildError> {
+    start_all::<R, Starter>(rt, stack_size, workers, started)
+}
+
+fn start_all<R: Threads + Wait + Copy + Send + 'static, W: Work + Send + 'static>(
+    rt: &R,
+    stack_size: Option<usize>,
+    workers: Vec<(Option<String>, W)>,
+    started: &mut Vec<JoinHandle<()>>,
+) -> Result<(), ThreadPoolBuildError> {
+    for (name, work) in workers {
+        let handle = start(rt, stack_size, name, work)?;
+        started.push(handle)?;
+    }
+    Ok(())
+}
+
+fn start<R: Threads + Wait + Copy + Send + 'static, W: Work + Send + 'static>(
+    rt: &R,
+    stack_size: Option<usize>,
+    name: Option<String>,
+    work: W,
+) -> Result<JoinHandle<()>, ThreadPoolBuildError> {
+    let theirs = *rt;
+    match as_set(stack_size, name).spawn(rt, move || work.run(&theirs)) {
+        Ok(handle) => Ok(handle),
+        Err(_) => Err(ThreadPoolBuildError::Spawn),
+    }
+}
+
+fn as_set(stack_size: Option<usize>, name: Option<String>) -> thread::Builder {
+    let mut builder = thread::Builder::new();
+    if let Some(size) = stack_size {
+        builder = builder.stack_size(size);
+    }
+    if let Some(name) = name {
+        builder = builder.name(name);
+    }
+    builder
+}

@@ -1,0 +1,322 @@
+// Building a pool.
+ghost use Rattle.std.specs.Prelude.{◌≡◌, ◌≢◌, ◌≤◌, ℕ, IfOk, IfSome, MatchOption, None, Some, true, false};
+ghost use Rattle.std.specs.NonZero.{non_zero_usize_get};
+ghost use Rattle.parallel_pool.specs.PlannedThreads.{IsPlanned};
+ghost use Rattle.parallel_pool.specs.ThreadPool.{thread_count, label_of};
+
+use crate::rayon::build_error::ThreadPoolBuildError;
+use crate::rayon::environment::Environment;
+use crate::rayon::handlers::{Names, StartHandler};
+use crate::rayon::job_deque::JobDeque;
+use crate::rayon::job_queues::JobQueues;
+use crate::rayon::pool_plan::PoolPlan;
+use crate::rayon::registry::{Hold, Registry};
+use crate::rayon::rest::Rest;
+use crate::rayon::staff::Staff;
+use crate::rayon::start::{Starter, start_workers};
+use crate::rayon::thread_pool::{MAX_THREADS, ThreadPool};
+use crate::rayon::worker_thread::WorkerThread;
+use parallel_fault::Fault;
+use std::alloc::{AllocError, Global};
+use std::fmt;
+use std::fmt::{Debug, Formatter, Write};
+use std::num::NonZeroUsize;
+use std::sync::{Arc, Wait};
+use std::thread::{JoinHandle, Threads};
+
+/// What a pool is to be: its plan, and the closures that its workers call first and that name them.
+#[derive(Drop)]
+pub struct ThreadPoolBuilder {
+    /// What is set, but for the closures.
+    pub plan: PoolPlan,
+    names: Option<Names>,
+    start: Option<StartHandler>,
+}
+
+/// The builder of `new`.
+impl Default for ThreadPoolBuilder {
+    fn default() -> ThreadPoolBuilder {
+        ThreadPoolBuilder::new()
+    }
+}
+
+impl ThreadPoolBuilder {
+    /// Nothing is set: as many threads as the environment says, which is empty and says 1.
+    pub fn new() -> ThreadPoolBuilder
+        ensures number { result.plan.num_threads ≡ 0 }
+        ensures label { result.plan.label ≡ 0 }
+        ensures current { result.plan.use_current_thread ≡ false }
+        ensures unstarted { result.plan.unstarted_workers ≡ false }
+    {
+        ThreadPoolBuilder {
+            plan: PoolPlan::default(),
+            names: None,
+            start: None,
+        }
+    }
+
+    /// Sets the number of threads. At 0 the environment says it.
+    pub fn num_threads(self, num_threads: usize) -> ThreadPoolBuilder
+        ensures { result.plan ≡ record self.plan { num_threads = num_threads } }
+    {
+        let mut set = self;
+        set.plan.num_threads = num_threads;
+        set
+    }
+
+    /// The thread that builds the pool is its worker 0, and is handed it: no thread is started for
+    /// that one, which works by `ThreadPool::yield_now` alone.
+    pub fn use_current_thread(self) -> ThreadPoolBuilder
+        ensures { result.plan ≡ record self.plan { use_current_thread = true } }
+    {
+        let mut set = self;
+        set.plan.use_current_thread = true;
+        set
+    }
+
+    /// Sets the size of each started worker's stack, in bytes.
+    pub fn stack_size(self, stack_size: usize) -> ThreadPoolBuilder
+        ensures { result.plan ≡ record self.plan { stack_size = Some stack_size } }
+    {
+        let mut set = self;
+        set.plan.stack_size = Some(stack_size);
+        set
+    }
+
+    /// Names each started worker by what the closure answers to its index. An Err of it counts as a
+    /// refused growth.
+    pub fn thread_name(
+        self,
+        name_of: Box<dyn FnMut(usize) -> Result<String, AllocError>>,
+    ) -> ThreadPoolBuilder
+        requires { IsAlwaysCallable name_of }
+        ensures { result.plan ≡ self.plan }
+    {
+        let mut set = self;
+        set.names = Some(Names::new(name_of));
+        set
+    }
+
+    /// Each started worker calls the closure first, with its index.
+    pub fn start_handler(self, start: Box<dyn Fn(usize) + Send + Sync>) -> ThreadPoolBuilder
+        requires { (index : _) → pre start index }
+        ensures { result.plan ≡ self.plan }
+    {
+        let mut set = self;
+        set.start = Some(StartHandler::new(start));
+        set
+    }
+
+    /// Sets where the number of threads is found that isn't set.
+    pub fn environment(self, environment: Environment) -> ThreadPoolBuilder
+        ensures { result.plan ≡ record self.plan { environment = environment } }
+    {
+        let mut set = self;
+        set.plan.environment = environment;
+        set
+    }
+
+    /// Sets the pool's label. A worker belongs to each pool of its label, so give each pool its own.
+    pub fn label(self, label: u64) -> ThreadPoolBuilder
+        ensures { result.plan ≡ record self.plan { label = label } }
+    {
+        let mut set = self;
+        set.plan.label = label;
+        set
+    }
+
+    /// No worker is started: the jobs that come to the pool never run, but for those that worker 0
+    /// calls under `use_current_thread`.
+    pub fn unstarted_workers(self) -> ThreadPoolBuilder
+        ensures { result.plan ≡ record self.plan { unstarted_workers = true } }
+    {
+        let mut set = self;
+        set.plan.unstarted_workers = true;
+        set
+    }
+
+    /// Builds the pool and starts its workers. With `use_current_thread` the second part is worker 0.
+    ///
+    /// `ThreadPoolBuildError::Memory` where memory was refused, or a name; `Spawn` where the start of
+    /// a thread was. No worker is left running then: those that were started have ended.
+    pub fn build<R: Threads + Wait + Copy + Send + 'static>(
+        self,
+        rt: &R,
+        alloc: Global,
+    ) -> Result<(ThreadPool<Staff>, Option<WorkerThread>), ThreadPoolBuildError>
+        ensures count { IfOk result (λ built. IsPlanned self.plan (thread_count built.0)) }
+        ensures label { IfOk result (λ built. label_of built.0 ≡ self.plan.label) }
+    {
+        let ThreadPoolBuilder { plan, names, start } = self;
+        let num_threads = plan.planned_threads();
+        let (staff, mut workers) = staff(alloc, num_threads, plan.label)?;
+        let current = current(&plan, &mut workers);
+        let named = named(alloc, &plan, names, start, workers)?;
+        let staff = started(rt, alloc, &plan, staff, named)?;
+        Ok((ThreadPool::over(num_threads, plan.label, staff), current))
+    }
+}
+
+impl Debug for ThreadPoolBuilder {
+    fn fmt<W: Write>(&self, f: &mut Formatter<W>) -> fmt::Result {
+        f.debug_struct("ThreadPoolBuilder")
+            .field("num_threads", &self.plan.num_threads)
+            .field("use_current_thread", &self.plan.use_current_thread)
+            .field("thread_name", &placeholder(self.names.is_some()))
+            .field("stack_size", &self.plan.stack_size)
+            .field("start_handler", &placeholder(self.start.is_some()))
+            .field("environment", &self.plan.environment)
+            .field("label", &self.plan.label)
+            .field("unstarted_workers", &self.plan.unstarted_workers)
+            .finish()
+    }
+}
+
+// Stands in a text for a closure.
+#[derive(Drop)]
+struct Closure;
+
+impl Debug for Closure {
+    fn fmt<W: Write>(&self, f: &mut Formatter<W>) -> fmt::Result {
+        f.write_str("<closure>")
+    }
+}
+
+fn placeholder(is_set: bool) -> Option<Closure> {
+    if is_set { Some(Closure) } else { None }
+}
+
+// The queues of a pool, and its workers, in order, of which none is started.
+fn staff(
+    alloc: Global,
+    num_threads: NonZeroUsize,
+    label: u64,
+) -> Result<(Staff, Vec<WorkerThread>), ThreadPoolBuildError>
+    requires { non_zero_usize_get num_threads ≤ MAX_THREADS }
+{
+    let (queues, deques) = of_memory(JobQueues::new(alloc, num_threads))?;
+    let (registry, rests) = of_memory(Registry::new(alloc, num_threads))?;
+    let registry = Arc::new(alloc, registry)?;
+    let workers = workers(alloc, label, &queues, &registry, deques, rests)?;
+    let seat = of_memory(queues.seat(alloc))?;
+    Ok((Staff::new(seat, Hold::new(registry)), workers))
+}
+
+// A refusal of the pool's lists and queues is one of memory.
+fn of_memory<T>(made: Result<T, Fault>) -> Result<T, ThreadPoolBuildError> {
+    match made {
+        Ok(made) => Ok(made),
+        Err(_) => Err(ThreadPoolBuildError::Memory),
+    }
+}
+
+// The workers, each over its own deque.
+fn workers(
+    alloc: Global,
+    label: u64,
+    queues: &JobQueues,
+    registry: &Arc<Registry, Global>,
+    deques: Vec<JobDeque>,
+    rests: Vec<Rest>,
+) -> Result<Vec<WorkerThread>, ThreadPoolBuildError> {
+    let mut all = Vec::new(alloc);
+    for (own, rest) in deques.into_iter().zip(rests) {
+        let jobs = of_memory(queues.seat(alloc))?;
+        let registry = Arc::try_clone(registry)?;
+        all.push(WorkerThread {
+            index: all.len(),
+            label,
+            own,
+            jobs,
+            rest,
+            registry,
+        })?;
+    }
+    Ok(all)
+}
+
+// The worker of the thread that builds the pool, taken out of the list.
+fn current(plan: &PoolPlan, workers: &mut Vec<WorkerThread>) -> Option<WorkerThread> {
+    if plan.use_current_thread && !workers.is_empty() {
+        Some(workers.remove(0))
+    } else {
+        None
+    }
+}
+
+// The workers that are to be started, each with its name and what it calls first.
+fn named(
+    alloc: Global,
+    plan: &PoolPlan,
+    names: Option<Names>,
+    start: Option<StartHandler>,
+    workers: Vec<WorkerThread>,
+) -> Result<Vec<(Option<String>, Starter)>, ThreadPoolBuildError> {
+    let mut names = names;
+    let start = shared(alloc, start)?;
+    let mut all = Vec::new(alloc);
+    if plan.unstarted_workers {
+        return Ok(all);
+    }
+    for worker in workers {
+        let name = name_of(&mut names, worker.index())?;
+        let start = again(&start)?;
+        all.push((name, Starter { worker, start }))?;
+    }
+    Ok(all)
+}
+
+// The handler, for all workers.
+fn shared(
+    alloc: Global,
+    start: Option<StartHandler>,
+) -> Result<Option<Arc<StartHandler, Global>>, ThreadPoolBuildError> {
+    match start {
+        Some(start) => Ok(Some(Arc::new(alloc, start)?)),
+        None => Ok(None),
+    }
+}
+
+// The handler once more.
+fn again(
+    start: &Option<Arc<StartHandler, Global>>,
+) -> Result<Option<Arc<StartHandler, Global>>, ThreadPoolBuildError> {
+    match start {
+        Some(start) => Ok(Some(Arc::try_clone(start)?)),
+        None => Ok(None),
+    }
+}
+
+fn name_of(names: &mut Option<Names>, index: usize) -> Result<Option<String>, AllocError> {
+    match names {
+        Some(names) => Ok(Some(names.name_of(index)?)),
+        None => Ok(None),
+    }
+}
+
+// The staff, with its workers started. Where a start is refused, those before it have ended.
+fn started<R: Threads + Wait + Copy + Send + 'static>(
+    rt: &R,
+    alloc: Global,
+    plan: &PoolPlan,
+    staff: Staff,
+    workers: Vec<(Option<String>, Starter)>,
+) -> Result<Staff, ThreadPoolBuildError> {
+    let first = usize::from(plan.use_current_thread);
+    let count = workers.len();
+    let mut handles = Vec::with_capacity(alloc, count)?;
+    match start_workers(rt, plan.stack_size, workers, &mut handles) {
+        Ok(()) => Ok(staff.with_started(first..first.saturating_add(count))),
+        Err(error) => {
+            drop(staff);
+            join_all(rt, handles);
+            Err(error)
+        }
+    }
+}
+
+fn join_all<R: Threads>(rt: &R, handles: Vec<JoinHandle<()>>) {
+    for worker in handles {
+        worker.join(rt);
+    }
+}
