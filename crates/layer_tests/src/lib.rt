@@ -6,4 +6,6 @@ mod bridge;
 #[cfg(test)]
 mod policy;
 #[cfg(test)]
+mod pool;
+#[cfg(test)]
 mod shares;

@@ -6,6 +6,3 @@ pub mod rayon;
 pub mod sleep;
 
 pub use rayon::ThreadPool;
-
-#[cfg(test)]
-mod tests;

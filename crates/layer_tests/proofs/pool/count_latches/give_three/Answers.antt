@@ -2,7 +2,7 @@
 use Rattle.std.proofs.Common.{arith, ◌≡◌, ◌<◌, ◌≤◌, true, false, Bool, IsTrue, ◌↔◌, ℕ, refl, length}
 use Rattle.parallel_pool.specs.CountLatch.{gives_seen}
 use Rattle.parallel_pool.proofs.CountLearns.{gives_more, learns_more}
-use Rattle.parallel_pool.proofs.tests.count_latches.give_three.Goals as goal
+use Rattle.layer_tests.proofs.pool.count_latches.give_three.Goals as goal
 
 -- an answer is false where what it tells is not so, and true where it is
 told_false : (b : Bool) (n k : ℕ) → IsTrue b ↔ (n ≡ k) → n < k → b ≡ false

@@ -2,11 +2,11 @@
 ghost use Rattle.std.specs.Prelude.{◌≡◌, All};
 ghost use Rattle.parallel_pool.specs.Latch.{IsSeatOf};
 
-use crate::latch::{CoreLatch, CountLatch, LatchSeat, LockLatch};
-use crate::sleep::Sleep;
-use crate::tests::latches::core_latch;
-use crate::tests::threads::give_all;
+use crate::pool::latches::core_latch;
+use crate::pool::threads::give_all;
 use crossbeam_utils::sync::Parker;
+use parallel_pool::latch::{CoreLatch, CountLatch, LatchSeat, LockLatch};
+use parallel_pool::sleep::Sleep;
 use std::num::NonZeroUsize;
 use std::sync::atomic::{AtomicU64, Ordering};
 use std::sync::{Arc, Wait};

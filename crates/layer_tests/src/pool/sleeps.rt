@@ -1,5 +1,5 @@
 // The state of the workers' sleep.
-use crate::sleep::{Block, Counters, Due, IdleState, SleepState, Standing};
+use parallel_pool::sleep::{Block, Counters, Due, IdleState, SleepState, Standing};
 use std::num::NonZeroUsize;
 use std::test::Fail;
 

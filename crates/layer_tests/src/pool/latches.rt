@@ -4,8 +4,8 @@ ghost use Rattle.parallel_pool.specs.Latch.{IsSeatOf};
 ghost use Rattle.parallel_pool.specs.SpinLatch.{core_of as core_of_spin};
 ghost use Rattle.parallel_pool.specs.OnceLatch.{core_of as core_of_once};
 
-use crate::latch::{CoreLatch, LatchSeat, OnceLatch, SpinLatch};
 use parallel_fault::Fault;
+use parallel_pool::latch::{CoreLatch, LatchSeat, OnceLatch, SpinLatch};
 use std::alloc::Global;
 use std::num::NonZeroUsize;
 use std::test::Fail;

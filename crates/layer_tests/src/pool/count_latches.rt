@@ -2,7 +2,7 @@
 ghost use Rattle.std.specs.Prelude.{◌≡◌, All, IfOk, IfSome, false, true};
 ghost use Rattle.parallel_pool.specs.CountLatch.{IsShareOf, shares_of, unspent};
 
-use crate::latch::{CountLatch, CountShare};
+use parallel_pool::latch::{CountLatch, CountShare};
 use std::alloc::Global;
 use std::num::NonZeroUsize;
 use std::test::Fail;

@@ -1,7 +1,7 @@
 // Queues of numbered jobs: which job comes next, and a refused push.
 ghost use Rattle.std.specs.Prelude.{◌≡◌, ◌<◌, IfOk, length, vec_len};
 
-use crate::rayon::{JobDeque, JobQueues, JobSeat, OwnedJob, Queue, ThreadPool};
+use parallel_pool::rayon::{JobDeque, JobQueues, JobSeat, OwnedJob, Queue, ThreadPool};
 use std::alloc::Global;
 use std::collections::VecDeque;
 use std::num::NonZeroUsize;

@@ -2,9 +2,9 @@
 // back, and nothing is left running.
 ghost use Rattle.std.specs.Prelude.{◌≡◌};
 
-use crate::rayon::{OwnedJob, ThreadPoolBuildError, ThreadPoolBuilder};
-use crate::tests::pools::{Bell, becomes};
+use crate::pool::pools::{Bell, becomes};
 use parallel_fault::Fault;
+use parallel_pool::rayon::{OwnedJob, ThreadPoolBuildError, ThreadPoolBuilder};
 use std::alloc::AllocError;
 use std::collections::VecDeque;
 use std::sync::Arc;

@@ -1,7 +1,7 @@
 // Pools that were built: their workers, the jobs that come to them, and their end.
 ghost use Rattle.std.specs.Prelude.{◌≡◌};
 
-use crate::rayon::{
+use parallel_pool::rayon::{
     Environment, OwnedJob, Queue, Staff, ThreadPool, ThreadPoolBuilder, WorkerThread, Yield,
 };
 use std::collections::VecDeque;

@@ -1,6 +1,6 @@
 use Rattle.std.proofs.Common.{◌≡◌, All}
 use Rattle.parallel_pool.specs.CountLatch.{IsShareOf, unspent}
-use Rattle.parallel_pool.proofs.tests.threads.give_all.Given as goal
+use Rattle.layer_tests.proofs.pool.threads.give_all.Given as goal
 
 abbrev pub invariant-loop : goal.invariant-loop
 invariant-loop l = record {

@@ -3,11 +3,11 @@ ghost use Rattle.std.specs.Prelude.{◌≡◌, All};
 ghost use Rattle.parallel_pool.specs.CountLatch.{IsShareOf, unspent};
 ghost use Rattle.parallel_pool.specs.Latch.{IsSeatOf};
 
-use crate::latch::{CoreLatch, CountLatch, CountShare, LatchSeat, LockLatch};
-use crate::sleep::Sleep;
-use crate::tests::count_latches::give_one;
-use crate::tests::latches::core_latch;
+use crate::pool::count_latches::give_one;
+use crate::pool::latches::core_latch;
 use crossbeam_utils::sync::Parker;
+use parallel_pool::latch::{CoreLatch, CountLatch, CountShare, LatchSeat, LockLatch};
+use parallel_pool::sleep::Sleep;
 use std::num::NonZeroUsize;
 use std::sync::Wait;
 use std::sync::atomic::{AtomicU64, Ordering};
