@@ -44,8 +44,9 @@ fn map_counted<R: Threads + Sync + Abort>(rt: &R, alloc: Global, threads: usize,
         gone: AtomicU64::new(0),
     };
     let mut items = Vec::new(alloc);
-    for place in 0..len {
-        let _kept = items.push(Counted::new(&counts, place));
+    for _place in 0..len {
+        let place = items.len();
+        let _refused = items.push(Counted::new(&counts, place));
     }
     let count = items.len();
     let answer = |item: Counted<'_>| Counted::new(&counts, item.place);
