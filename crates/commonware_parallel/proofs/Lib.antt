@@ -1,1 +1,6 @@
 pub mod Settled
+pub mod Finishing
+pub mod Rectangles
+pub mod Wholes
+pub mod Seen
+pub mod Seatings
