@@ -53,3 +53,9 @@ outcome_at_threads gives parts takes fact taken threads same (Err (OfFault f)) a
 -- the inner strategy, where it is named through an equation
 pub inner_of : {S : Type 0} (takes : S → Site → Call → ℕ → Type 0) (refuses : S → Site → Call → Fault → Type 0) (plans threads : S → ℕ) (starts : S → Bool) (outer inner named : S) → named ≡ inner → IsInnerOf takes refuses plans threads starts outer inner → IsInnerOf takes refuses plans threads starts outer named
 inner_of takes refuses plans threads starts outer inner named same h = subst (IsInnerOf takes refuses plans threads starts outer) (sym same) h
+
+-- what a told pick says of an outcome, beside that a refusal is want of memory
+pub unless_told : {R E : Type 0} (result : Result R (Trouble E)) (told : Type 0) (says : Result R E → Type 0) → UnlessFault result told → UnlessRefused result (λ _. Unit {0}) → (told → UnlessRefused result says) → UnlessRefused result says
+unless_told (Ok r) told says w fault f = f w
+unless_told (Err (Closure e)) told says w fault f = f w
+unless_told (Err (OfFault x)) told says w fault f = fault

@@ -21,3 +21,9 @@ abbrev pub UnlessFault : {R E : Type 0} → Result R (Trouble E) → Type 0 → 
 UnlessFault (Ok r) P = P
 UnlessFault (Err (Closure e)) P = P
 UnlessFault (Err (OfFault f)) P = Unit {0}
+
+-- allowed holds of the answer, or of the closure's error, and refused of a refusal
+abbrev pub UnlessFaulty : {R E : Type 0} → Result R (Trouble E) → (Result R E → Type 0) → (Fault → Type 0) → Type 0
+UnlessFaulty (Ok r) allowed refused = allowed (Ok r)
+UnlessFaulty (Err (Closure e)) allowed refused = allowed (Err e)
+UnlessFaulty (Err (OfFault f)) allowed refused = refused f

@@ -3,7 +3,7 @@ use Rattle.std.specs.Prelude.{◌≡◌, ◌≢◌, ℕ, ◌<◌, ◌-◌, ◌*�
 use Rattle.parallel_fault.specs.declared.fault.Fault.{Fault}
 use Rattle.parallel_policy.specs.declared.Site.{Site}
 use Rattle.commonware_parallel.specs.declared.call.Call.{Call}
-use Rattle.commonware_parallel.specs.declared.call.Kind.TheVariants.{Body, Batches, Join, Spawn}
+use Rattle.commonware_parallel.specs.declared.call.Kind.TheVariants.{Body, Batches, Tiles, Join, Spawn}
 
 -- a choice between a serial and a parallel body, over so many items
 abbrev pub body_call : ℕ → Call
@@ -24,6 +24,10 @@ multiplied_call len multiplier = record { kind = Body; len = len; work = work_of
 -- a choice among numbers of ranges: as many as are planned for, but no range shorter than the minimum, and one at least
 abbrev pub batches_call : ℕ → ℕ → ℕ → ℕ → Call
 batches_call planned len minimum multiplier = record { kind = Batches; len = len; work = work_of len multiplier; options = max 1 (min planned (len / minimum)) }
+
+-- a choice among numbers of workers, over rows of so many columns: as many as are planned for
+abbrev pub tiles_call : ℕ → ℕ → ℕ → ℕ → Call
+tiles_call planned len cost multiplier = record { kind = Tiles; len = len; work = work_of cost multiplier; options = planned }
 
 -- the fact, at a pick below 2 that may be taken
 abbrev pub AtSomePick : (ℕ → Type 0) → (ℕ → Type 0) → Type 0

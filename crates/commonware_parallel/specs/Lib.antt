@@ -5,3 +5,7 @@ pub mod Explorers
 pub mod Exploring
 pub mod Mixes
 pub mod Rayon
+pub mod Chains
+pub mod Rectangles
+pub mod Seated
+pub mod Tiles

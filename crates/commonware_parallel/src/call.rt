@@ -1,6 +1,6 @@
 ghost use Rattle.std.specs.Prelude.{◌≡◌, ◌≤◌};
 ghost use Rattle.std.specs.Int.NonZero.{non_zero_usize_get};
-ghost use Rattle.commonware_parallel.specs.Calls.{batches_call, body_call, join_call, multiplied_call, work_of};
+ghost use Rattle.commonware_parallel.specs.Calls.{batches_call, body_call, join_call, multiplied_call, tiles_call, work_of};
 
 use std::num::NonZeroUsize;
 
@@ -95,6 +95,19 @@ impl Call {
             len,
             work: total_work(len, multiplier),
             options: parallelism.get().min(len / minimum).max(1),
+        }
+    }
+
+    /// The choice among numbers of workers for a strategy planned for `parallelism`, on rows of `len`
+    /// columns. The work is `cost * multiplier`, which stops at the greatest `usize`.
+    pub fn tiles(parallelism: NonZeroUsize, len: usize, cost: usize, multiplier: usize) -> Call
+        ensures { result ≡ tiles_call (non_zero_usize_get parallelism) len cost multiplier }
+    {
+        Call {
+            kind: Kind::Tiles,
+            len,
+            work: total_work(cost, multiplier),
+            options: parallelism.get(),
         }
     }
 }

@@ -1,4 +1,4 @@
-//! Folds, maps, joins, sorts and batches that are written once and run through any strategy.
+//! Folds, maps, joins, sorts, batches and tiles that are written once and run through any strategy.
 //!
 //! A program is written over `S: Strategy` and run through `Sequential`, on the caller's thread, or
 //! through `Rayon`, on a pool. Whatever the strategy, the number of its threads and the order in
@@ -16,6 +16,7 @@ mod on;
 mod rayon_strategy;
 mod sequential;
 mod strategy;
+mod tiles;
 
 pub use batches::Batches;
 pub use call::{Call, Kind};
@@ -32,3 +33,4 @@ pub use parallel_shares::{Grid, cut};
 pub use rayon_strategy::Rayon;
 pub use sequential::Sequential;
 pub use strategy::Strategy;
+pub use tiles::Tiles;

@@ -10,9 +10,11 @@ ghost use Rattle.parallel_bridge.specs.Sources.{GivesSome};
 ghost use Rattle.parallel_bridge.specs.States.{FoldInitSegment, FoldStep, MapStep, Stateful};
 ghost use Rattle.parallel_bridge.specs.Tries.{TryBracketing, TryMapOf};
 ghost use Rattle.parallel_bridge.specs.Ways.{FoldedAs, FoldedInitAs, MappedInitAs, TryFoldedAs};
-ghost use Rattle.commonware_parallel.specs.Calls.{AtSomePick, IsInnerOf, batches_call, body_call, join_call, multiplied_call};
+ghost use Rattle.commonware_parallel.specs.Calls.{AtSomePick, IsInnerOf, batches_call, body_call, join_call, multiplied_call, tiles_call};
 ghost use Rattle.commonware_parallel.specs.Answers.{AnswersAs, OneOf};
 ghost use Rattle.commonware_parallel.specs.Batches.{IsBatch, place_of, ranges_of, strategy_of};
+ghost use Rattle.commonware_parallel.specs.Tiles.{IsSerialCost, IsTiling, tiles_place, tiles_strategy};
+ghost use Rattle.parallel_shares.specs.Grid.{Fits};
 ghost use Rattle.parallel_fault.specs.Trouble.{IfFault, IsMemoryOnErr};
 
 use crate::batches::Batches;
@@ -23,6 +25,7 @@ use crate::list::{
     try_map_through,
 };
 use crate::meter::Meter;
+use crate::tiles::{Tiles, tiles_through};
 use parallel_bridge::Source;
 use parallel_bridge::list::fold::fold_iter;
 use parallel_bridge::list::fold_init::fold_init_iter;
@@ -33,6 +36,7 @@ use parallel_bridge::list::sort::sort_parallel;
 use parallel_bridge::list::try_map::try_map_iter;
 use parallel_fault::{Fault, Trouble};
 use parallel_policy::Place;
+use parallel_shares::Grid;
 use std::alloc::Global;
 use std::cmp::Ordering;
 use std::fmt::Debug;
@@ -41,7 +45,7 @@ use std::sync::Wait;
 use std::thread;
 use std::thread::Threads;
 
-/// Runs a program's folds, maps, joins, sorts and batches, which are written once for all strategies.
+/// Runs a program's folds, maps, joins, sorts, batches and tiles, which are written once for all strategies.
 ///
 /// A strategy chooses and does nothing else. It is asked about a `Call`, which has a number of
 /// options, and answers a pick, a number below that. What the call then does is one of the `final`
@@ -60,6 +64,7 @@ use std::thread::Threads;
 /// closure has to accept every value of its argument types.
 pub trait Strategy: Clone + Send + Sync + Debug + 'static {
     ghost use Rattle.commonware_parallel.specs.declared.batches.Batches.{Batches};
+    ghost use Rattle.commonware_parallel.specs.declared.tiles.Tiles.{Tiles};
     ghost use Rattle.parallel_policy.specs.declared.Site.{Site};
     ghost use Rattle.parallel_fault.specs.declared.fault.Fault.{Fault};
     ghost use Rattle.parallel_fault.specs.declared.fault.Fault.TheVariants.{Memory};
@@ -827,5 +832,41 @@ pub trait Strategy: Clone + Send + Sync + Debug + 'static {
             Err(Trouble::Closure(fault)) => Err(fault),
             Err(Trouble::Fault(fault)) => Err(fault),
         }
+    }
+
+    /// An answer of `run` over tiles of one of `grids`, on rows of `len` columns: of the first one of
+    /// least cost for as many workers as the pick says and one more (`IsTiling`).
+    ///
+    /// There are at most as many workers as the strategy is planned for. The work, by which a policy
+    /// tells calls apart, is the least cost for one worker times `multiplier`, which stops at the
+    /// greatest `usize`. The tiles go through the strategy's `inner` and have the call's place. There has
+    /// to be a grid, and the cells of each have to be countable (`Grid::fits`). The closure has to accept
+    /// all tiles of the grids, and no other.
+    ///
+    /// # Errors
+    ///
+    /// `Fault::Memory` alone.
+    final fn run_tiles<Rt: Wait, P: Place, R, F: FnOnce(Tiles<'_, Self, P>) -> R + Drop>(
+        &self,
+        rt: &Rt,
+        alloc: Global,
+        site: P,
+        len: usize,
+        grids: &[Grid],
+        multiplier: usize,
+        run: F,
+    ) -> Result<R, Fault>
+        requires fits { Fits grids.now len }
+        requires accepts { (tiles : Tiles Self P) (workers : ℕ) → IsTiling grids.now len workers tiles
+            → F.pre run tiles }
+        ensures answers { IfOk result (λ answer. (cost : ℕ) × IsSerialCost grids.now len cost
+            × (pick : ℕ) × (pick < plans self.now)
+            × takes self.now (P.site_of site) (tiles_call (plans self.now) len cost multiplier) pick
+            × (tiles : Tiles Self P) × IsTiling grids.now len (pick + 1) tiles
+            × IsInnerOf takes refuses plans threads starts self.now (tiles_strategy tiles)
+            × (tiles_place tiles ≡ site) × F.post run tiles answer) }
+        ensures fault { IsMemoryOnErr result }
+    {
+        tiles_through(self, rt, alloc, site, len, grids, multiplier, run)
     }
 }

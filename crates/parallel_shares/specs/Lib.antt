@@ -12,3 +12,4 @@ pub mod Gathered
 pub mod Steals
 pub mod Stretches
 pub mod Fillings
+pub mod Fronts

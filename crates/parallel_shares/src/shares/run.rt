@@ -1,6 +1,6 @@
 //! A worker's run over its share: it claims until nothing is left that pays, and fills and finishes
 //! the stretches of its claims.
-ghost use Rattle.std.specs.Prelude.{◌≡◌, ◌≢◌, ◌++◌, ◌<◌, ◌-◌, ◌*◌, ◌+◌, ℕ, List, None, Some, IfOk, IfErr};
+ghost use Rattle.std.specs.Prelude.{◌≡◌, ◌≢◌, ◌++◌, ◌<◌, ◌-◌, ◌*◌, ◌+◌, ℕ, List, All, None, Some, IfOk, IfErr};
 ghost use Rattle.std.specs.declared.ops.Range.{Range};
 ghost use Rattle.parallel_shares.specs.declared.shares.stretch.Stretch.{Stretch};
 ghost use Rattle.parallel_shares.specs.Stretches.{Cutting, IsPiece, piece_cells, range_cells};
@@ -17,12 +17,13 @@ use std::sync::Wait;
 impl Shares {
     ghost use Rattle.parallel_shares.specs.Seats.{plan_of, index_of, claims_of, transit_of, IsSeatOf};
     ghost use Rattle.parallel_shares.specs.Steals.{FoundNothing};
+    ghost use Rattle.parallel_shares.specs.Fronts.{IsFront};
 
     /// Claims until nothing is left that pays, on rows of `len` cells, and answers a result for each
     /// stretch of what it claimed, in order.
     ///
-    /// The claims that the seat gained are cut into stretches as `Cutting` says. Each stretch is
-    /// filled by calls of `fill` with its row and neighbouring columns, and then `finish` answers its
+    /// The claims that the seat gained are fronts of words (`IsFront`), and are cut into stretches as
+    /// `Cutting` says. Each stretch is filled by calls of `fill` with its row and neighbouring columns, and then `finish` answers its
     /// result; all calls are lent one state, which begins as the one handed in (`Finished`). The seat
     /// ends as after a `claim` that answers `None`. The one refusal is `Fault::Memory`, where the
     /// list of results could not grow: the seat is still one of these shares, its claims have grown by
@@ -46,8 +47,8 @@ impl Shares {
         ensures transit { transit_of seat.new ≡ None }
         ensures done { IfOk result (λ _. FoundNothing (plan_of self.now) seat.new) }
         ensures chain { IfOk result (λ results. (gained : List (Range ℕ)) × (cut : List Stretch)
-            × (claims_of seat.new ≡ claims_of seat.old ++ gained) × Cutting gained len cut
-            × Finished (Fills (L.post fill.now)) (Gives (N.post finish.now)) state.old cut results.items state.new) }
+            × (claims_of seat.new ≡ claims_of seat.old ++ gained) × All (IsFront (plan_of self.now)) gained
+            × Cutting gained len cut × Finished (Fills (L.post fill.now)) (Gives (N.post finish.now)) state.old cut results.items state.new) }
         ensures fault { IfErr result (λ refusal. refusal ≡ Fault.Memory) }
     {
         let mut results = Vec::new(alloc);

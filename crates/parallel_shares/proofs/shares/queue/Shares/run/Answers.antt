@@ -1,6 +1,8 @@
 -- Each claim is filled behind those before it, and at the end the open stretch gets its result.
 use Rattle.std.proofs.Common.{◌++◌, ◌∷◌, [], refl, sym, ap, ◌∙◌, append-nil, append_assoc}
-use Rattle.parallel_shares.specs.Seats.{claims_of}
+use Rattle.std.proofs.lemmas.List.Elements.{All-nil, All-cons, All-append}
+use Rattle.parallel_shares.specs.Seats.{plan_of, claims_of}
+use Rattle.parallel_shares.specs.Fronts.{IsFront}
 use Rattle.parallel_shares.specs.Stretches.{all_cells}
 use Rattle.parallel_shares.proofs.Stretching.{cells_push}
 use Rattle.parallel_shares.proofs.Filling.{way_begins, way_ends}
@@ -11,7 +13,7 @@ loop-init g c = record {
   goes_on = (tt, tt);
   seat = c.requires.belongs;
   index = refl;
-  chain = ([], sym (append-nil (claims_of c.args.seat.now)), way_begins _ _ c.args.len c.args.state.now c.new-results.result.items c.new-results.ensures.items);
+  chain = ([], sym (append-nil (claims_of c.args.seat.now)), All-nil (IsFront (plan_of c.args.self.now)), way_begins _ _ c.args.len c.args.state.now c.new-results.result.items c.new-results.ensures.items);
 }
 
 pub loop-preserved : goal.loop-preserved
@@ -20,6 +22,7 @@ loop-preserved g c =
     let gained = i.chain.0 in
     let claim = c.in-Some-claim.claim in
     let answer = c.in-Some-claim.ensures.answer in
+    let front = IsFront (plan_of c.args.self.now) in
     record {
       goes_on = (tt, tt);
       seat = c.claim.ensures.seat;
@@ -27,12 +30,13 @@ loop-preserved g c =
       chain = (
         gained ++ claim ∷ [],
         answer.0 ∙ ap (λ xs. xs ++ claim ∷ []) i.chain.1 ∙ append_assoc (claims_of c.args.seat.now) gained (claim ∷ []),
-        rw (cells_push gained claim) (c.in_ok-opened.ensures.chain c.args.state.now (all_cells gained) i.chain.2),
+        All-append front gained (claim ∷ []) i.chain.2 (All-cons front claim [] answer.2 (All-nil front)),
+        rw (cells_push gained claim) (c.in_ok-opened.ensures.chain c.args.state.now (all_cells gained) i.chain.3),
       );
     }
 
 pub returns-in_default-clause-chain : goal.returns-in_default-clause-chain
 returns-in_default-clause-chain g c =
     let chain = c.loop.invariant.chain in
-    let ends = way_ends _ _ c.args.len c.args.state.now (all_cells chain.0) c.loop.opened c.loop.results.items c.loop.state chain.2 c.finish_open.new.state c.finish_open.new.results.items c.in_ok-finish_open.ensures.closes in
-    (chain.0, ends.0, c.in_default.ensures.answer.0 ∙ chain.1, ends.1, ends.2)
+    let ends = way_ends _ _ c.args.len c.args.state.now (all_cells chain.0) c.loop.opened c.loop.results.items c.loop.state chain.3 c.finish_open.new.state c.finish_open.new.results.items c.in_ok-finish_open.ensures.closes in
+    (chain.0, ends.0, c.in_default.ensures.answer.0 ∙ chain.1, chain.2, ends.1, ends.2)

@@ -1,7 +1,8 @@
 -- What the seat gained so far was cut, filled and finished, but for the open stretch.
-use Rattle.std.proofs.Common.{◌≡◌, ℕ, List, ◌++◌}
+use Rattle.std.proofs.Common.{◌≡◌, ℕ, List, ◌++◌, All}
 use Rattle.std.specs.declared.ops.Range.{Range}
-use Rattle.parallel_shares.specs.Seats.{IsSeatOf, index_of, claims_of}
+use Rattle.parallel_shares.specs.Seats.{IsSeatOf, plan_of, index_of, claims_of}
+use Rattle.parallel_shares.specs.Fronts.{IsFront}
 use Rattle.parallel_shares.specs.Stretches.{all_cells}
 use Rattle.parallel_shares.specs.Fillings.{Fills, Gives, Underway}
 use Rattle.parallel_shares.proofs.shares.queue.Shares.run.Given as goal
@@ -11,5 +12,5 @@ invariant-loop g l = record {
   goes_on : (goal.iterator-loop g).can_next l.iterator' × (goal.iterator-loop g).is_finite l.iterator';
   seat : IsSeatOf l.self l.seat;
   index : index_of l.seat ≡ index_of l.fn.seat;
-  chain : (gained : List (Range ℕ)) × (claims_of l.seat ≡ claims_of l.fn.seat ++ gained) × Underway (Fills (goal.L-post g l.fill)) (Gives (goal.N-post g l.finish)) l.len l.fn.state (all_cells gained) l.opened l.results.items l.state;
+  chain : (gained : List (Range ℕ)) × (claims_of l.seat ≡ claims_of l.fn.seat ++ gained) × All (IsFront (plan_of l.self)) gained × Underway (Fills (goal.L-post g l.fill)) (Gives (goal.N-post g l.finish)) l.len l.fn.state (all_cells gained) l.opened l.results.items l.state;
 }

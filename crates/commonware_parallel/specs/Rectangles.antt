@@ -1,0 +1,28 @@
+-- stretches that cut a rectangle of rows and columns
+use Rattle.std.specs.Prelude.{◌≡◌, ℕ, zero, suc, ◌<◌, List, [], ◌∷◌, ◌++◌, All, cond, eqb}
+use Rattle.parallel_shares.specs.declared.shares.stretch.Stretch.{Stretch}
+use Rattle.parallel_shares.specs.Holders.{inside}
+use Rattle.parallel_shares.specs.Stretches.{IsStretch}
+use Rattle.parallel_shares.specs.Totals.{total}
+
+-- 1 where a stretch has the cell of a row and a column, else 0
+abbrev pub has_cell : ℕ → ℕ → Stretch → ℕ
+has_cell row column s = cond (eqb s.row row) (inside column s.columns.start s.columns.end) 0
+
+-- the stretches are of the rows below a number, on rows of so many columns, and each cell of these rows is in just one
+pub record CutsRectangle (rows len : ℕ) (cut : List Stretch) : Type 0 where
+  pub within : All (λ s. (s.row < rows) × IsStretch len s) cut
+  pub once : (row column : ℕ) → row < rows → column < len → total (has_cell row column) cut ≡ 1
+
+-- the stretch has all columns of its row
+abbrev pub IsWholeRow : ℕ → Stretch → Type 0
+IsWholeRow len s = (s.columns.start ≡ 0) × (s.columns.end ≡ len)
+
+-- a whole row
+abbrev pub whole_row : ℕ → ℕ → Stretch
+whole_row len row = record { row = row; columns = record { start = 0; end = len } }
+
+-- the rows below a number, whole and in order
+abbrev pub whole_rows : ℕ → ℕ → List Stretch
+whole_rows len zero = []
+whole_rows len (suc row) = whole_rows len row ++ whole_row len row ∷ []

@@ -1,0 +1,180 @@
+//! Tiles: a grid's cells, filled by stretches of rows.
+ghost use Rattle.std.specs.Prelude.{◌≡◌, ◌≢◌, ◌*◌, ◌+◌, ◌-◌, ◌≤◌, ◌<◌, ◌^◌, ◌⊎◌, ℕ, List, All, [], IfOk, IsFalse, IsTrue, not, true, MatchResult};
+ghost use Rattle.std.specs.Int.NonZero.{non_zero_usize_get};
+ghost use Rattle.parallel_fault.specs.Trouble.{IsMemoryOnErr};
+ghost use Rattle.parallel_shares.specs.declared.shares.stretch.Stretch.{Stretch};
+ghost use Rattle.parallel_shares.specs.Fillings.{Fills, Gives};
+ghost use Rattle.parallel_shares.specs.Grid.{Fits};
+ghost use Rattle.commonware_parallel.specs.Chains.{Chains, OneChain};
+ghost use Rattle.commonware_parallel.specs.Rectangles.{CutsRectangle, IsWholeRow};
+
+mod dispatched;
+mod rows;
+mod seats;
+
+use crate::strategy::Strategy;
+pub(crate) use dispatched::tiles_through;
+use parallel_fault::Fault;
+use parallel_policy::Place;
+use parallel_shares::{Grid, Shares};
+use rows::fill_rows;
+use seats::fill_shared;
+use std::alloc::Global;
+use std::num::NonZeroUsize;
+use std::ops::Range;
+use std::sync::Wait;
+use std::thread::Threads;
+
+/// A grid of rows of equal length, planned for a number of workers, with the strategy and the call
+/// site that fill it.
+///
+/// Planned for one worker its rows are filled one after another by the caller's thread, each whole.
+/// Planned for more, workers claim rows or parts of rows, and one that has none left takes some of
+/// another's.
+#[derive(Debug, Drop)]
+pub struct Tiles<'scope, S, P> {
+    strategy: &'scope S,
+    site: P,
+    grid: usize,
+    rows: usize,
+    len: usize,
+    tile_cost: NonZeroUsize,
+    workers: NonZeroUsize,
+    whole: bool,
+    ghost cells_fit: { rows * len < 2 ^ 64 },
+    ghost cut_pays: { IsFalse whole → 2 * non_zero_usize_get tile_cost ≤ len },
+}
+
+impl<'scope, S: Strategy, P: Place> Tiles<'scope, S, P> {
+    ghost use Rattle.commonware_parallel.specs.Tiles.{IsTiling, columns_of, grid_of, keeps_rows, rows_of, tiles_place, tiles_strategy, workers_of};
+
+    /// The place of the grid that was chosen in the list that was handed in.
+    pub fn grid(&self) -> usize
+        ensures { result ≡ grid_of self.now }
+    {
+        self.grid
+    }
+
+    /// The number of workers that the tiles are planned for: 1 for a serial plan.
+    pub fn workers(&self) -> NonZeroUsize
+        ensures { non_zero_usize_get result ≡ workers_of self.now }
+    {
+        self.workers
+    }
+
+    /// Whether rows may be cut: whether parts of one row may go to several workers.
+    pub fn is_cut(&self) -> bool
+        ensures { result ≡ not (keeps_rows self.now) }
+    {
+        !self.whole
+    }
+
+    // Tiles of the grid of least cost for one worker more than the pick.
+    fn picked(
+        strategy: &'scope S,
+        site: P,
+        grids: &[Grid],
+        len: usize,
+        pick: usize,
+    ) -> Tiles<'scope, S, P>
+        requires fits { Fits grids.now len }
+        requires pick { pick < 2 ^ 64 - 1 }
+        ensures strategy { tiles_strategy result ≡ strategy.now }
+        ensures place { tiles_place result ≡ site }
+        ensures tiling { IsTiling grids.now len (pick + 1) result }
+    {
+        let workers = NonZeroUsize::MIN.saturating_add(pick);
+        let (grid, _, whole) = Grid::choose(grids, len, workers);
+        let Grid { rows, tile_cost } = grids[grid];
+        Tiles {
+            strategy,
+            site,
+            grid,
+            rows,
+            len,
+            tile_cost,
+            workers,
+            whole,
+        }
+    }
+
+    // Whether there is no cell.
+    fn is_empty(&self) -> bool
+        ensures empty { IsTrue result → (rows_of self.now ≡ 0) ⊎ (columns_of self.now ≡ 0) }
+        ensures some_rows { IsFalse result → rows_of self.now ≢ 0 }
+        ensures some_columns { IsFalse result → columns_of self.now ≢ 0 }
+    {
+        self.rows == 0 || self.len == 0
+    }
+
+    // Whether the tiles are planned for the caller's thread alone.
+    fn is_serial(&self) -> bool
+        ensures { IsFalse result → workers_of self.now ≢ 1 }
+    {
+        self.workers.get() == 1
+    }
+
+    /// A result for each stretch of the grid: `fill` is lent a state with a row and neighbouring
+    /// columns of it, until the stretch is filled, and then `finish` answers for the row.
+    ///
+    /// The stretches cut the grid (`CutsRectangle`): each cell is in just one. Where rows aren't cut
+    /// each is a whole row. Stretches and results fall into chains (`Chains`), each from a state that
+    /// `init` makes and that goes from stretch to stretch; their order is open. A serial plan has one
+    /// chain, over the rows in order. A grid of no cells has no results, and `init` isn't called.
+    ///
+    /// # Errors
+    ///
+    /// `Fault::Memory` alone. Any number of the closures may have been called then.
+    pub fn fill_collect_vec<
+        Rt: Threads + Wait + Sync,
+        T: Send + Drop,
+        R: Send + Drop,
+        N: Fn() -> T + Send + Sync + Drop,
+        L: Fn(&mut T, usize, Range<usize>) + Send + Sync + Drop,
+        F: Fn(&mut T, usize) -> R + Send + Sync + Drop,
+    >(self, rt: &Rt, alloc: Global, init: N, fill: L, finish: F) -> Result<Vec<R>, Fault>
+        requires init_accepts { N.IsAlwaysCallable init }
+        requires fill_accepts { L.IsAlwaysCallable fill }
+        requires finish_accepts { F.IsAlwaysCallable finish }
+        ensures fills { IfOk result (λ results. (cut : List Stretch)
+            × CutsRectangle (rows_of self.entry) (columns_of self.entry) cut
+            × (keeps_rows self.entry ≡ true → All (IsWholeRow (columns_of self.entry)) cut)
+            × Chains (N.post init) (Fills (L.post fill)) (Gives (F.post finish)) cut results.items) }
+        ensures serial { workers_of self.entry ≡ 1 → rows_of self.entry ≢ 0 → columns_of self.entry ≢ 0
+            → IfOk result (λ results. OneChain (N.post init) (Fills (L.post fill))
+            (Gives (F.post finish)) (rows_of self.entry) (columns_of self.entry) results.items) }
+        ensures empty { (rows_of self.entry ≡ 0) ⊎ (columns_of self.entry ≡ 0)
+            → MatchResult result (λ results. results.items ≡ []) (λ _. ⊥) }
+        ensures fault { IsMemoryOnErr result }
+    {
+        if self.is_empty() {
+            return Ok(Vec::new(alloc));
+        }
+        if self.is_serial() {
+            let mut state = init();
+            let whole = fill_rows(alloc, self.rows, self.len, &mut state, &fill, &finish)?;
+            return Ok(whole);
+        }
+        let (shares, seats) = Shares::new(
+            alloc,
+            self.rows,
+            self.len,
+            self.tile_cost,
+            self.workers,
+            self.whole,
+        )?;
+        let results = fill_shared(
+            self.strategy,
+            rt,
+            alloc,
+            self.site,
+            shares,
+            seats,
+            self.len,
+            init,
+            &fill,
+            &finish,
+        )?;
+        Ok(results)
+    }
+}

@@ -1,0 +1,168 @@
+//! A shared plan: a seat for each worker, which claims cells until nothing is left that pays.
+ghost use Rattle.std.specs.Prelude.{◌≡◌, ◌≢◌, ◌++◌, List, All, IfOk, Ok, map, true};
+ghost use Rattle.std.specs.declared.alloc.Global.{Global};
+ghost use Rattle.std.specs.declared.vec.Vec.{Vec};
+ghost use Rattle.parallel_fault.specs.Trouble.{IsMemoryOnErr};
+ghost use Rattle.parallel_shares.specs.declared.shares.stretch.Stretch.{Stretch};
+ghost use Rattle.parallel_shares.specs.Fillings.{Fills, Gives};
+ghost use Rattle.parallel_shares.specs.Seats.{AreFresh, AreSeatsOf, plan_of};
+ghost use Rattle.parallel_shares.specs.Sizes.{Work, sizes_of};
+ghost use Rattle.parallel_bridge.specs.States.{Stateful};
+ghost use Rattle.commonware_parallel.specs.Chains.{Chains};
+ghost use Rattle.commonware_parallel.specs.Rectangles.{CutsRectangle, IsWholeRow};
+ghost use Rattle.commonware_parallel.specs.Seated.{AllResults, IsReady, WorksFrom, seat_of};
+
+use crate::strategy::Strategy;
+use parallel_fault::Fault;
+use parallel_policy::Place;
+use parallel_shares::{Seat, Shares};
+use std::alloc::Global;
+use std::ops::Range;
+use std::sync::Wait;
+use std::thread::Threads;
+
+/// A seat that came back from its run, with the results of its stretches.
+#[derive(Drop)]
+pub struct Worked<R> {
+    seat: Seat,
+    results: Result<Vec<R>, Fault>,
+}
+
+/// The results of all cells of a grid of `rows` rows of `len` columns, which are shared out among
+/// workers. Each worker is an item of a list call of the strategy, so that the workers of one segment
+/// have one state.
+pub(super) fn fill_shared<
+    S: Strategy,
+    Rt: Threads + Wait + Sync,
+    P: Place,
+    T: Send + Drop,
+    R: Send + Drop,
+    N: Fn() -> T + Send + Sync + Drop,
+    L: Fn(&mut T, usize, Range<usize>) + Send + Sync,
+    F: Fn(&mut T, usize) -> R + Send + Sync,
+>(
+    strategy: &S,
+    rt: &Rt,
+    alloc: Global,
+    site: P,
+    shares: Shares,
+    seats: Vec<Seat>,
+    len: usize,
+    init: N,
+    fill: &L,
+    finish: &F,
+) -> Result<Vec<R>, Fault>
+    requires some_columns { len ≢ 0 }
+    requires seats { AreSeatsOf shares seats.items }
+    requires fresh { AreFresh seats.items }
+    requires init_accepts { N.IsAlwaysCallable init }
+    requires fill_accepts { L.IsAlwaysCallable fill.now }
+    requires finish_accepts { F.IsAlwaysCallable finish.now }
+    ensures fills { IfOk result (λ results. (work : Work) → work.len ≡ len
+        → plan_of shares ≡ sizes_of work → (cut : List Stretch) × CutsRectangle work.rows len cut
+        × (work.whole ≡ true → All (IsWholeRow len) cut)
+        × Chains (N.post init) (Fills (L.post fill.now)) (Gives (F.post finish.now)) cut results.items) }
+    ensures fault { IsMemoryOnErr result }
+{
+    let worked = work_all(
+        strategy, rt, alloc, site, &shares, seats, len, init, fill, finish,
+    )?;
+    let (seats, results) = gather(alloc, worked)?;
+    let _words = shares.close(seats);
+    Ok(results)
+}
+
+// What each seat came back with.
+fn work_all<
+    S: Strategy,
+    Rt: Threads + Wait + Sync,
+    P: Place,
+    T: Send + Drop,
+    R: Send + Drop,
+    N: Fn() -> T + Send + Sync + Drop,
+    L: Fn(&mut T, usize, Range<usize>) + Send + Sync,
+    F: Fn(&mut T, usize) -> R + Send + Sync,
+>(
+    strategy: &S,
+    rt: &Rt,
+    alloc: Global,
+    site: P,
+    shares: &Shares,
+    seats: Vec<Seat>,
+    len: usize,
+    init: N,
+    fill: &L,
+    finish: &F,
+) -> Result<Vec<Worked<R>>, Fault>
+    requires some_columns { len ≢ 0 }
+    requires seats { All (IsReady shares.now) seats.items }
+    requires init_accepts { N.IsAlwaysCallable init }
+    requires fill_accepts { L.IsAlwaysCallable fill.now }
+    requires finish_accepts { F.IsAlwaysCallable finish.now }
+    ensures stateful { IfOk result (λ worked. Stateful (N.post init)
+        (WorksFrom shares.now len (Fills (L.post fill.now)) (Gives (F.post finish.now)))
+        seats.items worked.items) }
+    ensures fault { IsMemoryOnErr result }
+{
+    let run = move |state: &mut T, seat: Seat| -> Worked<R>
+        requires { IsReady shares.now seat × (len ≢ 0) × L.IsAlwaysCallable fill.now
+            × F.IsAlwaysCallable finish.now }
+        ensures { WorksFrom shares.entry.now len (Fills (L.post fill.entry.now))
+            (Gives (F.post finish.entry.now)) state.old seat result state.new }
+    { work(rt, alloc, shares, seat, len, state, fill, finish) };
+    let worked = strategy.map_init_collect_vec(rt, alloc, site, seats, init, run)?;
+    Ok(worked)
+}
+
+// The run of one seat, with the state of its segment.
+fn work<Rt: Wait, T, R: Drop, L: Fn(&mut T, usize, Range<usize>), F: Fn(&mut T, usize) -> R>(
+    rt: &Rt,
+    alloc: Global,
+    shares: &Shares,
+    seat: Seat,
+    len: usize,
+    state: &mut T,
+    fill: &L,
+    finish: &F,
+) -> Worked<R>
+    requires ready { IsReady shares.now seat }
+    requires some_columns { len ≢ 0 }
+    requires fill_accepts { L.IsAlwaysCallable fill.now }
+    requires finish_accepts { F.IsAlwaysCallable finish.now }
+    ensures { WorksFrom shares.now len (Fills (L.post fill.now)) (Gives (F.post finish.now))
+        state.old seat result state.new }
+{
+    let mut seat = seat;
+    let results = shares.run(rt, alloc, &mut seat, len, state, fill, finish);
+    Worked { seat, results }
+}
+
+// The seats, and all of their results, where no run was refused memory.
+fn gather<R: Drop>(alloc: Global, worked: Vec<Worked<R>>) -> Result<(Vec<Seat>, Vec<R>), Fault>
+    ensures seats { IfOk result (λ r. r.0.items ≡ map seat_of worked.items) }
+    ensures results { IfOk result (λ r. AllResults worked.items r.1.items) }
+    ensures fault { IsMemoryOnErr result }
+{
+    let mut seats = Vec::with_capacity(alloc, worked.len())?;
+    let mut all = Vec::new(alloc);
+    for part in worked {
+        let seat = add_results(&mut all, part)?;
+        seats.push(seat)?;
+    }
+    Ok((seats, all))
+}
+
+// The seat, when its results stand behind those that are there. Its run was refused memory alone.
+fn add_results<R: Drop>(all: &mut Vec<R>, worked: Worked<R>) -> Result<Seat, Fault>
+    ensures seat { IfOk result (λ seat. seat ≡ seat_of worked) }
+    ensures results { IfOk result (λ _. (results : Vec R Global) × (worked.results ≡ Ok results)
+        × (all.new.items ≡ all.old.items ++ results.items)) }
+    ensures fault { IsMemoryOnErr result }
+{
+    let Worked { seat, results } = worked;
+    let Ok(mut gained) = results else {
+        return Err(Fault::Memory);
+    };
+    all.append(&mut gained)?;
+    Ok(seat)
+}
