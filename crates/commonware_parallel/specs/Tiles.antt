@@ -1,7 +1,7 @@
 -- what tiles are planned for
 use Rattle.std.specs.Prelude.{◌≡◌, ℕ, ◌+◌, Bool, List, HoldsAt}
 use Rattle.std.specs.Int.NonZero.{non_zero_usize_get}
-use Rattle.parallel_shares.specs.declared.plan.Grid.{Grid}
+use Rattle.parallel_shares.specs.declared.grid.Grid.{Grid}
 use Rattle.parallel_shares.specs.Grid.{IsChosenGrid, critical_cost, stays_whole}
 use Rattle.commonware_parallel.specs.declared.tiles.Tiles.{Tiles}
 
