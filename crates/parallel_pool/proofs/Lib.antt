@@ -3,7 +3,7 @@ mod Beginnings
 mod LatchSteps
 mod LatchLearns
 mod CountSteps
-mod CountLearns
+pub mod CountLearns
 mod Standings
 mod JobSteps
 mod JobSeats

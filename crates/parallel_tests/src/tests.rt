@@ -14,4 +14,5 @@ mod runs;
 mod states;
 mod strategies;
 mod threads;
+mod tiles;
 mod tries;

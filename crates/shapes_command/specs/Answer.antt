@@ -1,21 +1,18 @@
 -- The text that answers a request.
-use Rattle.std.specs.Prelude.{◌≡◌, ◌<◌, min, Option, None, MatchOption, ◌+◌, ℕ, List, [], ◌∷◌, ◌++◌, map, length, codes, if◌then◌else◌, String}
-use Rattle.std.specs.Borrow.{Bor}
+use Rattle.std.specs.Prelude.{◌≡◌, ◌+◌, ℕ, List, [], ◌∷◌, ◌++◌, map, length, codes, if◌then◌else◌, String}
 use Rattle.std.specs.Fmt.{decimal}
 use Rattle.std.specs.List.{join_with_byte, range_with_len, sum_by}
 use Rattle.std.specs.NonZero.{non_zero_usize_get}
 use Rattle.std.specs.declared.alloc.Global.{Global}
-use Rattle.std.specs.declared.num.NonZeroUsize.{NonZeroUsize}
 use Rattle.std.specs.declared.ops.Range.{Range}
 use Rattle.parallel_shares.specs.declared.grid.Grid.{Grid}
 use Rattle.parallel_shares.specs.Cut.{BalancedCut}
 use Rattle.parallel_shares.specs.Grid.{critical_cost, stays_whole}
-use Rattle.parallel_pool.specs.PlannedThreads.{Writes, by_texts, number_or}
 use Rattle.parallel_bridge.specs.Shapes.{cutdepth, Shape, leaf_lengths}
 use Rattle.shapes_command.specs.Line.{as_line}
 use Rattle.shapes_command.specs.Request.{number_of, Says}
 use Rattle.shapes_command.specs.declared.request.Request.{Request}
-use Rattle.shapes_command.specs.declared.request.Request.TheVariants.{Drain, Batches, Grid as OfGrid, Segments, Threads, Fold}
+use Rattle.shapes_command.specs.declared.request.Request.TheVariants.{Drain, Batches, Grid as OfGrid, Segments, Fold}
 
 -- the texts, with spaces between them
 abbrev pub spaced : List (List ℕ) → List ℕ
@@ -29,21 +26,14 @@ range_text range = decimal range.start ++ (codes ".." ++ decimal range.end)
 abbrev pub grid_text : Grid → ℕ → ℕ → List ℕ
 grid_text grid len workers = spaced (decimal (critical_cost grid len workers) ∷ (if stays_whole grid len workers then codes "whole" else codes "cut") ∷ [])
 
--- a pool's number of threads, at most 65535: what is set, or else by the two texts and the machine's number
-abbrev pub IsPlanned : ℕ → Option (Bor (List ℕ)) → Option (Bor (List ℕ)) → Option NonZeroUsize → ℕ → Type 0
-IsPlanned set num_threads num_cpus machine planned = (0 < set → planned ≡ min set 65535) × (set ≡ 0 → (threads : Option ℕ) × (cpus : Option ℕ)
-    × MatchOption num_threads (threads ≡ None) (λ text. Writes text.now threads) × MatchOption num_cpus (cpus ≡ None) (λ text. Writes text.now cpus)
-    × (planned ≡ min (by_texts threads cpus (number_or 1 non_zero_usize_get machine)) 65535))
-
 -- the rows below a number; balanced ranges, as many as are asked for; the cost of a grid; the lengths of the segments
--- of any list of that length; the number of threads that a pool is planned for; the sum of the items from the identity
+-- of any list of that length; the sum of the items from the identity
 abbrev pub Answers : Request → List ℕ → Type 0
 Answers (Drain rows workers) text = text ≡ spaced (map decimal (range_with_len 0 rows))
 Answers (Batches len count) text = (ranges : List (Range ℕ)) × BalancedCut len ranges × (length ranges ≡ non_zero_usize_get count) × (text ≡ spaced (map range_text ranges))
 Answers (OfGrid grid len workers) text = text ≡ grid_text grid len (non_zero_usize_get workers)
 Answers (Segments threads len) text =
     (items : List ℕ) → length items ≡ len → text ≡ spaced (map decimal (leaf_lengths (Shape (cutdepth (non_zero_usize_get threads)) items)))
-Answers (Threads set num_threads num_cpus machine) text = (planned : ℕ) × IsPlanned set num_threads num_cpus machine planned × (text ≡ decimal planned)
 Answers (Fold identity items) text = text ≡ decimal (identity + sum_by number_of items.now)
 
 -- the line answers the request that the words say

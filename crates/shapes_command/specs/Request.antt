@@ -1,13 +1,11 @@
 -- Which words are a command line, and which request they say.
-use Rattle.std.specs.Prelude.{◌≡◌, ◌≢◌, Option, Some, None, ℕ, ◌-◌, ◌^◌, ◌≤◌, ◌⊎◌, List, [], All, map, drop, length, slice_index_or, codes, string_bytes, String}
-use Rattle.std.specs.Borrow.{Bor}
-use Rattle.std.specs.declared.num.NonZeroUsize.{NonZeroUsize}
+use Rattle.std.specs.Prelude.{◌≡◌, ℕ, ◌-◌, ◌^◌, ◌≤◌, ◌⊎◌, List, [], All, map, drop, length, slice_index_or, codes, string_bytes, String}
 use Rattle.std.specs.NonZero.{non_zero_usize_get}
 use Rattle.std.specs.Str.Parse.{digits_value}
 use Rattle.std.specs.declared.alloc.Global.{Global}
 use Rattle.shapes_command.specs.Number.{IsNumberUpTo, IsCountUpTo}
 use Rattle.shapes_command.specs.declared.request.Request.{Request}
-use Rattle.shapes_command.specs.declared.request.Request.TheVariants.{Drain, Batches, Grid, Segments, Threads, Fold}
+use Rattle.shapes_command.specs.declared.request.Request.TheVariants.{Drain, Batches, Grid, Segments, Fold}
 
 -- the text of the word at a place, which is empty past the last word
 abbrev pub word : List (String Global) → ℕ → List ℕ
@@ -31,7 +29,6 @@ SaysDrain words (Drain rows workers) = IsDrainLine words × (rows ≡ number_at 
 SaysDrain words (Batches _ _) = ⊥
 SaysDrain words (Grid _ _ _) = ⊥
 SaysDrain words (Segments _ _) = ⊥
-SaysDrain words (Threads _ _ _ _) = ⊥
 SaysDrain words (Fold _ _) = ⊥
 
 -- `batches LEN COUNT`, each in its range
@@ -44,7 +41,6 @@ SaysBatches words (Drain _ _) = ⊥
 SaysBatches words (Batches len count) = IsBatchesLine words × (len ≡ number_at words 1) × (non_zero_usize_get count ≡ number_at words 2)
 SaysBatches words (Grid _ _ _) = ⊥
 SaysBatches words (Segments _ _) = ⊥
-SaysBatches words (Threads _ _ _ _) = ⊥
 SaysBatches words (Fold _ _) = ⊥
 
 -- `grid ROWS COST LEN WORKERS`, each in its range
@@ -59,7 +55,6 @@ SaysGrid words (Batches _ _) = ⊥
 SaysGrid words (Grid grid len workers) = IsGridLine words × (grid.rows ≡ number_at words 1) × (non_zero_usize_get grid.tile_cost ≡ number_at words 2)
     × (len ≡ number_at words 3) × (non_zero_usize_get workers ≡ number_at words 4)
 SaysGrid words (Segments _ _) = ⊥
-SaysGrid words (Threads _ _ _ _) = ⊥
 SaysGrid words (Fold _ _) = ⊥
 
 -- `segments N LEN`, each in its range
@@ -72,36 +67,7 @@ SaysSegments words (Drain _ _) = ⊥
 SaysSegments words (Batches _ _) = ⊥
 SaysSegments words (Grid _ _ _) = ⊥
 SaysSegments words (Segments threads len) = IsSegmentsLine words × (non_zero_usize_get threads ≡ number_at words 1) × (len ≡ number_at words 2)
-SaysSegments words (Threads _ _ _ _) = ⊥
 SaysSegments words (Fold _ _) = ⊥
-
--- the word stands for a text, or as `-` for none
-abbrev pub SaysText : List ℕ → Option (Bor (List ℕ)) → Type 0
-SaysText word None = word ≡ codes "-"
-SaysText word (Some text) = (word ≢ codes "-") × (text.now ≡ word)
-
--- `-`, or a number of 64 bits above 0
-abbrev pub IsMachine : List ℕ → Type 0
-IsMachine word = (word ≡ codes "-") ⊎ IsCountUpTo (2 ^ 64 - 1) word
-
--- the number that such a word stands for, or none
-abbrev pub SaysMachine : List ℕ → Option NonZeroUsize → Type 0
-SaysMachine word None = word ≡ codes "-"
-SaysMachine word (Some number) = IsCountUpTo (2 ^ 64 - 1) word × (non_zero_usize_get number ≡ digits_value 10 word)
-
--- `threads SET NUM CPUS MACHINE`: a number, two texts, and `-` or a number above 0
-abbrev pub IsThreadsLine : List (String Global) → Type 0
-IsThreadsLine words = HasForm words (codes "threads") 5 × IsNumberUpTo (2 ^ 64 - 1) (word words 1) × IsMachine (word words 4)
-
--- the request of such a line
-abbrev pub SaysThreads : List (String Global) → Request → Type 0
-SaysThreads words (Drain _ _) = ⊥
-SaysThreads words (Batches _ _) = ⊥
-SaysThreads words (Grid _ _ _) = ⊥
-SaysThreads words (Segments _ _) = ⊥
-SaysThreads words (Threads set num_threads num_cpus machine) = IsThreadsLine words × (set ≡ number_at words 1)
-    × SaysText (word words 2) num_threads × SaysText (word words 3) num_cpus × SaysMachine (word words 4) machine
-SaysThreads words (Fold _ _) = ⊥
 
 -- the number that a word writes
 abbrev pub number_of : String Global → ℕ
@@ -126,7 +92,6 @@ SaysFold words (Drain _ _) = ⊥
 SaysFold words (Batches _ _) = ⊥
 SaysFold words (Grid _ _ _) = ⊥
 SaysFold words (Segments _ _) = ⊥
-SaysFold words (Threads _ _ _ _) = ⊥
 SaysFold words (Fold identity items) = IsFoldLine words × (identity ≡ number_at words 2) × (items.now ≡ drop 3 words)
 
 -- the request of no words: that of `drain 4 2`
@@ -135,16 +100,15 @@ IsUnasked (Drain rows workers) = (rows ≡ 4) × (non_zero_usize_get workers ≡
 IsUnasked (Batches _ _) = ⊥
 IsUnasked (Grid _ _ _) = ⊥
 IsUnasked (Segments _ _) = ⊥
-IsUnasked (Threads _ _ _ _) = ⊥
 IsUnasked (Fold _ _) = ⊥
 
 -- no words, or the words of a command with its arguments
 abbrev pub IsCommandLine : List (String Global) → Type 0
-IsCommandLine words = (length words ≡ 0) ⊎ (IsDrainLine words ⊎ (IsBatchesLine words ⊎ (IsGridLine words ⊎ (IsSegmentsLine words ⊎ (IsThreadsLine words ⊎ IsFoldLine words)))))
+IsCommandLine words = (length words ≡ 0) ⊎ (IsDrainLine words ⊎ (IsBatchesLine words ⊎ (IsGridLine words ⊎ (IsSegmentsLine words ⊎ IsFoldLine words))))
 
 -- the words say the request
 abbrev pub Says : List (String Global) → Request → Type 0
-Says words request = ((length words ≡ 0) × IsUnasked request) ⊎ (SaysDrain words request ⊎ (SaysBatches words request ⊎ (SaysGrid words request ⊎ (SaysSegments words request ⊎ (SaysThreads words request ⊎ SaysFold words request)))))
+Says words request = ((length words ≡ 0) × IsUnasked request) ⊎ (SaysDrain words request ⊎ (SaysBatches words request ⊎ (SaysGrid words request ⊎ (SaysSegments words request ⊎ SaysFold words request))))
 
 -- the request's parts are in their ranges, as those of any request that words say
 abbrev pub IsInRange : Request → Type 0
@@ -152,5 +116,4 @@ IsInRange (Drain _ _) = Unit {0}
 IsInRange (Batches _ _) = Unit {0}
 IsInRange (Grid _ _ _) = Unit {0}
 IsInRange (Segments _ _) = Unit {0}
-IsInRange (Threads _ _ _ _) = Unit {0}
 IsInRange (Fold identity items) = (identity ≤ 1000000) × AreItems items.now

@@ -11,7 +11,6 @@ use crate::request::Request;
 use crate::sum::serial_sum;
 use parallel_bridge::segments::segments;
 use parallel_fault::Fault;
-use parallel_pool::rayon::planned_threads;
 use parallel_shares::{Grid, cut};
 use std::alloc::Global;
 use std::num::NonZeroUsize;
@@ -42,15 +41,6 @@ pub fn line<R: Threads + Wait + Sync>(
         Request::Grid { grid, len, workers } => push_grid(&mut line, grid, len, workers)?,
         Request::Segments { threads, len } => {
             push_numbers(&mut line, &segments(alloc, threads, len)?)?;
-        }
-        Request::Threads {
-            set,
-            num_threads,
-            num_cpus,
-            machine,
-        } => {
-            let planned = planned_threads(set, num_threads, num_cpus, machine);
-            push_numbers(&mut line, &[planned])?;
         }
         Request::Fold { identity, items } => {
             push_numbers(&mut line, &[serial_sum(rt, alloc, identity, items)?])?;

@@ -1,6 +1,6 @@
 // What a command line asks for.
 ghost use Rattle.std.specs.Prelude.{◌≡◌, ◌↔◌, IsTrue, MatchOption};
-ghost use Rattle.shapes_command.specs.Request.{IsCommandLine, Says, IsUnasked, IsDrainLine, SaysDrain, IsBatchesLine, SaysBatches, IsGridLine, SaysGrid, IsSegmentsLine, SaysSegments, IsThreadsLine, SaysThreads, SaysText, IsMachine, SaysMachine, AreItems, IsFoldLine, SaysFold};
+ghost use Rattle.shapes_command.specs.Request.{IsCommandLine, Says, IsUnasked, IsDrainLine, SaysDrain, IsBatchesLine, SaysBatches, IsGridLine, SaysGrid, IsSegmentsLine, SaysSegments, AreItems, IsFoldLine, SaysFold};
 
 use crate::number::{count, number};
 use parallel_shares::Grid;
@@ -57,17 +57,6 @@ pub enum Request<'a> {
         /// The number of items in the list.
         len: usize,
     },
-    /// `threads SET NUM CPUS MACHINE`: the number of threads that a pool is planned for.
-    Threads {
-        /// The number that is set, 0 for none.
-        set: usize,
-        /// The text of the first variable of the environment, or None.
-        num_threads: Option<&'a str>,
-        /// The text of the second, or None.
-        num_cpus: Option<&'a str>,
-        /// How many threads the machine runs at a time, or None where it isn't known.
-        machine: Option<NonZeroUsize>,
-    },
     /// `fold serial IDENTITY ITEM..`: the sum of the items from the identity.
     Fold {
         /// The number that the sum starts from, at most 1000000.
@@ -90,7 +79,6 @@ pub fn parse(words: &[String]) -> Option<Request<'_>>
         .or(batches(words))
         .or(grid(words))
         .or(segments(words))
-        .or(threads(words))
         .or(fold(words))
 }
 
@@ -158,40 +146,6 @@ fn segments(words: &[String]) -> Option<Request<'_>>
         }),
         _ => None,
     }
-}
-
-// The request of a line `threads SET NUM CPUS MACHINE`.
-fn threads(words: &[String]) -> Option<Request<'_>>
-    ensures { MatchOption result (¬ (IsThreadsLine words.now)) (SaysThreads words.now) }
-{
-    match words {
-        [name, set, num_threads, num_cpus, machine] if name.as_str() == "threads" => {
-            Some(Request::Threads {
-                set: number(set, usize::MAX)?,
-                num_threads: text(num_threads),
-                num_cpus: text(num_cpus),
-                machine: machine_number(machine)?,
-            })
-        }
-        _ => None,
-    }
-}
-
-// The text of a variable, where `-` stands for none.
-fn text(word: &str) -> Option<&str>
-    ensures { SaysText word.now result }
-{
-    if word == "-" { None } else { Some(word) }
-}
-
-// The number of the machine, where `-` stands for none.
-fn machine_number(word: &str) -> Option<Option<NonZeroUsize>>
-    ensures { MatchOption result (¬ (IsMachine word.now)) (SaysMachine word.now) }
-{
-    if word == "-" {
-        return Some(None);
-    }
-    Some(Some(count(word, usize::MAX)?))
 }
 
 // The request of a line `fold serial IDENTITY ITEM..`.

@@ -1,0 +1,276 @@
+// Tiles: which cells are filled, for how many workers, and what is answered for each row.
+use crate::tests::strategies::{SITE, number, pool};
+use crate::tests::threads::sees;
+use commonware_parallel::shares::machine::{Event, Outcome, Plan, replay};
+use commonware_parallel::{Fault, Grid, Sequential, Strategy, Trouble};
+use std::alloc::Global;
+use std::num::NonZeroUsize;
+use std::ops::Range;
+use std::process::Abort;
+use std::sync::Wait;
+use std::sync::atomic::{AtomicBool, AtomicU64, Ordering};
+use std::test::Fail;
+use std::thread::Threads;
+
+// What tiles answered: the grid, the workers, whether rows may be cut, and for each result its row
+// and the number of cells that were filled for it.
+type Told = (usize, usize, bool, Vec<(usize, usize)>);
+
+fn grid(rt: &impl Abort, rows: usize, tile_cost: usize) -> Grid {
+    Grid {
+        rows,
+        tile_cost: number(rt, tile_cost),
+    }
+}
+
+// Fills the grids, and counts in `marks` how often each cell of a row of `len` was filled.
+fn fill<Rt: Threads + Wait + Abort + Sync, S: Strategy>(
+    rt: &Rt,
+    alloc: Global,
+    strategy: &S,
+    len: usize,
+    grids: &[Grid],
+    marks: &[AtomicU64],
+) -> Result<Told, Fault> {
+    assert!(rt; Grid::fits(grids, len));
+    strategy.run_tiles(rt, alloc, SITE, len, grids, 1, |tiles| {
+        let plan = (tiles.grid(), tiles.workers().get(), tiles.is_cut());
+        let results = tiles.fill_collect_vec(
+            rt,
+            alloc,
+            || 0_usize,
+            |count: &mut usize, row: usize, columns: Range<usize>| {
+                *count = count.saturating_add(columns.end.saturating_sub(columns.start));
+                for column in columns {
+                    let place = row.saturating_mul(len).saturating_add(column);
+                    if let Some(mark) = marks.get(place) {
+                        mark.fetch_add(1, Ordering::SeqCst);
+                    }
+                }
+            },
+            |count: &mut usize, row: usize| {
+                let cells = *count;
+                *count = 0;
+                (row, cells)
+            },
+        )?;
+        Ok((plan.0, plan.1, plan.2, results))
+    })?
+}
+
+// The cells that one row's results say were filled.
+fn cells_of_row(results: &[(usize, usize)], row: usize) -> usize {
+    let mut cells = 0_usize;
+    for result in results {
+        if result.0 == row {
+            cells = cells.saturating_add(result.1);
+        }
+    }
+    cells
+}
+
+fn marks(alloc: Global, cells: usize) -> Result<Vec<AtomicU64>, Fault> {
+    let mut marks = Vec::new(alloc);
+    for _ in 0..cells {
+        marks.push(AtomicU64::new(0))?;
+    }
+    Ok(marks)
+}
+
+// Each cell of the grid was filled once, and each row's results have all of its cells.
+fn covers<Rt: Threads + Wait + Abort + Sync, S: Strategy>(
+    rt: &Rt,
+    alloc: Global,
+    strategy: &S,
+    rows: usize,
+    len: usize,
+    tile_cost: usize,
+) -> Result<Told, Fault> {
+    let counted = marks(alloc, rows.saturating_mul(len))?;
+    let grids = [grid(rt, rows, tile_cost)];
+    let told = fill(rt, alloc, strategy, len, &grids, counted.as_slice())?;
+    for mark in &counted {
+        assert_eq!(rt;
+            mark.load(Ordering::SeqCst),
+            1,
+            "{rows} rows of {len} cells"
+        );
+    }
+    for row in 0..rows {
+        assert_eq!(rt;
+            cells_of_row(told.3.as_slice(), row),
+            len,
+            "row {row} of {rows}"
+        );
+    }
+    Ok(told)
+}
+
+#[test]
+fn a_serial_plan_fills_each_row_whole(rt: HostRuntime) -> Result<(), Fail> {
+    let alloc = rt.alloc();
+    let grids = [grid(&rt, 2, 1), grid(&rt, 1, 9)];
+    let told = fill(&rt, alloc, &Sequential, 5, &grids, &[])?;
+    assert_eq!(rt; (told.0, told.1, told.2), (0, 1, false));
+    assert_eq!(rt; told.3.as_slice(), [(0, 5), (1, 5)].as_slice());
+    Ok(())
+}
+
+#[test]
+fn two_workers_take_whole_rows(rt: HostRuntime) -> Result<(), Fail> {
+    let alloc = rt.alloc();
+    let two = pool(&rt, alloc, 2, 2);
+    let told = covers(&rt, alloc, &two, 4, 64, 1)?;
+    assert_eq!(rt; (told.0, told.1, told.2), (0, 2, false));
+    assert_eq!(rt; told.3.len(), 4);
+    Ok(())
+}
+
+#[test]
+fn eight_workers_cut_four_rows(rt: HostRuntime) -> Result<(), Fail> {
+    let alloc = rt.alloc();
+    for threads in [1, 2, 4] {
+        let eight = pool(&rt, alloc, threads, 8);
+        let told = covers(&rt, alloc, &eight, 4, 64, 1)?;
+        assert_eq!(rt; (told.0, told.1, told.2), (0, 8, true));
+    }
+    Ok(())
+}
+
+#[test]
+fn a_grid_without_cells_has_no_results(rt: HostRuntime) -> Result<(), Fail> {
+    let alloc = rt.alloc();
+    let four = pool(&rt, alloc, 2, 4);
+    let made = AtomicU64::new(0);
+    for (rows, len) in [(0, 7), (7, 0), (0, 0), (0, usize::MAX)] {
+        let grids = [grid(&rt, rows, 3)];
+        assert!(rt; Grid::fits(&grids, len));
+        let serial = Sequential.run_tiles(&rt, alloc, SITE, len, &grids, usize::MAX, |tiles| {
+            let init = || {
+                made.fetch_add(1, Ordering::SeqCst);
+            };
+            let fill = |_: &mut (), _: usize, _: Range<usize>| {};
+            tiles.fill_collect_vec(&rt, alloc, init, fill, |_: &mut (), row: usize| row)
+        })??;
+        assert_eq!(rt; serial.len(), 0);
+        let shared = four.run_tiles(&rt, alloc, SITE, len, &grids, usize::MAX, |tiles| {
+            let init = || {
+                made.fetch_add(1, Ordering::SeqCst);
+            };
+            let fill = |_: &mut (), _: usize, _: Range<usize>| {};
+            tiles.fill_collect_vec(&rt, alloc, init, fill, |_: &mut (), row: usize| row)
+        })??;
+        assert_eq!(rt; shared.len(), 0);
+    }
+    assert_eq!(rt; made.load(Ordering::SeqCst), 0);
+    Ok(())
+}
+
+#[test]
+fn each_cell_is_filled_once(rt: HostRuntime) -> Result<(), Fail> {
+    let alloc = rt.alloc();
+    for (rows, len, tile_cost) in [
+        (1, 1, 1),
+        (1, 64, 1),
+        (3, 5, 2),
+        (7, 3, 8),
+        (2, 100, 1),
+        (5, 41, 4),
+        (64, 7, 1),
+    ] {
+        covers(&rt, alloc, &Sequential, rows, len, tile_cost)?;
+        for planned in [1, 2, 3, 8, 16] {
+            let strategy = pool(&rt, alloc, 3, planned);
+            covers(&rt, alloc, &strategy, rows, len, tile_cost)?;
+        }
+    }
+    Ok(())
+}
+
+#[test]
+fn two_rows_see_each_other_on_two_threads(rt: HostRuntime) -> Result<(), Fail> {
+    let alloc = rt.alloc();
+    let two = pool(&rt, alloc, 2, 2);
+    let first = AtomicBool::new(false);
+    let second = AtomicBool::new(false);
+    let grids = [grid(&rt, 2, 9)];
+    assert!(rt; Grid::fits(&grids, 8));
+    let seen = two.run_tiles(&rt, alloc, SITE, 8, &grids, 1, |tiles| {
+        tiles.fill_collect_vec(
+            &rt,
+            alloc,
+            || false,
+            |seen: &mut bool, row: usize, _: Range<usize>| {
+                *seen = if row == 0 {
+                    sees(&first, &second)
+                } else {
+                    sees(&second, &first)
+                };
+            },
+            |seen: &mut bool, _: usize| *seen,
+        )
+    })??;
+    assert_eq!(rt; seen.as_slice(), [true, true].as_slice());
+    Ok(())
+}
+
+#[test]
+fn stale_steals_claims_and_refills_change_nothing(rt: HostRuntime) -> Result<(), Fail> {
+    let plan = Plan::new(1, 12, number(&rt, 1), number(&rt, 3), false);
+    let load = |seat, share| Event::Load { seat, share };
+    let claim = |seat| Event::Claim { seat };
+    let steal = |seat| Event::Steal { seat };
+    let refill = |seat| Event::Refill { seat };
+    let events = [
+        load(0, 0),
+        claim(0),
+        load(0, 0),
+        claim(0),
+        load(0, 0),
+        claim(0),
+        load(0, 0),
+        claim(0),
+        load(1, 1),
+        claim(1),
+        load(1, 1),
+        claim(1),
+        load(1, 1),
+        claim(1),
+        load(1, 1),
+        claim(1),
+        load(0, 2),
+        load(1, 2),
+        load(2, 2),
+        steal(0),
+        steal(1),
+        claim(2),
+        load(1, 2),
+        steal(1),
+        load(1, 0),
+        steal(1),
+        refill(1),
+        refill(0),
+        refill(0),
+    ];
+    let (_state, outcomes) = replay(rt.alloc(), &plan, &events)?;
+    let expected = [
+        Outcome::Loaded(524_300),
+        Outcome::Loaded(524_300),
+        Outcome::Loaded(524_300),
+        Outcome::Taken(10..12),
+        Outcome::Lost,
+        Outcome::Lost,
+        Outcome::Loaded(524_298),
+        Outcome::Nothing,
+        Outcome::Loaded(262_148),
+        Outcome::Nothing,
+        Outcome::Refused,
+        Outcome::Refilled(655_372),
+        Outcome::Refused,
+    ];
+    assert_eq!(rt; outcomes.len(), 29);
+    for (at, outcome) in expected.iter().enumerate() {
+        assert_eq!(rt; outcomes.get(at.saturating_add(16)), Some(outcome));
+    }
+    Ok(())
+}
