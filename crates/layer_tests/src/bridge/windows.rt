@@ -57,7 +57,10 @@ fn map_counted<R: Threads + Sync + Abort>(rt: &R, alloc: Global, threads: usize,
             assert_eq!(rt; answers.get(place).map(|answer| answer.place), Some(place));
         }
         assert_eq!(rt;
-            counts.gone.load(Ordering::SeqCst) + count as u64,
+            counts
+                .gone
+                .load(Ordering::SeqCst)
+                .wrapping_add(count as u64),
             counts.made.load(Ordering::SeqCst)
         );
     }
