@@ -129,7 +129,8 @@ fn texts_before_and_behind_the_first_failing_one_are_let_go(rt: HostRuntime) -> 
     };
     match try_map_parallel(&rt, alloc, number(&rt, 4), parts, &answer) {
         Err(Trouble::Closure(text)) => assert_eq!(rt; text.as_str(), "text 57"),
-        _ => assert!(rt; false),
+        Err(Trouble::Fault(_fault)) => assert!(rt; false),
+        Ok(_values) => assert!(rt; false),
     }
     Ok(())
 }

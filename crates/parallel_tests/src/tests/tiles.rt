@@ -1,14 +1,12 @@
 // Tiles: which cells are filled, for how many workers, and what is answered for each row.
 use crate::tests::strategies::{SITE, number, pool};
-use crate::tests::threads::sees;
 use commonware_parallel::shares::machine::{Event, Outcome, Plan, replay};
-use commonware_parallel::{Fault, Grid, Sequential, Strategy, Trouble};
+use commonware_parallel::{Fault, Grid, Sequential, Strategy};
 use std::alloc::Global;
-use std::num::NonZeroUsize;
 use std::ops::Range;
 use std::process::Abort;
 use std::sync::Wait;
-use std::sync::atomic::{AtomicBool, AtomicU64, Ordering};
+use std::sync::atomic::{AtomicU64, Ordering};
 use std::test::Fail;
 use std::thread::Threads;
 
@@ -184,33 +182,6 @@ fn each_cell_is_filled_once(rt: HostRuntime) -> Result<(), Fail> {
             covers(&rt, alloc, &strategy, rows, len, tile_cost)?;
         }
     }
-    Ok(())
-}
-
-#[test]
-fn two_rows_see_each_other_on_two_threads(rt: HostRuntime) -> Result<(), Fail> {
-    let alloc = rt.alloc();
-    let two = pool(&rt, alloc, 2, 2);
-    let first = AtomicBool::new(false);
-    let second = AtomicBool::new(false);
-    let grids = [grid(&rt, 2, 9)];
-    assert!(rt; Grid::fits(&grids, 8));
-    let seen = two.run_tiles(&rt, alloc, SITE, 8, &grids, 1, |tiles| {
-        tiles.fill_collect_vec(
-            &rt,
-            alloc,
-            || false,
-            |seen: &mut bool, row: usize, _: Range<usize>| {
-                *seen = if row == 0 {
-                    sees(&first, &second)
-                } else {
-                    sees(&second, &first)
-                };
-            },
-            |seen: &mut bool, _: usize| *seen,
-        )
-    })??;
-    assert_eq!(rt; seen.as_slice(), [true, true].as_slice());
     Ok(())
 }
 
