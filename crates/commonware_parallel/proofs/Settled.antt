@@ -6,7 +6,8 @@ use Rattle.parallel_fault.specs.declared.fault.Trouble.TheVariants.{Fault as OfF
 use Rattle.parallel_bridge.specs.Outcomes.{UnlessRefused}
 use Rattle.parallel_bridge.specs.Shapes.{cutdepth}
 use Rattle.parallel_bridge.specs.Sources.{GivesSome}
-use Rattle.commonware_parallel.specs.Answers.{UnlessFault}
+use Rattle.parallel_fault.specs.declared.fault.Fault.TheVariants.{Memory}
+use Rattle.commonware_parallel.specs.Answers.{UnlessFault, UnlessFaulty}
 use Rattle.commonware_parallel.specs.Calls.{AtSomePick, IsInnerOf}
 use Rattle.parallel_fault.specs.declared.fault.Fault.{Fault}
 use Rattle.parallel_policy.specs.declared.Site.{Site}
@@ -59,3 +60,9 @@ pub unless_told : {R E : Type 0} (result : Result R (Trouble E)) (told : Type 0)
 unless_told (Ok r) told says w fault f = f w
 unless_told (Err (Closure e)) told says w fault f = f w
 unless_told (Err (OfFault x)) told says w fault f = fault
+
+-- an outcome whose refusals are want of memory, where more may be refused
+pub unless_faulty : {R E : Type 0} (result : Result R (Trouble E)) (P Q : Result R E → Type 0) (refused : Fault → Type 0) → ((out : Result R E) → P out → Q out) → ((fault : Fault) → fault ≡ Memory → refused fault) → UnlessRefused result P → UnlessFaulty result Q refused
+unless_faulty (Ok r) P Q refused f w h = f (Ok r) h
+unless_faulty (Err (Closure e)) P Q refused f w h = f (Err e) h
+unless_faulty (Err (OfFault x)) P Q refused f w h = w x h

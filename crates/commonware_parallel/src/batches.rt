@@ -1,15 +1,29 @@
-ghost use Rattle.std.specs.Prelude.{◌≡◌, ◌↔◌, ◌+◌, ◌/◌, ◌<◌, ◌≤◌, [], ◌∷◌, length, All, IfOk, IsTrue, max};
+ghost use Rattle.std.specs.Prelude.{◌≡◌, ◌↔◌, ◌+◌, ◌/◌, ◌<◌, ◌≤◌, ◌⊎◌, [], ◌∷◌, Vec, length, All, IfErr, IfOk, IsTrue, Ok, Err, max};
+ghost use Rattle.std.specs.Fn.{FnOnceReturnsAt, FnOnceTakesAt};
+ghost use Rattle.std.specs.List.{Contains};
+ghost use Rattle.parallel_bridge.specs.Lists.{MapOf};
+ghost use Rattle.parallel_bridge.specs.Outcomes.{listed};
+ghost use Rattle.parallel_bridge.specs.Tries.{TryMapOf};
+ghost use Rattle.parallel_fault.specs.declared.fault.Fault.TheVariants.{Memory};
+ghost use Rattle.commonware_parallel.specs.Answers.{UnlessFaulty};
 ghost use Rattle.std.specs.Int.NonZero.{non_zero_usize_get};
 ghost use Rattle.parallel_fault.specs.Trouble.{IsMemoryOnErr};
 ghost use Rattle.parallel_shares.specs.Cut.{BalancedCut, range_length};
 
+mod dispatched;
+mod prepared;
+
 use crate::strategy::Strategy;
-use parallel_fault::Fault;
+pub(crate) use dispatched::{batches_through, try_batches_through};
+use parallel_fault::{Fault, Trouble};
 use parallel_policy::Place;
 use parallel_shares::cut;
+use prepared::{map_prepared, try_map_prepared};
 use std::alloc::Global;
 use std::num::NonZeroUsize;
 use std::ops::Range;
+use std::sync::Wait;
+use std::thread::Threads;
 
 /// The ranges of indices that a batch is run over, with the strategy and the call site that run it.
 #[derive(Debug, Drop)]
@@ -93,6 +107,67 @@ impl<'scope, S: Strategy, P: Place> Batches<'scope, S, P> {
         ensures { IsTrue result ↔ (length (ranges_of self.now) ≡ 1) }
     {
         self.ranges.len() == 1
+    }
+
+    /// The answers of `map_op` for the items that `prepare` makes of the ranges, in the items' order
+    /// (`MapOf`). A whole batch is mapped on the caller's thread. Any other goes through the batch's
+    /// strategy, with the batch's place.
+    ///
+    /// # Errors
+    ///
+    /// The refusal that `prepare` answers, and `map_op` isn't called then; or `Fault::Memory`.
+    pub fn map_collect_vec<
+        Rt: Threads + Wait + Sync,
+        T: Send + Drop,
+        R: Send + Drop,
+        G: FnOnce(&[Range<usize>]) -> Result<Vec<T>, Fault>,
+        F: Fn(T) -> R + Send + Sync + Drop,
+    >(self, rt: &Rt, alloc: Global, prepare: G, map_op: F) -> Result<Vec<R>, Fault>
+        requires prepares { FnOnceTakesAt G.FnOnce prepare (ranges_of self) }
+        requires accepts { (items : Vec T Global)
+            → FnOnceReturnsAt G.FnOnce prepare (ranges_of self) (Ok items)
+            → (x : T) → Contains items.items x → F.pre map_op x }
+        ensures maps { IfOk result (λ answers. (items : Vec T Global)
+            × FnOnceReturnsAt G.FnOnce prepare (ranges_of self.entry) (Ok items)
+            × MapOf (F.post map_op) items.items answers.items) }
+        ensures fault { IfErr result (λ fault. (fault ≡ Memory)
+            ⊎ FnOnceReturnsAt G.FnOnce prepare (ranges_of self.entry) (Err fault)) }
+    {
+        let is_whole = self.is_whole();
+        let items = prepare(self.ranges.as_slice())?;
+        let answers = map_prepared(self.strategy, rt, alloc, self.site, is_whole, items, map_op)?;
+        Ok(answers)
+    }
+
+    /// The same with a closure that may fail: the answers, or the error of the first item in the list
+    /// that fails (`TryMapOf`), whichever thread was first.
+    ///
+    /// # Errors
+    ///
+    /// `Trouble::Closure` with that error. `Trouble::Fault` with the refusal that `prepare` answers, and
+    /// `map_op` isn't called then; or with `Fault::Memory`.
+    pub fn try_map_collect_vec<
+        Rt: Threads + Wait + Sync,
+        T: Send + Drop,
+        R: Send + Drop,
+        E: Send + Drop,
+        G: FnOnce(&[Range<usize>]) -> Result<Vec<T>, Fault>,
+        F: Fn(T) -> Result<R, E> + Send + Sync + Drop,
+    >(self, rt: &Rt, alloc: Global, prepare: G, map_op: F) -> Result<Vec<R>, Trouble<E>>
+        requires prepares { FnOnceTakesAt G.FnOnce prepare (ranges_of self) }
+        requires accepts { (items : Vec T Global)
+            → FnOnceReturnsAt G.FnOnce prepare (ranges_of self) (Ok items)
+            → (x : T) → Contains items.items x → F.pre map_op x }
+        ensures { UnlessFaulty result
+            (λ out. (items : Vec T Global)
+            × FnOnceReturnsAt G.FnOnce prepare (ranges_of self.entry) (Ok items)
+            × TryMapOf (F.post map_op) items.items (listed out))
+            (λ fault. (fault ≡ Memory)
+            ⊎ FnOnceReturnsAt G.FnOnce prepare (ranges_of self.entry) (Err fault)) }
+    {
+        let is_whole = self.is_whole();
+        let items = prepare(self.ranges.as_slice())?;
+        try_map_prepared(self.strategy, rt, alloc, self.site, is_whole, items, map_op)
     }
 
     // The batch of a pick: one range more, and of two or more none shorter than the minimum.

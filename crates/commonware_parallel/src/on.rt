@@ -28,6 +28,7 @@ use std::thread::Threads;
 /// A function makes one at its beginning, `let on = On { rt, alloc, strategy, site };`, and then writes
 /// `on.map(items, f)`. Each method is the strategy's call of the name in its comment, with that call's
 /// clauses and errors.
+#[derive(Drop)]
 pub struct On<'s, Rt, S, P> {
     /// The runtime.
     pub rt: &'s Rt,

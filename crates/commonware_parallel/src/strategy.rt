@@ -10,14 +10,14 @@ ghost use Rattle.parallel_bridge.specs.Sources.{GivesSome};
 ghost use Rattle.parallel_bridge.specs.States.{FoldInitSegment, FoldStep, MapStep, Stateful};
 ghost use Rattle.parallel_bridge.specs.Tries.{TryBracketing, TryMapOf};
 ghost use Rattle.parallel_bridge.specs.Ways.{FoldedAs, FoldedInitAs, MappedInitAs, TryFoldedAs};
-ghost use Rattle.commonware_parallel.specs.Calls.{AtSomePick, IsInnerOf, batches_call, body_call, join_call, multiplied_call, tiles_call};
+ghost use Rattle.commonware_parallel.specs.Calls.{AtSomePick, IsInnerOf, body_call, join_call, multiplied_call, tiles_call};
 ghost use Rattle.commonware_parallel.specs.Answers.{AnswersAs, OneOf};
-ghost use Rattle.commonware_parallel.specs.Batches.{IsBatch, place_of, ranges_of, strategy_of};
+ghost use Rattle.commonware_parallel.specs.Batches.{IsBatch, OnSomeBatch, ranges_of};
 ghost use Rattle.commonware_parallel.specs.Tiles.{IsSerialCost, IsTiling, tiles_place, tiles_strategy};
 ghost use Rattle.parallel_shares.specs.Grid.{Fits};
 ghost use Rattle.parallel_fault.specs.Trouble.{IfFault, IsMemoryOnErr};
 
-use crate::batches::Batches;
+use crate::batches::{Batches, batches_through, try_batches_through};
 use crate::call::{Call, Kind};
 use crate::list::{
     body_over, dispatch_call, fold_init_through, fold_through, map_init_through, map_through,
@@ -802,36 +802,42 @@ pub trait Strategy: Clone + Send + Sync + Debug + 'static {
     ) -> Result<R, Fault>
         requires { (batches : Batches Self P) (count : ℕ)
             → IsBatch len count (non_zero_usize_get minimum) (ranges_of batches) → F.pre run batches }
-        ensures answers { IfOk result (λ answer. (pick : ℕ)
-            × (pick < (batches_call (plans self.now) len (non_zero_usize_get minimum) multiplier).options)
-            × takes self.now (P.site_of site)
-            (batches_call (plans self.now) len (non_zero_usize_get minimum) multiplier) pick
-            × (batches : Batches Self P)
-            × IsBatch len (pick + 1) (non_zero_usize_get minimum) (ranges_of batches)
-            × IsInnerOf takes refuses plans threads starts self.now (strategy_of batches)
-            × (place_of batches ≡ site) × F.post run batches answer) }
+        ensures answers { IfOk result (λ answer. OnSomeBatch takes refuses plans threads starts self.now
+            (P.site_of site) site len (non_zero_usize_get minimum) multiplier
+            (λ batches. F.post run batches answer)) }
         ensures fault { IsMemoryOnErr result }
     {
-        let inner = self.inner()?;
-        let call = Call::batches(self.planning(), len, minimum, multiplier);
-        let body = move |pick: usize| -> Result<R, Fault>
-            requires { ((batches : Batches Self P) (count : ℕ)
-                → IsBatch len count (non_zero_usize_get minimum) (ranges_of batches)
-                → F.pre run batches) × (pick < max 1 (len / non_zero_usize_get minimum)) }
-            ensures answers { IfOk result (λ answer. (batches : Batches Self P)
-                × IsBatch len (pick + 1) (non_zero_usize_get minimum) (ranges_of batches)
-                × (strategy_of batches ≡ inner) × (place_of batches ≡ site)
-                × F.post run batches answer) }
-            ensures fault { IsMemoryOnErr result }
-        {
-            let batches = Batches::picked(alloc, &inner, site, len, pick, minimum)?;
-            Ok(run(batches))
-        };
-        match self.dispatch(rt, alloc, site, call, body) {
-            Ok(answer) => Ok(answer),
-            Err(Trouble::Closure(fault)) => Err(fault),
-            Err(Trouble::Fault(fault)) => Err(fault),
-        }
+        batches_through(self, rt, alloc, site, len, minimum, multiplier, run)
+    }
+
+    /// As `run_batches`, with a closure that may fail by an error of its own.
+    ///
+    /// # Errors
+    ///
+    /// `Trouble::Closure` with the closure's error. `Trouble::Fault` with `Fault::Memory` alone.
+    final fn try_run_batches<
+        Rt: Wait,
+        P: Place,
+        R,
+        E,
+        F: FnOnce(Batches<'_, Self, P>) -> Result<R, E> + Drop,
+    >(
+        &self,
+        rt: &Rt,
+        alloc: Global,
+        site: P,
+        len: usize,
+        minimum: NonZeroUsize,
+        multiplier: usize,
+        run: F,
+    ) -> Result<R, Trouble<E>>
+        requires { (batches : Batches Self P) (count : ℕ)
+            → IsBatch len count (non_zero_usize_get minimum) (ranges_of batches) → F.pre run batches }
+        ensures { UnlessRefused result (λ out. OnSomeBatch takes refuses plans threads starts self.now
+            (P.site_of site) site len (non_zero_usize_get minimum) multiplier
+            (λ batches. F.post run batches out)) }
+    {
+        try_batches_through(self, rt, alloc, site, len, minimum, multiplier, run)
     }
 
     /// An answer of `run` over tiles of one of `grids`, on rows of `len` columns: of the first one of

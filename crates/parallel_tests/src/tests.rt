@@ -7,6 +7,7 @@ mod layers;
 mod machine;
 mod maps;
 mod memory;
+mod one_place;
 mod plans;
 mod policies;
 mod printed;

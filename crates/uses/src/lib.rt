@@ -6,6 +6,7 @@ pub mod batches;
 pub mod folds;
 pub mod long_lists;
 pub mod maps;
+pub mod one_place;
 pub mod own_lists;
 pub mod runs;
 pub mod squares;

@@ -1,12 +1,14 @@
 // Batches: in which ranges their indices go.
 use crate::beyond::ranges_at_pool;
 use crate::tests::strategies::{SITE, number, pool};
-use commonware_parallel::{Batches, Fault, Sequential, Strategy};
+use commonware_parallel::{Batches, Fault, Sequential, Strategy, Trouble};
 use std::alloc::Global;
 use std::num::NonZeroUsize;
+use std::ops::Range;
 use std::sync::Wait;
 use std::sync::atomic::{AtomicU64, Ordering};
 use std::test::Fail;
+use std::thread::Threads;
 use uses::batches::{batch_ranges, count_by_ranges};
 
 #[test]
@@ -129,5 +131,124 @@ fn more_ranges_than_memory_are_refused(rt: HostRuntime) -> Result<(), Fail> {
     let endless = pool(&rt, alloc, 1, usize::MAX);
     let refused = batch_ranges(&rt, alloc, &endless, SITE, usize::MAX, NonZeroUsize::MIN);
     assert!(rt; matches!(refused, Err(Fault::Memory)));
+    Ok(())
+}
+
+// The first index of each range.
+fn starts_of(alloc: Global, ranges: &[Range<usize>]) -> Result<Vec<usize>, Fault> {
+    let mut starts = Vec::new(alloc);
+    for range in ranges {
+        starts.push(range.start)?;
+    }
+    Ok(starts)
+}
+
+// One more than the first index of each range of a batch.
+fn mapped_starts<Rt: Threads + Wait + Sync, S: Strategy>(
+    rt: &Rt,
+    alloc: Global,
+    strategy: &S,
+) -> Result<Vec<usize>, Fault> {
+    let least = NonZeroUsize::MIN;
+    strategy.run_batches(rt, alloc, SITE, 10, least, 1, |batches: Batches<'_, S, _>| {
+        let prepare = |ranges: &[Range<usize>]| starts_of(alloc, ranges);
+        batches.map_collect_vec(rt, alloc, prepare, |start: usize| start.wrapping_add(1))
+    })?
+}
+
+#[test]
+fn a_batch_maps_what_is_prepared_of_its_ranges(rt: HostRuntime) -> Result<(), Fail> {
+    let alloc = rt.alloc();
+    assert_eq!(rt; mapped_starts(&rt, alloc, &Sequential)?.as_slice(), [1].as_slice());
+    for planned in [2, 3, 4] {
+        let strategy = pool(&rt, alloc, 2, planned);
+        let mapped = mapped_starts(&rt, alloc, &strategy)?;
+        let expected = match planned {
+            2 => [1, 6].as_slice(),
+            3 => [1, 5, 8].as_slice(),
+            _ => [1, 4, 7, 9].as_slice(),
+        };
+        assert_eq!(rt; mapped.as_slice(), expected, "{planned} ranges");
+    }
+    Ok(())
+}
+
+// The starts of a batch that are below the limit, or the first that isn't.
+fn starts_below<Rt: Threads + Wait + Sync, S: Strategy>(
+    rt: &Rt,
+    alloc: Global,
+    strategy: &S,
+    limit: usize,
+) -> Result<Vec<usize>, Trouble<usize>> {
+    let least = NonZeroUsize::MIN;
+    let answer = strategy.run_batches(rt, alloc, SITE, 10, least, 1, |batches: Batches<'_, S, _>| {
+        let prepare = |ranges: &[Range<usize>]| starts_of(alloc, ranges);
+        let check = |start: usize| {
+            if start < limit {
+                Ok(start)
+            } else {
+                Err(start)
+            }
+        };
+        batches.try_map_collect_vec(rt, alloc, prepare, check)
+    })?;
+    answer
+}
+
+#[test]
+fn the_first_prepared_item_that_fails_is_the_error(rt: HostRuntime) -> Result<(), Fail> {
+    let alloc = rt.alloc();
+    let strategy = pool(&rt, alloc, 2, 4);
+    assert_eq!(rt; starts_below(&rt, alloc, &strategy, 10)?.as_slice(), [0, 3, 6, 8].as_slice());
+    let failed = starts_below(&rt, alloc, &strategy, 4);
+    assert!(rt; matches!(failed, Err(Trouble::Closure(6))));
+    let failed = starts_below(&rt, alloc, &Sequential, 0);
+    assert!(rt; matches!(failed, Err(Trouble::Closure(0))));
+    Ok(())
+}
+
+#[test]
+fn what_is_not_prepared_is_not_mapped(rt: HostRuntime) -> Result<(), Fail> {
+    let alloc = rt.alloc();
+    let strategy = pool(&rt, alloc, 2, 4);
+    let calls = AtomicU64::new(0);
+    let batch = Batches::balanced(alloc, &strategy, SITE, 10, number(&rt, 4))?;
+    let refuse = |_: &[Range<usize>]| -> Result<Vec<u32>, Fault> { Err(Fault::Worker) };
+    let refused = batch.map_collect_vec(&rt, alloc, refuse, |_: u32| {
+        calls.fetch_add(1, Ordering::SeqCst)
+    });
+    assert!(rt; matches!(refused, Err(Fault::Worker)));
+    let batch = Batches::whole(alloc, &strategy, SITE, 10)?;
+    let refuse = |_: &[Range<usize>]| -> Result<Vec<u32>, Fault> { Err(Fault::Worker) };
+    let refused = batch.try_map_collect_vec(&rt, alloc, refuse, |_: u32| -> Result<u64, u32> {
+        Ok(calls.fetch_add(1, Ordering::SeqCst))
+    });
+    assert!(rt; matches!(refused, Err(Trouble::Fault(Fault::Worker))));
+    assert_eq!(rt; calls.load(Ordering::SeqCst), 0);
+    Ok(())
+}
+
+// The number of ranges, or the first index of the second range.
+fn ranges_or_second<Rt: Wait, S: Strategy>(
+    rt: &Rt,
+    alloc: Global,
+    strategy: &S,
+) -> Result<usize, Trouble<usize>> {
+    let least = NonZeroUsize::MIN;
+    strategy.try_run_batches(rt, alloc, SITE, 10, least, 1, |batches: Batches<'_, S, _>| {
+        match batches.ranges().get(1) {
+            Some(range) => Err(range.start),
+            None => Ok(batches.ranges().len()),
+        }
+    })
+}
+
+#[test]
+fn a_batch_answers_its_closures_error(rt: HostRuntime) -> Result<(), Fail> {
+    let alloc = rt.alloc();
+    assert_eq!(rt; ranges_or_second(&rt, alloc, &Sequential)?, 1);
+    let strategy = pool(&rt, alloc, 1, 4);
+    let failed = ranges_or_second(&rt, alloc, &strategy);
+    assert!(rt; matches!(failed, Err(Trouble::Closure(3))));
     Ok(())
 }

@@ -1,0 +1,40 @@
+// Several calls of one place: what they have in common is written once.
+ghost use Rattle.std.specs.Prelude.{◌≡◌, ◌*◌, map, IfOk, IfErr};
+ghost use Rattle.parallel_fault.specs.declared.fault.Fault.TheVariants.{Memory};
+
+use commonware_parallel::{Copies, Fault, On, Place, Strategy};
+use std::alloc::Global;
+use std::sync::Wait;
+use std::thread::Threads;
+
+/// The squares of the numbers, in the numbers' order, and their sum, wrapped around.
+pub fn squares_and_sum<Rt: Threads + Wait + Sync, P: Place, S: Strategy>(
+    rt: &Rt,
+    alloc: Global,
+    strategy: &S,
+    site: P,
+    numbers: &[u32],
+) -> Result<(Vec<u64>, u64), Fault>
+    ensures squares { IfOk result (λ both. both.0.items ≡ map (λ x. x * x) numbers.now) }
+    ensures fault { IfErr result (λ fault. fault ≡ Memory) }
+{
+    let on = On {
+        rt,
+        alloc,
+        strategy,
+        site,
+    };
+    let squares = on.map(Copies { slice: numbers }, |number| {
+        u64::from(number) * u64::from(number)
+    })?;
+    let items = Copies {
+        slice: squares.as_slice(),
+    };
+    let sum = on.fold(
+        items,
+        || 0,
+        |sum: u64, square| sum.wrapping_add(square),
+        |left: u64, right| left.wrapping_add(right),
+    )?;
+    Ok((squares, sum))
+}
