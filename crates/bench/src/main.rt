@@ -1,4 +1,4 @@
-// Times folds and maps through a plain loop and through each strategy, and the choices of a policy.
+// Times folds, maps and tiles through a plain loop and through each strategy, and the choices of a policy.
 #![tactic(auto)]
 
 mod calls;
@@ -9,6 +9,7 @@ mod learner;
 mod loops;
 mod race;
 mod request;
+mod tiles;
 mod times;
 mod ways;
 mod work;

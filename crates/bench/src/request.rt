@@ -38,7 +38,7 @@ pub enum Request {
 
 /// What the words after the program's name ask for: nothing for the names, and `policy LEN THREADS` or
 /// `CASE LEN THREADS` for a trial of one thread at least, a case's with `iter`, with `fresh` or with
-/// both behind it, in that order. Any other words ask for nothing.
+/// both behind it, in that order; a case of tiles has no `iter`. Any other words ask for nothing.
 pub fn parse_request(words: &[String]) -> Option<Request> {
     let [case, len, threads, options @ ..] = words else {
         return words.is_empty().then_some(Request::Names);
@@ -51,6 +51,9 @@ pub fn parse_request(words: &[String]) -> Option<Request> {
     }
     let case = Case::named(case.as_str())?;
     let (form, is_fresh) = parse_options(options)?;
+    if case.is_tiles() && form == Form::Iterator {
+        return None;
+    }
     Some(Request::Time(Trial {
         case,
         len,
