@@ -1,9 +1,18 @@
 // The cases that are timed, and their names.
 
-/// A case: what is done with a list, with a light or a heavy function of an item, or with one whose
-/// work rises along the list.
+/// A case: what is done with a list.
 #[derive(Clone, Copy, Debug, PartialEq, Eq, Hash)]
 pub enum Case {
+    /// A call over its items.
+    Items(ItemCase),
+    /// Tiles over its items as the cells of a grid.
+    Tiles(TileCase),
+}
+
+/// What is done with the items of a list, with a light or a heavy function of an item, or with one
+/// whose work rises along the list.
+#[derive(Clone, Copy, Debug, PartialEq, Eq, Hash)]
+pub enum ItemCase {
     MapLight,
     MapHeavy,
     MapRising,
@@ -16,56 +25,119 @@ pub enum Case {
     Sort,
 }
 
+/// What is done with the cells of a grid: many rows that are kept whole, or few rows that are cut,
+/// with a light or a heavy cell; or many rows whose cells cost the more the later their row.
+#[derive(Clone, Copy, Debug, PartialEq, Eq, Hash)]
+pub enum TileCase {
+    RowsLight,
+    RowsHeavy,
+    CutLight,
+    CutHeavy,
+    Uneven,
+}
+
 /// Every case, in the order in which the names are printed.
-pub const CASES: [Case; 10] = [
-    Case::MapLight,
-    Case::MapHeavy,
-    Case::MapRising,
-    Case::FoldLight,
-    Case::FoldHeavy,
-    Case::FoldRising,
-    Case::TryMapLight,
-    Case::FoldInit,
-    Case::Partition,
-    Case::Sort,
+pub const CASES: [Case; 15] = [
+    Case::Items(ItemCase::MapLight),
+    Case::Items(ItemCase::MapHeavy),
+    Case::Items(ItemCase::MapRising),
+    Case::Items(ItemCase::FoldLight),
+    Case::Items(ItemCase::FoldHeavy),
+    Case::Items(ItemCase::FoldRising),
+    Case::Items(ItemCase::TryMapLight),
+    Case::Items(ItemCase::FoldInit),
+    Case::Items(ItemCase::Partition),
+    Case::Items(ItemCase::Sort),
+    Case::Tiles(TileCase::RowsLight),
+    Case::Tiles(TileCase::RowsHeavy),
+    Case::Tiles(TileCase::CutLight),
+    Case::Tiles(TileCase::CutHeavy),
+    Case::Tiles(TileCase::Uneven),
 ];
 
 impl Case {
     /// The name by which the command line asks for the case.
     pub fn name(self) -> &'static str {
         match self {
-            Case::MapLight => "map-light",
-            Case::MapHeavy => "map-heavy",
-            Case::MapRising => "map-rising",
-            Case::FoldLight => "fold-light",
-            Case::FoldHeavy => "fold-heavy",
-            Case::FoldRising => "fold-rising",
-            Case::TryMapLight => "try-map-light",
-            Case::FoldInit => "fold-init",
-            Case::Partition => "partition",
-            Case::Sort => "sort",
+            Case::Items(case) => case.name(),
+            Case::Tiles(case) => case.name(),
         }
     }
 
     /// The case of that name, if there is one.
     pub fn named(name: &str) -> Option<Case> {
-        match name {
-            "map-light" => Some(Case::MapLight),
-            "map-heavy" => Some(Case::MapHeavy),
-            "map-rising" => Some(Case::MapRising),
-            "fold-light" => Some(Case::FoldLight),
-            "fold-heavy" => Some(Case::FoldHeavy),
-            "fold-rising" => Some(Case::FoldRising),
-            "try-map-light" => Some(Case::TryMapLight),
-            "fold-init" => Some(Case::FoldInit),
-            "partition" => Some(Case::Partition),
-            "sort" => Some(Case::Sort),
-            _ => None,
+        match ItemCase::named(name) {
+            Some(case) => Some(Case::Items(case)),
+            None => TileCase::named(name).map(Case::Tiles),
         }
     }
 
     /// Whether item i is the number i, and not one of a shuffled list.
     pub fn is_rising(self) -> bool {
-        matches!(self, Case::MapRising | Case::FoldRising)
+        matches!(
+            self,
+            Case::Items(ItemCase::MapRising | ItemCase::FoldRising)
+        )
+    }
+
+    /// Whether the case is one of tiles, which is given the slice alone.
+    pub fn is_tiles(self) -> bool {
+        matches!(self, Case::Tiles(_))
+    }
+}
+
+impl ItemCase {
+    fn name(self) -> &'static str {
+        match self {
+            ItemCase::MapLight => "map-light",
+            ItemCase::MapHeavy => "map-heavy",
+            ItemCase::MapRising => "map-rising",
+            ItemCase::FoldLight => "fold-light",
+            ItemCase::FoldHeavy => "fold-heavy",
+            ItemCase::FoldRising => "fold-rising",
+            ItemCase::TryMapLight => "try-map-light",
+            ItemCase::FoldInit => "fold-init",
+            ItemCase::Partition => "partition",
+            ItemCase::Sort => "sort",
+        }
+    }
+
+    fn named(name: &str) -> Option<ItemCase> {
+        match name {
+            "map-light" => Some(ItemCase::MapLight),
+            "map-heavy" => Some(ItemCase::MapHeavy),
+            "map-rising" => Some(ItemCase::MapRising),
+            "fold-light" => Some(ItemCase::FoldLight),
+            "fold-heavy" => Some(ItemCase::FoldHeavy),
+            "fold-rising" => Some(ItemCase::FoldRising),
+            "try-map-light" => Some(ItemCase::TryMapLight),
+            "fold-init" => Some(ItemCase::FoldInit),
+            "partition" => Some(ItemCase::Partition),
+            "sort" => Some(ItemCase::Sort),
+            _ => None,
+        }
+    }
+}
+
+impl TileCase {
+    fn name(self) -> &'static str {
+        match self {
+            TileCase::RowsLight => "tiles-rows-light",
+            TileCase::RowsHeavy => "tiles-rows-heavy",
+            TileCase::CutLight => "tiles-cut-light",
+            TileCase::CutHeavy => "tiles-cut-heavy",
+            TileCase::Uneven => "tiles-uneven",
+        }
+    }
+
+    fn named(name: &str) -> Option<TileCase> {
+        match name {
+            "tiles-rows-light" => Some(TileCase::RowsLight),
+            "tiles-rows-heavy" => Some(TileCase::RowsHeavy),
+            "tiles-cut-light" => Some(TileCase::CutLight),
+            "tiles-cut-heavy" => Some(TileCase::CutHeavy),
+            "tiles-uneven" => Some(TileCase::Uneven),
+            _ => None,
+        }
     }
 }

@@ -1,6 +1,7 @@
 // The ways in which a case is run.
-use crate::case::Case;
-use crate::{calls, loops};
+use crate::case::{Case, ItemCase};
+use crate::tiles::Tiling;
+use crate::{calls, loops, tiles};
 use commonware_parallel::{Clock, Copies, Fault, Rayon, Sequential, Source, Strategy};
 use std::alloc::Global;
 use std::sync::Wait;
@@ -90,19 +91,27 @@ pub fn by_way<Rt: Threads + Wait + Sync, C: Clock>(
 /// The case's answer by a plain loop.
 fn by_loop(alloc: Global, case: Case, items: &[u64]) -> Result<Answer, Fault> {
     match case {
-        Case::MapLight => Ok(Answer::Numbers(loops::map_light(alloc, items)?)),
-        Case::MapHeavy => Ok(Answer::Numbers(loops::map_heavy(alloc, items)?)),
-        Case::MapRising => Ok(Answer::Numbers(loops::map_rising(alloc, items)?)),
-        Case::FoldLight => Ok(Answer::Number(loops::fold_light(items))),
-        Case::FoldHeavy => Ok(Answer::Number(loops::fold_heavy(items))),
-        Case::FoldRising => Ok(Answer::Number(loops::fold_rising(items))),
-        Case::TryMapLight => Ok(Answer::Numbers(loops::try_map_light(alloc, items)?)),
-        Case::FoldInit => Ok(Answer::Number(loops::fold_light(items))),
-        Case::Partition => {
+        Case::Items(case) => items_by_loop(alloc, case, items),
+        Case::Tiles(case) => Ok(Answer::Number(Tiling::of(case, items.len()).sum(items))),
+    }
+}
+
+/// The answer of a call over items by a plain loop.
+fn items_by_loop(alloc: Global, case: ItemCase, items: &[u64]) -> Result<Answer, Fault> {
+    match case {
+        ItemCase::MapLight => Ok(Answer::Numbers(loops::map_light(alloc, items)?)),
+        ItemCase::MapHeavy => Ok(Answer::Numbers(loops::map_heavy(alloc, items)?)),
+        ItemCase::MapRising => Ok(Answer::Numbers(loops::map_rising(alloc, items)?)),
+        ItemCase::FoldLight => Ok(Answer::Number(loops::fold_light(items))),
+        ItemCase::FoldHeavy => Ok(Answer::Number(loops::fold_heavy(items))),
+        ItemCase::FoldRising => Ok(Answer::Number(loops::fold_rising(items))),
+        ItemCase::TryMapLight => Ok(Answer::Numbers(loops::try_map_light(alloc, items)?)),
+        ItemCase::FoldInit => Ok(Answer::Number(loops::fold_light(items))),
+        ItemCase::Partition => {
             let (values, keys) = loops::partition(alloc, items)?;
             Ok(Answer::Parts(values, keys))
         }
-        Case::Sort => Ok(Answer::Numbers(loops::sort(alloc, items)?)),
+        ItemCase::Sort => Ok(Answer::Numbers(loops::sort(alloc, items)?)),
     }
 }
 
@@ -115,36 +124,57 @@ fn by_strategy<Rt: Threads + Wait + Sync, S: Strategy>(
     case: Case,
     items: &[u64],
 ) -> Result<Answer, Fault> {
+    match case {
+        Case::Items(case) => items_by_strategy(rt, alloc, strategy, form, case, items),
+        Case::Tiles(case) => {
+            let tiling = Tiling::of(case, items.len());
+            let total = tiles::sum_of_tiles(rt, alloc, strategy, tiling, items)?;
+            Ok(Answer::Number(total))
+        }
+    }
+}
+
+/// The answer of a call over items by a strategy.
+fn items_by_strategy<Rt: Threads + Wait + Sync, S: Strategy>(
+    rt: &Rt,
+    alloc: Global,
+    strategy: &S,
+    form: Form,
+    case: ItemCase,
+    items: &[u64],
+) -> Result<Answer, Fault> {
     match form {
         Form::Slice => by_source(rt, alloc, strategy, case, Copies { slice: items }),
         Form::Iterator => by_source(rt, alloc, strategy, case, items.iter().copied()),
     }
 }
 
-/// The case's answer by a strategy over a source.
+/// The answer of a call over items by a strategy over a source.
 fn by_source<Rt: Threads + Wait + Sync, S: Strategy, M, I: Source<M, Item = u64>>(
     rt: &Rt,
     alloc: Global,
     strategy: &S,
-    case: Case,
+    case: ItemCase,
     source: I,
 ) -> Result<Answer, Fault>
     requires { I.can source }
 {
     let answer = match case {
-        Case::MapLight => Answer::Numbers(calls::map_light(rt, alloc, strategy, source)?),
-        Case::MapHeavy => Answer::Numbers(calls::map_heavy(rt, alloc, strategy, source)?),
-        Case::MapRising => Answer::Numbers(calls::map_rising(rt, alloc, strategy, source)?),
-        Case::FoldLight => Answer::Number(calls::fold_light(rt, alloc, strategy, source)?),
-        Case::FoldHeavy => Answer::Number(calls::fold_heavy(rt, alloc, strategy, source)?),
-        Case::FoldRising => Answer::Number(calls::fold_rising(rt, alloc, strategy, source)?),
-        Case::TryMapLight => Answer::Numbers(calls::try_map_light(rt, alloc, strategy, source)?),
-        Case::FoldInit => Answer::Number(calls::fold_init(rt, alloc, strategy, source)?),
-        Case::Partition => {
+        ItemCase::MapLight => Answer::Numbers(calls::map_light(rt, alloc, strategy, source)?),
+        ItemCase::MapHeavy => Answer::Numbers(calls::map_heavy(rt, alloc, strategy, source)?),
+        ItemCase::MapRising => Answer::Numbers(calls::map_rising(rt, alloc, strategy, source)?),
+        ItemCase::FoldLight => Answer::Number(calls::fold_light(rt, alloc, strategy, source)?),
+        ItemCase::FoldHeavy => Answer::Number(calls::fold_heavy(rt, alloc, strategy, source)?),
+        ItemCase::FoldRising => Answer::Number(calls::fold_rising(rt, alloc, strategy, source)?),
+        ItemCase::TryMapLight => Answer::Numbers(calls::try_map_light(
+            rt, alloc, strategy, source,
+        )?),
+        ItemCase::FoldInit => Answer::Number(calls::fold_init(rt, alloc, strategy, source)?),
+        ItemCase::Partition => {
             let (values, keys) = calls::partition(rt, alloc, strategy, source)?;
             Answer::Parts(values, keys)
         }
-        Case::Sort => Answer::Numbers(calls::sort(rt, alloc, strategy, source)?),
+        ItemCase::Sort => Answer::Numbers(calls::sort(rt, alloc, strategy, source)?),
     };
     Ok(answer)
 }

@@ -32,8 +32,8 @@ pub fn rising(item: u64) -> u64 {
     stirred(item, item)
 }
 
-// Each stir needs the number that the last one made.
-fn stirred(item: u64, stirs: u64) -> u64 {
+/// What so many stirs make of an item. Each needs the number that the last one made.
+pub fn stirred(item: u64, stirs: u64) -> u64 {
     let mut state = item;
     for _ in 0..stirs {
         state = stir(state);
@@ -41,7 +41,8 @@ fn stirred(item: u64, stirs: u64) -> u64 {
     state
 }
 
-fn stir(state: u64) -> u64 {
+/// The next number of a chain that looks random.
+pub fn stir(state: u64) -> u64 {
     (state ^ (state >> 29))
         .wrapping_mul(FACTOR)
         .wrapping_add(SUMMAND)
