@@ -2,4 +2,5 @@ pub mod Counts
 pub mod LongestWords
 pub mod Repeats
 pub mod Reversed
+pub mod Tiles
 pub mod Verdicts

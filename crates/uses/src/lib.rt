@@ -11,5 +11,6 @@ pub mod own_lists;
 pub mod runs;
 pub mod squares;
 pub mod stateful;
+pub mod tile_rows;
 pub mod verifier;
 pub mod words;
