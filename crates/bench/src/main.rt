@@ -1,5 +1,4 @@
-// Times folds, maps and tiles through a plain loop and through each strategy, and the choices of a
-// policy; and empties random plans of shares.
+// Times folds, maps and tiles through a plain loop and through each strategy, and the choices of a policy.
 #![tactic(auto)]
 
 mod calls;
@@ -10,7 +9,6 @@ mod learner;
 mod loops;
 mod race;
 mod request;
-mod soak;
 mod tiles;
 mod times;
 mod ways;
@@ -19,8 +17,7 @@ mod work;
 use crate::case::CASES;
 use crate::choosing::race_choices;
 use crate::race::race;
-use crate::request::{POLICY, Request, SOAK, parse_request};
-use crate::soak::soak;
+use crate::request::{POLICY, Request, parse_request};
 use anyhow::Result;
 use std::process::ExitCode;
 use std::{env, io};
@@ -30,7 +27,6 @@ fn main(rt: HostRuntime) -> io::Result<ExitCode> {
         Ok(Some(Request::Names)) => names(&rt),
         Ok(Some(Request::Time(trial))) => race(&rt, trial),
         Ok(Some(Request::Choose(trial))) => race_choices(&rt, trial),
-        Ok(Some(Request::Soak(trial))) => soak(&rt, trial),
         Ok(None) => {
             eprintln!(rt; "bench: bad arguments")?;
             return Ok(ExitCode::from(2));
@@ -61,6 +57,5 @@ fn names(rt: &impl Print) -> Result<()> {
         rt.println(case.name())?;
     }
     rt.println(POLICY)?;
-    rt.println(SOAK)?;
     Ok(())
 }

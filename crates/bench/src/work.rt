@@ -41,8 +41,7 @@ pub fn stirred(item: u64, stirs: u64) -> u64 {
     state
 }
 
-/// The next number of a chain that looks random.
-pub fn stir(state: u64) -> u64 {
+fn stir(state: u64) -> u64 {
     (state ^ (state >> 29))
         .wrapping_mul(FACTOR)
         .wrapping_add(SUMMAND)
