@@ -105,13 +105,7 @@ pub(crate) fn try_batches_through<
 }
 
 // An answer of `run` over the batch of a pick.
-fn run_picked<
-    S: Strategy,
-    P: Place,
-    R,
-    E,
-    F: FnOnce(Batches<'_, S, P>) -> Result<R, E> + Drop,
->(
+fn run_picked<S: Strategy, P: Place, R, E, F: FnOnce(Batches<'_, S, P>) -> Result<R, E> + Drop>(
     strategy: &S,
     alloc: Global,
     site: P,
@@ -136,14 +130,14 @@ fn run_picked<
 }
 
 // An answer of a body that may also be refused memory, at a pick that the strategy takes for the call.
-fn dispatch_settled<S: Strategy, Rt: Wait, P: Place, R, E, B: FnOnce(usize) -> Result<R, Trouble<E>>>(
-    strategy: &S,
-    rt: &Rt,
-    alloc: Global,
-    site: P,
-    call: Call,
-    body: B,
-) -> Result<R, Trouble<E>>
+fn dispatch_settled<
+    S: Strategy,
+    Rt: Wait,
+    P: Place,
+    R,
+    E,
+    B: FnOnce(usize) -> Result<R, Trouble<E>>,
+>(strategy: &S, rt: &Rt, alloc: Global, site: P, call: Call, body: B) -> Result<R, Trouble<E>>
     requires options { 0 < call.options }
     requires kind { call.kind ≢ Spawn }
     requires accepts { (pick : ℕ) → pick < call.options

@@ -150,16 +150,27 @@ fn mapped_starts<Rt: Threads + Wait + Sync, S: Strategy>(
     strategy: &S,
 ) -> Result<Vec<usize>, Fault> {
     let least = NonZeroUsize::MIN;
-    strategy.run_batches(rt, alloc, SITE, 10, least, 1, |batches: Batches<'_, S, _>| {
-        let prepare = |ranges: &[Range<usize>]| starts_of(alloc, ranges);
-        batches.map_collect_vec(rt, alloc, prepare, |start: usize| start.wrapping_add(1))
-    })?
+    strategy.run_batches(
+        rt,
+        alloc,
+        SITE,
+        10,
+        least,
+        1,
+        |batches: Batches<'_, S, _>| {
+            let prepare = |ranges: &[Range<usize>]| starts_of(alloc, ranges);
+            batches.map_collect_vec(rt, alloc, prepare, |start: usize| start.wrapping_add(1))
+        },
+    )?
 }
 
 #[test]
 fn a_batch_maps_what_is_prepared_of_its_ranges(rt: HostRuntime) -> Result<(), Fail> {
     let alloc = rt.alloc();
-    assert_eq!(rt; mapped_starts(&rt, alloc, &Sequential)?.as_slice(), [1].as_slice());
+    assert_eq!(rt;
+        mapped_starts(&rt, alloc, &Sequential)?.as_slice(),
+        [1].as_slice()
+    );
     for planned in [2, 3, 4] {
         let strategy = pool(&rt, alloc, 2, planned);
         let mapped = mapped_starts(&rt, alloc, &strategy)?;
@@ -181,17 +192,19 @@ fn starts_below<Rt: Threads + Wait + Sync, S: Strategy>(
     limit: usize,
 ) -> Result<Vec<usize>, Trouble<usize>> {
     let least = NonZeroUsize::MIN;
-    let answer = strategy.run_batches(rt, alloc, SITE, 10, least, 1, |batches: Batches<'_, S, _>| {
-        let prepare = |ranges: &[Range<usize>]| starts_of(alloc, ranges);
-        let check = |start: usize| {
-            if start < limit {
-                Ok(start)
-            } else {
-                Err(start)
-            }
-        };
-        batches.try_map_collect_vec(rt, alloc, prepare, check)
-    })?;
+    let answer = strategy.run_batches(
+        rt,
+        alloc,
+        SITE,
+        10,
+        least,
+        1,
+        |batches: Batches<'_, S, _>| {
+            let prepare = |ranges: &[Range<usize>]| starts_of(alloc, ranges);
+            let check = |start: usize| { if start < limit { Ok(start) } else { Err(start) } };
+            batches.try_map_collect_vec(rt, alloc, prepare, check)
+        },
+    )?;
     answer
 }
 
@@ -199,7 +212,10 @@ fn starts_below<Rt: Threads + Wait + Sync, S: Strategy>(
 fn the_first_prepared_item_that_fails_is_the_error(rt: HostRuntime) -> Result<(), Fail> {
     let alloc = rt.alloc();
     let strategy = pool(&rt, alloc, 2, 4);
-    assert_eq!(rt; starts_below(&rt, alloc, &strategy, 10)?.as_slice(), [0, 3, 6, 8].as_slice());
+    assert_eq!(rt;
+        starts_below(&rt, alloc, &strategy, 10)?.as_slice(),
+        [0, 3, 6, 8].as_slice()
+    );
     let failed = starts_below(&rt, alloc, &strategy, 4);
     assert!(rt; matches!(failed, Err(Trouble::Closure(6))));
     let failed = starts_below(&rt, alloc, &Sequential, 0);
@@ -235,12 +251,20 @@ fn ranges_or_second<Rt: Wait, S: Strategy>(
     strategy: &S,
 ) -> Result<usize, Trouble<usize>> {
     let least = NonZeroUsize::MIN;
-    strategy.try_run_batches(rt, alloc, SITE, 10, least, 1, |batches: Batches<'_, S, _>| {
-        match batches.ranges().get(1) {
-            Some(range) => Err(range.start),
-            None => Ok(batches.ranges().len()),
-        }
-    })
+    strategy.try_run_batches(
+        rt,
+        alloc,
+        SITE,
+        10,
+        least,
+        1,
+        |batches: Batches<'_, S, _>| {
+            match batches.ranges().get(1) {
+                Some(range) => Err(range.start),
+                None => Ok(batches.ranges().len()),
+            }
+        },
+    )
 }
 
 #[test]

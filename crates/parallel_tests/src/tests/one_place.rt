@@ -37,7 +37,11 @@ fn lists_of_five<Rt: Threads + Wait + Abort + Sync, S: Strategy>(
     assert_eq!(rt; next.as_slice(), [1, 2, 3, 4, 5].as_slice());
     let tried = on.try_map(five, |n: usize| if n < 3 { Ok(n) } else { Err(n) });
     assert!(rt; matches!(tried, Err(Trouble::Closure(3))));
-    let stateful = on.map_init(five, || 7, |state: &mut usize, n: usize| n.wrapping_add(*state))?;
+    let stateful = on.map_init(
+        five,
+        || 7,
+        |state: &mut usize, n: usize| n.wrapping_add(*state),
+    )?;
     assert_eq!(rt; stateful.as_slice(), [7, 8, 9, 10, 11].as_slice());
     let (even, odd) = on.map_partition(five, |n: usize| {
         if n % 2 == 0 { (n, Some(n)) } else { (n, None) }
@@ -73,7 +77,11 @@ fn sums_of_five<Rt: Threads + Wait + Abort + Sync, S: Strategy>(
     let tried = on.try_fold(
         five,
         || 0,
-        |sum: usize, n: usize| if n < 4 { Ok(sum.wrapping_add(n)) } else { Err(n) },
+        |sum: usize, n: usize| if n < 4 {
+            Ok(sum.wrapping_add(n))
+        } else {
+            Err(n)
+        },
         add,
     );
     assert!(rt; matches!(tried, Err(Trouble::Closure(4))));

@@ -9,6 +9,7 @@ use std::sync::Wait;
 use std::sync::atomic::{AtomicU64, Ordering};
 use std::test::Fail;
 use std::thread::Threads;
+use uses::tile_rows::cells_by_stretch;
 
 // What tiles answered: the grid, the workers, whether rows may be cut, and for each result its row
 // and the number of cells that were filled for it.
@@ -243,5 +244,20 @@ fn stale_steals_claims_and_refills_change_nothing(rt: HostRuntime) -> Result<(),
     for (at, outcome) in expected.iter().enumerate() {
         assert_eq!(rt; outcomes.get(at.saturating_add(16)), Some(outcome));
     }
+    Ok(())
+}
+
+#[test]
+fn a_kernel_counts_each_cell_once(rt: HostRuntime) -> Result<(), Fail> {
+    let alloc = rt.alloc();
+    let whole = cells_by_stretch(&rt, alloc, &Sequential, SITE, 3, 7, number(&rt, 7))?;
+    assert_eq!(rt; whole.as_slice(), [(0, 7), (1, 7), (2, 7)].as_slice());
+    let strategy = pool(&rt, alloc, 4, 4);
+    let cut = cells_by_stretch(&rt, alloc, &strategy, SITE, 3, 1000, number(&rt, 1))?;
+    let mut cells = 0usize;
+    for (_, width) in cut {
+        cells = cells.wrapping_add(width);
+    }
+    assert_eq!(rt; cells, 3000);
     Ok(())
 }
