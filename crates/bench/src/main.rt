@@ -1,4 +1,5 @@
-// Times folds, maps and tiles through a plain loop and through each strategy, and the choices of a policy.
+// Times folds, maps and tiles through a plain loop and through each strategy, and the choices of a
+// policy; and empties random plans of shares.
 #![tactic(auto)]
 
 mod calls;
@@ -9,6 +10,7 @@ mod learner;
 mod loops;
 mod race;
 mod request;
+mod soak;
 mod tiles;
 mod times;
 mod ways;
@@ -17,7 +19,8 @@ mod work;
 use crate::case::CASES;
 use crate::choosing::race_choices;
 use crate::race::race;
-use crate::request::{POLICY, Request, parse_request};
+use crate::request::{POLICY, Request, SOAK, parse_request};
+use crate::soak::soak;
 use anyhow::Result;
 use std::process::ExitCode;
 use std::{env, io};
@@ -27,6 +30,7 @@ fn main(rt: HostRuntime) -> io::Result<ExitCode> {
         Ok(Some(Request::Names)) => names(&rt),
         Ok(Some(Request::Time(trial))) => race(&rt, trial),
         Ok(Some(Request::Choose(trial))) => race_choices(&rt, trial),
+        Ok(Some(Request::Soak(trial))) => soak(&rt, trial),
         Ok(None) => {
             eprintln!(rt; "bench: bad arguments")?;
             return Ok(ExitCode::from(2));
@@ -57,5 +61,6 @@ fn names(rt: &impl Print) -> Result<()> {
         rt.println(case.name())?;
     }
     rt.println(POLICY)?;
+    rt.println(SOAK)?;
     Ok(())
 }

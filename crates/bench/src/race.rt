@@ -19,10 +19,10 @@ const FORTH: [Way; 4] = [Way::Loop, Way::Sequential, Way::Rayon, Way::Policy];
 const BACK: [Way; 4] = [Way::Policy, Way::Rayon, Way::Sequential, Way::Loop];
 
 /// How many calls a policy sees before the first round, at most.
-const WARM_UP: usize = 1000;
+const WARM_UP: usize = 50_000;
 
 /// After how many nanoseconds no more such calls are made.
-const WARM_UP_TIME: u64 = 500_000_000;
+const WARM_UP_TIME: u64 = 3_000_000_000;
 
 /// A number for each way, of one round.
 #[derive(Clone, Copy, Debug, Default, PartialEq, Eq)]
@@ -149,7 +149,7 @@ pub fn rounds_of(len: usize) -> u64 {
     pairs.clamp(3, 500) as u64 * 2 + 1
 }
 
-/// Calls the strategy that has a policy, until the policy has settled: 1000 times, or for half a second.
+/// Calls the strategy that has a policy, until the policy has settled: 50,000 times, or for three seconds.
 fn warm_up<Rt: Threads + Wait + Sync, C: Clock>(
     rt: &Rt,
     alloc: Global,

@@ -1,10 +1,14 @@
 // What the words of the command line ask for.
 use crate::case::Case;
+use crate::soak::SoakTrial;
 use crate::ways::Form;
 use std::num::NonZeroUsize;
 
 /// The name by which the command line asks for the choices of a policy.
 pub const POLICY: &str = "policy";
+
+/// The name by which the command line asks for a soak of shares.
+pub const SOAK: &str = "soak";
 
 /// A case to be timed over a list of `len` items, with a pool of `threads` threads.
 #[derive(Clone, Copy, Debug, PartialEq, Eq, Hash)]
@@ -34,15 +38,24 @@ pub enum Request {
     Time(Trial),
     /// The choices of a policy to be timed.
     Choose(ChoiceTrial),
+    /// Random plans of shares to be emptied.
+    Soak(SoakTrial),
 }
 
-/// What the words after the program's name ask for: nothing for the names, and `policy LEN THREADS` or
-/// `CASE LEN THREADS` for a trial of one thread at least, a case's with `iter`, with `fresh` or with
-/// both behind it, in that order; a case of tiles has no `iter`. Any other words ask for nothing.
+/// What the words after the program's name ask for: nothing for the names, `soak PLANS SEED` for random
+/// plans, and `policy LEN THREADS` or `CASE LEN THREADS` for a trial of one thread at least, a case's
+/// with `iter`, with `fresh` or with both behind it, in that order; a case of tiles has no `iter`. Any
+/// other words ask for nothing.
 pub fn parse_request(words: &[String]) -> Option<Request> {
     let [case, len, threads, options @ ..] = words else {
         return words.is_empty().then_some(Request::Names);
     };
+    if case.as_str() == SOAK {
+        let plans = len.parse().ok()?;
+        let seed = threads.parse().ok()?;
+        let trial = SoakTrial { plans, seed };
+        return options.is_empty().then_some(Request::Soak(trial));
+    }
     let len = len.parse().ok()?;
     let threads = NonZeroUsize::new(threads.parse().ok()?)?;
     if case.as_str() == POLICY {

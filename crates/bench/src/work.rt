@@ -41,7 +41,8 @@ pub fn stirred(item: u64, stirs: u64) -> u64 {
     state
 }
 
-fn stir(state: u64) -> u64 {
+/// The next number of a chain that looks random.
+pub fn stir(state: u64) -> u64 {
     (state ^ (state >> 29))
         .wrapping_mul(FACTOR)
         .wrapping_add(SUMMAND)

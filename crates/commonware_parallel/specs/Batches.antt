@@ -24,7 +24,10 @@ abbrev pub place_of : {S P : Type 0} → Batches S P → P
 place_of batches = batches.site
 
 -- allowed holds of some batch: of one range more than a pick that the strategy may take for the call, over its inner strategy and with the call's place
-abbrev pub OnSomeBatch : {S P : Type 0} (takes : S → Site → Call → ℕ → Type 0) (refuses : S → Site → Call → Fault → Type 0) (plans threads : S → ℕ) (starts : S → Bool) (strategy : S) (site : Site) (place : P) (len minimum multiplier : ℕ) (allowed : Batches S P → Type 0) → Type 0
+abbrev pub OnSomeBatch : {S P : Type 0} (takes : S → Site → Call → ℕ → Type 0)
+    (refuses : S → Site → Call → Fault → Type 0) (plans threads : S → ℕ) (starts : S → Bool)
+    (strategy : S) (site : Site) (place : P) (len minimum multiplier : ℕ)
+    (allowed : Batches S P → Type 0) → Type 0
 OnSomeBatch takes refuses plans threads starts strategy site place len minimum multiplier allowed = (pick : ℕ)
     × (pick < (batches_call (plans strategy) len minimum multiplier).options)
     × takes strategy site (batches_call (plans strategy) len minimum multiplier) pick

@@ -13,6 +13,10 @@ body_call len = record { kind = Body; len = len; work = len; options = 2 }
 abbrev pub join_call : Call
 join_call = record { kind = Join; len = 2; work = 2; options = 2 }
 
+-- a choice between a job that is run at once and one that is handed off, over so many items
+abbrev pub spawn_call : ℕ → Call
+spawn_call len = record { kind = Spawn; len = len; work = len; options = 2 }
+
 -- work that stops at the greatest usize
 abbrev pub work_of : ℕ → ℕ → ℕ
 work_of len multiplier = min (len * multiplier) (2 ^ 64 - 1)

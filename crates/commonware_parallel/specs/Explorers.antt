@@ -1,5 +1,5 @@
 -- the numbers of an explorer, and the picks that it takes
-use Rattle.std.specs.Prelude.{◌≡◌, ◌<◌, ℕ, nat_le, if◌then◌else◌}
+use Rattle.std.specs.Prelude.{◌≡◌, ◌<◌, ℕ, Bool, nat_le, if◌then◌else◌}
 use Rattle.std.specs.Int.NonZero.{non_zero_usize_get}
 use Rattle.std.specs.Arc.{arc_value}
 use Rattle.parallel_fault.specs.declared.fault.Fault.{Fault}
@@ -20,6 +20,10 @@ plans_of explorer = non_zero_usize_get explorer.parallelism
 -- the thread number of the pool, by which lists are halved
 abbrev pub pool_threads : Explorer → ℕ
 pool_threads explorer = thread_count (arc_value explorer.pool)
+
+-- whether a job that is handed off gets a worker
+abbrev pub explorer_starts : Explorer → Bool
+explorer_starts explorer = explorer.starts_workers
 
 -- by what it picks
 abbrev pub rule_of : Explorer → Rule

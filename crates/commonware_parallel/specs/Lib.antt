@@ -3,9 +3,11 @@ pub mod Batches
 pub mod Calls
 pub mod Explorers
 pub mod Exploring
+pub mod Measures
 pub mod Mixes
 pub mod Rayon
 pub mod Chains
 pub mod Rectangles
 pub mod Seated
+pub mod Spawned
 pub mod Tiles

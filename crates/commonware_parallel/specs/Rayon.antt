@@ -18,6 +18,10 @@ planning_of strategy = non_zero_usize_get strategy.parallelism
 abbrev pub threads_of : {C : Type 0} → Rayon C → ℕ
 threads_of strategy = thread_count (arc_value strategy.pool)
 
+-- whether a job that is handed off gets a worker
+abbrev pub starts_of : {C : Type 0} → Rayon C → Bool
+starts_of strategy = strategy.starts_workers
+
 -- whether a policy chooses between serial and parallel
 abbrev pub chooses_of : {C : Type 0} → Rayon C → Bool
 chooses_of strategy = is_some strategy.policy

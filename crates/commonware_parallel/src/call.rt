@@ -1,6 +1,6 @@
 ghost use Rattle.std.specs.Prelude.{◌≡◌, ◌≤◌};
 ghost use Rattle.std.specs.Int.NonZero.{non_zero_usize_get};
-ghost use Rattle.commonware_parallel.specs.Calls.{batches_call, body_call, join_call, multiplied_call, tiles_call, work_of};
+ghost use Rattle.commonware_parallel.specs.Calls.{batches_call, body_call, join_call, multiplied_call, spawn_call, tiles_call, work_of};
 
 use std::num::NonZeroUsize;
 
@@ -75,6 +75,18 @@ impl Call {
             kind: Kind::Join,
             len: 2,
             work: 2,
+            options: EITHER,
+        }
+    }
+
+    /// The choice between a job over `len` items that is run at once and one that is handed off.
+    pub fn spawn(len: usize) -> Call
+        ensures { result ≡ spawn_call len }
+    {
+        Call {
+            kind: Kind::Spawn,
+            len,
+            work: len,
             options: EITHER,
         }
     }

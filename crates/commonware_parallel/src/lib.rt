@@ -15,6 +15,7 @@ pub mod mocks;
 mod on;
 mod rayon_strategy;
 mod sequential;
+mod spawned;
 mod strategy;
 mod tiles;
 
@@ -32,5 +33,6 @@ pub use parallel_shares as shares;
 pub use parallel_shares::{Grid, cut};
 pub use rayon_strategy::Rayon;
 pub use sequential::Sequential;
+pub use spawned::{Closure, Job, Spawned};
 pub use strategy::Strategy;
 pub use tiles::Tiles;

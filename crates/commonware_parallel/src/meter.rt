@@ -1,4 +1,7 @@
 //! How a run that goes on after its pick was handed out is measured.
+ghost use Rattle.std.specs.Prelude.{◌≡◌};
+ghost use Rattle.commonware_parallel.specs.Measures.{recorded_as};
+
 use parallel_policy::{Clock, Key, Policy, RunExecution};
 use std::sync::Wait;
 
@@ -54,6 +57,31 @@ pub(crate) enum Sample {
     Offloaded,
 }
 
+/// What a run that has ended is recorded as, in nanoseconds.
+#[derive(Clone, Copy, Debug, PartialEq, Eq)]
+pub(crate) enum Recorded {
+    Run(RunExecution, u64),
+    Inline(u64),
+    Offloaded { job: u64, overhead: u64 },
+}
+
+impl Sample {
+    // What is recorded of a run that was chosen, begun and stopped at these readings of the clock.
+    fn recorded(self, chosen: u64, begun: u64, stopped: u64) -> Recorded
+        ensures { result ≡ recorded_as self chosen begun stopped }
+    {
+        let time = stopped.saturating_sub(begun);
+        match self {
+            Sample::Run(execution) => Recorded::Run(execution, time),
+            Sample::Inline => Recorded::Inline(time),
+            Sample::Offloaded => Recorded::Offloaded {
+                job: time,
+                overhead: stopped.saturating_sub(chosen).saturating_sub(time),
+            },
+        }
+    }
+}
+
 impl<C> Measured<C> {
     pub(crate) fn nothing() -> Measured<C> {
         Measured { told: None }
@@ -73,16 +101,16 @@ impl<C: Clock> Meter for Measured<C> {
 
     fn end<Rt: Wait>(self, rt: &Rt) {
         let Some(told) = self.told else { return };
-        let stopped = told.clock.now();
-        let time = stopped.saturating_sub(told.begun);
-        let _ = match told.sample {
-            Sample::Run(execution) => told.policy.record_run(rt, told.key, execution, time),
-            Sample::Inline => told.policy.record_spawn_inline(rt, told.key, time),
-            Sample::Offloaded => {
-                let whole = stopped.saturating_sub(told.chosen);
-                let _ = told.policy.record_spawn_job(rt, told.key, time);
-                told.policy
-                    .record_spawn_overhead(rt, told.key, whole.saturating_sub(time))
+        let (policy, key) = (told.policy, told.key);
+        let recorded = told
+            .sample
+            .recorded(told.chosen, told.begun, told.clock.now());
+        let _ = match recorded {
+            Recorded::Run(execution, time) => policy.record_run(rt, key, execution, time),
+            Recorded::Inline(time) => policy.record_spawn_inline(rt, key, time),
+            Recorded::Offloaded { job, overhead } => {
+                let _ = policy.record_spawn_job(rt, key, job);
+                policy.record_spawn_overhead(rt, key, overhead)
             }
         };
     }

@@ -11,6 +11,6 @@ pub use choice::pick;
 pub use explore_error::ExploreError;
 pub use explorer::Explorer;
 pub use hash::mix;
-pub use pools::{inline, pooled};
+pub use pools::{inline, pending, pooled};
 pub use rule::Rule;
 pub use search::{TASKS, WORKERS, explore};

@@ -1,13 +1,15 @@
 ghost use Rattle.std.specs.Prelude.{◌≡◌, ◌≢◌, ℕ, ◌<◌, ◌≤◌, Bool, true, false, ◌-◌, ◌⊎◌, min, nat_eq, IsSome, IfOk, IfErr};
 ghost use Rattle.std.specs.Int.NonZero.{non_zero_usize_get};
 ghost use Rattle.parallel_fault.specs.Trouble.{IsMemoryOnErr};
+ghost use Rattle.parallel_policy.specs.Keys.{key_of};
+ghost use Rattle.parallel_pool.specs.ThreadPool.{thread_count};
 
 use crate::call::{Call, Kind};
 use crate::meter::{Measured, Sample, Told};
 use crate::strategy::Strategy;
 use parallel_fault::{Fault, Trouble};
 use parallel_policy::policy::INLINE_BUDGET;
-use parallel_policy::{Clock, Key, Place, Policy, RunExecution, SpawnExecution};
+use parallel_policy::{Clock, Key, Place, Policy, RunExecution, Site, SpawnExecution};
 use parallel_pool::rayon::{MAX_THREADS, ThreadPool, ThreadPoolBuildError};
 use std::alloc::Global;
 use std::num::NonZeroUsize;
@@ -24,12 +26,13 @@ use std::thread::Threads;
 pub struct Rayon<C> {
     pub(crate) pool: Arc<ThreadPool, Global>,
     pub(crate) parallelism: NonZeroUsize,
+    pub(crate) starts_workers: bool,
     clock: C,
     policy: Option<Policy>,
 }
 
 impl<C: Clock> Rayon<C> {
-    ghost use Rattle.commonware_parallel.specs.Rayon.{planning_of, threads_of, chooses_of};
+    ghost use Rattle.commonware_parallel.specs.Rayon.{planning_of, threads_of, chooses_of, starts_of};
 
     /// A strategy over a pool of `num_threads` threads, 65535 at most, planned for as many, with a
     /// policy that knows nothing yet and reads the clock.
@@ -47,15 +50,40 @@ impl<C: Clock> Rayon<C> {
         ensures threads { IfOk result (λ strategy. threads_of strategy ≡ min (non_zero_usize_get num_threads) MAX_THREADS) }
         ensures planning { IfOk result (λ strategy. planning_of strategy ≡ threads_of strategy) }
         ensures chooses { IfOk result (λ strategy. chooses_of strategy ≡ true) }
+        ensures starts { IfOk result (λ strategy. starts_of strategy ≡ true) }
         ensures refused { IfErr result (λ error. error ≡ ThreadPoolBuildError.Memory) }
     {
         let pool = ThreadPool::new(num_threads);
+        Rayon::with_pool(alloc, &pool, clock).map_err(|_| ThreadPoolBuildError::Memory)
+    }
+
+    /// A strategy with as many threads as the pool, planned for as many, with a policy that knows
+    /// nothing yet and reads the clock.
+    ///
+    /// The pool's number is read and the pool isn't kept: the threads of a call are scoped ones, which
+    /// end with it, so the pool's own workers are left to the jobs that are spawned on it.
+    ///
+    /// # Errors
+    ///
+    /// `Fault::Memory` where the policy's memory was refused; the clock is dropped.
+    pub fn with_pool<W: Drop>(
+        alloc: Global,
+        pool: &ThreadPool<W>,
+        clock: C,
+    ) -> Result<Rayon<C>, Fault>
+        ensures threads { IfOk result (λ strategy. threads_of strategy ≡ thread_count pool.now) }
+        ensures planning { IfOk result (λ strategy. planning_of strategy ≡ thread_count pool.now) }
+        ensures chooses { IfOk result (λ strategy. chooses_of strategy ≡ true) }
+        ensures starts { IfOk result (λ strategy. starts_of strategy ≡ true) }
+        ensures fault { IsMemoryOnErr result }
+    {
         let parallelism = pool.num_threads();
-        let pool = Arc::new(alloc, pool)?;
-        let policy = Policy::new(alloc).map_err(|_| ThreadPoolBuildError::Memory)?;
+        let pool = Arc::new(alloc, ThreadPool::new(parallelism))?;
+        let policy = Policy::new(alloc)?;
         Ok(Rayon {
             pool,
             parallelism,
+            starts_workers: true,
             clock,
             policy: Some(policy),
         })
@@ -63,7 +91,7 @@ impl<C: Clock> Rayon<C> {
 }
 
 impl<C> Rayon<C> {
-    ghost use Rattle.commonware_parallel.specs.Rayon.{planning_of, threads_of, chooses_of, RayonTakes};
+    ghost use Rattle.commonware_parallel.specs.Rayon.{planning_of, threads_of, chooses_of, starts_of, RayonTakes};
     ghost use Rattle.commonware_parallel.specs.declared.call.Kind.TheVariants.{Join, Spawn};
 
     /// The same strategy, planned for `parallelism`. The pool, its thread number and the policy stay.
@@ -71,10 +99,24 @@ impl<C> Rayon<C> {
         ensures planning { planning_of result ≡ non_zero_usize_get parallelism }
         ensures threads { threads_of result ≡ threads_of self }
         ensures chooses { chooses_of result ≡ chooses_of self }
+        ensures starts { starts_of result ≡ starts_of self }
     {
         let mut planned = self;
         planned.parallelism = parallelism;
         planned
+    }
+
+    /// The same strategy, which starts no worker for a job: where it hands a job off the job is dropped,
+    /// and its answer stays pending. All other calls go as before, on scoped threads.
+    pub fn without_workers(self) -> Rayon<C>
+        ensures starts { starts_of result ≡ false }
+        ensures planning { planning_of result ≡ planning_of self }
+        ensures threads { threads_of result ≡ threads_of self }
+        ensures chooses { chooses_of result ≡ chooses_of self }
+    {
+        let mut idle = self;
+        idle.starts_workers = false;
+        idle
     }
 
     // The number of threads by which a call is planned.
@@ -86,6 +128,14 @@ impl<C> Rayon<C> {
             Kind::Spawn => self.pool.num_threads().get(),
             Kind::Body | Kind::Batches | Kind::Tiles | Kind::Join => self.parallelism.get(),
         }
+    }
+
+    // The key by which a policy tells a call apart.
+    fn key(&self, site: Site, call: Call) -> Key
+        ensures spawn { call.kind ≡ Spawn → result ≡ key_of site call.len call.work (threads_of self.now) }
+        ensures others { call.kind ≢ Spawn → result ≡ key_of site call.len call.work (planning_of self.now) }
+    {
+        Key::new(site, call.len, call.work, self.planned(call))
     }
 
     // The pick of a call that no policy is asked about.
@@ -117,7 +167,7 @@ impl<C> Rayon<C> {
 }
 
 impl<C: Clone> Rayon<C> {
-    ghost use Rattle.commonware_parallel.specs.Rayon.{planning_of, threads_of, chooses_of};
+    ghost use Rattle.commonware_parallel.specs.Rayon.{planning_of, threads_of, chooses_of, starts_of};
 
     /// A strategy over the same pool, with the same planning number, whose picks no policy chooses.
     ///
@@ -128,6 +178,7 @@ impl<C: Clone> Rayon<C> {
         ensures planning { IfOk result (λ strategy. planning_of strategy ≡ planning_of self.now) }
         ensures threads { IfOk result (λ strategy. threads_of strategy ≡ threads_of self.now) }
         ensures chooses { IfOk result (λ strategy. chooses_of strategy ≡ false) }
+        ensures starts { IfOk result (λ strategy. starts_of strategy ≡ starts_of self.now) }
         ensures fault { IsMemoryOnErr result }
     {
         let pool = Arc::try_clone(&self.pool)?;
@@ -135,6 +186,7 @@ impl<C: Clone> Rayon<C> {
         Ok(Rayon {
             pool,
             parallelism: self.parallelism,
+            starts_workers: self.starts_workers,
             clock,
             policy: None,
         })
@@ -142,7 +194,7 @@ impl<C: Clone> Rayon<C> {
 }
 
 impl<C: Clock> Strategy for Rayon<C> {
-    ghost use Rattle.commonware_parallel.specs.Rayon.{planning_of, threads_of, chooses_of, RayonTakes, RayonRefuses};
+    ghost use Rattle.commonware_parallel.specs.Rayon.{planning_of, threads_of, chooses_of, starts_of, RayonTakes, RayonRefuses};
 
     ghost takes = { λ strategy _ call pick. RayonTakes (planning_of strategy) (threads_of strategy) (chooses_of strategy) call pick };
 
@@ -152,7 +204,7 @@ impl<C: Clock> Strategy for Rayon<C> {
 
     ghost threads = { λ strategy. threads_of strategy };
 
-    ghost starts = { λ _. true };
+    ghost starts = { λ strategy. starts_of strategy };
 
     ghost unasked = { λ strategy. nat_eq (planning_of strategy) 1 };
 
@@ -167,7 +219,7 @@ impl<C: Clock> Strategy for Rayon<C> {
     }
 
     fn starts_workers(&self) -> bool {
-        true
+        self.starts_workers
     }
 
     fn is_serial(&self) -> bool {
@@ -214,7 +266,7 @@ impl<C: Clock> Strategy for Rayon<C> {
         let Some(policy) = self.asked(call) else {
             return Ok((self.pick(call), Measured::nothing()));
         };
-        let key = Key::new(site.site(), call.len, call.work, self.planned(call));
+        let key = self.key(site.site(), call);
         let (pick, measured, sample) = match call.kind {
             Kind::Spawn => match policy.choose_spawn(rt, key, INLINE_BUDGET)? {
                 (SpawnExecution::Inline, measured) => (0, measured, Sample::Inline),

@@ -10,9 +10,10 @@ ghost use Rattle.parallel_bridge.specs.Sources.{GivesSome};
 ghost use Rattle.parallel_bridge.specs.States.{FoldInitSegment, FoldStep, MapStep, Stateful};
 ghost use Rattle.parallel_bridge.specs.Tries.{TryBracketing, TryMapOf};
 ghost use Rattle.parallel_bridge.specs.Ways.{FoldedAs, FoldedInitAs, MappedInitAs, TryFoldedAs};
-ghost use Rattle.commonware_parallel.specs.Calls.{AtSomePick, IsInnerOf, body_call, join_call, multiplied_call, tiles_call};
+ghost use Rattle.commonware_parallel.specs.Calls.{AtSomePick, IsInnerOf, body_call, join_call, multiplied_call, spawn_call, tiles_call};
 ghost use Rattle.commonware_parallel.specs.Answers.{AnswersAs, OneOf};
 ghost use Rattle.commonware_parallel.specs.Batches.{IsBatch, OnSomeBatch, ranges_of};
+ghost use Rattle.commonware_parallel.specs.Spawned.{BeginsAs, FailsToSpawn, gives_answer};
 ghost use Rattle.commonware_parallel.specs.Tiles.{IsSerialCost, IsTiling, tiles_place, tiles_strategy};
 ghost use Rattle.parallel_shares.specs.Grid.{Fits};
 ghost use Rattle.parallel_fault.specs.Trouble.{IfFault, IsMemoryOnErr};
@@ -25,6 +26,7 @@ use crate::list::{
     try_map_through,
 };
 use crate::meter::Meter;
+use crate::spawned::{Job, Spawned, begin};
 use crate::tiles::{Tiles, tiles_through};
 use parallel_bridge::Source;
 use parallel_bridge::list::fold::fold_iter;
@@ -142,7 +144,10 @@ pub trait Strategy: Clone + Send + Sync + Debug + 'static {
         requires options { 0 < call.options }
         requires kind { call.kind ≢ Spawn }
         requires accepts { (pick : ℕ) → pick < call.options → takes self.now (P.site_of site) call pick → B.pre body pick }
-        ensures answers { AnswersAs (λ pick. (pick < call.options) × takes self.now (P.site_of site) call pick) (refuses self.now (P.site_of site) call) (λ pick answer. B.post body pick answer) result }
+        ensures answers { AnswersAs
+            (λ pick. (pick < call.options) × takes self.now (P.site_of site) call pick)
+            (refuses self.now (P.site_of site) call)
+            (λ pick answer. B.post body pick answer) result }
         ensures memory { IfErr result (λ trouble. IfFault trouble (λ fault. fault ≡ Memory)) };
 
     /// Measures what goes on after a choice was handed out.
@@ -234,7 +239,10 @@ pub trait Strategy: Clone + Send + Sync + Debug + 'static {
     ) -> Result<R, Trouble<E>>
         requires serial_runs { A.pre serial }
         requires parallel_runs { B.pre parallel }
-        ensures answers { AnswersAs (λ pick. (pick < 2) × takes self.now (P.site_of site) (body_call len) pick) (refuses self.now (P.site_of site) (body_call len)) (λ pick answer. OneOf (A.post serial answer) (B.post parallel answer) pick) result }
+        ensures answers { AnswersAs
+            (λ pick. (pick < 2) × takes self.now (P.site_of site) (body_call len) pick)
+            (refuses self.now (P.site_of site) (body_call len))
+            (λ pick answer. OneOf (A.post serial answer) (B.post parallel answer) pick) result }
         ensures fault { IfErr result (λ trouble. IfFault trouble (λ fault. fault ≡ Memory)) }
     {
         let body = move |pick: usize| -> Result<R, E>
@@ -284,6 +292,42 @@ pub trait Strategy: Clone + Send + Sync + Debug + 'static {
             Err(Trouble::Fault(fault)) => Err(fault),
             Err(Trouble::Closure(())) => unreachable!(),
         }
+    }
+
+    /// A job, run on a clone of this strategy: at once at pick 0, and on a worker of its own at pick 1.
+    /// Where workers aren't started it is dropped at pick 1, and stays pending (`BeginsAs`).
+    ///
+    /// Whatever it answers is an answer that the job allows on a clone (`gives`). `len` is the number of
+    /// items that the job stands for, by which a policy tells calls apart.
+    ///
+    /// # Errors
+    ///
+    /// What the strategy refuses; `Fault::Memory`; at pick 1 `Fault::Worker` where the worker's start
+    /// was refused (`FailsToSpawn`). The job is then dropped.
+    final fn spawn<
+        Rt: Threads + Wait + Copy + Send + 'static,
+        P: Place,
+        F: Job<Self, T> + Send + Drop + 'static,
+        T: Send + Drop + 'static,
+    >(
+        &self,
+        rt: &Rt,
+        alloc: Global,
+        site: P,
+        len: usize,
+        job: F,
+    ) -> Result<Spawned<Rt, Self, F, T>, Fault>
+        requires { (clone : Self) → Self.is_clone self.now clone → F.may_run job clone }
+        ensures gives { IfOk result (λ spawned. (clone : Self) × Self.is_clone self.now clone
+            × ((answer : T) → gives_answer F.may_answer spawned answer → F.may_answer job clone answer)) }
+        ensures form { IfOk result (λ spawned. AtSomePick
+            (takes self.now (P.site_of site) (spawn_call len)) (λ pick. BeginsAs (starts self.now) pick spawned)) }
+        ensures refused { IfErr result (FailsToSpawn (takes self.now (P.site_of site) (spawn_call len))
+            (refuses self.now (P.site_of site) (spawn_call len)) (starts self.now)) }
+    {
+        let (pick, meter) = self.choose(rt, alloc, site, Call::spawn(len))?;
+        let own = self.clone()?;
+        begin(*rt, alloc, pick, self.starts_workers(), meter, own, job)
     }
 
     /// Sorts the items by an order; items that tie keep their order. At pick 0 the caller's thread sorts

@@ -94,7 +94,10 @@ where
     requires fold_accepts { F.IsAlwaysCallable fold_op }
     requires reduce_accepts { G.IsAlwaysCallable reduce_op }
     ensures along { IfOk result (λ r. (xs : List I.Item) × Drains I.next_gives iter xs
-        × AlongLeaves (ID.post identity) (FoldInitSegment (N.post init) (ID.post identity) (FoldStep (λ a p x b q. F.post fold_op a p x b q))) (λ a b c. G.post reduce_op a b c) (Shape (cutdepth (threads_of strategy.now)) xs) r) }
+        × AlongLeaves (ID.post identity)
+        (FoldInitSegment (N.post init) (ID.post identity)
+        (FoldStep (λ a p x b q. F.post fold_op a p x b q)))
+        (λ a b c. G.post reduce_op a b c) (Shape (cutdepth (threads_of strategy.now)) xs) r) }
     ensures fault { IfErr result (λ fault. fault ≡ Memory) }
 {
     strategy.fold_init(rt, alloc, site, iter, init, identity, fold_op, reduce_op)

@@ -12,6 +12,8 @@ mod plans;
 mod policies;
 mod printed;
 mod runs;
+mod shares;
+mod spawns;
 mod states;
 mod strategies;
 mod threads;

@@ -1,3 +1,4 @@
+mod Alongs
 mod Ascending
 mod Drains
 mod Requests

@@ -1,9 +1,11 @@
 -- The texts of a line's words, from what a slice pattern reads of them.
-use Rattle.std.proofs.Common.{◌≡◌, ◌-◌, ◌<◌, ◌∙◌, ℕ, List, [], length, take, drop, slice_index_or, ap, sym, subst, arith, string_bytes, String, true}
+use Rattle.std.proofs.Common.{◌≡◌, ◌-◌, ◌<◌, ◌∙◌, ℕ, List, [], length, take, drop, slice_index_or, ap, sym, subst, arith, string_bytes, String, true, Option, None, Some, inl, inr}
 use Rattle.std.specs.Str.{bytes_eq}
 use Rattle.std.proofs.lemmas.List.{get_or-map, take_all, length-drop}
 use Rattle.std.proofs.lemmas.Slice.Eq.{bytes_eq-Decides}
 use Rattle.std.specs.declared.alloc.Global.{Global}
+use Rattle.std.specs.declared.num.NonZeroUsize.{NonZeroUsize}
+use Rattle.shapes_command.specs.Number.{IsCountOrNone, CountsOrNone}
 use Rattle.shapes_command.specs.Request.{word, HasForm}
 
 module _ (words : List (String Global)) (i : ℕ) (s : String Global) (text : List ℕ) (is : s ≡ slice_index_or words i s) (reads : text ≡ string_bytes s) where
@@ -26,3 +28,8 @@ rest_from words i = take_all (length words - i) (drop i words) (omega (arith, le
 -- so many words, of which the first passed the test for a name
 pub has_form : (words : List (String Global)) (count : ℕ) (s : String Global) (text name : List ℕ) → length words ≡ count → 0 < count → s ≡ slice_index_or words 0 s → text ≡ string_bytes s → true ≡ bytes_eq text name → HasForm words name count
 has_form words count s text name counted some is reads same = (counted, is_text words 0 s text name (omega arith) is reads same)
+
+-- a text that says a number or none is `-`, or writes the number
+pub is_count_or_none : (most : ℕ) (text : List ℕ) (count : Option NonZeroUsize) → CountsOrNone most text count → IsCountOrNone most text
+is_count_or_none most text None same = inl same
+is_count_or_none most text (Some count) (writes, _) = inr writes

@@ -3,9 +3,9 @@ use Rattle.std.specs.Prelude.{◌≡◌, ℕ, ◌-◌, ◌^◌, ◌≤◌, ◌�
 use Rattle.std.specs.NonZero.{non_zero_usize_get}
 use Rattle.std.specs.Str.Parse.{digits_value}
 use Rattle.std.specs.declared.alloc.Global.{Global}
-use Rattle.shapes_command.specs.Number.{IsNumberUpTo, IsCountUpTo}
+use Rattle.shapes_command.specs.Number.{IsNumberUpTo, IsCountUpTo, IsCountOrNone, CountsOrNone, IsTextOrNone}
 use Rattle.shapes_command.specs.declared.request.Request.{Request}
-use Rattle.shapes_command.specs.declared.request.Request.TheVariants.{Drain, Batches, Grid, Segments, Fold}
+use Rattle.shapes_command.specs.declared.request.Request.TheVariants.{Drain, Batches, Grid, Segments, Fold, FoldParallel, Threads, Mix}
 
 -- the text of the word at a place, which is empty past the last word
 abbrev pub word : List (String Global) → ℕ → List ℕ
@@ -26,10 +26,7 @@ IsDrainLine words = HasForm words (codes "drain") 3 × IsNumberUpTo 65535 (word 
 -- the request of such a line
 abbrev pub SaysDrain : List (String Global) → Request → Type 0
 SaysDrain words (Drain rows workers) = IsDrainLine words × (rows ≡ number_at words 1) × (non_zero_usize_get workers ≡ number_at words 2)
-SaysDrain words (Batches _ _) = ⊥
-SaysDrain words (Grid _ _ _) = ⊥
-SaysDrain words (Segments _ _) = ⊥
-SaysDrain words (Fold _ _) = ⊥
+SaysDrain words _ = ⊥
 
 -- `batches LEN COUNT`, each in its range
 abbrev pub IsBatchesLine : List (String Global) → Type 0
@@ -37,11 +34,8 @@ IsBatchesLine words = HasForm words (codes "batches") 3 × IsNumberUpTo (2 ^ 64 
 
 -- the request of such a line
 abbrev pub SaysBatches : List (String Global) → Request → Type 0
-SaysBatches words (Drain _ _) = ⊥
 SaysBatches words (Batches len count) = IsBatchesLine words × (len ≡ number_at words 1) × (non_zero_usize_get count ≡ number_at words 2)
-SaysBatches words (Grid _ _ _) = ⊥
-SaysBatches words (Segments _ _) = ⊥
-SaysBatches words (Fold _ _) = ⊥
+SaysBatches words _ = ⊥
 
 -- `grid ROWS COST LEN WORKERS`, each in its range
 abbrev pub IsGridLine : List (String Global) → Type 0
@@ -50,12 +44,9 @@ IsGridLine words = HasForm words (codes "grid") 5 × IsNumberUpTo (2 ^ 64 - 1) (
 
 -- the request of such a line
 abbrev pub SaysGrid : List (String Global) → Request → Type 0
-SaysGrid words (Drain _ _) = ⊥
-SaysGrid words (Batches _ _) = ⊥
 SaysGrid words (Grid grid len workers) = IsGridLine words × (grid.rows ≡ number_at words 1) × (non_zero_usize_get grid.tile_cost ≡ number_at words 2)
     × (len ≡ number_at words 3) × (non_zero_usize_get workers ≡ number_at words 4)
-SaysGrid words (Segments _ _) = ⊥
-SaysGrid words (Fold _ _) = ⊥
+SaysGrid words _ = ⊥
 
 -- `segments N LEN`, each in its range
 abbrev pub IsSegmentsLine : List (String Global) → Type 0
@@ -63,11 +54,8 @@ IsSegmentsLine words = HasForm words (codes "segments") 3 × IsCountUpTo 65535 (
 
 -- the request of such a line
 abbrev pub SaysSegments : List (String Global) → Request → Type 0
-SaysSegments words (Drain _ _) = ⊥
-SaysSegments words (Batches _ _) = ⊥
-SaysSegments words (Grid _ _ _) = ⊥
 SaysSegments words (Segments threads len) = IsSegmentsLine words × (non_zero_usize_get threads ≡ number_at words 1) × (len ≡ number_at words 2)
-SaysSegments words (Fold _ _) = ⊥
+SaysSegments words _ = ⊥
 
 -- the number that a word writes
 abbrev pub number_of : String Global → ℕ
@@ -81,39 +69,97 @@ IsItem item = IsNumberUpTo 1000000 (string_bytes item)
 abbrev pub AreItems : List (String Global) → Type 0
 AreItems items = (length items ≤ 1000) × All IsItem items
 
--- `fold serial IDENTITY ITEM..`, each in its range
-abbrev pub IsFoldLine : List (String Global) → Type 0
-IsFoldLine words = (3 ≤ length words) × (word words 0 ≡ codes "fold") × (word words 1 ≡ codes "serial")
+-- `fold WAY IDENTITY ITEM..` for a way, each in its range
+abbrev pub IsFoldLine : List ℕ → List (String Global) → Type 0
+IsFoldLine way words = (3 ≤ length words) × (word words 0 ≡ codes "fold") × (word words 1 ≡ way)
     × IsNumberUpTo 1000000 (word words 2) × AreItems (drop 3 words)
 
--- the request of such a line
+-- the request of such a line for the way `serial`
 abbrev pub SaysFold : List (String Global) → Request → Type 0
-SaysFold words (Drain _ _) = ⊥
-SaysFold words (Batches _ _) = ⊥
-SaysFold words (Grid _ _ _) = ⊥
-SaysFold words (Segments _ _) = ⊥
-SaysFold words (Fold identity items) = IsFoldLine words × (identity ≡ number_at words 2) × (items.now ≡ drop 3 words)
+SaysFold words (Fold identity items) = IsFoldLine (codes "serial") words × (identity ≡ number_at words 2) × (items.now ≡ drop 3 words)
+SaysFold words _ = ⊥
+
+-- and for the way `parallel`
+abbrev pub SaysFoldParallel : List (String Global) → Request → Type 0
+SaysFoldParallel words (FoldParallel identity items) = IsFoldLine (codes "parallel") words × (identity ≡ number_at words 2) × (items.now ≡ drop 3 words)
+SaysFoldParallel words _ = ⊥
+
+-- `threads SET NUM CPUS MACHINE`: a number, two texts, and a number above 0, where `-` stands for none but at SET
+abbrev pub IsThreadsLine : List (String Global) → Type 0
+IsThreadsLine words = HasForm words (codes "threads") 5 × IsNumberUpTo (2 ^ 64 - 1) (word words 1) × IsCountOrNone (2 ^ 64 - 1) (word words 4)
+
+-- the request of such a line
+abbrev pub SaysThreads : List (String Global) → Request → Type 0
+SaysThreads words (Threads set num_threads num_cpus machine) = IsThreadsLine words × (set ≡ number_at words 1)
+    × IsTextOrNone (word words 2) num_threads × IsTextOrNone (word words 3) num_cpus × CountsOrNone (2 ^ 64 - 1) (word words 4) machine
+SaysThreads words _ = ⊥
+
+-- `mix SEED LINE COLUMN LEN`: numbers of 64 bits, but of 32 bits at LINE and COLUMN
+abbrev pub IsMixLine : List (String Global) → Type 0
+IsMixLine words = HasForm words (codes "mix") 5 × IsNumberUpTo (2 ^ 64 - 1) (word words 1) × IsNumberUpTo (2 ^ 32 - 1) (word words 2)
+    × IsNumberUpTo (2 ^ 32 - 1) (word words 3) × IsNumberUpTo (2 ^ 64 - 1) (word words 4)
+
+-- the request of such a line
+abbrev pub SaysMix : List (String Global) → Request → Type 0
+SaysMix words (Mix seed line column len) = IsMixLine words × (seed ≡ number_at words 1) × (line ≡ number_at words 2)
+    × (column ≡ number_at words 3) × (len ≡ number_at words 4)
+SaysMix words _ = ⊥
 
 -- the request of no words: that of `drain 4 2`
 abbrev pub IsUnasked : Request → Type 0
 IsUnasked (Drain rows workers) = (rows ≡ 4) × (non_zero_usize_get workers ≡ 2)
-IsUnasked (Batches _ _) = ⊥
-IsUnasked (Grid _ _ _) = ⊥
-IsUnasked (Segments _ _) = ⊥
-IsUnasked (Fold _ _) = ⊥
+IsUnasked _ = ⊥
+
+-- one of the lines about work that is shared out
+abbrev pub IsShareLine : List (String Global) → Type 0
+IsShareLine words = IsDrainLine words ⊎ (IsBatchesLine words ⊎ IsGridLine words)
+
+-- the request of such a line
+abbrev pub SaysShare : List (String Global) → Request → Type 0
+SaysShare words request = SaysDrain words request ⊎ (SaysBatches words request ⊎ SaysGrid words request)
+
+-- one of the lines about lists and about the threads for them
+abbrev pub IsListLine : List (String Global) → Type 0
+IsListLine words = IsSegmentsLine words ⊎ (IsFoldLine (codes "serial") words ⊎ IsThreadsLine words)
+
+-- the request of such a line
+abbrev pub SaysList : List (String Global) → Request → Type 0
+SaysList words request = SaysSegments words request ⊎ (SaysFold words request ⊎ SaysThreads words request)
+
+-- one of the lines about explorers
+abbrev pub IsExplorerLine : List (String Global) → Type 0
+IsExplorerLine words = IsMixLine words ⊎ IsFoldLine (codes "parallel") words
+
+-- the request of such a line
+abbrev pub SaysExplorer : List (String Global) → Request → Type 0
+SaysExplorer words request = SaysMix words request ⊎ SaysFoldParallel words request
+
+-- one of the lines about calls: about lists, or about explorers
+abbrev pub IsCallLine : List (String Global) → Type 0
+IsCallLine words = IsListLine words ⊎ IsExplorerLine words
+
+-- the request of such a line
+abbrev pub SaysCall : List (String Global) → Request → Type 0
+SaysCall words request = SaysList words request ⊎ SaysExplorer words request
+
+-- one of the lines that have words: a command with its arguments
+abbrev pub IsLineOfWords : List (String Global) → Type 0
+IsLineOfWords words = IsShareLine words ⊎ IsCallLine words
+
+-- the request of such a line
+abbrev pub SaysInWords : List (String Global) → Request → Type 0
+SaysInWords words request = SaysShare words request ⊎ SaysCall words request
 
 -- no words, or the words of a command with its arguments
 abbrev pub IsCommandLine : List (String Global) → Type 0
-IsCommandLine words = (length words ≡ 0) ⊎ (IsDrainLine words ⊎ (IsBatchesLine words ⊎ (IsGridLine words ⊎ (IsSegmentsLine words ⊎ IsFoldLine words))))
+IsCommandLine words = (length words ≡ 0) ⊎ IsLineOfWords words
 
 -- the words say the request
 abbrev pub Says : List (String Global) → Request → Type 0
-Says words request = ((length words ≡ 0) × IsUnasked request) ⊎ (SaysDrain words request ⊎ (SaysBatches words request ⊎ (SaysGrid words request ⊎ (SaysSegments words request ⊎ SaysFold words request))))
+Says words request = ((length words ≡ 0) × IsUnasked request) ⊎ SaysInWords words request
 
 -- the request's parts are in their ranges, as those of any request that words say
 abbrev pub IsInRange : Request → Type 0
-IsInRange (Drain _ _) = Unit {0}
-IsInRange (Batches _ _) = Unit {0}
-IsInRange (Grid _ _ _) = Unit {0}
-IsInRange (Segments _ _) = Unit {0}
 IsInRange (Fold identity items) = (identity ≤ 1000000) × AreItems items.now
+IsInRange (FoldParallel identity items) = (identity ≤ 1000000) × AreItems items.now
+IsInRange _ = Unit {0}

@@ -1,8 +1,13 @@
 // What a command line asks for.
-ghost use Rattle.std.specs.Prelude.{◌≡◌, ◌↔◌, IsTrue, MatchOption};
-ghost use Rattle.shapes_command.specs.Request.{IsCommandLine, Says, IsUnasked, IsDrainLine, SaysDrain, IsBatchesLine, SaysBatches, IsGridLine, SaysGrid, IsSegmentsLine, SaysSegments, AreItems, IsFoldLine, SaysFold};
+ghost use Rattle.std.specs.Prelude.{◌≡◌, ◌↔◌, IsTrue, MatchOption, codes};
+ghost use Rattle.shapes_command.specs.Request.{IsCommandLine, Says, IsUnasked, IsLineOfWords, SaysInWords, IsShareLine, SaysShare, IsListLine, SaysList};
+ghost use Rattle.shapes_command.specs.Request.{IsDrainLine, SaysDrain, IsBatchesLine, SaysBatches, IsGridLine, SaysGrid};
+ghost use Rattle.shapes_command.specs.Request.{IsSegmentsLine, SaysSegments, AreItems, IsFoldLine, SaysFold, IsThreadsLine, SaysThreads};
+ghost use Rattle.shapes_command.specs.Request.{IsMixLine, SaysMix, SaysFoldParallel, IsExplorerLine, SaysExplorer, IsCallLine, SaysCall};
 
-use crate::number::{count, number};
+use crate::number::{
+    count, count_or_none, number, number_of_32_bits, number_of_64_bits, text_or_none,
+};
 use parallel_shares::Grid;
 use std::num::NonZeroUsize;
 
@@ -64,6 +69,35 @@ pub enum Request<'a> {
         /// The words of the items: at most 1000, and each a number that is at most 1000000.
         items: &'a [String],
     },
+    /// `fold parallel IDENTITY ITEM..`: the sum of the items along their shape for two threads.
+    FoldParallel {
+        /// The number that the sum of each segment starts from, at most 1000000.
+        identity: usize,
+        /// The words of the items: at most 1000, and each a number that is at most 1000000.
+        items: &'a [String],
+    },
+    /// `threads SET NUM CPUS MACHINE`: for how many threads a pool is planned.
+    Threads {
+        /// The number that is set, where 0 is none.
+        set: usize,
+        /// The text of the variable `RAYON_NUM_THREADS`.
+        num_threads: Option<&'a str>,
+        /// The text of the variable `RAYON_RS_NUM_CPUS`.
+        num_cpus: Option<&'a str>,
+        /// How many threads the machine runs at a time.
+        machine: Option<NonZeroUsize>,
+    },
+    /// `mix SEED LINE COLUMN LEN`: the hash by which a seeded explorer picks.
+    Mix {
+        /// The seed.
+        seed: u64,
+        /// The line of the call's site, which is in the file `a`.
+        line: u32,
+        /// The column of the call's site.
+        column: u32,
+        /// The number of items.
+        len: usize,
+    },
 }
 
 /// The request that the words say, and None where they are no command line.
@@ -75,11 +109,42 @@ pub fn parse(words: &[String]) -> Option<Request<'_>>
     if words.is_empty() {
         return Some(unasked());
     }
-    drain(words)
-        .or(batches(words))
-        .or(grid(words))
-        .or(segments(words))
-        .or(fold(words))
+    with_words(words)
+}
+
+// The request of a line that has words.
+fn with_words(words: &[String]) -> Option<Request<'_>>
+    ensures { MatchOption result (¬ (IsLineOfWords words.now)) (SaysInWords words.now) }
+{
+    about_shares(words).or(about_calls(words))
+}
+
+// The request of a line about work that is shared out.
+fn about_shares(words: &[String]) -> Option<Request<'_>>
+    ensures { MatchOption result (¬ (IsShareLine words.now)) (SaysShare words.now) }
+{
+    drain(words).or(batches(words)).or(grid(words))
+}
+
+// The request of a line about lists, or about explorers.
+fn about_calls(words: &[String]) -> Option<Request<'_>>
+    ensures { MatchOption result (¬ (IsCallLine words.now)) (SaysCall words.now) }
+{
+    about_lists(words).or(about_explorers(words))
+}
+
+// The request of a line about lists and about the threads for them.
+fn about_lists(words: &[String]) -> Option<Request<'_>>
+    ensures { MatchOption result (¬ (IsListLine words.now)) (SaysList words.now) }
+{
+    segments(words).or(fold(words)).or(threads(words))
+}
+
+// The request of a line about explorers.
+fn about_explorers(words: &[String]) -> Option<Request<'_>>
+    ensures { MatchOption result (¬ (IsExplorerLine words.now)) (SaysExplorer words.now) }
+{
+    mix(words).or(fold_parallel(words))
 }
 
 // What the program does without words: `drain 4 2`.
@@ -150,7 +215,7 @@ fn segments(words: &[String]) -> Option<Request<'_>>
 
 // The request of a line `fold serial IDENTITY ITEM..`.
 fn fold(words: &[String]) -> Option<Request<'_>>
-    ensures { MatchOption result (¬ (IsFoldLine words.now)) (SaysFold words.now) }
+    ensures { MatchOption result (¬ (IsFoldLine (codes "serial") words.now)) (SaysFold words.now) }
 {
     match words {
         [name, through, identity, items @ ..]
@@ -160,6 +225,54 @@ fn fold(words: &[String]) -> Option<Request<'_>>
                 items,
             })
         }
+        _ => None,
+    }
+}
+
+// The request of a line `fold parallel IDENTITY ITEM..`.
+fn fold_parallel(words: &[String]) -> Option<Request<'_>>
+    ensures { MatchOption result (¬ (IsFoldLine (codes "parallel") words.now)) (SaysFoldParallel words.now) }
+{
+    match words {
+        [name, through, identity, items @ ..]
+            if name.as_str() == "fold" && through.as_str() == "parallel" && are_items(items) => {
+            Some(Request::FoldParallel {
+                identity: number(identity, MOST_NUMBER)?,
+                items,
+            })
+        }
+        _ => None,
+    }
+}
+
+// The request of a line `threads SET NUM CPUS MACHINE`.
+fn threads(words: &[String]) -> Option<Request<'_>>
+    ensures { MatchOption result (¬ (IsThreadsLine words.now)) (SaysThreads words.now) }
+{
+    match words {
+        [name, set, num_threads, num_cpus, machine] if name.as_str() == "threads" => {
+            Some(Request::Threads {
+                set: number(set, usize::MAX)?,
+                num_threads: text_or_none(num_threads),
+                num_cpus: text_or_none(num_cpus),
+                machine: count_or_none(machine, usize::MAX)?,
+            })
+        }
+        _ => None,
+    }
+}
+
+// The request of a line `mix SEED LINE COLUMN LEN`.
+fn mix(words: &[String]) -> Option<Request<'_>>
+    ensures { MatchOption result (¬ (IsMixLine words.now)) (SaysMix words.now) }
+{
+    match words {
+        [name, seed, line, column, len] if name.as_str() == "mix" => Some(Request::Mix {
+            seed: number_of_64_bits(seed)?,
+            line: number_of_32_bits(line)?,
+            column: number_of_32_bits(column)?,
+            len: number(len, usize::MAX)?,
+        }),
         _ => None,
     }
 }

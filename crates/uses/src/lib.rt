@@ -9,6 +9,7 @@ pub mod maps;
 pub mod one_place;
 pub mod own_lists;
 pub mod runs;
+pub mod spawned_jobs;
 pub mod squares;
 pub mod stateful;
 pub mod tile_rows;

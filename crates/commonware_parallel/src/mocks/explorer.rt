@@ -24,12 +24,13 @@ use std::sync::{Arc, Wait};
 pub struct Explorer {
     pub(crate) pool: Arc<ThreadPool, Global>,
     pub(crate) parallelism: NonZeroUsize,
+    pub(crate) starts_workers: bool,
     pub(crate) rule: Rule,
 }
 
 impl Explorer {
-    ghost use Rattle.commonware_parallel.specs.Explorers.{plans_of, pool_threads, rule_of, picked};
-    ghost use Rattle.commonware_parallel.specs.Rayon.{planning_of, threads_of};
+    ghost use Rattle.commonware_parallel.specs.Explorers.{plans_of, pool_threads, rule_of, explorer_starts, picked};
+    ghost use Rattle.commonware_parallel.specs.Rayon.{planning_of, threads_of, starts_of};
     ghost use Rattle.commonware_parallel.specs.declared.mocks.rule.Rule.TheVariants.{Parallel, Seeded};
 
     /// Over the strategy's pool and planned as it is, the parallel way of every call.
@@ -40,6 +41,7 @@ impl Explorer {
     pub fn parallel<C>(strategy: &Rayon<C>) -> Result<Explorer, Fault>
         ensures planning { IfOk result (λ explorer. plans_of explorer ≡ planning_of strategy.now) }
         ensures threads { IfOk result (λ explorer. pool_threads explorer ≡ threads_of strategy.now) }
+        ensures starts { IfOk result (λ explorer. explorer_starts explorer ≡ starts_of strategy.now) }
         ensures rule { IfOk result (λ explorer. rule_of explorer ≡ Parallel) }
         ensures fault { IsMemoryOnErr result }
     {
@@ -47,6 +49,7 @@ impl Explorer {
         Ok(Explorer {
             pool,
             parallelism: strategy.parallelism,
+            starts_workers: strategy.starts_workers,
             rule: Rule::Parallel,
         })
     }
@@ -60,6 +63,7 @@ impl Explorer {
     pub fn seeded<C>(strategy: &Rayon<C>, seed: u64) -> Result<Explorer, Fault>
         ensures planning { IfOk result (λ explorer. plans_of explorer ≡ planning_of strategy.now) }
         ensures threads { IfOk result (λ explorer. pool_threads explorer ≡ threads_of strategy.now) }
+        ensures starts { IfOk result (λ explorer. explorer_starts explorer ≡ starts_of strategy.now) }
         ensures rule { IfOk result (λ explorer. rule_of explorer ≡ Seeded seed) }
         ensures fault { IsMemoryOnErr result }
     {
@@ -67,6 +71,7 @@ impl Explorer {
         Ok(Explorer {
             pool,
             parallelism: strategy.parallelism,
+            starts_workers: strategy.starts_workers,
             rule: Rule::Seeded(seed),
         })
     }
@@ -92,7 +97,7 @@ impl Explorer {
 }
 
 impl Strategy for Explorer {
-    ghost use Rattle.commonware_parallel.specs.Explorers.{plans_of, pool_threads, rule_of, ExplorerTakes, ExplorerRefuses};
+    ghost use Rattle.commonware_parallel.specs.Explorers.{plans_of, pool_threads, rule_of, explorer_starts, ExplorerTakes, ExplorerRefuses};
 
     ghost takes = { λ explorer site call pick. ExplorerTakes explorer site call pick };
 
@@ -102,7 +107,7 @@ impl Strategy for Explorer {
 
     ghost threads = { λ explorer. pool_threads explorer };
 
-    ghost starts = { λ _. true };
+    ghost starts = { λ explorer. explorer_starts explorer };
 
     ghost unasked = { λ explorer. nat_eq (plans_of explorer) 1 };
 
@@ -117,7 +122,7 @@ impl Strategy for Explorer {
     }
 
     fn starts_workers(&self) -> bool {
-        true
+        self.starts_workers
     }
 
     fn is_serial(&self) -> bool {
@@ -129,6 +134,7 @@ impl Strategy for Explorer {
         Ok(Explorer {
             pool,
             parallelism: self.parallelism,
+            starts_workers: self.starts_workers,
             rule: self.rule,
         })
     }

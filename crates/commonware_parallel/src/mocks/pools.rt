@@ -1,8 +1,8 @@
 // Pools for tests.
-ghost use Rattle.std.specs.Prelude.{◌≡◌, IfOk, IfErr, min, true};
+ghost use Rattle.std.specs.Prelude.{◌≡◌, IfOk, IfErr, ◌≤◌, false, min, true};
 ghost use Rattle.std.specs.Int.NonZero.{non_zero_usize_get};
 ghost use Rattle.parallel_pool.specs.declared.rayon.build_error.ThreadPoolBuildError.TheVariants.{Memory};
-ghost use Rattle.commonware_parallel.specs.Rayon.{planning_of, threads_of, chooses_of};
+ghost use Rattle.commonware_parallel.specs.Rayon.{planning_of, threads_of, chooses_of, starts_of};
 
 use crate::rayon_strategy::Rayon;
 use parallel_policy::Clock;
@@ -27,6 +27,7 @@ pub fn pooled<Rt: Threads, C: Clock>(
     ensures threads { IfOk result (λ strategy. threads_of strategy ≡ min (non_zero_usize_get workers) MAX_THREADS) }
     ensures planning { IfOk result (λ strategy. planning_of strategy ≡ non_zero_usize_get parallelism) }
     ensures chooses { IfOk result (λ strategy. chooses_of strategy ≡ true) }
+    ensures starts { IfOk result (λ strategy. starts_of strategy ≡ true) }
     ensures refused { IfErr result (λ error. error ≡ Memory) }
 {
     let strategy = Rayon::new(rt, alloc, workers, clock)?;
@@ -47,7 +48,33 @@ pub fn inline<Rt: Threads, C: Clock>(
     ensures threads { IfOk result (λ strategy. threads_of strategy ≡ 1) }
     ensures planning { IfOk result (λ strategy. planning_of strategy ≡ non_zero_usize_get parallelism) }
     ensures chooses { IfOk result (λ strategy. chooses_of strategy ≡ true) }
+    ensures starts { IfOk result (λ strategy. starts_of strategy ≡ true) }
     ensures refused { IfErr result (λ error. error ≡ Memory) }
 {
     pooled(rt, alloc, NonZeroUsize::MIN, parallelism, clock)
+}
+
+/// A strategy over a pool of `workers` threads, 65535 at most, that are never started, planned for as
+/// many: a job that it hands off is dropped, and its answer stays pending.
+///
+/// It takes two workers at least: over one thread a job is run at once.
+///
+/// # Errors
+///
+/// Those of `Rayon::new`.
+pub fn pending<Rt: Threads, C: Clock>(
+    rt: &Rt,
+    alloc: Global,
+    workers: NonZeroUsize,
+    clock: C,
+) -> Result<Rayon<C>, ThreadPoolBuildError>
+    requires { 2 ≤ non_zero_usize_get workers }
+    ensures threads { IfOk result (λ strategy. threads_of strategy ≡ min (non_zero_usize_get workers) MAX_THREADS) }
+    ensures planning { IfOk result (λ strategy. planning_of strategy ≡ threads_of strategy) }
+    ensures chooses { IfOk result (λ strategy. chooses_of strategy ≡ true) }
+    ensures starts { IfOk result (λ strategy. starts_of strategy ≡ false) }
+    ensures refused { IfErr result (λ error. error ≡ Memory) }
+{
+    let strategy = Rayon::new(rt, alloc, workers, clock)?;
+    Ok(strategy.without_workers())
 }

@@ -65,6 +65,7 @@ fn explorer_by(pool: &Arc<ThreadPool, Global>, rule: Rule) -> Result<Explorer, E
     Ok(Explorer {
         pool,
         parallelism: NonZeroUsize::MIN.saturating_add(TASKS - 1),
+        starts_workers: true,
         rule,
     })
 }

@@ -1,5 +1,7 @@
-// Builds and jobs that are refused. Run with each allocation failing in turn: what is refused comes
-// back, and nothing is left running.
+// Builds and jobs that are refused: what is refused comes back, and no worker is left running.
+//
+// Run with each allocation failing in turn, and with each start of a thread failing in turn. A test
+// whose own boxes are refused has nothing to ask, and ends.
 ghost use Rattle.std.specs.Prelude.{◌≡◌};
 
 use crate::pool::pools::{Bell, becomes};
@@ -13,110 +15,179 @@ use std::test::Fail;
 
 #[test]
 fn a_start_that_is_refused_leaves_no_worker(rt: HostRuntime) -> Result<(), Fail> {
-    let ended = Arc::new(rt.alloc(), AtomicU64::new(0))?;
+    let Ok(ended) = Arc::new(rt.alloc(), AtomicU64::new(0)) else {
+        return Ok(());
+    };
     let bell = Bell {
         word: Arc::try_clone(&ended)?,
+    };
+    let Ok(handler) = Box::new(rt.alloc(), move |_: usize| bell.is_there()) else {
+        return Ok(());
     };
     let builder = ThreadPoolBuilder::new()
         .num_threads(4)
         .stack_size(usize::MAX);
-    let builder = builder.start_handler(Box::new(rt.alloc(), move |_: usize| bell.is_there())?);
-    match builder.build(&rt, rt.alloc()) {
+    match builder.start_handler(handler).build(&rt, rt.alloc()) {
         Ok(_) => assert!(rt; false, "no thread has such a stack"),
         Err(ThreadPoolBuildError::Memory | ThreadPoolBuildError::Spawn) => {}
     }
-    assert!(rt; becomes(&rt, &ended, 1));
+    assert_eq!(rt; ended.load(Ordering::SeqCst), 1);
     Ok(())
 }
 
 #[test]
 fn a_name_that_is_refused_is_want_of_memory(rt: HostRuntime) -> Result<(), Fail> {
-    let ended = Arc::new(rt.alloc(), AtomicU64::new(0))?;
+    let alloc = rt.alloc();
+    let Ok(ended) = Arc::new(alloc, AtomicU64::new(0)) else {
+        return Ok(());
+    };
     let bell = Bell {
         word: Arc::try_clone(&ended)?,
     };
-    let alloc = rt.alloc();
-    let builder = ThreadPoolBuilder::new().num_threads(4);
-    let builder = builder.start_handler(Box::new(alloc, move |_: usize| bell.is_there())?);
-    let builder = builder.thread_name(Box::new(alloc, move |index: usize| {
+    let Ok(handler) = Box::new(alloc, move |_: usize| bell.is_there()) else {
+        return Ok(());
+    };
+    let Ok(names) = Box::new(alloc, move |index: usize| {
         if index == 2 {
             Err(AllocError)
         } else {
             String::from_str(alloc, "worker")
         }
-    })?);
+    }) else {
+        return Ok(());
+    };
+    let builder = ThreadPoolBuilder::new()
+        .num_threads(4)
+        .start_handler(handler)
+        .thread_name(names);
     let refused = builder.build(&rt, alloc);
     assert!(rt; matches!(refused, Err(ThreadPoolBuildError::Memory)));
-    assert!(rt; becomes(&rt, &ended, 1));
+    assert_eq!(rt; ended.load(Ordering::SeqCst), 1);
     Ok(())
 }
 
 #[test]
 fn a_build_works_or_leaves_no_worker(rt: HostRuntime) -> Result<(), Fail> {
-    let ended = Arc::new(rt.alloc(), AtomicU64::new(0))?;
+    let alloc = rt.alloc();
+    let (Ok(ended), Ok(begun)) = (
+        Arc::new(alloc, AtomicU64::new(0)),
+        Arc::new(alloc, AtomicU64::new(0)),
+    ) else {
+        return Ok(());
+    };
     let bell = Bell {
         word: Arc::try_clone(&ended)?,
     };
-    let builder = ThreadPoolBuilder::new().num_threads(3);
-    let builder = builder.start_handler(Box::new(rt.alloc(), move |_: usize| bell.is_there())?);
-    match builder.build(&rt, rt.alloc()) {
-        Ok((pool, _none)) => pool.close(&rt),
-        Err(ThreadPoolBuildError::Memory | ThreadPoolBuildError::Spawn) => {}
+    let theirs = Arc::try_clone(&begun)?;
+    let Ok(handler) = Box::new(alloc, move |_: usize| {
+        bell.is_there();
+        theirs.fetch_add(1, Ordering::SeqCst);
+    }) else {
+        return Ok(());
+    };
+    let builder = ThreadPoolBuilder::new().num_threads(4);
+    match builder.start_handler(handler).build(&rt, alloc) {
+        Ok((pool, _none)) => {
+            pool.close(&rt);
+            assert_eq!(rt; begun.load(Ordering::SeqCst), 4);
+            assert!(rt; becomes(&rt, &ended, 1));
+        }
+        Err(ThreadPoolBuildError::Memory | ThreadPoolBuildError::Spawn) => {
+            assert_eq!(rt;
+                ended.load(Ordering::SeqCst),
+                1,
+                "no worker has the handler"
+            );
+            let begun = begun.load(Ordering::SeqCst);
+            assert!(rt; begun < 4, "a worker was refused, and {begun} have begun");
+            eprintln!(rt; "a build was refused of which {begun} workers had begun")?;
+        }
     }
-    assert!(rt; becomes(&rt, &ended, 1));
     Ok(())
 }
 
 #[test]
 fn a_refused_job_comes_back_and_runs_when_called(rt: HostRuntime) -> Result<(), Fail> {
-    let (pool, _none) = ThreadPoolBuilder::new()
-        .num_threads(1)
-        .build(&rt, rt.alloc())?;
-    let called = Arc::new(rt.alloc(), AtomicU64::new(0))?;
-    for round in 0..70u64 {
+    let alloc = rt.alloc();
+    let builder = ThreadPoolBuilder::new().num_threads(1);
+    let (Ok(called), Ok((pool, _none))) = (
+        Arc::new(alloc, AtomicU64::new(0)),
+        builder.build(&rt, alloc),
+    ) else {
+        return Ok(());
+    };
+    let mut boxed = 0u64;
+    for _ in 0..140 {
         let theirs = Arc::try_clone(&called)?;
-        let job = OwnedJob::new(Box::new(rt.alloc(), move |_: usize| {
+        let Ok(job) = Box::new(alloc, move |_: usize| {
             theirs.fetch_add(1, Ordering::SeqCst);
-        })?);
-        if let Err((fault, job)) = pool.spawn(&rt, job) {
+        }) else {
+            continue;
+        };
+        boxed = boxed.wrapping_add(1);
+        if let Err((fault, job)) = pool.spawn(&rt, OwnedJob::new(job)) {
             assert_eq!(rt; fault, Fault::Memory);
+            assert!(rt;
+                becomes(&rt, &called, boxed.wrapping_sub(1)),
+                "it isn't called yet"
+            );
+            eprintln!(rt; "job {boxed} was refused")?;
             job.call(0);
         }
-        assert!(rt; becomes(&rt, &called, round.wrapping_add(1)));
+        assert!(rt; becomes(&rt, &called, boxed));
     }
     pool.close(&rt);
-    assert_eq!(rt; called.load(Ordering::SeqCst), 70);
+    assert_eq!(rt; called.load(Ordering::SeqCst), boxed);
     Ok(())
+}
+
+// What the first so many of the four broadcast jobs add, each called once.
+fn of_first(count: usize) -> u64 {
+    match count {
+        0 => 0,
+        1 => 1,
+        2 => 257,
+        3 => 65_793,
+        _ => 16_843_009,
+    }
 }
 
 #[test]
 fn jobs_that_were_not_broadcast_come_back_in_order(rt: HostRuntime) -> Result<(), Fail> {
-    let (pool, _none) = ThreadPoolBuilder::new()
-        .num_threads(4)
-        .build(&rt, rt.alloc())?;
-    let called = Arc::new(rt.alloc(), AtomicU64::new(0))?;
-    let mut jobs = VecDeque::new(rt.alloc());
+    let alloc = rt.alloc();
+    let builder = ThreadPoolBuilder::new().num_threads(4);
+    let (Ok(called), Ok((pool, _none)), Ok(mut jobs)) = (
+        Arc::new(alloc, AtomicU64::new(0)),
+        builder.build(&rt, alloc),
+        VecDeque::with_capacity(alloc, 4),
+    ) else {
+        return Ok(());
+    };
     for unit in [1u64, 256, 65_536, 16_777_216] {
         let theirs = Arc::try_clone(&called)?;
-        jobs.push_back(OwnedJob::new(Box::new(rt.alloc(), move |_: usize| {
+        let Ok(job) = Box::new(alloc, move |_: usize| {
             theirs.fetch_add(unit, Ordering::SeqCst);
-        })?))?;
+        }) else {
+            return Ok(());
+        };
+        jobs.push_back(OwnedJob::new(job))?;
     }
     assert!(rt; jobs.len() == pool.current_num_threads());
     if let Err((fault, refused)) = pool.spawn_broadcast(&rt, jobs) {
         assert_eq!(rt; fault, Fault::Memory);
-        let queued = match refused.len() {
-            1 => 65_793,
-            2 => 257,
-            3 => 1,
-            _ => 0,
-        };
-        assert!(rt; becomes(&rt, &called, queued));
+        let mut first = 4usize.saturating_sub(refused.len());
+        eprintln!(rt; "broadcast job {first} was refused")?;
+        assert!(rt;
+            becomes(&rt, &called, of_first(first)),
+            "those before it are called"
+        );
         for job in refused {
             job.call(0);
+            first = first.wrapping_add(1);
+            assert_eq!(rt; called.load(Ordering::SeqCst), of_first(first), "in order");
         }
     }
     pool.close(&rt);
-    assert_eq!(rt; called.load(Ordering::SeqCst), 0x0101_0101);
+    assert_eq!(rt; called.load(Ordering::SeqCst), of_first(4), "each once");
     Ok(())
 }

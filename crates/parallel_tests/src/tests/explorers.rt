@@ -1,10 +1,13 @@
 // Explorers: what they pick, and what the search through the rules answers.
+ghost use Rattle.parallel_shares.specs.Grid.{Fits};
+
 use crate::tests::strategies::{SITE, Stopped, number, pool};
 use commonware_parallel::mocks::{
     ExploreError, Explorer, Rule, TASKS, WORKERS, explore, inline, mix, pick, pooled,
 };
-use commonware_parallel::{Fault, Site, Strategy, Trouble};
+use commonware_parallel::{Fault, Grid, Site, Strategy, Trouble};
 use std::alloc::Global;
+use std::ops::Range;
 use std::process::Abort;
 use std::sync::Wait;
 use std::sync::atomic::{AtomicU64, Ordering};
@@ -91,6 +94,88 @@ fn a_seed_picks_the_body_and_the_number_of_ranges(rt: HostRuntime) -> Result<(),
         batches.ranges() == [0..13, 13..26, 26..39, 39..52, 52..64].as_slice()
     })?;
     assert!(rt; same);
+    Ok(())
+}
+
+#[test]
+fn a_seed_picks_the_number_of_workers_of_tiles(rt: HostRuntime) -> Result<(), Fail> {
+    let alloc = rt.alloc();
+    let grids = [Grid {
+        rows: 64,
+        tile_cost: number(&rt, 1),
+    }];
+    assert!(rt; Grid::fits(&grids, 64));
+    for (seed, workers) in [(0, 5), (1, 8), (2, 3), (3, 5)] {
+        let explorer = by_seed(&rt, alloc, seed);
+        let planned = explorer.run_tiles(&rt, alloc, PLACE, 64, &grids, 1, |tiles| {
+            tiles.workers().get()
+        })?;
+        assert_eq!(rt; planned, workers, "seed {seed}");
+    }
+    Ok(())
+}
+
+// How many cells tiles of 9 rows of 100 fill, through an explorer.
+fn cells_filled<Rt: Threads + Wait + Sync>(
+    rt: &Rt,
+    alloc: Global,
+    explorer: &Explorer,
+    grids: &[Grid],
+) -> Result<usize, Fault>
+    requires { Fits grids.now 100 }
+{
+    explorer.run_tiles(rt, alloc, SITE, 100, grids, 1, |tiles| {
+        let counts = tiles.fill_collect_vec(
+            rt,
+            alloc,
+            || 0_usize,
+            |count: &mut usize, _row: usize, columns: Range<usize>| {
+                *count = count.saturating_add(columns.end.saturating_sub(columns.start));
+            },
+            |count: &mut usize, _row: usize| {
+                let cells = *count;
+                *count = 0;
+                cells
+            },
+        )?;
+        let mut cells = 0_usize;
+        for count in counts {
+            cells = cells.saturating_add(count);
+        }
+        Ok(cells)
+    })?
+}
+
+#[test]
+fn tiles_and_sorts_come_out_alike_by_every_rule(rt: HostRuntime) -> Result<(), Fail> {
+    let alloc = rt.alloc();
+    let grids = [Grid {
+        rows: 9,
+        tile_cost: number(&rt, 3),
+    }];
+    assert!(rt; Grid::fits(&grids, 100));
+    let cells = explore(&rt, alloc, |explorer| {
+        cells_filled(&rt, alloc, explorer, &grids).ok()
+    })?;
+    assert_eq!(rt; cells, Some(900));
+    let mut numbers = Vec::new(alloc);
+    for n in 0..20_000_u64 {
+        numbers.push(n.wrapping_mul(7_919) % 20_011)?;
+    }
+    let is_sorted = explore(&rt, alloc, |explorer| {
+        numbers.reverse();
+        explorer
+            .sort_by(
+                &rt,
+                alloc,
+                SITE,
+                &mut numbers,
+                |left, right| left.cmp(right),
+            )
+            .is_ok()
+            && numbers.is_sorted()
+    })?;
+    assert!(rt; is_sorted);
     Ok(())
 }
 

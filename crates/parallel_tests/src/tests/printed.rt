@@ -63,8 +63,8 @@ fn values_print_their_parts(rt: HostRuntime) -> Result<(), Fail> {
     assert_eq!(rt; format!(in alloc; "{Sequential:?}")?.as_str(), "Sequential");
     assert_eq!(rt; format!(in alloc; "{Unmeasured:?}")?.as_str(), "Unmeasured");
     let strategy = pool(&rt, alloc, 2, 3);
-    let text =
-        "Rayon { pool: ThreadPool { num_threads: 2 }, parallelism: 3, clock: Stopped, policy: None }";
+    let text = "Rayon { pool: ThreadPool { num_threads: 2 }, parallelism: 3, starts_workers: true, \
+         clock: Stopped, policy: None }";
     assert_eq!(rt; format!(in alloc; "{strategy:?}")?.as_str(), text);
     let long = LongLists::new(number(&rt, 2), 64);
     assert_eq!(rt;

@@ -1,6 +1,7 @@
 // Runs, and the numbers of a pool.
 use crate::beyond::{planned_pool, run_parallel, run_serial};
 use crate::tests::strategies::{SITE, Stopped, number, pool};
+use commonware_parallel::rayon::ThreadPoolBuilder;
 use commonware_parallel::{Clock, MonotonicClock, Rayon, Sequential, Strategy};
 use std::test::Fail;
 use uses::long_lists::LongLists;
@@ -63,6 +64,20 @@ fn the_planning_number_chooses(rt: HostRuntime) -> Result<(), Fail> {
     assert_eq!(rt; planned.planning().get(), 4);
     assert_eq!(rt; planned.thread_number().get(), 1);
     let answer = run_parallel(&rt, alloc, &planned, SITE, 2, || "serial", || "parallel")?;
+    assert_eq!(rt; answer, "parallel");
+    Ok(())
+}
+
+#[test]
+fn a_strategy_has_the_number_of_a_pool_that_was_built(rt: HostRuntime) -> Result<(), Fail> {
+    let alloc = rt.alloc();
+    let builder = ThreadPoolBuilder::new().num_threads(3);
+    let (built, _none) = builder.build(&rt, alloc)?;
+    let strategy = Rayon::with_pool(alloc, &built, Stopped)?;
+    drop(built);
+    assert_eq!(rt; strategy.planning().get(), 3);
+    assert_eq!(rt; strategy.thread_number().get(), 3);
+    let answer = one_of(&rt, alloc, &strategy, SITE, 64, "serial", "parallel")?;
     assert_eq!(rt; answer, "parallel");
     Ok(())
 }

@@ -1,12 +1,13 @@
 // Tiles: which cells are filled, for how many workers, and what is answered for each row.
 use crate::tests::strategies::{SITE, number, pool};
+use crate::tests::threads::sees;
 use commonware_parallel::shares::machine::{Event, Outcome, Plan, replay};
-use commonware_parallel::{Fault, Grid, Sequential, Strategy};
+use commonware_parallel::{Fault, Grid, Sequential, Site, Strategy, Tiles};
 use std::alloc::Global;
 use std::ops::Range;
 use std::process::Abort;
 use std::sync::Wait;
-use std::sync::atomic::{AtomicU64, Ordering};
+use std::sync::atomic::{AtomicBool, AtomicU64, Ordering};
 use std::test::Fail;
 use std::thread::Threads;
 use uses::tile_rows::cells_by_stretch;
@@ -183,6 +184,62 @@ fn each_cell_is_filled_once(rt: HostRuntime) -> Result<(), Fail> {
             covers(&rt, alloc, &strategy, rows, len, tile_cost)?;
         }
     }
+    Ok(())
+}
+
+// A flag for each of two rows.
+#[derive(Drop)]
+struct Flags {
+    first: AtomicBool,
+    second: AtomicBool,
+}
+
+impl Flags {
+    // Sets the row's flag, and answers whether the other row's was seen.
+    fn meet(&self, row: usize) -> bool {
+        if row == 0 {
+            sees(&self.first, &self.second)
+        } else {
+            sees(&self.second, &self.first)
+        }
+    }
+}
+
+// For each stretch, whether its row saw the other one.
+fn meetings<Rt: Threads + Wait + Sync, S: Strategy>(
+    rt: &Rt,
+    alloc: Global,
+    tiles: Tiles<'_, S, Site>,
+    flags: &Flags,
+) -> Result<Vec<bool>, Fault> {
+    let fill = |seen: &mut bool, row: usize, _: Range<usize>| *seen = flags.meet(row);
+    tiles.fill_collect_vec(rt, alloc, || false, fill, |seen: &mut bool, _: usize| *seen)
+}
+
+// The same over rows of 8 cells, which stay whole where a tile costs more.
+fn meet_in_tiles<Rt: Threads + Wait + Abort + Sync, S: Strategy>(
+    rt: &Rt,
+    alloc: Global,
+    strategy: &S,
+    flags: &Flags,
+) -> Result<Vec<bool>, Fault> {
+    let grids = [grid(rt, 2, 9)];
+    assert!(rt; Grid::fits(&grids, 8));
+    strategy.run_tiles(rt, alloc, SITE, 8, &grids, 1, |tiles| {
+        meetings(rt, alloc, tiles, flags)
+    })?
+}
+
+#[test]
+fn two_rows_see_each_other_on_two_threads(rt: HostRuntime) -> Result<(), Fail> {
+    let alloc = rt.alloc();
+    let two = pool(&rt, alloc, 2, 2);
+    let flags = Flags {
+        first: AtomicBool::new(false),
+        second: AtomicBool::new(false),
+    };
+    let seen = meet_in_tiles(&rt, alloc, &two, &flags)?;
+    assert_eq!(rt; seen.as_slice(), [true, true].as_slice());
     Ok(())
 }
 

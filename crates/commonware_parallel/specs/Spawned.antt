@@ -1,0 +1,81 @@
+-- a job that was spawned: how it began, what it may answer, and what it waits for
+use Rattle.std.specs.Prelude.{◌≡◌, ◌⊎◌, ℕ, Bool, true, false, not, nat_eq, if◌then◌else◌}
+use Rattle.std.specs.Arc.{arc_value}
+use Rattle.parallel_fault.specs.declared.fault.Fault.{Fault}
+use Rattle.parallel_fault.specs.declared.fault.Fault.TheVariants.{Memory, Worker}
+use Rattle.commonware_parallel.specs.declared.spawned.Spawned.{Spawned}
+use Rattle.commonware_parallel.specs.declared.spawned.Stage.{Stage}
+use Rattle.commonware_parallel.specs.declared.spawned.Stage.TheVariants.{Ready, Waiting, Unstarted, Taken}
+use Rattle.commonware_parallel.specs.Calls.{AtSomePick}
+
+-- whether the answer is here
+abbrev pub is_ready_at : {S F T : Type 0} → Stage S F T → Bool
+is_ready_at (Ready answer) = true
+is_ready_at (Waiting worker ending) = false
+is_ready_at Unstarted = false
+is_ready_at Taken = false
+
+-- whether there is no worker, and won't be one
+abbrev pub is_unstarted_at : {S F T : Type 0} → Stage S F T → Bool
+is_unstarted_at (Ready answer) = false
+is_unstarted_at (Waiting worker ending) = false
+is_unstarted_at Unstarted = true
+is_unstarted_at Taken = false
+
+-- whether the answer was taken
+abbrev pub is_taken_at : {S F T : Type 0} → Stage S F T → Bool
+is_taken_at (Ready answer) = false
+is_taken_at (Waiting worker ending) = false
+is_taken_at Unstarted = false
+is_taken_at Taken = true
+
+-- the answer that is here, or one that the job allows on the strategy that went with it to a worker; else none
+abbrev pub gives_at : {S F T : Type 0} → (F → S → T → Type 0) → Stage S F T → T → Type 0
+gives_at may_answer (Ready answer) x = x ≡ answer
+gives_at may_answer (Waiting worker ending) x = may_answer worker.promise.job.value worker.promise.strategy.value x
+gives_at may_answer Unstarted x = ⊥
+gives_at may_answer Taken x = ⊥
+
+-- the source at which a pending poll leaves its waker, where never is one that doesn't fire
+abbrev pub needs_at : {S F T : Type 0} → Stage S F T → ℕ → ℕ → Type 0
+needs_at (Ready answer) never source = ⊥
+needs_at (Waiting worker ending) never source = source ≡ (arc_value ending).ended.id
+needs_at Unstarted never source = source ≡ never
+needs_at Taken never source = source ≡ never
+
+-- how far a job is
+abbrev pub stage_of : {R S F T : Type 0} → Spawned R S F T → Stage S F T
+stage_of spawned = spawned.stage
+
+-- whether the next poll gives the answer
+abbrev pub is_ready_now : {R S F T : Type 0} → Spawned R S F T → Bool
+is_ready_now spawned = is_ready_at spawned.stage
+
+-- whether no worker was started for it, so that it stays pending
+abbrev pub is_without_worker : {R S F T : Type 0} → Spawned R S F T → Bool
+is_without_worker spawned = is_unstarted_at spawned.stage
+
+-- whether its answer was taken
+abbrev pub is_taken : {R S F T : Type 0} → Spawned R S F T → Bool
+is_taken spawned = is_taken_at spawned.stage
+
+-- what it may answer, where may_answer says it of its job on a strategy
+abbrev pub gives_answer : {R S F T : Type 0} → (F → S → T → Type 0) → Spawned R S F T → T → Type 0
+gives_answer may_answer spawned x = gives_at may_answer spawned.stage x
+
+-- what it waits for
+abbrev pub needs_of : {R S F T : Type 0} → Spawned R S F T → ℕ → Type 0
+needs_of spawned source = needs_at spawned.stage spawned.never.id source
+
+-- at pick 0 the answer is here; else there is a worker exactly where workers are started
+abbrev pub BeginsAs : {R S F T : Type 0} → Bool → ℕ → Spawned R S F T → Type 0
+BeginsAs starts pick spawned = (is_ready_now spawned ≡ nat_eq pick 0) × (is_taken spawned ≡ false)
+    × (is_without_worker spawned ≡ (if nat_eq pick 0 then false else not starts))
+
+-- a refusal behind the choice: for memory, or of a worker's start where one was to be started
+abbrev pub FailsToBegin : Bool → ℕ → Fault → Type 0
+FailsToBegin starts pick fault = (fault ≡ Memory) ⊎ ((fault ≡ Worker) × (starts ≡ true) × (nat_eq pick 0 ≡ false))
+
+-- a refusal of the choice, or one behind it
+abbrev pub FailsToSpawn : (ℕ → Type 0) → (Fault → Type 0) → Bool → Fault → Type 0
+FailsToSpawn takes refuses starts fault = refuses fault ⊎ AtSomePick takes (λ pick. FailsToBegin starts pick fault)

@@ -1,0 +1,100 @@
+// How a job begins: at once, on a worker of its own, or never.
+ghost use Rattle.std.specs.Prelude.{IfErr, IfOk, true};
+ghost use Rattle.commonware_parallel.specs.Spawned.{BeginsAs, FailsToBegin, gives_answer};
+
+use crate::meter::Meter;
+use crate::spawned::ending::Ending;
+use crate::spawned::job::{Job, Kept};
+use crate::spawned::{Spawned, Stage};
+use parallel_fault::Fault;
+use std::alloc::Global;
+use std::sync::{Arc, Wait};
+use std::thread;
+use std::thread::Threads;
+
+/// Begins a job: at pick 0 on the caller's thread, else on a worker of its own, where workers are
+/// started. Where they aren't the job is dropped, and never answers.
+///
+/// # Errors
+///
+/// `Fault::Memory` where memory was refused before the worker was started; `Fault::Worker` where its
+/// start was refused. The job is then dropped.
+pub(crate) fn begin<
+    R: Threads + Wait + Copy + Send + 'static,
+    M: Meter + Send + 'static,
+    S: Send + Drop + 'static,
+    F: Job<S, T> + Send + Drop + 'static,
+    T: Send + Drop + 'static,
+>(
+    rt: R,
+    alloc: Global,
+    pick: usize,
+    starts: bool,
+    meter: M,
+    strategy: S,
+    job: F,
+) -> Result<Spawned<R, S, F, T>, Fault>
+    requires { F.may_run job strategy }
+    ensures gives { IfOk result (λ spawned. (x : T) → gives_answer F.may_answer spawned x → F.may_answer job strategy x) }
+    ensures form { IfOk result (BeginsAs starts pick) }
+    ensures refused { IfErr result (FailsToBegin starts pick) }
+{
+    if pick == 0 {
+        Ok(run_here(rt, meter, strategy, job))
+    } else if starts {
+        hand_off(rt, alloc, meter, strategy, job)
+    } else {
+        Ok(Spawned::at(rt, Stage::Unstarted))
+    }
+}
+
+// Runs a job on the caller's thread.
+fn run_here<R: Wait, M: Meter, S, F: Job<S, T>, T>(
+    rt: R,
+    meter: M,
+    strategy: S,
+    job: F,
+) -> Spawned<R, S, F, T>
+    requires { F.may_run job strategy }
+    ensures gives { (x : T) → gives_answer F.may_answer result x → F.may_answer job strategy x }
+    ensures form { BeginsAs true 0 result }
+{
+    let mut meter = meter;
+    meter.begin();
+    let answer = job.run_on(strategy);
+    meter.end(&rt);
+    Spawned::at(rt, Stage::Ready(answer))
+}
+
+// Hands a job off to a worker of its own, which measures it, and tells when it has ended.
+fn hand_off<
+    R: Threads + Wait + Copy + Send + 'static,
+    M: Meter + Send + 'static,
+    S: Send + Drop + 'static,
+    F: Job<S, T> + Send + Drop + 'static,
+    T: Send + Drop + 'static,
+>(rt: R, alloc: Global, meter: M, strategy: S, job: F) -> Result<Spawned<R, S, F, T>, Fault>
+    requires { F.may_run job strategy }
+    ensures gives { IfOk result (λ spawned. (x : T) → gives_answer F.may_answer spawned x → F.may_answer job strategy x) }
+    ensures form { IfOk result (BeginsAs true 1) }
+    ensures refused { IfErr result (FailsToBegin true 1) }
+{
+    let ending = Arc::new(alloc, Ending::new())?;
+    let theirs = Arc::try_clone(&ending)?;
+    let kept = Kept::of(&job, &strategy);
+    let mut meter = meter;
+    let run = move || -> T
+        requires { F.may_run job strategy }
+        ensures { F.may_answer job strategy result }
+    {
+        meter.begin();
+        let answer = job.run_on(strategy);
+        meter.end(&rt);
+        theirs.end(&rt);
+        answer
+    };
+    match thread::spawn_with(&rt, kept, run) {
+        Ok(worker) => Ok(Spawned::at(rt, Stage::Waiting(worker, ending))),
+        Err(_) => Err(Fault::Worker),
+    }
+}

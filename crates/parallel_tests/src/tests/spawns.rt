@@ -1,0 +1,348 @@
+// Spawned jobs: where they run, what they answer, and what a policy learns of them.
+ghost use Rattle.std.specs.Prelude.{◌≡◌, ⊤};
+
+use crate::tests::strategies::{SITE, Stopped, number, pool};
+use commonware_parallel::mocks::{Explorer, inline, pending};
+use commonware_parallel::rayon::ThreadPoolBuildError;
+use commonware_parallel::{Clock, Fault, Job, Rayon, Sequential, Site, Spawned, Strategy};
+use futures::executor::block_on;
+use futures::future::join_all;
+use futures::task::Poll;
+use futures::test::MockTask;
+use std::alloc::{AllocGlobal, Global};
+use std::process::Abort;
+use std::random::RandomSource;
+use std::sync::atomic::{AtomicU64, Ordering};
+use std::sync::{Arc, Wait};
+use std::test::Fail;
+use std::thread;
+use std::thread::Threads;
+use uses::spawned_jobs::{counts_beside, two_counts};
+
+// Turns to wait for what another thread counts.
+const TURNS: u64 = 10_000_000;
+
+// Answers its number.
+#[derive(Drop)]
+struct Gives(u64);
+
+impl<S: Drop> Job<S, u64> for Gives {
+    ghost may_run = { λ _ _. ⊤ };
+
+    ghost may_answer = { λ job _ answer. answer ≡ job.0 };
+
+    fn run_on(self, _strategy: S) -> u64 {
+        self.0
+    }
+}
+
+// Counts a word up by its number, and answers the number.
+#[derive(Drop)]
+struct Counts {
+    word: Arc<AtomicU64, Global>,
+    by: u64,
+}
+
+impl<S: Drop> Job<S, u64> for Counts {
+    ghost may_run = { λ _ _. ⊤ };
+
+    ghost may_answer = { λ job _ answer. answer ≡ job.by };
+
+    fn run_on(self, _strategy: S) -> u64 {
+        self.word.fetch_add(self.by, Ordering::SeqCst);
+        self.by
+    }
+}
+
+// A clock that is read three times for each measured run: when it is chosen, when it begins, `overhead`
+// later, and when it has ended, `time` after that.
+#[derive(Clone, Debug, Drop)]
+struct Scripted {
+    readings: Arc<AtomicU64, Global>,
+    time: Arc<AtomicU64, Global>,
+    overhead: u64,
+}
+
+impl Scripted {
+    fn new(rt: &impl Abort, alloc: Global, time: u64, overhead: u64) -> Scripted {
+        let readings = Arc::new(alloc, AtomicU64::new(0));
+        let time = Arc::new(alloc, AtomicU64::new(time));
+        Scripted {
+            readings: readings.expect(rt, "memory for a clock"),
+            time: time.expect(rt, "memory for a clock"),
+            overhead,
+        }
+    }
+}
+
+impl Clock for Scripted {
+    fn now(&self) -> u64 {
+        match self.readings.fetch_add(1, Ordering::SeqCst) % 3 {
+            0 => 0,
+            1 => self.overhead,
+            _ => self.overhead.wrapping_add(self.time.load(Ordering::SeqCst)),
+        }
+    }
+}
+
+// A pool of four threads with a fresh policy, and a clock.
+fn learning<Rt: Threads + Abort>(rt: &Rt, alloc: Global, clock: Scripted) -> Rayon<Scripted> {
+    Rayon::new(rt, alloc, number(rt, 4), clock).expect(rt, "memory for a pool")
+}
+
+// Whether a job was handed off. It is waited for, and answers 7.
+fn is_handed_off<
+    Rt: Threads + Wait + RandomSource + AllocGlobal + Abort + Copy + Send + 'static,
+    S: Strategy,
+>(rt: &Rt, strategy: &S, site: Site) -> bool {
+    let spawned = strategy.spawn(rt, rt.alloc(), site, 1, Gives(7));
+    let spawned = spawned.expect(rt, "a job");
+    let is_ready = spawned.is_ready();
+    let answer = block_on(rt, spawned).expect(rt, "a queue");
+    assert_eq!(rt; answer, 7);
+    !is_ready
+}
+
+#[test]
+fn a_job_runs_at_once_or_on_a_worker(rt: HostRuntime) -> Result<(), Fail> {
+    let alloc = rt.alloc();
+    assert!(rt; !is_handed_off(&rt, &Sequential, SITE));
+    assert!(rt; !is_handed_off(&rt, &pool(&rt, alloc, 1, 1), SITE));
+    assert!(rt; is_handed_off(&rt, &pool(&rt, alloc, 4, 4), SITE));
+    // It goes by the pool's threads, whatever the strategy is planned for.
+    assert!(rt; is_handed_off(&rt, &pool(&rt, alloc, 4, 1), SITE));
+    assert!(rt; !is_handed_off(&rt, &pool(&rt, alloc, 1, 4), SITE));
+    let one = inline(&rt, alloc, number(&rt, 4), Stopped)?;
+    assert!(rt; !is_handed_off(&rt, &one, SITE));
+    Ok(())
+}
+
+#[test]
+fn an_answer_is_given_once(rt: HostRuntime) -> Result<(), Fail> {
+    let alloc = rt.alloc();
+    let task = MockTask::new(&rt)?;
+    let mut ready = Sequential.spawn(&rt, alloc, SITE, 1, Gives(7))?;
+    assert!(rt; ready.is_ready());
+    assert_eq!(rt; task.poll(&mut ready), Poll::Ready(7));
+    assert!(rt; !ready.is_ready());
+    assert_eq!(rt; task.poll(&mut ready), Poll::Pending);
+    let polled = task.enter(|cx| Spawned::poll(&mut ready, cx));
+    assert_eq!(rt; polled, Poll::Pending);
+    Ok(())
+}
+
+#[test]
+fn an_explorer_spawns_by_its_rule(rt: HostRuntime) -> Result<(), Fail> {
+    let alloc = rt.alloc();
+    let place = Site { file: "a", ..SITE };
+    let eight = pool(&rt, alloc, 4, 8);
+    for (seed, is_aside) in [(0, true), (1, false), (2, true), (3, true)] {
+        let explorer = Explorer::seeded(&eight, seed)?;
+        assert!(rt;
+            is_handed_off(&rt, &explorer, place) == is_aside,
+            "seed {seed}"
+        );
+    }
+    let planned_for_one = Explorer::parallel(&pool(&rt, alloc, 2, 1))?;
+    assert!(rt; is_handed_off(&rt, &planned_for_one, place));
+    let single = Explorer::parallel(&pool(&rt, alloc, 1, 4))?;
+    let refused = single.spawn(&rt, alloc, place, 1, Gives(7));
+    assert!(rt; matches!(refused, Err(Fault::HandOff)));
+    Ok(())
+}
+
+// Whether a job that is handed off gets no worker: it is pending, and was let go.
+fn is_never_run<
+    Rt: Threads + Wait + RandomSource + AllocGlobal + Copy + Send + 'static,
+    S: Strategy,
+>(rt: &Rt, strategy: &S) -> Result<bool, Fail> {
+    let word = Arc::new(rt.alloc(), AtomicU64::new(0))?;
+    let job = Counts {
+        word: Arc::try_clone(&word)?,
+        by: 1,
+    };
+    let mut spawned = strategy.spawn(rt, rt.alloc(), SITE, 1, job)?;
+    let is_waiting = !spawned.is_ready();
+    let task = MockTask::new(rt)?;
+    let is_pending = matches!(task.poll(&mut spawned), Poll::Pending);
+    Ok(
+        is_waiting
+            && is_pending
+            && Arc::strong_count(&word) == 1
+            && word.load(Ordering::SeqCst) == 0,
+    )
+}
+
+#[test]
+fn a_pool_without_workers_leaves_its_jobs_pending(rt: HostRuntime) -> Result<(), Fail> {
+    let alloc = rt.alloc();
+    let idle = pending(&rt, alloc, number(&rt, 2), Stopped)?;
+    assert!(rt; is_never_run(&rt, &idle)?);
+    assert!(rt; is_never_run(&rt, &idle.without_policy()?)?);
+    assert!(rt; is_never_run(&rt, &Explorer::parallel(&idle)?)?);
+    // Its other calls go on scoped threads.
+    let ran = idle
+        .without_policy()?
+        .run(&rt, alloc, SITE, 2, || "serial", || "parallel")?;
+    assert_eq!(rt; ran, "parallel");
+    let single = pool(&rt, alloc, 1, 1).without_workers();
+    assert!(rt; !is_handed_off(&rt, &single, SITE));
+    Ok(())
+}
+
+#[test]
+fn a_thousand_jobs_are_awaited_in_one_task(rt: HostRuntime) -> Result<(), Fail> {
+    let alloc = rt.alloc();
+    let strategy = pool(&rt, alloc, 4, 4);
+    let mut jobs = Vec::new(alloc);
+    for number in 0..1000 {
+        jobs.push(strategy.spawn(&rt, alloc, SITE, 1, Gives(number))?)?;
+    }
+    let answers = block_on(&rt, join_all(alloc, jobs)?)??;
+    let mut sum = 0u64;
+    for answer in &answers {
+        sum = sum.wrapping_add(*answer);
+    }
+    assert_eq!(rt; answers.len(), 1000);
+    assert_eq!(rt; sum, 499_500);
+    Ok(())
+}
+
+#[test]
+fn a_job_that_nobody_waits_for_runs_all_the_same(rt: HostRuntime) -> Result<(), Fail> {
+    let alloc = rt.alloc();
+    let strategy = pool(&rt, alloc, 4, 4);
+    let word = Arc::new(alloc, AtomicU64::new(0))?;
+    let counts = |word, by| Counts { word, by };
+    let first = counts(Arc::try_clone(&word)?, 1);
+    let second = counts(Arc::try_clone(&word)?, 2);
+    let let_go = strategy.spawn(&rt, alloc, SITE, 1, first)?;
+    let kept = strategy.spawn(&rt, alloc, SITE, 1, second)?;
+    drop(let_go);
+    assert_eq!(rt; block_on(&rt, kept)?, 2);
+    for _ in 0..TURNS {
+        if word.load(Ordering::SeqCst) == 3 {
+            break;
+        }
+        thread::yield_now();
+    }
+    assert_eq!(rt; word.load(Ordering::SeqCst), 3);
+    Ok(())
+}
+
+#[test]
+fn a_policy_weighs_a_job_against_its_hand_off(rt: HostRuntime) -> Result<(), Fail> {
+    let alloc = rt.alloc();
+    // The first job is handed off, and the next one is the dearer way, to see what it costs.
+    for (time, overhead, then) in [
+        (2_000, 50_000, [true, false, false]),
+        (1_000_000, 2_000_000, [true, false, false]),
+        (1_000_001, 2_000_000, [true, true, true]),
+        (50_000, 5_000, [false, true, true]),
+    ] {
+        let clock = Scripted::new(&rt, alloc, time, overhead);
+        let strategy = learning(&rt, alloc, clock);
+        assert!(rt; is_handed_off(&rt, &strategy, SITE), "{time}, {overhead}");
+        for is_aside in then {
+            assert!(rt;
+                is_handed_off(&rt, &strategy, SITE) == is_aside,
+                "{time}, {overhead}"
+            );
+        }
+    }
+    Ok(())
+}
+
+#[test]
+fn an_inline_run_is_measured_as_one(rt: HostRuntime) -> Result<(), Fail> {
+    let alloc = rt.alloc();
+    let clock = Scripted::new(&rt, alloc, 50_000, 5_000);
+    let time = Arc::try_clone(&clock.time)?;
+    let strategy = learning(&rt, alloc, clock);
+    assert!(rt; is_handed_off(&rt, &strategy, SITE));
+    time.store(1_000, Ordering::SeqCst);
+    assert!(rt; !is_handed_off(&rt, &strategy, SITE));
+    assert!(rt; !is_handed_off(&rt, &strategy, SITE));
+    Ok(())
+}
+
+#[test]
+fn a_pool_of_one_thread_measures_no_job(rt: HostRuntime) -> Result<(), Fail> {
+    let alloc = rt.alloc();
+    let clock = Scripted::new(&rt, alloc, 50_000, 5_000);
+    let readings = Arc::try_clone(&clock.readings)?;
+    let one = inline(&rt, alloc, number(&rt, 4), clock)?;
+    assert!(rt; !is_handed_off(&rt, &one, SITE));
+    assert_eq!(rt; readings.load(Ordering::SeqCst), 0);
+    Ok(())
+}
+
+#[test]
+fn a_dear_inline_run_is_tried_once_in_3200_jobs(rt: HostRuntime) -> Result<(), Fail> {
+    let alloc = rt.alloc();
+    let clock = Scripted::new(&rt, alloc, 50_000, 5_000);
+    let readings = Arc::try_clone(&clock.readings)?;
+    let strategy = learning(&rt, alloc, clock);
+    assert!(rt; is_handed_off(&rt, &strategy, SITE));
+    assert!(rt; !is_handed_off(&rt, &strategy, SITE));
+    for _ in 1..3200 {
+        assert!(rt; is_handed_off(&rt, &strategy, SITE));
+    }
+    // One job of ten was measured, besides the first two.
+    assert_eq!(rt; readings.load(Ordering::SeqCst), 3 * (2 + 319));
+    assert!(rt; !is_handed_off(&rt, &strategy, SITE));
+    Ok(())
+}
+
+#[test]
+fn flags_are_counted_in_jobs(rt: HostRuntime) -> Result<(), Fail> {
+    let alloc = rt.alloc();
+    let others = [true, false, true];
+    let flags = vec![in alloc; true, false, false]?;
+    let counts = counts_beside(&rt, &Sequential, SITE, flags, &others)?;
+    assert_eq!(rt; counts, (1, 2));
+    let flags = vec![in alloc; true, false, false]?;
+    let four = pool(&rt, alloc, 4, 4);
+    let counts = counts_beside(&rt, &four, SITE, flags, &others)?;
+    assert_eq!(rt; counts, (1, 2));
+    let flags = vec![in alloc; true, true, true]?;
+    let more = vec![in alloc; false, true]?;
+    assert_eq!(rt; two_counts(&rt, &four, SITE, flags, more)?, (3, 1));
+    Ok(())
+}
+
+// Jobs through a strategy, of which each one answers, or is refused memory or its worker.
+fn jobs_or_refusals<
+    Rt: Threads + Wait + RandomSource + AllocGlobal + Abort + Copy + Send + 'static,
+    S: Strategy,
+>(rt: &Rt, strategy: &S) {
+    for number in 0..4_u64 {
+        match strategy.spawn(rt, rt.alloc(), SITE, 1, Gives(number)) {
+            Ok(spawned) => {
+                // The wait needs memory of its own.
+                if let Ok(answer) = block_on(rt, spawned) {
+                    assert_eq!(rt; answer, number);
+                }
+            }
+            Err(fault) => assert!(rt; matches!(fault, Fault::Memory | Fault::Worker)),
+        }
+    }
+}
+
+#[test]
+fn spawned_jobs_answer_or_are_refused(rt: HostRuntime) {
+    jobs_or_refusals(&rt, &Sequential);
+    for threads in 1..4_usize {
+        match Rayon::new(&rt, rt.alloc(), number(&rt, threads), Stopped) {
+            Ok(strategy) => {
+                jobs_or_refusals(&rt, &strategy);
+                if let Ok(explorer) = Explorer::parallel(&strategy) {
+                    if threads > 1 {
+                        jobs_or_refusals(&rt, &explorer);
+                    }
+                }
+            }
+            Err(error) => assert!(rt; matches!(error, ThreadPoolBuildError::Memory)),
+        }
+    }
+}
