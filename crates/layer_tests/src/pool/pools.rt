@@ -4,12 +4,13 @@ ghost use Rattle.std.specs.Prelude.{◌≡◌};
 use parallel_pool::rayon::{
     Environment, OwnedJob, Queue, Staff, ThreadPool, ThreadPoolBuilder, WorkerThread, Yield,
 };
+use std::alloc::Global;
 use std::collections::VecDeque;
 use std::num::NonZeroUsize;
-use std::sync::Arc;
 use std::sync::atomic::{AtomicU64, Ordering};
+use std::sync::{Arc, Wait};
 use std::test::Fail;
-use std::thread;
+use std::thread::{self, Threads};
 use std::time::{Clock, Duration};
 
 // Waits until a word is so much, for ten seconds at most, and answers whether it is.
@@ -40,32 +41,98 @@ impl Bell {
     pub(crate) fn is_there(&self) {}
 }
 
-#[test]
-fn a_worker_looks_in_its_own_queues_first(rt: HostRuntime) -> Result<(), Fail> {
-    let builder = ThreadPoolBuilder::new().num_threads(1).use_current_thread();
-    let (pool, current) = builder.build(&rt, rt.alloc())?;
-    let mut worker = current.ok_or("the current worker")?;
-    let order = Arc::new(rt.alloc(), AtomicU64::new(0))?;
-    for digit in 1..6u64 {
-        let theirs = Arc::try_clone(&order)?;
-        let job = OwnedJob::new(Box::new(rt.alloc(), move |_: usize| {
-            let before = theirs.load(Ordering::SeqCst);
-            theirs.store(
-                before.wrapping_mul(10).wrapping_add(digit),
-                Ordering::SeqCst,
-            );
-        })?);
-        match digit {
-            1 | 2 => assert!(rt; pool.spawn_from(&rt, &mut worker, job).is_ok()),
-            3 | 4 => assert!(rt; pool.spawn(&rt, job).is_ok()),
-            _ => {
-                let mut jobs = VecDeque::new(rt.alloc());
-                jobs.push_back(job)?;
-                assert!(rt; jobs.len() == pool.current_num_threads());
-                assert!(rt; pool.spawn_broadcast(&rt, jobs).is_ok());
-            }
+// A word that is zero.
+pub(crate) fn word(alloc: Global) -> Result<Arc<AtomicU64>, Fail> {
+    Ok(Arc::new(alloc, AtomicU64::new(0))?)
+}
+
+// A job that raises a word by one.
+fn raises(alloc: Global, word: &Arc<AtomicU64>) -> Result<OwnedJob, Fail> {
+    let theirs = Arc::try_clone(word)?;
+    let body = Box::new(alloc, move |_: usize| {
+        theirs.fetch_add(1, Ordering::SeqCst);
+    })?;
+    Ok(OwnedJob::new(body))
+}
+
+// A job that writes a digit behind those of a word.
+fn writes(alloc: Global, word: &Arc<AtomicU64>, digit: u64) -> Result<OwnedJob, Fail> {
+    let theirs = Arc::try_clone(word)?;
+    let body = Box::new(alloc, move |_: usize| {
+        let before = theirs.load(Ordering::SeqCst);
+        theirs.store(
+            before.wrapping_mul(10).wrapping_add(digit),
+            Ordering::SeqCst,
+        );
+    })?;
+    Ok(OwnedJob::new(body))
+}
+
+// A pool of which this thread is the first worker, and none other is started; and that worker.
+fn with_this_thread<R: Threads + Wait + Copy + Send + 'static>(
+    rt: &R,
+    alloc: Global,
+    num_threads: usize,
+    label: u64,
+) -> Result<(ThreadPool<Staff>, WorkerThread), Fail> {
+    let builder = ThreadPoolBuilder::new().num_threads(num_threads);
+    let builder = builder.use_current_thread().unstarted_workers();
+    let (pool, current) = builder.label(label).build(rt, alloc)?;
+    Ok((pool, current.ok_or("the current worker")?))
+}
+
+// A pool as the builder makes it unasked, of one worker, which is not this thread.
+fn unasked<R: Threads + Wait + Copy + Send + 'static>(
+    rt: &R,
+    alloc: Global,
+) -> Result<ThreadPool<Staff>, Fail> {
+    let alone = match ThreadPoolBuilder::new().build(rt, alloc)? {
+        (pool, None) => Some(pool),
+        (_, Some(_)) => None,
+    };
+    Ok(alone.ok_or("no worker was asked for")?)
+}
+
+// Broadcasts a job to the one worker of a pool.
+fn broadcasts(
+    rt: &impl Wait,
+    alloc: Global,
+    pool: &ThreadPool<Staff>,
+    job: OwnedJob,
+) -> Result<bool, Fail> {
+    let mut jobs = VecDeque::new(alloc);
+    jobs.push_back(job)?;
+    Ok(jobs.len() == pool.current_num_threads() && pool.spawn_broadcast(rt, jobs).is_ok())
+}
+
+// Hands a pool five jobs: two from its worker, two from elsewhere, one to each worker.
+fn hands_in(
+    rt: &impl Wait,
+    alloc: Global,
+    pool: &ThreadPool<Staff>,
+    worker: &mut WorkerThread,
+    word: &Arc<AtomicU64>,
+) -> Result<bool, Fail> {
+    for digit in 1..5u64 {
+        let job = writes(alloc, word, digit)?;
+        let is_in = if digit < 3 {
+            pool.spawn_from(rt, worker, job).is_ok()
+        } else {
+            pool.spawn(rt, job).is_ok()
+        };
+        if !is_in {
+            return Ok(false);
         }
     }
+    broadcasts(rt, alloc, pool, writes(alloc, word, 5)?)
+}
+
+#[test]
+fn a_worker_looks_in_its_own_queues_first(rt: HostRuntime) -> Result<(), Fail> {
+    let order = word(rt.alloc())?;
+    let (pool, mut worker) = with_this_thread(&rt, rt.alloc(), 1, 0)?;
+    let is_in = hands_in(&rt, rt.alloc(), &pool, &mut worker, &order)?;
+    assert!(rt; is_in);
     for _ in 0..5 {
         assert_eq!(rt; pool.yield_now(&rt, &mut worker), Some(Yield::Executed));
     }
@@ -74,50 +141,57 @@ fn a_worker_looks_in_its_own_queues_first(rt: HostRuntime) -> Result<(), Fail> {
     Ok(())
 }
 
+// What a pool and that of a worker say when the worker yields, after it handed the pool a job.
+fn yields_of_a_stranger(
+    rt: &impl Wait,
+    pool: &ThreadPool<Staff>,
+    theirs: &ThreadPool<Staff>,
+    stranger: &mut WorkerThread,
+    job: OwnedJob,
+) -> Option<(Option<Yield>, Option<Yield>)> {
+    pool.spawn_from(rt, stranger, job).ok()?;
+    Some((pool.yield_now(rt, stranger), theirs.yield_now(rt, stranger)))
+}
+
 #[test]
 fn a_worker_of_another_pool_injects_its_job(rt: HostRuntime) -> Result<(), Fail> {
-    let builder = ThreadPoolBuilder::new().num_threads(1).use_current_thread();
-    let (theirs, other) = builder.label(7).build(&rt, rt.alloc())?;
-    let mut stranger = other.ok_or("the worker of label 7")?;
-    let builder = ThreadPoolBuilder::new().num_threads(1).use_current_thread();
-    let (pool, current) = builder.build(&rt, rt.alloc())?;
-    let mut worker = current.ok_or("the worker of label 0")?;
-    let called = Arc::new(rt.alloc(), AtomicU64::new(0))?;
-    let count = Arc::try_clone(&called)?;
-    let job = OwnedJob::new(Box::new(rt.alloc(), move |index: usize| {
-        count.store((index as u64).wrapping_add(1), Ordering::SeqCst);
-    })?);
-    assert!(rt; pool.spawn_from(&rt, &mut stranger, job).is_ok());
-    assert!(rt; theirs.yield_now(&rt, &mut stranger) == Some(Yield::Idle));
-    assert_eq!(rt; pool.yield_now(&rt, &mut stranger), None);
+    let called = word(rt.alloc())?;
+    let job = raises(rt.alloc(), &called)?;
+    let (theirs, mut stranger) = with_this_thread(&rt, rt.alloc(), 1, 7)?;
+    let (pool, mut worker) = with_this_thread(&rt, rt.alloc(), 1, 0)?;
+    let yields = yields_of_a_stranger(&rt, &pool, &theirs, &mut stranger, job);
+    assert_eq!(rt; yields, Some((None, Some(Yield::Idle))));
     let injected = worker.jobs().take(&rt, Queue::Injected);
-    injected.ok_or("the injected job")?.call(0);
+    assert!(rt; injected.is_some());
+    if let Some(job) = injected {
+        job.call(0);
+    }
     assert_eq!(rt; called.load(Ordering::SeqCst), 1);
     Ok(())
 }
 
 #[test]
 fn a_worker_is_known_by_its_label(rt: HostRuntime) -> Result<(), Fail> {
-    let builder = ThreadPoolBuilder::new().num_threads(3).unstarted_workers();
-    let (pool, current) = builder
-        .use_current_thread()
-        .label(9)
-        .build(&rt, rt.alloc())?;
-    let worker = current.ok_or("the current worker")?;
+    let (pool, worker) = with_this_thread(&rt, rt.alloc(), 3, 9)?;
     assert_eq!(rt; pool.current_num_threads(), 3);
     assert_eq!(rt; pool.current_thread_index(&worker), Some(0));
     assert_eq!(rt; (worker.index(), worker.label()), (0, 9));
     let context = worker.context();
     assert_eq!(rt; (context.index(), context.num_threads()), (0, 3));
-    let (other, none) = ThreadPoolBuilder::new().build(&rt, rt.alloc())?;
-    assert!(rt; none.is_none());
+    let other = unasked(&rt, rt.alloc())?;
     assert_eq!(rt; other.current_num_threads(), 1);
     assert_eq!(rt; other.current_thread_index(&worker), None);
-    let text = format!(in rt.alloc(); "{pool:?} {other:?}")?;
-    assert_eq!(rt;
-        text.as_str(),
-        "ThreadPool { num_threads: 3, id: 9 } ThreadPool { num_threads: 1, id: 0 }"
-    );
+    Ok(())
+}
+
+#[test]
+fn a_pool_prints_its_number_of_threads_and_its_label(rt: HostRuntime) -> Result<(), Fail> {
+    let (pool, _worker) = with_this_thread(&rt, rt.alloc(), 3, 9)?;
+    let text = format!(in rt.alloc(); "{pool:?}")?;
+    assert_eq!(rt; text.as_str(), "ThreadPool { num_threads: 3, id: 9 }");
+    let other = unasked(&rt, rt.alloc())?;
+    let text = format!(in rt.alloc(); "{other:?}")?;
+    assert_eq!(rt; text.as_str(), "ThreadPool { num_threads: 1, id: 0 }");
     Ok(())
 }
 
@@ -150,26 +224,36 @@ fn the_environment_says_the_number_that_is_not_set(rt: HostRuntime) -> Result<()
     Ok(())
 }
 
-#[test]
-fn a_thousand_jobs_are_called_once_each_and_the_workers_end(rt: HostRuntime) -> Result<(), Fail> {
-    let ended = Arc::new(rt.alloc(), AtomicU64::new(0))?;
-    let started = Arc::new(rt.alloc(), AtomicU64::new(0))?;
+// A pool whose workers raise a word as they start, and another once when all have ended.
+fn with_bell<R: Threads + Wait + Copy + Send + 'static>(
+    rt: &R,
+    alloc: Global,
+    num_threads: usize,
+    started: &Arc<AtomicU64>,
+    ended: &Arc<AtomicU64>,
+) -> Result<ThreadPool<Staff>, Fail> {
     let bell = Bell {
-        word: Arc::try_clone(&ended)?,
+        word: Arc::try_clone(ended)?,
     };
-    let begun = Arc::try_clone(&started)?;
-    let builder = ThreadPoolBuilder::new().num_threads(4);
-    let builder = builder.start_handler(Box::new(rt.alloc(), move |_: usize| {
+    let begun = Arc::try_clone(started)?;
+    let handler = Box::new(alloc, move |_: usize| {
         bell.is_there();
         begun.fetch_add(1, Ordering::SeqCst);
-    })?);
-    let (pool, _none) = builder.build(&rt, rt.alloc())?;
-    let called = Arc::new(rt.alloc(), AtomicU64::new(0))?;
+    })?;
+    let builder = ThreadPoolBuilder::new()
+        .num_threads(num_threads)
+        .start_handler(handler);
+    let (pool, _none) = builder.build(rt, alloc)?;
+    Ok(pool)
+}
+
+#[test]
+fn a_thousand_jobs_are_called_once_each_and_the_workers_end(rt: HostRuntime) -> Result<(), Fail> {
+    let (started, ended) = (word(rt.alloc())?, word(rt.alloc())?);
+    let called = word(rt.alloc())?;
+    let pool = with_bell(&rt, rt.alloc(), 4, &started, &ended)?;
     for _ in 0..1000 {
-        let theirs = Arc::try_clone(&called)?;
-        let job = OwnedJob::new(Box::new(rt.alloc(), move |_: usize| {
-            theirs.fetch_add(1, Ordering::SeqCst);
-        })?);
+        let job = raises(rt.alloc(), &called)?;
         assert!(rt; pool.spawn(&rt, job).is_ok());
     }
     drop(pool);
@@ -181,20 +265,12 @@ fn a_thousand_jobs_are_called_once_each_and_the_workers_end(rt: HostRuntime) -> 
 
 #[test]
 fn workers_that_sleep_are_woken_by_jobs_and_by_the_end(rt: HostRuntime) -> Result<(), Fail> {
-    let ended = Arc::new(rt.alloc(), AtomicU64::new(0))?;
-    let bell = Bell {
-        word: Arc::try_clone(&ended)?,
-    };
-    let builder = ThreadPoolBuilder::new().num_threads(2);
-    let builder = builder.start_handler(Box::new(rt.alloc(), move |_: usize| bell.is_there())?);
-    let (pool, _none) = builder.build(&rt, rt.alloc())?;
-    let called = Arc::new(rt.alloc(), AtomicU64::new(0))?;
+    let (started, ended) = (word(rt.alloc())?, word(rt.alloc())?);
+    let called = word(rt.alloc())?;
+    let pool = with_bell(&rt, rt.alloc(), 2, &started, &ended)?;
     for round in 0..5u64 {
         thread::sleep(&rt, Duration::from_millis(30));
-        let theirs = Arc::try_clone(&called)?;
-        let job = OwnedJob::new(Box::new(rt.alloc(), move |_: usize| {
-            theirs.fetch_add(1, Ordering::SeqCst);
-        })?);
+        let job = raises(rt.alloc(), &called)?;
         assert!(rt; pool.spawn(&rt, job).is_ok());
         assert!(rt; becomes(&rt, &called, round.wrapping_add(1)));
     }
@@ -204,21 +280,34 @@ fn workers_that_sleep_are_woken_by_jobs_and_by_the_end(rt: HostRuntime) -> Resul
     Ok(())
 }
 
+// A job that raises a word by one where it is called by the worker of an index.
+fn raises_at(alloc: Global, word: &Arc<AtomicU64>, worker: usize) -> Result<OwnedJob, Fail> {
+    let theirs = Arc::try_clone(word)?;
+    let body = Box::new(alloc, move |index: usize| {
+        if index == worker {
+            theirs.fetch_add(1, Ordering::SeqCst);
+        }
+    })?;
+    Ok(OwnedJob::new(body))
+}
+
+// For each of four workers a job that raises a word where that worker calls it.
+fn one_for_each(alloc: Global, word: &Arc<AtomicU64>) -> Result<VecDeque<OwnedJob>, Fail> {
+    let mut jobs = VecDeque::new(alloc);
+    for worker in 0..4usize {
+        jobs.push_back(raises_at(alloc, word, worker)?)?;
+    }
+    Ok(jobs)
+}
+
 #[test]
 fn each_worker_calls_the_job_that_was_broadcast_to_it(rt: HostRuntime) -> Result<(), Fail> {
-    let builder = ThreadPoolBuilder::new().num_threads(4);
-    let (pool, _none) = builder.build(&rt, rt.alloc())?;
+    let right = word(rt.alloc())?;
+    let jobs = one_for_each(rt.alloc(), &right)?;
+    let (pool, _none) = ThreadPoolBuilder::new()
+        .num_threads(4)
+        .build(&rt, rt.alloc())?;
     thread::sleep(&rt, Duration::from_millis(30));
-    let right = Arc::new(rt.alloc(), AtomicU64::new(0))?;
-    let mut jobs = VecDeque::new(rt.alloc());
-    for worker in 0..4usize {
-        let theirs = Arc::try_clone(&right)?;
-        jobs.push_back(OwnedJob::new(Box::new(rt.alloc(), move |index: usize| {
-            if index == worker {
-                theirs.fetch_add(1, Ordering::SeqCst);
-            }
-        })?))?;
-    }
     assert!(rt; jobs.len() == pool.current_num_threads());
     assert!(rt; pool.spawn_broadcast(&rt, jobs).is_ok());
     assert!(rt; becomes(&rt, &right, 4));

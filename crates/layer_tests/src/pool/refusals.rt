@@ -7,11 +7,12 @@ ghost use Rattle.std.specs.Prelude.{◌≡◌};
 use crate::pool::pools::{Bell, becomes};
 use parallel_fault::Fault;
 use parallel_pool::rayon::{OwnedJob, ThreadPoolBuildError, ThreadPoolBuilder};
-use std::alloc::AllocError;
+use std::alloc::{AllocError, Global};
 use std::collections::VecDeque;
 use std::sync::Arc;
 use std::sync::atomic::{AtomicU64, Ordering};
 use std::test::Fail;
+use std::time::Clock;
 
 #[test]
 fn a_start_that_is_refused_leaves_no_worker(rt: HostRuntime) -> Result<(), Fail> {
@@ -66,6 +67,25 @@ fn a_name_that_is_refused_is_want_of_memory(rt: HostRuntime) -> Result<(), Fail>
     Ok(())
 }
 
+// A builder of four workers that raise a word as they start, and another once all have ended.
+fn with_bell(
+    alloc: Global,
+    begun: &Arc<AtomicU64>,
+    ended: &Arc<AtomicU64>,
+) -> Option<ThreadPoolBuilder> {
+    let bell = Bell {
+        word: Arc::try_clone(ended).ok()?,
+    };
+    let theirs = Arc::try_clone(begun).ok()?;
+    let handler = Box::new(alloc, move |_: usize| {
+        bell.is_there();
+        theirs.fetch_add(1, Ordering::SeqCst);
+    })
+    .ok()?;
+    let builder = ThreadPoolBuilder::new().num_threads(4);
+    Some(builder.start_handler(handler))
+}
+
 #[test]
 fn a_build_works_or_leaves_no_worker(rt: HostRuntime) -> Result<(), Fail> {
     let alloc = rt.alloc();
@@ -75,18 +95,10 @@ fn a_build_works_or_leaves_no_worker(rt: HostRuntime) -> Result<(), Fail> {
     ) else {
         return Ok(());
     };
-    let bell = Bell {
-        word: Arc::try_clone(&ended)?,
-    };
-    let theirs = Arc::try_clone(&begun)?;
-    let Ok(handler) = Box::new(alloc, move |_: usize| {
-        bell.is_there();
-        theirs.fetch_add(1, Ordering::SeqCst);
-    }) else {
+    let Some(builder) = with_bell(alloc, &begun, &ended) else {
         return Ok(());
     };
-    let builder = ThreadPoolBuilder::new().num_threads(4);
-    match builder.start_handler(handler).build(&rt, alloc) {
+    match builder.build(&rt, alloc) {
         Ok((pool, _none)) => {
             pool.close(&rt);
             assert_eq!(rt; begun.load(Ordering::SeqCst), 4);
@@ -106,6 +118,16 @@ fn a_build_works_or_leaves_no_worker(rt: HostRuntime) -> Result<(), Fail> {
     Ok(())
 }
 
+// A job that adds a unit to a word.
+fn adds(alloc: Global, word: &Arc<AtomicU64>, unit: u64) -> Option<OwnedJob> {
+    let theirs = Arc::try_clone(word).ok()?;
+    let body = Box::new(alloc, move |_: usize| {
+        theirs.fetch_add(unit, Ordering::SeqCst);
+    })
+    .ok()?;
+    Some(OwnedJob::new(body))
+}
+
 #[test]
 fn a_refused_job_comes_back_and_runs_when_called(rt: HostRuntime) -> Result<(), Fail> {
     let alloc = rt.alloc();
@@ -118,14 +140,11 @@ fn a_refused_job_comes_back_and_runs_when_called(rt: HostRuntime) -> Result<(), 
     };
     let mut boxed = 0u64;
     for _ in 0..140 {
-        let theirs = Arc::try_clone(&called)?;
-        let Ok(job) = Box::new(alloc, move |_: usize| {
-            theirs.fetch_add(1, Ordering::SeqCst);
-        }) else {
+        let Some(job) = adds(alloc, &called, 1) else {
             continue;
         };
         boxed = boxed.wrapping_add(1);
-        if let Err((fault, job)) = pool.spawn(&rt, OwnedJob::new(job)) {
+        if let Err((fault, job)) = pool.spawn(&rt, job) {
             assert_eq!(rt; fault, Fault::Memory);
             assert!(rt;
                 becomes(&rt, &called, boxed.wrapping_sub(1)),
@@ -152,40 +171,55 @@ fn of_first(count: usize) -> u64 {
     }
 }
 
+// Four jobs that add units which tell them apart.
+fn four_jobs(alloc: Global, word: &Arc<AtomicU64>) -> Option<VecDeque<OwnedJob>> {
+    let mut jobs = VecDeque::with_capacity(alloc, 4).ok()?;
+    for unit in [1u64, 256, 65_536, 16_777_216] {
+        jobs.push_back(adds(alloc, word, unit)?).ok()?;
+    }
+    Some(jobs)
+}
+
+// Calls the jobs that came back, and answers whether they are the last of the four, in order.
+fn come_in_order(rt: &impl Clock, refused: VecDeque<OwnedJob>, called: &AtomicU64) -> bool {
+    let mut first = 4usize.saturating_sub(refused.len());
+    if !becomes(rt, called, of_first(first)) {
+        return false;
+    }
+    for job in refused {
+        job.call(0);
+        first = first.saturating_add(1);
+        if called.load(Ordering::SeqCst) != of_first(first) {
+            return false;
+        }
+    }
+    true
+}
+
 #[test]
 fn jobs_that_were_not_broadcast_come_back_in_order(rt: HostRuntime) -> Result<(), Fail> {
     let alloc = rt.alloc();
     let builder = ThreadPoolBuilder::new().num_threads(4);
-    let (Ok(called), Ok((pool, _none)), Ok(mut jobs)) = (
+    let (Ok(called), Ok((pool, _none))) = (
         Arc::new(alloc, AtomicU64::new(0)),
         builder.build(&rt, alloc),
-        VecDeque::with_capacity(alloc, 4),
     ) else {
         return Ok(());
     };
-    for unit in [1u64, 256, 65_536, 16_777_216] {
-        let theirs = Arc::try_clone(&called)?;
-        let Ok(job) = Box::new(alloc, move |_: usize| {
-            theirs.fetch_add(unit, Ordering::SeqCst);
-        }) else {
-            return Ok(());
-        };
-        jobs.push_back(OwnedJob::new(job))?;
-    }
+    let Some(jobs) = four_jobs(alloc, &called) else {
+        return Ok(());
+    };
     assert!(rt; jobs.len() == pool.current_num_threads());
     if let Err((fault, refused)) = pool.spawn_broadcast(&rt, jobs) {
         assert_eq!(rt; fault, Fault::Memory);
-        let mut first = 4usize.saturating_sub(refused.len());
-        eprintln!(rt; "broadcast job {first} was refused")?;
+        eprintln!(rt;
+            "broadcast job {} was refused",
+            4usize.saturating_sub(refused.len())
+        )?;
         assert!(rt;
-            becomes(&rt, &called, of_first(first)),
+            come_in_order(&rt, refused, &called),
             "those before it are called"
         );
-        for job in refused {
-            job.call(0);
-            first = first.wrapping_add(1);
-            assert_eq!(rt; called.load(Ordering::SeqCst), of_first(first), "in order");
-        }
     }
     pool.close(&rt);
     assert_eq!(rt; called.load(Ordering::SeqCst), of_first(4), "each once");
