@@ -1,4 +1,5 @@
 pub mod Counts
+pub mod Explored
 pub mod LongestWords
 pub mod Repeats
 pub mod Reversed
