@@ -14,6 +14,9 @@ use Rattle.parallel_bridge.specs.Shapes.{Cut, cutdepth, Shape, leaf_lengths, Alo
 use Rattle.parallel_pool.specs.PlannedThreads.{Writes, by_texts, number_or}
 use Rattle.parallel_policy.specs.declared.site.Site.{Site}
 use Rattle.commonware_parallel.specs.Mixes.{mix_of}
+use Rattle.commonware_parallel.specs.declared.mocks.explore_error.ExploreError.{ExploreError}
+use Rattle.commonware_parallel.specs.declared.mocks.explore_error.ExploreError.TheVariants.{Differs, Build}
+use Rattle.commonware_parallel.specs.declared.mocks.rule.Rule.TheVariants.{Parallel}
 use Rattle.shapes_command.specs.Line.{as_line}
 use Rattle.shapes_command.specs.Request.{number_of, Says}
 use Rattle.shapes_command.specs.declared.request.Request.{Request}
@@ -64,6 +67,11 @@ Answers (FoldParallel identity items) text = (sum : ℕ) × SumsAlong identity (
 Answers (Threads set num_threads num_cpus machine) text = (planned : ℕ) × IsPlannedFor set num_threads num_cpus machine planned × (text ≡ decimal planned)
 Answers (Mix seed line column len) text = (hash : ℕ) × IsMixedOf seed line column len hash × (text ≡ decimal hash)
 Answers ExploreSum text = text ≡ decimal 4950
+
+-- a search that told of a difference ended at the parallel rule
+abbrev pub EndsAtParallel : ExploreError → Type 0
+EndsAtParallel (Differs rule) = rule ≡ Parallel
+EndsAtParallel (Build error) = Unit {0}
 
 -- the line answers the request that the words say
 abbrev pub IsAnswer : List (String Global) → List ℕ → Type 0

@@ -150,6 +150,19 @@ fn search_bodies<R: Threads + Wait + Sync, E: Write>(
     if differing_rule(rt, alloc).is_err() {
         return out_of_memory(err);
     }
+    outputs_differ(err)
+}
+
+/// Writes to `err` that the parallel run's output isn't the serial run's. The status is 1.
+///
+/// # Errors
+///
+/// The error of a write that failed. `err` has then got a beginning of the line.
+pub fn outputs_differ<E: Write>(err: &mut E) -> io::Result<u8>
+    ensures status { IfOk result (λ status. status ≡ 1) }
+    ensures difference { IfOk result (λ _. Appends (E.contents err.old) (E.contents err.new) difference_line) }
+    ensures unwritten { OnErr result (AppendsPart (E.contents err.old) (E.contents err.new) difference_line) }
+{
     write_line(
         err,
         b"shapes: the Parallel run must return the serial run's output\n",

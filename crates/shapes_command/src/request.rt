@@ -296,9 +296,19 @@ fn explore_sum(words: &[String]) -> Option<Request<'_>>
 pub fn is_bodies(words: &[String]) -> bool
     ensures { IsTrue result ↔ IsBodiesLine words.now }
 {
+    match explore_bodies(words) {
+        Some(()) => true,
+        None => false,
+    }
+}
+
+// Something for a line `explore bodies`.
+fn explore_bodies(words: &[String]) -> Option<()>
+    ensures { MatchOption result (¬ (IsBodiesLine words.now)) (λ _. IsBodiesLine words.now) }
+{
     match words {
-        [name, what] => name.as_str() == "explore" && what.as_str() == "bodies",
-        _ => false,
+        [name, what] if name.as_str() == "explore" && what.as_str() == "bodies" => Some(()),
+        _ => None,
     }
 }
 

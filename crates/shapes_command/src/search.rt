@@ -2,6 +2,7 @@
 ghost use Rattle.std.specs.Prelude.{◌≡◌, Bool, true, false, IfOk, IfErr};
 ghost use Rattle.commonware_parallel.specs.Explorers.{plans_of, rule_of};
 ghost use Rattle.commonware_parallel.specs.declared.mocks.rule.Rule.TheVariants.{Parallel, Serial};
+ghost use Rattle.shapes_command.specs.Answer.{EndsAtParallel};
 
 use commonware_parallel::mocks::{ExploreError, Explorer, Rule, explore};
 use commonware_parallel::{Indices, Strategy};
@@ -82,27 +83,26 @@ pub fn differing_rule<R: Threads + Wait>(rt: &R, alloc: Global) -> Result<Rule, 
         ensures serial { rule_of explorer.now ≡ Serial → result ≡ false }
         ensures parallel { plans_of explorer.now ≡ 8 → rule_of explorer.now ≡ Parallel → result ≡ true }
     { takes_parallel_body(rt, alloc, explorer) };
-    first_difference(rt, alloc, run)
+    match searched(rt, alloc, run) {
+        Err(ExploreError::Differs(rule)) => Ok(rule),
+        Ok(_) | Err(ExploreError::Build(_)) => Err(Fault::Memory),
+    }
 }
 
-// What a search finds where the serial run and the parallel one answer otherwise.
-fn first_difference<R: Threads, F: FnMut(&Explorer) -> bool>(
+// A search by a closure whose serial run and parallel run answer otherwise.
+fn searched<R: Threads, F: FnMut(&Explorer) -> bool>(
     rt: &R,
     alloc: Global,
     run: F,
-) -> Result<Rule, Fault>
+) -> Result<bool, ExploreError>
     requires callable { F.IsAlwaysCallable run }
     requires serial { (f g : F) (explorer : _) (out : Bool) → F.step f explorer out g
         → rule_of explorer.now ≡ Serial → out ≡ false }
     requires parallel { (f g : F) (explorer : _) (out : Bool) → F.step f explorer out g
         → plans_of explorer.now ≡ 8 → rule_of explorer.now ≡ Parallel → out ≡ true }
-    ensures rule { IfOk result (λ rule. rule ≡ Parallel) }
-    ensures fault { IfErr result (λ refusal. refusal ≡ Fault.Memory) }
+    ensures { IfErr result EndsAtParallel }
 {
-    match explore(rt, alloc, run) {
-        Err(ExploreError::Differs(rule)) => Ok(rule),
-        Ok(_) | Err(ExploreError::Build(_)) => Err(Fault::Memory),
-    }
+    explore(rt, alloc, run)
 }
 
 // Whether a run over 64 items takes its parallel body, which an explorer's is never refused.

@@ -1,7 +1,7 @@
 pub mod Counts
-pub mod Explored
 pub mod LongestWords
 pub mod Repeats
 pub mod Reversed
+pub mod Searched
 pub mod Tiles
 pub mod Verdicts

@@ -4,7 +4,7 @@ use Rattle.std.specs.List.{range_with_len}
 use Rattle.std.proofs.lemmas.Result.{IfOk-weaker}
 use Rattle.parallel_bridge.proofs.OverLists.{in_one}
 use Rattle.parallel_bridge.proofs.WrappingSums.{sum_of_list}
-use Rattle.uses.proofs.Explored.{adds, chain_adds, first_pick}
+use Rattle.uses.proofs.Searched.{adds, chain_adds, first_pick}
 use Rattle.uses.proofs.explored.sum_from.Goals as goal
 
 below_100 : sum_by (λ (x : ℕ). x) (range_with_len 0 100) % 2 ^ 64 ≡ 4950
