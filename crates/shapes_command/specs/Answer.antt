@@ -14,10 +14,13 @@ use Rattle.parallel_bridge.specs.Shapes.{Cut, cutdepth, Shape, leaf_lengths, Alo
 use Rattle.parallel_pool.specs.PlannedThreads.{Writes, by_texts, number_or}
 use Rattle.parallel_policy.specs.declared.site.Site.{Site}
 use Rattle.commonware_parallel.specs.Mixes.{mix_of}
+use Rattle.commonware_parallel.specs.declared.mocks.explore_error.ExploreError.{ExploreError}
+use Rattle.commonware_parallel.specs.declared.mocks.explore_error.ExploreError.TheVariants.{Differs, Build}
+use Rattle.commonware_parallel.specs.declared.mocks.rule.Rule.TheVariants.{Parallel}
 use Rattle.shapes_command.specs.Line.{as_line}
 use Rattle.shapes_command.specs.Request.{number_of, Says}
 use Rattle.shapes_command.specs.declared.request.Request.{Request}
-use Rattle.shapes_command.specs.declared.request.Request.TheVariants.{Drain, Batches, Grid as OfGrid, Segments, Fold, FoldParallel, Threads, Mix}
+use Rattle.shapes_command.specs.declared.request.Request.TheVariants.{Drain, Batches, Grid as OfGrid, Segments, Fold, FoldParallel, Threads, Mix, ExploreSum}
 
 -- the texts, with spaces between them
 abbrev pub spaced : List (List ℕ) → List ℕ
@@ -52,7 +55,7 @@ IsMixedOf seed line column len hash =
     (site : Site) × (site.file.now ≡ codes "a") × (site.line ≡ line) × (site.column ≡ column) × (hash ≡ mix_of seed site len)
 
 -- the rows below a number; balanced ranges, as many as are asked for; the cost of a grid; the lengths of the segments
--- of any list of that length; the sum of the items from the identity, and along their shape for two threads; for how many threads a pool is planned; the hash
+-- of any list of that length; the sum of the items from the identity, and along their shape for two threads; for how many threads a pool is planned; the hash; the sum of the numbers below 100
 abbrev pub Answers : Request → List ℕ → Type 0
 Answers (Drain rows workers) text = text ≡ spaced (map decimal (range_with_len 0 rows))
 Answers (Batches len count) text = (ranges : List (Range ℕ)) × BalancedCut len ranges × (length ranges ≡ non_zero_usize_get count) × (text ≡ spaced (map range_text ranges))
@@ -63,6 +66,12 @@ Answers (Fold identity items) text = text ≡ decimal (identity + sum_by number_
 Answers (FoldParallel identity items) text = (sum : ℕ) × SumsAlong identity (Shape (cutdepth 2) items.now) sum × (text ≡ decimal sum)
 Answers (Threads set num_threads num_cpus machine) text = (planned : ℕ) × IsPlannedFor set num_threads num_cpus machine planned × (text ≡ decimal planned)
 Answers (Mix seed line column len) text = (hash : ℕ) × IsMixedOf seed line column len hash × (text ≡ decimal hash)
+Answers ExploreSum text = text ≡ decimal 4950
+
+-- a search that told of a difference ended at the parallel rule
+abbrev pub EndsAtParallel : ExploreError → Type 0
+EndsAtParallel (Differs rule) = rule ≡ Parallel
+EndsAtParallel (Build error) = Unit {0}
 
 -- the line answers the request that the words say
 abbrev pub IsAnswer : List (String Global) → List ℕ → Type 0

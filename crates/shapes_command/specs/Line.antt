@@ -14,6 +14,10 @@ bad_arguments_line = as_line (codes "shapes: bad arguments")
 abbrev pub out_of_memory_line : List ℕ
 out_of_memory_line = as_line (codes "shapes: out of memory")
 
+-- what is written of a search that found a difference
+abbrev pub difference_line : List ℕ
+difference_line = as_line (codes "shapes: the Parallel run must return the serial run's output")
+
 -- the one is a beginning of the line, and not all of it
 abbrev pub IsBeginning : List ℕ → List ℕ → Type 0
 IsBeginning part line = (rest : List ℕ) × (0 < length rest) × (line ≡ part ++ rest)

@@ -5,7 +5,7 @@ use Rattle.std.specs.Str.Parse.{digits_value}
 use Rattle.std.specs.declared.alloc.Global.{Global}
 use Rattle.shapes_command.specs.Number.{IsNumberUpTo, IsCountUpTo, IsCountOrNone, CountsOrNone, IsTextOrNone}
 use Rattle.shapes_command.specs.declared.request.Request.{Request}
-use Rattle.shapes_command.specs.declared.request.Request.TheVariants.{Drain, Batches, Grid, Segments, Fold, FoldParallel, Threads, Mix}
+use Rattle.shapes_command.specs.declared.request.Request.TheVariants.{Drain, Batches, Grid, Segments, Fold, FoldParallel, Threads, Mix, ExploreSum}
 
 -- the text of the word at a place, which is empty past the last word
 abbrev pub word : List (String Global) → ℕ → List ℕ
@@ -105,6 +105,19 @@ SaysMix words (Mix seed line column len) = IsMixLine words × (seed ≡ number_a
     × (column ≡ number_at words 3) × (len ≡ number_at words 4)
 SaysMix words _ = ⊥
 
+-- `explore WHAT` for what is searched
+abbrev pub IsExploreLine : List ℕ → List (String Global) → Type 0
+IsExploreLine what words = HasForm words (codes "explore") 2 × (word words 1 ≡ what)
+
+-- the request of such a line for the sum
+abbrev pub SaysExploreSum : List (String Global) → Request → Type 0
+SaysExploreSum words ExploreSum = IsExploreLine (codes "sum") words
+SaysExploreSum words _ = ⊥
+
+-- `explore bodies`, which has no answer: the search ends at a difference
+abbrev pub IsBodiesLine : List (String Global) → Type 0
+IsBodiesLine words = IsExploreLine (codes "bodies") words
+
 -- the request of no words: that of `drain 4 2`
 abbrev pub IsUnasked : Request → Type 0
 IsUnasked (Drain rows workers) = (rows ≡ 4) × (non_zero_usize_get workers ≡ 2)
@@ -128,11 +141,11 @@ SaysList words request = SaysSegments words request ⊎ (SaysFold words request 
 
 -- one of the lines about explorers
 abbrev pub IsExplorerLine : List (String Global) → Type 0
-IsExplorerLine words = IsMixLine words ⊎ IsFoldLine (codes "parallel") words
+IsExplorerLine words = IsMixLine words ⊎ (IsFoldLine (codes "parallel") words ⊎ IsExploreLine (codes "sum") words)
 
 -- the request of such a line
 abbrev pub SaysExplorer : List (String Global) → Request → Type 0
-SaysExplorer words request = SaysMix words request ⊎ SaysFoldParallel words request
+SaysExplorer words request = SaysMix words request ⊎ (SaysFoldParallel words request ⊎ SaysExploreSum words request)
 
 -- one of the lines about calls: about lists, or about explorers
 abbrev pub IsCallLine : List (String Global) → Type 0
@@ -150,9 +163,13 @@ IsLineOfWords words = IsShareLine words ⊎ IsCallLine words
 abbrev pub SaysInWords : List (String Global) → Request → Type 0
 SaysInWords words request = SaysShare words request ⊎ SaysCall words request
 
--- no words, or the words of a command with its arguments
+-- no words, or the words of a command that has an answer, with its arguments
+abbrev pub IsRequestLine : List (String Global) → Type 0
+IsRequestLine words = (length words ≡ 0) ⊎ IsLineOfWords words
+
+-- the words of a command
 abbrev pub IsCommandLine : List (String Global) → Type 0
-IsCommandLine words = (length words ≡ 0) ⊎ IsLineOfWords words
+IsCommandLine words = IsBodiesLine words ⊎ IsRequestLine words
 
 -- the words say the request
 abbrev pub Says : List (String Global) → Request → Type 0

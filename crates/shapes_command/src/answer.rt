@@ -8,6 +8,7 @@ ghost use Rattle.shapes_command.specs.Request.{IsInRange};
 
 use crate::drain::drained_rows;
 use crate::request::Request;
+use crate::search::explored_sum;
 use crate::sum::{parallel_sum, serial_sum};
 use commonware_parallel::mocks::mix;
 use parallel_bridge::segments::segments;
@@ -79,6 +80,7 @@ fn push_answer<R: Threads + Wait + Sync>(
             column,
             len,
         } => push_mix(line, seed, row, column, len),
+        Request::ExploreSum => push_number(line, explored_sum(rt, alloc)?),
     }
 }
 

@@ -1,6 +1,7 @@
 // What a command line asks for.
 ghost use Rattle.std.specs.Prelude.{◌≡◌, ◌↔◌, IsTrue, MatchOption, codes};
-ghost use Rattle.shapes_command.specs.Request.{IsCommandLine, Says, IsUnasked, IsLineOfWords, SaysInWords, IsShareLine, SaysShare, IsListLine, SaysList};
+ghost use Rattle.shapes_command.specs.Request.{IsExploreLine, SaysExploreSum, IsBodiesLine};
+ghost use Rattle.shapes_command.specs.Request.{IsRequestLine, Says, IsUnasked, IsLineOfWords, SaysInWords, IsShareLine, SaysShare, IsListLine, SaysList};
 ghost use Rattle.shapes_command.specs.Request.{IsDrainLine, SaysDrain, IsBatchesLine, SaysBatches, IsGridLine, SaysGrid};
 ghost use Rattle.shapes_command.specs.Request.{IsSegmentsLine, SaysSegments, AreItems, IsFoldLine, SaysFold, IsThreadsLine, SaysThreads};
 ghost use Rattle.shapes_command.specs.Request.{IsMixLine, SaysMix, SaysFoldParallel, IsExplorerLine, SaysExplorer, IsCallLine, SaysCall};
@@ -98,13 +99,15 @@ pub enum Request<'a> {
         /// The number of items.
         len: usize,
     },
+    /// `explore sum`: the sum of the numbers below 100, by each rule of a search.
+    ExploreSum,
 }
 
-/// The request that the words say, and None where they are no command line.
+/// The request that the words say, and None where they say none.
 ///
-/// No words say `drain 4 2`.
+/// No words say `drain 4 2`. `explore bodies`, which has no answer, is none (`is_bodies`).
 pub fn parse(words: &[String]) -> Option<Request<'_>>
-    ensures { MatchOption result (¬ (IsCommandLine words.now)) (Says words.now) }
+    ensures { MatchOption result (¬ (IsRequestLine words.now)) (Says words.now) }
 {
     if words.is_empty() {
         return Some(unasked());
@@ -144,7 +147,7 @@ fn about_lists(words: &[String]) -> Option<Request<'_>>
 fn about_explorers(words: &[String]) -> Option<Request<'_>>
     ensures { MatchOption result (¬ (IsExplorerLine words.now)) (SaysExplorer words.now) }
 {
-    mix(words).or(fold_parallel(words))
+    mix(words).or(fold_parallel(words)).or(explore_sum(words))
 }
 
 // What the program does without words: `drain 4 2`.
@@ -273,6 +276,38 @@ fn mix(words: &[String]) -> Option<Request<'_>>
             column: number_of_32_bits(column)?,
             len: number(len, usize::MAX)?,
         }),
+        _ => None,
+    }
+}
+
+// The request of a line `explore sum`.
+fn explore_sum(words: &[String]) -> Option<Request<'_>>
+    ensures { MatchOption result (¬ (IsExploreLine (codes "sum") words.now)) (SaysExploreSum words.now) }
+{
+    match words {
+        [name, what] if name.as_str() == "explore" && what.as_str() == "sum" => {
+            Some(Request::ExploreSum)
+        }
+        _ => None,
+    }
+}
+
+/// Whether the words are `explore bodies`.
+pub fn is_bodies(words: &[String]) -> bool
+    ensures { IsTrue result ↔ IsBodiesLine words.now }
+{
+    match explore_bodies(words) {
+        Some(()) => true,
+        None => false,
+    }
+}
+
+// Something for a line `explore bodies`.
+fn explore_bodies(words: &[String]) -> Option<()>
+    ensures { MatchOption result (¬ (IsBodiesLine words.now)) (λ _. IsBodiesLine words.now) }
+{
+    match words {
+        [name, what] if name.as_str() == "explore" && what.as_str() == "bodies" => Some(()),
         _ => None,
     }
 }

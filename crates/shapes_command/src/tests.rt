@@ -236,7 +236,11 @@ fn other_words_are_bad_arguments(rt: HostRuntime) -> Result<(), Fail> {
         "fold serial 1  2",
         "fold serial 1 2 ",
         "fold serial 1 2x",
-        "explore sum",
+        "explore",
+        "explore Sum",
+        "explore sum 1",
+        "explore bodies 2",
+        "explore  sum",
         "threads",
         "threads 0 0 7",
         "threads 0 0 7 4 1",
@@ -258,6 +262,22 @@ fn other_words_are_bad_arguments(rt: HostRuntime) -> Result<(), Fail> {
         assert_eq!(rt; ran.out.as_str(), "", "at {line:?}");
         assert_eq!(rt; ran.err.as_str(), "shapes: bad arguments\n", "at {line:?}");
     }
+    Ok(())
+}
+
+#[test]
+fn a_search_tells_the_sum_or_the_difference(rt: HostRuntime) -> Result<(), Fail> {
+    let sum = run(&rt, rt.alloc(), "explore sum")?;
+    assert_eq!(rt; sum.status, 0, "{sum:?}");
+    assert_eq!(rt; sum.out.as_str(), "4950\n");
+    assert_eq!(rt; sum.err.as_str(), "");
+    let bodies = run(&rt, rt.alloc(), "explore bodies")?;
+    assert_eq!(rt; bodies.status, 1, "{bodies:?}");
+    assert_eq!(rt; bodies.out.as_str(), "");
+    assert_eq!(rt;
+        bodies.err.as_str(),
+        "shapes: the Parallel run must return the serial run's output\n"
+    );
     Ok(())
 }
 

@@ -3,6 +3,7 @@
 #![tactic(auto)]
 
 pub mod batches;
+pub mod explored;
 pub mod folds;
 pub mod long_lists;
 pub mod maps;

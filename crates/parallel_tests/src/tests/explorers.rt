@@ -13,6 +13,7 @@ use std::sync::Wait;
 use std::sync::atomic::{AtomicU64, Ordering};
 use std::test::Fail;
 use std::thread::Threads;
+use uses::explored::{explore_from_ten, explore_from_zero};
 
 // The first place of a file whose name is one byte.
 const PLACE: Site = Site {
@@ -289,6 +290,15 @@ fn outputs_that_the_shape_does_not_change_are_answered(rt: HostRuntime) -> Resul
         }
     })?;
     assert_eq!(rt; first, Some(57));
+    Ok(())
+}
+
+#[test]
+fn two_closures_are_told_apart(rt: HostRuntime) -> Result<(), Fail> {
+    let sum = explore_from_zero(&rt, rt.alloc())?;
+    assert_eq!(rt; sum, Ok(4950));
+    let told = explore_from_ten(&rt, rt.alloc());
+    assert!(rt; matches!(told, Err(ExploreError::Differs(Rule::Parallel))));
     Ok(())
 }
 
