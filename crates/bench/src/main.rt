@@ -1,13 +1,16 @@
-// Times folds, maps and tiles through a plain loop and through each strategy, and the choices of a
-// policy; and empties random plans of shares.
+// Times folds, maps and tiles through a plain loop and through each strategy, the choices of a policy
+// and the jobs of a pool; empties random plans of shares, and brings jobs to pools.
 #![tactic(auto)]
 
 mod calls;
 mod case;
 mod choosing;
 mod decimal;
+mod errand;
+mod jobs;
 mod learner;
 mod loops;
+mod pools;
 mod race;
 mod request;
 mod soak;
@@ -18,8 +21,10 @@ mod work;
 
 use crate::case::CASES;
 use crate::choosing::race_choices;
+use crate::jobs::race_jobs;
+use crate::pools::soak_pools;
 use crate::race::race;
-use crate::request::{POLICY, Request, SOAK, parse_request};
+use crate::request::{JOBS, POLICY, POOLS, Request, SOAK, parse_request};
 use crate::soak::soak;
 use anyhow::Result;
 use std::process::ExitCode;
@@ -30,7 +35,9 @@ fn main(rt: HostRuntime) -> io::Result<ExitCode> {
         Ok(Some(Request::Names)) => names(&rt),
         Ok(Some(Request::Time(trial))) => race(&rt, trial),
         Ok(Some(Request::Choose(trial))) => race_choices(&rt, trial),
+        Ok(Some(Request::Jobs(trial))) => race_jobs(&rt, trial),
         Ok(Some(Request::Soak(trial))) => soak(&rt, trial),
+        Ok(Some(Request::Pools(trial))) => soak_pools(&rt, trial),
         Ok(None) => {
             eprintln!(rt; "bench: bad arguments")?;
             return Ok(ExitCode::from(2));
@@ -60,7 +67,8 @@ fn names(rt: &impl Print) -> Result<()> {
     for case in CASES {
         rt.println(case.name())?;
     }
-    rt.println(POLICY)?;
-    rt.println(SOAK)?;
+    for name in [POLICY, JOBS, SOAK, POOLS] {
+        rt.println(name)?;
+    }
     Ok(())
 }

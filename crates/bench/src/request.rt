@@ -7,8 +7,14 @@ use std::num::NonZeroUsize;
 /// The name by which the command line asks for the choices of a policy.
 pub const POLICY: &str = "policy";
 
+/// The name by which the command line asks for jobs of a pool.
+pub const JOBS: &str = "jobs";
+
 /// The name by which the command line asks for a soak of shares.
 pub const SOAK: &str = "soak";
+
+/// The name by which the command line asks for a soak of pools.
+pub const POOLS: &str = "pools";
 
 /// A case to be timed over a list of `len` items, with a pool of `threads` threads.
 #[derive(Clone, Copy, Debug, PartialEq, Eq, Hash)]
@@ -29,6 +35,21 @@ pub struct ChoiceTrial {
     pub threads: NonZeroUsize,
 }
 
+/// Jobs to be brought to pools of so many workers.
+#[derive(Clone, Copy, Debug, PartialEq, Eq, Hash)]
+pub struct JobTrial {
+    pub jobs: usize,
+    pub workers: NonZeroUsize,
+}
+
+/// Jobs to be brought to one pool by several threads, and pools to be made and dropped one after the
+/// other.
+#[derive(Clone, Copy, Debug, PartialEq, Eq, Hash)]
+pub struct PoolTrial {
+    pub jobs: usize,
+    pub pools: usize,
+}
+
 /// What the words ask for.
 #[derive(Clone, Copy, Debug, PartialEq, Eq, Hash)]
 pub enum Request {
@@ -38,14 +59,18 @@ pub enum Request {
     Time(Trial),
     /// The choices of a policy to be timed.
     Choose(ChoiceTrial),
+    /// The jobs of a pool to be timed.
+    Jobs(JobTrial),
     /// Random plans of shares to be emptied.
     Soak(SoakTrial),
+    /// Pools to be brought jobs.
+    Pools(PoolTrial),
 }
 
 /// What the words after the program's name ask for: nothing for the names, `soak PLANS SEED` for random
-/// plans, and `policy LEN THREADS` or `CASE LEN THREADS` for a trial of one thread at least, a case's
-/// with `iter`, with `fresh` or with both behind it, in that order; a case of tiles has no `iter`. Any
-/// other words ask for nothing.
+/// plans, `pools JOBS POOLS` for pools, and `policy LEN THREADS`, `jobs JOBS WORKERS` or
+/// `CASE LEN THREADS` for a trial of one thread at least, a case's with `iter`, with `fresh` or with both
+/// behind it, in that order; a case of tiles has no `iter`. Any other words ask for nothing.
 pub fn parse_request(words: &[String]) -> Option<Request> {
     let [case, len, threads, options @ ..] = words else {
         return words.is_empty().then_some(Request::Names);
@@ -56,11 +81,22 @@ pub fn parse_request(words: &[String]) -> Option<Request> {
         let trial = SoakTrial { plans, seed };
         return options.is_empty().then_some(Request::Soak(trial));
     }
+    if case.as_str() == POOLS {
+        let jobs = len.parse().ok()?;
+        let pools = threads.parse().ok()?;
+        let trial = PoolTrial { jobs, pools };
+        return options.is_empty().then_some(Request::Pools(trial));
+    }
     let len = len.parse().ok()?;
     let threads = NonZeroUsize::new(threads.parse().ok()?)?;
     if case.as_str() == POLICY {
         let trial = ChoiceTrial { len, threads };
         return options.is_empty().then_some(Request::Choose(trial));
+    }
+    if case.as_str() == JOBS {
+        let workers = threads;
+        let trial = JobTrial { jobs: len, workers };
+        return options.is_empty().then_some(Request::Jobs(trial));
     }
     let case = Case::named(case.as_str())?;
     let (form, is_fresh) = parse_options(options)?;

@@ -5,7 +5,9 @@ use Rattle.std.specs.List.{Contains}
 -- The closures are functions, f by items and g by results, on the values that are good; the
 -- identity is neutral on the right of g; and a step on the right of a reduction may be taken out
 -- of it. All of this is asked of good values and of the items of the list alone.
-pub record FoldLaws {X R : Type 0} (identity : R → Type 0) (step : R → X → R → Type 0) (reduce : R → R → R → Type 0) (unit : R) (f : R → X → R) (g : R → R → R) (good : R → Bool) (xs : List X) : Type 0 where
+pub record FoldLaws {X R : Type 0}
+    (identity : R → Type 0) (step : R → X → R → Type 0) (reduce : R → R → R → Type 0)
+    (unit : R) (f : R → X → R) (g : R → R → R) (good : R → Bool) (xs : List X) : Type 0 where
   pub starts : (e : R) → identity e → e ≡ unit
   pub steps : (a : R) (x : X) (b : R) → IsTrue (good a) → Contains xs x → step a x b → b ≡ f a x
   pub reduces : (a b r : R) → IsTrue (good a) → IsTrue (good b) → reduce a b r → r ≡ g a b

@@ -24,7 +24,9 @@ StateSegment {S = S} init step xs ys = (s : S) × init s × StatesFrom step s xs
 -- the items fall into neighbouring segments, none of them empty, and the answers of each follow from a fresh state of its own
 pub data Stateful {S X Y : Type 0} (init : S → Type 0) (step : S → X → Y → S → Type 0) : List X → List Y → Type 0 where
   no_segment : Stateful init step [] []
-  more_segments : (x : X) (xs rest : List X) (ys more : List Y) {all : List X} {answers : List Y} → all ≡ (x ∷ xs) ++ rest → answers ≡ ys ++ more → StateSegment init step (x ∷ xs) ys → Stateful init step rest more → Stateful init step all answers
+  more_segments : (x : X) (xs rest : List X) (ys more : List Y) {all : List X} {answers : List Y}
+      → all ≡ (x ∷ xs) ++ rest → answers ≡ ys ++ more
+      → StateSegment init step (x ∷ xs) ys → Stateful init step rest more → Stateful init step all answers
 
 -- a fresh state at each segment of a cut, and the answers of two parts one after another
 abbrev pub StatesAlong : {S X Y : Type 0} → (S → Type 0) → (S → X → Y → S → Type 0) → Cut X → List Y → Type 0

@@ -36,7 +36,8 @@ pub data TryBrackets {X R E : Type 0} (allowed : List X → Result R E → Type 
 abbrev pub TryBracketing : {X R E : Type 0} → (R → Type 0) → (R → X → Result R E → Type 0) → (R → R → R → Type 0) → List X → Result R E → Type 0
 TryBracketing identity step reduce xs out = TryBrackets (TryFoldSegment identity step) reduce xs out
 
--- each segment gives an outcome as leaf allows for its items, and two parts give what node allows for the values of left and right; a left part's error stands alone, a right part's behind a value of the left one
+-- each segment gives an outcome as leaf allows for its items, and two parts give what node allows for the values of left and right;
+-- a left part's error stands alone, a right part's behind a value of the left one
 abbrev pub TryAlongCut : {X R E : Type 0} → (List X → Result R E → Type 0) → (R → R → Result R E → Type 0) → Cut X → Result R E → Type 0
 TryAlongCut leaf node (segment xs) out = leaf xs out
 TryAlongCut {R = R} {E = E} leaf node (halves p q) out =

@@ -18,7 +18,9 @@ module _ {X : Type 0} where
   part start room before items = record { start = start; room = room; before = before; items = items }
 
   abbrev pub view_code : Coded X → Coded (View X)
-  view_code c = code_by (Ptr × (ℕ × (ℕ × List X))) (coded× coded_ptr (coded× coded_ℕ (coded× coded_ℕ (coded_list c)))) (λ v. (v.start, (v.room, (v.before, v.items)))) (λ p. part p.0 p.1.0 p.1.1.0 p.1.1.1) (λ _. refl)
+  view_code c = code_by (Ptr × (ℕ × (ℕ × List X)))
+      (coded× coded_ptr (coded× coded_ℕ (coded× coded_ℕ (coded_list c))))
+      (λ v. (v.start, (v.room, (v.before, v.items)))) (λ p. part p.0 p.1.0 p.1.1.0 p.1.1.1) (λ _. refl)
 
 -- a row of places that begins at start: before empty ones, len items, and empty ones
 abbrev pub IsRow : {X : Type 0} → Ptr → Ptr → List (Option X) → ℕ → ℕ → ℕ → Type 0
@@ -32,7 +34,10 @@ pub record Site : Type 0 where
   pub end : Ptr
 
 abbrev pub site_code : Coded Site
-site_code = code_by (Ptr × (ℕ × (ℕ × Ptr))) (coded× coded_ptr (coded× coded_ℕ (coded× coded_ℕ coded_ptr))) (λ s. (s.start, (s.room, (s.capacity, s.end)))) (λ p. record { start = p.0; room = p.1.0; capacity = p.1.1.0; end = p.1.1.1 }) (λ _. refl)
+site_code = code_by (Ptr × (ℕ × (ℕ × Ptr)))
+    (coded× coded_ptr (coded× coded_ℕ (coded× coded_ℕ coded_ptr)))
+    (λ s. (s.start, (s.room, (s.capacity, s.end))))
+    (λ p. record { start = p.0; room = p.1.0; capacity = p.1.1.0; end = p.1.1.1 }) (λ _. refl)
 
 -- the places behind the row are empty
 abbrev pub IsTail : {X : Type 0} → Ptr → Ptr → List (Option X) → ℕ → ℕ → Type 0

@@ -31,8 +31,13 @@ pub fn fold_init_law<
     F: Fn(R, &mut S, X) -> R,
     G: Fn(R, R) -> R,
 >(init: &N, identity: &I, fold_op: &F, reduce_op: &G)
-    ensures { (xs : List X) (r : R) → Brackets (FoldInitSegment (N.post init.now) (I.post identity.now) (FoldStep (λ a p x b q. F.post fold_op.now a p x b q))) (λ a b c. G.post reduce_op.now a b c) xs r
-        → IsPlainFold (I.post identity.now) (AnyState (FoldStep (λ a p x b q. F.post fold_op.now a p x b q))) (λ a b c. G.post reduce_op.now a b c) xs r }
+    ensures { (xs : List X) (r : R) → Brackets
+        (FoldInitSegment (N.post init.now) (I.post identity.now)
+        (FoldStep (λ a p x b q. F.post fold_op.now a p x b q)))
+        (λ a b c. G.post reduce_op.now a b c) xs r
+        → IsPlainFold (I.post identity.now)
+        (AnyState (FoldStep (λ a p x b q. F.post fold_op.now a p x b q)))
+        (λ a b c. G.post reduce_op.now a b c) xs r }
 {
     let _ = init;
     let _ = identity;

@@ -16,7 +16,10 @@ pub(crate) fn change_entry<K: Eq + Hash + Copy, V: Default + Copy, T, F: FnOnce(
 where
     T: Drop,
     requires { F.IsAlwaysCallable change }
-    ensures changed { IfOk result (λ answer. (before : V) × (after : V) × MatchOption (get K.eq entries.old key) (V.is_default before) (λ v. before ≡ v) × FnOnceReturnsAtMut F.FnOnce change before answer after × (get K.eq entries.new key ≡ Some after)) }
+    ensures changed { IfOk result (λ answer. (before : V) × (after : V)
+        × MatchOption (get K.eq entries.old key) (V.is_default before) (λ v. before ≡ v)
+        × FnOnceReturnsAtMut F.FnOnce change before answer after
+        × (get K.eq entries.new key ≡ Some after)) }
     ensures others { (other : K) → K.eq key other ≡ false → get K.eq entries.new other ≡ get K.eq entries.old other }
     ensures fault { IfErr result (λ fault. fault ≡ Fault.Memory) }
     ensures err { OnErr result ((other : K) → get K.eq entries.new other ≡ get K.eq entries.old other) }

@@ -27,7 +27,7 @@ pub use environment::{Environment, planned_threads};
 pub use job_deque::JobDeque;
 pub use job_queues::JobQueues;
 pub use job_seat::JobSeat;
-pub use owned_job::OwnedJob;
+pub use owned_job::{Execute, OwnedJob};
 pub use pool_plan::PoolPlan;
 pub use queue::Queue;
 pub use staff::Staff;

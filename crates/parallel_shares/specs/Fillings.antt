@@ -47,7 +47,10 @@ Closes {R = R} finish (Some p) s before t after = (r : R) × finish s p.row r t 
 
 -- from the first state on, the cells so far were cut; the stretches before the open one have their results, and the open
 -- one was filled so far
-pub record Underway {T R : Type 0} (fill : T → ℕ → Range ℕ → T → Type 0) (finish : T → ℕ → R → T → Type 0) (len : ℕ) (first : T) (cells : List ℕ) (opened : Option Piece) (results : List R) (state : T) : Type 0 where
+pub record Underway {T R : Type 0}
+    (fill : T → ℕ → Range ℕ → T → Type 0) (finish : T → ℕ → R → T → Type 0)
+    (len : ℕ) (first : T) (cells : List ℕ)
+    (opened : Option Piece) (results : List R) (state : T) : Type 0 where
   pub done : List Stretch
   pub before : T
   pub finished : Finished fill finish first done results before

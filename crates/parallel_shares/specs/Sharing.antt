@@ -147,9 +147,26 @@ dealt view = fresh_view view.plan (take 1 view.owns)
 -- all that two seats have
 abbrev pub gathered : View → View → View
 gathered view other =
-    record view { owns = view.owns ++ other.owns; claims = view.claims ++ other.claims; transit = view.transit ++ other.transit; empties = view.empties ++ other.empties; changes = view.changes + other.changes }
+    record view {
+      owns = view.owns ++ other.owns;
+      claims = view.claims ++ other.claims;
+      transit = view.transit ++ other.transit;
+      empties = view.empties ++ other.empties;
+      changes = view.changes + other.changes;
+    }
 
 -- what is left of a seat that another took in
 abbrev pub spent : View
 spent =
-    record { owns = []; claims = []; transit = []; empties = []; words = []; loads = []; met = 0; exchanges = 0; changes = 0; plan = record { cells = 0; unit = 0; claim = 0; units = 0; workers = 0; split_cost = 0; whole = false } }
+    record {
+      owns = [];
+      claims = [];
+      transit = [];
+      empties = [];
+      words = [];
+      loads = [];
+      met = 0;
+      exchanges = 0;
+      changes = 0;
+      plan = record { cells = 0; unit = 0; claim = 0; units = 0; workers = 0; split_cost = 0; whole = false };
+    }

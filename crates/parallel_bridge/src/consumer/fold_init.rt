@@ -102,7 +102,10 @@ impl<
 
     ghost fits = { λ s n. C.fits s.base n };
 
-    ghost leaf_gives = { λ s xs out. (b : U) × FoldInitSegment (N.post s.init.now) (I.post s.identity.now) (FoldStep (λ a p x b q. F.post s.fold_op.now a p x b q)) xs b × C.leaf_gives s.base (b ∷ []) out };
+    ghost leaf_gives = { λ s xs out. (b : U)
+        × FoldInitSegment (N.post s.init.now) (I.post s.identity.now)
+        (FoldStep (λ a p x b q. F.post s.fold_op.now a p x b q)) xs b
+        × C.leaf_gives s.base (b ∷ []) out };
 
     ghost node_gives = { λ s a b out. C.node_gives s.base a b out };
 

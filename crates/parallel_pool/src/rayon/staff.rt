@@ -6,7 +6,7 @@ ghost use Rattle.parallel_pool.specs.WorkerThread.{CallsOne, PushesOwn, calls_of
 ghost use Rattle.parallel_pool.specs.declared.rayon.yields.Yield.TheVariants.{Executed, Idle};
 
 use crate::rayon::job_seat::JobSeat;
-use crate::rayon::owned_job::OwnedJob;
+use crate::rayon::owned_job::{Execute, OwnedJob};
 use crate::rayon::queue::Queue;
 use crate::rayon::registry::{Hold, Registry};
 use crate::rayon::thread_pool::ThreadPool;
@@ -189,10 +189,10 @@ impl<T: Drop> ThreadPool<Staff<T>> {
     }
 }
 
-impl ThreadPool<Staff> {
+impl<T: Execute> ThreadPool<Staff<T>> {
     /// Calls one job, where the worker is one of this pool's, by their labels, and finds one. It looks
     /// where a started worker does.
-    pub fn yield_now<R: Wait>(&self, rt: &R, worker: &mut WorkerThread) -> Option<Yield>
+    pub fn yield_now<R: Wait>(&self, rt: &R, worker: &mut WorkerThread<T>) -> Option<Yield>
         ensures none { (result ≡ None) ↔ (worker.old.label ≢ label_of self.now) }
         ensures executed { (result ≡ Some Executed) ↔ (calls_of worker.old < calls_of worker.new) }
         ensures once { result ≡ Some Executed → (job : _) × CallsOne worker.old job worker.new × (calls_of worker.new ≡ calls_of worker.old + 1) }

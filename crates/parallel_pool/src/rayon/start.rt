@@ -3,6 +3,7 @@ ghost use Rattle.std.specs.Prelude.{◌≡◌};
 
 use crate::rayon::build_error::ThreadPoolBuildError;
 use crate::rayon::handlers::StartHandler;
+use crate::rayon::owned_job::Execute;
 use crate::rayon::worker_thread::WorkerThread;
 use std::alloc::Global;
 use std::sync::{Arc, Wait};
@@ -16,12 +17,12 @@ pub(crate) trait Work: Drop {
 
 /// A worker, and what it calls first.
 #[derive(Drop)]
-pub(crate) struct Starter {
-    pub(crate) worker: WorkerThread,
+pub(crate) struct Starter<T: Execute> {
+    pub(crate) worker: WorkerThread<T>,
     pub(crate) start: Option<Arc<StartHandler, Global>>,
 }
 
-impl Work for Starter {
+impl<T: Execute> Work for Starter<T> {
     fn run<R: Wait>(self, rt: &R) {
         let Starter { mut worker, start } = self;
         if let Some(start) = &start {
@@ -34,13 +35,13 @@ impl Work for Starter {
 /// Starts each worker, with its name, and lists the threads, for which there is room.
 ///
 /// `ThreadPoolBuildError::Spawn` where a start was refused: those before it run.
-pub(crate) fn start_workers<R: Threads + Wait + Copy + Send + 'static>(
+pub(crate) fn start_workers<R: Threads + Wait + Copy + Send + 'static, T: Execute + Send + 'static>(
     rt: &R,
     stack_size: Option<usize>,
-    workers: Vec<(Option<String>, Starter)>,
+    workers: Vec<(Option<String>, Starter<T>)>,
     started: &mut Vec<JoinHandle<()>>,
 ) -> Result<(), ThreadPoolBuildError> {
-    start_all::<R, Starter>(rt, stack_size, workers, started)
+    start_all::<R, Starter<T>>(rt, stack_size, workers, started)
 }
 
 fn start_all<R: Threads + Wait + Copy + Send + 'static, W: Work + Send + 'static>(

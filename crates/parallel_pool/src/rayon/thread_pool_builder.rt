@@ -9,6 +9,7 @@ use crate::rayon::environment::Environment;
 use crate::rayon::handlers::{Names, StartHandler};
 use crate::rayon::job_deque::JobDeque;
 use crate::rayon::job_queues::JobQueues;
+use crate::rayon::owned_job::{Execute, OwnedJob};
 use crate::rayon::pool_plan::PoolPlan;
 use crate::rayon::registry::{Hold, Registry};
 use crate::rayon::rest::Rest;
@@ -135,7 +136,8 @@ impl ThreadPoolBuilder {
         set
     }
 
-    /// Builds the pool and starts its workers. With `use_current_thread` the second part is worker 0.
+    /// Builds the pool and starts its workers, for boxed jobs. With `use_current_thread` the second
+    /// part is worker 0.
     ///
     /// `ThreadPoolBuildError::Memory` where memory was refused, or a name; `Spawn` where the start of
     /// a thread was. No worker is left running then: those that were started have ended.
@@ -144,6 +146,18 @@ impl ThreadPoolBuilder {
         rt: &R,
         alloc: Global,
     ) -> Result<(ThreadPool<Staff>, Option<WorkerThread>), ThreadPoolBuildError>
+        ensures count { IfOk result (λ built. IsPlanned self.plan (thread_count built.0)) }
+        ensures label { IfOk result (λ built. label_of built.0 ≡ self.plan.label) }
+    {
+        self.build_for::<R, OwnedJob>(rt, alloc)
+    }
+
+    /// Builds the pool for jobs of one's own type, as `build` does for boxed ones.
+    pub fn build_for<R: Threads + Wait + Copy + Send + 'static, T: Execute + Send + 'static>(
+        self,
+        rt: &R,
+        alloc: Global,
+    ) -> Result<(ThreadPool<Staff<T>>, Option<WorkerThread<T>>), ThreadPoolBuildError>
         ensures count { IfOk result (λ built. IsPlanned self.plan (thread_count built.0)) }
         ensures label { IfOk result (λ built. label_of built.0 ≡ self.plan.label) }
     {
@@ -187,11 +201,11 @@ fn placeholder(is_set: bool) -> Option<Closure> {
 }
 
 // The queues of a pool, and its workers, in order, of which none is started.
-fn staff(
+fn staff<T: Execute>(
     alloc: Global,
     num_threads: NonZeroUsize,
     label: u64,
-) -> Result<(Staff, Vec<WorkerThread>), ThreadPoolBuildError>
+) -> Result<(Staff<T>, Vec<WorkerThread<T>>), ThreadPoolBuildError>
     requires { non_zero_usize_get num_threads ≤ MAX_THREADS }
 {
     let (queues, deques) = of_memory(JobQueues::new(alloc, num_threads))?;
@@ -211,14 +225,14 @@ fn of_memory<T>(made: Result<T, Fault>) -> Result<T, ThreadPoolBuildError> {
 }
 
 // The workers, each over its own deque.
-fn workers(
+fn workers<T: Execute>(
     alloc: Global,
     label: u64,
-    queues: &JobQueues,
+    queues: &JobQueues<T>,
     registry: &Arc<Registry, Global>,
-    deques: Vec<JobDeque>,
+    deques: Vec<JobDeque<T>>,
     rests: Vec<Rest>,
-) -> Result<Vec<WorkerThread>, ThreadPoolBuildError> {
+) -> Result<Vec<WorkerThread<T>>, ThreadPoolBuildError> {
     let mut all = Vec::new(alloc);
     for (own, rest) in deques.into_iter().zip(rests) {
         let jobs = of_memory(queues.seat(alloc))?;
@@ -236,7 +250,10 @@ fn workers(
 }
 
 // The worker of the thread that builds the pool, taken out of the list.
-fn current(plan: &PoolPlan, workers: &mut Vec<WorkerThread>) -> Option<WorkerThread> {
+fn current<T: Execute>(
+    plan: &PoolPlan,
+    workers: &mut Vec<WorkerThread<T>>,
+) -> Option<WorkerThread<T>> {
     if plan.use_current_thread && !workers.is_empty() {
         Some(workers.remove(0))
     } else {
@@ -245,13 +262,13 @@ fn current(plan: &PoolPlan, workers: &mut Vec<WorkerThread>) -> Option<WorkerThr
 }
 
 // The workers that are to be started, each with its name and what it calls first.
-fn named(
+fn named<T: Execute>(
     alloc: Global,
     plan: &PoolPlan,
     names: Option<Names>,
     start: Option<StartHandler>,
-    workers: Vec<WorkerThread>,
-) -> Result<Vec<(Option<String>, Starter)>, ThreadPoolBuildError> {
+    workers: Vec<WorkerThread<T>>,
+) -> Result<Vec<(Option<String>, Starter<T>)>, ThreadPoolBuildError> {
     let mut names = names;
     let start = shared(alloc, start)?;
     let mut all = Vec::new(alloc);
@@ -295,13 +312,13 @@ fn name_of(names: &mut Option<Names>, index: usize) -> Result<Option<String>, Al
 }
 
 // The staff, with its workers started. Where a start is refused, those before it have ended.
-fn started<R: Threads + Wait + Copy + Send + 'static>(
+fn started<R: Threads + Wait + Copy + Send + 'static, T: Execute + Send + 'static>(
     rt: &R,
     alloc: Global,
     plan: &PoolPlan,
-    staff: Staff,
-    workers: Vec<(Option<String>, Starter)>,
-) -> Result<Staff, ThreadPoolBuildError> {
+    staff: Staff<T>,
+    workers: Vec<(Option<String>, Starter<T>)>,
+) -> Result<Staff<T>, ThreadPoolBuildError> {
     let first = usize::from(plan.use_current_thread);
     let count = workers.len();
     let mut handles = Vec::with_capacity(alloc, count)?;

@@ -2,7 +2,7 @@
 use crate::rayon::broadcast_context::BroadcastContext;
 use crate::rayon::job_deque::JobDeque;
 use crate::rayon::job_seat::JobSeat;
-use crate::rayon::owned_job::OwnedJob;
+use crate::rayon::owned_job::{Execute, OwnedJob};
 use crate::rayon::queue::Queue;
 use crate::rayon::registry::Registry;
 use crate::rayon::rest::Rest;
@@ -165,7 +165,7 @@ fn next_round(index: usize, workers: usize) -> usize {
     if next < workers { next } else { 0 }
 }
 
-impl WorkerThread {
+impl<T: Execute> WorkerThread<T> {
     /// Calls jobs until the pool has come to its end.
     pub(crate) fn work<R: Wait>(&mut self, rt: &R) {
         let mut idle = None;
@@ -191,8 +191,8 @@ impl WorkerThread {
     }
 
     /// Calls a job that it took, which ends there.
-    pub(crate) fn call(&self, job: OwnedJob) {
-        job.call(self.index);
+    pub(crate) fn call(&self, job: T) {
+        job.execute(self.index);
         self.registry.one_less();
     }
 }

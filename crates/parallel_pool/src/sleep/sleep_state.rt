@@ -50,7 +50,10 @@ impl Model for SleepState {
 
     ghost view = { λ s. record { events = events_of s.counters; workers = s.standings.items; woken = s.woken.items } };
 
-    ghost invariant = { λ s. (sleeping_of s.counters ≡ sleeping_in s.standings.items) × (inactive_of s.counters ≡ inactive_in s.standings.items) × (vec_len s.standings ≤ 65535) × (vec_len s.standings ≤ vec_capacity s.woken) };
+    ghost invariant = { λ s. (sleeping_of s.counters ≡ sleeping_in s.standings.items)
+        × (inactive_of s.counters ≡ inactive_in s.standings.items)
+        × (vec_len s.standings ≤ 65535)
+        × (vec_len s.standings ≤ vec_capacity s.woken) };
 }
 
 impl SleepState {

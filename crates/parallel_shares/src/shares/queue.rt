@@ -35,7 +35,9 @@ impl Shares {
     ghost use Rattle.parallel_shares.specs.Totals.{total};
     ghost use Rattle.parallel_shares.specs.Gathered.{HasAll};
     ghost use Rattle.parallel_shares.specs.Sharing.{undealt, loaded_at, loads_at, looked_own};
-    ghost use Rattle.parallel_shares.specs.Seats.{plan_of, known, has_emptied, own_share, own_word, own_loads, IsSeatOf, AreSeatsOf, AreFresh, IsSameSeat, TriesClaim, LoadsOwn, MeetsFront, IsPartition, AllDone, AllEmpty, EachCellOnce};
+    ghost use Rattle.parallel_shares.specs.Seats.{plan_of, known, has_emptied, own_share, own_word, own_loads};
+    ghost use Rattle.parallel_shares.specs.Seats.{IsSeatOf, AreSeatsOf, AreFresh, IsSameSeat, TriesClaim, LoadsOwn};
+    ghost use Rattle.parallel_shares.specs.Seats.{MeetsFront, IsPartition, AllDone, AllEmpty, EachCellOnce};
 
     /// Shares out `rows` rows of `len` cells each, where a tile costs `tile_cost` cells and there are
     /// at most `workers` workers, and answers a seat for each worker, in order.

@@ -2,7 +2,7 @@
 use Rattle.std.proofs.Common.{arith, ◌≡◌, ◌+◌, refl}
 use Rattle.parallel_pool.specs.WorkerThread.{calls_of}
 use Rattle.parallel_pool.proofs.WorkerCalls.{calls_more}
-use Rattle.parallel_pool.proofs.rayon.staff.ThreadPool+Staff.yield_now.Goals as goal
+use Rattle.parallel_pool.proofs.rayon.staff.ThreadPool+Staff+T.yield_now.Goals as goal
 
 pub returns-in-Some-clause-executed : goal.returns-in-Some-clause-executed
 returns-in-Some-clause-executed g c = (λ _. let h = calls_more _ _ _ c.in-Some.ensures in omega (arith, h), λ _. refl)

@@ -1,0 +1,99 @@
+// The jobs that pools are brought here: values of one type, and none of them boxed.
+use crate::work::stirred;
+use parallel_pool::rayon::Execute;
+use std::alloc::{AllocError, Global};
+use std::ops::Range;
+use std::sync::Arc;
+use std::sync::atomic::{AtomicU64, Ordering};
+
+/// How often each of a list of jobs was called.
+#[derive(Drop)]
+pub struct Board {
+    marks: Vec<AtomicU64>,
+    calls: AtomicU64,
+    checksum: AtomicU64,
+}
+
+impl Board {
+    /// A board of so many jobs, of which none was called.
+    pub fn new(alloc: Global, jobs: usize) -> Result<Board, AllocError> {
+        let mut marks = Vec::with_capacity(alloc, jobs)?;
+        for _ in 0..jobs {
+            marks.push(AtomicU64::new(0))?;
+        }
+        Ok(Board {
+            marks,
+            calls: AtomicU64::new(0),
+            checksum: AtomicU64::new(0),
+        })
+    }
+
+    /// How many calls there were, of all jobs together.
+    pub fn calls(&self) -> u64 {
+        self.calls.load(Ordering::SeqCst)
+    }
+
+    /// Whether each job was called, and none twice.
+    pub fn is_each_once(&self) -> bool {
+        self.marks
+            .iter()
+            .all(|mark| mark.load(Ordering::SeqCst) == 1)
+    }
+
+    // The job of a number was called.
+    fn mark(&self, number: usize) {
+        if let Some(mark) = self.marks.get(number) {
+            mark.fetch_add(1, Ordering::SeqCst);
+        }
+        self.calls.fetch_add(1, Ordering::SeqCst);
+    }
+}
+
+/// A job that stirs its number and marks itself on a board.
+#[derive(Drop)]
+pub struct Errand {
+    board: Arc<Board, Global>,
+    number: usize,
+    stirs: u64,
+}
+
+impl Errand {
+    /// The job of that number.
+    pub fn new(
+        board: &Arc<Board, Global>,
+        number: usize,
+        stirs: u64,
+    ) -> Result<Errand, AllocError> {
+        Ok(Errand {
+            board: Arc::try_clone(board)?,
+            number,
+            stirs,
+        })
+    }
+}
+
+impl Execute for Errand {
+    fn execute(self, _index: usize) {
+        let Errand {
+            board,
+            number,
+            stirs,
+        } = self;
+        if stirs > 0 {
+            let answer = stirred(number as u64, stirs);
+            board.checksum.fetch_add(answer, Ordering::Relaxed);
+        }
+        board.mark(number);
+    }
+}
+
+/// The numbers of the part at `place`, of so many parts that neighbour each other.
+pub fn part_of(jobs: usize, parts: usize, place: usize) -> Range<usize> {
+    let each = jobs / parts.max(1);
+    let start = each.saturating_mul(place);
+    if place.saturating_add(1) == parts {
+        start..jobs
+    } else {
+        start..start.saturating_add(each)
+    }
+}

@@ -1,0 +1,235 @@
+// Jobs that are brought to a pool, beside a thread started for each.
+use crate::decimal::Decimal;
+use crate::errand::{Board, Errand};
+use crate::request::JobTrial;
+use crate::times::Times;
+use crate::work::STIRS;
+use anyhow::{Context, Result, ensure};
+use commonware_parallel::{Clock, Fault, MonotonicClock};
+use parallel_pool::rayon::{Execute, Staff, ThreadPool, ThreadPoolBuilder, WorkerThread, Yield};
+use std::alloc::Global;
+use std::collections::VecDeque;
+use std::fmt::Debug;
+use std::num::NonZeroUsize;
+use std::ops::Range;
+use std::sync::{Arc, Wait};
+use std::thread::{self, Threads};
+use std::time;
+
+/// How many jobs are brought to workers that sleep, one after the other.
+const WAKES: usize = 201;
+
+/// After how many milliseconds without a job each worker sleeps.
+const PAUSE: u64 = 5;
+
+/// The most threads that are started for a job each: of more, the memory of their ends would be timed.
+const MOST_THREADS: usize = 20_000;
+
+/// A pool of workers that call `Errand`s.
+type Pool = ThreadPool<Staff<Errand>>;
+
+/// Times a trial of jobs, and prints a line for each way.
+pub fn race_jobs<Rt>(rt: &Rt, trial: JobTrial) -> Result<()>
+where
+    Rt: time::Clock
+        + Print
+        + AllocGlobal
+        + Threads
+        + Wait
+        + Copy
+        + Drop
+        + Send
+        + Sync
+        + Debug
+        + 'static,
+{
+    let alloc = rt.alloc();
+    let clock = MonotonicClock::new(*rt)?;
+    for (kind, stirs) in [("empty", 0), ("heavy", STIRS)] {
+        let taken = time_spawn(rt, alloc, &clock, trial, stirs)?;
+        report(rt, kind, "spawn", trial.jobs, taken)?;
+        let taken = time_spawn_from(rt, alloc, &clock, trial, stirs)?;
+        report(rt, kind, "spawn_from", trial.jobs, taken)?;
+        let jobs = trial.jobs.min(MOST_THREADS);
+        let taken = time_threads(rt, alloc, &clock, jobs, trial.workers, stirs)?;
+        report(rt, kind, "a thread each", jobs, taken)?;
+    }
+    let times = time_wakes(rt, alloc, &clock, trial.workers)?;
+    let best = Decimal::microseconds(times.best);
+    let median = Decimal::microseconds(times.median);
+    println!(rt; "from spawn to the call by a sleeper: best {best} us, median {median} us")?;
+    Ok(())
+}
+
+fn report(rt: &impl Print, kind: &str, way: &str, jobs: usize, taken: u64) -> Result<()> {
+    let each = Decimal::ratio(taken, jobs as u64).context("no job was timed")?;
+    let rate = (jobs as u64).saturating_mul(1_000_000_000) / taken.max(1);
+    println!(rt; "{kind}, {way}: {each} ns a job, {rate} jobs a second")?;
+    Ok(())
+}
+
+// From the first job's `spawn` until all were called and the workers have ended, in nanoseconds.
+fn time_spawn<R: Threads + Wait + Copy + Send + 'static, C: Clock>(
+    rt: &R,
+    alloc: Global,
+    clock: &C,
+    trial: JobTrial,
+    stirs: u64,
+) -> Result<u64> {
+    let board = Arc::new(alloc, Board::new(alloc, trial.jobs)?)?;
+    let builder = ThreadPoolBuilder::new().num_threads(trial.workers.get());
+    let (pool, _) = builder.build_for::<R, Errand>(rt, alloc)?;
+    let start = clock.now();
+    spawn_all(rt, &pool, &board, 0..trial.jobs, stirs)?;
+    pool.close(rt);
+    let end = clock.now();
+    ensure!(board.is_each_once(), "jobs were lost");
+    Ok(end.saturating_sub(start))
+}
+
+/// Puts the jobs of these numbers among the injected ones of a pool.
+///
+/// # Errors
+///
+/// `Fault::Memory` where there is no memory for a job; those before it stay.
+pub fn spawn_all<R: Wait>(
+    rt: &R,
+    pool: &Pool,
+    board: &Arc<Board, Global>,
+    numbers: Range<usize>,
+    stirs: u64,
+) -> Result<(), Fault> {
+    for number in numbers {
+        let job = Errand::new(board, number, stirs)?;
+        if let Err((fault, _)) = pool.spawn(rt, job) {
+            return Err(fault);
+        }
+    }
+    Ok(())
+}
+
+// The same where the jobs come from a worker of the pool, which calls jobs too once all have come.
+fn time_spawn_from<R: Threads + Wait + Copy + Send + 'static, C: Clock>(
+    rt: &R,
+    alloc: Global,
+    clock: &C,
+    trial: JobTrial,
+    stirs: u64,
+) -> Result<u64> {
+    let board = Arc::new(alloc, Board::new(alloc, trial.jobs)?)?;
+    let builder = ThreadPoolBuilder::new().num_threads(trial.workers.get());
+    let (pool, worker) = builder
+        .use_current_thread()
+        .build_for::<R, Errand>(rt, alloc)?;
+    let mut worker = worker.context("the pool has no worker here")?;
+    let start = clock.now();
+    spawn_all_from(rt, &pool, &mut worker, &board, stirs, trial.jobs)?;
+    call_all(rt, &pool, &mut worker);
+    pool.close(rt);
+    let end = clock.now();
+    ensure!(board.is_each_once(), "jobs were lost");
+    Ok(end.saturating_sub(start))
+}
+
+// Puts so many jobs onto the worker's own deque.
+fn spawn_all_from<R: Wait>(
+    rt: &R,
+    pool: &Pool,
+    worker: &mut WorkerThread<Errand>,
+    board: &Arc<Board, Global>,
+    stirs: u64,
+    jobs: usize,
+) -> Result<(), Fault> {
+    for number in 0..jobs {
+        let job = Errand::new(board, number, stirs)?;
+        if let Err((fault, _)) = pool.spawn_from(rt, worker, job) {
+            return Err(fault);
+        }
+    }
+    Ok(())
+}
+
+// Calls jobs until the worker finds none.
+fn call_all<R: Wait>(rt: &R, pool: &Pool, worker: &mut WorkerThread<Errand>) {
+    for _ in rt.forever() {
+        match pool.yield_now(rt, worker) {
+            Some(Yield::Executed) => {}
+            _ => break,
+        }
+    }
+}
+
+// From the first thread's start until all were joined. No more of them than `at_once` stand at a time.
+fn time_threads<R: Threads, C: Clock>(
+    rt: &R,
+    alloc: Global,
+    clock: &C,
+    jobs: usize,
+    at_once: NonZeroUsize,
+    stirs: u64,
+) -> Result<u64> {
+    let board = Arc::new(alloc, Board::new(alloc, jobs)?)?;
+    let mut threads = VecDeque::new(alloc);
+    let start = clock.now();
+    for number in 0..jobs {
+        if threads.len() >= at_once.get() {
+            join_first(rt, &mut threads);
+        }
+        let job = Errand::new(&board, number, stirs)?;
+        threads.push_back(start_one(rt, job)?)?;
+    }
+    join_all(rt, threads);
+    let end = clock.now();
+    ensure!(board.is_each_once(), "jobs were lost");
+    Ok(end.saturating_sub(start))
+}
+
+fn start_one<R: Threads, J: Execute + Send + 'static>(
+    rt: &R,
+    job: J,
+) -> Result<thread::JoinHandle<()>> {
+    Ok(thread::Builder::new().spawn(rt, move || job.execute(0))?)
+}
+
+fn join_first<R: Threads>(rt: &R, threads: &mut VecDeque<thread::JoinHandle<()>>) {
+    if let Some(first) = threads.pop_front() {
+        first.join(rt);
+    }
+}
+
+fn join_all<R: Threads>(rt: &R, threads: VecDeque<thread::JoinHandle<()>>) {
+    for thread in threads {
+        thread.join(rt);
+    }
+}
+
+// From the `spawn` of one job to a pool whose workers sleep until this thread sees that it was called.
+fn time_wakes<R: Threads + Wait + time::Clock + Copy + Send + 'static, C: Clock>(
+    rt: &R,
+    alloc: Global,
+    clock: &C,
+    workers: NonZeroUsize,
+) -> Result<Times> {
+    let board = Arc::new(alloc, Board::new(alloc, WAKES)?)?;
+    let builder = ThreadPoolBuilder::new().num_threads(workers.get());
+    let (pool, _) = builder.build_for::<R, Errand>(rt, alloc)?;
+    let mut readings = Vec::new(alloc);
+    for number in 0..WAKES {
+        thread::sleep(rt, time::Duration::from_millis(PAUSE));
+        let start = clock.now();
+        spawn_all(rt, &pool, &board, number..number + 1, 0)?;
+        wait_for(rt, &board, number as u64 + 1);
+        readings.push(clock.now().saturating_sub(start))?;
+    }
+    pool.close(rt);
+    Times::of(readings)
+}
+
+// Looks until there were so many calls.
+fn wait_for<R: Wait>(rt: &R, board: &Board, calls: u64) {
+    for _ in rt.forever() {
+        if board.calls() >= calls {
+            break;
+        }
+    }
+}
