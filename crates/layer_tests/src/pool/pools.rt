@@ -2,7 +2,8 @@
 ghost use Rattle.std.specs.Prelude.{◌≡◌};
 
 use parallel_pool::rayon::{
-    Environment, OwnedJob, Queue, Staff, ThreadPool, ThreadPoolBuilder, WorkerThread, Yield,
+    Environment, Execute, OwnedJob, Queue, Staff, ThreadPool, ThreadPoolBuilder, WorkerThread,
+    Yield,
 };
 use std::alloc::Global;
 use std::collections::VecDeque;
@@ -312,5 +313,39 @@ fn each_worker_calls_the_job_that_was_broadcast_to_it(rt: HostRuntime) -> Result
     assert!(rt; pool.spawn_broadcast(&rt, jobs).is_ok());
     assert!(rt; becomes(&rt, &right, 4));
     pool.close(&rt);
+    Ok(())
+}
+
+// A job of a type of its own, which raises a word by so much.
+#[derive(Drop)]
+struct Raise {
+    word: Arc<AtomicU64>,
+    by: u64,
+}
+
+impl Execute for Raise {
+    fn execute(self, _index: usize) {
+        let Raise { word, by } = self;
+        word.fetch_add(by, Ordering::SeqCst);
+    }
+}
+
+#[test]
+fn a_pool_calls_jobs_of_ones_own_type(rt: HostRuntime) -> Result<(), Fail> {
+    let raised = word(rt.alloc())?;
+    let one = Raise {
+        word: Arc::try_clone(&raised)?,
+        by: 3,
+    };
+    let other = Raise {
+        word: Arc::try_clone(&raised)?,
+        by: 4,
+    };
+    let builder = ThreadPoolBuilder::new().num_threads(2);
+    let (pool, _none) = builder.build_for::<HostRuntime, Raise>(&rt, rt.alloc())?;
+    assert!(rt; pool.spawn(&rt, one).is_ok());
+    assert!(rt; pool.spawn(&rt, other).is_ok());
+    pool.close(&rt);
+    assert!(rt; raised.load(Ordering::SeqCst) == 7);
     Ok(())
 }
