@@ -12,6 +12,7 @@ use std::collections::VecDeque;
 use std::fmt::Debug;
 use std::num::NonZeroUsize;
 use std::ops::Range;
+use std::sync::atomic::{AtomicU64, Ordering};
 use std::sync::{Arc, Wait};
 use std::thread::{self, Threads};
 use std::time;
@@ -44,14 +45,14 @@ where
         + 'static,
 {
     let alloc = rt.alloc();
-    let clock = MonotonicClock::new(*rt)?;
+    let clock = Arc::new(alloc, MonotonicClock::new(*rt)?)?;
     for (kind, stirs) in [("empty", 0), ("heavy", STIRS)] {
-        let taken = time_spawn(rt, alloc, &clock, trial, stirs)?;
+        let taken = time_spawn(rt, alloc, &*clock, trial, stirs)?;
         report(rt, kind, "spawn", trial.jobs, taken)?;
-        let taken = time_spawn_from(rt, alloc, &clock, trial, stirs)?;
+        let taken = time_spawn_from(rt, alloc, &*clock, trial, stirs)?;
         report(rt, kind, "spawn_from", trial.jobs, taken)?;
         let jobs = trial.jobs.min(MOST_THREADS);
-        let taken = time_threads(rt, alloc, &clock, jobs, trial.workers, stirs)?;
+        let taken = time_threads(rt, alloc, &*clock, jobs, trial.workers, stirs)?;
         report(rt, kind, "a thread each", jobs, taken)?;
     }
     let times = time_wakes(rt, alloc, &clock, trial.workers)?;
@@ -203,33 +204,54 @@ fn join_all<R: Threads>(rt: &R, threads: VecDeque<thread::JoinHandle<()>>) {
     }
 }
 
-// From the `spawn` of one job to a pool whose workers sleep until this thread sees that it was called.
+// A job that tells when it was called.
+#[derive(Drop)]
+struct Ring<C: Clock> {
+    clock: Arc<C, Global>,
+    called: Arc<AtomicU64, Global>,
+}
+
+impl<C: Clock> Execute for Ring<C> {
+    fn execute(self, _index: usize) {
+        let Ring { clock, called } = self;
+        called.store(clock.now(), Ordering::SeqCst);
+    }
+}
+
+// From the `spawn` of one job to a pool whose workers sleep until it is called. This thread sleeps
+// meanwhile: a worker that wakes on its processor would wait for it, as long as it worked on.
 fn time_wakes<R: Threads + Wait + time::Clock + Copy + Send + 'static, C: Clock>(
     rt: &R,
     alloc: Global,
-    clock: &C,
+    clock: &Arc<C, Global>,
     workers: NonZeroUsize,
 ) -> Result<Times> {
-    let board = Arc::new(alloc, Board::new(alloc, WAKES)?)?;
+    let called = Arc::new(alloc, AtomicU64::new(0))?;
     let builder = ThreadPoolBuilder::new().num_threads(workers.get());
-    let (pool, _) = builder.build_for::<R, Errand>(rt, alloc)?;
+    let (pool, _) = builder.build_for::<R, Ring<C>>(rt, alloc)?;
     let mut readings = Vec::new(alloc);
-    for number in 0..WAKES {
+    for _ in 0..WAKES {
         thread::sleep(rt, time::Duration::from_millis(PAUSE));
+        let ring = Ring {
+            clock: Arc::try_clone(clock)?,
+            called: Arc::try_clone(&called)?,
+        };
         let start = clock.now();
-        spawn_all(rt, &pool, &board, number..number + 1, 0)?;
-        wait_for(rt, &board, number as u64 + 1);
-        readings.push(clock.now().saturating_sub(start))?;
+        ensure!(pool.spawn(rt, ring).is_ok(), "a job was refused");
+        readings.push(come(rt, &called).saturating_sub(start))?;
     }
     pool.close(rt);
     Times::of(readings)
 }
 
-// Looks until there were so many calls.
-fn wait_for<R: Wait>(rt: &R, board: &Board, calls: u64) {
-    for _ in rt.forever() {
-        if board.calls() >= calls {
-            break;
+// When the job was called, once it was, or 0 where it wasn't within ten seconds.
+fn come(rt: &impl time::Clock, called: &AtomicU64) -> u64 {
+    for _ in 0..10_000 {
+        thread::sleep(rt, time::Duration::from_millis(1));
+        let told = called.swap(0, Ordering::SeqCst);
+        if told > 0 {
+            return told;
         }
     }
+    0
 }
