@@ -54,9 +54,9 @@ use std::thread::Threads;
 /// functions below, proved here once for every strategy: an implementation can't break what they say.
 ///
 /// An implementation writes two functions that choose, `dispatch` and `choose`, readers of its
-/// numbers, and five ghost members, in which it says what it may pick. Code that is generic over
-/// `S: Strategy` may rest on the clauses here alone; code at one strategy sees through its ghost
-/// members, and so learns from a clause `along` in which segments a call went.
+/// numbers, `inner`, the type `Measure`, and six ghost members, in which it says what it may pick.
+/// Code that is generic over `S: Strategy` may rest on the clauses here alone; code at one strategy
+/// sees through its ghost members, and so learns from a clause `along` in which segments a call went.
 ///
 /// Every call takes the runtime, then the allocator, then the place of the call. A list call takes a
 /// source: a slice, a vector, indices, a list of the user's own, or any iterator that ends. Its list is
