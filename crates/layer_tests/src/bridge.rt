@@ -3,8 +3,14 @@ mod windows;
 
 use parallel_bridge::bridge::bridge;
 use parallel_bridge::consumer::list_vec::ListVecConsumer;
-use parallel_bridge::consumer::while_some::WhileSomeConsumer;
+use parallel_bridge::consumer::try_fold::TryFoldFolder;
+use parallel_bridge::consumer::try_map::TryMapFolder;
+use parallel_bridge::consumer::try_reduce::TryReduceFolder;
+use parallel_bridge::consumer::while_some::{WhileSomeConsumer, WhileSomeFolder};
+use parallel_bridge::plumbing::Folder;
 use parallel_bridge::producer::{Copies, DrainProducer, Indices, Producer};
+use parallel_fault::Fault;
+use std::alloc::Global;
 use std::num::NonZeroUsize;
 use std::process::Abort;
 use std::test::Fail;
@@ -30,6 +36,68 @@ fn each_segment_keeps_what_stands_before_its_first_none(rt: HostRuntime) -> Resu
     }
     assert_eq!(rt; kept.as_slice(), [1, 4, 5].as_slice());
     Ok(())
+}
+
+// Whether a folder is full before an item that makes no difference to that, behind it, and behind one
+// that fails.
+fn fullness<X: Drop, R, E, F: Folder<X, R, E>>(
+    alloc: Global,
+    folder: F,
+    good: X,
+    bad: X,
+) -> Result<[bool; 3], Fault>
+    requires ready { F.ready folder }
+    requires good { F.takes folder good }
+    requires bad { F.takes folder bad }
+{
+    let before = folder.full();
+    let folder = folder.consume(alloc, good)?;
+    let between = folder.full();
+    let folder = folder.consume(alloc, bad)?;
+    Ok([before, between, folder.full()])
+}
+
+#[test]
+fn a_folder_is_full_behind_an_error_or_none(rt: HostRuntime) {
+    let alloc = rt.alloc();
+    let check = |number: u32| -> Result<u32, u32> {
+        if number < 5 { Ok(number) } else { Err(number) }
+    };
+    let before = TryMapFolder {
+        values: Vec::new(alloc),
+        failed: None,
+        map_op: &check,
+    };
+    assert_eq!(rt; fullness(alloc, before, 4, 5), Ok([false, false, true]));
+    let base = TryMapFolder {
+        values: Vec::new(alloc),
+        failed: None,
+        map_op: &check,
+    };
+    let kept = WhileSomeFolder { base, full: false };
+    assert_eq!(rt;
+        fullness(alloc, kept, Some(4), None),
+        Ok([false, false, true])
+    );
+    let add = |left: u32, right: u32| left.wrapping_add(right);
+    let reduced = TryReduceFolder {
+        control: Ok(0),
+        reduce_op: &add,
+    };
+    assert_eq!(rt;
+        fullness(alloc, reduced, Ok(4), Err(5)),
+        Ok([false, false, true])
+    );
+    let half = |sum: u32, item: u32| check(sum.wrapping_add(item));
+    let folded = TryFoldFolder {
+        base: TryReduceFolder {
+            control: Ok(0),
+            reduce_op: &add,
+        },
+        control: Ok(0),
+        fold_op: &half,
+    };
+    assert_eq!(rt; fullness(alloc, folded, 4, 5), Ok([false, false, true]));
 }
 
 #[test]

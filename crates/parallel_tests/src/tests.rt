@@ -1,5 +1,6 @@
 // The tests that cross crates, at concrete types. Expected values stand in the tests.
 mod batches;
+mod commands;
 mod explorers;
 mod folds;
 mod known;

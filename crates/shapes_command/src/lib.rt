@@ -178,6 +178,3 @@ pub fn unwritten<E: Write>(error: &io::Error, err: &mut E) -> u8
     let _ = writeln!(err, "shapes: {error}");
     1
 }
-
-#[cfg(test)]
-mod tests;

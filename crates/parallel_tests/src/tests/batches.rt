@@ -7,46 +7,47 @@ use std::num::NonZeroUsize;
 use std::ops::Range;
 use std::sync::Wait;
 use std::sync::atomic::{AtomicU64, Ordering};
-use std::test::Fail;
 use std::thread::Threads;
 use uses::batches::{batch_ranges, count_by_ranges};
 
 #[test]
-fn balanced_ranges_differ_by_one_at_most(rt: HostRuntime) -> Result<(), Fail> {
+fn balanced_ranges_differ_by_one_at_most(rt: HostRuntime) {
     let alloc = rt.alloc();
-    let four = Batches::balanced(alloc, &Sequential, SITE, 10, number(&rt, 4))?;
+    let four = Batches::balanced(alloc, &Sequential, SITE, 10, number(&rt, 4)).expect(
+        &rt, "memory",
+    );
     assert_eq!(rt; four.ranges(), [0..3, 3..6, 6..8, 8..10].as_slice());
     assert!(rt; !four.is_whole());
-    let one = Batches::balanced(alloc, &Sequential, SITE, 10, number(&rt, 1))?;
+    let one = Batches::balanced(alloc, &Sequential, SITE, 10, number(&rt, 1)).expect(&rt, "memory");
     assert_eq!(rt; one.ranges(), [0..10].as_slice());
     assert!(rt; one.is_whole());
-    let none = Batches::whole(alloc, &Sequential, SITE, 0)?;
+    let none = Batches::whole(alloc, &Sequential, SITE, 0).expect(&rt, "memory");
     assert_eq!(rt; none.ranges(), [0..0].as_slice());
     assert!(rt; none.is_whole());
-    Ok(())
 }
 
 #[test]
-fn a_batch_has_as_many_ranges_as_are_planned(rt: HostRuntime) -> Result<(), Fail> {
+fn a_batch_has_as_many_ranges_as_are_planned(rt: HostRuntime) {
     let alloc = rt.alloc();
     let four = pool(&rt, alloc, 1, 4);
-    let ranges = batch_ranges(&rt, alloc, &four, SITE, 16, number(&rt, 1))?;
+    let ranges = batch_ranges(&rt, alloc, &four, SITE, 16, number(&rt, 1)).expect(&rt, "memory");
     assert_eq!(rt; ranges.as_slice(), [0..4, 4..8, 8..12, 12..16].as_slice());
-    let ranges = batch_ranges(&rt, alloc, &four, SITE, 16, number(&rt, 5))?;
+    let ranges = batch_ranges(&rt, alloc, &four, SITE, 16, number(&rt, 5)).expect(&rt, "memory");
     assert_eq!(rt; ranges.as_slice(), [0..6, 6..11, 11..16].as_slice());
-    let ranges = batch_ranges(&rt, alloc, &four, SITE, 16, number(&rt, 9))?;
+    let ranges = batch_ranges(&rt, alloc, &four, SITE, 16, number(&rt, 9)).expect(&rt, "memory");
     assert_eq!(rt; ranges.as_slice(), [0..16].as_slice());
-    let ranges = batch_ranges(&rt, alloc, &four, SITE, 0, number(&rt, 1))?;
+    let ranges = batch_ranges(&rt, alloc, &four, SITE, 0, number(&rt, 1)).expect(&rt, "memory");
     assert_eq!(rt; ranges.as_slice(), [0..0].as_slice());
-    let ranges = ranges_at_pool(&rt, alloc, &four, SITE, 16, number(&rt, 5))?;
+    let ranges = ranges_at_pool(&rt, alloc, &four, SITE, 16, number(&rt, 5)).expect(&rt, "memory");
     assert_eq!(rt; ranges.as_slice(), [0..6, 6..11, 11..16].as_slice());
-    let ranges = batch_ranges(&rt, alloc, &Sequential, SITE, 16, number(&rt, 1))?;
+    let ranges = batch_ranges(&rt, alloc, &Sequential, SITE, 16, number(&rt, 1)).expect(
+        &rt, "memory",
+    );
     assert_eq!(rt; ranges.as_slice(), [0..16].as_slice());
-    Ok(())
 }
 
 #[test]
-fn a_batch_has_no_range_below_the_minimum(rt: HostRuntime) -> Result<(), Fail> {
+fn a_batch_has_no_range_below_the_minimum(rt: HostRuntime) {
     let eight = pool(&rt, rt.alloc(), 1, 8);
     for (len, minimum, count) in [
         (2, 1, 2),
@@ -60,25 +61,25 @@ fn a_batch_has_no_range_below_the_minimum(rt: HostRuntime) -> Result<(), Fail> {
         (usize::MAX, 1, 8),
         (usize::MAX, usize::MAX / 2, 2),
     ] {
-        let ranges = batch_ranges(&rt, rt.alloc(), &eight, SITE, len, number(&rt, minimum))?;
+        let ranges = batch_ranges(&rt, rt.alloc(), &eight, SITE, len, number(&rt, minimum)).expect(
+            &rt, "memory",
+        );
         assert_eq!(rt; ranges.len(), count, "{len} by {minimum}");
     }
-    Ok(())
 }
 
 #[test]
-fn a_batch_looks_into_a_list_by_its_ranges(rt: HostRuntime) -> Result<(), Fail> {
+fn a_batch_looks_into_a_list_by_its_ranges(rt: HostRuntime) {
     let flags = [true, false, true, true, false];
     assert_eq!(rt;
-        count_by_ranges(&rt, rt.alloc(), &Sequential, SITE, &flags)?,
+        count_by_ranges(&rt, rt.alloc(), &Sequential, SITE, &flags).expect(&rt, "memory"),
         3
     );
     for threads in 1..9usize {
         let strategy = pool(&rt, rt.alloc(), 1, threads);
-        let count = count_by_ranges(&rt, rt.alloc(), &strategy, SITE, &flags)?;
+        let count = count_by_ranges(&rt, rt.alloc(), &strategy, SITE, &flags).expect(&rt, "memory");
         assert_eq!(rt; count, 3, "{threads} threads");
     }
-    Ok(())
 }
 
 // How often the closure of a batch is called, and whether the batch is whole.
@@ -98,32 +99,33 @@ fn whole_and_calls<Rt: Wait, S: Strategy>(
 }
 
 #[test]
-fn an_input_that_is_not_split_runs_whole_and_once(rt: HostRuntime) -> Result<(), Fail> {
+fn an_input_that_is_not_split_runs_whole_and_once(rt: HostRuntime) {
     let alloc = rt.alloc();
     let eight = number(&rt, 8);
     let one_thread = pool(&rt, alloc, 1, 1);
     let four_threads = pool(&rt, alloc, 4, 4);
     for len in [0, 1, 7, 8, 15] {
-        let serial = whole_and_calls(&rt, alloc, &Sequential, len, eight)?;
+        let serial = whole_and_calls(&rt, alloc, &Sequential, len, eight).expect(&rt, "memory");
         assert_eq!(rt; serial, (true, 1), "{len}");
-        let one = whole_and_calls(&rt, alloc, &one_thread, len, eight)?;
+        let one = whole_and_calls(&rt, alloc, &one_thread, len, eight).expect(&rt, "memory");
         assert_eq!(rt; one, (true, 1), "{len}");
-        let four = whole_and_calls(&rt, alloc, &four_threads, len, eight)?;
+        let four = whole_and_calls(&rt, alloc, &four_threads, len, eight).expect(&rt, "memory");
         assert_eq!(rt; four, (true, 1), "{len}");
     }
     let least = NonZeroUsize::MIN;
     let greatest = NonZeroUsize::MAX;
-    let serial = whole_and_calls(&rt, alloc, &Sequential, usize::MAX, least)?;
+    let serial = whole_and_calls(&rt, alloc, &Sequential, usize::MAX, least).expect(&rt, "memory");
     assert_eq!(rt; serial, (true, 1));
-    let one = whole_and_calls(&rt, alloc, &one_thread, usize::MAX, least)?;
+    let one = whole_and_calls(&rt, alloc, &one_thread, usize::MAX, least).expect(&rt, "memory");
     assert_eq!(rt; one, (true, 1));
-    let four = whole_and_calls(&rt, alloc, &four_threads, usize::MAX, greatest)?;
+    let four = whole_and_calls(&rt, alloc, &four_threads, usize::MAX, greatest).expect(
+        &rt, "memory",
+    );
     assert_eq!(rt; four, (true, 1));
-    Ok(())
 }
 
 #[test]
-fn more_ranges_than_memory_are_refused(rt: HostRuntime) -> Result<(), Fail> {
+fn more_ranges_than_memory_are_refused(rt: HostRuntime) {
     let alloc = rt.alloc();
     let most = NonZeroUsize::MAX;
     let refused = Batches::balanced(alloc, &Sequential, SITE, 7, most);
@@ -131,7 +133,6 @@ fn more_ranges_than_memory_are_refused(rt: HostRuntime) -> Result<(), Fail> {
     let endless = pool(&rt, alloc, 1, usize::MAX);
     let refused = batch_ranges(&rt, alloc, &endless, SITE, usize::MAX, NonZeroUsize::MIN);
     assert!(rt; matches!(refused, Err(Fault::Memory)));
-    Ok(())
 }
 
 // The first index of each range.
@@ -165,15 +166,17 @@ fn mapped_starts<Rt: Threads + Wait + Sync, S: Strategy>(
 }
 
 #[test]
-fn a_batch_maps_what_is_prepared_of_its_ranges(rt: HostRuntime) -> Result<(), Fail> {
+fn a_batch_maps_what_is_prepared_of_its_ranges(rt: HostRuntime) {
     let alloc = rt.alloc();
     assert_eq!(rt;
-        mapped_starts(&rt, alloc, &Sequential)?.as_slice(),
+        mapped_starts(&rt, alloc, &Sequential)
+            .expect(&rt, "memory")
+            .as_slice(),
         [1].as_slice()
     );
     for planned in [2, 3, 4] {
         let strategy = pool(&rt, alloc, 2, planned);
-        let mapped = mapped_starts(&rt, alloc, &strategy)?;
+        let mapped = mapped_starts(&rt, alloc, &strategy).expect(&rt, "memory");
         let expected = match planned {
             2 => [1, 6].as_slice(),
             3 => [1, 5, 8].as_slice(),
@@ -181,7 +184,6 @@ fn a_batch_maps_what_is_prepared_of_its_ranges(rt: HostRuntime) -> Result<(), Fa
         };
         assert_eq!(rt; mapped.as_slice(), expected, "{planned} ranges");
     }
-    Ok(())
 }
 
 // The starts of a batch that are below the limit, or the first that isn't.
@@ -209,39 +211,39 @@ fn starts_below<Rt: Threads + Wait + Sync, S: Strategy>(
 }
 
 #[test]
-fn the_first_prepared_item_that_fails_is_the_error(rt: HostRuntime) -> Result<(), Fail> {
+fn the_first_prepared_item_that_fails_is_the_error(rt: HostRuntime) {
     let alloc = rt.alloc();
     let strategy = pool(&rt, alloc, 2, 4);
     assert_eq!(rt;
-        starts_below(&rt, alloc, &strategy, 10)?.as_slice(),
+        starts_below(&rt, alloc, &strategy, 10)
+            .expect(&rt, "memory")
+            .as_slice(),
         [0, 3, 6, 8].as_slice()
     );
     let failed = starts_below(&rt, alloc, &strategy, 4);
     assert!(rt; matches!(failed, Err(Trouble::Closure(6))));
     let failed = starts_below(&rt, alloc, &Sequential, 0);
     assert!(rt; matches!(failed, Err(Trouble::Closure(0))));
-    Ok(())
 }
 
 #[test]
-fn what_is_not_prepared_is_not_mapped(rt: HostRuntime) -> Result<(), Fail> {
+fn what_is_not_prepared_is_not_mapped(rt: HostRuntime) {
     let alloc = rt.alloc();
     let strategy = pool(&rt, alloc, 2, 4);
     let calls = AtomicU64::new(0);
-    let batch = Batches::balanced(alloc, &strategy, SITE, 10, number(&rt, 4))?;
+    let batch = Batches::balanced(alloc, &strategy, SITE, 10, number(&rt, 4)).expect(&rt, "memory");
     let refuse = |_: &[Range<usize>]| -> Result<Vec<u32>, Fault> { Err(Fault::Worker) };
     let refused = batch.map_collect_vec(&rt, alloc, refuse, |_: u32| {
         calls.fetch_add(1, Ordering::SeqCst)
     });
     assert!(rt; matches!(refused, Err(Fault::Worker)));
-    let batch = Batches::whole(alloc, &strategy, SITE, 10)?;
+    let batch = Batches::whole(alloc, &strategy, SITE, 10).expect(&rt, "memory");
     let refuse = |_: &[Range<usize>]| -> Result<Vec<u32>, Fault> { Err(Fault::Worker) };
     let refused = batch.try_map_collect_vec(&rt, alloc, refuse, |_: u32| -> Result<u64, u32> {
         Ok(calls.fetch_add(1, Ordering::SeqCst))
     });
     assert!(rt; matches!(refused, Err(Trouble::Fault(Fault::Worker))));
     assert_eq!(rt; calls.load(Ordering::SeqCst), 0);
-    Ok(())
 }
 
 // The number of ranges, or the first index of the second range.
@@ -268,11 +270,13 @@ fn ranges_or_second<Rt: Wait, S: Strategy>(
 }
 
 #[test]
-fn a_batch_answers_its_closures_error(rt: HostRuntime) -> Result<(), Fail> {
+fn a_batch_answers_its_closures_error(rt: HostRuntime) {
     let alloc = rt.alloc();
-    assert_eq!(rt; ranges_or_second(&rt, alloc, &Sequential)?, 1);
+    assert_eq!(rt;
+        ranges_or_second(&rt, alloc, &Sequential).expect(&rt, "memory"),
+        1
+    );
     let strategy = pool(&rt, alloc, 1, 4);
     let failed = ranges_or_second(&rt, alloc, &strategy);
     assert!(rt; matches!(failed, Err(Trouble::Closure(3))));
-    Ok(())
 }

@@ -11,7 +11,6 @@ use std::ops::Range;
 use std::process::Abort;
 use std::sync::Wait;
 use std::sync::atomic::{AtomicU64, Ordering};
-use std::test::Fail;
 use std::thread::Threads;
 use uses::explored::{explore_from_ten, explore_from_zero};
 
@@ -29,7 +28,7 @@ fn by_seed(rt: &(impl Threads + Abort), alloc: Global, seed: u64) -> Explorer {
 }
 
 #[test]
-fn the_hash_is_the_same_everywhere(rt: HostRuntime) -> Result<(), Fail> {
+fn the_hash_is_the_same_everywhere(rt: HostRuntime) {
     for (seed, none, two, many) in [
         (0, 2107625261, 2107625262, 2107625324),
         (1, 1104250544, 1104250545, 1104250607),
@@ -50,11 +49,10 @@ fn the_hash_is_the_same_everywhere(rt: HostRuntime) -> Result<(), Fail> {
     for site in [lower, further, longer, other] {
         assert!(rt; mix(0, site, 64) != mix(0, PLACE, 64), "{site:?}");
     }
-    Ok(())
 }
 
 #[test]
-fn a_rule_picks_the_first_the_last_or_by_the_hash(rt: HostRuntime) -> Result<(), Fail> {
+fn a_rule_picks_the_first_the_last_or_by_the_hash(rt: HostRuntime) {
     assert_eq!(rt; pick(Rule::Serial, PLACE, 64, 8), 0);
     assert_eq!(rt; pick(Rule::Parallel, PLACE, 64, 8), 7);
     for (seed, of_two, of_eight) in [(0, 0, 4), (1, 1, 7), (2, 0, 2), (3, 0, 4)] {
@@ -69,11 +67,10 @@ fn a_rule_picks_the_first_the_last_or_by_the_hash(rt: HostRuntime) -> Result<(),
             "seed {seed}"
         );
     }
-    Ok(())
 }
 
 #[test]
-fn a_seed_picks_the_body_and_the_number_of_ranges(rt: HostRuntime) -> Result<(), Fail> {
+fn a_seed_picks_the_body_and_the_number_of_ranges(rt: HostRuntime) {
     let alloc = rt.alloc();
     for (seed, body, count) in [
         (0, "serial", 5),
@@ -83,23 +80,28 @@ fn a_seed_picks_the_body_and_the_number_of_ranges(rt: HostRuntime) -> Result<(),
     ] {
         let explorer = by_seed(&rt, alloc, seed);
         assert_eq!(rt; explorer.rule(), Rule::Seeded(seed));
-        let ran = explorer.run(&rt, alloc, PLACE, 64, || "serial", || "parallel")?;
+        let ran = explorer
+            .run(&rt, alloc, PLACE, 64, || "serial", || "parallel")
+            .expect(&rt, "memory");
         assert_eq!(rt; ran, body, "seed {seed}");
-        let ranges = explorer.run_batches(&rt, alloc, PLACE, 64, number(&rt, 1), 1, |batches| {
-            batches.ranges().len()
-        })?;
+        let ranges = explorer
+            .run_batches(&rt, alloc, PLACE, 64, number(&rt, 1), 1, |batches| {
+                batches.ranges().len()
+            })
+            .expect(&rt, "memory");
         assert_eq!(rt; ranges, count, "seed {seed}");
     }
     let first = by_seed(&rt, alloc, 0);
-    let same = first.run_batches(&rt, alloc, PLACE, 64, number(&rt, 1), 1, |batches| {
-        batches.ranges() == [0..13, 13..26, 26..39, 39..52, 52..64].as_slice()
-    })?;
+    let same = first
+        .run_batches(&rt, alloc, PLACE, 64, number(&rt, 1), 1, |batches| {
+            batches.ranges() == [0..13, 13..26, 26..39, 39..52, 52..64].as_slice()
+        })
+        .expect(&rt, "memory");
     assert!(rt; same);
-    Ok(())
 }
 
 #[test]
-fn a_seed_picks_the_number_of_workers_of_tiles(rt: HostRuntime) -> Result<(), Fail> {
+fn a_seed_picks_the_number_of_workers_of_tiles(rt: HostRuntime) {
     let alloc = rt.alloc();
     let grids = [Grid {
         rows: 64,
@@ -108,12 +110,13 @@ fn a_seed_picks_the_number_of_workers_of_tiles(rt: HostRuntime) -> Result<(), Fa
     assert!(rt; Grid::fits(&grids, 64));
     for (seed, workers) in [(0, 5), (1, 8), (2, 3), (3, 5)] {
         let explorer = by_seed(&rt, alloc, seed);
-        let planned = explorer.run_tiles(&rt, alloc, PLACE, 64, &grids, 1, |tiles| {
-            tiles.workers().get()
-        })?;
+        let planned = explorer
+            .run_tiles(&rt, alloc, PLACE, 64, &grids, 1, |tiles| {
+                tiles.workers().get()
+            })
+            .expect(&rt, "memory");
         assert_eq!(rt; planned, workers, "seed {seed}");
     }
-    Ok(())
 }
 
 // How many cells tiles of 9 rows of 100 fill, through an explorer.
@@ -148,7 +151,7 @@ fn cells_filled<Rt: Threads + Wait + Sync>(
 }
 
 #[test]
-fn tiles_and_sorts_come_out_alike_by_every_rule(rt: HostRuntime) -> Result<(), Fail> {
+fn tiles_and_sorts_come_out_alike_by_every_rule(rt: HostRuntime) {
     let alloc = rt.alloc();
     let grids = [Grid {
         rows: 9,
@@ -157,11 +160,14 @@ fn tiles_and_sorts_come_out_alike_by_every_rule(rt: HostRuntime) -> Result<(), F
     assert!(rt; Grid::fits(&grids, 100));
     let cells = explore(&rt, alloc, |explorer| {
         cells_filled(&rt, alloc, explorer, &grids).ok()
-    })?;
+    })
+    .expect(&rt, "memory");
     assert_eq!(rt; cells, Some(900));
     let mut numbers = Vec::new(alloc);
     for n in 0..20_000_u64 {
-        numbers.push(n.wrapping_mul(7_919) % 20_011)?;
+        numbers
+            .push(n.wrapping_mul(7_919) % 20_011)
+            .expect(&rt, "memory");
     }
     let is_sorted = explore(&rt, alloc, |explorer| {
         numbers.reverse();
@@ -175,42 +181,50 @@ fn tiles_and_sorts_come_out_alike_by_every_rule(rt: HostRuntime) -> Result<(), F
             )
             .is_ok()
             && numbers.is_sorted()
-    })?;
+    })
+    .expect(&rt, "memory");
     assert!(rt; is_sorted);
-    Ok(())
 }
 
 #[test]
-fn an_explorer_keeps_the_numbers_and_asks_no_policy(rt: HostRuntime) -> Result<(), Fail> {
+fn an_explorer_keeps_the_numbers_and_asks_no_policy(rt: HostRuntime) {
     let alloc = rt.alloc();
-    let strategy = pooled(&rt, alloc, number(&rt, 2), number(&rt, 3), Stopped)?;
-    let explorer = Explorer::parallel(&strategy)?;
+    let strategy = pooled(&rt, alloc, number(&rt, 2), number(&rt, 3), Stopped).expect(
+        &rt, "memory",
+    );
+    let explorer = Explorer::parallel(&strategy).expect(&rt, "memory");
     assert_eq!(rt; explorer.thread_number().get(), 2);
     assert_eq!(rt; explorer.planning().get(), 3);
     for _ in 0..4 {
-        let ran = explorer.run(&rt, alloc, SITE, 64, || "serial", || "parallel")?;
+        let ran = explorer
+            .run(&rt, alloc, SITE, 64, || "serial", || "parallel")
+            .expect(&rt, "memory");
         assert_eq!(rt; ran, "parallel");
     }
-    let copied = explorer.clone()?;
+    let copied = explorer.clone().expect(&rt, "memory");
     assert_eq!(rt; copied.rule(), Rule::Parallel);
-    let alone = inline(&rt, alloc, number(&rt, 4), Stopped)?;
+    let alone = inline(&rt, alloc, number(&rt, 4), Stopped).expect(&rt, "memory");
     assert_eq!(rt; alone.thread_number().get(), 1);
     assert_eq!(rt; alone.planning().get(), 4);
-    Ok(())
 }
 
 #[test]
-fn an_explorer_planned_for_one_runs_bodies_serially(rt: HostRuntime) -> Result<(), Fail> {
+fn an_explorer_planned_for_one_runs_bodies_serially(rt: HostRuntime) {
     let alloc = rt.alloc();
-    let strategy = pooled(&rt, alloc, number(&rt, 2), number(&rt, 1), Stopped)?;
-    let explorer = Explorer::parallel(&strategy)?;
-    let ran = explorer.run(&rt, alloc, SITE, 64, || "serial", || "parallel")?;
+    let strategy = pooled(&rt, alloc, number(&rt, 2), number(&rt, 1), Stopped).expect(
+        &rt, "memory",
+    );
+    let explorer = Explorer::parallel(&strategy).expect(&rt, "memory");
+    let ran = explorer
+        .run(&rt, alloc, SITE, 64, || "serial", || "parallel")
+        .expect(&rt, "memory");
     assert_eq!(rt; ran, "serial");
-    let whole = explorer.run_batches(&rt, alloc, SITE, 64, number(&rt, 1), 1, |batches| {
-        batches.is_whole()
-    })?;
+    let whole = explorer
+        .run_batches(&rt, alloc, SITE, 64, number(&rt, 1), 1, |batches| {
+            batches.is_whole()
+        })
+        .expect(&rt, "memory");
     assert!(rt; whole);
-    Ok(())
 }
 
 // The fold of the items by addition, from 10.
@@ -232,29 +246,38 @@ fn sum_from_ten<Rt: Threads + Wait + Sync, S: Strategy>(
 }
 
 #[test]
-fn the_parallel_rule_folds_and_maps_along_the_shape(rt: HostRuntime) -> Result<(), Fail> {
+fn the_parallel_rule_folds_and_maps_along_the_shape(rt: HostRuntime) {
     let alloc = rt.alloc();
-    let strategy = pooled(&rt, alloc, number(&rt, 2), number(&rt, 3), Stopped)?;
-    let explorer = Explorer::parallel(&strategy)?;
-    assert_eq!(rt; sum_from_ten(&rt, alloc, &explorer, &[1, 2, 3])?, 66);
-    assert_eq!(rt; sum_from_ten(&rt, alloc, &explorer, &[])?, 20);
-    let states = explorer.map_init_collect_vec(
-        &rt,
-        alloc,
-        SITE,
-        0..3u64,
-        || 0u64,
-        |state, _| {
-            *state = state.wrapping_add(1);
-            *state
-        },
-    )?;
+    let strategy = pooled(&rt, alloc, number(&rt, 2), number(&rt, 3), Stopped).expect(
+        &rt, "memory",
+    );
+    let explorer = Explorer::parallel(&strategy).expect(&rt, "memory");
+    assert_eq!(rt;
+        sum_from_ten(&rt, alloc, &explorer, &[1, 2, 3]).expect(&rt, "memory"),
+        66
+    );
+    assert_eq!(rt;
+        sum_from_ten(&rt, alloc, &explorer, &[]).expect(&rt, "memory"),
+        20
+    );
+    let states = explorer
+        .map_init_collect_vec(
+            &rt,
+            alloc,
+            SITE,
+            0..3u64,
+            || 0u64,
+            |state, _| {
+                *state = state.wrapping_add(1);
+                *state
+            },
+        )
+        .expect(&rt, "memory");
     assert_eq!(rt; states.as_slice(), [1, 1, 1].as_slice());
-    Ok(())
 }
 
 #[test]
-fn outputs_that_the_shape_does_not_change_are_answered(rt: HostRuntime) -> Result<(), Fail> {
+fn outputs_that_the_shape_does_not_change_are_answered(rt: HostRuntime) {
     let alloc = rt.alloc();
     let squares = explore(&rt, alloc, |explorer| {
         match explorer.map_collect_vec(&rt, alloc, SITE, 0..100u64, |n| n.wrapping_mul(n)) {
@@ -264,7 +287,8 @@ fn outputs_that_the_shape_does_not_change_are_answered(rt: HostRuntime) -> Resul
                 .all(|(n, square)| *square == (n as u64).wrapping_mul(n as u64)),
             Err(_) => false,
         }
-    })?;
+    })
+    .expect(&rt, "memory");
     assert!(rt; squares);
     let sum = explore(&rt, alloc, |explorer| {
         explorer
@@ -278,7 +302,8 @@ fn outputs_that_the_shape_does_not_change_are_answered(rt: HostRuntime) -> Resul
                 |a: u64, b: u64| a.wrapping_add(b),
             )
             .ok()
-    })?;
+    })
+    .expect(&rt, "memory");
     assert_eq!(rt; sum, Some(4950));
     let first = explore(&rt, alloc, |explorer| {
         let checked = explorer.try_map_collect_vec(&rt, alloc, SITE, 0..100u64, |n| {
@@ -288,22 +313,21 @@ fn outputs_that_the_shape_does_not_change_are_answered(rt: HostRuntime) -> Resul
             Err(Trouble::Closure(n)) => Some(n),
             _ => None,
         }
-    })?;
+    })
+    .expect(&rt, "memory");
     assert_eq!(rt; first, Some(57));
-    Ok(())
 }
 
 #[test]
-fn two_closures_are_told_apart(rt: HostRuntime) -> Result<(), Fail> {
-    let sum = explore_from_zero(&rt, rt.alloc())?;
+fn two_closures_are_told_apart(rt: HostRuntime) {
+    let sum = explore_from_zero(&rt, rt.alloc()).expect(&rt, "memory");
     assert_eq!(rt; sum, Ok(4950));
     let told = explore_from_ten(&rt, rt.alloc());
     assert!(rt; matches!(told, Err(ExploreError::Differs(Rule::Parallel))));
-    Ok(())
 }
 
 #[test]
-fn an_output_that_the_shape_changes_is_told(rt: HostRuntime) -> Result<(), Fail> {
+fn an_output_that_the_shape_changes_is_told(rt: HostRuntime) {
     let alloc = rt.alloc();
     let calls = AtomicU64::new(0);
     let told = explore(&rt, alloc, |explorer| {
@@ -314,17 +338,17 @@ fn an_output_that_the_shape_changes_is_told(rt: HostRuntime) -> Result<(), Fail>
     });
     assert!(rt; matches!(told, Err(ExploreError::Differs(Rule::Parallel))));
     assert_eq!(rt; calls.load(Ordering::SeqCst), 2);
-    Ok(())
 }
 
 #[test]
-fn the_rules_come_in_their_order(rt: HostRuntime) -> Result<(), Fail> {
+fn the_rules_come_in_their_order(rt: HostRuntime) {
     let alloc = rt.alloc();
-    let mut rules = Vec::with_capacity(alloc, 6)?;
+    let mut rules = Vec::with_capacity(alloc, 6).expect(&rt, "memory");
     let output = explore(&rt, alloc, |explorer| {
         let numbers = (explorer.thread_number().get(), explorer.planning().get());
         rules.push(explorer.rule()).is_ok() && numbers == (4, 8)
-    })?;
+    })
+    .expect(&rt, "memory");
     assert!(rt; output);
     assert_eq!(rt;
         rules.as_slice(),
@@ -338,21 +362,23 @@ fn the_rules_come_in_their_order(rt: HostRuntime) -> Result<(), Fail> {
         ]
         .as_slice()
     );
-    Ok(())
 }
 
 #[test]
-fn errors_of_a_search_print_their_text(rt: HostRuntime) -> Result<(), Fail> {
+fn errors_of_a_search_print_their_text(rt: HostRuntime) {
     let alloc = rt.alloc();
-    let parallel = format!(in alloc; "{}", ExploreError::Differs(Rule::Parallel))?;
+    let parallel = format!(in alloc; "{}", ExploreError::Differs(Rule::Parallel)).expect(
+        &rt, "memory",
+    );
     assert_eq!(rt;
         parallel.as_str(),
         "the Parallel run must return the serial run's output"
     );
-    let seeded = format!(in alloc; "{}", ExploreError::Differs(Rule::Seeded(2)))?;
+    let seeded = format!(in alloc; "{}", ExploreError::Differs(Rule::Seeded(2))).expect(
+        &rt, "memory",
+    );
     assert_eq!(rt;
         seeded.as_str(),
         "the Seeded(2) run must return the serial run's output"
     );
-    Ok(())
 }

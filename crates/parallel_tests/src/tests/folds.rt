@@ -8,7 +8,6 @@ use commonware_parallel::{Fault, Sequential, Strategy};
 use std::alloc::Global;
 use std::num::NonZeroUsize;
 use std::sync::Wait;
-use std::test::Fail;
 use std::thread::Threads;
 use uses::folds::sum_of_squares;
 use uses::long_lists::{LongLists, fold_by_length};
@@ -34,11 +33,19 @@ fn fold_ten<Rt: Threads + Wait + Sync, S: Strategy>(
 }
 
 #[test]
-fn a_fold_in_one_piece_takes_one_identity(rt: HostRuntime) -> Result<(), Fail> {
+fn a_fold_in_one_piece_takes_one_identity(rt: HostRuntime) {
     let numbers = &ONE_TO_THREE;
-    assert_eq!(rt; fold_ten(&rt, rt.alloc(), &Sequential, numbers)?, 16);
-    assert_eq!(rt; fold_ten(&rt, rt.alloc(), &Sequential, &[])?, 10);
-    let one = fold_in_one(&rt, rt.alloc(), &Sequential, SITE, 1..4u32, ten, add, add)?;
+    assert_eq!(rt;
+        fold_ten(&rt, rt.alloc(), &Sequential, numbers).expect(&rt, "memory"),
+        16
+    );
+    assert_eq!(rt;
+        fold_ten(&rt, rt.alloc(), &Sequential, &[]).expect(&rt, "memory"),
+        10
+    );
+    let one = fold_in_one(&rt, rt.alloc(), &Sequential, SITE, 1..4u32, ten, add, add).expect(
+        &rt, "memory",
+    );
     assert_eq!(rt; one, 16);
     let own = fold_by_own(&Sequential, SITE, 1..4u32, ten, add, add);
     assert_eq!(rt; own, 16);
@@ -48,7 +55,7 @@ fn a_fold_in_one_piece_takes_one_identity(rt: HostRuntime) -> Result<(), Fail> {
         number(&rt, 4),
         NonZeroUsize::MIN,
         Stopped,
-    )?;
+    ).expect(&rt, "memory");
     let one = fold_planned_for_one(
         &rt,
         rt.alloc(),
@@ -58,37 +65,65 @@ fn a_fold_in_one_piece_takes_one_identity(rt: HostRuntime) -> Result<(), Fail> {
         ten,
         add,
         add,
-    )?;
+    )
+    .expect(&rt, "memory");
     assert_eq!(rt; one, 16);
-    assert_eq!(rt; fold_ten(&rt, rt.alloc(), &planned_for_one, numbers)?, 16);
-    assert_eq!(rt; fold_ten(&rt, rt.alloc(), &planned_for_one, &[])?, 10);
-    Ok(())
+    assert_eq!(rt;
+        fold_ten(&rt, rt.alloc(), &planned_for_one, numbers).expect(&rt, "memory"),
+        16
+    );
+    assert_eq!(rt;
+        fold_ten(&rt, rt.alloc(), &planned_for_one, &[]).expect(&rt, "memory"),
+        10
+    );
 }
 
 #[test]
-fn a_fold_along_the_shape_takes_two_identities_a_leaf(rt: HostRuntime) -> Result<(), Fail> {
+fn a_fold_along_the_shape_takes_two_identities_a_leaf(rt: HostRuntime) {
     // Two threads cut three items into leaves of one, and one thread into leaves of one and two.
-    let two = planned_pool(&rt, rt.alloc(), number(&rt, 2), number(&rt, 3), Stopped)?;
-    let along = fold_along_shape(&rt, rt.alloc(), &two, SITE, 1..4u32, ten, add, add)?;
+    let two = planned_pool(&rt, rt.alloc(), number(&rt, 2), number(&rt, 3), Stopped).expect(
+        &rt, "memory",
+    );
+    let along = fold_along_shape(&rt, rt.alloc(), &two, SITE, 1..4u32, ten, add, add).expect(
+        &rt, "memory",
+    );
     assert_eq!(rt; along, 66);
-    assert_eq!(rt; fold_ten(&rt, rt.alloc(), &two, &ONE_TO_THREE)?, 66);
-    assert_eq!(rt; fold_ten(&rt, rt.alloc(), &two, &[])?, 20);
+    assert_eq!(rt;
+        fold_ten(&rt, rt.alloc(), &two, &ONE_TO_THREE).expect(&rt, "memory"),
+        66
+    );
+    assert_eq!(rt;
+        fold_ten(&rt, rt.alloc(), &two, &[]).expect(&rt, "memory"),
+        20
+    );
     let one = pool(&rt, rt.alloc(), 1, 2);
-    assert_eq!(rt; fold_ten(&rt, rt.alloc(), &one, &ONE_TO_THREE)?, 46);
-    assert_eq!(rt; fold_ten(&rt, rt.alloc(), &one, &[])?, 20);
-    Ok(())
+    assert_eq!(rt;
+        fold_ten(&rt, rt.alloc(), &one, &ONE_TO_THREE).expect(&rt, "memory"),
+        46
+    );
+    assert_eq!(rt;
+        fold_ten(&rt, rt.alloc(), &one, &[]).expect(&rt, "memory"),
+        20
+    );
 }
 
 #[test]
-fn a_strategy_of_ones_own_folds_by_length(rt: HostRuntime) -> Result<(), Fail> {
+fn a_strategy_of_ones_own_folds_by_length(rt: HostRuntime) {
     let numbers = &ONE_TO_THREE;
     let long = LongLists::new(number(&rt, 2), 3);
-    assert_eq!(rt; fold_ten(&rt, rt.alloc(), &long, numbers)?, 66);
+    assert_eq!(rt;
+        fold_ten(&rt, rt.alloc(), &long, numbers).expect(&rt, "memory"),
+        66
+    );
     let short = LongLists::new(number(&rt, 2), 4);
-    assert_eq!(rt; fold_ten(&rt, rt.alloc(), &short, numbers)?, 16);
-    let called = fold_by_length(&rt, rt.alloc(), &long, SITE, 1..4u32, ten, add, add)?;
+    assert_eq!(rt;
+        fold_ten(&rt, rt.alloc(), &short, numbers).expect(&rt, "memory"),
+        16
+    );
+    let called = fold_by_length(&rt, rt.alloc(), &long, SITE, 1..4u32, ten, add, add).expect(
+        &rt, "memory",
+    );
     assert_eq!(rt; called, 66);
-    Ok(())
 }
 
 // The sum of the numbers below `count`.
@@ -102,25 +137,33 @@ fn fold_numbers<Rt: Threads + Wait + Sync, S: Strategy>(
 }
 
 #[test]
-fn lawful_folds_are_the_same_everywhere(rt: HostRuntime) -> Result<(), Fail> {
+fn lawful_folds_are_the_same_everywhere(rt: HostRuntime) {
     let numbers = [1, 2, 3, 65_535, 65_536];
     let words = ["pear", "fig", "plum", "apple", "grape", "kiwi"];
     for threads in 1..9usize {
         let strategy = pool(&rt, rt.alloc(), threads, threads);
         // 1 + 4 + 9 + (2^16 - 1)^2 + 2^32, without the multiples of 2^32.
         assert_eq!(rt;
-            sum_of_squares(&rt, rt.alloc(), &strategy, SITE, &numbers)?,
+            sum_of_squares(&rt, rt.alloc(), &strategy, SITE, &numbers).expect(&rt, "memory"),
             4_294_836_239
         );
-        assert_eq!(rt; sum_of_squares(&rt, rt.alloc(), &strategy, SITE, &[])?, 0);
-        let longest = longest_word(&rt, rt.alloc(), &strategy, SITE, &words)?;
+        assert_eq!(rt;
+            sum_of_squares(&rt, rt.alloc(), &strategy, SITE, &[]).expect(&rt, "memory"),
+            0
+        );
+        let longest = longest_word(&rt, rt.alloc(), &strategy, SITE, &words).expect(&rt, "memory");
         assert_eq!(rt; longest, Some("apple"));
-        let none = longest_word(&rt, rt.alloc(), &strategy, SITE, &[])?;
+        let none = longest_word(&rt, rt.alloc(), &strategy, SITE, &[]).expect(&rt, "memory");
         assert_eq!(rt; none, None);
-        assert_eq!(rt; fold_numbers(&rt, rt.alloc(), &strategy, 100)?, 4950);
+        assert_eq!(rt;
+            fold_numbers(&rt, rt.alloc(), &strategy, 100).expect(&rt, "memory"),
+            4950
+        );
     }
-    let longest = longest_word(&rt, rt.alloc(), &Sequential, SITE, &words)?;
+    let longest = longest_word(&rt, rt.alloc(), &Sequential, SITE, &words).expect(&rt, "memory");
     assert_eq!(rt; longest, Some("apple"));
-    assert_eq!(rt; fold_numbers(&rt, rt.alloc(), &Sequential, 100)?, 4950);
-    Ok(())
+    assert_eq!(rt;
+        fold_numbers(&rt, rt.alloc(), &Sequential, 100).expect(&rt, "memory"),
+        4950
+    );
 }

@@ -7,10 +7,9 @@ use commonware_parallel::rayon::install;
 use commonware_parallel::{Call, Copies, Kind, Sequential, Strategy, ThreadPool};
 use parallel_policy::Place;
 use std::num::NonZeroUsize;
-use std::test::Fail;
 
 #[test]
-fn a_strategy_hands_its_picks_out(rt: HostRuntime) -> Result<(), Fail> {
+fn a_strategy_hands_its_picks_out(rt: HostRuntime) {
     let alloc = rt.alloc();
     let call = Call::batches(number(&rt, 8), 17, number(&rt, 5), usize::MAX);
     let expected = Call {
@@ -21,7 +20,9 @@ fn a_strategy_hands_its_picks_out(rt: HostRuntime) -> Result<(), Fail> {
     };
     assert_eq!(rt; call, expected);
     assert_eq!(rt; SITE.site(), SITE);
-    let (pick, _) = Sequential.choose(&rt, alloc, SITE, call)?;
+    let (pick, _) = Sequential
+        .choose(&rt, alloc, SITE, call)
+        .expect(&rt, "memory");
     assert_eq!(rt; pick, 0);
     assert!(rt; Sequential.starts_workers());
     let strategy = pool(&rt, alloc, 2, 8);
@@ -37,16 +38,19 @@ fn a_strategy_hands_its_picks_out(rt: HostRuntime) -> Result<(), Fail> {
         (Kind::Join, 1, 2),
     ] {
         let strategy = pool(&rt, alloc, 2, planned);
-        let (chosen, _) = strategy.choose(&rt, alloc, SITE, Call { kind, ..call })?;
+        let (chosen, _) = strategy
+            .choose(&rt, alloc, SITE, Call { kind, ..call })
+            .expect(&rt, "memory");
         assert_eq!(rt; chosen, pick, "{kind:?} of {planned}");
-        let doubled = strategy.dispatch_body(&rt, alloc, SITE, 1, |pick| Ok(pick.wrapping_mul(2)))?;
+        let doubled = strategy
+            .dispatch_body(&rt, alloc, SITE, 1, |pick| Ok(pick.wrapping_mul(2)))
+            .expect(&rt, "memory");
         assert_eq!(rt; doubled, if planned == 1 { 0 } else { 2 });
     }
-    Ok(())
 }
 
 #[test]
-fn lists_are_driven_without_a_strategy(rt: HostRuntime) -> Result<(), Fail> {
+fn lists_are_driven_without_a_strategy(rt: HostRuntime) {
     let alloc = rt.alloc();
     let two = number(&rt, 2);
     assert_eq!(rt; depth_of(NonZeroUsize::MIN), 1);
@@ -54,12 +58,17 @@ fn lists_are_driven_without_a_strategy(rt: HostRuntime) -> Result<(), Fail> {
     assert_eq!(rt; depth_of(NonZeroUsize::MAX), 64);
 
     let half = |number: u32| number / 2;
-    let halves = map_iter(alloc, vec![in alloc; 10, 20, 30]?.into_iter(), &half)?;
+    let halves = map_iter(
+        alloc,
+        vec![in alloc; 10, 20, 30].expect(&rt, "memory").into_iter(),
+        &half,
+    )
+    .expect(&rt, "memory");
     assert_eq!(rt; halves.as_slice(), [5, 10, 15].as_slice());
     let tens = Copies {
         slice: [10, 20, 30].as_slice(),
     };
-    let halves = map_parallel(&rt, alloc, two, tens, &half)?;
+    let halves = map_parallel(&rt, alloc, two, tens, &half).expect(&rt, "memory");
     assert_eq!(rt; halves.as_slice(), [5, 10, 15].as_slice());
 
     let ten = || 10u32;
@@ -68,9 +77,8 @@ fn lists_are_driven_without_a_strategy(rt: HostRuntime) -> Result<(), Fail> {
     let few = Copies {
         slice: [1, 2, 3].as_slice(),
     };
-    let sum = fold_parallel(&rt, alloc, two, few, &ten, &add, &add)?;
+    let sum = fold_parallel(&rt, alloc, two, few, &ten, &add, &add).expect(&rt, "memory");
     assert_eq!(rt; sum, 66);
-    Ok(())
 }
 
 #[test]

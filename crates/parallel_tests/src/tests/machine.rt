@@ -5,7 +5,6 @@ use commonware_parallel::shares::machine::{Event, Outcome, Plan, State, replay, 
 use commonware_parallel::shares::{pack, unpack};
 use std::alloc::Global;
 use std::process::Abort;
-use std::test::Fail;
 
 // Two seats that load before either claims: the second one's claim is lost.
 const EVENTS: [Event; 13] = [
@@ -33,11 +32,11 @@ fn words_pack_a_range(rt: HostRuntime) {
 }
 
 #[test]
-fn a_stale_claim_is_lost(rt: HostRuntime) -> Result<(), Fail> {
+fn a_stale_claim_is_lost(rt: HostRuntime) {
     let plan = Plan::new(3, 2, number(&rt, 1), number(&rt, 2), true);
     assert_eq!(rt; (plan.workers(), plan.unit(), plan.claim()), (2, 2, 1));
     assert_eq!(rt; (plan.cells(), plan.units()), (6, 3));
-    let (state, outcomes) = replay(rt.alloc(), &plan, &EVENTS)?;
+    let (state, outcomes) = replay(rt.alloc(), &plan, &EVENTS).expect(&rt, "memory");
     let expected = [
         Outcome::Loaded(3),
         Outcome::Loaded(3),
@@ -58,16 +57,14 @@ fn a_stale_claim_is_lost(rt: HostRuntime) -> Result<(), Fail> {
     assert_eq!(rt; state.claims(0), [0..2, 4..6].as_slice());
     assert_eq!(rt; state.claims(1), [2..4].as_slice());
     assert_eq!(rt; state.in_transit(1), None);
-    Ok(())
 }
 
 #[test]
-fn a_unit_has_several_rows_where_there_are_many(rt: HostRuntime) -> Result<(), Fail> {
+fn a_unit_has_several_rows_where_there_are_many(rt: HostRuntime) {
     let plan = Plan::new(65_536, 3, number(&rt, 1), number(&rt, 4), true);
     assert_eq!(rt; (plan.unit(), plan.workers(), plan.units()), (6, 4, 32_768));
-    let state = State::new(rt.alloc(), &plan)?;
+    let state = State::new(rt.alloc(), &plan).expect(&rt, "memory");
     assert_eq!(rt; state.words(), [32_768].as_slice());
-    Ok(())
 }
 
 // A replay, and one claim by steps, answer what they always do, or want of memory. Run with each

@@ -5,7 +5,6 @@ use std::alloc::Global;
 use std::process::Abort;
 use std::sync::Wait;
 use std::sync::atomic::{AtomicU64, Ordering};
-use std::test::Fail;
 use std::thread::Threads;
 use uses::long_lists::{LongLists, squares_by_length};
 use uses::maps::{borrowed_squares, doubles, first_squares, last_entries, squares_of_both};
@@ -32,59 +31,55 @@ fn hundred_squares<Rt: Threads + Wait + Sync, S: Strategy>(
 }
 
 #[test]
-fn squares_come_in_order(rt: HostRuntime) -> Result<(), Fail> {
-    let serial = hundred_squares(&rt, rt.alloc(), &Sequential)?;
+fn squares_come_in_order(rt: HostRuntime) {
+    let serial = hundred_squares(&rt, rt.alloc(), &Sequential).expect(&rt, "memory");
     assert_eq!(rt; serial.as_slice(), SQUARES.as_slice());
     for threads in 1..9usize {
         let strategy = pool(&rt, rt.alloc(), threads, threads);
-        let answers = hundred_squares(&rt, rt.alloc(), &strategy)?;
+        let answers = hundred_squares(&rt, rt.alloc(), &strategy).expect(&rt, "memory");
         assert_eq!(rt; answers.as_slice(), SQUARES.as_slice(), "{threads} threads");
     }
-    Ok(())
 }
 
 #[test]
-fn squares_of_a_slice_come_in_order(rt: HostRuntime) -> Result<(), Fail> {
+fn squares_of_a_slice_come_in_order(rt: HostRuntime) {
     let numbers = [3, 0, 4_294_967_295, 1];
     let expected = [9, 0, 18_446_744_065_119_617_025, 1];
     for threads in 1..9usize {
         let strategy = pool(&rt, rt.alloc(), threads, threads);
-        let answers = squares(&rt, rt.alloc(), &strategy, SITE, &numbers)?;
+        let answers = squares(&rt, rt.alloc(), &strategy, SITE, &numbers).expect(&rt, "memory");
         assert_eq!(rt;
             answers.as_slice(),
             expected.as_slice(),
             "{threads} threads"
         );
-        let empty = squares(&rt, rt.alloc(), &strategy, SITE, &[])?;
+        let empty = squares(&rt, rt.alloc(), &strategy, SITE, &[]).expect(&rt, "memory");
         assert_eq!(rt; empty.len(), 0);
     }
     let long = LongLists::new(number(&rt, 4), 3);
-    let answers = squares_by_length(&rt, rt.alloc(), &long, SITE, &numbers)?;
+    let answers = squares_by_length(&rt, rt.alloc(), &long, SITE, &numbers).expect(&rt, "memory");
     assert_eq!(rt; answers.as_slice(), expected.as_slice());
-    Ok(())
 }
 
 #[test]
-fn squares_of_a_range_come_in_order(rt: HostRuntime) -> Result<(), Fail> {
+fn squares_of_a_range_come_in_order(rt: HostRuntime) {
     let strategy = pool(&rt, rt.alloc(), 3, 3);
-    let answers = first_squares(&rt, rt.alloc(), &strategy, SITE, 100)?;
+    let answers = first_squares(&rt, rt.alloc(), &strategy, SITE, 100).expect(&rt, "memory");
     assert_eq!(rt; answers.len(), 100);
     for (index, square) in SQUARES.iter().enumerate() {
         assert_eq!(rt; answers[index] as u64, *square);
     }
-    Ok(())
 }
 
 #[test]
-fn a_closure_is_asked_for_the_items_alone(rt: HostRuntime) -> Result<(), Fail> {
+fn a_closure_is_asked_for_the_items_alone(rt: HostRuntime) {
     let numbers = [3, 0, 2_147_483_647];
     let expected = [6, 0, 4_294_967_294];
-    let serial = doubles(&rt, rt.alloc(), &Sequential, SITE, &numbers)?;
+    let serial = doubles(&rt, rt.alloc(), &Sequential, SITE, &numbers).expect(&rt, "memory");
     assert_eq!(rt; serial.as_slice(), expected.as_slice());
     let strategy = pool(&rt, rt.alloc(), 3, 3);
-    let parallel = doubles(&rt, rt.alloc(), &strategy, SITE, &numbers)?;
+    let parallel = doubles(&rt, rt.alloc(), &strategy, SITE, &numbers).expect(&rt, "memory");
     assert_eq!(rt; parallel.as_slice(), expected.as_slice());
-    Ok(())
 }
 
 // The squares of a list from its end, and of a buffer that wraps around.
@@ -92,39 +87,42 @@ fn own_lists_are_mapped<Rt: Threads + Wait + Abort + Sync, S: Strategy>(
     rt: &Rt,
     alloc: Global,
     strategy: &S,
-) -> Result<(), Fault> {
-    let back = squares_backwards(rt, alloc, strategy, SITE, &[1, 2, 3, 4, 5])?;
+) {
+    let back = squares_backwards(rt, alloc, strategy, SITE, &[1, 2, 3, 4, 5]).expect(rt, "memory");
     assert_eq!(rt; back.as_slice(), [25, 16, 9, 4, 1].as_slice());
-    let none = squares_backwards(rt, alloc, strategy, SITE, &[])?;
+    let none = squares_backwards(rt, alloc, strategy, SITE, &[]).expect(rt, "memory");
     assert_eq!(rt; none.len(), 0);
-    let wrapped = squares_of_wrapped(rt, alloc, strategy, SITE, &[4, 5], &[1, 2, 3])?;
+    let wrapped = squares_of_wrapped(rt, alloc, strategy, SITE, &[4, 5], &[1, 2, 3]).expect(
+        rt, "memory",
+    );
     assert_eq!(rt; wrapped.as_slice(), [16, 25, 1, 4, 9].as_slice());
-    Ok(())
 }
 
 #[test]
-fn lists_of_ones_own_are_mapped(rt: HostRuntime) -> Result<(), Fail> {
-    own_lists_are_mapped(&rt, rt.alloc(), &Sequential)?;
+fn lists_of_ones_own_are_mapped(rt: HostRuntime) {
+    own_lists_are_mapped(&rt, rt.alloc(), &Sequential);
     for threads in 1..9usize {
-        own_lists_are_mapped(&rt, rt.alloc(), &pool(&rt, rt.alloc(), threads, threads))?;
+        own_lists_are_mapped(&rt, rt.alloc(), &pool(&rt, rt.alloc(), threads, threads));
     }
-    own_lists_are_mapped(&rt, rt.alloc(), &LongLists::new(number(&rt, 2), 4))?;
-    Ok(())
+    own_lists_are_mapped(&rt, rt.alloc(), &LongLists::new(number(&rt, 2), 4));
 }
 
 #[test]
-fn a_table_is_looked_into_at_the_items(rt: HostRuntime) -> Result<(), Fail> {
+fn a_table_is_looked_into_at_the_items(rt: HostRuntime) {
     let table = [10, 20, 30, 40];
-    let serial = last_entries(&rt, rt.alloc(), &Sequential, SITE, &table, 3)?;
+    let serial = last_entries(&rt, rt.alloc(), &Sequential, SITE, &table, 3).expect(&rt, "memory");
     assert_eq!(rt; serial.as_slice(), [40, 30, 20].as_slice());
     let strategy = pool(&rt, rt.alloc(), 2, 2);
-    let parallel = last_entries(&rt, rt.alloc(), &strategy, SITE, &table, 3)?;
+    let parallel = last_entries(&rt, rt.alloc(), &strategy, SITE, &table, 3).expect(&rt, "memory");
     assert_eq!(rt; parallel.as_slice(), [40, 30, 20].as_slice());
-    let borrowed = borrowed_squares(&rt, rt.alloc(), &strategy, SITE, &[3, 4])?;
+    let borrowed = borrowed_squares(&rt, rt.alloc(), &strategy, SITE, &[3, 4]).expect(
+        &rt, "memory",
+    );
     assert_eq!(rt; borrowed.as_slice(), [9, 16].as_slice());
-    let both = squares_of_both(&rt, rt.alloc(), &strategy, SITE, &[3], &[4, 5])?;
+    let both = squares_of_both(&rt, rt.alloc(), &strategy, SITE, &[3], &[4, 5]).expect(
+        &rt, "memory",
+    );
     assert_eq!(rt; both.as_slice(), [9, 16, 25].as_slice());
-    Ok(())
 }
 
 // Maps `count` items of size zero, in the order of a counter that each call raises.
@@ -144,16 +142,22 @@ fn map_nothing<Rt: Threads + Wait + Sync, S: Strategy>(
 }
 
 #[test]
-fn values_of_size_zero_are_all_there(rt: HostRuntime) -> Result<(), Fail> {
+fn values_of_size_zero_are_all_there(rt: HostRuntime) {
     assert_eq!(rt;
-        map_nothing(&rt, rt.alloc(), &Sequential, 5000)?.len(),
+        map_nothing(&rt, rt.alloc(), &Sequential, 5000)
+            .expect(&rt, "memory")
+            .len(),
         5000
     );
     for threads in 1..9usize {
         let strategy = pool(&rt, rt.alloc(), threads, threads);
-        assert_eq!(rt; map_nothing(&rt, rt.alloc(), &strategy, 5000)?.len(), 5000);
+        assert_eq!(rt;
+            map_nothing(&rt, rt.alloc(), &strategy, 5000)
+                .expect(&rt, "memory")
+                .len(),
+            5000
+        );
     }
-    Ok(())
 }
 
 // Maps each item to 0 or 1, by a word that all calls share.
@@ -172,16 +176,15 @@ fn map_unsteadily<Rt: Threads + Wait + Abort + Sync, S: Strategy>(
 }
 
 #[test]
-fn an_unsteady_closure_answers_each_item_once(rt: HostRuntime) -> Result<(), Fail> {
-    let serial = map_unsteadily(&rt, rt.alloc(), &Sequential, 5)?;
+fn an_unsteady_closure_answers_each_item_once(rt: HostRuntime) {
+    let serial = map_unsteadily(&rt, rt.alloc(), &Sequential, 5).expect(&rt, "memory");
     assert_eq!(rt; serial.as_slice(), [0, 1, 0, 1, 0].as_slice());
     for threads in 1..9usize {
         let strategy = pool(&rt, rt.alloc(), threads, threads);
-        let answers = map_unsteadily(&rt, rt.alloc(), &strategy, 1000)?;
+        let answers = map_unsteadily(&rt, rt.alloc(), &strategy, 1000).expect(&rt, "memory");
         assert_eq!(rt; answers.len(), 1000);
         assert!(rt; answers.iter().all(|answer| *answer < 2));
         let zeros = answers.iter().filter(|answer| **answer == 0).count();
         assert_eq!(rt; zeros, 500);
     }
-    Ok(())
 }

@@ -4,20 +4,20 @@ use commonware_parallel::{Fault, Indices, On, Sequential, Strategy, Trouble};
 use std::alloc::Global;
 use std::process::Abort;
 use std::sync::Wait;
-use std::test::Fail;
 use std::thread::Threads;
 use uses::one_place::squares_and_sum;
 
 #[test]
-fn squares_and_their_sum_come_of_one_place(rt: HostRuntime) -> Result<(), Fail> {
+fn squares_and_their_sum_come_of_one_place(rt: HostRuntime) {
     let alloc = rt.alloc();
     for threads in 1..5usize {
         let strategy = pool(&rt, alloc, threads, threads);
-        let (squares, sum) = squares_and_sum(&rt, alloc, &strategy, SITE, &[1, 2, 3, 4])?;
+        let (squares, sum) = squares_and_sum(&rt, alloc, &strategy, SITE, &[1, 2, 3, 4]).expect(
+            &rt, "memory",
+        );
         assert_eq!(rt; squares.as_slice(), [1, 4, 9, 16].as_slice());
         assert_eq!(rt; sum, 30);
     }
-    Ok(())
 }
 
 // Maps and folds of the numbers below five.
@@ -25,7 +25,7 @@ fn lists_of_five<Rt: Threads + Wait + Abort + Sync, S: Strategy>(
     rt: &Rt,
     alloc: Global,
     strategy: &S,
-) -> Result<(), Trouble<usize>> {
+) {
     let on = On {
         rt,
         alloc,
@@ -33,22 +33,27 @@ fn lists_of_five<Rt: Threads + Wait + Abort + Sync, S: Strategy>(
         site: SITE,
     };
     let five = Indices { start: 0, end: 5 };
-    let next = on.map(five, |n: usize| n.wrapping_add(1))?;
+    let next = on
+        .map(five, |n: usize| n.wrapping_add(1))
+        .expect(rt, "memory");
     assert_eq!(rt; next.as_slice(), [1, 2, 3, 4, 5].as_slice());
     let tried = on.try_map(five, |n: usize| if n < 3 { Ok(n) } else { Err(n) });
     assert!(rt; matches!(tried, Err(Trouble::Closure(3))));
-    let stateful = on.map_init(
-        five,
-        || 7,
-        |state: &mut usize, n: usize| n.wrapping_add(*state),
-    )?;
+    let stateful = on
+        .map_init(
+            five,
+            || 7,
+            |state: &mut usize, n: usize| n.wrapping_add(*state),
+        )
+        .expect(rt, "memory");
     assert_eq!(rt; stateful.as_slice(), [7, 8, 9, 10, 11].as_slice());
-    let (even, odd) = on.map_partition(five, |n: usize| {
-        if n % 2 == 0 { (n, Some(n)) } else { (n, None) }
-    })?;
+    let (even, odd) = on
+        .map_partition(five, |n: usize| {
+            if n % 2 == 0 { (n, Some(n)) } else { (n, None) }
+        })
+        .expect(rt, "memory");
     assert_eq!(rt; even.as_slice(), [0, 2, 4].as_slice());
     assert_eq!(rt; odd.as_slice(), [1, 3].as_slice());
-    Ok(())
 }
 
 // Sums of the numbers below five.
@@ -56,7 +61,7 @@ fn sums_of_five<Rt: Threads + Wait + Abort + Sync, S: Strategy>(
     rt: &Rt,
     alloc: Global,
     strategy: &S,
-) -> Result<(), Trouble<usize>> {
+) {
     let on = On {
         rt,
         alloc,
@@ -65,14 +70,16 @@ fn sums_of_five<Rt: Threads + Wait + Abort + Sync, S: Strategy>(
     };
     let five = Indices { start: 0, end: 5 };
     let add = |left: usize, right: usize| left.wrapping_add(right);
-    assert_eq!(rt; on.fold(five, || 0, add, add)?, 10);
-    let counted = on.fold_init(
-        five,
-        || 0usize,
-        || 0,
-        |sum: usize, state: &mut usize, n: usize| sum.wrapping_add(n).wrapping_add(*state),
-        add,
-    )?;
+    assert_eq!(rt; on.fold(five, || 0, add, add).expect(rt, "memory"), 10);
+    let counted = on
+        .fold_init(
+            five,
+            || 0usize,
+            || 0,
+            |sum: usize, state: &mut usize, n: usize| sum.wrapping_add(n).wrapping_add(*state),
+            add,
+        )
+        .expect(rt, "memory");
     assert_eq!(rt; counted, 10);
     let tried = on.try_fold(
         five,
@@ -85,7 +92,6 @@ fn sums_of_five<Rt: Threads + Wait + Abort + Sync, S: Strategy>(
         add,
     );
     assert!(rt; matches!(tried, Err(Trouble::Closure(4))));
-    Ok(())
 }
 
 // Sorts and a join.
@@ -93,7 +99,7 @@ fn sorts_and_a_join<Rt: Threads + Wait + Abort + Sync, S: Strategy>(
     rt: &Rt,
     alloc: Global,
     strategy: &S,
-) -> Result<(), Fault> {
+) {
     let on = On {
         rt,
         alloc,
@@ -101,25 +107,25 @@ fn sorts_and_a_join<Rt: Threads + Wait + Abort + Sync, S: Strategy>(
         site: SITE,
     };
     let mut numbers = [3, 1, 2u32];
-    on.sort_by(&mut numbers, |left: &u32, right: &u32| right.cmp(left))?;
+    on.sort_by(&mut numbers, |left: &u32, right: &u32| right.cmp(left))
+        .expect(rt, "memory");
     assert_eq!(rt; numbers.as_slice(), [3, 2, 1].as_slice());
-    on.sort_unstable_by(&mut numbers, |left: &u32, right: &u32| left.cmp(right))?;
+    on.sort_unstable_by(&mut numbers, |left: &u32, right: &u32| left.cmp(right))
+        .expect(rt, "memory");
     assert_eq!(rt; numbers.as_slice(), [1, 2, 3].as_slice());
-    assert_eq!(rt; on.join(|| 1, || 2)?, (1, 2));
-    Ok(())
+    assert_eq!(rt; on.join(|| 1, || 2).expect(rt, "memory"), (1, 2));
 }
 
 #[test]
-fn each_call_of_one_place_answers(rt: HostRuntime) -> Result<(), Fail> {
+fn each_call_of_one_place_answers(rt: HostRuntime) {
     let alloc = rt.alloc();
-    assert!(rt; lists_of_five(&rt, alloc, &Sequential).is_ok());
-    assert!(rt; sums_of_five(&rt, alloc, &Sequential).is_ok());
-    sorts_and_a_join(&rt, alloc, &Sequential)?;
+    lists_of_five(&rt, alloc, &Sequential);
+    sums_of_five(&rt, alloc, &Sequential);
+    sorts_and_a_join(&rt, alloc, &Sequential);
     for threads in 1..5usize {
         let strategy = pool(&rt, alloc, threads, threads);
-        assert!(rt; lists_of_five(&rt, alloc, &strategy).is_ok());
-        assert!(rt; sums_of_five(&rt, alloc, &strategy).is_ok());
-        sorts_and_a_join(&rt, alloc, &strategy)?;
+        lists_of_five(&rt, alloc, &strategy);
+        sums_of_five(&rt, alloc, &strategy);
+        sorts_and_a_join(&rt, alloc, &strategy);
     }
-    Ok(())
 }

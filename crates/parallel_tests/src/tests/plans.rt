@@ -3,46 +3,44 @@ use crate::tests::strategies::number;
 use commonware_parallel::bridge::segments::segments;
 use commonware_parallel::{Fault, Grid, cut};
 use std::num::NonZeroUsize;
-use std::test::Fail;
 
 const GREATEST: usize = usize::MAX;
 
 #[test]
-fn lists_are_cut_by_threads_and_by_items(rt: HostRuntime) -> Result<(), Fail> {
+fn lists_are_cut_by_threads_and_by_items(rt: HostRuntime) {
     let alloc = rt.alloc();
     let four = number(&rt, 4);
-    let lengths = segments(alloc, four, 100)?;
+    let lengths = segments(alloc, four, 100).expect(&rt, "memory");
     assert_eq!(rt;
         lengths.as_slice(),
         [12, 13, 12, 13, 12, 13, 12, 13].as_slice()
     );
-    let lengths = segments(alloc, number(&rt, 3), 5)?;
+    let lengths = segments(alloc, number(&rt, 3), 5).expect(&rt, "memory");
     assert_eq!(rt; lengths.as_slice(), [1, 1, 1, 2].as_slice());
-    let lengths = segments(alloc, number(&rt, 1), 1)?;
+    let lengths = segments(alloc, number(&rt, 1), 1).expect(&rt, "memory");
     assert_eq!(rt; lengths.as_slice(), [1].as_slice());
-    let lengths = segments(alloc, four, 0)?;
+    let lengths = segments(alloc, four, 0).expect(&rt, "memory");
     assert_eq!(rt; lengths.as_slice(), [0].as_slice());
     let most = number(&rt, 65_535);
-    let lengths = segments(alloc, most, 3)?;
+    let lengths = segments(alloc, most, 3).expect(&rt, "memory");
     assert_eq!(rt; lengths.as_slice(), [1, 1, 1].as_slice());
-    let lengths = segments(alloc, most, 0)?;
+    let lengths = segments(alloc, most, 0).expect(&rt, "memory");
     assert_eq!(rt; lengths.as_slice(), [0].as_slice());
-    Ok(())
 }
 
 #[test]
-fn cuts_put_the_longer_ranges_first(rt: HostRuntime) -> Result<(), Fail> {
+fn cuts_put_the_longer_ranges_first(rt: HostRuntime) {
     let alloc = rt.alloc();
-    let ranges = cut(alloc, 10, number(&rt, 4))?;
+    let ranges = cut(alloc, 10, number(&rt, 4)).expect(&rt, "memory");
     assert_eq!(rt; ranges.as_slice(), [0..3, 3..6, 6..8, 8..10].as_slice());
-    let ranges = cut(alloc, 3, number(&rt, 5))?;
+    let ranges = cut(alloc, 3, number(&rt, 5)).expect(&rt, "memory");
     assert_eq!(rt;
         ranges.as_slice(),
         [0..1, 1..2, 2..3, 3..3, 3..3].as_slice()
     );
-    let ranges = cut(alloc, 0, number(&rt, 2))?;
+    let ranges = cut(alloc, 0, number(&rt, 2)).expect(&rt, "memory");
     assert_eq!(rt; ranges.as_slice(), [0..0, 0..0].as_slice());
-    let ranges = cut(alloc, GREATEST, number(&rt, 3))?;
+    let ranges = cut(alloc, GREATEST, number(&rt, 3)).expect(&rt, "memory");
     let third = 6_148_914_691_236_517_205;
     let two_thirds = 12_297_829_382_473_034_410;
     let expected = [
@@ -51,7 +49,6 @@ fn cuts_put_the_longer_ranges_first(rt: HostRuntime) -> Result<(), Fail> {
         two_thirds..18_446_744_073_709_551_615,
     ];
     assert_eq!(rt; ranges.as_slice(), expected.as_slice());
-    Ok(())
 }
 
 #[test]

@@ -5,7 +5,6 @@ use std::alloc::Global;
 use std::process::Abort;
 use std::sync::atomic::{AtomicU64, Ordering};
 use std::sync::{Arc, Wait};
-use std::test::Fail;
 use std::thread::Threads;
 use uses::batches::batch_ranges;
 use uses::runs::one_of;
@@ -49,46 +48,66 @@ fn which<Rt: Wait, S: Strategy>(
 }
 
 #[test]
-fn a_fresh_policy_runs_in_parallel(rt: HostRuntime) -> Result<(), Fail> {
+fn a_fresh_policy_runs_in_parallel(rt: HostRuntime) {
     let alloc = rt.alloc();
-    let fresh = Rayon::new(&rt, alloc, number(&rt, 4), Stopped)?;
-    assert_eq!(rt; which(&rt, alloc, &fresh)?, "parallel");
-    assert_eq!(rt; which(&rt, alloc, &Sequential)?, "serial");
-    Ok(())
+    let fresh = Rayon::new(&rt, alloc, number(&rt, 4), Stopped).expect(&rt, "memory");
+    assert_eq!(rt; which(&rt, alloc, &fresh).expect(&rt, "memory"), "parallel");
+    assert_eq!(rt;
+        which(&rt, alloc, &Sequential).expect(&rt, "memory"),
+        "serial"
+    );
 }
 
 #[test]
-fn a_short_parallel_run_is_followed_by_serial_ones(rt: HostRuntime) -> Result<(), Fail> {
+fn a_short_parallel_run_is_followed_by_serial_ones(rt: HostRuntime) {
     let alloc = rt.alloc();
     let strategy = learning(&rt, alloc, 100_000);
-    assert_eq!(rt; which(&rt, alloc, &strategy)?, "parallel");
-    assert_eq!(rt; which(&rt, alloc, &strategy)?, "serial");
-    assert_eq!(rt; which(&rt, alloc, &strategy)?, "serial");
-    Ok(())
+    assert_eq!(rt;
+        which(&rt, alloc, &strategy).expect(&rt, "memory"),
+        "parallel"
+    );
+    assert_eq!(rt;
+        which(&rt, alloc, &strategy).expect(&rt, "memory"),
+        "serial"
+    );
+    assert_eq!(rt;
+        which(&rt, alloc, &strategy).expect(&rt, "memory"),
+        "serial"
+    );
 }
 
 #[test]
-fn a_clock_that_goes_back_counts_as_no_time(rt: HostRuntime) -> Result<(), Fail> {
+fn a_clock_that_goes_back_counts_as_no_time(rt: HostRuntime) {
     let alloc = rt.alloc();
     let strategy = learning(&rt, alloc, u64::MAX - 99_999);
-    assert_eq!(rt; which(&rt, alloc, &strategy)?, "parallel");
-    assert_eq!(rt; which(&rt, alloc, &strategy)?, "serial");
-    Ok(())
+    assert_eq!(rt;
+        which(&rt, alloc, &strategy).expect(&rt, "memory"),
+        "parallel"
+    );
+    assert_eq!(rt;
+        which(&rt, alloc, &strategy).expect(&rt, "memory"),
+        "serial"
+    );
 }
 
 #[test]
-fn a_clone_has_the_same_policy(rt: HostRuntime) -> Result<(), Fail> {
+fn a_clone_has_the_same_policy(rt: HostRuntime) {
     let alloc = rt.alloc();
     let strategy = learning(&rt, alloc, 100_000);
-    let clone = strategy.clone()?;
-    assert_eq!(rt; which(&rt, alloc, &strategy)?, "parallel");
-    assert_eq!(rt; which(&rt, alloc, &clone)?, "serial");
-    let fixed = strategy.without_policy()?;
-    assert_eq!(rt; which(&rt, alloc, &fixed)?, "parallel");
+    let clone = strategy.clone().expect(&rt, "memory");
+    assert_eq!(rt;
+        which(&rt, alloc, &strategy).expect(&rt, "memory"),
+        "parallel"
+    );
+    assert_eq!(rt; which(&rt, alloc, &clone).expect(&rt, "memory"), "serial");
+    let fixed = strategy.without_policy().expect(&rt, "memory");
+    assert_eq!(rt; which(&rt, alloc, &fixed).expect(&rt, "memory"), "parallel");
     let planned = strategy.with_parallelism(number(&rt, 8));
-    assert_eq!(rt; which(&rt, alloc, &planned)?, "parallel");
-    assert_eq!(rt; which(&rt, alloc, &planned)?, "serial");
-    Ok(())
+    assert_eq!(rt;
+        which(&rt, alloc, &planned).expect(&rt, "memory"),
+        "parallel"
+    );
+    assert_eq!(rt; which(&rt, alloc, &planned).expect(&rt, "memory"), "serial");
 }
 
 // The numbers' sum from 10, by which the body can be told: each segment adds 10 twice.
@@ -111,53 +130,67 @@ fn sum_from_ten<Rt: Threads + Wait + Sync, S: Strategy>(
 }
 
 #[test]
-fn folds_ask_the_policy_by_their_site(rt: HostRuntime) -> Result<(), Fail> {
+fn folds_ask_the_policy_by_their_site(rt: HostRuntime) {
     let alloc = rt.alloc();
     let strategy = learning(&rt, alloc, 100_000);
     let other = Site { column: 2, ..SITE };
-    assert_eq!(rt; sum_from_ten(&rt, alloc, &strategy, SITE)?, 66);
-    assert_eq!(rt; sum_from_ten(&rt, alloc, &strategy, SITE)?, 16);
-    assert_eq!(rt; sum_from_ten(&rt, alloc, &strategy, other)?, 66);
-    assert_eq!(rt; sum_from_ten(&rt, alloc, &strategy, other)?, 16);
-    Ok(())
+    assert_eq!(rt;
+        sum_from_ten(&rt, alloc, &strategy, SITE).expect(&rt, "memory"),
+        66
+    );
+    assert_eq!(rt;
+        sum_from_ten(&rt, alloc, &strategy, SITE).expect(&rt, "memory"),
+        16
+    );
+    assert_eq!(rt;
+        sum_from_ten(&rt, alloc, &strategy, other).expect(&rt, "memory"),
+        66
+    );
+    assert_eq!(rt;
+        sum_from_ten(&rt, alloc, &strategy, other).expect(&rt, "memory"),
+        16
+    );
 }
 
 #[test]
-fn batches_ask_the_policy(rt: HostRuntime) -> Result<(), Fail> {
+fn batches_ask_the_policy(rt: HostRuntime) {
     let alloc = rt.alloc();
     let strategy = learning(&rt, alloc, 100_000);
     let one = number(&rt, 1);
     let four = [0..4, 4..8, 8..12, 12..16];
-    let ranges = batch_ranges(&rt, alloc, &strategy, SITE, 16, one)?;
+    let ranges = batch_ranges(&rt, alloc, &strategy, SITE, 16, one).expect(&rt, "memory");
     assert_eq!(rt; ranges.as_slice(), four.as_slice());
-    let ranges = batch_ranges(&rt, alloc, &strategy, SITE, 16, one)?;
+    let ranges = batch_ranges(&rt, alloc, &strategy, SITE, 16, one).expect(&rt, "memory");
     assert_eq!(rt; ranges.as_slice(), [0..16].as_slice());
     // Runs over so many items have a history of their own at another site alone.
     let other = Site { column: 2, ..SITE };
-    let ranges = batch_ranges(&rt, alloc, &strategy, other, 16, one)?;
+    let ranges = batch_ranges(&rt, alloc, &strategy, other, 16, one).expect(&rt, "memory");
     assert_eq!(rt; ranges.as_slice(), four.as_slice());
-    Ok(())
 }
 
 #[test]
-fn a_run_of_the_whole_budget_stays_parallel(rt: HostRuntime) -> Result<(), Fail> {
+fn a_run_of_the_whole_budget_stays_parallel(rt: HostRuntime) {
     let alloc = rt.alloc();
     let strategy = learning(&rt, alloc, 2_500_000);
-    assert_eq!(rt; which(&rt, alloc, &strategy)?, "parallel");
-    assert_eq!(rt; which(&rt, alloc, &strategy)?, "parallel");
-    Ok(())
+    assert_eq!(rt;
+        which(&rt, alloc, &strategy).expect(&rt, "memory"),
+        "parallel"
+    );
+    assert_eq!(rt;
+        which(&rt, alloc, &strategy).expect(&rt, "memory"),
+        "parallel"
+    );
 }
 
 #[test]
-fn a_policy_learns_apart_by_length(rt: HostRuntime) -> Result<(), Fail> {
+fn a_policy_learns_apart_by_length(rt: HostRuntime) {
     let alloc = rt.alloc();
     let strategy = learning(&rt, alloc, 100_000);
     let take = |len: usize| one_of(&rt, alloc, &strategy, SITE, len, "serial", "parallel");
-    assert_eq!(rt; take(64)?, "parallel");
-    assert_eq!(rt; take(1000)?, "parallel");
-    assert_eq!(rt; take(64)?, "serial");
-    assert_eq!(rt; take(1000)?, "serial");
-    Ok(())
+    assert_eq!(rt; take(64).expect(&rt, "memory"), "parallel");
+    assert_eq!(rt; take(1000).expect(&rt, "memory"), "parallel");
+    assert_eq!(rt; take(64).expect(&rt, "memory"), "serial");
+    assert_eq!(rt; take(1000).expect(&rt, "memory"), "serial");
 }
 
 // The states of a map of three items: one for the whole list, or one for each segment.
@@ -184,38 +217,46 @@ fn states_of_three<Rt: Threads + Wait + Sync, S: Strategy>(
 }
 
 #[test]
-fn a_policy_learns_apart_by_multiplier(rt: HostRuntime) -> Result<(), Fail> {
+fn a_policy_learns_apart_by_multiplier(rt: HostRuntime) {
     let alloc = rt.alloc();
     let strategy = learning(&rt, alloc, 100_000);
     assert_eq!(rt;
-        states_of_three(&rt, alloc, &strategy, 1)?.as_slice(),
+        states_of_three(&rt, alloc, &strategy, 1)
+            .expect(&rt, "memory")
+            .as_slice(),
         [1, 1, 1].as_slice()
     );
     assert_eq!(rt;
-        states_of_three(&rt, alloc, &strategy, 100)?.as_slice(),
+        states_of_three(&rt, alloc, &strategy, 100)
+            .expect(&rt, "memory")
+            .as_slice(),
         [1, 1, 1].as_slice()
     );
     assert_eq!(rt;
-        states_of_three(&rt, alloc, &strategy, 1)?.as_slice(),
+        states_of_three(&rt, alloc, &strategy, 1)
+            .expect(&rt, "memory")
+            .as_slice(),
         [1, 2, 3].as_slice()
     );
     assert_eq!(rt;
-        states_of_three(&rt, alloc, &strategy, 100)?.as_slice(),
+        states_of_three(&rt, alloc, &strategy, 100)
+            .expect(&rt, "memory")
+            .as_slice(),
         [1, 2, 3].as_slice()
     );
-    Ok(())
 }
 
 #[test]
-fn a_sort_tells_the_policy_its_time(rt: HostRuntime) -> Result<(), Fail> {
+fn a_sort_tells_the_policy_its_time(rt: HostRuntime) {
     let alloc = rt.alloc();
     let strategy = learning(&rt, alloc, 100_000);
     let mut numbers = [3u32, 1, 2];
-    strategy.sort_by(&rt, alloc, SITE, &mut numbers, |a: &u32, b: &u32| a.cmp(b))?;
+    strategy
+        .sort_by(&rt, alloc, SITE, &mut numbers, |a: &u32, b: &u32| a.cmp(b))
+        .expect(&rt, "memory");
     assert_eq!(rt; numbers, [1, 2, 3]);
     assert_eq!(rt;
-        one_of(&rt, alloc, &strategy, SITE, 3, "serial", "parallel")?,
+        one_of(&rt, alloc, &strategy, SITE, 3, "serial", "parallel").expect(&rt, "memory"),
         "serial"
     );
-    Ok(())
 }

@@ -8,7 +8,6 @@ use std::alloc::{AllocError, Global};
 use std::ops::Range;
 use std::sync::Wait;
 use std::sync::atomic::{AtomicU64, Ordering};
-use std::test::Fail;
 use std::thread::{Threads, map_vec};
 
 // How many cells the plan has.
@@ -98,13 +97,13 @@ fn marks(alloc: Global) -> Result<Vec<AtomicU64>, AllocError> {
 }
 
 #[test]
-fn two_threads_empty_a_cut_plan_by_single_tries(rt: HostRuntime) -> Result<(), Fail> {
+fn two_threads_empty_a_cut_plan_by_single_tries(rt: HostRuntime) {
     let alloc = rt.alloc();
     let (one, two) = (number(&rt, 1), number(&rt, 2));
-    let (shares, seats) = Shares::new(alloc, 1, CELLS, one, two, false)?;
+    let (shares, seats) = Shares::new(alloc, 1, CELLS, one, two, false).expect(&rt, "memory");
     assert_eq!(rt; (shares.cells(), shares.unit(), seats.len()), (CELLS, 1, 2));
-    let marks = marks(alloc)?;
-    let seats = drive_all(&rt, &shares, seats, marks.as_slice())?;
+    let marks = marks(alloc).expect(&rt, "memory");
+    let seats = drive_all(&rt, &shares, seats, marks.as_slice()).expect(&rt, "memory");
     for seat in &seats {
         assert!(rt; seat.own_empty());
         assert_eq!(rt; seat.in_transit(), None);
@@ -117,5 +116,4 @@ fn two_threads_empty_a_cut_plan_by_single_tries(rt: HostRuntime) -> Result<(), F
     for mark in &marks {
         assert_eq!(rt; mark.load(Ordering::SeqCst), 1);
     }
-    Ok(())
 }

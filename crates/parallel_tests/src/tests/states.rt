@@ -10,7 +10,6 @@ use std::alloc::Global;
 use std::process::Abort;
 use std::sync::Wait;
 use std::sync::atomic::{AtomicBool, AtomicU32, Ordering};
-use std::test::Fail;
 use std::thread::Threads;
 use uses::long_lists::LongLists;
 use uses::stateful::{leave_out_repeats, plain_fold_init, sort_by_first};
@@ -47,42 +46,44 @@ fn counts_are<Rt: Threads + Wait + Abort + Sync, S: Strategy>(
     alloc: Global,
     strategy: &S,
     expected: [u32; 3],
-) -> Result<(), Fault> {
-    let counts = strategy.map_init_collect_vec(rt, alloc, SITE, 0..3u32, zero, count)?;
+) {
+    let counts = strategy
+        .map_init_collect_vec(rt, alloc, SITE, 0..3u32, zero, count)
+        .expect(rt, "memory");
     assert_eq!(rt; counts.as_slice(), expected.as_slice());
-    let weighed = strategy.map_init_collect_vec_with_multiplier(
-        rt,
-        alloc,
-        SITE,
-        0..3u32,
-        9,
-        zero,
-        count,
-    )?;
+    let weighed = strategy
+        .map_init_collect_vec_with_multiplier(rt, alloc, SITE, 0..3u32, 9, zero, count)
+        .expect(rt, "memory");
     assert_eq!(rt; weighed.as_slice(), expected.as_slice());
-    Ok(())
 }
 
 #[test]
-fn states_change_at_the_segments(rt: HostRuntime) -> Result<(), Fail> {
+fn states_change_at_the_segments(rt: HostRuntime) {
     let alloc = rt.alloc();
     let two = pool(&rt, alloc, 2, 3);
     let one = pool(&rt, alloc, 2, 1);
-    counts_are(&rt, alloc, &Sequential, [1, 2, 3])?;
-    counts_are(&rt, alloc, &two, [1, 1, 1])?;
-    counts_are(&rt, alloc, &one, [1, 2, 3])?;
+    counts_are(&rt, alloc, &Sequential, [1, 2, 3]);
+    counts_are(&rt, alloc, &two, [1, 1, 1]);
+    counts_are(&rt, alloc, &one, [1, 2, 3]);
     // One thread cuts three items into leaves of one and two.
-    counts_are(&rt, alloc, &pool(&rt, alloc, 1, 2), [1, 1, 2])?;
-    let own = Sequential.map_init_collect_vec(alloc, SITE, 0..3u32, zero, count)?;
+    counts_are(&rt, alloc, &pool(&rt, alloc, 1, 2), [1, 1, 2]);
+    let own = Sequential
+        .map_init_collect_vec(alloc, SITE, 0..3u32, zero, count)
+        .expect(&rt, "memory");
     assert_eq!(rt; own.as_slice(), [1, 2, 3].as_slice());
 
-    let segment = map_init_in_one(&rt, alloc, &Sequential, SITE, 0..3u32, zero, count)?;
+    let segment = map_init_in_one(&rt, alloc, &Sequential, SITE, 0..3u32, zero, count).expect(
+        &rt, "memory",
+    );
     assert_eq!(rt; segment.as_slice(), [1, 2, 3].as_slice());
-    let segment = map_init_planned_for_one(&rt, alloc, &one, SITE, 0..3u32, zero, count)?;
+    let segment = map_init_planned_for_one(&rt, alloc, &one, SITE, 0..3u32, zero, count).expect(
+        &rt, "memory",
+    );
     assert_eq!(rt; segment.as_slice(), [1, 2, 3].as_slice());
-    let leaves = map_init_along_shape(&rt, alloc, &two, SITE, 0..3u32, zero, count)?;
+    let leaves = map_init_along_shape(&rt, alloc, &two, SITE, 0..3u32, zero, count).expect(
+        &rt, "memory",
+    );
     assert_eq!(rt; leaves.as_slice(), [1, 1, 1].as_slice());
-    Ok(())
 }
 
 // The fold of the numbers below `end` from `start`, each segment begun from 10.
@@ -96,14 +97,23 @@ fn fold_ten<Rt: Threads + Wait + Sync, S: Strategy>(
 }
 
 #[test]
-fn folds_with_a_state_go_as_folds(rt: HostRuntime) -> Result<(), Fail> {
+fn folds_with_a_state_go_as_folds(rt: HostRuntime) {
     let alloc = rt.alloc();
     let two = pool(&rt, alloc, 2, 3);
     let one = pool(&rt, alloc, 2, 1);
     for (end, serial, parallel) in [(4, 16, 66), (1, 10, 20)] {
-        assert_eq!(rt; fold_ten(&rt, alloc, &Sequential, end)?, serial);
-        assert_eq!(rt; fold_ten(&rt, alloc, &two, end)?, parallel);
-        assert_eq!(rt; fold_ten(&rt, alloc, &one, end)?, serial);
+        assert_eq!(rt;
+            fold_ten(&rt, alloc, &Sequential, end).expect(&rt, "memory"),
+            serial
+        );
+        assert_eq!(rt;
+            fold_ten(&rt, alloc, &two, end).expect(&rt, "memory"),
+            parallel
+        );
+        assert_eq!(rt;
+            fold_ten(&rt, alloc, &one, end).expect(&rt, "memory"),
+            serial
+        );
     }
     let own = Sequential.fold_init(SITE, 1..4u32, zero, ten, add_counted, add);
     assert_eq!(rt; own, 16);
@@ -118,7 +128,8 @@ fn folds_with_a_state_go_as_folds(rt: HostRuntime) -> Result<(), Fail> {
         ten,
         add_counted,
         add,
-    )?;
+    )
+    .expect(&rt, "memory");
     assert_eq!(rt; segment, 16);
     let segment = fold_init_planned_for_one(
         &rt,
@@ -130,7 +141,7 @@ fn folds_with_a_state_go_as_folds(rt: HostRuntime) -> Result<(), Fail> {
         ten,
         add_counted,
         add,
-    )?;
+    ).expect(&rt, "memory");
     assert_eq!(rt; segment, 16);
     let leaves = fold_init_along_shape(
         &rt,
@@ -142,7 +153,7 @@ fn folds_with_a_state_go_as_folds(rt: HostRuntime) -> Result<(), Fail> {
         ten,
         add_counted,
         add,
-    )?;
+    ).expect(&rt, "memory");
     assert_eq!(rt; leaves, 66);
     let plain = plain_fold_init(
         &rt,
@@ -154,9 +165,9 @@ fn folds_with_a_state_go_as_folds(rt: HostRuntime) -> Result<(), Fail> {
         zero,
         add_counted,
         add,
-    )?;
+    )
+    .expect(&rt, "memory");
     assert_eq!(rt; plain, 4950);
-    Ok(())
 }
 
 // The even numbers below 6 with ten times themselves, and the odd ones without.
@@ -181,88 +192,96 @@ fn known_answers<Rt: Threads + Wait + Abort + Sync, S: Strategy>(
     rt: &Rt,
     alloc: Global,
     strategy: &S,
-) -> Result<(), Fault> {
-    let (values, keys) = parts_of_six(rt, alloc, strategy)?;
+) {
+    let (values, keys) = parts_of_six(rt, alloc, strategy).expect(rt, "memory");
     assert_eq!(rt; values.as_slice(), [0, 20, 40].as_slice());
     assert_eq!(rt; keys.as_slice(), [1, 3, 5].as_slice());
-    let (small, great) = split_by_check(rt, alloc, strategy, SITE, &[5, 1, 9, 2], |n: u32| n < 4)?;
-    assert_eq!(rt; small.as_slice(), [1, 2].as_slice());
-    assert_eq!(rt; great.as_slice(), [5, 9].as_slice());
-    let weighed = strategy.map_collect_vec_with_multiplier(
+    let (small, great) = split_by_check(
         rt,
         alloc,
+        strategy,
         SITE,
-        0..3u32,
-        9,
-        |n: u32| add(n, n),
-    )?;
+        &[5, 1, 9, 2],
+        |n: u32| n < 4,
+    ).expect(rt, "memory");
+    assert_eq!(rt; small.as_slice(), [1, 2].as_slice());
+    assert_eq!(rt; great.as_slice(), [5, 9].as_slice());
+    let weighed = strategy
+        .map_collect_vec_with_multiplier(rt, alloc, SITE, 0..3u32, 9, |n: u32| add(n, n))
+        .expect(rt, "memory");
     assert_eq!(rt; weighed.as_slice(), [0, 2, 4].as_slice());
 
     let mut pairs = [(2, 97), (1, 98), (2, 99), (1, 100)];
-    sort_by_first(rt, alloc, strategy, SITE, &mut pairs)?;
+    sort_by_first(rt, alloc, strategy, SITE, &mut pairs).expect(rt, "memory");
     assert_eq!(rt;
         pairs.as_slice(),
         [(1, 98), (1, 100), (2, 97), (2, 99)].as_slice()
     );
     let mut numbers = [3, 1, 2, 1];
-    strategy.sort_unstable_by(rt, alloc, SITE, &mut numbers, |a: &u32, b: &u32| b.cmp(a))?;
+    strategy
+        .sort_unstable_by(rt, alloc, SITE, &mut numbers, |a: &u32, b: &u32| b.cmp(a))
+        .expect(rt, "memory");
     assert_eq!(rt; numbers.as_slice(), [3, 2, 1, 1].as_slice());
     assert_eq!(rt;
-        strategy.join(rt, alloc, SITE, || 5u32, || "five")?,
+        strategy
+            .join(rt, alloc, SITE, || 5u32, || "five")
+            .expect(rt, "memory"),
         (5, "five")
     );
-    Ok(())
 }
 
 #[test]
-fn partitions_sorts_and_joins_are_the_same_everywhere(rt: HostRuntime) -> Result<(), Fail> {
-    known_answers(&rt, rt.alloc(), &Sequential)?;
+fn partitions_sorts_and_joins_are_the_same_everywhere(rt: HostRuntime) {
+    known_answers(&rt, rt.alloc(), &Sequential);
     for (threads, planned) in [(1, 1), (1, 2), (2, 3), (8, 8)] {
-        known_answers(&rt, rt.alloc(), &pool(&rt, rt.alloc(), threads, planned))?;
+        known_answers(&rt, rt.alloc(), &pool(&rt, rt.alloc(), threads, planned));
     }
-    let learning = Rayon::new(&rt, rt.alloc(), number(&rt, 4), Stopped)?;
-    known_answers(&rt, rt.alloc(), &learning)?;
-    Ok(())
+    let learning = Rayon::new(&rt, rt.alloc(), number(&rt, 4), Stopped).expect(&rt, "memory");
+    known_answers(&rt, rt.alloc(), &learning);
 }
 
 #[test]
-fn calls_of_a_serial_strategys_own_answer_alike(rt: HostRuntime) -> Result<(), Fail> {
+fn calls_of_a_serial_strategys_own_answer_alike(rt: HostRuntime) {
     let alloc = rt.alloc();
-    let (values, keys) = Sequential.map_partition_collect_vec(alloc, SITE, 0..6u32, tenfold)?;
+    let (values, keys) = Sequential
+        .map_partition_collect_vec(alloc, SITE, 0..6u32, tenfold)
+        .expect(&rt, "memory");
     assert_eq!(rt; values.as_slice(), [0, 20, 40].as_slice());
     assert_eq!(rt; keys.as_slice(), [1, 3, 5].as_slice());
-    let tried = Sequential.try_map_collect_vec(alloc, SITE, 0..3u32, |n: u32| -> Result<u32, u32> {
-        Ok(n)
-    })?;
+    let tried = Sequential
+        .try_map_collect_vec(alloc, SITE, 0..3u32, |n: u32| -> Result<u32, u32> { Ok(n) })
+        .expect(&rt, "memory");
     assert_eq!(rt; tried.as_slice(), [0, 1, 2].as_slice());
     let mut numbers = [3, 1, 2];
-    Sequential.sort_by(alloc, SITE, &mut numbers, |a: &u32, b: &u32| a.cmp(b))?;
+    Sequential
+        .sort_by(alloc, SITE, &mut numbers, |a: &u32, b: &u32| a.cmp(b))
+        .expect(&rt, "memory");
     assert_eq!(rt; numbers.as_slice(), [1, 2, 3].as_slice());
     Sequential.sort_unstable_by(SITE, &mut numbers, |a: &u32, b: &u32| b.cmp(a));
     assert_eq!(rt; numbers.as_slice(), [3, 2, 1].as_slice());
     assert_eq!(rt; Sequential.join(SITE, || 5u32, || "five"), (5, "five"));
-    Ok(())
 }
 
 #[test]
-fn repeats_are_left_out_of_each_segment(rt: HostRuntime) -> Result<(), Fail> {
+fn repeats_are_left_out_of_each_segment(rt: HostRuntime) {
     let numbers = [7, 7, 7, 8];
-    let serial = leave_out_repeats(&rt, rt.alloc(), &Sequential, SITE, &numbers)?;
+    let serial = leave_out_repeats(&rt, rt.alloc(), &Sequential, SITE, &numbers).expect(
+        &rt, "memory",
+    );
     assert_eq!(rt;
         serial.as_slice(),
         [Some(7), None, None, Some(8)].as_slice()
     );
     let halves = pool(&rt, rt.alloc(), 1, 2);
-    let entries = leave_out_repeats(&rt, rt.alloc(), &halves, SITE, &numbers)?;
+    let entries = leave_out_repeats(&rt, rt.alloc(), &halves, SITE, &numbers).expect(&rt, "memory");
     assert_eq!(rt;
         entries.as_slice(),
         [Some(7), None, Some(7), Some(8)].as_slice()
     );
-    Ok(())
 }
 
 #[test]
-fn joins_are_parallel_whatever_a_pool_is_planned_for(rt: HostRuntime) -> Result<(), Fail> {
+fn joins_are_parallel_whatever_a_pool_is_planned_for(rt: HostRuntime) {
     let alloc = rt.alloc();
     let one = pool(&rt, alloc, 2, 1);
     let flags = [AtomicBool::new(false), AtomicBool::new(false)];
@@ -274,13 +293,13 @@ fn joins_are_parallel_whatever_a_pool_is_planned_for(rt: HostRuntime) -> Result<
         SITE,
         || sees(&both[0], &both[1]),
         || sees(&both[1], &both[0]),
-    )?;
+    )
+    .expect(&rt, "memory");
     assert_eq!(rt; seen, (true, true));
     assert_eq!(rt;
-        join_serial(&rt, alloc, &Sequential, SITE, || 1u32, || 2u32)?,
+        join_serial(&rt, alloc, &Sequential, SITE, || 1u32, || 2u32).expect(&rt, "memory"),
         (1, 2)
     );
-    Ok(())
 }
 
 // Which of the two closures of a join was called first, by a number that each takes.
@@ -300,33 +319,41 @@ fn order_of_join<Rt: Threads + Wait + Sync, S: Strategy>(
 }
 
 #[test]
-fn a_serial_join_runs_its_first_closure_first(rt: HostRuntime) -> Result<(), Fail> {
+fn a_serial_join_runs_its_first_closure_first(rt: HostRuntime) {
     let alloc = rt.alloc();
-    assert_eq!(rt; order_of_join(&rt, alloc, &Sequential)?, (0, 1));
+    assert_eq!(rt;
+        order_of_join(&rt, alloc, &Sequential).expect(&rt, "memory"),
+        (0, 1)
+    );
     let short = LongLists::new(number(&rt, 2), 3);
-    assert_eq!(rt; order_of_join(&rt, alloc, &short)?, (0, 1));
-    Ok(())
+    assert_eq!(rt;
+        order_of_join(&rt, alloc, &short).expect(&rt, "memory"),
+        (0, 1)
+    );
 }
 
 #[test]
-fn many_numbers_are_sorted_on_four_threads(rt: HostRuntime) -> Result<(), Fail> {
+fn many_numbers_are_sorted_on_four_threads(rt: HostRuntime) {
     let alloc = rt.alloc();
     let strategy = pool(&rt, alloc, 4, 4);
     let mut numbers = Vec::new(alloc);
     for index in 0..20_000u32 {
-        numbers.push(index.wrapping_mul(7919) % 20_000)?;
+        numbers
+            .push(index.wrapping_mul(7919) % 20_000)
+            .expect(&rt, "memory");
     }
-    strategy.sort_by(
-        &rt,
-        alloc,
-        SITE,
-        numbers.as_mut_slice(),
-        |a: &u32, b: &u32| a.cmp(b),
-    )?;
+    strategy
+        .sort_by(
+            &rt,
+            alloc,
+            SITE,
+            numbers.as_mut_slice(),
+            |a: &u32, b: &u32| a.cmp(b),
+        )
+        .expect(&rt, "memory");
     let mut sorted = 0u32;
     for number in numbers {
         assert_eq!(rt; number, sorted);
         sorted = sorted.wrapping_add(1);
     }
-    Ok(())
 }

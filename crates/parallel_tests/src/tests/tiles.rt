@@ -8,7 +8,6 @@ use std::ops::Range;
 use std::process::Abort;
 use std::sync::Wait;
 use std::sync::atomic::{AtomicBool, AtomicU64, Ordering};
-use std::test::Fail;
 use std::thread::Threads;
 use uses::tile_rows::cells_by_stretch;
 
@@ -107,67 +106,69 @@ fn covers<Rt: Threads + Wait + Abort + Sync, S: Strategy>(
 }
 
 #[test]
-fn a_serial_plan_fills_each_row_whole(rt: HostRuntime) -> Result<(), Fail> {
+fn a_serial_plan_fills_each_row_whole(rt: HostRuntime) {
     let alloc = rt.alloc();
     let grids = [grid(&rt, 2, 1), grid(&rt, 1, 9)];
-    let told = fill(&rt, alloc, &Sequential, 5, &grids, &[])?;
+    let told = fill(&rt, alloc, &Sequential, 5, &grids, &[]).expect(&rt, "memory");
     assert_eq!(rt; (told.0, told.1, told.2), (0, 1, false));
     assert_eq!(rt; told.3.as_slice(), [(0, 5), (1, 5)].as_slice());
-    Ok(())
 }
 
 #[test]
-fn two_workers_take_whole_rows(rt: HostRuntime) -> Result<(), Fail> {
+fn two_workers_take_whole_rows(rt: HostRuntime) {
     let alloc = rt.alloc();
     let two = pool(&rt, alloc, 2, 2);
-    let told = covers(&rt, alloc, &two, 4, 64, 1)?;
+    let told = covers(&rt, alloc, &two, 4, 64, 1).expect(&rt, "memory");
     assert_eq!(rt; (told.0, told.1, told.2), (0, 2, false));
     assert_eq!(rt; told.3.len(), 4);
-    Ok(())
 }
 
 #[test]
-fn eight_workers_cut_four_rows(rt: HostRuntime) -> Result<(), Fail> {
+fn eight_workers_cut_four_rows(rt: HostRuntime) {
     let alloc = rt.alloc();
     for threads in [1, 2, 4] {
         let eight = pool(&rt, alloc, threads, 8);
-        let told = covers(&rt, alloc, &eight, 4, 64, 1)?;
+        let told = covers(&rt, alloc, &eight, 4, 64, 1).expect(&rt, "memory");
         assert_eq!(rt; (told.0, told.1, told.2), (0, 8, true));
     }
-    Ok(())
 }
 
 #[test]
-fn a_grid_without_cells_has_no_results(rt: HostRuntime) -> Result<(), Fail> {
+fn a_grid_without_cells_has_no_results(rt: HostRuntime) {
     let alloc = rt.alloc();
     let four = pool(&rt, alloc, 2, 4);
     let made = AtomicU64::new(0);
     for (rows, len) in [(0, 7), (7, 0), (0, 0), (0, usize::MAX)] {
         let grids = [grid(&rt, rows, 3)];
         assert!(rt; Grid::fits(&grids, len));
-        let serial = Sequential.run_tiles(&rt, alloc, SITE, len, &grids, usize::MAX, |tiles| {
-            let init = || {
-                made.fetch_add(1, Ordering::SeqCst);
-            };
-            let fill = |_: &mut (), _: usize, _: Range<usize>| {};
-            tiles.fill_collect_vec(&rt, alloc, init, fill, |_: &mut (), row: usize| row)
-        })??;
+        let serial = Sequential
+            .run_tiles(&rt, alloc, SITE, len, &grids, usize::MAX, |tiles| {
+                let init = || {
+                    made.fetch_add(1, Ordering::SeqCst);
+                };
+                let fill = |_: &mut (), _: usize, _: Range<usize>| {};
+                tiles.fill_collect_vec(&rt, alloc, init, fill, |_: &mut (), row: usize| row)
+            })
+            .expect(&rt, "memory")
+            .expect(&rt, "memory");
         assert_eq!(rt; serial.len(), 0);
-        let shared = four.run_tiles(&rt, alloc, SITE, len, &grids, usize::MAX, |tiles| {
-            let init = || {
-                made.fetch_add(1, Ordering::SeqCst);
-            };
-            let fill = |_: &mut (), _: usize, _: Range<usize>| {};
-            tiles.fill_collect_vec(&rt, alloc, init, fill, |_: &mut (), row: usize| row)
-        })??;
+        let shared = four
+            .run_tiles(&rt, alloc, SITE, len, &grids, usize::MAX, |tiles| {
+                let init = || {
+                    made.fetch_add(1, Ordering::SeqCst);
+                };
+                let fill = |_: &mut (), _: usize, _: Range<usize>| {};
+                tiles.fill_collect_vec(&rt, alloc, init, fill, |_: &mut (), row: usize| row)
+            })
+            .expect(&rt, "memory")
+            .expect(&rt, "memory");
         assert_eq!(rt; shared.len(), 0);
     }
     assert_eq!(rt; made.load(Ordering::SeqCst), 0);
-    Ok(())
 }
 
 #[test]
-fn each_cell_is_filled_once(rt: HostRuntime) -> Result<(), Fail> {
+fn each_cell_is_filled_once(rt: HostRuntime) {
     let alloc = rt.alloc();
     for (rows, len, tile_cost) in [
         (1, 1, 1),
@@ -178,13 +179,12 @@ fn each_cell_is_filled_once(rt: HostRuntime) -> Result<(), Fail> {
         (5, 41, 4),
         (64, 7, 1),
     ] {
-        covers(&rt, alloc, &Sequential, rows, len, tile_cost)?;
+        covers(&rt, alloc, &Sequential, rows, len, tile_cost).expect(&rt, "memory");
         for planned in [1, 2, 3, 8, 16] {
             let strategy = pool(&rt, alloc, 3, planned);
-            covers(&rt, alloc, &strategy, rows, len, tile_cost)?;
+            covers(&rt, alloc, &strategy, rows, len, tile_cost).expect(&rt, "memory");
         }
     }
-    Ok(())
 }
 
 // A flag for each of two rows.
@@ -231,20 +231,19 @@ fn meet_in_tiles<Rt: Threads + Wait + Abort + Sync, S: Strategy>(
 }
 
 #[test]
-fn two_rows_see_each_other_on_two_threads(rt: HostRuntime) -> Result<(), Fail> {
+fn two_rows_see_each_other_on_two_threads(rt: HostRuntime) {
     let alloc = rt.alloc();
     let two = pool(&rt, alloc, 2, 2);
     let flags = Flags {
         first: AtomicBool::new(false),
         second: AtomicBool::new(false),
     };
-    let seen = meet_in_tiles(&rt, alloc, &two, &flags)?;
+    let seen = meet_in_tiles(&rt, alloc, &two, &flags).expect(&rt, "memory");
     assert_eq!(rt; seen.as_slice(), [true, true].as_slice());
-    Ok(())
 }
 
 #[test]
-fn stale_steals_claims_and_refills_change_nothing(rt: HostRuntime) -> Result<(), Fail> {
+fn stale_steals_claims_and_refills_change_nothing(rt: HostRuntime) {
     let plan = Plan::new(1, 12, number(&rt, 1), number(&rt, 3), false);
     let load = |seat, share| Event::Load { seat, share };
     let claim = |seat| Event::Claim { seat };
@@ -281,7 +280,7 @@ fn stale_steals_claims_and_refills_change_nothing(rt: HostRuntime) -> Result<(),
         refill(0),
         refill(0),
     ];
-    let (_state, outcomes) = replay(rt.alloc(), &plan, &events)?;
+    let (_state, outcomes) = replay(rt.alloc(), &plan, &events).expect(&rt, "memory");
     let expected = [
         Outcome::Loaded(524_300),
         Outcome::Loaded(524_300),
@@ -301,20 +300,22 @@ fn stale_steals_claims_and_refills_change_nothing(rt: HostRuntime) -> Result<(),
     for (at, outcome) in expected.iter().enumerate() {
         assert_eq!(rt; outcomes.get(at.saturating_add(16)), Some(outcome));
     }
-    Ok(())
 }
 
 #[test]
-fn a_kernel_counts_each_cell_once(rt: HostRuntime) -> Result<(), Fail> {
+fn a_kernel_counts_each_cell_once(rt: HostRuntime) {
     let alloc = rt.alloc();
-    let whole = cells_by_stretch(&rt, alloc, &Sequential, SITE, 3, 7, number(&rt, 7))?;
+    let whole = cells_by_stretch(&rt, alloc, &Sequential, SITE, 3, 7, number(&rt, 7)).expect(
+        &rt, "memory",
+    );
     assert_eq!(rt; whole.as_slice(), [(0, 7), (1, 7), (2, 7)].as_slice());
     let strategy = pool(&rt, alloc, 4, 4);
-    let cut = cells_by_stretch(&rt, alloc, &strategy, SITE, 3, 1000, number(&rt, 1))?;
+    let cut = cells_by_stretch(&rt, alloc, &strategy, SITE, 3, 1000, number(&rt, 1)).expect(
+        &rt, "memory",
+    );
     let mut cells = 0usize;
     for (_, width) in cut {
         cells = cells.wrapping_add(width);
     }
     assert_eq!(rt; cells, 3000);
-    Ok(())
 }

@@ -7,7 +7,6 @@ use std::alloc::Global;
 use std::process::Abort;
 use std::sync::Wait;
 use std::sync::atomic::{AtomicU32, Ordering};
-use std::test::Fail;
 use std::thread::Threads;
 use uses::verifier::{sum_within, verify_all};
 
@@ -40,14 +39,13 @@ fn first_error_wins<Rt: Threads + Wait + Abort + Sync, S: Strategy>(
 }
 
 #[test]
-fn the_first_error_is_answered(rt: HostRuntime) -> Result<(), Fail> {
+fn the_first_error_is_answered(rt: HostRuntime) {
     first_error_wins(&rt, rt.alloc(), &Sequential);
     for threads in 1..9usize {
         first_error_wins(&rt, rt.alloc(), &pool(&rt, rt.alloc(), threads, threads));
     }
-    let learning = Rayon::new(&rt, rt.alloc(), number(&rt, 4), Stopped)?;
+    let learning = Rayon::new(&rt, rt.alloc(), number(&rt, 4), Stopped).expect(&rt, "memory");
     first_error_wins(&rt, rt.alloc(), &learning);
-    Ok(())
 }
 
 // Each call answers its own number, and the calls from the 50th on fail by it.
@@ -65,18 +63,17 @@ fn map_unsteadily<Rt: Threads + Wait + Sync, S: Strategy>(
 }
 
 #[test]
-fn an_unsteady_closure_fails_by_an_error_of_its_own(rt: HostRuntime) -> Result<(), Fail> {
+fn an_unsteady_closure_fails_by_an_error_of_its_own(rt: HostRuntime) {
     let serial = map_unsteadily(&rt, rt.alloc(), &Sequential, 100);
     assert!(rt; matches!(serial, Err(Trouble::Closure(50))));
     for threads in 1..9usize {
         let strategy = pool(&rt, rt.alloc(), threads, threads);
         let failed = map_unsteadily(&rt, rt.alloc(), &strategy, 100);
         assert!(rt; matches!(failed, Err(Trouble::Closure(call)) if 50 <= call && call < 100));
-        let answered = map_unsteadily(&rt, rt.alloc(), &strategy, 50)?;
+        let answered = map_unsteadily(&rt, rt.alloc(), &strategy, 50).expect(&rt, "memory");
         assert_eq!(rt; answered.len(), 50);
         assert!(rt; answered.iter().all(|call| *call < 50));
     }
-    Ok(())
 }
 
 #[test]
@@ -139,7 +136,7 @@ fn sum_to_ten<Rt: Threads + Wait + Sync, S: Strategy>(
 }
 
 #[test]
-fn a_fold_stops_at_its_first_error(rt: HostRuntime) -> Result<(), Fail> {
+fn a_fold_stops_at_its_first_error(rt: HostRuntime) {
     let alloc = rt.alloc();
     let two = pool(&rt, alloc, 2, 2);
     let one = pool(&rt, alloc, 2, 1);
@@ -179,13 +176,21 @@ fn a_fold_stops_at_its_first_error(rt: HostRuntime) -> Result<(), Fail> {
         add,
     );
     assert!(rt; matches!(one_piece, Err(Trouble::Closure(7))));
-    let segments = try_fold_along_shape(&rt, alloc, &two, SITE, 6..8u32, zero, add_to_ten, add)?;
+    let segments = try_fold_along_shape(
+        &rt,
+        alloc,
+        &two,
+        SITE,
+        6..8u32,
+        zero,
+        add_to_ten,
+        add,
+    ).expect(&rt, "memory");
     assert_eq!(rt; segments, 13);
-    Ok(())
 }
 
 #[test]
-fn a_run_answers_the_error_of_its_body(rt: HostRuntime) -> Result<(), Fail> {
+fn a_run_answers_the_error_of_its_body(rt: HostRuntime) {
     let alloc = rt.alloc();
     let two = pool(&rt, alloc, 2, 2);
     let serial: Result<u32, Trouble<u32>> = Sequential
@@ -206,7 +211,6 @@ fn a_run_answers_the_error_of_its_body(rt: HostRuntime) -> Result<(), Fail> {
         || Err(5),
     );
     assert!(rt; matches!(through, Ok(7)));
-    Ok(())
 }
 
 // What a verifier and a checked sum answer of numbers of which the third is over the limit.

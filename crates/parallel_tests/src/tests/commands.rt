@@ -1,10 +1,15 @@
-use super::*;
-use crate::drain::{drain, gather};
+// The program's command lines, its refusals, and writers that fail.
 use parallel_fault::Fault;
 use parallel_shares::Shares;
-use std::alloc::AllocError;
+use shapes_command::drain::{drain, gather};
+use shapes_command::{command, out_of_memory, unread, unwritten};
+use std::alloc::{AllocError, Global};
+use std::io;
+use std::io::{ErrorKind, Write};
 use std::num::NonZeroUsize;
+use std::sync::Wait;
 use std::test::Fail;
+use std::thread::Threads;
 
 // What a command left: its status, and what it wrote to either writer.
 #[derive(Debug, PartialEq, Eq, Drop)]
