@@ -1,6 +1,7 @@
 // A closure whose answer the shape of a run doesn't change, and one whose answer it does, told apart by a
 // search through the rules.
 ghost use Rattle.std.specs.Prelude.{◌≡◌, IfOk};
+ghost use Rattle.parallel_fault.specs.Trouble.{IsMemoryOnErr};
 ghost use Rattle.commonware_parallel.specs.Explorers.{rule_of};
 ghost use Rattle.commonware_parallel.specs.declared.mocks.rule.Rule.TheVariants.{Serial};
 
@@ -24,9 +25,11 @@ pub fn explore_from_zero<Rt: Threads + Wait + Sync>(
     alloc: Global,
 ) -> Result<Result<usize, Fault>, ExploreError>
     ensures sum { IfOk result (λ told. IfOk told (λ sum. sum ≡ 4950)) }
+    ensures fault { IfOk result (λ told. IsMemoryOnErr told) }
 {
     let run = |explorer: &Explorer| -> Result<usize, Fault>
-        ensures { IfOk result (λ sum. sum ≡ 4950) }
+        ensures sum { IfOk result (λ sum. sum ≡ 4950) }
+        ensures fault { IsMemoryOnErr result }
     { sum_from(rt, alloc, explorer, 0) };
     explore_equal(rt, alloc, run)
 }
@@ -38,9 +41,11 @@ pub fn explore_from_ten<Rt: Threads + Wait + Sync>(
     alloc: Global,
 ) -> Result<Result<usize, Fault>, ExploreError>
     ensures sum { IfOk result (λ told. IfOk told (λ sum. sum ≡ 4960)) }
+    ensures fault { IfOk result (λ told. IsMemoryOnErr told) }
 {
     let run = |explorer: &Explorer| -> Result<usize, Fault>
-        ensures { rule_of explorer.now ≡ Serial → IfOk result (λ sum. sum ≡ 4960) }
+        ensures sum { rule_of explorer.now ≡ Serial → IfOk result (λ sum. sum ≡ 4960) }
+        ensures fault { IsMemoryOnErr result }
     { sum_from(rt, alloc, explorer, 10) };
     explore_unequal(rt, alloc, run)
 }
@@ -53,7 +58,9 @@ fn explore_equal<Rt: Threads, F: FnMut(&Explorer) -> Result<usize, Fault>>(
 ) -> Result<Result<usize, Fault>, ExploreError>
     requires callable { F.IsAlwaysCallable run }
     requires sums { (f g : F) (explorer : _) (out : _) → F.step f explorer out g → IfOk out (λ sum. sum ≡ 4950) }
+    requires faults { (f g : F) (explorer : _) (out : _) → F.step f explorer out g → IsMemoryOnErr out }
     ensures sum { IfOk result (λ told. IfOk told (λ sum. sum ≡ 4950)) }
+    ensures fault { IfOk result (λ told. IsMemoryOnErr told) }
 {
     explore(rt, alloc, run)
 }
@@ -67,7 +74,9 @@ fn explore_unequal<Rt: Threads, F: FnMut(&Explorer) -> Result<usize, Fault>>(
     requires callable { F.IsAlwaysCallable run }
     requires sums { (f g : F) (explorer : _) (out : _) → F.step f explorer out g
         → rule_of explorer.now ≡ Serial → IfOk out (λ sum. sum ≡ 4960) }
+    requires faults { (f g : F) (explorer : _) (out : _) → F.step f explorer out g → IsMemoryOnErr out }
     ensures sum { IfOk result (λ told. IfOk told (λ sum. sum ≡ 4960)) }
+    ensures fault { IfOk result (λ told. IsMemoryOnErr told) }
 {
     explore(rt, alloc, run)
 }
@@ -81,6 +90,7 @@ fn sum_from<Rt: Threads + Wait + Sync>(
 ) -> Result<usize, Fault>
     ensures neutral { identity ≡ 0 → IfOk result (λ sum. sum ≡ 4950) }
     ensures serial { identity ≡ 10 → rule_of explorer.now ≡ Serial → IfOk result (λ sum. sum ≡ 4960) }
+    ensures fault { IsMemoryOnErr result }
 {
     explorer.fold(
         rt,
