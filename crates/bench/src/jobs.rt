@@ -47,10 +47,10 @@ where
     let alloc = rt.alloc();
     let clock = Arc::new(alloc, MonotonicClock::new(*rt)?)?;
     for (kind, stirs) in [("empty", 0), ("heavy", STIRS)] {
-        let taken = time_spawn(rt, alloc, &*clock, trial, stirs)?;
-        report(rt, kind, "spawn", trial.jobs, taken)?;
-        let taken = time_spawn_from(rt, alloc, &*clock, trial, stirs)?;
-        report(rt, kind, "spawn_from", trial.jobs, taken)?;
+        for (way, is_from_worker) in [("spawn", false), ("spawn_from", true)] {
+            let taken = time_pool(rt, alloc, &*clock, trial, stirs, is_from_worker)?;
+            report(rt, kind, way, trial.jobs, taken)?;
+        }
         let jobs = trial.jobs.min(MOST_THREADS);
         let taken = time_threads(rt, alloc, &*clock, jobs, trial.workers, stirs)?;
         report(rt, kind, "a thread each", jobs, taken)?;
@@ -69,19 +69,35 @@ fn report(rt: &impl Print, kind: &str, way: &str, jobs: usize, taken: u64) -> Re
     Ok(())
 }
 
-// From the first job's `spawn` until all were called and the workers have ended, in nanoseconds.
-fn time_spawn<R: Threads + Wait + Copy + Send + 'static, C: Clock>(
+// From the first job's coming to a pool until all were called and the workers have ended, in
+// nanoseconds. The jobs come by `spawn`, or from a worker of the pool, which calls jobs too once all
+// have come.
+fn time_pool<R: Threads + Wait + Copy + Send + 'static, C: Clock>(
     rt: &R,
     alloc: Global,
     clock: &C,
     trial: JobTrial,
     stirs: u64,
+    is_from_worker: bool,
 ) -> Result<u64> {
     let board = Arc::new(alloc, Board::new(alloc, trial.jobs)?)?;
-    let builder = ThreadPoolBuilder::new().num_threads(trial.workers.get());
-    let (pool, _) = builder.build_for::<R, Errand>(rt, alloc)?;
+    let mut builder = ThreadPoolBuilder::new().num_threads(trial.workers.get());
+    if is_from_worker {
+        builder = builder.use_current_thread();
+    }
+    let (pool, worker) = builder.build_for::<R, Errand>(rt, alloc)?;
+    ensure!(
+        worker.is_some() == is_from_worker,
+        "the pool has another worker here than was asked for"
+    );
     let start = clock.now();
-    spawn_all(rt, &pool, &board, 0..trial.jobs, stirs)?;
+    match worker {
+        None => spawn_all(rt, &pool, &board, 0..trial.jobs, stirs)?,
+        Some(mut worker) => {
+            spawn_all_from(rt, &pool, &mut worker, &board, stirs, trial.jobs)?;
+            call_all(rt, &pool, &mut worker);
+        }
+    }
     pool.close(rt);
     let end = clock.now();
     ensure!(board.is_each_once(), "jobs were lost");
@@ -107,29 +123,6 @@ pub fn spawn_all<R: Wait>(
         }
     }
     Ok(())
-}
-
-// The same where the jobs come from a worker of the pool, which calls jobs too once all have come.
-fn time_spawn_from<R: Threads + Wait + Copy + Send + 'static, C: Clock>(
-    rt: &R,
-    alloc: Global,
-    clock: &C,
-    trial: JobTrial,
-    stirs: u64,
-) -> Result<u64> {
-    let board = Arc::new(alloc, Board::new(alloc, trial.jobs)?)?;
-    let builder = ThreadPoolBuilder::new().num_threads(trial.workers.get());
-    let (pool, worker) = builder
-        .use_current_thread()
-        .build_for::<R, Errand>(rt, alloc)?;
-    let mut worker = worker.context("the pool has no worker here")?;
-    let start = clock.now();
-    spawn_all_from(rt, &pool, &mut worker, &board, stirs, trial.jobs)?;
-    call_all(rt, &pool, &mut worker);
-    pool.close(rt);
-    let end = clock.now();
-    ensure!(board.is_each_once(), "jobs were lost");
-    Ok(end.saturating_sub(start))
 }
 
 // Puts so many jobs onto the worker's own deque.
