@@ -39,15 +39,6 @@ module _ {X Y V : Type 0} (E : Type 0) (list : V → List Y) where
   pub map_driven : (allowed : X → Y → Type 0) (k : ℕ) (xs : List X) (r : V) → TryAlongCut {E = E} (λ l out. (ys : List Y) × MapOf allowed l ys × OnlyOk (λ v. list v ≡ ys) out) (λ a b out. OnlyOk (λ v. list v ≡ list a ++ list b) out) (Shape k xs) (Ok r) → MapOf allowed xs (list r)
   map_driven allowed k xs r h = map_along_shape allowed list k xs r (lists_along (MapOf allowed) (Shape k xs) r h)
 
--- a fact of values that are seen as lists, as a fact of the lists
-pub along_listed : {X Y V : Type 0} (list : V → List Y) (leaf : List X → List Y → Type 0) (cut : Cut X) (r : V) → AlongCut (λ l v. leaf l (list v)) (λ a b v. list v ≡ list a ++ list b) cut r → AlongCut leaf (λ a b c. c ≡ a ++ b) cut (list r)
-along_listed list leaf (segment xs) r h = h
-along_listed list leaf (halves p q) r (a, b, h, i, n) = (list a, list b, along_listed list leaf p a h, along_listed list leaf q b i, n)
-
--- a fresh state at each segment
-pub states_driven : {X Y V : Type 0} (E : Type 0) (list : V → List Y) (allowed : List X → List Y → Type 0) (cut : Cut X) (r : V) → TryAlongCut {E = E} (λ l out. (ys : List Y) × allowed l ys × OnlyOk (λ v. list v ≡ ys) out) (λ a b out. OnlyOk (λ v. list v ≡ list a ++ list b) out) cut (Ok r) → AlongCut allowed (λ a b c. c ≡ a ++ b) cut (list r)
-states_driven E list allowed cut r h = along_listed list allowed cut r (lists_along E list allowed cut r h)
-
 -- the value of a segment is reduced behind an identity
 module _ {X R : Type 0} (E : Type 0) (identity : R → Type 0) (allowed : List X → R → Type 0) (reduce : R → R → R → Type 0) where
   pub fold_driven : (cut : Cut X) (r : R) → TryAlongCut {E = E} (λ l out. (b : R) × allowed l b × OnlyOk (λ v. FoldSegment identity reduce (b ∷ []) v) out) (λ a b out. OnlyOk (λ v. reduce a b v) out) cut (Ok r) → AlongLeaves identity allowed reduce cut r

@@ -24,3 +24,4 @@ pub mod Blocks
 pub mod Runs
 pub mod Writes
 pub mod TryWrites
+pub mod Taken

@@ -1,19 +1,23 @@
 ghost use Rattle.std.specs.Prelude.{◌≡◌, ◌-◌, ◌*◌, ◌^◌, ◌<◌, ◌≤◌, ◌⊎◌, ℕ, List, Ok, IfOk, IsTrue, Result, false, length};
 ghost use Rattle.std.specs.Int.NonZero.{non_zero_usize_get};
-ghost use Rattle.std.specs.Thread.{IsSync, IsSend};
+ghost use Rattle.std.specs.List.{Contains};
 ghost use Rattle.parallel_fault.specs.Trouble.{IsMemoryOnErr};
 ghost use Rattle.parallel_bridge.specs.Outcomes.{PutTogether, UnlessRefused};
 ghost use Rattle.parallel_bridge.specs.Shapes.{cutdepth, Shape, leaf_lengths};
 ghost use Rattle.parallel_bridge.specs.Sources.{Driven, GivesSome, Suits};
 ghost use Rattle.parallel_bridge.specs.Tries.{TryAlongCut};
 
+use crate::drive::{Task, drive};
 use crate::plumbing::{Consumer, Folder, Reducer};
 use crate::producer::Producer;
+use crate::segment::{ProducerSegment, Segment, WindowSegment};
+use crate::window::home::Home;
 use parallel_fault::{Fault, Trouble};
 use std::alloc::Global;
 use std::convert::Infallible;
+use std::marker::PhantomData;
 use std::num::NonZeroUsize;
-use std::thread::{Threads, join};
+use std::thread::Threads;
 
 /// How many times over a list may be halved for that many threads: the binary digits of the number.
 pub fn depth_of(threads: NonZeroUsize) -> usize
@@ -45,8 +49,44 @@ pub fn bridge<Rt: Threads + Sync, P: Producer, C: Consumer<P::Item> + Send>(
     ensures by_items { (xs : List P.Item) → 0 < length xs
         → length (leaf_lengths (Shape (cutdepth (non_zero_usize_get threads)) xs)) ≤ length xs }
 {
-    let task = Task { parts, consumer };
-    drive(rt, alloc, depth_of(threads), threads.get(), task)
+    let depth = depth_of(threads);
+    let parts = match parts.into_vec() {
+        Ok(items) => return bridge_owned(rt, alloc, depth, threads.get(), items, consumer),
+        Err(parts) => parts,
+    };
+    let handing = Handing {
+        parts: ProducerSegment { parts },
+        consumer,
+        items: PhantomData,
+    };
+    let (answer, _) = drive(rt, alloc, depth, threads.get(), handing);
+    answer
+}
+
+// The same for owned items, each of which is taken from where it lies.
+fn bridge_owned<Rt: Threads + Sync, T: Send + Drop, C: Consumer<T> + Send>(
+    rt: &Rt,
+    alloc: Global,
+    depth: usize,
+    threads: usize,
+    items: Vec<T>,
+    consumer: C,
+) -> Result<C::Result, Trouble<C::Error>>
+    requires ready { C.ready consumer }
+    requires fits { C.fits consumer (length items.items) }
+    requires items { (x : T) → Contains items.items x → C.takes consumer x }
+    ensures along { Driven (λ v xs. xs ≡ v.items) items (C.leaf_gives consumer)
+        (C.node_gives consumer) depth result }
+{
+    let (window, home) = Home::adopt(items);
+    let handing = Handing {
+        parts: WindowSegment { window },
+        consumer,
+        items: PhantomData,
+    };
+    let (answer, rest) = drive(rt, alloc, depth, threads, handing);
+    home.free(rest);
+    answer
 }
 
 /// The answer of a call whose closures have no error of their own.
@@ -61,64 +101,84 @@ pub(crate) fn unfailing<R: Drop>(answer: Result<R, Trouble<Infallible>>) -> Resu
     }
 }
 
-// A list with the consumer that it is handed to.
+// A part of a list with the consumer that it is handed to.
 #[derive(Drop)]
-struct Task<P: Producer, C: Consumer<P::Item>> {
-    parts: P,
+struct Handing<X: Send + Drop, S: Segment<X>, C: Consumer<X>> {
+    parts: S,
     consumer: C,
+    items: PhantomData<X>,
 }
 
-impl<P: Producer, C: Consumer<P::Item>> Task<P, C> {
-    // Whether the list isn't to be split.
-    fn is_leaf(&self, depth: usize) -> bool
-        ensures leaf { IsTrue result → (xs : List P.Item) → P.gives self.now.parts xs
-            → (depth ≡ 0) ⊎ (length xs < 2) }
-        ensures node { result ≡ false → (0 < depth) × (2 ≤ P.count self.now.parts) }
-    {
+impl<X: Send + Drop, S: Segment<X>, C: Consumer<X> + Send> Task for Handing<X, S, C> {
+    type Done = (Result<C::Result, Trouble<C::Error>>, S::Rest);
+
+    type Seam = C::Reducer;
+
+    ghost able = { λ s. S.sound s.parts
+        × Suits C.ready C.fits C.takes S.count S.may s.parts s.consumer };
+
+    ghost long = { λ s. 2 ≤ S.count s.parts };
+
+    ghost short = { λ depth s. (xs : List X) → S.gives s.parts xs → (depth ≡ 0) ⊎ (length xs < 2) };
+
+    ghost ends = { λ depth s d. Driven S.gives s.parts (C.leaf_gives s.consumer)
+        (C.node_gives s.consumer) depth d.0 × S.leaves s.parts d.1 };
+
+    ghost meet = { λ seam a b. ((p q : C.Result) → C.Reducer.can_reduce seam p q)
+        × ((whole : S) × S.meets whole a.1 b.1) };
+
+    ghost together = { λ seam a b c. PutTogether (C.Reducer.reduce_gives seam) a.0 b.0 c.0
+        × ((whole : S) → S.meets whole a.1 b.1 → S.leaves whole c.1) };
+
+    fn is_leaf(&self, depth: usize) -> bool {
         depth == 0 || self.parts.len() < 2
     }
 
-    // The first half and the rest, and what puts their answers together.
-    fn split(self, alloc: Global) -> Result<(Self, Self, C::Reducer), Fault>
-        requires long { 2 ≤ P.count self.parts }
-        requires suits { Suits C.ready C.fits C.takes P.count P.may self.parts self.consumer }
-        ensures left { IfOk result (λ p. Suits C.ready C.fits C.takes P.count P.may p.0.parts p.0.consumer) }
-        ensures right { IfOk result (λ p. Suits C.ready C.fits C.takes P.count P.may p.1.parts p.1.consumer) }
-        ensures reducer { IfOk result (λ p. (a b : C.Result) → C.Reducer.can_reduce p.2 a b) }
-        ensures node { IfOk result (λ p. (depth : ℕ)
-            (first second all : Result C.Result (Trouble C.Error)) → 0 < depth
-            → Driven P.gives p.0.parts (C.leaf_gives p.0.consumer) (C.node_gives p.0.consumer)
-            (depth - 1) first
-            → Driven P.gives p.1.parts (C.leaf_gives p.1.consumer) (C.node_gives p.1.consumer)
-            (depth - 1) second
-            → PutTogether (C.Reducer.reduce_gives p.2) first second all
-            → Driven P.gives self.parts (C.leaf_gives self.consumer) (C.node_gives self.consumer)
-            depth all) }
-        ensures fault { IsMemoryOnErr result }
-    {
+    fn split(
+        self,
+        alloc: Global,
+    ) -> Result<(Self, Self, C::Reducer), (Result<C::Result, Trouble<C::Error>>, S::Rest)> {
         let len = self.parts.len();
-        let (front, back) = self.parts.split_at(alloc, len / 2)?;
-        let (left, right, reducer) = self.consumer.split_at(len / 2)?;
-        let first = Task {
+        let (left, right, reducer) = match self.consumer.split_at(len / 2) {
+            Ok(consumers) => consumers,
+            Err(fault) => return Err((Err(Trouble::Fault(fault)), self.parts.leave())),
+        };
+        let (front, back) = match self.parts.split_at(alloc, len / 2) {
+            Ok(halves) => halves,
+            Err((rest, fault)) => return Err((Err(Trouble::Fault(fault)), rest)),
+        };
+        let first = Handing {
             parts: front,
             consumer: left,
+            items: PhantomData,
         };
-        let second = Task {
+        let second = Handing {
             parts: back,
             consumer: right,
+            items: PhantomData,
         };
         Ok((first, second, reducer))
     }
 
-    // What the consumer's folder makes of the list, which is not split.
-    fn fold(self, alloc: Global) -> Result<C::Result, Trouble<C::Error>>
-        requires { Suits C.ready C.fits C.takes P.count P.may self.parts self.consumer }
-        ensures { UnlessRefused result (λ out. GivesSome P.gives self.parts
-            (λ xs. C.leaf_gives self.consumer xs out)) }
-    {
-        let folder = self.consumer.into_folder(alloc)?;
-        let folder = folder.consume_iter(alloc, self.parts.into_items())?;
-        folder.complete(alloc)
+    fn run(self, alloc: Global) -> (Result<C::Result, Trouble<C::Error>>, S::Rest) {
+        let folder = match self.consumer.into_folder(alloc) {
+            Ok(folder) => folder,
+            Err(fault) => return (Err(Trouble::Fault(fault)), self.parts.leave()),
+        };
+        let (fed, rest) = self.parts.feed(alloc, folder);
+        match fed {
+            Ok(folder) => (folder.complete(alloc), rest),
+            Err(fault) => (Err(Trouble::Fault(fault)), rest),
+        }
+    }
+
+    fn join(
+        seam: C::Reducer,
+        left: (Result<C::Result, Trouble<C::Error>>, S::Rest),
+        right: (Result<C::Result, Trouble<C::Error>>, S::Rest),
+    ) -> (Result<C::Result, Trouble<C::Error>>, S::Rest) {
+        let answer = put_together(left.0, right.0, seam);
+        (answer, S::join(left.1, right.1))
     }
 }
 
@@ -140,188 +200,4 @@ fn put_together<R: Drop, E: Drop, G: Reducer<R, E>>(
         Err(trouble) => return Err(trouble),
     };
     reducer.reduce(left, right)
-}
-
-// A list along its shape, with that many threads to share.
-#[cycle(halves)]
-fn drive<Rt: Threads + Sync, P: Producer, C: Consumer<P::Item> + Send>(
-    rt: &Rt,
-    alloc: Global,
-    depth: usize,
-    threads: usize,
-    task: Task<P, C>,
-) -> Result<C::Result, Trouble<C::Error>>
-    requires { Suits C.ready C.fits C.takes P.count P.may task.parts task.consumer }
-    ensures { Driven P.gives task.parts (C.leaf_gives task.consumer) (C.node_gives task.consumer)
-        depth result }
-{
-    if task.is_leaf(depth) {
-        return task.fold(alloc);
-    }
-    let (left, right, reducer) = task.split(alloc)?;
-    let (first, second) = drive_both(rt, alloc, depth - 1, threads, left, right);
-    put_together(first, second, reducer)
-}
-
-// Two lists along their shapes, with that many threads to share. Of two lists that are both split, one
-// thread gets the front of the first with the back of the second, and another the rest: where work
-// rises along a list, or falls, each has as much of it.
-#[cycle(halves)]
-fn drive_both<Rt: Threads + Sync, P: Producer, C: Consumer<P::Item> + Send>(
-    rt: &Rt,
-    alloc: Global,
-    depth: usize,
-    threads: usize,
-    left: Task<P, C>,
-    right: Task<P, C>,
-) -> (
-    Result<C::Result, Trouble<C::Error>>,
-    Result<C::Result, Trouble<C::Error>>,
-)
-    requires left { Suits C.ready C.fits C.takes P.count P.may left.parts left.consumer }
-    requires right { Suits C.ready C.fits C.takes P.count P.may right.parts right.consumer }
-    ensures first { Driven P.gives left.parts (C.leaf_gives left.consumer)
-        (C.node_gives left.consumer) depth result.0 }
-    ensures second { Driven P.gives right.parts (C.leaf_gives right.consumer)
-        (C.node_gives right.consumer) depth result.1 }
-{
-    if threads < 2 {
-        let first = drive(rt, alloc, depth, threads, left);
-        let second = drive(rt, alloc, depth, threads, right);
-        return (first, second);
-    }
-    if left.is_leaf(depth) || right.is_leaf(depth) {
-        return drive_apart(rt, alloc, depth, threads, left, right);
-    }
-    let (left_front, left_back, left_reducer) = match left.split(alloc) {
-        Ok(split) => split,
-        Err(fault) => return (Err(Trouble::Fault(fault)), Err(Trouble::Fault(fault))),
-    };
-    let (right_front, right_back, right_reducer) = match right.split(alloc) {
-        Ok(split) => split,
-        Err(fault) => return (Err(Trouble::Fault(fault)), Err(Trouble::Fault(fault))),
-    };
-    let (outer, inner) = drive_pairs(
-        rt,
-        alloc,
-        depth - 1,
-        threads,
-        left_front,
-        right_back,
-        left_back,
-        right_front,
-    );
-    let first = put_together(outer.0, inner.0, left_reducer);
-    let second = put_together(inner.1, outer.1, right_reducer);
-    (first, second)
-}
-
-// Two lists along their shapes side by side.
-#[cycle(halves)]
-fn drive_apart<Rt: Threads + Sync, P: Producer, C: Consumer<P::Item> + Send>(
-    rt: &Rt,
-    alloc: Global,
-    depth: usize,
-    threads: usize,
-    left: Task<P, C>,
-    right: Task<P, C>,
-) -> (
-    Result<C::Result, Trouble<C::Error>>,
-    Result<C::Result, Trouble<C::Error>>,
-)
-    requires enough { 2 ≤ threads }
-    requires left { Suits C.ready C.fits C.takes P.count P.may left.parts left.consumer }
-    requires right { Suits C.ready C.fits C.takes P.count P.may right.parts right.consumer }
-    ensures first { Driven P.gives left.parts (C.leaf_gives left.consumer)
-        (C.node_gives left.consumer) depth result.0 }
-    ensures second { Driven P.gives right.parts (C.leaf_gives right.consumer)
-        (C.node_gives right.consumer) depth result.1 }
-{
-    let others = threads / 2;
-    let own = threads - others;
-    join(
-        rt,
-        move || -> Result<C::Result, Trouble<C::Error>>
-            requires { IsSync Rt.row × IsSend P.row × IsSend P.Item.row × IsSend P.Iter.row × IsSend C.row
-                × IsSend C.Result.row × IsSend C.Error.row × IsSend C.Folder.row × IsSend C.Reducer.row
-                × Suits C.ready C.fits C.takes P.count P.may left.parts left.consumer }
-            ensures { Driven P.gives left.parts (C.leaf_gives left.consumer)
-                (C.node_gives left.consumer) depth result }
-        { drive(rt, alloc, depth, others, left) },
-        move || -> Result<C::Result, Trouble<C::Error>>
-            requires { IsSync Rt.row × IsSend P.row × IsSend P.Item.row × IsSend P.Iter.row × IsSend C.row
-                × IsSend C.Result.row × IsSend C.Error.row × IsSend C.Folder.row × IsSend C.Reducer.row
-                × Suits C.ready C.fits C.takes P.count P.may right.parts right.consumer }
-            ensures { Driven P.gives right.parts (C.leaf_gives right.consumer)
-                (C.node_gives right.consumer) depth result }
-        { drive(rt, alloc, depth, own, right) },
-    )
-}
-
-// Two pairs of lists along their shapes, the pairs side by side.
-#[cycle(halves)]
-fn drive_pairs<Rt: Threads + Sync, P: Producer, C: Consumer<P::Item> + Send>(
-    rt: &Rt,
-    alloc: Global,
-    depth: usize,
-    threads: usize,
-    left_front: Task<P, C>,
-    right_back: Task<P, C>,
-    left_back: Task<P, C>,
-    right_front: Task<P, C>,
-) -> (
-    (
-        Result<C::Result, Trouble<C::Error>>,
-        Result<C::Result, Trouble<C::Error>>,
-    ),
-    (
-        Result<C::Result, Trouble<C::Error>>,
-        Result<C::Result, Trouble<C::Error>>,
-    ),
-)
-    requires enough { 2 ≤ threads }
-    requires left_front { Suits C.ready C.fits C.takes P.count P.may left_front.parts left_front.consumer }
-    requires right_back { Suits C.ready C.fits C.takes P.count P.may right_back.parts right_back.consumer }
-    requires left_back { Suits C.ready C.fits C.takes P.count P.may left_back.parts left_back.consumer }
-    requires right_front { Suits C.ready C.fits C.takes P.count P.may right_front.parts right_front.consumer }
-    ensures left_front { Driven P.gives left_front.parts (C.leaf_gives left_front.consumer)
-        (C.node_gives left_front.consumer) depth result.0.0 }
-    ensures right_back { Driven P.gives right_back.parts (C.leaf_gives right_back.consumer)
-        (C.node_gives right_back.consumer) depth result.0.1 }
-    ensures left_back { Driven P.gives left_back.parts (C.leaf_gives left_back.consumer)
-        (C.node_gives left_back.consumer) depth result.1.0 }
-    ensures right_front { Driven P.gives right_front.parts (C.leaf_gives right_front.consumer)
-        (C.node_gives right_front.consumer) depth result.1.1 }
-{
-    let others = threads / 2;
-    let own = threads - others;
-    join(
-        rt,
-        move || -> (
-            Result<C::Result, Trouble<C::Error>>,
-            Result<C::Result, Trouble<C::Error>>,
-        )
-            requires { IsSync Rt.row × IsSend P.row × IsSend P.Item.row × IsSend P.Iter.row × IsSend C.row
-                × IsSend C.Result.row × IsSend C.Error.row × IsSend C.Folder.row × IsSend C.Reducer.row
-                × Suits C.ready C.fits C.takes P.count P.may left_front.parts left_front.consumer
-                × Suits C.ready C.fits C.takes P.count P.may right_back.parts right_back.consumer }
-            ensures first { Driven P.gives left_front.parts (C.leaf_gives left_front.consumer)
-                (C.node_gives left_front.consumer) depth result.0 }
-            ensures second { Driven P.gives right_back.parts (C.leaf_gives right_back.consumer)
-                (C.node_gives right_back.consumer) depth result.1 }
-        { drive_both(rt, alloc, depth, others, left_front, right_back) },
-        move || -> (
-            Result<C::Result, Trouble<C::Error>>,
-            Result<C::Result, Trouble<C::Error>>,
-        )
-            requires { IsSync Rt.row × IsSend P.row × IsSend P.Item.row × IsSend P.Iter.row × IsSend C.row
-                × IsSend C.Result.row × IsSend C.Error.row × IsSend C.Folder.row × IsSend C.Reducer.row
-                × Suits C.ready C.fits C.takes P.count P.may left_back.parts left_back.consumer
-                × Suits C.ready C.fits C.takes P.count P.may right_front.parts right_front.consumer }
-            ensures first { Driven P.gives left_back.parts (C.leaf_gives left_back.consumer)
-                (C.node_gives left_back.consumer) depth result.0 }
-            ensures second { Driven P.gives right_front.parts (C.leaf_gives right_front.consumer)
-                (C.node_gives right_front.consumer) depth result.1 }
-        { drive_both(rt, alloc, depth, own, left_back, right_front) },
-    )
 }

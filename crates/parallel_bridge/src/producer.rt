@@ -1,5 +1,5 @@
 //! Lists that may be split: slices, copies of their items, indices, and owned items.
-ghost use Rattle.std.specs.Prelude.{◌≡◌, ◌++◌, ◌-◌, ◌+◌, ◌<◌, ◌≤◌, ℕ, List, drop, length, map, take, IfOk, ◌⊎◌};
+ghost use Rattle.std.specs.Prelude.{◌≡◌, ◌++◌, ◌-◌, ◌+◌, ◌<◌, ◌≤◌, ℕ, List, drop, length, map, take, IfErr, IfOk, ◌⊎◌};
 ghost use Rattle.std.specs.Borrow.{Bor};
 ghost use Rattle.std.specs.Iterator.{Drains, HoldsAlong, IsFinite, YieldsFirst, YieldsLast, item_count};
 ghost use Rattle.std.specs.List.{All, Contains, range_with_len};
@@ -61,6 +61,17 @@ pub trait Producer: Send + Sized + Drop {
         ensures ends { IsFinite (Self.Iter.remaining result) }
         ensures gives { (xs : List Self.Item) → Drains Self.Iter.next_gives result xs → gives self xs }
         ensures may { HoldsAlong Self.Iter.next_gives result (All (may self)) };
+
+    /// The items as an owned list, where they are one already, or else the producer as it was. An owned
+    /// list is cut where it lies, without a copy.
+    fn into_vec(self) -> Result<Vec<Self::Item>, Self>
+        ensures counted { IfOk result (λ vec. length vec.items ≡ count self) }
+        ensures gives { IfOk result (λ vec. gives self vec.items) }
+        ensures may { IfOk result (λ vec. (x : Self.Item) → Contains vec.items x → may self x) }
+        ensures same { IfErr result (λ list. list ≡ self) }
+    {
+        Err(self)
+    }
 }
 
 impl<'a, T: Sync> Producer for &'a [T] {
@@ -221,6 +232,10 @@ impl<T: Send + Drop> Producer for DrainProducer<T> {
 
     fn into_items(self) -> std::vec::IntoIter<T> {
         self.items.into_iter()
+    }
+
+    fn into_vec(self) -> Result<Vec<T>, Self> {
+        Ok(self.items)
     }
 }
 

@@ -10,10 +10,12 @@ ghost use Rattle.parallel_bridge.specs.Sources.{GivesSome};
 ghost use Rattle.parallel_bridge.specs.States.{MapStep, StateSegment, StatesAlong};
 ghost use Rattle.parallel_bridge.specs.Ways.{MappedInitAs};
 
-use crate::bridge::{bridge, unfailing};
-use crate::consumer::collect::CollectConsumer;
-use crate::consumer::map_init::{MapInitConsumer, map_init_from};
+use crate::bridge::{depth_of, unfailing};
+use crate::consumer::map_init::map_init_from;
+use crate::fill::fill;
+use crate::fill::map_init::MapInitWriter;
 use crate::producer::Producer;
+use crate::window::home::Home;
 use parallel_fault::Fault;
 use std::alloc::Global;
 use std::num::NonZeroUsize;
@@ -43,7 +45,8 @@ pub fn map_init_iter<I: Iterator, S: Drop, T: Drop, N: Fn() -> S, F: Fn(&mut S, 
 
 /// The answers of `map_op` for the items of a list, in their order, where the segments of the list's
 /// shape for that many threads are answered side by side. Each segment has a fresh state, which goes
-/// from item to item.
+/// from item to item. Memory for the answers is reserved once, before any segment starts, and each
+/// answer is written where it stays.
 pub fn map_init_parallel<
     Rt: Threads + Sync,
     P: Producer,
@@ -67,12 +70,18 @@ pub fn map_init_parallel<
         (Shape (cutdepth (non_zero_usize_get threads)) xs) ys.items)) }
     ensures fault { IsMemoryOnErr result }
 {
-    let mapping = MapInitConsumer {
-        base: CollectConsumer,
-        init,
-        map_op,
-    };
-    unfailing(bridge(rt, alloc, threads, parts, mapping))
+    let len = parts.len();
+    let (room, home) = Home::reserve(alloc, len)?;
+    let writer = MapInitWriter { init, map_op };
+    let depth = depth_of(threads);
+    let (answers, done) = fill(rt, alloc, depth, threads.get(), parts, &writer, room);
+    match unfailing(done) {
+        Ok(()) => Ok(answers.into_vec(home)),
+        Err(fault) => {
+            home.free(answers);
+            Err(fault)
+        }
+    }
 }
 
 /// The answers of `map_op` for the items of a list, in their order: as they come and with one state at

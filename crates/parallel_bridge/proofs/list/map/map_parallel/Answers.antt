@@ -1,18 +1,18 @@
 -- What was written into the segments' rooms, side by side, are the answers for the list.
-use Rattle.std.proofs.Common.{List, Result, Ok, subst, sym}
+use Rattle.std.proofs.Common.{Ok, subst, sym}
 use Rattle.std.specs.declared.convert.Infallible.{Infallible}
-use Rattle.parallel_bridge.specs.Fills.{OneAfterAnother, written}
+use Rattle.parallel_bridge.specs.Fills.{Answered, OneAfterAnother, written}
 use Rattle.parallel_bridge.specs.Lists.{MapOf}
 use Rattle.parallel_bridge.specs.Shapes.{Shape}
 use Rattle.parallel_bridge.specs.Sources.{Driven, GivesSome}
-use Rattle.parallel_bridge.specs.Tries.{TryAlongCut, OnlyOk}
+use Rattle.parallel_bridge.specs.Tries.{TryAlongCut}
 use Rattle.parallel_bridge.proofs.Writes.{filled_shape}
 use Rattle.parallel_bridge.proofs.list.map.map_parallel.Goals as goal
 
 pub returns-in-Ok-clause-maps : goal.returns-in-Ok-clause-maps
 returns-in-Ok-clause-maps g c =
     let allowed = λ (x : g.row.P-Item.Denot) (y : g.row.T.Denot). g.F.Fn.post c.args.map_op.now (x, tt) y in
-    let leaf = λ (l : List g.row.P-Item.Denot) (out : Result (List g.row.T.Denot) Infallible). OnlyOk (λ ys. MapOf allowed l ys) out in
+    let leaf = Answered {S = Unit {0}} {E = Infallible} (λ l s ys. MapOf allowed l ys) (λ l e. ⊥) in
     let gives = g.P.Producer.gives in
     let depth = c.depth_of-depth.result in
     let answers = c.fill-answers.result.0 in

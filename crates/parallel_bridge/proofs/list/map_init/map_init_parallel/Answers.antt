@@ -1,22 +1,27 @@
--- Each segment has a fresh state, and the answers of two parts are joined.
-use Rattle.std.proofs.Common.{List, ◌≡◌, ◌++◌}
+-- Each segment has a fresh state, and the answers of two parts are one after another.
+use Rattle.std.proofs.Common.{List, Ok, [], ◌≡◌, ◌++◌, refl, subst, sym}
+use Rattle.std.proofs.lemmas.List.{append-nil}
 use Rattle.std.specs.Borrow.{MutBor}
 use Rattle.std.specs.declared.convert.Infallible.{Infallible}
-use Rattle.parallel_bridge.specs.Shapes.{Shape, cutdepth}
-use Rattle.parallel_bridge.specs.Sources.{GivesSome}
-use Rattle.parallel_bridge.specs.States.{MapStep, StateSegment, StatesAlong}
-use Rattle.parallel_bridge.specs.Tries.{TryAlongCut, OnlyOk}
-use Rattle.parallel_bridge.proofs.Drivers.{driven, states_driven}
+use Rattle.parallel_bridge.specs.Fills.{Answered, OneAfterAnother, written}
+use Rattle.parallel_bridge.specs.Shapes.{Shape}
+use Rattle.parallel_bridge.specs.Sources.{Driven, GivesSome}
+use Rattle.parallel_bridge.specs.States.{MapStep, StatesFrom, StateSegment, StatesAlong}
+use Rattle.parallel_bridge.specs.Tries.{TryAlongCut}
+use Rattle.parallel_bridge.proofs.TryShapes.{along_unfailing}
+use Rattle.parallel_bridge.proofs.Writes.{answers_along}
 use Rattle.parallel_bridge.proofs.list.map_init.map_init_parallel.Goals as goal
 
-pub returns-clause-along : goal.returns-clause-along
-returns-clause-along g c =
+pub returns-in-Ok-clause-along : goal.returns-in-Ok-clause-along
+returns-in-Ok-clause-along g c =
     let init = λ (s : g.row.S.Denot). g.N.Fn.post c.args.init.now tt s in
     let step = MapStep (λ (p : MutBor g.row.S.Denot) (x : g.row.P-Item.Denot) (y : g.row.T.Denot) (q : MutBor g.row.S.Denot). goal.F-post g c.args.map_op.now p x y q) in
-    let k = cutdepth c.args.threads.value in
+    let so_far = λ (l : List g.row.P-Item.Denot) (s : g.row.S.Denot) (ys : List g.row.T.Denot). (more : List g.row.P-Item.Denot) (zs : List g.row.T.Denot) → StatesFrom step s more zs → StateSegment init step (l ++ more) (ys ++ zs) in
+    let leaf = Answered {E = Infallible} so_far (λ l e. ⊥) in
     let gives = g.P.Producer.gives in
-    driven c.bridge.result c.unfailing.result
-    (λ o. GivesSome gives c.args.parts (λ xs. TryAlongCut {E = Infallible} (λ l out. (ys : List g.row.T.Denot) × StateSegment init step l ys × OnlyOk (λ v. v.items ≡ ys) out) (λ a b out. OnlyOk (λ v. v.items ≡ a.items ++ b.items) out) (Shape k xs) o))
-    (λ r. GivesSome gives c.args.parts (λ xs. StatesAlong init step (Shape k xs) r.items))
-    (λ r h. (h.0, h.1, states_driven Infallible (λ v. v.items) (StateSegment init step) (Shape k h.0) r h.2))
-    c.unfailing.ensures.same c.bridge.ensures.along
+    let depth = c.depth_of-depth.result in
+    let answers = c.fill-answers.result.0 in
+    let w : GivesSome gives c.args.parts (λ xs. TryAlongCut leaf OneAfterAnother (Shape depth xs) (Ok answers.items)) =
+    subst (λ d. Driven gives c.args.parts leaf OneAfterAnother depth (written answers d)) c.in-Ok.ensures.same c.fill-answers.ensures.2 in
+    let each = answers_along Infallible so_far (StateSegment init step) (λ l s ys h. subst (λ xs. StateSegment init step xs ys) (append-nil l) (subst (StateSegment init step (l ++ [])) (append-nil ys) (h [] [] refl))) (Shape depth w.0) (Ok answers.items) w.2 in
+    (w.0, w.1, subst (λ k. StatesAlong init step (Shape k w.0) c.into_vec.result.items) c.depth_of-depth.ensures.digits (subst (StatesAlong init step (Shape depth w.0)) (sym c.into_vec.ensures) (along_unfailing Infallible (StateSegment init step) (λ a b c. c ≡ a ++ b) (Shape depth w.0) answers.items each)))

@@ -1,6 +1,6 @@
--- a list is above its two halves, these above their closures, and the closures above the lists that they are given
+-- a task is above its two halves, these above their closures, and the closures above the tasks that they are given
 use Rattle.std.proofs.Common.{◌+◌, ◌*◌}
-use Rattle.parallel_bridge.proofs.bridge.+halves.Given as goal
+use Rattle.parallel_bridge.proofs.drive.+halves.Given as goal
 
 abbrev pub decreases-drive : goal.decreases-drive
 decreases-drive g l = 6 * l.depth

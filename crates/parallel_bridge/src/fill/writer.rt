@@ -1,0 +1,131 @@
+//! What answers the items of a list one by one, and the loops that write the answers.
+ghost use Rattle.std.specs.Prelude.{◌≡◌, ◌++◌, ◌+◌, ◌<◌, ◌∷◌, [], IfErr, IfOk, List, Result, length};
+ghost use Rattle.std.specs.Iterator.{Drains, HoldsAlong, IsFinite};
+ghost use Rattle.std.specs.List.{All, Contains};
+ghost use Rattle.parallel_bridge.specs.Fills.{Answered, IsFull, IsRoom, SamePlaces, StandsFor, kept};
+ghost use Rattle.parallel_bridge.specs.Sources.{GivesSome};
+
+use crate::window::part::Window;
+
+/// Answers the items of a segment one by one, with a state that goes from item to item and is fresh for
+/// each segment.
+pub trait Writer<Item: Drop>: Sized + Drop {
+    /// What an item is answered by.
+    type Answer: Drop;
+
+    /// The error of a closure that may be answered instead.
+    type Error: Drop;
+
+    /// What goes from item to item.
+    type State: Drop;
+
+    /// Whether it may begin.
+    ghost ready: { Self → Type 0 };
+    /// An item that it may take.
+    ghost takes: { Self → Item → Type 0 };
+    /// The items so far, the state behind them, and their answers.
+    ghost so_far: { Self → List Item → Self.State → List Self.Answer → Type 0 };
+    /// The items of a segment, and the error that one of them answers.
+    ghost fails: { Self → List Item → Self.Error → Type 0 };
+
+    /// A fresh state.
+    fn begin(&self) -> Self::State
+        requires { ready self.now }
+        ensures { so_far self.now [] result [] };
+
+    /// The answer for the next item, or its error.
+    fn answer(&self, state: &mut Self::State, item: Item) -> Result<Self::Answer, Self::Error>
+        requires { takes self.now item }
+        ensures next { IfOk result (λ y. (xs : List Item) (ys : List Self.Answer)
+            → so_far self.now xs state.old ys
+            → so_far self.now (xs ++ item ∷ []) state.new (ys ++ y ∷ [])) }
+        ensures ends { IfErr result (λ e. (xs more : List Item) (ys : List Self.Answer)
+            → so_far self.now xs state.old ys → fails self.now (xs ++ item ∷ more) e) };
+}
+
+/// Writes the answers for the items that come, in their order, up to the first item that fails, whose
+/// error it answers. There is a place for each item. Items behind an error are passed over. It takes
+/// no memory.
+pub(crate) fn write_iter<I: Iterator, W: Writer<I::Item>>(
+    writer: &W,
+    iter: I,
+    room: &mut Window<W::Answer>,
+) -> Result<(), W::Error>
+where
+    I::Item: Drop,
+    requires ready { W.ready writer.now }
+    requires can { I.can_next iter }
+    requires ends { IsFinite (I.remaining iter) }
+    requires items { HoldsAlong I.next_gives iter (All (W.takes writer.now)) }
+    requires room { IsRoom room.old }
+    requires enough { (xs : List I.Item) → Drains I.next_gives iter xs → length xs ≡ room.old.room }
+    ensures place { SamePlaces room.old room.new }
+    ensures full { IfOk result (λ _. IsFull room.new) }
+    ensures gives { GivesSome (Drains I.next_gives) iter (λ xs.
+        Answered (W.so_far writer.now) (W.fails writer.now) xs (kept result room.new.items)) }
+{
+    let mut state = writer.begin();
+    let mut done = Ok(());
+    for item in iter {
+        done = write_next(writer, &mut state, done, item, room);
+    }
+    done
+}
+
+// The same for one item behind others.
+fn write_next<X: Drop, W: Writer<X>>(
+    writer: &W,
+    state: &mut W::State,
+    done: Result<(), W::Error>,
+    item: X,
+    room: &mut Window<W::Answer>,
+) -> Result<(), W::Error>
+    requires { W.takes writer.now item }
+    ensures place { SamePlaces room.old room.new × (room.new.before ≡ room.old.before) }
+    ensures more { IfOk result (λ _. room.old.before + length room.old.items < room.old.room
+        → length room.new.items ≡ length room.old.items + 1) }
+    ensures same { IfErr done (λ _. result ≡ done) }
+    ensures stands { (xs : List X)
+        → IfOk done (λ _. room.old.before + length room.old.items < room.old.room)
+        → StandsFor (W.so_far writer.now) (W.fails writer.now) xs state.old room.old.items done
+        → StandsFor (W.so_far writer.now) (W.fails writer.now) (xs ++ item ∷ []) state.new
+        room.new.items result }
+{
+    match done {
+        Ok(()) => (),
+        Err(error) => return Err(error),
+    }
+    match writer.answer(state, item) {
+        Ok(answer) => {
+            room.put_within(answer);
+            Ok(())
+        }
+        Err(error) => Err(error),
+    }
+}
+
+/// Writes the answers for a window's items, each taken from its place, up to the first item that fails,
+/// whose error it answers. There is a place for each answer. It takes no memory.
+pub(crate) fn write_window<X: Drop, W: Writer<X>>(
+    writer: &W,
+    items: &mut Window<X>,
+    room: &mut Window<W::Answer>,
+) -> Result<(), W::Error>
+    requires ready { W.ready writer.now }
+    requires items { (x : X) → Contains items.old.items x → W.takes writer.now x }
+    requires room { IsRoom room.old }
+    requires enough { length items.old.items ≡ room.old.room }
+    ensures place { SamePlaces room.old room.new }
+    ensures full { IfOk result (λ _. IsFull room.new) }
+    ensures gives { Answered (W.so_far writer.now) (W.fails writer.now) items.old.items
+        (kept result room.new.items) }
+    ensures left { SamePlaces items.old items.new }
+{
+    let mut state = writer.begin();
+    while items.len() > 0 {
+        let item = items.take();
+        let answer = writer.answer(&mut state, item)?;
+        room.put(answer);
+    }
+    Ok(())
+}

@@ -1,0 +1,254 @@
+//! Parts of a list that are split, and then handed over item by item. What is left of a part, the memory
+//! of its items for one, comes back, and that of two neighbours is put together again.
+ghost use Rattle.std.specs.Prelude.{◌≡◌, ◌++◌, ◌-◌, ◌+◌, ◌≤◌, ℕ, List, Result, [], IfErr, IfOk, length};
+ghost use Rattle.std.specs.List.{Contains};
+ghost use Rattle.std.specs.Vec.Ownership.{FitsInBlock};
+ghost use Rattle.parallel_fault.specs.Trouble.{IsMemoryOnErr};
+ghost use Rattle.parallel_fault.specs.declared.fault.Fault.TheVariants.{Memory};
+ghost use Rattle.parallel_bridge.specs.Fills.{Answered, IsFull, IsRoom, SamePlaces, kept};
+ghost use Rattle.parallel_bridge.specs.Sources.{GivesSome};
+ghost use Rattle.parallel_bridge.specs.Windows.{Follows};
+
+use crate::fill::writer::{Writer, write_iter, write_window};
+use crate::plumbing::Folder;
+use crate::producer::Producer;
+use crate::window::part::Window;
+use parallel_fault::Fault;
+use std::alloc::Global;
+
+/// A part of a list. Its laws are a [`Producer`]'s, and those of what is left.
+pub trait Segment<Item: Send + Drop>: Send + Sized + Drop {
+    /// What is left of a part whose items were handed over.
+    type Rest: Send + Drop;
+
+    /// Whether the part may be used.
+    ghost sound: { Self → Type 0 };
+    /// Whether it may give a list.
+    ghost gives: { Self → List Item → Type 0 };
+    /// Whether an item may come.
+    ghost may: { Self → Item → Type 0 };
+    /// How many items come.
+    ghost count: { Self → ℕ };
+    /// What may be left of it.
+    ghost leaves: { Self → Self.Rest → Type 0 };
+    /// What may be left of its two halves.
+    ghost meets: { Self → Self.Rest → Self.Rest → Type 0 };
+
+    /// The number of items.
+    fn len(&self) -> usize
+        ensures counted { result ≡ count self.now }
+        ensures each { (xs : List Item) → gives self.now xs → length xs ≡ result };
+
+    /// The part of the first `index` items, and that of the rest.
+    ///
+    /// # Errors
+    ///
+    /// `Fault::Memory` alone, and what is left; the items are then gone.
+    fn split_at(self, alloc: Global, index: usize) -> Result<(Self, Self), (Self::Rest, Fault)>
+        requires sound { sound self }
+        requires within { index ≤ count self }
+        ensures sound { IfOk result (λ p. sound p.0 × sound p.1) }
+        ensures joined { IfOk result (λ p. (xs ys : List Item) → gives p.0 xs
+            → gives p.1 ys → gives self (xs ++ ys)) }
+        ensures front { IfOk result (λ p. (xs : List Item) → gives p.0 xs → length xs ≡ index) }
+        ensures some { IfOk result (λ p. (ys : List Item) × gives p.1 ys) }
+        ensures counts { IfOk result (λ p. (count p.0 ≡ index) × (count p.1 ≡ count self - index)) }
+        ensures may_front { IfOk result (λ p. (x : Item) → may p.0 x → may self x) }
+        ensures may_back { IfOk result (λ p. (x : Item) → may p.1 x → may self x) }
+        ensures rests { IfOk result (λ p. (a b : Self.Rest) → leaves p.0 a → leaves p.1 b
+            → meets self a b) }
+        ensures refused { IfErr result (λ e. leaves self e.0 × (e.1 ≡ Memory)) };
+
+    /// What is left of two halves, as what is left of the whole.
+    fn join(left: Self::Rest, right: Self::Rest) -> Self::Rest
+        requires { (whole : Self) × meets whole left right }
+        ensures { (whole : Self) → meets whole left right → leaves whole result };
+
+    /// Drops the items.
+    fn leave(self) -> Self::Rest
+        requires { sound self }
+        ensures { leaves self result };
+
+    /// Hands the items to a folder, in order, and drops those that it doesn't take.
+    fn feed<R: Drop, E: Drop, F: Folder<Item, R, E>>(
+        self,
+        alloc: Global,
+        folder: F,
+    ) -> (Result<F, Fault>, Self::Rest)
+        requires sound { sound self }
+        requires ready { F.ready folder }
+        requires items { (x : Item) → may self x → F.takes folder x }
+        ensures ready { IfOk result.0 (λ f. F.ready f) }
+        ensures gives { IfOk result.0 (λ f. GivesSome gives self (λ xs.
+            (more : List Item) (out : Result R E) → F.gives f more out
+            → F.gives folder (xs ++ more) out)) }
+        ensures fault { IsMemoryOnErr result.0 }
+        ensures rest { leaves self result.1 };
+
+    /// Writes the answers for the items into the room for them, in order, up to the first item that
+    /// fails, and drops the items behind it.
+    fn write<W: Writer<Item>>(
+        self,
+        writer: &W,
+        room: &mut Window<W::Answer>,
+    ) -> (Result<(), W::Error>, Self::Rest)
+        requires sound { sound self }
+        requires ready { W.ready writer.now }
+        requires items { (x : Item) → may self x → W.takes writer.now x }
+        requires room { IsRoom room.old }
+        requires enough { room.old.room ≡ count self }
+        ensures place { SamePlaces room.old room.new }
+        ensures full { IfOk result.0 (λ _. IsFull room.new) }
+        ensures gives { GivesSome gives self (λ xs.
+            Answered (W.so_far writer.now) (W.fails writer.now) xs (kept result.0 room.new.items)) }
+        ensures rest { leaves self result.1 };
+}
+
+/// What a producer gives. Nothing is left of it.
+#[derive(Drop)]
+pub struct ProducerSegment<P> {
+    /// The producer.
+    pub parts: P,
+}
+
+impl<P: Producer> Segment<P::Item> for ProducerSegment<P> {
+    type Rest = ();
+
+    ghost sound = { λ s. Unit {0} };
+
+    ghost gives = { λ s xs. P.gives s.parts xs };
+
+    ghost may = { λ s x. P.may s.parts x };
+
+    ghost count = { λ s. P.count s.parts };
+
+    ghost leaves = { λ s rest. Unit {0} };
+
+    ghost meets = { λ s a b. Unit {0} };
+
+    fn len(&self) -> usize {
+        self.parts.len()
+    }
+
+    fn split_at(self, alloc: Global, index: usize) -> Result<(Self, Self), ((), Fault)> {
+        match self.parts.split_at(alloc, index) {
+            Ok((front, back)) => Ok((
+                ProducerSegment { parts: front },
+                ProducerSegment { parts: back },
+            )),
+            Err(fault) => Err(((), fault)),
+        }
+    }
+
+    fn join(_left: (), _right: ()) {}
+
+    fn leave(self) {}
+
+    fn feed<R: Drop, E: Drop, F: Folder<P::Item, R, E>>(
+        self,
+        alloc: Global,
+        folder: F,
+    ) -> (Result<F, Fault>, ()) {
+        (folder.consume_iter(alloc, self.parts.into_items()), ())
+    }
+
+    fn write<W: Writer<P::Item>>(
+        self,
+        writer: &W,
+        room: &mut Window<W::Answer>,
+    ) -> (Result<(), W::Error>, ()) {
+        let _len = self.parts.len();
+        (write_iter(writer, self.parts.into_items(), room), ())
+    }
+}
+
+/// Owned items, where they lie. Their places are left.
+#[derive(Drop)]
+pub struct WindowSegment<T: Drop> {
+    /// The items, one in each place.
+    pub window: Window<T>,
+}
+
+impl<T: Send + Drop> Segment<T> for WindowSegment<T> {
+    type Rest = Window<T>;
+
+    ghost sound = { λ s. IsFull s.window × FitsInBlock T.row s.window.room };
+
+    ghost gives = { λ s xs. xs ≡ s.window.items };
+
+    ghost may = { λ s x. Contains s.window.items x };
+
+    ghost count = { λ s. length s.window.items };
+
+    ghost leaves = { λ s rest. SamePlaces s.window rest × (rest.items ≡ []) };
+
+    ghost meets = { λ s a b. (a.start ≡ s.window.start) × Follows T.row a b
+        × (a.room + b.room ≡ s.window.room) × (a.items ≡ []) × (b.items ≡ [])
+        × FitsInBlock T.row s.window.room };
+
+    fn len(&self) -> usize {
+        self.window.len()
+    }
+
+    fn split_at(self, _alloc: Global, index: usize) -> Result<(Self, Self), (Window<T>, Fault)> {
+        let (front, back) = self.window.split(index);
+        Ok((
+            WindowSegment { window: front },
+            WindowSegment { window: back },
+        ))
+    }
+
+    fn join(left: Window<T>, right: Window<T>) -> Window<T> {
+        left.join(right)
+    }
+
+    fn leave(self) -> Window<T> {
+        let mut window = self.window;
+        window.clear();
+        window
+    }
+
+    fn feed<R: Drop, E: Drop, F: Folder<T, R, E>>(
+        self,
+        alloc: Global,
+        folder: F,
+    ) -> (Result<F, Fault>, Window<T>) {
+        let mut window = self.window;
+        let fed = feed_window(alloc, &mut window, folder);
+        window.clear();
+        (fed, window)
+    }
+
+    fn write<W: Writer<T>>(
+        self,
+        writer: &W,
+        room: &mut Window<W::Answer>,
+    ) -> (Result<(), W::Error>, Window<T>) {
+        let mut window = self.window;
+        let written = write_window(writer, &mut window, room);
+        window.clear();
+        (written, window)
+    }
+}
+
+// Hands a window's items to a folder, in order, each taken from its place, up to a refusal.
+fn feed_window<T: Drop, R: Drop, E: Drop, F: Folder<T, R, E>>(
+    alloc: Global,
+    window: &mut Window<T>,
+    folder: F,
+) -> Result<F, Fault>
+    requires ready { F.ready folder }
+    requires items { (x : T) → Contains window.old.items x → F.takes folder x }
+    ensures ready { IfOk result (λ f. F.ready f) }
+    ensures gives { IfOk result (λ f. (more : List T) (out : Result R E) → F.gives f more out
+        → F.gives folder (window.old.items ++ more) out) }
+    ensures fault { IsMemoryOnErr result }
+    ensures place { SamePlaces window.old window.new }
+{
+    let mut folder = folder;
+    while window.len() > 0 {
+        let item = window.take();
+        folder = folder.consume(alloc, item)?;
+    }
+    Ok(folder)
+}
