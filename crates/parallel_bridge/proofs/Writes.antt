@@ -1,10 +1,6 @@
 -- Answers that are written one after another into a window.
-use Rattle.std.proofs.Common.{◌≡◌, ℕ, zero, suc, ◌+◌, ◌<◌, ◌≤◌, ◌^◌, List, [], ◌∷◌, ◌++◌, Result, Ok, Err, IfErr, IfOk, length, sym, subst, arith, ◌⊎◌, inl, inr}
+use Rattle.std.proofs.Common.{◌≡◌, ℕ, zero, suc, ◌+◌, ◌<◌, ◌≤◌, List, [], ◌∷◌, ◌++◌, Result, Ok, Err, IfErr, IfOk, length, sym, subst, arith, ◌⊎◌, inl, inr}
 use Rattle.std.proofs.lemmas.List.{append-nil, length-append}
-use Rattle.std.specs.Mem.{type_size}
-use Rattle.std.specs.Vec.Ownership.{FitsInBlock}
-use denote.RattleType.{RattleType}
-use Rattle.core.proofs.ptr.Rows.{times_below}
 use Rattle.parallel_bridge.specs.Fills.{Answered, OneAfterAnother, StandsFor, kept}
 use Rattle.parallel_bridge.specs.Lists.{MapOf}
 use Rattle.parallel_bridge.specs.Shapes.{Cut, segment, halves, cut_items, Shape}
@@ -67,7 +63,3 @@ module _ {X Y : Type 0} (allowed : X → Y → Type 0) where
   pub filled_shape : (E : Type 0) (k : ℕ) (xs : List X) (ys : List Y) → TryAlongCut {E = E} (Answered {S = Unit {0}} (λ l s zs. MapOf allowed l zs) (λ l e. ⊥)) OneAfterAnother (Shape k xs) (Ok ys) → MapOf allowed xs ys
   filled_shape E k xs ys h = subst (λ l. MapOf allowed l ys) (Shape-items k xs)
       (filled_along E (Shape k xs) ys (answers_along E (λ l s zs. MapOf allowed l zs) (MapOf allowed) (λ l s zs each. each) (Shape k xs) (Ok ys) h))
-
--- fewer values fit too
-pub fits_less : (R : RattleType) (m n : ℕ) → m ≤ n → FitsInBlock R n → FitsInBlock R m
-fits_less R m n le fits = (times_below m n (type_size R) (2 ^ 63) le fits.0, let small = fits.1 in omega arith)
