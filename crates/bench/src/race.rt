@@ -2,7 +2,7 @@
 use crate::decimal::Decimal;
 use crate::request::Trial;
 use crate::times::Times;
-use crate::ways::{Answer, Strategies, Way, by_way};
+use crate::ways::{Answer, Input, Strategies, Way, by_way};
 use crate::work::items_of;
 use anyhow::{Context, Result, ensure};
 use commonware_parallel::{Clock, MonotonicClock, Rayon};
@@ -163,15 +163,8 @@ fn warm_up<Rt: Threads + Wait + Sync, C: Clock>(
         if clock.now().saturating_sub(start) > WARM_UP_TIME {
             return Ok(());
         }
-        let _ = by_way(
-            rt,
-            alloc,
-            strategies,
-            Way::Policy,
-            trial.form,
-            trial.case,
-            items,
-        )?;
+        let input = Input::of(alloc, trial.form, items)?;
+        let _ = by_way(rt, alloc, strategies, Way::Policy, trial.case, input)?;
     }
     Ok(())
 }
@@ -180,7 +173,8 @@ fn warm_up<Rt: Threads + Wait + Sync, C: Clock>(
 ///
 /// Each call is made once before the clock is read, so that it meets the caches and the allocator as
 /// it leaves them itself, and not as another way left them. Where the memory is to be fresh the
-/// answers of both calls are kept, so that no later call gets their memory.
+/// answers of both calls are kept, so that no later call gets their memory. A list that a call takes is
+/// made before the clock is read.
 ///
 /// # Errors
 ///
@@ -197,16 +191,17 @@ fn run_round<Rt: Threads + Wait + Sync, C: Clock>(
 ) -> Result<Lap> {
     let mut lap = Lap::default();
     let mut checksums = Lap::default();
-    let work = |way: Way| by_way(rt, alloc, strategies, way, trial.form, trial.case, items);
+    let work = |way: Way, input: Input<'_>| by_way(rt, alloc, strategies, way, trial.case, input);
     for way in order {
-        let before = work(way)?;
+        let before = work(way, Input::of(alloc, trial.form, items)?)?;
         if trial.is_fresh {
             kept.push(before)?;
         } else {
             drop(before);
         }
+        let input = Input::of(alloc, trial.form, items)?;
         let start = clock.now();
-        let answer = work(way);
+        let answer = work(way, input);
         let end = clock.now();
         let answer = answer?;
         lap.set(way, end.saturating_sub(start));

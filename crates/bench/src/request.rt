@@ -69,8 +69,9 @@ pub enum Request {
 
 /// What the words after the program's name ask for: nothing for the names, `soak PLANS SEED` for random
 /// plans, `pools JOBS POOLS` for pools, and `policy LEN THREADS`, `jobs JOBS WORKERS` or
-/// `CASE LEN THREADS` for a trial of one thread at least, a case's with `iter`, with `fresh` or with both
-/// behind it, in that order; a case of tiles has no `iter`. Any other words ask for nothing.
+/// `CASE LEN THREADS` for a trial of one thread at least, a case's with `iter` or `vec`, with `fresh` or
+/// with both behind it, in that order; a case of tiles has neither `iter` nor `vec`. Any other words ask
+/// for nothing.
 pub fn parse_request(words: &[String]) -> Option<Request> {
     let [case, len, threads, options @ ..] = words else {
         return words.is_empty().then_some(Request::Names);
@@ -100,7 +101,7 @@ pub fn parse_request(words: &[String]) -> Option<Request> {
     }
     let case = Case::named(case.as_str())?;
     let (form, is_fresh) = parse_options(options)?;
-    if case.is_tiles() && form == Form::Iterator {
+    if case.is_tiles() && form != Form::Slice {
         return None;
     }
     Some(Request::Time(Trial {
@@ -116,11 +117,17 @@ pub fn parse_request(words: &[String]) -> Option<Request> {
 fn parse_options(words: &[String]) -> Option<(Form, bool)> {
     match words {
         [] => Some((Form::Slice, false)),
-        [word] if word.as_str() == "iter" => Some((Form::Iterator, false)),
         [word] if word.as_str() == "fresh" => Some((Form::Slice, true)),
-        [form, fresh] if form.as_str() == "iter" && fresh.as_str() == "fresh" => {
-            Some((Form::Iterator, true))
-        }
+        [form] => Some((form_named(form.as_str())?, false)),
+        [form, fresh] if fresh.as_str() == "fresh" => Some((form_named(form.as_str())?, true)),
+        _ => None,
+    }
+}
+
+fn form_named(name: &str) -> Option<Form> {
+    match name {
+        "iter" => Some(Form::Iterator),
+        "vec" => Some(Form::Owned),
         _ => None,
     }
 }

@@ -27,6 +27,38 @@ pub enum Form {
     Slice,
     /// An iterator over it, which is no list.
     Iterator,
+    /// A list of its own, which the call takes.
+    Owned,
+}
+
+/// The items that a way is given.
+#[derive(Debug, Drop)]
+pub enum Input<'a> {
+    /// A slice, each item copied as it comes.
+    Slice(&'a [u64]),
+    /// A slice that is gone over by an iterator.
+    Iterator(&'a [u64]),
+    /// A list to take.
+    Owned(Vec<u64>),
+}
+
+impl<'a> Input<'a> {
+    /// The items in a form: copied where the call takes its list.
+    pub fn of(alloc: Global, form: Form, items: &'a [u64]) -> Result<Self, Fault> {
+        match form {
+            Form::Slice => Ok(Input::Slice(items)),
+            Form::Iterator => Ok(Input::Iterator(items)),
+            Form::Owned => Ok(Input::Owned(items.iter().copied().collect(alloc)?)),
+        }
+    }
+
+    fn as_slice(&self) -> &[u64] {
+        match self {
+            Input::Slice(items) => items,
+            Input::Iterator(items) => items,
+            Input::Owned(items) => items.as_slice(),
+        }
+    }
 }
 
 /// The strategies over a pool.
@@ -76,15 +108,14 @@ pub fn by_way<Rt: Threads + Wait + Sync, C: Clock>(
     alloc: Global,
     strategies: &Strategies<'_, C>,
     way: Way,
-    form: Form,
     case: Case,
-    items: &[u64],
+    input: Input<'_>,
 ) -> Result<Answer, Fault> {
     match way {
-        Way::Loop => by_loop(alloc, case, items),
-        Way::Sequential => by_strategy(rt, alloc, &Sequential, form, case, items),
-        Way::Rayon => by_strategy(rt, alloc, strategies.parallel, form, case, items),
-        Way::Policy => by_strategy(rt, alloc, strategies.learning, form, case, items),
+        Way::Loop => by_loop(alloc, case, input.as_slice()),
+        Way::Sequential => by_strategy(rt, alloc, &Sequential, case, input),
+        Way::Rayon => by_strategy(rt, alloc, strategies.parallel, case, input),
+        Way::Policy => by_strategy(rt, alloc, strategies.learning, case, input),
     }
 }
 
@@ -120,13 +151,13 @@ fn by_strategy<Rt: Threads + Wait + Sync, S: Strategy>(
     rt: &Rt,
     alloc: Global,
     strategy: &S,
-    form: Form,
     case: Case,
-    items: &[u64],
+    input: Input<'_>,
 ) -> Result<Answer, Fault> {
     match case {
-        Case::Items(case) => items_by_strategy(rt, alloc, strategy, form, case, items),
+        Case::Items(case) => items_by_strategy(rt, alloc, strategy, case, input),
         Case::Tiles(case) => {
+            let items = input.as_slice();
             let tiling = Tiling::of(case, items.len());
             let total = tiles::sum_of_tiles(rt, alloc, strategy, tiling, items)?;
             Ok(Answer::Number(total))
@@ -139,13 +170,13 @@ fn items_by_strategy<Rt: Threads + Wait + Sync, S: Strategy>(
     rt: &Rt,
     alloc: Global,
     strategy: &S,
-    form: Form,
     case: ItemCase,
-    items: &[u64],
+    input: Input<'_>,
 ) -> Result<Answer, Fault> {
-    match form {
-        Form::Slice => by_source(rt, alloc, strategy, case, Copies { slice: items }),
-        Form::Iterator => by_source(rt, alloc, strategy, case, items.iter().copied()),
+    match input {
+        Input::Slice(items) => by_source(rt, alloc, strategy, case, Copies { slice: items }),
+        Input::Iterator(items) => by_source(rt, alloc, strategy, case, items.iter().copied()),
+        Input::Owned(items) => by_source(rt, alloc, strategy, case, items),
     }
 }
 

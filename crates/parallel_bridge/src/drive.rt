@@ -64,7 +64,7 @@ pub trait Task: Send + Sized + Drop {
 /// What a task comes to that is halved at most `depth` times over, with that many threads to share, of
 /// which the caller's is one.
 #[cycle(halves)]
-pub(crate) fn drive<Rt: Threads + Sync, T: Task>(
+pub fn drive<Rt: Threads + Sync, T: Task>(
     rt: &Rt,
     alloc: Global,
     depth: usize,

@@ -26,7 +26,7 @@ pub mod writer;
 /// Writes the answers for the items of a list into the room for them, where the segments of the list's
 /// shape, halved at most `depth` times over, are answered side by side. Where several segments fail,
 /// the leftmost one's error is answered; a refusal of memory may stand in its place.
-pub(crate) fn fill<Rt: Threads + Sync, P: Producer, W: Writer<P::Item> + Sync>(
+pub fn fill<Rt: Threads + Sync, P: Producer, W: Writer<P::Item> + Sync>(
     rt: &Rt,
     alloc: Global,
     depth: usize,
@@ -105,11 +105,7 @@ where
     W::Error: Send,
     W::State: Send,
 {
-    type Done = (
-        Window<W::Answer>,
-        Result<(), Trouble<W::Error>>,
-        S::Rest,
-    );
+    type Done = (Window<W::Answer>, Result<(), Trouble<W::Error>>, S::Rest);
 
     type Seam = ();
 
@@ -140,14 +136,7 @@ where
     fn split(
         self,
         alloc: Global,
-    ) -> Result<
-        (Self, Self, ()),
-        (
-            Window<W::Answer>,
-            Result<(), Trouble<W::Error>>,
-            S::Rest,
-        ),
-    > {
+    ) -> Result<(Self, Self, ()), (Window<W::Answer>, Result<(), Trouble<W::Error>>, S::Rest)> {
         let len = self.parts.len();
         let Filling {
             parts,
@@ -175,14 +164,7 @@ where
         Ok((first, second, ()))
     }
 
-    fn run(
-        self,
-        _alloc: Global,
-    ) -> (
-        Window<W::Answer>,
-        Result<(), Trouble<W::Error>>,
-        S::Rest,
-    ) {
+    fn run(self, _alloc: Global) -> (Window<W::Answer>, Result<(), Trouble<W::Error>>, S::Rest) {
         let Filling {
             parts,
             writer,
@@ -199,21 +181,9 @@ where
 
     fn join(
         _seam: (),
-        left: (
-            Window<W::Answer>,
-            Result<(), Trouble<W::Error>>,
-            S::Rest,
-        ),
-        right: (
-            Window<W::Answer>,
-            Result<(), Trouble<W::Error>>,
-            S::Rest,
-        ),
-    ) -> (
-        Window<W::Answer>,
-        Result<(), Trouble<W::Error>>,
-        S::Rest,
-    ) {
+        left: (Window<W::Answer>, Result<(), Trouble<W::Error>>, S::Rest),
+        right: (Window<W::Answer>, Result<(), Trouble<W::Error>>, S::Rest),
+    ) -> (Window<W::Answer>, Result<(), Trouble<W::Error>>, S::Rest) {
         let (room, done) = put_together((left.0, left.1), (right.0, right.1));
         (room, done, S::join(left.2, right.2))
     }

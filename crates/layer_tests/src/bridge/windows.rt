@@ -1,8 +1,11 @@
-// Answers that are written where they stay: each item and each answer is dropped once, or handed out.
+// Owned items that are taken from where they lie, and answers that are written where they stay: each is
+// dropped once, or handed out.
 use crate::bridge::number;
 use parallel_bridge::list::map::map_parallel;
+use parallel_bridge::list::map_init::map_init_parallel;
+use parallel_bridge::list::try_fold::try_fold_parallel;
 use parallel_bridge::list::try_map::try_map_parallel;
-use parallel_bridge::producer::{DrainProducer, Indices};
+use parallel_bridge::producer::{Copies, DrainProducer, Indices, Producer};
 use parallel_fault::Trouble;
 use std::alloc::Global;
 use std::process::Abort;
@@ -37,17 +40,33 @@ impl Drop for Counted<'_> {
     }
 }
 
-// Maps that many counted items on that many threads. Memory may be refused.
-fn map_counted<R: Threads + Sync + Abort>(rt: &R, alloc: Global, threads: usize, len: usize) {
-    let counts = Counts {
-        made: AtomicU64::new(0),
-        gone: AtomicU64::new(0),
-    };
+// As many counted items as memory is given for, of those that are asked for.
+fn counted_items<'a>(alloc: Global, counts: &'a Counts, len: usize) -> Vec<Counted<'a>> {
     let mut items = Vec::new(alloc);
     for _place in 0..len {
         let place = items.len();
-        let _refused = items.push(Counted::new(&counts, place));
+        let _refused = items.push(Counted::new(counts, place));
     }
+    items
+}
+
+fn no_counts() -> Counts {
+    Counts {
+        made: AtomicU64::new(0),
+        gone: AtomicU64::new(0),
+    }
+}
+
+// Whether all but so many of those that were made were let go.
+fn all_gone_but(counts: &Counts, left: usize) -> bool {
+    let gone = counts.gone.load(Ordering::SeqCst);
+    gone.wrapping_add(left as u64) == counts.made.load(Ordering::SeqCst)
+}
+
+// Maps that many counted items on that many threads. Memory may be refused.
+fn map_counted<R: Threads + Sync + Abort>(rt: &R, alloc: Global, threads: usize, len: usize) {
+    let counts = no_counts();
+    let items = counted_items(alloc, &counts, len);
     let count = items.len();
     let answer = |item: Counted<'_>| Counted::new(&counts, item.place);
     let parts = DrainProducer::from_vec(items);
@@ -56,18 +75,65 @@ fn map_counted<R: Threads + Sync + Abort>(rt: &R, alloc: Global, threads: usize,
         for place in 0..count {
             assert_eq!(rt; answers.get(place).map(|answer| answer.place), Some(place));
         }
-        assert_eq!(rt;
-            counts
-                .gone
-                .load(Ordering::SeqCst)
-                .wrapping_add(count as u64),
-            counts.made.load(Ordering::SeqCst)
-        );
+        assert!(rt; all_gone_but(&counts, count));
     }
-    assert_eq!(rt;
-        counts.gone.load(Ordering::SeqCst),
-        counts.made.load(Ordering::SeqCst)
-    );
+    assert!(rt; all_gone_but(&counts, 0));
+}
+
+// The same with a state for each segment, which is counted too.
+fn map_with_counted_states<R: Threads + Sync + Abort>(
+    rt: &R,
+    alloc: Global,
+    threads: usize,
+    len: usize,
+) {
+    let counts = no_counts();
+    let items = counted_items(alloc, &counts, len);
+    let count = items.len();
+    let init = || Counted::new(&counts, 0);
+    let answer = |state: &mut Counted<'_>, item: Counted<'_>| {
+        state.place = state.place.wrapping_add(1);
+        Counted::new(&counts, item.place)
+    };
+    let parts = DrainProducer::from_vec(items);
+    if let Ok(answers) = map_init_parallel(rt, alloc, number(rt, threads), parts, &init, &answer) {
+        assert_eq!(rt; answers.len(), count);
+        for place in 0..count {
+            assert_eq!(rt; answers.get(place).map(|answer| answer.place), Some(place));
+        }
+        assert!(rt; all_gone_but(&counts, count));
+    }
+    assert!(rt; all_gone_but(&counts, 0));
+}
+
+// Adds the places of that many counted items up on that many threads, of which the one at `end` fails.
+fn fold_counted<R: Threads + Sync + Abort>(
+    rt: &R,
+    alloc: Global,
+    threads: usize,
+    len: usize,
+    end: usize,
+) {
+    let counts = no_counts();
+    let items = counted_items(alloc, &counts, len);
+    let count = items.len();
+    let step = |sum: usize, item: Counted<'_>| if item.place < end {
+        Ok(sum.wrapping_add(item.place))
+    } else {
+        Err(item.place)
+    };
+    let add = |left: usize, right: usize| left.wrapping_add(right);
+    let parts = DrainProducer::from_vec(items);
+    match try_fold_parallel(rt, alloc, number(rt, threads), parts, &|| 0, &step, &add) {
+        Ok(sum) => {
+            assert!(rt; count <= end);
+            let twice = count.wrapping_mul(count).wrapping_sub(count);
+            assert_eq!(rt; sum.wrapping_mul(2), twice);
+        }
+        Err(Trouble::Closure(place)) => assert_eq!(rt; place, end),
+        Err(Trouble::Fault(_fault)) => (),
+    }
+    assert!(rt; all_gone_but(&counts, 0));
 }
 
 #[test]
@@ -76,6 +142,53 @@ fn each_item_and_each_answer_is_dropped_once(rt: HostRuntime) -> Result<(), Fail
         for len in [0usize, 1, 2, 1000] {
             map_counted(&rt, rt.alloc(), threads, len);
         }
+    }
+    Ok(())
+}
+
+#[test]
+fn each_item_answer_and_state_is_dropped_once(rt: HostRuntime) -> Result<(), Fail> {
+    for threads in 1..9usize {
+        for len in [0usize, 1, 2, 1000] {
+            map_with_counted_states(&rt, rt.alloc(), threads, len);
+        }
+    }
+    Ok(())
+}
+
+#[test]
+fn each_folded_item_is_dropped_once_before_and_behind_one_that_fails(
+    rt: HostRuntime,
+) -> Result<(), Fail> {
+    for threads in 1..9usize {
+        for len in [0usize, 1, 2, 1000] {
+            fold_counted(&rt, rt.alloc(), threads, len, 1000);
+            fold_counted(&rt, rt.alloc(), threads, len, 0);
+            fold_counted(&rt, rt.alloc(), threads, len, 500);
+        }
+    }
+    Ok(())
+}
+
+#[test]
+fn an_owned_list_is_handed_over_and_no_other(rt: HostRuntime) -> Result<(), Fail> {
+    let alloc = rt.alloc();
+    let owned = DrainProducer::from_vec(vec![in alloc; 1u8, 2, 3]?);
+    match owned.into_vec() {
+        Ok(items) => assert_eq!(rt; items.as_slice(), [1, 2, 3].as_slice()),
+        Err(_list) => assert!(rt; false),
+    }
+    match (Indices { start: 2, end: 5 }).into_vec() {
+        Ok(_items) => assert!(rt; false),
+        Err(list) => assert_eq!(rt; list, Indices { start: 2, end: 5 }),
+    }
+    match (Copies {
+        slice: [7u8, 8].as_slice(),
+    })
+    .into_vec()
+    {
+        Ok(_items) => assert!(rt; false),
+        Err(list) => assert_eq!(rt; list.slice, [7u8, 8].as_slice()),
     }
     Ok(())
 }

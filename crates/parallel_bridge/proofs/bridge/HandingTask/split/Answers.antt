@@ -16,11 +16,13 @@ returns-clause-node g c depth a b all above left right together =
     let back = c.in-Ok-split_at.halves.1 in
     let halves = c.in-Ok.ensures in
     let l = c.in-Ok.consumers.0 in
-    let r = c.in-Ok.consumers.1 in
-    (driven_node S.gives self.parts front back
-      (C.leaf_gives self.consumer) (C.leaf_gives l) (C.leaf_gives r)
-      (C.node_gives self.consumer) (C.node_gives l) (C.node_gives r) (g.C.Reducer.Reducer.reduce_gives c.in-Ok.consumers.2)
-      (c.len-len.result / 2) c.len-len.result depth above (omega (arith, c.requires.long, c.len-len.ensures.counted)) refl
-      c.len-len.ensures.each parts.joined parts.front parts.some
-      halves.left_leaf halves.right_leaf halves.left_node halves.right_node halves.node
-      a.0 b.0 all.0 left.0 right.0 together.0, together.1 self.parts (parts.rests a.1 b.1 left.1 right.1))
+    let r = c.in-Ok.consumers.1 in (
+      driven_node S.gives self.parts front back
+          (C.leaf_gives self.consumer) (C.leaf_gives l) (C.leaf_gives r)
+          (C.node_gives self.consumer) (C.node_gives l) (C.node_gives r) (g.C.Reducer.Reducer.reduce_gives c.in-Ok.consumers.2)
+          (c.len-len.result / 2) c.len-len.result depth above (omega (arith, c.requires.long, c.len-len.ensures.counted)) refl
+          c.len-len.ensures.each parts.joined parts.front parts.some
+          halves.left_leaf halves.right_leaf halves.left_node halves.right_node halves.node
+          a.0 b.0 all.0 left.0 right.0 together.0,
+      together.1 self.parts (parts.rests a.1 b.1 left.1 right.1),
+    )

@@ -36,9 +36,15 @@ returns-clause-node g c depth a b all above left right together =
     let long : self.room.room ≡ S.count self.parts = search rules in
     let counted = c.len-len.ensures.counted in
     let whole : a.0.room + b.0.room ≡ self.room.room = omega (arith, front, back, long, counted) in
-    let leaf = Answered (g.W.Writer.so_far self.writer.now) (g.W.Writer.fails self.writer.now) in
-    (((together.0 ∙ start, together.1 ∙ whole), together.2, driven_node S.gives self.parts c.in-Ok.halves.0 c.in-Ok.halves.1 leaf leaf leaf OneAfterAnother OneAfterAnother OneAfterAnother OneAfterAnother
-      half c.len-len.result depth above (omega (arith, c.requires.long, counted)) refl
-      c.len-len.ensures.each parts.joined parts.front parts.some
-      (λ xs out h. h) (λ xs out h. h) (λ a b out h. h) (λ a b out h. h) (λ a b out h. h)
-      (written a.0 a.1) (written b.0 b.1) (written all.0 all.1) left.0.2 right.0.2 together.3), together.4 self.parts (parts.rests a.2 b.2 left.1 right.1))
+    let leaf = Answered (g.W.Writer.so_far self.writer.now) (g.W.Writer.fails self.writer.now) in (
+      (
+        (together.0 ∙ start, together.1 ∙ whole),
+        together.2,
+        driven_node S.gives self.parts c.in-Ok.halves.0 c.in-Ok.halves.1 leaf leaf leaf OneAfterAnother OneAfterAnother OneAfterAnother OneAfterAnother
+            half c.len-len.result depth above (omega (arith, c.requires.long, counted)) refl
+            c.len-len.ensures.each parts.joined parts.front parts.some
+            (λ xs out h. h) (λ xs out h. h) (λ a b out h. h) (λ a b out h. h) (λ a b out h. h)
+            (written a.0 a.1) (written b.0 b.1) (written all.0 all.1) left.0.2 right.0.2 together.3,
+      ),
+      together.4 self.parts (parts.rests a.2 b.2 left.1 right.1),
+    )
