@@ -204,6 +204,7 @@ pub fn planned_pool<Rt: Threads, C: Clock>(
     ensures threads { IfOk result (λ strategy. threads_of strategy ≡ min (non_zero_usize_get num_threads) MAX_THREADS) }
     ensures planning { IfOk result (λ strategy. planning_of strategy ≡ non_zero_usize_get parallelism) }
     ensures no_policy { IfOk result (λ strategy. chooses_of strategy ≡ false) }
+    ensures refused { IfErr result (λ error. error ≡ ThreadPoolBuildError.Memory) }
 {
     let learning = Rayon::new(rt, alloc, num_threads, clock)?.with_parallelism(parallelism);
     let strategy = learning

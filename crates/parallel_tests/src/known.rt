@@ -2,6 +2,7 @@
 // would leave its contract here unproved.
 ghost use Rattle.std.specs.Prelude.{◌≡◌, ℕ, ◌<◌, false, true, [], ◌∷◌, Result, Ok, Err, IfOk};
 ghost use Rattle.std.specs.Int.NonZero.{non_zero_usize_get};
+ghost use Rattle.parallel_fault.specs.Trouble.{IsMemoryOnErr};
 ghost use Rattle.parallel_bridge.specs.Outcomes.{UnlessRefused, listed};
 ghost use Rattle.commonware_parallel.specs.Batches.{ranges_of};
 ghost use Rattle.commonware_parallel.specs.Rayon.{planning_of, threads_of, chooses_of};
@@ -26,6 +27,7 @@ pub fn from_ten_in_one<Rt: Threads + Wait + Sync, P: Place>(
 ) -> Result<u32, Fault>
     ensures three { numbers.now ≡ 1 ∷ 2 ∷ 3 ∷ [] → IfOk result (λ sum. sum ≡ 16) }
     ensures none { numbers.now ≡ [] → IfOk result (λ sum. sum ≡ 10) }
+    ensures fault { IsMemoryOnErr result }
 {
     Strategy::fold(
         &Sequential,
@@ -53,6 +55,7 @@ pub fn from_ten_on_two_threads<Rt: Threads + Wait + Sync, C: Clock, P: Place>(
     requires two { threads_of strategy.now ≡ 2 }
     ensures three { numbers.now ≡ 1 ∷ 2 ∷ 3 ∷ [] → IfOk result (λ sum. sum ≡ 66) }
     ensures none { numbers.now ≡ [] → IfOk result (λ sum. sum ≡ 20) }
+    ensures fault { IsMemoryOnErr result }
 {
     strategy.fold(
         rt,
@@ -71,7 +74,8 @@ pub fn places_in_one<Rt: Threads + Wait + Sync, P: Place>(
     alloc: Global,
     site: P,
 ) -> Result<Vec<u32>, Fault>
-    ensures { IfOk result (λ places. places.items ≡ 1 ∷ 2 ∷ 3 ∷ []) }
+    ensures places { IfOk result (λ places. places.items ≡ 1 ∷ 2 ∷ 3 ∷ []) }
+    ensures fault { IsMemoryOnErr result }
 {
     let items = Indices { start: 0, end: 3 };
     let count = |place: &mut u32, _item: usize| {
@@ -91,7 +95,8 @@ pub fn places_on_two_threads<Rt: Threads + Wait + Sync, C: Clock, P: Place>(
     requires no_policy { chooses_of strategy.now ≡ false }
     requires planned { 1 < planning_of strategy.now }
     requires two { threads_of strategy.now ≡ 2 }
-    ensures { IfOk result (λ places. places.items ≡ 1 ∷ 1 ∷ 1 ∷ []) }
+    ensures places { IfOk result (λ places. places.items ≡ 1 ∷ 1 ∷ 1 ∷ []) }
+    ensures fault { IsMemoryOnErr result }
 {
     let items = Indices { start: 0, end: 3 };
     let count = |place: &mut u32, _item: usize| {
@@ -108,8 +113,9 @@ pub fn tens_of_even_numbers<Rt: Threads + Wait + Sync, P: Place, S: Strategy>(
     strategy: &S,
     site: P,
 ) -> Result<(Vec<usize>, Vec<usize>), Fault>
-    ensures { IfOk result (λ parts. (parts.0.items ≡ 0 ∷ 20 ∷ 40 ∷ [])
+    ensures parts { IfOk result (λ parts. (parts.0.items ≡ 0 ∷ 20 ∷ 40 ∷ [])
         × (parts.1.items ≡ 1 ∷ 3 ∷ 5 ∷ [])) }
+    ensures fault { IsMemoryOnErr result }
 {
     let items = Indices { start: 0, end: 6 };
     let part = |number: usize| -> (usize, Option<usize>)
@@ -168,7 +174,8 @@ fn even_numbers<
 
 /// The lengths of the segments of five items on three threads.
 pub fn segments_of_five(alloc: Global) -> Result<Vec<usize>, Fault>
-    ensures { IfOk result (λ lengths. lengths.items ≡ 1 ∷ 1 ∷ 1 ∷ 2 ∷ []) }
+    ensures lengths { IfOk result (λ lengths. lengths.items ≡ 1 ∷ 1 ∷ 1 ∷ 2 ∷ []) }
+    ensures fault { IsMemoryOnErr result }
 {
     let three = NonZeroUsize::MIN.saturating_add(2);
     segments(alloc, three, 5)
@@ -180,9 +187,10 @@ pub fn ten_in_four<'a, P: Place>(
     strategy: &'a Sequential,
     site: P,
 ) -> Result<Batches<'a, Sequential, P>, Fault>
-    ensures { IfOk result (λ batches. ranges_of batches
+    ensures ranges { IfOk result (λ batches. ranges_of batches
         ≡ record { start = 0; end = 3 } ∷ record { start = 3; end = 6 }
         ∷ record { start = 6; end = 8 } ∷ record { start = 8; end = 10 } ∷ []) }
+    ensures fault { IsMemoryOnErr result }
 {
     let four = NonZeroUsize::MIN.saturating_add(3);
     Batches::balanced(alloc, strategy, site, 10, four)

@@ -44,7 +44,10 @@ impl<T, A: Allocator> Home<T, A> {
         ensures window { IfOk result (λ r. (r.0 ≡ part r.1.start room 0 []) × (r.1.room ≡ room)) }
         ensures site { IfOk result (λ r. IsSite T.row r.1) }
     {
-        let vec = Vec::with_capacity(alloc, room)?;
+        // glibc gives free memory at the end of its heap back once that is twice the greatest block
+        // that was freed. A list that was gathered and its answers, as long, would be just as much, and
+        // each call would get all their pages anew; an eighth more keeps them.
+        let vec = Vec::with_capacity(alloc, room.saturating_add(room / 8))?;
         Ok(Home::over(vec, room))
     }
 

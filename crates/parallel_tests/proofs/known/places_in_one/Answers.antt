@@ -4,8 +4,8 @@ use Rattle.std.proofs.lemmas.Result.{IfOk-weaker}
 use Rattle.parallel_tests.proofs.OneAnswer.{states_in_one, counts_are, counted_from}
 use Rattle.parallel_tests.proofs.known.places_in_one.Goals as goal
 
-pub returns : goal.returns
-returns g c =
+pub returns-clause-places : goal.returns-clause-places
+returns-clause-places g c =
     IfOk-weaker c.map_init_collect_vec.result _ _
     (λ ys h. counts_are _ _ h.0 ys.items (states_in_one _ _ _ h.2.0 h.0 ys.items h.2.3.1 h.2.2) (λ s k. search rules) (λ s x y t k. search rules) ∙ ap (counted_from 0) h.1)
     c.map_init_collect_vec.ensures.along

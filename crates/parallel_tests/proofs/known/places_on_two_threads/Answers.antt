@@ -9,8 +9,8 @@ use Rattle.parallel_tests.proofs.known.places_on_two_threads.Goals as goal
 abbrev places : ℕ → List ℕ → List ℕ
 places depth xs = counted_along (Shape depth xs)
 
-pub returns : goal.returns
-returns g c =
+pub returns-clause-places : goal.returns-clause-places
+returns-clause-places g c =
     IfOk-weaker c.map_init_collect_vec.result _ _
     (λ ys h.
     let later = (h.2.2.2 (λ e. cc) (λ e. cc)).1 c.requires.planned c.requires.no_policy in

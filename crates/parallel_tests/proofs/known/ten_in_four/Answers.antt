@@ -36,8 +36,8 @@ known = (
       last)),
 )
 
-pub returns : goal.returns
-returns g c =
+pub returns-clause-ranges : goal.returns-clause-ranges
+returns-clause-ranges g c =
     let four : non_zero_usize_get c.saturating_add-four.result ≡ 4 = search rules in
     IfOk-weaker c.balanced.result _ _ (λ batches both. BalancedCut-unique 10 _ ranges both.0 known (both.1 ∙ four))
     (both_ok c.balanced.result _ _ c.balanced.ensures.balanced c.balanced.ensures.count)

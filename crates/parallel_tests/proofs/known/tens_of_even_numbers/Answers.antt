@@ -6,8 +6,8 @@ use Rattle.parallel_tests.specs.Known.{tenfold}
 use Rattle.parallel_tests.proofs.OneAnswer.{parts_are}
 use Rattle.parallel_tests.proofs.known.tens_of_even_numbers.Goals as goal
 
-pub returns : goal.returns
-returns g c =
+pub returns-clause-parts : goal.returns-clause-parts
+returns-clause-parts g c =
     IfOk-weaker c.map_partition_collect_vec.result _ _
     (λ parts h.
     let both = parts_are _ tenfold h.0 parts.0.items parts.1.items h.2 (λ x p k. search rules) in
