@@ -2,7 +2,6 @@
 // dropped once, or handed out.
 use crate::bridge::number;
 use parallel_bridge::list::map::map_parallel;
-use parallel_bridge::list::map_init::map_init_parallel;
 use parallel_bridge::list::try_fold::try_fold_parallel;
 use parallel_bridge::list::try_map::try_map_parallel;
 use parallel_bridge::producer::{Copies, DrainProducer, Indices, Producer};
@@ -80,32 +79,6 @@ fn map_counted<R: Threads + Sync + Abort>(rt: &R, alloc: Global, threads: usize,
     assert!(rt; all_gone_but(&counts, 0));
 }
 
-// The same with a state for each segment, which is counted too.
-fn map_with_counted_states<R: Threads + Sync + Abort>(
-    rt: &R,
-    alloc: Global,
-    threads: usize,
-    len: usize,
-) {
-    let counts = no_counts();
-    let items = counted_items(alloc, &counts, len);
-    let count = items.len();
-    let init = || Counted::new(&counts, 0);
-    let answer = |state: &mut Counted<'_>, item: Counted<'_>| {
-        state.place = state.place.wrapping_add(1);
-        Counted::new(&counts, item.place)
-    };
-    let parts = DrainProducer::from_vec(items);
-    if let Ok(answers) = map_init_parallel(rt, alloc, number(rt, threads), parts, &init, &answer) {
-        assert_eq!(rt; answers.len(), count);
-        for place in 0..count {
-            assert_eq!(rt; answers.get(place).map(|answer| answer.place), Some(place));
-        }
-        assert!(rt; all_gone_but(&counts, count));
-    }
-    assert!(rt; all_gone_but(&counts, 0));
-}
-
 // Adds the places of that many counted items up on that many threads, of which the one at `end` fails.
 fn fold_counted<R: Threads + Sync + Abort>(
     rt: &R,
@@ -141,16 +114,6 @@ fn each_item_and_each_answer_is_dropped_once(rt: HostRuntime) -> Result<(), Fail
     for threads in 1..9usize {
         for len in [0usize, 1, 2, 1000] {
             map_counted(&rt, rt.alloc(), threads, len);
-        }
-    }
-    Ok(())
-}
-
-#[test]
-fn each_item_answer_and_state_is_dropped_once(rt: HostRuntime) -> Result<(), Fail> {
-    for threads in 1..9usize {
-        for len in [0usize, 1, 2, 1000] {
-            map_with_counted_states(&rt, rt.alloc(), threads, len);
         }
     }
     Ok(())
