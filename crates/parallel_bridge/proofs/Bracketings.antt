@@ -1,5 +1,7 @@
 -- What goes along the shape of a list is a reduction of neighbouring segments.
 use Rattle.std.proofs.Common.{ℕ, zero, suc, List, [], refl, subst}
+use Rattle.parallel_bridge.specs.declared.path.Path.{Path}
+use Rattle.parallel_bridge.specs.declared.path.Path.TheVariants.{Serial, Parallel}
 use Rattle.parallel_bridge.specs.Lists.{FoldSegment, Brackets, of_segment, of_parts, Bracketing}
 use Rattle.parallel_bridge.specs.Shapes.{Cut, segment, halves, cut_items, Shape, AlongLeaves, Along, FoldsAs}
 use Rattle.parallel_bridge.proofs.Shapes.{Shape-items}
@@ -11,9 +13,9 @@ module _ {X R : Type 0} (identity : R → Type 0) (allowed : List X → R → Ty
   brackets_from_leaves (halves p q) r (a, b, h, i, n) = of_parts refl (brackets_from_leaves p a h) (brackets_from_leaves q b i) n
 
   -- whichever way a fold is carried out, its answer comes by reductions of neighbouring segments
-  pub brackets_from_folds : (depth pick : ℕ) (xs : List X) (r : R) → FoldsAs identity allowed reduce depth pick xs r → Brackets allowed reduce xs r
-  brackets_from_folds depth zero xs r h = of_segment h
-  brackets_from_folds depth (suc pick) xs r h = subst (λ l. Brackets allowed reduce l r) (Shape-items depth xs) (brackets_from_leaves (Shape depth xs) r h)
+  pub brackets_from_folds : (depth : ℕ) (path : Path) (xs : List X) (r : R) → FoldsAs identity allowed reduce depth path xs r → Brackets allowed reduce xs r
+  brackets_from_folds depth Serial xs r h = of_segment h
+  brackets_from_folds depth Parallel xs r h = subst (λ l. Brackets allowed reduce l r) (Shape-items depth xs) (brackets_from_leaves (Shape depth xs) r h)
 
 module _ {X R : Type 0} (identity : R → Type 0) (step : R → X → R → Type 0) (reduce : R → R → R → Type 0) where
   -- the same of folds by steps along a cut
@@ -21,5 +23,5 @@ module _ {X R : Type 0} (identity : R → Type 0) (step : R → X → R → Type
   bracketing_from_along cut r h = brackets_from_leaves identity (FoldSegment identity step) reduce (λ e i. (e, i, refl)) cut r h
 
   -- the same of folds by steps, whichever way they are carried out
-  pub bracketing_from_folds : (depth pick : ℕ) (xs : List X) (r : R) → FoldsAs identity (FoldSegment identity step) reduce depth pick xs r → Bracketing identity step reduce xs r
-  bracketing_from_folds depth pick xs r h = brackets_from_folds identity (FoldSegment identity step) reduce (λ e i. (e, i, refl)) depth pick xs r h
+  pub bracketing_from_folds : (depth : ℕ) (path : Path) (xs : List X) (r : R) → FoldsAs identity (FoldSegment identity step) reduce depth path xs r → Bracketing identity step reduce xs r
+  bracketing_from_folds depth path xs r h = brackets_from_folds identity (FoldSegment identity step) reduce (λ e i. (e, i, refl)) depth path xs r h

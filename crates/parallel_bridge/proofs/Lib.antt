@@ -13,7 +13,7 @@ pub mod Onward
 pub mod Statefuls
 pub mod TryBracketings
 pub mod Drivers
-pub mod Picked
+pub mod Paths
 pub mod Sorting
 pub mod OverLists
 pub mod FirstFailing

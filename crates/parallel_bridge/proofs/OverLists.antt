@@ -1,5 +1,7 @@
 -- What the clause of a list call says where its source gives one list alone: a fact of that list.
 use Rattle.std.proofs.Common.{◌≡◌, ℕ, Bool, List, [], ◌∷◌, Option, Result, Ok, Err, Vec, Global, refl, ◌∙◌, ap, subst, map, fold}
+use Rattle.parallel_bridge.specs.declared.path.Path.{Path}
+use Rattle.parallel_bridge.specs.declared.path.Path.TheVariants.{Serial}
 use Rattle.std.specs.Prelude.{MatchResult, IfOk, IfErr}
 use Rattle.std.specs.List.{Contains}
 use Rattle.std.specs.Iterator.{Drains}
@@ -51,9 +53,9 @@ pub fold_of_list : {A R E : Type 0} (all : List A) (identity : R → Type 0) (st
 fold_of_list all identity step reduce unit f g good result gave laws =
     IfOk-weaker result _ (λ r. r ≡ fold f unit all) (λ r h. plain_from_bracketing identity step reduce all r (subst (λ xs. Bracketing identity step reduce xs r) h.1 h.2) unit f g good laws) gave
 
--- at the first pick a fold is one segment
-pub in_one : {X R : Type 0} (identity : R → Type 0) (allowed : List X → R → Type 0) (reduce : R → R → R → Type 0) (depth pick : ℕ) (xs : List X) (r : R) → FoldsAs identity allowed reduce depth pick xs r → pick ≡ 0 → allowed xs r
-in_one identity allowed reduce depth pick xs r h first = subst (λ p. FoldsAs identity allowed reduce depth p xs r) first h
+-- serially a fold is one segment
+pub in_one : {X R : Type 0} (identity : R → Type 0) (allowed : List X → R → Type 0) (reduce : R → R → R → Type 0) (depth : ℕ) (path : Path) (xs : List X) (r : R) → FoldsAs identity allowed reduce depth path xs r → path ≡ Serial → allowed xs r
+in_one identity allowed reduce depth path xs r h serial = subst (λ p. FoldsAs identity allowed reduce depth p xs r) serial h
 
 -- one side of what is said of an answer
 pub if_ok : {R E : Type 0} (P : R → Type 0) (Q : E → Type 0) (result : Result R E) → MatchResult result P Q → IfOk result P

@@ -1,5 +1,7 @@
 -- Whichever way states go along a list, its answers fall into segments, each from a fresh state.
 use Rattle.std.proofs.Common.{ℕ, zero, suc, List, [], ◌∷◌, ◌++◌, sym, ◌∙◌, ap, subst, append_assoc}
+use Rattle.parallel_bridge.specs.declared.path.Path.{Path}
+use Rattle.parallel_bridge.specs.declared.path.Path.TheVariants.{Serial, Parallel}
 use Rattle.std.proofs.lemmas.List.{append-nil}
 use Rattle.parallel_bridge.specs.Shapes.{Cut, segment, halves, cut_items, Shape}
 use Rattle.parallel_bridge.specs.States.{StateSegment, Stateful, no_segment, more_segments, StatesAlong, StatesAs}
@@ -26,7 +28,7 @@ module _ {S X Y : Type 0} (init : S → Type 0) (step : S → X → Y → S → 
   pub stateful_from_shape : (depth : ℕ) (xs : List X) (ys : List Y) → StatesAlong init step (Shape depth xs) ys → Stateful init step xs ys
   stateful_from_shape depth xs ys h = subst (λ l. Stateful init step l ys) (Shape-items depth xs) (stateful_from_along (Shape depth xs) ys h)
 
-  -- whichever pick was taken
-  pub stateful_from_states : (depth pick : ℕ) (xs : List X) (ys : List Y) → StatesAs init step depth pick xs ys → Stateful init step xs ys
-  stateful_from_states depth zero xs ys h = stateful_from_segment xs ys h
-  stateful_from_states depth (suc pick) xs ys h = stateful_from_shape depth xs ys h
+  -- whichever path was taken
+  pub stateful_from_states : (depth : ℕ) (path : Path) (xs : List X) (ys : List Y) → StatesAs init step depth path xs ys → Stateful init step xs ys
+  stateful_from_states depth Serial xs ys h = stateful_from_segment xs ys h
+  stateful_from_states depth Parallel xs ys h = stateful_from_shape depth xs ys h

@@ -1,5 +1,7 @@
 -- What goes along the shape of a list comes from neighbouring segments, also where segments may fail or have a state.
 use Rattle.std.proofs.Common.{ℕ, zero, suc, List, [], ◌++◌, Result, Ok, Err, refl, sym, subst, inl, inr}
+use Rattle.parallel_bridge.specs.declared.path.Path.{Path}
+use Rattle.parallel_bridge.specs.declared.path.Path.TheVariants.{Serial, Parallel}
 use Rattle.parallel_bridge.specs.Lists.{Brackets, of_segment, of_parts}
 use Rattle.parallel_bridge.specs.Shapes.{Cut, segment, halves, cut_items, Shape, AlongLeaves, FoldsAs}
 use Rattle.parallel_bridge.specs.States.{FoldInitSegment}
@@ -12,9 +14,9 @@ module _ {X R : Type 0} (identity : R → Type 0) (allowed : List X → R → Ty
   segments_from_leaves (segment xs) r (e, b, h, i, n) = of_parts {xs = []} {ys = xs} refl (of_segment (fresh e xs b h i)) (of_segment i) n
   segments_from_leaves (halves p q) r (a, b, h, i, n) = of_parts refl (segments_from_leaves p a h) (segments_from_leaves q b i) n
 
-  pub segments_from_folds : (depth pick : ℕ) (xs : List X) (r : R) → FoldsAs identity allowed reduce depth pick xs r → Brackets allowed reduce xs r
-  segments_from_folds depth zero xs r h = of_segment h
-  segments_from_folds depth (suc pick) xs r h = subst (λ l. Brackets allowed reduce l r) (Shape-items depth xs) (segments_from_leaves (Shape depth xs) r h)
+  pub segments_from_folds : (depth : ℕ) (path : Path) (xs : List X) (r : R) → FoldsAs identity allowed reduce depth path xs r → Brackets allowed reduce xs r
+  segments_from_folds depth Serial xs r h = of_segment h
+  segments_from_folds depth Parallel xs r h = subst (λ l. Brackets allowed reduce l r) (Shape-items depth xs) (segments_from_leaves (Shape depth xs) r h)
 
 module _ {S X R : Type 0} (init : S → Type 0) (identity : R → Type 0) (step : S → R → X → R → S → Type 0) (reduce : R → R → R → Type 0) where
   -- an identity is the answer of no item from the state that another segment began with
@@ -30,8 +32,8 @@ module _ {S X R : Type 0} (init : S → Type 0) (identity : R → Type 0) (step 
   fold_init_along_shape depth xs r h = subst (λ l. Brackets (FoldInitSegment init identity step) reduce l r) (Shape-items depth xs) (fold_init_from_along (Shape depth xs) r h)
 
   -- folds with a state, whichever way they are carried out
-  pub fold_init_from_folds : (depth pick : ℕ) (xs : List X) (r : R) → FoldsAs identity (FoldInitSegment init identity step) reduce depth pick xs r → Brackets (FoldInitSegment init identity step) reduce xs r
-  fold_init_from_folds depth pick xs r h = segments_from_folds identity (FoldInitSegment init identity step) reduce fold_init_fresh depth pick xs r h
+  pub fold_init_from_folds : (depth : ℕ) (path : Path) (xs : List X) (r : R) → FoldsAs identity (FoldInitSegment init identity step) reduce depth path xs r → Brackets (FoldInitSegment init identity step) reduce xs r
+  fold_init_from_folds depth path xs r h = segments_from_folds identity (FoldInitSegment init identity step) reduce fold_init_fresh depth path xs r h
 
 module _ {X R E : Type 0} (identity : R → Type 0) (allowed : List X → Result R E → Type 0) (reduce : R → R → R → Type 0) (fresh : (e : R) → identity e → allowed [] (Ok e)) where
   -- outcomes along a cut come from neighbouring segments
@@ -44,9 +46,9 @@ module _ {X R E : Type 0} (identity : R → Type 0) (allowed : List X → Result
   try_brackets_from_leaves (halves p q) out (inr (inr (a, e, same, h, i))) = subst (TryBrackets allowed reduce (cut_items p ++ cut_items q)) (sym same) (of_right_error refl (try_brackets_from_leaves p (Ok a) h) (try_brackets_from_leaves q (Err e) i))
 
   -- whichever way a fold that may fail is carried out
-  pub try_brackets_from_folds : (depth pick : ℕ) (xs : List X) (out : Result R E) → TryFoldsAs identity allowed reduce depth pick xs out → TryBrackets allowed reduce xs out
-  try_brackets_from_folds depth zero xs out h = of_try_segment h
-  try_brackets_from_folds depth (suc pick) xs out h = subst (λ l. TryBrackets allowed reduce l out) (Shape-items depth xs) (try_brackets_from_leaves (Shape depth xs) out h)
+  pub try_brackets_from_folds : (depth : ℕ) (path : Path) (xs : List X) (out : Result R E) → TryFoldsAs identity allowed reduce depth path xs out → TryBrackets allowed reduce xs out
+  try_brackets_from_folds depth Serial xs out h = of_try_segment h
+  try_brackets_from_folds depth Parallel xs out h = subst (λ l. TryBrackets allowed reduce l out) (Shape-items depth xs) (try_brackets_from_leaves (Shape depth xs) out h)
 
 module _ {X R E : Type 0} (identity : R → Type 0) (step : R → X → Result R E → Type 0) (reduce : R → R → R → Type 0) where
   -- the same of folds by steps that may fail, along the shape of a list
@@ -54,5 +56,5 @@ module _ {X R E : Type 0} (identity : R → Type 0) (step : R → X → Result R
   try_bracketing_from_along depth xs out h = subst (λ l. TryBracketing identity step reduce l out) (Shape-items depth xs) (try_brackets_from_leaves identity (TryFoldSegment identity step) reduce (λ e i. (e, i, refl)) (Shape depth xs) out h)
 
   -- the same, whichever way they are carried out
-  pub try_bracketing_from_folds : (depth pick : ℕ) (xs : List X) (out : Result R E) → TryFoldsAs identity (TryFoldSegment identity step) reduce depth pick xs out → TryBracketing identity step reduce xs out
-  try_bracketing_from_folds depth pick xs out h = try_brackets_from_folds identity (TryFoldSegment identity step) reduce (λ e i. (e, i, refl)) depth pick xs out h
+  pub try_bracketing_from_folds : (depth : ℕ) (path : Path) (xs : List X) (out : Result R E) → TryFoldsAs identity (TryFoldSegment identity step) reduce depth path xs out → TryBracketing identity step reduce xs out
+  try_bracketing_from_folds depth path xs out h = try_brackets_from_folds identity (TryFoldSegment identity step) reduce (λ e i. (e, i, refl)) depth path xs out h

@@ -1,5 +1,7 @@
 -- How a list is split among threads, and what a fold along the splits may answer.
 use Rattle.std.specs.Prelude.{ℕ, zero, suc, ◌-◌, ◌/◌, List, [], ◌∷◌, ◌++◌, length, take, drop, cond, nat_lt}
+use Rattle.parallel_bridge.specs.declared.path.Path.{Path}
+use Rattle.parallel_bridge.specs.declared.path.Path.TheVariants.{Serial, Parallel}
 use Rattle.std.specs.Int.{w64, leading_zeros}
 use Rattle.parallel_bridge.specs.Lists.{FoldSegment}
 
@@ -55,8 +57,8 @@ AlongLeaves identity allowed reduce cut r = AlongCut (ReducedSegment identity al
 abbrev pub Along : {X R : Type 0} → (R → Type 0) → (R → X → R → Type 0) → (R → R → R → Type 0) → Cut X → R → Type 0
 Along identity step reduce cut r = AlongLeaves identity (FoldSegment identity step) reduce cut r
 
--- at pick 0 the whole list is one segment and nothing is reduced; at any other pick the answer goes
--- along the list's shape of that depth
-abbrev pub FoldsAs : {X R : Type 0} → (R → Type 0) → (List X → R → Type 0) → (R → R → R → Type 0) → ℕ → ℕ → List X → R → Type 0
-FoldsAs identity allowed reduce depth zero xs r = allowed xs r
-FoldsAs identity allowed reduce depth (suc pick) xs r = AlongLeaves identity allowed reduce (Shape depth xs) r
+-- serially the whole list is one segment and nothing is reduced; in parallel the answer goes along
+-- the list's shape of that depth
+abbrev pub FoldsAs : {X R : Type 0} → (R → Type 0) → (List X → R → Type 0) → (R → R → R → Type 0) → ℕ → Path → List X → R → Type 0
+FoldsAs identity allowed reduce depth Serial xs r = allowed xs r
+FoldsAs identity allowed reduce depth Parallel xs r = AlongLeaves identity allowed reduce (Shape depth xs) r

@@ -1,5 +1,7 @@
 -- Maps and folds whose steps have a state at hand, which goes from item to item.
 use Rattle.std.specs.Prelude.{◌≡◌, ℕ, zero, suc, List, [], ◌∷◌, ◌++◌}
+use Rattle.parallel_bridge.specs.declared.path.Path.{Path}
+use Rattle.parallel_bridge.specs.declared.path.Path.TheVariants.{Serial, Parallel}
 use Rattle.std.specs.Borrow.{MutBor}
 use Rattle.parallel_bridge.specs.Shapes.{Cut, Shape, AlongCut}
 
@@ -32,10 +34,10 @@ pub data Stateful {S X Y : Type 0} (init : S → Type 0) (step : S → X → Y �
 abbrev pub StatesAlong : {S X Y : Type 0} → (S → Type 0) → (S → X → Y → S → Type 0) → Cut X → List Y → Type 0
 StatesAlong init step cut ys = AlongCut (StateSegment init step) (λ a b c. c ≡ a ++ b) cut ys
 
--- at pick 0 one fresh state for the whole list; at any other pick one for each segment of the list's shape of that depth
-abbrev pub StatesAs : {S X Y : Type 0} → (S → Type 0) → (S → X → Y → S → Type 0) → ℕ → ℕ → List X → List Y → Type 0
-StatesAs init step depth zero xs ys = StateSegment init step xs ys
-StatesAs init step depth (suc pick) xs ys = StatesAlong init step (Shape depth xs) ys
+-- serially one fresh state for the whole list; in parallel one for each segment of the list's shape of that depth
+abbrev pub StatesAs : {S X Y : Type 0} → (S → Type 0) → (S → X → Y → S → Type 0) → ℕ → Path → List X → List Y → Type 0
+StatesAs init step depth Serial xs ys = StateSegment init step xs ys
+StatesAs init step depth Parallel xs ys = StatesAlong init step (Shape depth xs) ys
 
 -- r is reached from the state s and the value a by one step for each item, left to right
 abbrev pub StateChain : {S X R : Type 0} → (S → R → X → R → S → Type 0) → S → R → List X → R → Type 0

@@ -1,5 +1,7 @@
 -- Maps and folds whose steps may fail.
 use Rattle.std.specs.Prelude.{◌≡◌, ℕ, zero, suc, List, [], ◌∷◌, ◌++◌, Result, Ok, Err, Option, Some, None, ◌⊎◌, Bool, true, false}
+use Rattle.parallel_bridge.specs.declared.path.Path.{Path}
+use Rattle.parallel_bridge.specs.declared.path.Path.TheVariants.{Serial, Parallel}
 use Rattle.std.specs.List.{AllZip}
 use Rattle.parallel_bridge.specs.Shapes.{Cut, segment, halves, Shape}
 
@@ -63,10 +65,10 @@ TryAlongLeaves identity allowed reduce cut out = TryAlongCut (TryReducedSegment 
 abbrev pub TryAlong : {X R E : Type 0} → (R → Type 0) → (R → X → Result R E → Type 0) → (R → R → R → Type 0) → Cut X → Result R E → Type 0
 TryAlong identity step reduce cut out = TryAlongLeaves identity (TryFoldSegment identity step) reduce cut out
 
--- at pick 0 the whole list is one segment and nothing is reduced; at any other pick the outcome goes along the list's shape of that depth
-abbrev pub TryFoldsAs : {X R E : Type 0} → (R → Type 0) → (List X → Result R E → Type 0) → (R → R → R → Type 0) → ℕ → ℕ → List X → Result R E → Type 0
-TryFoldsAs identity allowed reduce depth zero xs out = allowed xs out
-TryFoldsAs identity allowed reduce depth (suc pick) xs out = TryAlongLeaves identity allowed reduce (Shape depth xs) out
+-- serially the whole list is one segment and nothing is reduced; in parallel the outcome goes along the list's shape of that depth
+abbrev pub TryFoldsAs : {X R E : Type 0} → (R → Type 0) → (List X → Result R E → Type 0) → (R → R → R → Type 0) → ℕ → Path → List X → Result R E → Type 0
+TryFoldsAs identity allowed reduce depth Serial xs out = allowed xs out
+TryFoldsAs identity allowed reduce depth Parallel xs out = TryAlongLeaves identity allowed reduce (Shape depth xs) out
 
 -- the values before the first None
 abbrev pub before_none : {T : Type 0} → List (Option T) → List T

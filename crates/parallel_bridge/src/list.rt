@@ -1,5 +1,5 @@
 //! What a list call does with its list: a file for each call, with its forms over an iterator as it
-//! comes, in parallel, and at a pick.
+//! comes, in parallel, and by a path.
 pub mod fold;
 pub mod fold_init;
 pub mod map;

@@ -12,6 +12,7 @@ use crate::bridge::{bridge, unfailing};
 use crate::consumer::fold::{FoldConsumer, fold_from};
 use crate::consumer::reduce::ReduceConsumer;
 use crate::producer::Producer;
+use crate::path::Path;
 use parallel_fault::Fault;
 use std::alloc::Global;
 use std::num::NonZeroUsize;
@@ -73,9 +74,9 @@ pub fn fold_parallel<
     unfailing(bridge(rt, alloc, threads, parts, folding))
 }
 
-/// The items of a list folded: as they come and in one segment at pick 0, along the list's shape at
-/// any other.
-pub fn fold_at<
+/// The items of a list folded: serially as they come and in one segment, in parallel along the list's
+/// shape.
+pub fn fold_by<
     Rt: Threads + Sync,
     P: Producer,
     R: Send + Drop,
@@ -86,7 +87,7 @@ pub fn fold_at<
     rt: &Rt,
     alloc: Global,
     threads: NonZeroUsize,
-    pick: usize,
+    path: Path,
     parts: P,
     identity: &ID,
     fold_op: &F,
@@ -97,12 +98,15 @@ pub fn fold_at<
     requires reduce_accepts { G.IsAlwaysCallable reduce_op.now }
     ensures folds { IfOk result (λ r. GivesSome P.gives parts
         (λ xs. FoldedAs (ID.post identity.now) (λ a x b. F.post fold_op.now a x b)
-        (λ a b c. G.post reduce_op.now a b c) (cutdepth (non_zero_usize_get threads)) pick xs r)) }
+        (λ a b c. G.post reduce_op.now a b c) (cutdepth (non_zero_usize_get threads)) path xs r)) }
     ensures fault { IsMemoryOnErr result }
 {
-    if pick == 0 {
-        return Ok(fold_iter(parts.into_items(), identity, fold_op));
+    match path {
+        Path::Serial => Ok(fold_iter(parts.into_items(), identity, fold_op)),
+        Path::Parallel => {
+            // (bound before it is answered, so that its facts have a name in the proof)
+            let answer = fold_parallel(rt, alloc, threads, parts, identity, fold_op, reduce_op)?;
+            Ok(answer)
+        }
     }
-    let answer = fold_parallel(rt, alloc, threads, parts, identity, fold_op, reduce_op)?;
-    Ok(answer)
 }

@@ -12,6 +12,7 @@ use crate::bridge::{bridge, unfailing};
 use crate::consumer::fold_init::{FoldInitConsumer, fold_init_from};
 use crate::consumer::reduce::ReduceConsumer;
 use crate::producer::Producer;
+use crate::path::Path;
 use parallel_fault::Fault;
 use std::alloc::Global;
 use std::num::NonZeroUsize;
@@ -86,9 +87,9 @@ pub fn fold_init_parallel<
     unfailing(bridge(rt, alloc, threads, parts, folding))
 }
 
-/// The items of a list folded with a state: as they come, in one segment and with one state at pick 0,
-/// along the list's shape at any other.
-pub fn fold_init_at<
+/// The items of a list folded with a state: serially as they come, in one segment and with one state,
+/// in parallel along the list's shape.
+pub fn fold_init_by<
     Rt: Threads + Sync,
     P: Producer,
     S: Send + Drop,
@@ -101,7 +102,7 @@ pub fn fold_init_at<
     rt: &Rt,
     alloc: Global,
     threads: NonZeroUsize,
-    pick: usize,
+    path: Path,
     parts: P,
     init: &N,
     identity: &ID,
@@ -115,14 +116,22 @@ pub fn fold_init_at<
     ensures folds { IfOk result (λ r. GivesSome P.gives parts
         (λ xs. FoldedInitAs (N.post init.now) (ID.post identity.now)
         (FoldStep (λ a p x b q. F.post fold_op.now a p x b q))
-        (λ a b c. G.post reduce_op.now a b c) (cutdepth (non_zero_usize_get threads)) pick xs r)) }
+        (λ a b c. G.post reduce_op.now a b c) (cutdepth (non_zero_usize_get threads)) path xs r)) }
     ensures fault { IsMemoryOnErr result }
 {
-    if pick == 0 {
-        return Ok(fold_init_iter(parts.into_items(), init, identity, fold_op));
+    match path {
+        Path::Serial => Ok(fold_init_iter(
+            parts.into_items(),
+            init,
+            identity,
+            fold_op,
+        )),
+        Path::Parallel => {
+            // (bound before it is answered, so that its facts have a name in the proof)
+            let answer = fold_init_parallel(
+                rt, alloc, threads, parts, init, identity, fold_op, reduce_op,
+            )?;
+            Ok(answer)
+        }
     }
-    let answer = fold_init_parallel(
-        rt, alloc, threads, parts, init, identity, fold_op, reduce_op,
-    )?;
-    Ok(answer)
 }

@@ -11,6 +11,7 @@ use crate::fill::fill;
 use crate::fill::map::MapWriter;
 use crate::producer::Producer;
 use crate::window::home::Home;
+use crate::path::Path;
 use parallel_fault::Fault;
 use std::alloc::Global;
 use std::num::NonZeroUsize;
@@ -65,13 +66,13 @@ pub fn map_parallel<
     }
 }
 
-/// The answers of `map_op` for the items of a list, in their order: as they come at pick 0, side by
-/// side at any other.
-pub fn map_at<Rt: Threads + Sync, P: Producer, T: Send + Drop, F: Fn(P::Item) -> T + Send + Sync>(
+/// The answers of `map_op` for the items of a list, in their order: serially as they come, in parallel
+/// side by side.
+pub fn map_by<Rt: Threads + Sync, P: Producer, T: Send + Drop, F: Fn(P::Item) -> T + Send + Sync>(
     rt: &Rt,
     alloc: Global,
     threads: NonZeroUsize,
-    pick: usize,
+    path: Path,
     parts: P,
     map_op: &F,
 ) -> Result<Vec<T>, Fault>
@@ -80,8 +81,8 @@ pub fn map_at<Rt: Threads + Sync, P: Producer, T: Send + Drop, F: Fn(P::Item) ->
         (λ xs. MapOf (F.post map_op.now) xs ys.items)) }
     ensures fault { IsMemoryOnErr result }
 {
-    match pick {
-        0 => map_iter(alloc, parts.into_items(), map_op),
-        _ => map_parallel(rt, alloc, threads, parts, map_op),
+    match path {
+        Path::Serial => map_iter(alloc, parts.into_items(), map_op),
+        Path::Parallel => map_parallel(rt, alloc, threads, parts, map_op),
     }
 }

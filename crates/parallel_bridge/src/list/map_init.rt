@@ -16,6 +16,7 @@ use crate::fill::fill;
 use crate::fill::map_init::MapInitWriter;
 use crate::producer::Producer;
 use crate::window::home::Home;
+use crate::path::Path;
 use parallel_fault::Fault;
 use std::alloc::Global;
 use std::num::NonZeroUsize;
@@ -84,9 +85,9 @@ pub fn map_init_parallel<
     }
 }
 
-/// The answers of `map_op` for the items of a list, in their order: as they come and with one state at
-/// pick 0, side by side and with a state for each segment at any other.
-pub fn map_init_at<
+/// The answers of `map_op` for the items of a list, in their order: serially as they come and with one
+/// state, in parallel side by side and with a state for each segment.
+pub fn map_init_by<
     Rt: Threads + Sync,
     P: Producer,
     S: Send + Drop,
@@ -97,7 +98,7 @@ pub fn map_init_at<
     rt: &Rt,
     alloc: Global,
     threads: NonZeroUsize,
-    pick: usize,
+    path: Path,
     parts: P,
     init: &N,
     map_op: &F,
@@ -107,13 +108,18 @@ pub fn map_init_at<
         → (state : MutBor S) → F.pre map_op.now state x }
     ensures maps { IfOk result (λ ys. GivesSome P.gives parts
         (λ xs. MappedInitAs (N.post init.now) (MapStep (λ p x y q. F.post map_op.now p x y q))
-        (cutdepth (non_zero_usize_get threads)) pick xs ys.items)) }
+        (cutdepth (non_zero_usize_get threads)) path xs ys.items)) }
     ensures fault { IsMemoryOnErr result }
 {
-    if pick == 0 {
-        let answers = map_init_iter(alloc, parts.into_items(), init, map_op)?;
-        return Ok(answers);
+    // (each bound before it is answered, so that its facts have a name in the proof)
+    match path {
+        Path::Serial => {
+            let answers = map_init_iter(alloc, parts.into_items(), init, map_op)?;
+            Ok(answers)
+        }
+        Path::Parallel => {
+            let answers = map_init_parallel(rt, alloc, threads, parts, init, map_op)?;
+            Ok(answers)
+        }
     }
-    let answers = map_init_parallel(rt, alloc, threads, parts, init, map_op)?;
-    Ok(answers)
 }

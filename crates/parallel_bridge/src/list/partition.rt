@@ -9,6 +9,7 @@ ghost use Rattle.parallel_bridge.specs.Sources.{GivesSome};
 use crate::bridge::{bridge, unfailing};
 use crate::consumer::partition::{PartitionConsumer, partition_onto};
 use crate::producer::Producer;
+use crate::path::Path;
 use parallel_fault::Fault;
 use std::alloc::Global;
 use std::num::NonZeroUsize;
@@ -55,9 +56,9 @@ pub fn partition_parallel<
     unfailing(bridge(rt, alloc, threads, parts, PartitionConsumer { map_op }))
 }
 
-/// The values and the keys of the items of a list, in their order: as they come at pick 0, side by
-/// side at any other.
-pub fn partition_at<
+/// The values and the keys of the items of a list, in their order: serially as they come, in parallel
+/// side by side.
+pub fn partition_by<
     Rt: Threads + Sync,
     P: Producer,
     K: Send + Drop,
@@ -67,7 +68,7 @@ pub fn partition_at<
     rt: &Rt,
     alloc: Global,
     threads: NonZeroUsize,
-    pick: usize,
+    path: Path,
     parts: P,
     map_op: &F,
 ) -> Result<(Vec<U>, Vec<K>), Fault>
@@ -76,8 +77,8 @@ pub fn partition_at<
         (λ xs. PartitionOf (F.post map_op.now) xs r.0.items r.1.items)) }
     ensures fault { IsMemoryOnErr result }
 {
-    match pick {
-        0 => partition_iter(alloc, parts.into_items(), map_op),
-        _ => partition_parallel(rt, alloc, threads, parts, map_op),
+    match path {
+        Path::Serial => partition_iter(alloc, parts.into_items(), map_op),
+        Path::Parallel => partition_parallel(rt, alloc, threads, parts, map_op),
     }
 }

@@ -12,6 +12,7 @@ use crate::bridge::bridge;
 use crate::consumer::try_fold::{TryFoldConsumer, try_fold_onward};
 use crate::consumer::try_reduce::TryReduceConsumer;
 use crate::producer::Producer;
+use crate::path::Path;
 use parallel_fault::Trouble;
 use std::alloc::Global;
 use std::num::NonZeroUsize;
@@ -79,9 +80,9 @@ pub fn try_fold_parallel<
     bridge(rt, alloc, threads, parts, folding)
 }
 
-/// The items of a list folded up to the first step that fails: as they come and in one segment at pick
-/// 0, along the list's shape at any other.
-pub fn try_fold_at<
+/// The items of a list folded up to the first step that fails: serially as they come and in one
+/// segment, in parallel along the list's shape.
+pub fn try_fold_by<
     Rt: Threads + Sync,
     P: Producer,
     R: Send + Drop,
@@ -93,7 +94,7 @@ pub fn try_fold_at<
     rt: &Rt,
     alloc: Global,
     threads: NonZeroUsize,
-    pick: usize,
+    path: Path,
     parts: P,
     identity: &ID,
     fold_op: &F,
@@ -104,13 +105,15 @@ pub fn try_fold_at<
     requires reduce_accepts { G.IsAlwaysCallable reduce_op.now }
     ensures folds { UnlessRefused result (λ out. GivesSome P.gives parts
         (λ xs. TryFoldedAs (ID.post identity.now) (λ a x out. F.post fold_op.now a x out)
-        (λ a b c. G.post reduce_op.now a b c) (cutdepth (non_zero_usize_get threads)) pick xs out)) }
+        (λ a b c. G.post reduce_op.now a b c) (cutdepth (non_zero_usize_get threads)) path xs out)) }
 {
-    if pick == 0 {
-        return match try_fold_iter(parts.into_items(), identity, fold_op) {
+    match path {
+        Path::Serial => match try_fold_iter(parts.into_items(), identity, fold_op) {
             Ok(value) => Ok(value),
             Err(error) => Err(Trouble::Closure(error)),
-        };
+        },
+        Path::Parallel => {
+            try_fold_parallel(rt, alloc, threads, parts, identity, fold_op, reduce_op)
+        }
     }
-    try_fold_parallel(rt, alloc, threads, parts, identity, fold_op, reduce_op)
 }

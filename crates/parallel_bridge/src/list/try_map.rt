@@ -12,6 +12,7 @@ use crate::fill::fill;
 use crate::fill::try_map::TryMapWriter;
 use crate::producer::Producer;
 use crate::window::home::Home;
+use crate::path::Path;
 use parallel_fault::Trouble;
 use std::alloc::Global;
 use std::num::NonZeroUsize;
@@ -71,9 +72,9 @@ pub fn try_map_parallel<
     }
 }
 
-/// The values, or the first failing item's error: as the items come at pick 0, side by side at any
-/// other.
-pub fn try_map_at<
+/// The values, or the first failing item's error: serially as the items come, in parallel side by
+/// side.
+pub fn try_map_by<
     Rt: Threads + Sync,
     P: Producer,
     T: Send + Drop,
@@ -83,7 +84,7 @@ pub fn try_map_at<
     rt: &Rt,
     alloc: Global,
     threads: NonZeroUsize,
-    pick: usize,
+    path: Path,
     parts: P,
     map_op: &F,
 ) -> Result<Vec<T>, Trouble<E>>
@@ -91,8 +92,8 @@ pub fn try_map_at<
     ensures maps { UnlessRefused result (λ out. GivesSome P.gives parts
         (λ xs. TryMapOf (F.post map_op.now) xs (listed out))) }
 {
-    match pick {
-        0 => try_map_iter(alloc, parts.into_items(), map_op),
-        _ => try_map_parallel(rt, alloc, threads, parts, map_op),
+    match path {
+        Path::Serial => try_map_iter(alloc, parts.into_items(), map_op),
+        Path::Parallel => try_map_parallel(rt, alloc, threads, parts, map_op),
     }
 }

@@ -1,25 +1,25 @@
--- One segment at pick 0, the list's shape at any other; either way a reduction of neighbours.
+-- One segment serially, the list's shape in parallel; either way a reduction of neighbours.
 use Rattle.std.proofs.Common.{rules}
 use Rattle.std.specs.Borrow.{MutBor}
 use Rattle.parallel_bridge.specs.Shapes.{cutdepth}
 use Rattle.parallel_bridge.specs.States.{FoldStep}
-use Rattle.parallel_bridge.proofs.Picked.{folded_init_first, folded_init_later}
-use Rattle.parallel_bridge.proofs.list.fold_init.fold_init_at.Goals as goal
+use Rattle.parallel_bridge.proofs.Paths.{folded_init_serially, folded_init_along}
+use Rattle.parallel_bridge.proofs.list.fold_init.fold_init_by.Goals as goal
 
-pub returns-then-pick-eq0-clause-folds : goal.returns-then-pick-eq0-clause-folds
-returns-then-pick-eq0-clause-folds g c =
+pub returns-in-Serial-clause-folds : goal.returns-in-Serial-clause-folds
+returns-in-Serial-clause-folds g c =
     let init = λ (s : g.row.S.Denot). g.N.Fn.post c.args.init.now tt s in
     let identity = λ (e : g.row.R.Denot). g.ID.Fn.post c.args.identity.now tt e in
     let step = FoldStep (λ (a : g.row.R.Denot) (p : MutBor g.row.S.Denot) (x : g.row.P-Item.Denot) (b : g.row.R.Denot) (q : MutBor g.row.S.Denot). goal.F-post g c.args.fold_op.now a p x b q) in
     let reduce = λ (a : g.row.R.Denot) (b : g.row.R.Denot) (r : g.row.R.Denot). g.G.Fn.post c.args.reduce_op.now (a, (b, tt)) r in
     let w = c.fold_init_iter.ensures in
-    (w.0, c.into_items.ensures.gives w.0 w.1, folded_init_first init identity step reduce (cutdepth c.args.threads.value) w.0 c.fold_init_iter.result c.args.pick (search rules) w.2)
+    (w.0, c.into_items.ensures.gives w.0 w.1, folded_init_serially init identity step reduce (cutdepth c.args.threads.value) w.0 c.fold_init_iter.result c.args.path (search rules) w.2)
 
-pub returns-clause-folds : goal.returns-clause-folds
-returns-clause-folds g c =
+pub returns-in_ok-answer-in-Parallel-clause-folds : goal.returns-in_ok-answer-in-Parallel-clause-folds
+returns-in_ok-answer-in-Parallel-clause-folds g c =
     let init = λ (s : g.row.S.Denot). g.N.Fn.post c.args.init.now tt s in
     let identity = λ (e : g.row.R.Denot). g.ID.Fn.post c.args.identity.now tt e in
     let step = FoldStep (λ (a : g.row.R.Denot) (p : MutBor g.row.S.Denot) (x : g.row.P-Item.Denot) (b : g.row.R.Denot) (q : MutBor g.row.S.Denot). goal.F-post g c.args.fold_op.now a p x b q) in
     let reduce = λ (a : g.row.R.Denot) (b : g.row.R.Denot) (r : g.row.R.Denot). g.G.Fn.post c.args.reduce_op.now (a, (b, tt)) r in
-    let w = c.in_ok-answer.ensures.along in
-    (w.0, w.1, folded_init_later init identity step reduce (cutdepth c.args.threads.value) w.0 c.in_ok-answer.answer c.args.pick (search rules) w.2)
+    let w = c.in_ok-answer-in-Parallel.ensures.along in
+    (w.0, w.1, folded_init_along init identity step reduce (cutdepth c.args.threads.value) w.0 c.in_ok-answer-in-Parallel.answer c.args.path (search rules) w.2)
