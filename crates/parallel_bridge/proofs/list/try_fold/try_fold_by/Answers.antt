@@ -8,8 +8,8 @@ use Rattle.parallel_bridge.proofs.Outcomes.{unless_weaker}
 use Rattle.parallel_bridge.proofs.Paths.{try_folded_serially, try_folded_along}
 use Rattle.parallel_bridge.proofs.list.try_fold.try_fold_by.Goals as goal
 
-pub returns-in-Ok-in-Serial : goal.returns-in-Ok-in-Serial
-returns-in-Ok-in-Serial g c =
+pub returns-in-Ok : goal.returns-in-Ok
+returns-in-Ok g c =
     let identity = λ (e : g.row.R.Denot). g.ID.Fn.post c.args.identity.now tt e in
     let step = λ (a : g.row.R.Denot) (x : g.row.P-Item.Denot) (o : Result g.row.R.Denot g.row.E.Denot). g.F.Fn.post c.args.fold_op.now (a, (x, tt)) o in
     let reduce = λ (a : g.row.R.Denot) (b : g.row.R.Denot) (r : g.row.R.Denot). g.G.Fn.post c.args.reduce_op.now (a, (b, tt)) r in
@@ -17,8 +17,8 @@ returns-in-Ok-in-Serial g c =
     let h : TryFoldSegment identity step w.0 (Ok c.in-Ok.value) = subst (TryFoldSegment identity step w.0) c.in-Ok.is w.2 in
     record { folds = (w.0, c.into_items.ensures.gives w.0 w.1, try_folded_serially identity step reduce (cutdepth c.args.threads.value) w.0 (Ok c.in-Ok.value) c.args.path (search rules) h) }
 
-pub returns-in-Err-in-Serial : goal.returns-in-Err-in-Serial
-returns-in-Err-in-Serial g c =
+pub returns-in-Err : goal.returns-in-Err
+returns-in-Err g c =
     let identity = λ (e : g.row.R.Denot). g.ID.Fn.post c.args.identity.now tt e in
     let step = λ (a : g.row.R.Denot) (x : g.row.P-Item.Denot) (o : Result g.row.R.Denot g.row.E.Denot). g.F.Fn.post c.args.fold_op.now (a, (x, tt)) o in
     let reduce = λ (a : g.row.R.Denot) (b : g.row.R.Denot) (r : g.row.R.Denot). g.G.Fn.post c.args.reduce_op.now (a, (b, tt)) r in
