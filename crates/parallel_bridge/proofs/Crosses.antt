@@ -1,16 +1,21 @@
--- A row of places may go to another thread where its items may.
+-- A row of places may go to another thread where its items may, and the right to free a block where its allocator may.
 use Rattle.std.specs.Prelude.{ℕ, ◌+◌, List, [], ◌∷◌, Option, Some, None}
 use Rattle.std.specs.Mem.{type_size}
 use base.Fraction.{full_share}
+use base.Fml.{Fml}
 use base.Shift.{Keyless}
 use denote.RattleType.{RattleType}
 use denote.RawPtr.{Ptr, block_ptr, null_ptr}
 use denote.Struct.Struct.{exits_of}
 use denote.Struct.Owning.{shape, fields, to}
 use denote.Param.Send.{IsSend, AllSend, part_keyless, owning_send, struct_send, sendable}
-use Rattle.std_alloc.proofs.SendSync.{quiet}
+use Rattle.core.specs.declared.alloc.Allocator.{Ghosts}
+use Rattle.std.specs.Prelude.{Bool, true, false}
+use Rattle.std_alloc.specs.Vec.Ownership.{has_block, owns_if}
+use Rattle.std_alloc.proofs.SendSync.{FreesAnywhere, quiet}
 use Rattle.parallel_bridge.specs.Places.{slots, cells_own}
 use Rattle.parallel_bridge.specs.contracts.window.cells.Cells as cells
+use Rattle.parallel_bridge.specs.contracts.window.cells.Deed as deed
 
 module _ (R : RattleType) (s : IsSend R) where
   places_keyless : (b o : ℕ) (cs : List (Option R.Denot)) → Keyless (slots R b o cs)
@@ -27,3 +32,14 @@ module _ (R : RattleType) (s : IsSend R) where
       let owned = cells.the_type R in
       let parts : AllSend (fields owned) = (search sendable, tt) in
       owning_send owned parts (λ d. row_keyless d.at d.slots) (λ k. quiet (to owned) (exits_of k (fields owned)) ((struct_send (shape owned) parts).leaving k))
+
+if_there : (there : Bool) (token : Fml) → Keyless token → Keyless (owns_if there token)
+if_there true token k = k
+if_there false token k = tt
+
+module _ (R A : RattleType) (g : Ghosts A.Denot) where
+  pub deed_send : FreesAnywhere A.Denot g → IsSend (deed.the_row R A g)
+  deed_send f =
+      let owned = deed.the_type R A g in
+      let parts : AllSend (fields owned) = (search sendable, tt) in
+      owning_send owned parts (λ d. if_there (has_block d.len) _ (f.frees d.alloc _ d.at)) (λ k. quiet (to owned) (exits_of k (fields owned)) ((struct_send (shape owned) parts).leaving k))

@@ -267,3 +267,7 @@ closed_rows at start slots tail room n c row empty_tail le =
     let counted : n + 0 ≡ length (values (slots ++ tail)) = all.0.1 in
     let left : room + (c - room) - (0 + (n + 0)) ≡ c - n = omega arith in
     (omega arith, omega arith, all.0.3 ∙ ap (λ k. laid 0 (values (slots ++ tail)) k) left, same)
+
+-- a block that begins with its items is one row
+pub whole_row : {X : Type 0} (at start : Ptr) (slots : List (Option X)) (c n : ℕ) (xs : List X) → at ≡ start → slots ≡ laid 0 xs (c - length xs) → n ≡ length xs → n ≤ c → IsRow at start slots c 0 n × (values slots ≡ xs)
+whole_row at start slots c n xs a e long le = is_row at start slots c 0 n xs (c - length xs) a e long (omega arith)

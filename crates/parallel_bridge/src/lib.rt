@@ -40,5 +40,6 @@ pub use producer::{Copies, DrainProducer, Indices, Producer, SliceDrain};
 pub use segment::{ProducerSegment, Segment, WindowSegment};
 pub use source::{ByIter, ByParts, ByVec, Source};
 pub use splitter::{LengthSplitter, Splitter};
+pub use window::block::Block;
 pub use window::home::Home;
 pub use window::part::Window;

@@ -4,11 +4,10 @@ ghost use Rattle.std.specs.Borrow.{Bor};
 ghost use Rattle.std.specs.Iterator.{Drains, HoldsAlong, IsFinite, YieldsFirst, YieldsLast, item_count};
 ghost use Rattle.std.specs.List.{All, Contains, range_with_len};
 ghost use Rattle.parallel_fault.specs.Trouble.{IsMemoryOnErr};
-ghost use Rattle.parallel_bridge.specs.Producers.{drain_rest};
 
+use crate::window::block::Block;
 use parallel_fault::Fault;
 use std::alloc::Global;
-use std::collections::VecDeque;
 use std::ops::Range;
 
 /// A list that may be split in two, each part a list of its own, with nothing gathered or copied.
@@ -184,68 +183,73 @@ impl Producer for Indices {
 /// Owned items that may be split in two, each part with its own items.
 #[derive(Drop)]
 pub struct DrainProducer<T> {
-    /// The items, in order.
-    pub items: Vec<T>,
+    items: Block<T>,
+    ghost first: { items.before ≡ 0 },
 }
 
 impl<T: Drop> DrainProducer<T> {
-    /// A producer of all items of a list.
+    ghost use Rattle.parallel_bridge.specs.Producers.{drain_items, drain_rest};
+
+    /// A producer of all items of a list. It keeps the list's block.
     pub fn from_vec(items: Vec<T>) -> Self
-        ensures { result.items ≡ items }
+        ensures { drain_items result ≡ items.items }
     {
-        DrainProducer { items }
+        DrainProducer {
+            items: Block::from_vec(items),
+        }
     }
 
     /// An iterator over the items, from both ends.
     pub fn drain(self) -> SliceDrain<T>
-        ensures { drain_rest result ≡ self.items.items }
+        ensures { drain_rest result ≡ drain_items self }
     {
-        SliceDrain {
-            rest: VecDeque::from_vec(self.items),
-        }
+        SliceDrain { rest: self.items }
     }
 }
 
 impl<T: Send + Drop> Producer for DrainProducer<T> {
+    ghost use Rattle.parallel_bridge.specs.Producers.{drain_items};
+
     type Item = T;
 
-    type Iter = std::vec::IntoIter<T>;
+    type Iter = SliceDrain<T>;
 
-    ghost gives = { λ s xs. xs ≡ s.items.items };
+    ghost gives = { λ s xs. xs ≡ drain_items s };
 
-    ghost may = { λ s x. Contains s.items.items x };
+    ghost may = { λ s x. Contains (drain_items s) x };
 
-    ghost count = { λ s. length s.items.items };
+    ghost count = { λ s. length (drain_items s) };
 
     fn len(&self) -> usize {
         self.items.len()
     }
 
     fn split_at(self, _alloc: Global, index: usize) -> Result<(Self, Self), Fault> {
-        let mut front = self.items;
-        let back = front.split_off(index)?;
+        let (front, back) = self.items.split_off(index)?;
         Ok((
             DrainProducer { items: front },
             DrainProducer { items: back },
         ))
     }
 
-    fn into_items(self) -> std::vec::IntoIter<T> {
-        self.items.into_iter()
+    fn into_items(self) -> SliceDrain<T> {
+        self.drain()
     }
 
     fn into_vec(self) -> Result<Vec<T>, Self> {
-        Ok(self.items)
+        Ok(self.items.into_vec())
     }
 }
 
 /// Gives owned items from both ends, each one once.
 #[derive(Drop)]
 pub struct SliceDrain<T> {
-    rest: VecDeque<T>,
+    rest: Block<T>,
 }
 
 impl<T: Drop> Iterator for SliceDrain<T> {
+    ghost use Rattle.parallel_bridge.specs.Producers.{drain_rest};
+
     type Item = T;
 
     ghost next_gives = { YieldsFirst drain_rest };
@@ -253,15 +257,23 @@ impl<T: Drop> Iterator for SliceDrain<T> {
     ghost remaining = { item_count drain_rest };
 
     fn next(&mut self) -> Option<T> {
-        self.rest.pop_front()
+        if self.rest.len() == 0 {
+            return None;
+        }
+        Some(self.rest.take())
     }
 }
 
 impl<T: Drop> DoubleEndedIterator for SliceDrain<T> {
+    ghost use Rattle.parallel_bridge.specs.Producers.{drain_rest};
+
     ghost next_back_gives = { YieldsLast drain_rest };
 
     fn next_back(&mut self) -> Option<T> {
-        self.rest.pop_back()
+        if self.rest.len() == 0 {
+            return None;
+        }
+        Some(self.rest.take_back())
     }
 }
 

@@ -129,6 +129,6 @@ where
 
     fn into_parts(self, alloc: Global) -> Result<DrainProducer<I::Item>, Fault> {
         let items = self.collect(alloc)?;
-        Ok(DrainProducer { items })
+        Ok(DrainProducer::from_vec(items))
     }
 }

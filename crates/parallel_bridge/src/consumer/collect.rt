@@ -3,6 +3,7 @@ ghost use Rattle.std.specs.Prelude.{◌≡◌, ◌++◌, IfOk, List, Result};
 ghost use Rattle.parallel_bridge.specs.Tries.{OnlyOk};
 
 use crate::plumbing::{Consumer, Folder, Reducer};
+use crate::window::block::Block;
 use parallel_fault::{Fault, Trouble};
 use std::alloc::Global;
 use std::convert::Infallible;
@@ -14,8 +15,8 @@ pub struct CollectConsumer;
 /// The items of a segment so far, in order.
 #[derive(Drop)]
 pub struct CollectResult<T> {
-    /// The items.
-    pub items: Vec<T>,
+    items: Block<T>,
+    ghost first: { items.before ≡ 0 },
 }
 
 /// Joins two lists, the left one first.
@@ -43,23 +44,23 @@ impl<T: Drop, E> Folder<T, Vec<T>, E> for CollectResult<T> {
     ghost gives = { λ s xs out. OnlyOk (λ ys. ys.items ≡ s.items.items ++ xs) out };
 
     fn consume(self, _alloc: Global, item: T) -> Result<Self, Fault> {
-        let mut items = self.items;
-        items.push(item)?;
+        let items = self.items.push(item)?;
         Ok(CollectResult { items })
     }
 
     fn consume_iter<I: Iterator<Item = T>>(self, alloc: Global, iter: I) -> Result<Self, Fault> {
-        let mut more: Vec<T> = iter.collect(alloc)?;
-        if self.items.is_empty() {
-            return Ok(CollectResult { items: more });
+        let more: Vec<T> = iter.collect(alloc)?;
+        if self.items.len() == 0 {
+            return Ok(CollectResult {
+                items: Block::from_vec(more),
+            });
         }
-        let mut items = self.items;
-        items.append(&mut more)?;
+        let items = self.items.append(more)?;
         Ok(CollectResult { items })
     }
 
     fn complete(self, _alloc: Global) -> Result<Vec<T>, Trouble<E>> {
-        Ok(self.items)
+        Ok(self.items.into_vec())
     }
 
     fn full(&self) -> bool {
@@ -92,7 +93,7 @@ impl<T: Send + Drop> Consumer<T> for CollectConsumer {
 
     fn into_folder(self, alloc: Global) -> Result<CollectResult<T>, Fault> {
         Ok(CollectResult {
-            items: Vec::new(alloc),
+            items: Block::from_vec(Vec::new(alloc)),
         })
     }
 }

@@ -58,6 +58,8 @@ impl<T, A: Allocator> Model for Deed<T, A> {
     ghost also_shares = { λ _ _ _. ftrue };
 }
 
+unsafe impl<T, A: Allocator + Send> Send for Deed<T, A> {}
+
 impl<T> Cells<T> {
     /// Puts an item into an empty place.
     pub(crate) fn write(&mut self, base: Base<T>, index: usize, item: T)
