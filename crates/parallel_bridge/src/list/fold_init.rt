@@ -11,8 +11,8 @@ ghost use Rattle.parallel_bridge.specs.Ways.{FoldedInitAs};
 use crate::bridge::{bridge, unfailing};
 use crate::consumer::fold_init::{FoldInitConsumer, fold_init_from};
 use crate::consumer::reduce::ReduceConsumer;
-use crate::producer::Producer;
 use crate::path::Path;
+use crate::producer::Producer;
 use parallel_fault::Fault;
 use std::alloc::Global;
 use std::num::NonZeroUsize;
@@ -120,12 +120,7 @@ pub fn fold_init_by<
     ensures fault { IsMemoryOnErr result }
 {
     match path {
-        Path::Serial => Ok(fold_init_iter(
-            parts.into_items(),
-            init,
-            identity,
-            fold_op,
-        )),
+        Path::Serial => Ok(fold_init_iter(parts.into_items(), init, identity, fold_op)),
         Path::Parallel => {
             // (bound before it is answered, so that its facts have a name in the proof)
             let answer = fold_init_parallel(

@@ -8,8 +8,8 @@ ghost use Rattle.parallel_bridge.specs.Sources.{GivesSome};
 
 use crate::bridge::{bridge, unfailing};
 use crate::consumer::partition::{PartitionConsumer, partition_onto};
-use crate::producer::Producer;
 use crate::path::Path;
+use crate::producer::Producer;
 use parallel_fault::Fault;
 use std::alloc::Global;
 use std::num::NonZeroUsize;
