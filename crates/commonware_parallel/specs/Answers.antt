@@ -1,20 +1,34 @@
--- what a call answers, by the pick that it was given
-use Rattle.std.specs.Prelude.{ℕ, suc, zero, Result, Ok, Err}
+-- what a call answers, by what its body was told
+use Rattle.std.specs.Prelude.{ℕ, Result, Ok, Err}
+use Rattle.parallel_bridge.specs.declared.path.Path.{Path}
+use Rattle.parallel_bridge.specs.declared.path.Path.TheVariants.{Serial, Parallel}
+use Rattle.commonware_parallel.specs.declared.call.Pick.{Pick}
+use Rattle.commonware_parallel.specs.declared.call.Pick.TheVariants.{By, Into}
 use Rattle.parallel_fault.specs.declared.fault.Fault.{Fault}
 use Rattle.parallel_fault.specs.declared.fault.Trouble.{Trouble}
 use Rattle.parallel_fault.specs.declared.fault.Trouble.TheVariants.{Closure}
 use Rattle.parallel_fault.specs.declared.fault.Trouble.TheVariants.{Fault as OfFault}
 
--- an answer, or an error of the body's own, that the body allows at some pick that may be taken; or a refusal that may be met
-abbrev pub AnswersAs : {R E : Type 0} → (ℕ → Type 0) → (Fault → Type 0) → (ℕ → Result R E → Type 0) → Result R (Trouble E) → Type 0
-AnswersAs takes refuses allowed (Ok r) = (pick : ℕ) × takes pick × allowed pick (Ok r)
-AnswersAs takes refuses allowed (Err (Closure e)) = (pick : ℕ) × takes pick × allowed pick (Err e)
-AnswersAs takes refuses allowed (Err (OfFault f)) = refuses f
+-- an answer, or an error of the body's own, that the body allows where it is told what it may be told; or a refusal that may be met
+abbrev pub AnswersAs : {Told R E : Type 0} → (Told → Type 0) → (Fault → Type 0) → (Told → Result R E → Type 0) → Result R (Trouble E) → Type 0
+AnswersAs {Told = Told} may refuses allowed (Ok r) = (told : Told) × may told × allowed told (Ok r)
+AnswersAs {Told = Told} may refuses allowed (Err (Closure e)) = (told : Told) × may told × allowed told (Err e)
+AnswersAs may refuses allowed (Err (OfFault f)) = refuses f
 
--- the first at pick 0, the second at any other
-abbrev pub OneOf : Type 0 → Type 0 → ℕ → Type 0
-OneOf serial parallel zero = serial
-OneOf serial parallel (suc pick) = parallel
+-- the first serially, the second in parallel
+abbrev pub OneOf : Type 0 → Type 0 → Path → Type 0
+OneOf serial parallel Serial = serial
+OneOf serial parallel Parallel = parallel
+
+-- a pick that is a path, and a fact of it
+abbrev pub OnPath : Pick → (Path → Type 0) → Type 0
+OnPath (By path) fact = fact path
+OnPath (Into parts) fact = ⊥
+
+-- a pick that is a number of parts, and a fact of it
+abbrev pub OnParts : Pick → (ℕ → Type 0) → Type 0
+OnParts (By path) fact = ⊥
+OnParts (Into parts) fact = fact parts
 
 -- a fact, where the answer isn't a refusal
 abbrev pub UnlessFault : {R E : Type 0} → Result R (Trouble E) → Type 0 → Type 0

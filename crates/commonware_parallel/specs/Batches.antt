@@ -1,11 +1,13 @@
 -- the ranges that a batch is run over
-use Rattle.std.specs.Prelude.{◌≡◌, ◌≤◌, ◌<◌, ◌+◌, Bool, List, ℕ, length, All}
+use Rattle.std.specs.Prelude.{◌≡◌, ◌≤◌, ◌<◌, Bool, List, ℕ, length, All}
 use Rattle.std.specs.declared.ops.Range.{Range}
 use Rattle.parallel_fault.specs.declared.fault.Fault.{Fault}
 use Rattle.parallel_policy.specs.declared.Site.{Site}
 use Rattle.parallel_shares.specs.Cut.{BalancedCut, range_length}
 use Rattle.commonware_parallel.specs.Calls.{IsInnerOf, batches_call}
 use Rattle.commonware_parallel.specs.declared.call.Call.{Call}
+use Rattle.commonware_parallel.specs.declared.call.Pick.{Pick}
+use Rattle.commonware_parallel.specs.declared.call.Pick.TheVariants.{Into}
 use Rattle.commonware_parallel.specs.declared.batches.Batches.{Batches}
 
 -- the ranges of indices, in order
@@ -23,14 +25,14 @@ strategy_of batches = batches.strategy.now
 abbrev pub place_of : {S P : Type 0} → Batches S P → P
 place_of batches = batches.site
 
--- allowed holds of some batch: of one range more than a pick that the strategy may take for the call, over its inner strategy and with the call's place
-abbrev pub OnSomeBatch : {S P : Type 0} (takes : S → Site → Call → ℕ → Type 0)
+-- allowed holds of some batch: of as many ranges as the strategy may take for the call, over its inner strategy and with the call's place
+abbrev pub OnSomeBatch : {S P : Type 0} (takes : S → Site → Call → Pick → Type 0)
     (refuses : S → Site → Call → Fault → Type 0) (plans threads : S → ℕ) (starts : S → Bool)
     (strategy : S) (site : Site) (place : P) (len minimum multiplier : ℕ)
     (allowed : Batches S P → Type 0) → Type 0
-OnSomeBatch takes refuses plans threads starts strategy site place len minimum multiplier allowed = (pick : ℕ)
-    × (pick < (batches_call (plans strategy) len minimum multiplier).options)
-    × takes strategy site (batches_call (plans strategy) len minimum multiplier) pick
-    × (batches : Batches _ _) × IsBatch len (pick + 1) minimum (ranges_of batches)
+OnSomeBatch takes refuses plans threads starts strategy site place len minimum multiplier allowed = (parts : ℕ)
+    × (0 < parts) × (parts ≤ (batches_call (plans strategy) len minimum multiplier).parts)
+    × takes strategy site (batches_call (plans strategy) len minimum multiplier) (Into parts)
+    × (batches : Batches _ _) × IsBatch len parts minimum (ranges_of batches)
     × IsInnerOf takes refuses plans threads starts strategy (strategy_of batches)
     × (place_of batches ≡ place) × allowed batches

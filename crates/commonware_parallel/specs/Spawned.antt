@@ -1,12 +1,15 @@
 -- a job that was spawned: how it began, what it may answer, and what it waits for
-use Rattle.std.specs.Prelude.{◌≡◌, ◌⊎◌, ℕ, Bool, true, false, not, nat_eq, if◌then◌else◌}
+use Rattle.std.specs.Prelude.{◌≡◌, ◌⊎◌, ℕ, Bool, true, false, not}
 use Rattle.std.specs.Arc.{arc_value}
 use Rattle.parallel_fault.specs.declared.fault.Fault.{Fault}
 use Rattle.parallel_fault.specs.declared.fault.Fault.TheVariants.{Memory, Worker}
 use Rattle.commonware_parallel.specs.declared.spawned.Spawned.{Spawned}
 use Rattle.commonware_parallel.specs.declared.spawned.Stage.{Stage}
 use Rattle.commonware_parallel.specs.declared.spawned.Stage.TheVariants.{Ready, Waiting, Unstarted, Taken}
-use Rattle.commonware_parallel.specs.Calls.{AtSomePick}
+use Rattle.parallel_bridge.specs.declared.path.Path.{Path}
+use Rattle.parallel_bridge.specs.declared.path.Path.TheVariants.{Serial, Parallel}
+use Rattle.commonware_parallel.specs.declared.call.Pick.{Pick}
+use Rattle.commonware_parallel.specs.Calls.{AtSomePath}
 
 -- whether the answer is here
 abbrev pub is_ready_at : {S F T : Type 0} → Stage S F T → Bool
@@ -67,15 +70,15 @@ gives_answer may_answer spawned x = gives_at may_answer spawned.stage x
 abbrev pub needs_of : {R S F T : Type 0} → Spawned R S F T → ℕ → Type 0
 needs_of spawned source = needs_at spawned.stage spawned.never.id source
 
--- at pick 0 the answer is here; else there is a worker exactly where workers are started
-abbrev pub BeginsAs : {R S F T : Type 0} → Bool → ℕ → Spawned R S F T → Type 0
-BeginsAs starts pick spawned = (is_ready_now spawned ≡ nat_eq pick 0) × (is_taken spawned ≡ false)
-    × (is_without_worker spawned ≡ (if nat_eq pick 0 then false else not starts))
+-- serially the answer is here; in parallel it isn't, and there is a worker exactly where workers are started
+abbrev pub BeginsAs : {R S F T : Type 0} → Bool → Path → Spawned R S F T → Type 0
+BeginsAs starts Serial spawned = (is_ready_now spawned ≡ true) × (is_taken spawned ≡ false) × (is_without_worker spawned ≡ false)
+BeginsAs starts Parallel spawned = (is_ready_now spawned ≡ false) × (is_taken spawned ≡ false) × (is_without_worker spawned ≡ not starts)
 
 -- a refusal behind the choice: for memory, or of a worker's start where one was to be started
-abbrev pub FailsToBegin : Bool → ℕ → Fault → Type 0
-FailsToBegin starts pick fault = (fault ≡ Memory) ⊎ ((fault ≡ Worker) × (starts ≡ true) × (nat_eq pick 0 ≡ false))
+abbrev pub FailsToBegin : Bool → Path → Fault → Type 0
+FailsToBegin starts path fault = (fault ≡ Memory) ⊎ ((fault ≡ Worker) × (starts ≡ true) × (path ≡ Parallel))
 
 -- a refusal of the choice, or one behind it
-abbrev pub FailsToSpawn : (ℕ → Type 0) → (Fault → Type 0) → Bool → Fault → Type 0
-FailsToSpawn takes refuses starts fault = refuses fault ⊎ AtSomePick takes (λ pick. FailsToBegin starts pick fault)
+abbrev pub FailsToSpawn : (Pick → Type 0) → (Fault → Type 0) → Bool → Fault → Type 0
+FailsToSpawn takes refuses starts fault = refuses fault ⊎ AtSomePath takes (λ path. FailsToBegin starts path fault)

@@ -170,23 +170,24 @@ impl<'scope, S: Strategy, P: Place> Batches<'scope, S, P> {
         try_map_prepared(self.strategy, rt, alloc, self.site, is_whole, items, map_op)
     }
 
-    // The batch of a pick: one range more, and of two or more none shorter than the minimum.
-    pub(crate) fn picked(
+    // The batch of so many ranges, of which of two or more none is shorter than the minimum.
+    pub(crate) fn in_parts(
         alloc: Global,
         strategy: &'scope S,
         site: P,
         len: usize,
-        pick: usize,
+        parts: usize,
         minimum: NonZeroUsize,
     ) -> Result<Batches<'scope, S, P>, Fault>
-        requires { pick < max 1 (len / non_zero_usize_get minimum) }
+        requires some { 0 < parts }
+        requires fit { parts ≤ max 1 (len / non_zero_usize_get minimum) }
         ensures strategy { IfOk result (λ batches. strategy_of batches ≡ strategy.now) }
         ensures place { IfOk result (λ batches. place_of batches ≡ site) }
         ensures batch { IfOk result (λ batches.
-            IsBatch len (pick + 1) (non_zero_usize_get minimum) (ranges_of batches)) }
+            IsBatch len parts (non_zero_usize_get minimum) (ranges_of batches)) }
         ensures fault { IsMemoryOnErr result }
     {
-        let count = NonZeroUsize::MIN.saturating_add(pick);
+        let count = NonZeroUsize::MIN.saturating_add(parts - 1);
         let batches = Batches::balanced(alloc, strategy, site, len, count)?;
         Ok(batches)
     }

@@ -1,22 +1,32 @@
-ghost use Rattle.std.specs.Prelude.{◌≡◌, ◌≤◌};
+ghost use Rattle.std.specs.Prelude.{◌≡◌, ◌<◌, ◌≤◌};
 ghost use Rattle.std.specs.Int.NonZero.{non_zero_usize_get};
-ghost use Rattle.commonware_parallel.specs.Calls.{batches_call, body_call, join_call, multiplied_call, spawn_call, tiles_call, work_of};
+ghost use Rattle.commonware_parallel.specs.Calls.{HasPick, batches_call, body_call, first_pick, goes_by_path, join_call, last_pick, multiplied_call, nth_pick, options_of, spawn_call, tiles_call, work_of};
 
+use parallel_bridge::Path;
 use std::num::NonZeroUsize;
 
-/// What a call runs, and so what its pick means.
+/// What a call runs, and so which picks it has.
 #[derive(Clone, Copy, Debug, PartialEq, Eq, Hash)]
 pub enum Kind {
-    /// A serial body at pick 0, a parallel one at pick 1: `run`, folds, maps and sorts.
+    /// By a path, a serial body or a parallel one: `run`, folds, maps and sorts.
     Body,
-    /// One range more than the pick.
+    /// In a number of ranges.
     Batches,
-    /// One worker more than the pick.
+    /// For a number of workers.
     Tiles,
-    /// Run at once at pick 0, handed off at pick 1.
+    /// By a path: serially run at once, in parallel handed off.
     Spawn,
-    /// One after the other at pick 0, side by side at pick 1.
+    /// By a path: serially one after the other, in parallel side by side.
     Join,
+}
+
+/// What a strategy picks for a call, and what the call's body is told.
+#[derive(Clone, Copy, Debug, PartialEq, Eq, Hash)]
+pub enum Pick {
+    /// Of a body, a join or a job: its path.
+    By(Path),
+    /// Of batches the number of ranges, of tiles that of workers; at least 1.
+    Into(usize),
 }
 
 /// A call that a strategy is asked to choose for.
@@ -27,18 +37,27 @@ pub struct Call {
     pub len: usize,
     /// The work that the items stand for, by which a policy tells calls apart.
     pub work: usize,
-    /// The number of picks, which are the numbers below it.
-    pub options: usize,
+    /// How many ranges or workers there may be at most; 1 for a call that goes by a path.
+    pub parts: usize,
 }
-
-// The options of a call that goes either of two ways.
-const EITHER: usize = 2;
 
 // The work of `len` items that each stand for `multiplier`, or the greatest `usize`.
 fn total_work(len: usize, multiplier: usize) -> usize
     ensures { result ≡ work_of len multiplier }
 {
     len.saturating_mul(multiplier)
+}
+
+impl Kind {
+    // Whether its calls go by a path.
+    fn goes_by_path(self) -> bool
+        ensures { result ≡ goes_by_path self }
+    {
+        match self {
+            Kind::Body | Kind::Spawn | Kind::Join => true,
+            Kind::Batches | Kind::Tiles => false,
+        }
+    }
 }
 
 impl Call {
@@ -50,7 +69,7 @@ impl Call {
             kind: Kind::Body,
             len,
             work: len,
-            options: EITHER,
+            parts: 1,
         }
     }
 
@@ -63,7 +82,7 @@ impl Call {
             kind: Kind::Body,
             len,
             work: total_work(len, multiplier),
-            options: EITHER,
+            parts: 1,
         }
     }
 
@@ -75,7 +94,7 @@ impl Call {
             kind: Kind::Join,
             len: 2,
             work: 2,
-            options: EITHER,
+            parts: 1,
         }
     }
 
@@ -87,7 +106,7 @@ impl Call {
             kind: Kind::Spawn,
             len,
             work: len,
-            options: EITHER,
+            parts: 1,
         }
     }
 
@@ -106,7 +125,7 @@ impl Call {
             kind: Kind::Batches,
             len,
             work: total_work(len, multiplier),
-            options: parallelism.get().min(len / minimum).max(1),
+            parts: parallelism.get().min(len / minimum).max(1),
         }
     }
 
@@ -119,7 +138,58 @@ impl Call {
             kind: Kind::Tiles,
             len,
             work: total_work(cost, multiplier),
-            options: parallelism.get(),
+            parts: parallelism.get(),
+        }
+    }
+
+    /// The first pick: serially, or in one part.
+    pub fn first(self) -> Pick
+        ensures first { result ≡ first_pick self }
+        ensures has { 0 < self.parts → HasPick self result }
+    {
+        if self.kind.goes_by_path() {
+            Pick::By(Path::Serial)
+        } else {
+            Pick::Into(1)
+        }
+    }
+
+    /// The last pick: in parallel, or in as many parts as there may be.
+    pub fn last(self) -> Pick
+        ensures last { result ≡ last_pick self }
+        ensures has { 0 < self.parts → HasPick self result }
+    {
+        if self.kind.goes_by_path() {
+            Pick::By(Path::Parallel)
+        } else {
+            Pick::Into(self.parts)
+        }
+    }
+
+    /// How many picks there are: two paths, or as many as there may be parts.
+    pub fn options(self) -> usize
+        ensures options { result ≡ options_of self }
+        ensures some { 0 < self.parts → 0 < result }
+    {
+        if self.kind.goes_by_path() {
+            2
+        } else {
+            self.parts
+        }
+    }
+
+    /// The pick that has so many before it: 0 is the first.
+    pub fn nth(self, index: usize) -> Pick
+        requires { index < options_of self }
+        ensures pick { result ≡ nth_pick self index }
+        ensures has { HasPick self result }
+    {
+        if !self.kind.goes_by_path() {
+            return Pick::Into(index + 1);
+        }
+        match index {
+            0 => Pick::By(Path::Serial),
+            _ => Pick::By(Path::Parallel),
         }
     }
 }

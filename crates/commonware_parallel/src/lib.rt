@@ -9,6 +9,7 @@
 
 mod batches;
 mod call;
+mod dispatch;
 mod list;
 mod meter;
 pub mod mocks;
@@ -20,11 +21,11 @@ mod strategy;
 mod tiles;
 
 pub use batches::Batches;
-pub use call::{Call, Kind};
+pub use call::{Call, Kind, Pick};
 pub use meter::{Measured, Meter, Unmeasured};
 pub use on::On;
 pub use parallel_bridge as bridge;
-pub use parallel_bridge::{Copies, Indices, Producer, Source};
+pub use parallel_bridge::{Copies, Indices, Path, Producer, Source};
 pub use parallel_fault::{Fault, Trouble};
 pub use parallel_policy as policy;
 pub use parallel_policy::{Clock, MonotonicClock, Place, Policy, Site};

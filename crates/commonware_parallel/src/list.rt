@@ -1,10 +1,10 @@
-// What the list calls of a strategy stand on: the list's parts, split or as they come, at a pick that the
+// What the list calls of a strategy stand on: the list's parts, split or as they come, by a path that the
 // strategy takes.
 //
 // These functions are generic in the parts and not in the source, and write the bodies that go to the
 // strategy: the checker refuses a closure over parts whose type is a source's ("what is passed does not
 // fit the bound").
-ghost use Rattle.std.specs.Prelude.{◌≡◌, ◌<◌, ℕ, List, IfOk, IfErr, length};
+ghost use Rattle.std.specs.Prelude.{◌≡◌, ◌<◌, List, IfOk, IfErr, length};
 ghost use Rattle.std.specs.Borrow.{MutBor};
 ghost use Rattle.std.specs.Int.NonZero.{non_zero_usize_get};
 ghost use Rattle.std.specs.Iterator.{Drains, IsFinite};
@@ -21,19 +21,22 @@ ghost use Rattle.parallel_fault.specs.declared.fault.Fault.{Fault};
 ghost use Rattle.parallel_fault.specs.declared.fault.Fault.TheVariants.{Memory};
 ghost use Rattle.parallel_fault.specs.declared.fault.Trouble.TheVariants.{Fault as OfFault};
 ghost use Rattle.commonware_parallel.specs.Answers.{UnlessFault};
-ghost use Rattle.commonware_parallel.specs.Calls.{AtSomePick, body_call, multiplied_call};
+ghost use Rattle.commonware_parallel.specs.Calls.{AtSomePath, body_call, multiplied_call};
 ghost use Rattle.commonware_parallel.specs.declared.call.Kind.TheVariants.{Body};
+ghost use Rattle.commonware_parallel.specs.declared.call.Pick.TheVariants.{By};
+ghost use Rattle.parallel_bridge.specs.declared.path.Path.{Path};
 
 use crate::call::Call;
+use crate::dispatch::dispatch_path;
 use crate::strategy::Strategy;
-use parallel_bridge::Producer;
-use parallel_bridge::list::fold::fold_at;
-use parallel_bridge::list::fold_init::fold_init_at;
-use parallel_bridge::list::map::map_at;
-use parallel_bridge::list::map_init::map_init_at;
-use parallel_bridge::list::partition::partition_at;
-use parallel_bridge::list::try_fold::{try_fold_at, try_fold_iter};
-use parallel_bridge::list::try_map::try_map_at;
+use parallel_bridge::list::fold::fold_by;
+use parallel_bridge::list::fold_init::fold_init_by;
+use parallel_bridge::list::map::map_by;
+use parallel_bridge::list::map_init::map_init_by;
+use parallel_bridge::list::partition::partition_by;
+use parallel_bridge::list::try_fold::{try_fold_by, try_fold_iter};
+use parallel_bridge::list::try_map::try_map_by;
+use parallel_bridge::{Path, Producer};
 use parallel_fault::{Fault, Trouble};
 use parallel_policy::Place;
 use std::alloc::Global;
@@ -45,7 +48,7 @@ use std::thread::Threads;
 pub fn body_over<Q: Producer>(parts: &Q) -> Call
     ensures counted { (xs : List Q.Item) → Q.gives parts.now xs → result ≡ body_call (length xs) }
     ensures kind { result.kind ≡ Body }
-    ensures options { result.options ≡ 2 }
+    ensures parts { result.parts ≡ 1 }
 {
     Call::body(parts.len())
 }
@@ -55,14 +58,14 @@ pub fn multiplied_body_over<Q: Producer>(parts: &Q, multiplier: usize) -> Call
     ensures counted { (xs : List Q.Item) → Q.gives parts.now xs
         → result ≡ multiplied_call (length xs) multiplier }
     ensures kind { result.kind ≡ Body }
-    ensures options { result.options ≡ 2 }
+    ensures parts { result.parts ≡ 1 }
 {
     Call::body_with_multiplier(parts.len(), multiplier)
 }
 
-/// An answer of a body that may itself be refused memory, at a pick that the strategy takes for the
+/// An answer of a body that may itself be refused memory, by a path that the strategy takes for the
 /// call.
-pub fn dispatch_call<S: Strategy, Rt: Wait, P: Place, R, B: FnOnce(usize) -> Result<R, Fault>>(
+pub fn dispatch_call<S: Strategy, Rt: Wait, P: Place, R, B: FnOnce(Path) -> Result<R, Fault>>(
     strategy: &S,
     rt: &Rt,
     alloc: Global,
@@ -70,16 +73,16 @@ pub fn dispatch_call<S: Strategy, Rt: Wait, P: Place, R, B: FnOnce(usize) -> Res
     call: Call,
     body: B,
 ) -> Result<R, Fault>
-    requires options { call.options ≡ 2 }
+    requires parts { 0 < call.parts }
     requires kind { call.kind ≡ Body }
-    requires accepts { (pick : ℕ) → pick < 2 → S.takes strategy.now (P.site_of site) call pick
-        → B.pre body pick }
-    requires memory { (pick : ℕ) (fault : Fault) → B.post body pick (Err fault) → fault ≡ Memory }
-    ensures answers { IfOk result (λ answer. AtSomePick (S.takes strategy.now (P.site_of site) call)
-        (λ pick. B.post body pick (Ok answer))) }
+    requires accepts { (path : Path) → S.takes strategy.now (P.site_of site) call (By path)
+        → B.pre body path }
+    requires memory { (path : Path) (fault : Fault) → B.post body path (Err fault) → fault ≡ Memory }
+    ensures answers { IfOk result (λ answer. AtSomePath (S.takes strategy.now (P.site_of site) call)
+        (λ path. B.post body path (Ok answer))) }
     ensures fault { IsMemoryOnErr result }
 {
-    match strategy.dispatch(rt, alloc, site, call, body) {
+    match dispatch_path(strategy, rt, alloc, site, call, body) {
         Ok(answer) => Ok(answer),
         Err(Trouble::Closure(fault)) => Err(fault),
         Err(Trouble::Fault(fault)) => Err(fault),
@@ -93,19 +96,19 @@ pub fn dispatch_fallible<
     P: Place,
     R,
     E,
-    B: FnOnce(usize) -> Result<R, Trouble<E>>,
+    B: FnOnce(Path) -> Result<R, Trouble<E>>,
 >(strategy: &S, rt: &Rt, alloc: Global, site: P, call: Call, body: B) -> Result<R, Trouble<E>>
-    requires options { call.options ≡ 2 }
+    requires parts { 0 < call.parts }
     requires kind { call.kind ≡ Body }
-    requires accepts { (pick : ℕ) → pick < 2 → S.takes strategy.now (P.site_of site) call pick
-        → B.pre body pick }
-    requires memory { (pick : ℕ) (fault : Fault) → B.post body pick (Err (OfFault fault))
+    requires accepts { (path : Path) → S.takes strategy.now (P.site_of site) call (By path)
+        → B.pre body path }
+    requires memory { (path : Path) (fault : Fault) → B.post body path (Err (OfFault fault))
         → fault ≡ Memory }
-    ensures answers { UnlessFault result (AtSomePick (S.takes strategy.now (P.site_of site) call)
-        (λ pick. B.post body pick result)) }
+    ensures answers { UnlessFault result (AtSomePath (S.takes strategy.now (P.site_of site) call)
+        (λ path. B.post body path result)) }
     ensures fault { UnlessRefused result (λ _. Unit {0}) }
 {
-    match strategy.dispatch(rt, alloc, site, call, body) {
+    match dispatch_path(strategy, rt, alloc, site, call, body) {
         Ok(answer) => Ok(answer),
         Err(Trouble::Closure(Trouble::Closure(error))) => Err(Trouble::Closure(error)),
         Err(Trouble::Closure(Trouble::Fault(fault))) => Err(Trouble::Fault(fault)),
@@ -130,21 +133,21 @@ pub fn map_through<
     parts: Q,
     map_op: &F,
 ) -> Result<Vec<T>, Fault>
-    requires options { call.options ≡ 2 }
+    requires parts { 0 < call.parts }
     requires kind { call.kind ≡ Body }
     requires accepts { (x : Q.Item) → Q.may parts x → F.pre map_op.now x }
     ensures answers { IfOk result (λ ys. GivesSome Q.gives parts
-        (λ xs. AtSomePick (S.takes strategy.now (P.site_of site) call)
+        (λ xs. AtSomePath (S.takes strategy.now (P.site_of site) call)
         (λ _. MapOf (F.post map_op.now) xs ys.items))) }
     ensures fault { IsMemoryOnErr result }
 {
     let threads = strategy.thread_number();
-    let body = move |pick: usize| -> Result<Vec<T>, Fault>
+    let body = move |path: Path| -> Result<Vec<T>, Fault>
         requires { (x : Q.Item) → Q.may parts x → F.pre map_op.now x }
         ensures maps { IfOk result (λ ys. GivesSome Q.gives parts
             (λ xs. MapOf (F.post map_op.entry.now) xs ys.items)) }
         ensures fault { IsMemoryOnErr result }
-    { map_at(rt, alloc, threads, pick, parts, map_op) };
+    { map_by(rt, alloc, threads, path, parts, map_op) };
     let answers = dispatch_call(strategy, rt, alloc, site, call, body)?;
     Ok(answers)
 }
@@ -167,19 +170,19 @@ pub fn try_map_through<
     parts: Q,
     map_op: &F,
 ) -> Result<Vec<T>, Trouble<E>>
-    requires options { call.options ≡ 2 }
+    requires parts { 0 < call.parts }
     requires kind { call.kind ≡ Body }
     requires accepts { (x : Q.Item) → Q.may parts x → F.pre map_op.now x }
     ensures answers { UnlessRefused result (λ out. GivesSome Q.gives parts
-        (λ xs. AtSomePick (S.takes strategy.now (P.site_of site) call)
+        (λ xs. AtSomePath (S.takes strategy.now (P.site_of site) call)
         (λ _. TryMapOf (F.post map_op.now) xs (listed out)))) }
 {
     let threads = strategy.thread_number();
-    let body = move |pick: usize| -> Result<Vec<T>, Trouble<E>>
+    let body = move |path: Path| -> Result<Vec<T>, Trouble<E>>
         requires { (x : Q.Item) → Q.may parts x → F.pre map_op.now x }
         ensures { UnlessRefused result (λ out. GivesSome Q.gives parts
             (λ xs. TryMapOf (F.post map_op.entry.now) xs (listed out))) }
-    { try_map_here(rt, alloc, threads, pick, parts, map_op) };
+    { try_map_here(rt, alloc, threads, path, parts, map_op) };
     dispatch_fallible(strategy, rt, alloc, site, call, body)
 }
 
@@ -201,21 +204,21 @@ pub fn partition_through<
     parts: Q,
     map_op: &F,
 ) -> Result<(Vec<U>, Vec<K>), Fault>
-    requires options { call.options ≡ 2 }
+    requires parts { 0 < call.parts }
     requires kind { call.kind ≡ Body }
     requires accepts { (x : Q.Item) → Q.may parts x → F.pre map_op.now x }
     ensures answers { IfOk result (λ r. GivesSome Q.gives parts
-        (λ xs. AtSomePick (S.takes strategy.now (P.site_of site) call)
+        (λ xs. AtSomePath (S.takes strategy.now (P.site_of site) call)
         (λ _. PartitionOf (F.post map_op.now) xs r.0.items r.1.items))) }
     ensures fault { IsMemoryOnErr result }
 {
     let threads = strategy.thread_number();
-    let body = move |pick: usize| -> Result<(Vec<U>, Vec<K>), Fault>
+    let body = move |path: Path| -> Result<(Vec<U>, Vec<K>), Fault>
         requires { (x : Q.Item) → Q.may parts x → F.pre map_op.now x }
         ensures parts { IfOk result (λ r. GivesSome Q.gives parts
             (λ xs. PartitionOf (F.post map_op.entry.now) xs r.0.items r.1.items)) }
         ensures fault { IsMemoryOnErr result }
-    { partition_here(rt, alloc, threads, pick, parts, map_op) };
+    { partition_here(rt, alloc, threads, path, parts, map_op) };
     let answers = dispatch_call(strategy, rt, alloc, site, call, body)?;
     Ok(answers)
 }
@@ -240,26 +243,26 @@ pub fn map_init_through<
     init: &N,
     map_op: &F,
 ) -> Result<Vec<T>, Fault>
-    requires options { call.options ≡ 2 }
+    requires parts { 0 < call.parts }
     requires kind { call.kind ≡ Body }
     requires init_accepts { N.IsAlwaysCallable init.now }
     requires map_accepts { (x : Q.Item) → Q.may parts x
         → (state : MutBor V) → F.pre map_op.now state x }
     ensures answers { IfOk result (λ ys. GivesSome Q.gives parts
-        (λ xs. AtSomePick (S.takes strategy.now (P.site_of site) call)
-        (λ pick. MappedInitAs (N.post init.now) (MapStep (λ p x y q. F.post map_op.now p x y q))
-        (cutdepth (S.threads strategy.now)) pick xs ys.items))) }
+        (λ xs. AtSomePath (S.takes strategy.now (P.site_of site) call)
+        (λ path. MappedInitAs (N.post init.now) (MapStep (λ p x y q. F.post map_op.now p x y q))
+        (cutdepth (S.threads strategy.now)) path xs ys.items))) }
     ensures fault { IsMemoryOnErr result }
 {
     let threads = strategy.thread_number();
-    let body = move |pick: usize| -> Result<Vec<T>, Fault>
+    let body = move |path: Path| -> Result<Vec<T>, Fault>
         requires { N.IsAlwaysCallable init.now × ((x : Q.Item) → Q.may parts x
             → (state : MutBor V) → F.pre map_op.now state x) }
         ensures maps { IfOk result (λ ys. GivesSome Q.gives parts (λ xs. MappedInitAs
             (N.post init.entry.now) (MapStep (λ p x y q. F.post map_op.entry.now p x y q))
-            (cutdepth (non_zero_usize_get threads)) pick xs ys.items)) }
+            (cutdepth (non_zero_usize_get threads)) path xs ys.items)) }
         ensures fault { IsMemoryOnErr result }
-    { map_init_at(rt, alloc, threads, pick, parts, init, map_op) };
+    { map_init_by(rt, alloc, threads, path, parts, init, map_op) };
     let answers = dispatch_call(strategy, rt, alloc, site, call, body)?;
     Ok(answers)
 }
@@ -285,29 +288,29 @@ pub fn fold_through<
     fold_op: &F,
     reduce_op: &G,
 ) -> Result<R, Fault>
-    requires options { call.options ≡ 2 }
+    requires parts { 0 < call.parts }
     requires kind { call.kind ≡ Body }
     requires identity_accepts { ID.IsAlwaysCallable identity.now }
     requires fold_accepts { F.IsAlwaysCallable fold_op.now }
     requires reduce_accepts { G.IsAlwaysCallable reduce_op.now }
     ensures answers { IfOk result (λ r. GivesSome Q.gives parts
-        (λ xs. AtSomePick (S.takes strategy.now (P.site_of site) call)
-        (λ pick. FoldedAs (ID.post identity.now) (λ a x b. F.post fold_op.now a x b)
-        (λ a b c. G.post reduce_op.now a b c) (cutdepth (S.threads strategy.now)) pick xs r))) }
+        (λ xs. AtSomePath (S.takes strategy.now (P.site_of site) call)
+        (λ path. FoldedAs (ID.post identity.now) (λ a x b. F.post fold_op.now a x b)
+        (λ a b c. G.post reduce_op.now a b c) (cutdepth (S.threads strategy.now)) path xs r))) }
     ensures fault { IsMemoryOnErr result }
 {
     let threads = strategy.thread_number();
-    let body = move |pick: usize| -> Result<R, Fault>
+    let body = move |path: Path| -> Result<R, Fault>
         requires { ID.IsAlwaysCallable identity.now × F.IsAlwaysCallable fold_op.now
             × G.IsAlwaysCallable reduce_op.now }
         ensures folds { IfOk result (λ r. GivesSome Q.gives parts (λ xs. FoldedAs
             (ID.post identity.entry.now) (λ a x b. F.post fold_op.entry.now a x b)
             (λ a b c. G.post reduce_op.entry.now a b c)
-            (cutdepth (non_zero_usize_get threads)) pick xs r)) }
+            (cutdepth (non_zero_usize_get threads)) path xs r)) }
         ensures fault { IsMemoryOnErr result }
     {
-        fold_at(
-            rt, alloc, threads, pick, parts, identity, fold_op, reduce_op,
+        fold_by(
+            rt, alloc, threads, path, parts, identity, fold_op, reduce_op,
         )
     };
     let answer = dispatch_call(strategy, rt, alloc, site, call, body)?;
@@ -338,32 +341,32 @@ pub fn fold_init_through<
     fold_op: &F,
     reduce_op: &G,
 ) -> Result<R, Fault>
-    requires options { call.options ≡ 2 }
+    requires parts { 0 < call.parts }
     requires kind { call.kind ≡ Body }
     requires init_accepts { N.IsAlwaysCallable init.now }
     requires identity_accepts { ID.IsAlwaysCallable identity.now }
     requires fold_accepts { F.IsAlwaysCallable fold_op.now }
     requires reduce_accepts { G.IsAlwaysCallable reduce_op.now }
     ensures answers { IfOk result (λ r. GivesSome Q.gives parts
-        (λ xs. AtSomePick (S.takes strategy.now (P.site_of site) call)
-        (λ pick. FoldedInitAs (N.post init.now) (ID.post identity.now)
+        (λ xs. AtSomePath (S.takes strategy.now (P.site_of site) call)
+        (λ path. FoldedInitAs (N.post init.now) (ID.post identity.now)
         (FoldStep (λ a p x b q. F.post fold_op.now a p x b q))
-        (λ a b c. G.post reduce_op.now a b c) (cutdepth (S.threads strategy.now)) pick xs r))) }
+        (λ a b c. G.post reduce_op.now a b c) (cutdepth (S.threads strategy.now)) path xs r))) }
     ensures fault { IsMemoryOnErr result }
 {
     let threads = strategy.thread_number();
-    let body = move |pick: usize| -> Result<R, Fault>
+    let body = move |path: Path| -> Result<R, Fault>
         requires { N.IsAlwaysCallable init.now × ID.IsAlwaysCallable identity.now
             × F.IsAlwaysCallable fold_op.now × G.IsAlwaysCallable reduce_op.now }
         ensures folds { IfOk result (λ r. GivesSome Q.gives parts (λ xs. FoldedInitAs
             (N.post init.entry.now) (ID.post identity.entry.now)
             (FoldStep (λ a p x b q. F.post fold_op.entry.now a p x b q))
             (λ a b c. G.post reduce_op.entry.now a b c)
-            (cutdepth (non_zero_usize_get threads)) pick xs r)) }
+            (cutdepth (non_zero_usize_get threads)) path xs r)) }
         ensures fault { IsMemoryOnErr result }
     {
-        fold_init_at(
-            rt, alloc, threads, pick, parts, init, identity, fold_op, reduce_op,
+        fold_init_by(
+            rt, alloc, threads, path, parts, init, identity, fold_op, reduce_op,
         )
     };
     let answer = dispatch_call(strategy, rt, alloc, site, call, body)?;
@@ -392,28 +395,28 @@ pub fn try_fold_through<
     fold_op: &F,
     reduce_op: &G,
 ) -> Result<R, Trouble<E>>
-    requires options { call.options ≡ 2 }
+    requires parts { 0 < call.parts }
     requires kind { call.kind ≡ Body }
     requires identity_accepts { ID.IsAlwaysCallable identity.now }
     requires fold_accepts { F.IsAlwaysCallable fold_op.now }
     requires reduce_accepts { G.IsAlwaysCallable reduce_op.now }
     ensures answers { UnlessRefused result (λ out. GivesSome Q.gives parts
-        (λ xs. AtSomePick (S.takes strategy.now (P.site_of site) call)
-        (λ pick. TryFoldedAs (ID.post identity.now) (λ a x o. F.post fold_op.now a x o)
+        (λ xs. AtSomePath (S.takes strategy.now (P.site_of site) call)
+        (λ path. TryFoldedAs (ID.post identity.now) (λ a x o. F.post fold_op.now a x o)
         (λ a b c. G.post reduce_op.now a b c) (cutdepth (S.threads strategy.now))
-        pick xs out))) }
+        path xs out))) }
 {
     let threads = strategy.thread_number();
-    let body = move |pick: usize| -> Result<R, Trouble<E>>
+    let body = move |path: Path| -> Result<R, Trouble<E>>
         requires { ID.IsAlwaysCallable identity.now × F.IsAlwaysCallable fold_op.now
             × G.IsAlwaysCallable reduce_op.now }
         ensures { UnlessRefused result (λ out. GivesSome Q.gives parts (λ xs. TryFoldedAs
             (ID.post identity.entry.now) (λ a x o. F.post fold_op.entry.now a x o)
             (λ a b c. G.post reduce_op.entry.now a b c)
-            (cutdepth (non_zero_usize_get threads)) pick xs out)) }
+            (cutdepth (non_zero_usize_get threads)) path xs out)) }
     {
         try_fold_here(
-            rt, alloc, threads, pick, parts, identity, fold_op, reduce_op,
+            rt, alloc, threads, path, parts, identity, fold_op, reduce_op,
         )
     };
     dispatch_fallible(strategy, rt, alloc, site, call, body)
@@ -455,7 +458,7 @@ fn try_map_here<
     rt: &Rt,
     alloc: Global,
     threads: NonZeroUsize,
-    pick: usize,
+    path: Path,
     parts: P,
     map_op: &F,
 ) -> Result<Vec<T>, Trouble<E>>
@@ -463,7 +466,7 @@ fn try_map_here<
     ensures maps { UnlessRefused result (λ out. GivesSome P.gives parts
         (λ xs. TryMapOf (F.post map_op.now) xs (listed out))) }
 {
-    try_map_at(rt, alloc, threads, pick, parts, map_op)
+    try_map_by(rt, alloc, threads, path, parts, map_op)
 }
 
 fn partition_here<
@@ -476,7 +479,7 @@ fn partition_here<
     rt: &Rt,
     alloc: Global,
     threads: NonZeroUsize,
-    pick: usize,
+    path: Path,
     parts: P,
     map_op: &F,
 ) -> Result<(Vec<U>, Vec<K>), Fault>
@@ -485,7 +488,7 @@ fn partition_here<
         (λ xs. PartitionOf (F.post map_op.now) xs r.0.items r.1.items)) }
     ensures fault { IsMemoryOnErr result }
 {
-    partition_at(rt, alloc, threads, pick, parts, map_op)
+    partition_by(rt, alloc, threads, path, parts, map_op)
 }
 
 fn try_fold_here<
@@ -500,7 +503,7 @@ fn try_fold_here<
     rt: &Rt,
     alloc: Global,
     threads: NonZeroUsize,
-    pick: usize,
+    path: Path,
     parts: P,
     identity: &ID,
     fold_op: &F,
@@ -511,9 +514,9 @@ fn try_fold_here<
     requires reduce_accepts { G.IsAlwaysCallable reduce_op.now }
     ensures folds { UnlessRefused result (λ out. GivesSome P.gives parts
         (λ xs. TryFoldedAs (ID.post identity.now) (λ a x out. F.post fold_op.now a x out)
-        (λ a b c. G.post reduce_op.now a b c) (cutdepth (non_zero_usize_get threads)) pick xs out)) }
+        (λ a b c. G.post reduce_op.now a b c) (cutdepth (non_zero_usize_get threads)) path xs out)) }
 {
-    try_fold_at(
-        rt, alloc, threads, pick, parts, identity, fold_op, reduce_op,
+    try_fold_by(
+        rt, alloc, threads, path, parts, identity, fold_op, reduce_op,
     )
 }

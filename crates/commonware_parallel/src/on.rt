@@ -12,7 +12,7 @@ ghost use Rattle.parallel_bridge.specs.Tries.{TryBracketing, TryMapOf};
 ghost use Rattle.parallel_bridge.specs.Ways.{FoldedAs, FoldedInitAs, MappedInitAs, TryFoldedAs};
 ghost use Rattle.parallel_fault.specs.Trouble.{IfFault, IsMemoryOnErr};
 ghost use Rattle.parallel_fault.specs.declared.fault.Fault.TheVariants.{Memory};
-ghost use Rattle.commonware_parallel.specs.Calls.{AtSomePick, body_call, join_call};
+ghost use Rattle.commonware_parallel.specs.Calls.{AtSomePath, body_call, join_call};
 
 use crate::strategy::Strategy;
 use parallel_bridge::Source;
@@ -67,7 +67,7 @@ impl<'s, Rt: Threads + Wait + Sync, S: Strategy, P: Place> On<'s, Rt, S, P> {
         ensures permutation { IsPermutation items.old items.new }
         ensures sorted { OnOk result (IsSortedByClosure C.FnMut compare items.new) }
         ensures stable { IsStableByClosure C.FnMut compare items.old items.new }
-        ensures asked { OnOk result (AtSomePick
+        ensures asked { OnOk result (AtSomePath
             (S.takes self.now.strategy.now (P.site_of self.now.site) (body_call (length items.old))) (λ _. Unit {0})) }
         ensures fault { IsMemoryOnErr result }
     {
@@ -84,7 +84,7 @@ impl<'s, Rt: Threads + Wait + Sync, S: Strategy, P: Place> On<'s, Rt, S, P> {
         requires { C.IsAlwaysCallable compare }
         ensures permutation { IsPermutation items.old items.new }
         ensures sorted { OnOk result (IsSortedByClosure C.FnMut compare items.new) }
-        ensures asked { OnOk result (AtSomePick
+        ensures asked { OnOk result (AtSomePath
             (S.takes self.now.strategy.now (P.site_of self.now.site) (body_call (length items.old))) (λ _. Unit {0})) }
         ensures fault { IsMemoryOnErr result }
     {
@@ -103,7 +103,7 @@ impl<'s, Rt: Threads + Wait + Sync, S: Strategy, P: Place> On<'s, Rt, S, P> {
         ensures answers { IfOk result (λ ys. GivesSome I.gives source
             (λ xs. MapOf (F.post map_op) xs ys.items)) }
         ensures asked { OnOk result (GivesSome I.gives source
-            (λ xs. AtSomePick (S.takes self.now.strategy.now (P.site_of self.now.site) (body_call (length xs))) (λ _. Unit {0}))) }
+            (λ xs. AtSomePath (S.takes self.now.strategy.now (P.site_of self.now.site) (body_call (length xs))) (λ _. Unit {0}))) }
         ensures fault { IsMemoryOnErr result }
     {
         self.strategy
@@ -127,9 +127,9 @@ impl<'s, Rt: Threads + Wait + Sync, S: Strategy, P: Place> On<'s, Rt, S, P> {
             (λ xs. Bracketing (ID.post identity) (λ a x b. F.post fold_op a x b)
             (λ a b c. G.post reduce_op a b c) xs r)) }
         ensures along { IfOk result (λ r. GivesSome I.gives source
-            (λ xs. AtSomePick (S.takes self.now.strategy.now (P.site_of self.now.site) (body_call (length xs)))
-            (λ pick. FoldedAs (ID.post identity) (λ a x b. F.post fold_op a x b)
-            (λ a b c. G.post reduce_op a b c) (cutdepth (S.threads self.now.strategy.now)) pick xs r))) }
+            (λ xs. AtSomePath (S.takes self.now.strategy.now (P.site_of self.now.site) (body_call (length xs)))
+            (λ path. FoldedAs (ID.post identity) (λ a x b. F.post fold_op a x b)
+            (λ a b c. G.post reduce_op a b c) (cutdepth (S.threads self.now.strategy.now)) path xs r))) }
         ensures fault { IsMemoryOnErr result }
     {
         self.strategy.fold(
@@ -158,10 +158,10 @@ impl<'s, Rt: Threads + Wait + Sync, S: Strategy, P: Place> On<'s, Rt, S, P> {
             (FoldStep (λ a p x b q. F.post fold_op a p x b q)))
             (λ a b c. G.post reduce_op a b c) xs r)) }
         ensures along { IfOk result (λ r. GivesSome I.gives source
-            (λ xs. AtSomePick (S.takes self.now.strategy.now (P.site_of self.now.site) (body_call (length xs)))
-            (λ pick. FoldedInitAs (N.post init) (ID.post identity)
+            (λ xs. AtSomePath (S.takes self.now.strategy.now (P.site_of self.now.site) (body_call (length xs)))
+            (λ path. FoldedInitAs (N.post init) (ID.post identity)
             (FoldStep (λ a p x b q. F.post fold_op a p x b q))
-            (λ a b c. G.post reduce_op a b c) (cutdepth (S.threads self.now.strategy.now)) pick xs r))) }
+            (λ a b c. G.post reduce_op a b c) (cutdepth (S.threads self.now.strategy.now)) path xs r))) }
         ensures fault { IsMemoryOnErr result }
     {
         self.strategy.fold_init(
@@ -187,9 +187,9 @@ impl<'s, Rt: Threads + Wait + Sync, S: Strategy, P: Place> On<'s, Rt, S, P> {
             (λ xs. TryBracketing (ID.post identity) (λ a x b. F.post fold_op a x b)
             (λ a b c. G.post reduce_op a b c) xs out)) }
         ensures along { UnlessRefused result (λ out. GivesSome I.gives source
-            (λ xs. AtSomePick (S.takes self.now.strategy.now (P.site_of self.now.site) (body_call (length xs)))
-            (λ pick. TryFoldedAs (ID.post identity) (λ a x b. F.post fold_op a x b)
-            (λ a b c. G.post reduce_op a b c) (cutdepth (S.threads self.now.strategy.now)) pick xs out))) }
+            (λ xs. AtSomePath (S.takes self.now.strategy.now (P.site_of self.now.site) (body_call (length xs)))
+            (λ path. TryFoldedAs (ID.post identity) (λ a x b. F.post fold_op a x b)
+            (λ a b c. G.post reduce_op a b c) (cutdepth (S.threads self.now.strategy.now)) path xs out))) }
         ensures fault { IfErr result (λ trouble. IfFault trouble (λ fault. fault ≡ Memory)) }
     {
         self.strategy.try_fold(
@@ -210,7 +210,7 @@ impl<'s, Rt: Threads + Wait + Sync, S: Strategy, P: Place> On<'s, Rt, S, P> {
         ensures answers { UnlessRefused result (λ out. GivesSome I.gives source
             (λ xs. TryMapOf (F.post map_op) xs (listed out))) }
         ensures asked { UnlessRefused result (λ _. GivesSome I.gives source
-            (λ xs. AtSomePick (S.takes self.now.strategy.now (P.site_of self.now.site) (body_call (length xs)))
+            (λ xs. AtSomePath (S.takes self.now.strategy.now (P.site_of self.now.site) (body_call (length xs)))
             (λ _. Unit {0}))) }
         ensures fault { IfErr result (λ trouble. IfFault trouble (λ fault. fault ≡ Memory)) }
     {
@@ -235,9 +235,9 @@ impl<'s, Rt: Threads + Wait + Sync, S: Strategy, P: Place> On<'s, Rt, S, P> {
             (λ xs. Stateful (N.post init) (MapStep (λ p x y q. F.post map_op p x y q))
             xs ys.items)) }
         ensures along { IfOk result (λ ys. GivesSome I.gives source
-            (λ xs. AtSomePick (S.takes self.now.strategy.now (P.site_of self.now.site) (body_call (length xs)))
-            (λ pick. MappedInitAs (N.post init) (MapStep (λ p x y q. F.post map_op p x y q))
-            (cutdepth (S.threads self.now.strategy.now)) pick xs ys.items))) }
+            (λ xs. AtSomePath (S.takes self.now.strategy.now (P.site_of self.now.site) (body_call (length xs)))
+            (λ path. MappedInitAs (N.post init) (MapStep (λ p x y q. F.post map_op p x y q))
+            (cutdepth (S.threads self.now.strategy.now)) path xs ys.items))) }
         ensures fault { IsMemoryOnErr result }
     {
         self.strategy
@@ -257,7 +257,7 @@ impl<'s, Rt: Threads + Wait + Sync, S: Strategy, P: Place> On<'s, Rt, S, P> {
         ensures answers { IfOk result (λ parts. GivesSome I.gives source
             (λ xs. PartitionOf (F.post map_op) xs parts.0.items parts.1.items)) }
         ensures asked { OnOk result (GivesSome I.gives source
-            (λ xs. AtSomePick (S.takes self.now.strategy.now (P.site_of self.now.site) (body_call (length xs)))
+            (λ xs. AtSomePath (S.takes self.now.strategy.now (P.site_of self.now.site) (body_call (length xs)))
             (λ _. Unit {0}))) }
         ensures fault { IsMemoryOnErr result }
     {

@@ -4,7 +4,7 @@ ghost use Rattle.parallel_fault.specs.Trouble.{IsMemoryOnErr};
 ghost use Rattle.parallel_policy.specs.Keys.{key_of};
 ghost use Rattle.parallel_pool.specs.ThreadPool.{thread_count};
 
-use crate::call::{Call, Kind};
+use crate::call::{Call, Kind, Pick};
 use crate::meter::{Measured, Sample, Told};
 use crate::strategy::Strategy;
 use parallel_fault::{Fault, Trouble};
@@ -92,6 +92,7 @@ impl<C: Clock> Rayon<C> {
 
 impl<C> Rayon<C> {
     ghost use Rattle.commonware_parallel.specs.Rayon.{planning_of, threads_of, chooses_of, starts_of, RayonTakes};
+    ghost use Rattle.commonware_parallel.specs.Calls.{HasPick, first_pick, last_pick, options_of};
     ghost use Rattle.commonware_parallel.specs.declared.call.Kind.TheVariants.{Join, Spawn};
 
     /// The same strategy, planned for `parallelism`. The pool, its thread number and the policy stay.
@@ -139,15 +140,15 @@ impl<C> Rayon<C> {
     }
 
     // The pick of a call that no policy is asked about.
-    fn pick(&self, call: Call) -> usize
-        requires { 0 < call.options }
-        ensures below { result < call.options }
+    fn pick(&self, call: Call) -> Pick
+        requires { 0 < call.parts }
+        ensures has { HasPick call result }
         ensures takes { RayonTakes (planning_of self.now) (threads_of self.now) (chooses_of self.now) call result }
     {
         if call.kind == Kind::Join || self.planned(call) > 1 {
-            call.options - 1
+            call.last()
         } else {
-            0
+            call.first()
         }
     }
 
@@ -155,11 +156,11 @@ impl<C> Rayon<C> {
     fn asked(&self, call: Call) -> Option<&Policy>
         ensures chooses { IsSome result → chooses_of self.now ≡ true }
         ensures kind { IsSome result → call.kind ≢ Join }
-        ensures options { IsSome result → 2 ≤ call.options }
-        ensures first { IsSome result → RayonTakes (planning_of self.now) (threads_of self.now) (chooses_of self.now) call 0 }
-        ensures last { IsSome result → RayonTakes (planning_of self.now) (threads_of self.now) (chooses_of self.now) call (call.options - 1) }
+        ensures options { IsSome result → 2 ≤ options_of call }
+        ensures first { IsSome result → RayonTakes (planning_of self.now) (threads_of self.now) (chooses_of self.now) call (first_pick call) }
+        ensures last { IsSome result → RayonTakes (planning_of self.now) (threads_of self.now) (chooses_of self.now) call (last_pick call) }
     {
-        if call.kind == Kind::Join || call.options < 2 || self.planned(call) < 2 {
+        if call.kind == Kind::Join || call.options() < 2 || self.planned(call) < 2 {
             return None;
         }
         self.policy.as_ref()
@@ -230,7 +231,7 @@ impl<C: Clock> Strategy for Rayon<C> {
         self.without_policy()
     }
 
-    fn dispatch<Rt: Wait, P: Place, R, E, B: FnOnce(usize) -> Result<R, E>>(
+    fn dispatch<Rt: Wait, P: Place, R, E, B: FnOnce(Pick) -> Result<R, E>>(
         &self,
         rt: &Rt,
         _alloc: Global,
@@ -241,13 +242,13 @@ impl<C: Clock> Strategy for Rayon<C> {
         let Some(policy) = self.asked(call) else {
             return body(self.pick(call)).map_err(Trouble::Closure);
         };
-        let last = call.options - 1;
+        let (first, last) = (call.first(), call.last());
         let run = move |execution: RunExecution| -> Result<R, E>
-            requires { B.pre body 0 × B.pre body last }
-            ensures { B.post body 0 result ⊎ B.post body last result }
+            requires { B.pre body first × B.pre body last }
+            ensures { B.post body first result ⊎ B.post body last result }
         {
             match execution {
-                RunExecution::Serial => body(0),
+                RunExecution::Serial => body(first),
                 RunExecution::Parallel => body(last),
             }
         };
@@ -262,28 +263,24 @@ impl<C: Clock> Strategy for Rayon<C> {
         _alloc: Global,
         site: P,
         call: Call,
-    ) -> Result<(usize, Measured<C>), Fault> {
+    ) -> Result<(Pick, Measured<C>), Fault> {
         let Some(policy) = self.asked(call) else {
             return Ok((self.pick(call), Measured::nothing()));
         };
         let key = self.key(site.site(), call);
         let (pick, measured, sample) = match call.kind {
             Kind::Spawn => match policy.choose_spawn(rt, key, INLINE_BUDGET)? {
-                (SpawnExecution::Inline, measured) => (0, measured, Sample::Inline),
+                (SpawnExecution::Inline, measured) => (call.first(), measured, Sample::Inline),
                 (SpawnExecution::Offload, measured) => {
-                    (call.options - 1, measured, Sample::Offloaded)
+                    (call.last(), measured, Sample::Offloaded)
                 }
             },
             _ => match policy.choose_run(rt, key, self.planned(call))? {
                 (RunExecution::Serial, measured) => {
-                    (0, measured, Sample::Run(RunExecution::Serial))
+                    (call.first(), measured, Sample::Run(RunExecution::Serial))
                 }
                 (RunExecution::Parallel, measured) => {
-                    (
-                        call.options - 1,
-                        measured,
-                        Sample::Run(RunExecution::Parallel),
-                    )
+                    (call.last(), measured, Sample::Run(RunExecution::Parallel))
                 }
             },
         };

@@ -10,7 +10,7 @@ ghost use Rattle.parallel_bridge.specs.Parts.{PartitionOf};
 ghost use Rattle.parallel_bridge.specs.States.{FoldInitSegment, FoldStep, MapStep, StateSegment};
 ghost use Rattle.parallel_bridge.specs.Tries.{TryFoldSegment, TryMapOf};
 
-use crate::call::Call;
+use crate::call::{Call, Pick};
 use crate::meter::Unmeasured;
 use crate::strategy::Strategy;
 use parallel_bridge::list::fold::fold_iter;
@@ -346,7 +346,9 @@ impl Sequential {
 }
 
 impl Strategy for Sequential {
-    ghost takes = { λ _ _ _ pick. pick ≡ 0 };
+    ghost use Rattle.commonware_parallel.specs.Calls.{first_pick};
+
+    ghost takes = { λ _ _ call pick. pick ≡ first_pick call };
 
     ghost refuses = { λ _ _ _ _. ⊥ };
 
@@ -380,15 +382,15 @@ impl Strategy for Sequential {
         Ok(Sequential)
     }
 
-    fn dispatch<Rt: Wait, P: Place, R, E, B: FnOnce(usize) -> Result<R, E>>(
+    fn dispatch<Rt: Wait, P: Place, R, E, B: FnOnce(Pick) -> Result<R, E>>(
         &self,
         _rt: &Rt,
         _alloc: Global,
         _site: P,
-        _call: Call,
+        call: Call,
         body: B,
     ) -> Result<R, Trouble<E>> {
-        body(0).map_err(Trouble::Closure)
+        body(call.first()).map_err(Trouble::Closure)
     }
 
     fn choose<Rt: Wait, P: Place>(
@@ -396,8 +398,8 @@ impl Strategy for Sequential {
         _rt: &Rt,
         _alloc: Global,
         _site: P,
-        _call: Call,
-    ) -> Result<(usize, Unmeasured), Fault> {
-        Ok((0, Unmeasured))
+        call: Call,
+    ) -> Result<(Pick, Unmeasured), Fault> {
+        Ok((call.first(), Unmeasured))
     }
 }

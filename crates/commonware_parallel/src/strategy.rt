@@ -10,7 +10,7 @@ ghost use Rattle.parallel_bridge.specs.Sources.{GivesSome};
 ghost use Rattle.parallel_bridge.specs.States.{FoldInitSegment, FoldStep, MapStep, Stateful};
 ghost use Rattle.parallel_bridge.specs.Tries.{TryBracketing, TryMapOf};
 ghost use Rattle.parallel_bridge.specs.Ways.{FoldedAs, FoldedInitAs, MappedInitAs, TryFoldedAs};
-ghost use Rattle.commonware_parallel.specs.Calls.{AtSomePick, IsInnerOf, body_call, join_call, multiplied_call, spawn_call, tiles_call};
+ghost use Rattle.commonware_parallel.specs.Calls.{AtSomePath, HasPick, IsInnerOf, body_call, join_call, multiplied_call, spawn_call, tiles_call};
 ghost use Rattle.commonware_parallel.specs.Answers.{AnswersAs, OneOf};
 ghost use Rattle.commonware_parallel.specs.Batches.{IsBatch, OnSomeBatch, ranges_of};
 ghost use Rattle.commonware_parallel.specs.Spawned.{BeginsAs, FailsToSpawn, gives_answer};
@@ -19,7 +19,8 @@ ghost use Rattle.parallel_shares.specs.Grid.{Fits};
 ghost use Rattle.parallel_fault.specs.Trouble.{IfFault, IsMemoryOnErr};
 
 use crate::batches::{Batches, batches_through, try_batches_through};
-use crate::call::{Call, Kind};
+use crate::call::{Call, Kind, Pick};
+use crate::dispatch::{choose_path, dispatch_path};
 use crate::list::{
     body_over, dispatch_call, fold_init_through, fold_through, map_init_through, map_through,
     multiplied_body_over, partition_through, try_fold_as_it_comes, try_fold_through,
@@ -28,7 +29,6 @@ use crate::list::{
 use crate::meter::Meter;
 use crate::spawned::{Job, Spawned, begin};
 use crate::tiles::{Tiles, tiles_through};
-use parallel_bridge::Source;
 use parallel_bridge::list::fold::fold_iter;
 use parallel_bridge::list::fold_init::fold_init_iter;
 use parallel_bridge::list::map::map_iter;
@@ -36,6 +36,7 @@ use parallel_bridge::list::map_init::map_init_iter;
 use parallel_bridge::list::partition::partition_iter;
 use parallel_bridge::list::sort::sort_parallel;
 use parallel_bridge::list::try_map::try_map_iter;
+use parallel_bridge::{Path, Source};
 use parallel_fault::{Fault, Trouble};
 use parallel_policy::Place;
 use parallel_shares::Grid;
@@ -49,9 +50,10 @@ use std::thread::Threads;
 
 /// Runs a program's folds, maps, joins, sorts, batches and tiles, which are written once for all strategies.
 ///
-/// A strategy chooses and does nothing else. It is asked about a `Call`, which has a number of
-/// options, and answers a pick, a number below that. What the call then does is one of the `final`
-/// functions below, proved here once for every strategy: an implementation can't break what they say.
+/// A strategy chooses and does nothing else. It is asked about a `Call`, and answers a `Pick`, one that
+/// the call has: a path, serial or parallel, or a number of ranges or workers. What the call then does is
+/// one of the `final` functions below, proved here once for every strategy: an implementation can't break
+/// what they say.
 ///
 /// An implementation writes two functions that choose, `dispatch` and `choose`, readers of its
 /// numbers, `inner`, the type `Measure`, and six ghost members, in which it says what it may pick.
@@ -72,9 +74,13 @@ pub trait Strategy: Clone + Send + Sync + Debug + 'static {
     ghost use Rattle.parallel_fault.specs.declared.fault.Fault.TheVariants.{Memory};
     ghost use Rattle.commonware_parallel.specs.declared.call.Call.{Call};
     ghost use Rattle.commonware_parallel.specs.declared.call.Kind.TheVariants.{Body, Spawn};
+    ghost use Rattle.commonware_parallel.specs.declared.call.Pick.{Pick};
+    ghost use Rattle.commonware_parallel.specs.declared.call.Pick.TheVariants.{By, Into};
+    ghost use Rattle.parallel_bridge.specs.declared.path.Path.{Path};
+    ghost use Rattle.parallel_bridge.specs.declared.path.Path.TheVariants.{Serial};
 
     /// Whether a call at a site may be given a pick.
-    ghost takes: { Self → Site → Call → ℕ → Type 0 };
+    ghost takes: { Self → Site → Call → Pick → Type 0 };
 
     /// Whether a call at a site may meet a refusal before its body runs.
     ghost refuses: { Self → Site → Call → Fault → Type 0 };
@@ -89,7 +95,7 @@ pub trait Strategy: Clone + Send + Sync + Debug + 'static {
     /// Whether a job that is handed off gets a worker; a pool of unstarted workers gives it none.
     ghost starts: { Self → Bool };
 
-    /// Whether any call of the kind `Body` may run at pick 0 without the strategy being asked.
+    /// Whether any call of the kind `Body` may run serially without the strategy being asked.
     ghost unasked: { Self → Bool };
 
     /// The planning number.
@@ -106,12 +112,12 @@ pub trait Strategy: Clone + Send + Sync + Debug + 'static {
     fn starts_workers(&self) -> bool
         ensures { result ≡ starts self.now };
 
-    /// Whether any call of the kind `Body` may run at pick 0 without the strategy being asked, as where
+    /// Whether any call of the kind `Body` may run serially without the strategy being asked, as where
     /// it has no other pick and measures nothing. A list call then goes over its source as it comes.
     fn is_serial(&self) -> bool
         ensures unasked { result ≡ unasked self.now }
         ensures first { IsTrue result → (site : Site) (call : Call) → call.kind ≡ Body
-            → takes self.now site call 0 };
+            → takes self.now site call (By Serial) };
 
     /// The strategy that the parts of a batch go through: one with the same numbers that no policy
     /// chooses for (`IsInnerOf`).
@@ -123,17 +129,17 @@ pub trait Strategy: Clone + Send + Sync + Debug + 'static {
         ensures inner { IfOk result (IsInnerOf takes refuses plans threads starts self.now) }
         ensures fault { IsMemoryOnErr result };
 
-    /// Runs a body at a pick for the call, on the caller's thread, and answers what it answered.
+    /// Picks for the call, tells the body on the caller's thread, and answers what it answered.
     ///
     /// The body runs inside, so that an implementation can time it and tell an error of it apart.
-    /// An answer or an error of the body's own is one that it allows at a pick below the call's
-    /// options that the strategy may take (`AnswersAs`).
+    /// An answer or an error of the body's own is one that it allows at a pick that the call has and
+    /// that the strategy may take (`AnswersAs`).
     ///
     /// # Errors
     ///
     /// `Trouble::Closure` with the body's own error. `Trouble::Fault` with a refusal that `refuses`
     /// allows, which is `Fault::Memory`; the body wasn't called then, or its answer is gone.
-    fn dispatch<Rt: Wait, P: Place, R, E, B: FnOnce(usize) -> Result<R, E>>(
+    fn dispatch<Rt: Wait, P: Place, R, E, B: FnOnce(Pick) -> Result<R, E>>(
         &self,
         rt: &Rt,
         alloc: Global,
@@ -141,11 +147,11 @@ pub trait Strategy: Clone + Send + Sync + Debug + 'static {
         call: Call,
         body: B,
     ) -> Result<R, Trouble<E>>
-        requires options { 0 < call.options }
+        requires parts { 0 < call.parts }
         requires kind { call.kind ≢ Spawn }
-        requires accepts { (pick : ℕ) → pick < call.options → takes self.now (P.site_of site) call pick → B.pre body pick }
+        requires accepts { (pick : Pick) → HasPick call pick → takes self.now (P.site_of site) call pick → B.pre body pick }
         ensures answers { AnswersAs
-            (λ pick. (pick < call.options) × takes self.now (P.site_of site) call pick)
+            (λ pick. HasPick call pick × takes self.now (P.site_of site) call pick)
             (refuses self.now (P.site_of site) call)
             (λ pick answer. B.post body pick answer) result }
         ensures memory { IfErr result (λ trouble. IfFault trouble (λ fault. fault ≡ Memory)) };
@@ -165,13 +171,13 @@ pub trait Strategy: Clone + Send + Sync + Debug + 'static {
         alloc: Global,
         site: P,
         call: Call,
-    ) -> Result<(usize, Self::Measure), Fault>
-        requires options { 0 < call.options }
-        ensures takes { IfOk result (λ chosen. (chosen.0 < call.options) × takes self.now (P.site_of site) call chosen.0) }
+    ) -> Result<(Pick, Self::Measure), Fault>
+        requires parts { 0 < call.parts }
+        ensures takes { IfOk result (λ chosen. HasPick call chosen.0 × takes self.now (P.site_of site) call chosen.0) }
         ensures refused { IfErr result (refuses self.now (P.site_of site) call) }
         ensures memory { call.kind ≢ Spawn → IfErr result (λ fault. fault ≡ Memory) };
 
-    /// An answer of one of two bodies: of the serial one at pick 0, of the parallel one at pick 1.
+    /// An answer of one of two bodies, by the path that the strategy takes.
     ///
     /// `len` is the number of items that the bodies stand for, by which a policy tells calls apart.
     ///
@@ -189,30 +195,29 @@ pub trait Strategy: Clone + Send + Sync + Debug + 'static {
     ) -> Result<R, Fault>
         requires serial_runs { A.pre serial }
         requires parallel_runs { B.pre parallel }
-        ensures answers { IfOk result (λ answer. (pick : ℕ)
-            × ((pick < 2) × takes self.now (P.site_of site) (body_call len) pick)
-            × OneOf (A.post serial answer) (B.post parallel answer) pick) }
+        ensures answers { IfOk result (λ answer. AtSomePath (takes self.now (P.site_of site) (body_call len))
+            (λ path. OneOf (A.post serial answer) (B.post parallel answer) path)) }
         ensures refused { IfErr result (refuses self.now (P.site_of site) (body_call len)) }
         ensures fault { IsMemoryOnErr result }
     {
-        let body = move |pick: usize| -> Result<R, ()>
+        let body = move |path: Path| -> Result<R, ()>
             requires { A.pre serial × B.pre parallel }
-            ensures { MatchResult result (λ answer. OneOf (A.post serial answer) (B.post parallel answer) pick) (λ _. ⊥) }
+            ensures { MatchResult result (λ answer. OneOf (A.post serial answer) (B.post parallel answer) path) (λ _. ⊥) }
         {
-            match pick {
-                0 => Ok(serial()),
-                _ => Ok(parallel()),
+            match path {
+                Path::Serial => Ok(serial()),
+                Path::Parallel => Ok(parallel()),
             }
         };
-        match self.dispatch(rt, alloc, site, Call::body(len), body) {
+        match dispatch_path(self, rt, alloc, site, Call::body(len), body) {
             Ok(answer) => Ok(answer),
             Err(Trouble::Fault(fault)) => Err(fault),
             Err(Trouble::Closure(())) => unreachable!(),
         }
     }
 
-    /// An answer of one of two bodies that may fail by an error of their own: of the serial one at
-    /// pick 0, of the parallel one at pick 1 (`AnswersAs`, `OneOf`).
+    /// An answer of one of two bodies that may fail by an error of their own, by the path that the
+    /// strategy takes (`AnswersAs`, `OneOf`).
     ///
     /// `len` is the number of items that the bodies stand for, by which a policy tells calls apart.
     ///
@@ -240,25 +245,25 @@ pub trait Strategy: Clone + Send + Sync + Debug + 'static {
         requires serial_runs { A.pre serial }
         requires parallel_runs { B.pre parallel }
         ensures answers { AnswersAs
-            (λ pick. (pick < 2) × takes self.now (P.site_of site) (body_call len) pick)
+            (λ path. takes self.now (P.site_of site) (body_call len) (By path))
             (refuses self.now (P.site_of site) (body_call len))
-            (λ pick answer. OneOf (A.post serial answer) (B.post parallel answer) pick) result }
+            (λ path answer. OneOf (A.post serial answer) (B.post parallel answer) path) result }
         ensures fault { IfErr result (λ trouble. IfFault trouble (λ fault. fault ≡ Memory)) }
     {
-        let body = move |pick: usize| -> Result<R, E>
+        let body = move |path: Path| -> Result<R, E>
             requires { A.pre serial × B.pre parallel }
-            ensures { OneOf (A.post serial result) (B.post parallel result) pick }
+            ensures { OneOf (A.post serial result) (B.post parallel result) path }
         {
-            match pick {
-                0 => serial(),
-                _ => parallel(),
+            match path {
+                Path::Serial => serial(),
+                Path::Parallel => parallel(),
             }
         };
-        self.dispatch(rt, alloc, site, Call::body(len), body)
+        dispatch_path(self, rt, alloc, site, Call::body(len), body)
     }
 
-    /// An answer of each of two closures, which are run one after the other at pick 0, and side by side at
-    /// pick 1, one of them on the caller's thread.
+    /// An answer of each of two closures, which are run serially one after the other, and in parallel side
+    /// by side, one of them on the caller's thread.
     ///
     /// # Errors
     ///
@@ -278,31 +283,31 @@ pub trait Strategy: Clone + Send + Sync + Debug + 'static {
         ensures refused { IfErr result (refuses self.now (P.site_of site) join_call) }
         ensures fault { IsMemoryOnErr result }
     {
-        let body = move |pick: usize| -> Result<(RA, RB), ()>
+        let body = move |path: Path| -> Result<(RA, RB), ()>
             requires { A.pre a × B.pre b }
             ensures { MatchResult result (λ answers. A.post a answers.0 × B.post b answers.1) (λ _. ⊥) }
         {
-            match pick {
-                0 => Ok((a(), b())),
-                _ => Ok(thread::join(rt, a, b)),
+            match path {
+                Path::Serial => Ok((a(), b())),
+                Path::Parallel => Ok(thread::join(rt, a, b)),
             }
         };
-        match self.dispatch(rt, alloc, site, Call::join(), body) {
+        match dispatch_path(self, rt, alloc, site, Call::join(), body) {
             Ok(answers) => Ok(answers),
             Err(Trouble::Fault(fault)) => Err(fault),
             Err(Trouble::Closure(())) => unreachable!(),
         }
     }
 
-    /// A job, run on a clone of this strategy: at once at pick 0, and on a worker of its own at pick 1.
-    /// Where workers aren't started it is dropped at pick 1, and stays pending (`BeginsAs`).
+    /// A job, run on a clone of this strategy: serially at once, and in parallel on a worker of its own.
+    /// Where workers aren't started it is dropped in parallel, and stays pending (`BeginsAs`).
     ///
     /// Whatever it answers is an answer that the job allows on a clone (`gives`). `len` is the number of
     /// items that the job stands for, by which a policy tells calls apart.
     ///
     /// # Errors
     ///
-    /// What the strategy refuses; `Fault::Memory`; at pick 1 `Fault::Worker` where the worker's start
+    /// What the strategy refuses; `Fault::Memory`; in parallel `Fault::Worker` where the worker's start
     /// was refused (`FailsToSpawn`). The job is then dropped.
     final fn spawn<
         Rt: Threads + Wait + Copy + Send + 'static,
@@ -320,18 +325,18 @@ pub trait Strategy: Clone + Send + Sync + Debug + 'static {
         requires { (clone : Self) → Self.is_clone self.now clone → F.may_run job clone }
         ensures gives { IfOk result (λ spawned. (clone : Self) × Self.is_clone self.now clone
             × ((answer : T) → gives_answer F.may_answer spawned answer → F.may_answer job clone answer)) }
-        ensures form { IfOk result (λ spawned. AtSomePick
-            (takes self.now (P.site_of site) (spawn_call len)) (λ pick. BeginsAs (starts self.now) pick spawned)) }
+        ensures form { IfOk result (λ spawned. AtSomePath
+            (takes self.now (P.site_of site) (spawn_call len)) (λ path. BeginsAs (starts self.now) path spawned)) }
         ensures refused { IfErr result (FailsToSpawn (takes self.now (P.site_of site) (spawn_call len))
             (refuses self.now (P.site_of site) (spawn_call len)) (starts self.now)) }
     {
-        let (pick, meter) = self.choose(rt, alloc, site, Call::spawn(len))?;
+        let (path, meter) = choose_path(self, rt, alloc, site, Call::spawn(len))?;
         let own = self.clone()?;
-        begin(*rt, alloc, pick, self.starts_workers(), meter, own, job)
+        begin(*rt, alloc, path, self.starts_workers(), meter, own, job)
     }
 
-    /// Sorts the items by an order; items that tie keep their order. At pick 0 the caller's thread sorts
-    /// them; at pick 1, where there are enough of them to gain, the pool's thread number of parts is
+    /// Sorts the items by an order; items that tie keep their order. Serially the caller's thread sorts
+    /// them; in parallel, where there are enough of them to gain, the pool's thread number of parts is
     /// sorted side by side first.
     ///
     /// The order has to be lawful: a strict weak order that `compare` answers by. Whatever `compare`
@@ -352,14 +357,14 @@ pub trait Strategy: Clone + Send + Sync + Debug + 'static {
         ensures permutation { IsPermutation items.old items.new }
         ensures sorted { OnOk result (IsSortedByClosure C.FnMut compare items.new) }
         ensures stable { IsStableByClosure C.FnMut compare items.old items.new }
-        ensures asked { OnOk result (AtSomePick
+        ensures asked { OnOk result (AtSomePath
             (takes self.now (P.site_of site) (body_call (length items.old))) (λ _. Unit {0})) }
         ensures fault { IsMemoryOnErr result }
     {
-        let (pick, mut meter) = self.choose(rt, alloc, site, Call::body(items.len()))?;
-        let threads = match pick {
-            0 => NonZeroUsize::MIN,
-            _ => self.thread_number(),
+        let (path, mut meter) = choose_path(self, rt, alloc, site, Call::body(items.len()))?;
+        let threads = match path {
+            Path::Serial => NonZeroUsize::MIN,
+            Path::Parallel => self.thread_number(),
         };
         meter.begin();
         sort_parallel(rt, alloc, threads, items, &compare)?;
@@ -382,7 +387,7 @@ pub trait Strategy: Clone + Send + Sync + Debug + 'static {
         requires { C.IsAlwaysCallable compare }
         ensures permutation { IsPermutation items.old items.new }
         ensures sorted { OnOk result (IsSortedByClosure C.FnMut compare items.new) }
-        ensures asked { OnOk result (AtSomePick
+        ensures asked { OnOk result (AtSomePath
             (takes self.now (P.site_of site) (body_call (length items.old))) (λ _. Unit {0})) }
         ensures fault { IsMemoryOnErr result }
     {
@@ -394,7 +399,7 @@ pub trait Strategy: Clone + Send + Sync + Debug + 'static {
     /// # Errors
     ///
     /// `Fault::Memory` alone, the strategy's or the body's.
-    final fn dispatch_body<Rt: Wait, P: Place, R, B: FnOnce(usize) -> Result<R, Fault>>(
+    final fn dispatch_body<Rt: Wait, P: Place, R, B: FnOnce(Path) -> Result<R, Fault>>(
         &self,
         rt: &Rt,
         alloc: Global,
@@ -402,10 +407,10 @@ pub trait Strategy: Clone + Send + Sync + Debug + 'static {
         len: usize,
         body: B,
     ) -> Result<R, Fault>
-        requires accepts { (pick : ℕ) → pick < 2 → takes self.now (P.site_of site) (body_call len) pick → B.pre body pick }
-        requires memory { (pick : ℕ) (fault : Fault) → B.post body pick (Err fault) → fault ≡ Memory }
-        ensures answers { IfOk result (λ answer. AtSomePick
-            (takes self.now (P.site_of site) (body_call len)) (λ pick. B.post body pick (Ok answer))) }
+        requires accepts { (path : Path) → takes self.now (P.site_of site) (body_call len) (By path) → B.pre body path }
+        requires memory { (path : Path) (fault : Fault) → B.post body path (Err fault) → fault ≡ Memory }
+        ensures answers { IfOk result (λ answer. AtSomePath
+            (takes self.now (P.site_of site) (body_call len)) (λ path. B.post body path (Ok answer))) }
         ensures fault { IsMemoryOnErr result }
     {
         dispatch_call(self, rt, alloc, site, Call::body(len), body)
@@ -433,7 +438,7 @@ pub trait Strategy: Clone + Send + Sync + Debug + 'static {
         ensures answers { IfOk result (λ ys. GivesSome I.gives source
             (λ xs. MapOf (F.post map_op) xs ys.items)) }
         ensures asked { OnOk result (GivesSome I.gives source
-            (λ xs. AtSomePick (takes self.now (P.site_of site) (body_call (length xs))) (λ _. Unit {0}))) }
+            (λ xs. AtSomePath (takes self.now (P.site_of site) (body_call (length xs))) (λ _. Unit {0}))) }
         ensures fault { IsMemoryOnErr result }
     {
         if self.is_serial() {
@@ -473,7 +478,7 @@ pub trait Strategy: Clone + Send + Sync + Debug + 'static {
         ensures answers { IfOk result (λ ys. GivesSome I.gives source
             (λ xs. MapOf (F.post map_op) xs ys.items)) }
         ensures asked { OnOk result (GivesSome I.gives source
-            (λ xs. AtSomePick (takes self.now (P.site_of site) (multiplied_call (length xs) multiplier)) (λ _. Unit {0}))) }
+            (λ xs. AtSomePath (takes self.now (P.site_of site) (multiplied_call (length xs) multiplier)) (λ _. Unit {0}))) }
         ensures fault { IsMemoryOnErr result }
     {
         if self.is_serial() {
@@ -489,7 +494,7 @@ pub trait Strategy: Clone + Send + Sync + Debug + 'static {
     /// The items folded in neighbouring segments, each from an identity of its own, and the segments'
     /// results reduced, left before right (`Bracketing`).
     ///
-    /// At pick 0 the list is one segment and nothing is reduced. At pick 1 it goes along the list's
+    /// Serially the list is one segment and nothing is reduced. In parallel it goes along the list's
     /// shape for the pool's thread number, and each leaf is reduced behind a further identity
     /// (`FoldedAs`). `parallel_bridge::fold_law` says when every such answer is the plain fold from the
     /// left.
@@ -524,9 +529,9 @@ pub trait Strategy: Clone + Send + Sync + Debug + 'static {
             (λ xs. Bracketing (ID.post identity) (λ a x b. F.post fold_op a x b)
             (λ a b c. G.post reduce_op a b c) xs r)) }
         ensures along { IfOk result (λ r. GivesSome I.gives source
-            (λ xs. AtSomePick (takes self.now (P.site_of site) (body_call (length xs)))
-            (λ pick. FoldedAs (ID.post identity) (λ a x b. F.post fold_op a x b)
-            (λ a b c. G.post reduce_op a b c) (cutdepth (threads self.now)) pick xs r))) }
+            (λ xs. AtSomePath (takes self.now (P.site_of site) (body_call (length xs)))
+            (λ path. FoldedAs (ID.post identity) (λ a x b. F.post fold_op a x b)
+            (λ a b c. G.post reduce_op a b c) (cutdepth (threads self.now)) path xs r))) }
         ensures fault { IsMemoryOnErr result }
     {
         if self.is_serial() {
@@ -578,10 +583,10 @@ pub trait Strategy: Clone + Send + Sync + Debug + 'static {
             (FoldStep (λ a p x b q. F.post fold_op a p x b q)))
             (λ a b c. G.post reduce_op a b c) xs r)) }
         ensures along { IfOk result (λ r. GivesSome I.gives source
-            (λ xs. AtSomePick (takes self.now (P.site_of site) (body_call (length xs)))
-            (λ pick. FoldedInitAs (N.post init) (ID.post identity)
+            (λ xs. AtSomePath (takes self.now (P.site_of site) (body_call (length xs)))
+            (λ path. FoldedInitAs (N.post init) (ID.post identity)
             (FoldStep (λ a p x b q. F.post fold_op a p x b q))
-            (λ a b c. G.post reduce_op a b c) (cutdepth (threads self.now)) pick xs r))) }
+            (λ a b c. G.post reduce_op a b c) (cutdepth (threads self.now)) path xs r))) }
         ensures fault { IsMemoryOnErr result }
     {
         if self.is_serial() {
@@ -633,9 +638,9 @@ pub trait Strategy: Clone + Send + Sync + Debug + 'static {
             (λ xs. TryBracketing (ID.post identity) (λ a x b. F.post fold_op a x b)
             (λ a b c. G.post reduce_op a b c) xs out)) }
         ensures along { UnlessRefused result (λ out. GivesSome I.gives source
-            (λ xs. AtSomePick (takes self.now (P.site_of site) (body_call (length xs)))
-            (λ pick. TryFoldedAs (ID.post identity) (λ a x b. F.post fold_op a x b)
-            (λ a b c. G.post reduce_op a b c) (cutdepth (threads self.now)) pick xs out))) }
+            (λ xs. AtSomePath (takes self.now (P.site_of site) (body_call (length xs)))
+            (λ path. TryFoldedAs (ID.post identity) (λ a x b. F.post fold_op a x b)
+            (λ a b c. G.post reduce_op a b c) (cutdepth (threads self.now)) path xs out))) }
         ensures fault { IfErr result (λ trouble. IfFault trouble (λ fault. fault ≡ Memory)) }
     {
         if self.is_serial() {
@@ -670,7 +675,7 @@ pub trait Strategy: Clone + Send + Sync + Debug + 'static {
         ensures answers { UnlessRefused result (λ out. GivesSome I.gives source
             (λ xs. TryMapOf (F.post map_op) xs (listed out))) }
         ensures asked { UnlessRefused result (λ _. GivesSome I.gives source
-            (λ xs. AtSomePick (takes self.now (P.site_of site) (body_call (length xs)))
+            (λ xs. AtSomePath (takes self.now (P.site_of site) (body_call (length xs)))
             (λ _. Unit {0}))) }
         ensures fault { IfErr result (λ trouble. IfFault trouble (λ fault. fault ≡ Memory)) }
     {
@@ -685,7 +690,7 @@ pub trait Strategy: Clone + Send + Sync + Debug + 'static {
     /// The answers of `map_op` for the items, in the items' order, with a state at hand that goes from
     /// item to item of a segment and begins there as a value of `init` (`Stateful`).
     ///
-    /// At pick 0 the list is one segment with one state. At pick 1 the states change at the segments
+    /// Serially the list is one segment with one state. In parallel the states change at the segments
     /// of the list's shape for the pool's thread number (`MappedInitAs`). The closure has to accept each
     /// item that may come of the source, at every state.
     ///
@@ -718,9 +723,9 @@ pub trait Strategy: Clone + Send + Sync + Debug + 'static {
             (λ xs. Stateful (N.post init) (MapStep (λ p x y q. F.post map_op p x y q))
             xs ys.items)) }
         ensures along { IfOk result (λ ys. GivesSome I.gives source
-            (λ xs. AtSomePick (takes self.now (P.site_of site) (body_call (length xs)))
-            (λ pick. MappedInitAs (N.post init) (MapStep (λ p x y q. F.post map_op p x y q))
-            (cutdepth (threads self.now)) pick xs ys.items))) }
+            (λ xs. AtSomePath (takes self.now (P.site_of site) (body_call (length xs)))
+            (λ path. MappedInitAs (N.post init) (MapStep (λ p x y q. F.post map_op p x y q))
+            (cutdepth (threads self.now)) path xs ys.items))) }
         ensures fault { IsMemoryOnErr result }
     {
         if self.is_serial() {
@@ -766,9 +771,9 @@ pub trait Strategy: Clone + Send + Sync + Debug + 'static {
             (λ xs. Stateful (N.post init) (MapStep (λ p x y q. F.post map_op p x y q))
             xs ys.items)) }
         ensures along { IfOk result (λ ys. GivesSome I.gives source
-            (λ xs. AtSomePick (takes self.now (P.site_of site) (multiplied_call (length xs) multiplier))
-            (λ pick. MappedInitAs (N.post init) (MapStep (λ p x y q. F.post map_op p x y q))
-            (cutdepth (threads self.now)) pick xs ys.items))) }
+            (λ xs. AtSomePath (takes self.now (P.site_of site) (multiplied_call (length xs) multiplier))
+            (λ path. MappedInitAs (N.post init) (MapStep (λ p x y q. F.post map_op p x y q))
+            (cutdepth (threads self.now)) path xs ys.items))) }
         ensures fault { IsMemoryOnErr result }
     {
         if self.is_serial() {
@@ -809,7 +814,7 @@ pub trait Strategy: Clone + Send + Sync + Debug + 'static {
         ensures answers { IfOk result (λ parts. GivesSome I.gives source
             (λ xs. PartitionOf (F.post map_op) xs parts.0.items parts.1.items)) }
         ensures asked { OnOk result (GivesSome I.gives source
-            (λ xs. AtSomePick (takes self.now (P.site_of site) (body_call (length xs)))
+            (λ xs. AtSomePath (takes self.now (P.site_of site) (body_call (length xs)))
             (λ _. Unit {0}))) }
         ensures fault { IsMemoryOnErr result }
     {
@@ -823,8 +828,8 @@ pub trait Strategy: Clone + Send + Sync + Debug + 'static {
         Ok(answers)
     }
 
-    /// An answer of `run` over a batch of `0..len`: balanced ranges, as many as the pick says and one
-    /// more. Of two or more none is shorter than `minimum` (`IsBatch`); a whole one may be.
+    /// An answer of `run` over a batch of `0..len`: balanced ranges, as many as the strategy picks. Of two
+    /// or more none is shorter than `minimum` (`IsBatch`); a whole one may be.
     ///
     /// There are at most as many ranges as the strategy is planned for. The work, by which a policy
     /// tells calls apart, is `len * multiplier`, which stops at the greatest `usize`. The batch goes
@@ -885,7 +890,7 @@ pub trait Strategy: Clone + Send + Sync + Debug + 'static {
     }
 
     /// An answer of `run` over tiles of one of `grids`, on rows of `len` columns: of the first one of
-    /// least cost for as many workers as the pick says and one more (`IsTiling`).
+    /// least cost for as many workers as the strategy picks (`IsTiling`).
     ///
     /// There are at most as many workers as the strategy is planned for. The work, by which a policy
     /// tells calls apart, is the least cost for one worker times `multiplier`, which stops at the
@@ -910,9 +915,9 @@ pub trait Strategy: Clone + Send + Sync + Debug + 'static {
         requires accepts { (tiles : Tiles Self P) (workers : ℕ) → IsTiling grids.now len workers tiles
             → F.pre run tiles }
         ensures answers { IfOk result (λ answer. (cost : ℕ) × IsSerialCost grids.now len cost
-            × (pick : ℕ) × (pick < plans self.now)
-            × takes self.now (P.site_of site) (tiles_call (plans self.now) len cost multiplier) pick
-            × (tiles : Tiles Self P) × IsTiling grids.now len (pick + 1) tiles
+            × (workers : ℕ) × (0 < workers) × (workers ≤ plans self.now)
+            × takes self.now (P.site_of site) (tiles_call (plans self.now) len cost multiplier) (Into workers)
+            × (tiles : Tiles Self P) × IsTiling grids.now len workers tiles
             × IsInnerOf takes refuses plans threads starts self.now (tiles_strategy tiles)
             × (tiles_place tiles ≡ site) × F.post run tiles answer) }
         ensures fault { IsMemoryOnErr result }

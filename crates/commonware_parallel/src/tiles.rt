@@ -69,21 +69,21 @@ impl<'scope, S: Strategy, P: Place> Tiles<'scope, S, P> {
         !self.whole
     }
 
-    // Tiles of the grid of least cost for one worker more than the pick.
-    fn picked(
+    // Tiles of the grid of least cost for so many workers.
+    fn for_workers(
         strategy: &'scope S,
         site: P,
         grids: &[Grid],
         len: usize,
-        pick: usize,
+        workers: usize,
     ) -> Tiles<'scope, S, P>
         requires fits { Fits grids.now len }
-        requires pick { pick < 2 ^ 64 - 1 }
+        requires some { 0 < workers }
         ensures strategy { tiles_strategy result ≡ strategy.now }
         ensures place { tiles_place result ≡ site }
-        ensures tiling { IsTiling grids.now len (pick + 1) result }
+        ensures tiling { IsTiling grids.now len workers result }
     {
-        let workers = NonZeroUsize::MIN.saturating_add(pick);
+        let workers = NonZeroUsize::MIN.saturating_add(workers - 1);
         let (grid, _, whole) = Grid::choose(grids, len, workers);
         let Grid { rows, tile_cost } = grids[grid];
         Tiles {

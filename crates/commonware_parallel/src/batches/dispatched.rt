@@ -1,5 +1,5 @@
 // What the batch calls of a strategy stand on.
-ghost use Rattle.std.specs.Prelude.{◌≡◌, ◌≢◌, ◌+◌, ◌/◌, ◌<◌, ℕ, IfOk, max};
+ghost use Rattle.std.specs.Prelude.{◌≡◌, ◌/◌, ◌<◌, ◌≤◌, ℕ, IfOk, false, max};
 ghost use Rattle.std.specs.Int.NonZero.{non_zero_usize_get};
 ghost use Rattle.parallel_bridge.specs.Outcomes.{UnlessRefused};
 ghost use Rattle.parallel_fault.specs.Trouble.{IsMemoryOnErr};
@@ -9,10 +9,12 @@ ghost use Rattle.parallel_fault.specs.declared.fault.Trouble.TheVariants.{Fault 
 ghost use Rattle.commonware_parallel.specs.Answers.{UnlessFault};
 ghost use Rattle.commonware_parallel.specs.Batches.{IsBatch, OnSomeBatch, place_of, ranges_of, strategy_of};
 ghost use Rattle.commonware_parallel.specs.declared.batches.Batches.{Batches};
-ghost use Rattle.commonware_parallel.specs.declared.call.Kind.TheVariants.{Spawn};
+ghost use Rattle.commonware_parallel.specs.Calls.{goes_by_path};
+ghost use Rattle.commonware_parallel.specs.declared.call.Pick.TheVariants.{Into};
 
 use super::Batches;
 use crate::call::Call;
+use crate::dispatch::dispatch_parts;
 use crate::strategy::Strategy;
 use parallel_fault::{Fault, Trouble};
 use parallel_policy::Place;
@@ -20,7 +22,7 @@ use std::alloc::Global;
 use std::num::NonZeroUsize;
 use std::sync::Wait;
 
-/// An answer of `run` over as many ranges as the pick that the strategy takes says, and one more.
+/// An answer of `run` over as many ranges as the strategy takes.
 pub(crate) fn batches_through<
     S: Strategy,
     Rt: Wait,
@@ -46,28 +48,27 @@ pub(crate) fn batches_through<
 {
     let inner = strategy.inner()?;
     let call = Call::batches(strategy.planning(), len, minimum, multiplier);
-    let body = move |pick: usize| -> Result<R, Fault>
+    let body = move |parts: usize| -> Result<R, Fault>
         requires { ((batches : Batches S P) (count : ℕ)
             → IsBatch len count (non_zero_usize_get minimum) (ranges_of batches)
-            → F.pre run batches) × (pick < max 1 (len / non_zero_usize_get minimum)) }
+            → F.pre run batches) × (0 < parts) × (parts ≤ max 1 (len / non_zero_usize_get minimum)) }
         ensures answers { IfOk result (λ answer. (batches : Batches S P)
-            × IsBatch len (pick + 1) (non_zero_usize_get minimum) (ranges_of batches)
+            × IsBatch len parts (non_zero_usize_get minimum) (ranges_of batches)
             × (strategy_of batches ≡ inner) × (place_of batches ≡ site)
             × F.post run batches answer) }
         ensures fault { IsMemoryOnErr result }
     {
-        let batches = Batches::picked(alloc, &inner, site, len, pick, minimum)?;
+        let batches = Batches::in_parts(alloc, &inner, site, len, parts, minimum)?;
         Ok(run(batches))
     };
-    match strategy.dispatch(rt, alloc, site, call, body) {
+    match dispatch_parts(strategy, rt, alloc, site, call, body) {
         Ok(answer) => Ok(answer),
         Err(Trouble::Closure(fault)) => Err(fault),
         Err(Trouble::Fault(fault)) => Err(fault),
     }
 }
 
-/// An answer of `run`, which may fail by an error of its own, over as many ranges as the pick that the
-/// strategy takes says, and one more.
+/// An answer of `run`, which may fail by an error of its own, over as many ranges as the strategy takes.
 pub(crate) fn try_batches_through<
     S: Strategy,
     Rt: Wait,
@@ -93,43 +94,45 @@ pub(crate) fn try_batches_through<
 {
     let inner = strategy.inner()?;
     let call = Call::batches(strategy.planning(), len, minimum, multiplier);
-    let body = move |pick: usize| -> Result<R, Trouble<E>>
+    let body = move |parts: usize| -> Result<R, Trouble<E>>
         requires { ((batches : Batches S P) (count : ℕ)
             → IsBatch len count (non_zero_usize_get minimum) (ranges_of batches)
-            → F.pre run batches) × (pick < max 1 (len / non_zero_usize_get minimum)) }
+            → F.pre run batches) × (0 < parts) × (parts ≤ max 1 (len / non_zero_usize_get minimum)) }
         ensures { UnlessRefused result (λ out. (batches : Batches S P)
-            × IsBatch len (pick + 1) (non_zero_usize_get minimum) (ranges_of batches)
+            × IsBatch len parts (non_zero_usize_get minimum) (ranges_of batches)
             × (strategy_of batches ≡ inner) × (place_of batches ≡ site) × F.post run batches out) }
-    { run_picked(&inner, alloc, site, len, minimum, pick, run) };
+    { run_in_parts(&inner, alloc, site, len, minimum, parts, run) };
     dispatch_settled(strategy, rt, alloc, site, call, body)
 }
 
-// An answer of `run` over the batch of a pick.
-fn run_picked<S: Strategy, P: Place, R, E, F: FnOnce(Batches<'_, S, P>) -> Result<R, E> + Drop>(
+// An answer of `run` over the batch of so many ranges.
+fn run_in_parts<S: Strategy, P: Place, R, E, F: FnOnce(Batches<'_, S, P>) -> Result<R, E> + Drop>(
     strategy: &S,
     alloc: Global,
     site: P,
     len: usize,
     minimum: NonZeroUsize,
-    pick: usize,
+    parts: usize,
     run: F,
 ) -> Result<R, Trouble<E>>
     requires accepts { (batches : Batches S P) (count : ℕ)
         → IsBatch len count (non_zero_usize_get minimum) (ranges_of batches) → F.pre run batches }
-    requires pick { pick < max 1 (len / non_zero_usize_get minimum) }
+    requires some { 0 < parts }
+    requires fit { parts ≤ max 1 (len / non_zero_usize_get minimum) }
     ensures { UnlessRefused result (λ out. (batches : Batches S P)
-        × IsBatch len (pick + 1) (non_zero_usize_get minimum) (ranges_of batches)
+        × IsBatch len parts (non_zero_usize_get minimum) (ranges_of batches)
         × (strategy_of batches ≡ strategy.now) × (place_of batches ≡ site)
         × F.post run batches out) }
 {
-    let batches = Batches::picked(alloc, strategy, site, len, pick, minimum)?;
+    let batches = Batches::in_parts(alloc, strategy, site, len, parts, minimum)?;
     match run(batches) {
         Ok(answer) => Ok(answer),
         Err(error) => Err(Trouble::Closure(error)),
     }
 }
 
-// An answer of a body that may also be refused memory, at a pick that the strategy takes for the call.
+// An answer of a body that may also be refused memory, in as many parts as the strategy takes for the
+// call.
 fn dispatch_settled<
     S: Strategy,
     Rt: Wait,
@@ -138,17 +141,17 @@ fn dispatch_settled<
     E,
     B: FnOnce(usize) -> Result<R, Trouble<E>>,
 >(strategy: &S, rt: &Rt, alloc: Global, site: P, call: Call, body: B) -> Result<R, Trouble<E>>
-    requires options { 0 < call.options }
-    requires kind { call.kind ≢ Spawn }
-    requires accepts { (pick : ℕ) → pick < call.options
-        → S.takes strategy.now (P.site_of site) call pick → B.pre body pick }
-    requires memory { (pick : ℕ) (fault : Fault) → B.post body pick (Err (OfFault fault))
+    requires parts { 0 < call.parts }
+    requires in_parts { goes_by_path call.kind ≡ false }
+    requires accepts { (parts : ℕ) → 0 < parts → parts ≤ call.parts
+        → S.takes strategy.now (P.site_of site) call (Into parts) → B.pre body parts }
+    requires memory { (parts : ℕ) (fault : Fault) → B.post body parts (Err (OfFault fault))
         → fault ≡ Memory }
-    ensures answers { UnlessFault result ((pick : ℕ) × (pick < call.options)
-        × S.takes strategy.now (P.site_of site) call pick × B.post body pick result) }
+    ensures answers { UnlessFault result ((parts : ℕ) × ((0 < parts) × (parts ≤ call.parts)
+        × S.takes strategy.now (P.site_of site) call (Into parts)) × B.post body parts result) }
     ensures fault { UnlessRefused result (λ _. Unit {0}) }
 {
-    match strategy.dispatch(rt, alloc, site, call, body) {
+    match dispatch_parts(strategy, rt, alloc, site, call, body) {
         Ok(answer) => Ok(answer),
         Err(Trouble::Closure(Trouble::Closure(error))) => Err(Trouble::Closure(error)),
         Err(Trouble::Closure(Trouble::Fault(fault))) => Err(Trouble::Fault(fault)),

@@ -2,12 +2,13 @@ ghost use Rattle.std.specs.Prelude.{◌≡◌, ◌<◌, IfOk, nat_eq, true};
 ghost use Rattle.std.specs.Int.NonZero.{non_zero_usize_get};
 ghost use Rattle.parallel_fault.specs.Trouble.{IsMemoryOnErr};
 
-use crate::call::{Call, Kind};
+use crate::call::{Call, Kind, Pick};
 use crate::meter::Unmeasured;
 use crate::mocks::choice::pick;
 use crate::mocks::rule::Rule;
 use crate::rayon_strategy::Rayon;
 use crate::strategy::Strategy;
+use parallel_bridge::Path;
 use parallel_fault::{Fault, Trouble};
 use parallel_policy::{Place, Site};
 use parallel_pool::rayon::ThreadPool;
@@ -30,6 +31,7 @@ pub struct Explorer {
 
 impl Explorer {
     ghost use Rattle.commonware_parallel.specs.Explorers.{plans_of, pool_threads, rule_of, explorer_starts, picked};
+    ghost use Rattle.commonware_parallel.specs.Calls.{HasPick};
     ghost use Rattle.commonware_parallel.specs.Rayon.{planning_of, threads_of, starts_of};
     ghost use Rattle.commonware_parallel.specs.declared.mocks.rule.Rule.TheVariants.{Parallel, Seeded};
 
@@ -84,15 +86,16 @@ impl Explorer {
     }
 
     // The pick for a call.
-    fn picked(&self, site: Site, call: Call) -> usize
-        requires { 0 < call.options }
+    fn picked(&self, site: Site, call: Call) -> Pick
+        requires { 0 < call.parts }
         ensures pick { result ≡ picked (plans_of self.now) (rule_of self.now) site call }
-        ensures below { result < call.options }
+        ensures has { HasPick call result }
     {
-        match call.kind {
+        let index = match call.kind {
             Kind::Body if self.parallelism.get() == 1 => 0,
-            _ => pick(self.rule, site, call.len, call.options),
-        }
+            _ => pick(self.rule, site, call.len, call.options()),
+        };
+        call.nth(index)
     }
 }
 
@@ -139,7 +142,7 @@ impl Strategy for Explorer {
         })
     }
 
-    fn dispatch<Rt: Wait, P: Place, R, E, B: FnOnce(usize) -> Result<R, E>>(
+    fn dispatch<Rt: Wait, P: Place, R, E, B: FnOnce(Pick) -> Result<R, E>>(
         &self,
         _rt: &Rt,
         _alloc: Global,
@@ -156,9 +159,10 @@ impl Strategy for Explorer {
         _alloc: Global,
         site: P,
         call: Call,
-    ) -> Result<(usize, Unmeasured), Fault> {
+    ) -> Result<(Pick, Unmeasured), Fault> {
         let pick = self.picked(site.site(), call);
-        if call.kind == Kind::Spawn && pick > 0 && self.pool.current_num_threads() == 1 {
+        let hands_off = matches!(pick, Pick::By(Path::Parallel));
+        if call.kind == Kind::Spawn && hands_off && self.pool.current_num_threads() == 1 {
             return Err(Fault::HandOff);
         }
         Ok((pick, Unmeasured))

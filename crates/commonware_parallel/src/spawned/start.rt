@@ -1,18 +1,20 @@
 // How a job begins: at once, on a worker of its own, or never.
 ghost use Rattle.std.specs.Prelude.{IfErr, IfOk, true};
+ghost use Rattle.parallel_bridge.specs.declared.path.Path.TheVariants.{Parallel, Serial};
 ghost use Rattle.commonware_parallel.specs.Spawned.{BeginsAs, FailsToBegin, gives_answer};
 
 use crate::meter::Meter;
 use crate::spawned::ending::Ending;
 use crate::spawned::job::{Job, Kept};
 use crate::spawned::{Spawned, Stage};
+use parallel_bridge::Path;
 use parallel_fault::Fault;
 use std::alloc::Global;
 use std::sync::{Arc, Wait};
 use std::thread;
 use std::thread::Threads;
 
-/// Begins a job: at pick 0 on the caller's thread, else on a worker of its own, where workers are
+/// Begins a job: serially on the caller's thread, in parallel on a worker of its own, where workers are
 /// started. Where they aren't the job is dropped, and never answers.
 ///
 /// # Errors
@@ -28,7 +30,7 @@ pub(crate) fn begin<
 >(
     rt: R,
     alloc: Global,
-    pick: usize,
+    path: Path,
     starts: bool,
     meter: M,
     strategy: S,
@@ -36,15 +38,13 @@ pub(crate) fn begin<
 ) -> Result<Spawned<R, S, F, T>, Fault>
     requires { F.may_run job strategy }
     ensures gives { IfOk result (λ spawned. (x : T) → gives_answer F.may_answer spawned x → F.may_answer job strategy x) }
-    ensures form { IfOk result (BeginsAs starts pick) }
-    ensures refused { IfErr result (FailsToBegin starts pick) }
+    ensures form { IfOk result (BeginsAs starts path) }
+    ensures refused { IfErr result (FailsToBegin starts path) }
 {
-    if pick == 0 {
-        Ok(run_here(rt, meter, strategy, job))
-    } else if starts {
-        hand_off(rt, alloc, meter, strategy, job)
-    } else {
-        Ok(Spawned::at(rt, Stage::Unstarted))
+    match path {
+        Path::Serial => Ok(run_here(rt, meter, strategy, job)),
+        Path::Parallel if starts => hand_off(rt, alloc, meter, strategy, job),
+        Path::Parallel => Ok(Spawned::at(rt, Stage::Unstarted)),
     }
 }
 
@@ -57,7 +57,7 @@ fn run_here<R: Wait, M: Meter, S, F: Job<S, T>, T>(
 ) -> Spawned<R, S, F, T>
     requires { F.may_run job strategy }
     ensures gives { (x : T) → gives_answer F.may_answer result x → F.may_answer job strategy x }
-    ensures form { BeginsAs true 0 result }
+    ensures form { BeginsAs true Serial result }
 {
     let mut meter = meter;
     meter.begin();
@@ -76,8 +76,8 @@ fn hand_off<
 >(rt: R, alloc: Global, meter: M, strategy: S, job: F) -> Result<Spawned<R, S, F, T>, Fault>
     requires { F.may_run job strategy }
     ensures gives { IfOk result (λ spawned. (x : T) → gives_answer F.may_answer spawned x → F.may_answer job strategy x) }
-    ensures form { IfOk result (BeginsAs true 1) }
-    ensures refused { IfErr result (FailsToBegin true 1) }
+    ensures form { IfOk result (BeginsAs true Parallel) }
+    ensures refused { IfErr result (FailsToBegin true Parallel) }
 {
     let ending = Arc::new(alloc, Ending::new())?;
     let theirs = Arc::try_clone(&ending)?;

@@ -1,11 +1,12 @@
 -- The call that the strategy was asked about is the one of the clause, and the batch has its inner one.
-use Rattle.std.proofs.Common.{rules, ◌≡◌, ◌<◌, ◌+◌, ap, ◌∙◌, subst, Result}
+use Rattle.std.proofs.Common.{rules, ◌≡◌, ◌<◌, ◌≤◌, ap, ◌∙◌, subst, Result}
 use Rattle.std.specs.Int.NonZero.{non_zero_usize_get}
 use Rattle.parallel_bridge.specs.Outcomes.{UnlessRefused}
 use Rattle.parallel_bridge.proofs.Outcomes.{unless_weaker}
 use Rattle.commonware_parallel.specs.Calls.{batches_call}
 use Rattle.commonware_parallel.specs.Batches.{IsBatch, OnSomeBatch, place_of, ranges_of, strategy_of}
 use Rattle.commonware_parallel.specs.declared.call.Call.{Call}
+use Rattle.commonware_parallel.specs.declared.call.Pick.TheVariants.{Into}
 use Rattle.commonware_parallel.specs.declared.batches.Batches.{Batches}
 use Rattle.commonware_parallel.proofs.Settled.{inner_of, unless_told}
 use Rattle.commonware_parallel.proofs.batches.dispatched.try_batches_through.Goals as goal
@@ -19,8 +20,8 @@ returns g c =
     let same : c.batches-call.result ≡ batches_call (T.plans c.args.strategy.now) c.args.len least c.args.multiplier = c.batches-call.ensures ∙ ap (λ n. batches_call n c.args.len least c.args.multiplier) c.planning.ensures.number in
     let says = λ (out : Result g.row.R.Denot g.row.E.Denot). OnSomeBatch T.takes T.refuses T.plans T.threads T.starts c.args.strategy.now site c.args.site c.args.len least c.args.multiplier (λ batches. post batches out) in
     unless_told c.dispatch_settled.result _ says c.dispatch_settled.ensures.answers c.dispatch_settled.ensures.fault (λ w.
-    let P : Call → Type 0 = λ call. (w.0 < call.options) × T.takes c.args.strategy.now site call w.0 in
-    let taken = subst P same (w.1, w.2) in
-    let ran = λ (out : Result g.row.R.Denot g.row.E.Denot). (batches : Batches g.row.S.Denot g.row.P.Denot) × IsBatch c.args.len (w.0 + 1) least (ranges_of batches) × (strategy_of batches ≡ c.in_ok-inner.inner) × (place_of batches ≡ c.args.site) × post batches out in
+    let P : Call → Type 0 = λ call. (0 < w.0) × (w.0 ≤ call.parts) × T.takes c.args.strategy.now site call (Into w.0) in
+    let taken = subst P same w.1 in
+    let ran = λ (out : Result g.row.R.Denot g.row.E.Denot). (batches : Batches g.row.S.Denot g.row.P.Denot) × IsBatch c.args.len w.0 least (ranges_of batches) × (strategy_of batches ≡ c.in_ok-inner.inner) × (place_of batches ≡ c.args.site) × post batches out in
     let v : UnlessRefused c.dispatch_settled.result ran = search rules in
-    unless_weaker c.dispatch_settled.result ran says (λ out a. (w.0, taken.0, taken.1, a.0, a.1, inner_of T.takes T.refuses T.plans T.threads T.starts c.args.strategy.now c.in_ok-inner.inner (strategy_of a.0) a.2 c.in_ok-inner.ensures.inner, a.3, a.4)) v)
+    unless_weaker c.dispatch_settled.result ran says (λ out a. (w.0, taken.0, taken.1, taken.2, a.0, a.1, inner_of T.takes T.refuses T.plans T.threads T.starts c.args.strategy.now c.in_ok-inner.inner (strategy_of a.0) a.2 c.in_ok-inner.ensures.inner, a.3, a.4)) v)

@@ -7,7 +7,7 @@ use Rattle.parallel_bridge.specs.States.{MapStep}
 use Rattle.parallel_bridge.specs.Ways.{MappedInitAs}
 use Rattle.parallel_bridge.proofs.Statefuls.{stateful_from_segment}
 use Rattle.commonware_parallel.specs.Calls.{body_call}
-use Rattle.commonware_parallel.proofs.Settled.{at_first}
+use Rattle.commonware_parallel.proofs.Settled.{at_serial}
 use Rattle.commonware_parallel.proofs.strategy.Strategy.map_init_collect_vec.Goals as goal
 
 pub returns-then-is_serial-clause-stateful : goal.returns-then-is_serial-clause-stateful
@@ -24,6 +24,6 @@ returns-then-is_serial-clause-along g c =
     let site = g.P.Place.site_of c.args.site in
     let ys = c.in_ok-answers.answers.items in
     let w = c.in_ok-answers.ensures.one_state in
-    at_first (Drains g.I.Iter.Iterator.next_gives) c.into_items.result g.I.Source.gives c.args.source (λ call pick. g.Self.Strategy.takes c.args.self.now site call pick) body_call
+    at_serial (Drains g.I.Iter.Iterator.next_gives) c.into_items.result g.I.Source.gives c.args.source (λ call pick. g.Self.Strategy.takes c.args.self.now site call pick) body_call
     c.into_items.ensures.gives (λ n. c.is_serial.ensures.first (search rules) site (body_call n) refl)
-    (λ pick xs. MappedInitAs init step (cutdepth (g.Self.Strategy.threads c.args.self.now)) pick xs ys) (w.0, w.1, (stateful_from_segment init step w.0 ys w.2, w.2))
+    (λ path xs. MappedInitAs init step (cutdepth (g.Self.Strategy.threads c.args.self.now)) path xs ys) (w.0, w.1, (stateful_from_segment init step w.0 ys w.2, w.2))

@@ -6,8 +6,8 @@ use Rattle.parallel_bridge.specs.Sources.{GivesSome}
 use Rattle.parallel_bridge.specs.Tries.{TryBracketing, TryFoldSegment, of_try_segment}
 use Rattle.parallel_bridge.specs.Ways.{TryFoldedAs}
 use Rattle.parallel_bridge.proofs.Outcomes.{unless_weaker}
-use Rattle.commonware_parallel.specs.Calls.{AtSomePick, body_call}
-use Rattle.commonware_parallel.proofs.Settled.{at_first}
+use Rattle.commonware_parallel.specs.Calls.{AtSomePath, body_call}
+use Rattle.commonware_parallel.proofs.Settled.{at_serial}
 use Rattle.commonware_parallel.proofs.strategy.Strategy.try_fold.Goals as goal
 
 pub returns-then-is_serial-clause-brackets : goal.returns-then-is_serial-clause-brackets
@@ -30,8 +30,8 @@ returns-then-is_serial-clause-along g c =
     let depth = cutdepth (g.Self.Strategy.threads c.args.self.now) in
     unless_weaker c.try_fold_as_it_comes.result
     (λ out. GivesSome (Drains g.I.Iter.Iterator.next_gives) c.into_items.result (λ xs. TryFoldSegment identity step xs out))
-    (λ out. GivesSome g.I.Source.gives c.args.source (λ xs. AtSomePick (g.Self.Strategy.takes c.args.self.now site (body_call (length xs))) (λ pick. TryFoldedAs identity step reduce depth pick xs out)))
-    (λ out h. at_first (Drains g.I.Iter.Iterator.next_gives) c.into_items.result g.I.Source.gives c.args.source (λ call pick. g.Self.Strategy.takes c.args.self.now site call pick) body_call
+    (λ out. GivesSome g.I.Source.gives c.args.source (λ xs. AtSomePath (g.Self.Strategy.takes c.args.self.now site (body_call (length xs))) (λ path. TryFoldedAs identity step reduce depth path xs out)))
+    (λ out h. at_serial (Drains g.I.Iter.Iterator.next_gives) c.into_items.result g.I.Source.gives c.args.source (λ call pick. g.Self.Strategy.takes c.args.self.now site call pick) body_call
     c.into_items.ensures.gives (λ n. c.is_serial.ensures.first (search rules) site (body_call n) refl)
-    (λ pick xs. TryFoldedAs identity step reduce depth pick xs out) (h.0, h.1, (of_try_segment h.2, h.2)))
+    (λ path xs. TryFoldedAs identity step reduce depth path xs out) (h.0, h.1, (of_try_segment h.2, h.2)))
     c.try_fold_as_it_comes.ensures

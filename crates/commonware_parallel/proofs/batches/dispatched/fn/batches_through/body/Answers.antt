@@ -1,4 +1,4 @@
--- The batch that the closure was given is the one that the pick asks for.
+-- The batch that the closure was given has as many ranges as were told.
 use Rattle.std.proofs.Common.{rules}
 use Rattle.commonware_parallel.proofs.batches.dispatched.fn.batches_through.body.Goals as goal
 

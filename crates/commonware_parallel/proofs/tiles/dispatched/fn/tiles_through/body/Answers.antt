@@ -1,6 +1,6 @@
--- The tiles that the closure was given are for one worker more than the pick.
+-- The tiles that the closure was given are for as many workers as were told.
 use Rattle.std.proofs.Common.{rules}
 use Rattle.commonware_parallel.proofs.tiles.dispatched.fn.tiles_through.body.Goals as goal
 
 pub returns : goal.returns
-returns g c = (c.picked-tiles.result, c.picked-tiles.ensures.tiling, search rules, c.picked-tiles.ensures.place, search rules)
+returns g c = (c.for_workers-tiles.result, c.for_workers-tiles.ensures.tiling, search rules, c.for_workers-tiles.ensures.place, search rules)

@@ -1,6 +1,6 @@
--- The batch that the closure was given is the one that the pick asks for.
+-- The batch that the closure was given has as many ranges as were told.
 use Rattle.std.proofs.Common.{rules}
-use Rattle.commonware_parallel.proofs.batches.dispatched.run_picked.Goals as goal
+use Rattle.commonware_parallel.proofs.batches.dispatched.run_in_parts.Goals as goal
 
 pub returns-in-Ok : goal.returns-in-Ok
 returns-in-Ok g c = (c.in_ok-batches.batches, c.in_ok-batches.ensures.batch, c.in_ok-batches.ensures.strategy, c.in_ok-batches.ensures.place, c.in-Ok.ensures)
