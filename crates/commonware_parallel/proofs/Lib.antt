@@ -1,4 +1,5 @@
 pub mod Settled
+pub mod Picks
 pub mod Hashes
 pub mod Searches
 pub mod Finishing

@@ -10,6 +10,8 @@ use Rattle.parallel_fault.specs.declared.fault.Trouble.TheVariants.{Fault as OfF
 use Rattle.parallel_bridge.specs.Outcomes.{UnlessRefused, listed}
 use Rattle.parallel_bridge.specs.Lists.{Chain, FoldSegment}
 use Rattle.parallel_bridge.specs.Parts.{PartitionOf, values_of, keys_of}
+use Rattle.parallel_bridge.specs.declared.path.Path.{Path}
+use Rattle.parallel_bridge.specs.declared.path.Path.TheVariants.{Serial, Parallel}
 use Rattle.parallel_bridge.specs.Shapes.{Cut, segment, halves, Shape, cutdepth, Along, AlongLeaves, FoldsAs}
 use Rattle.parallel_bridge.specs.States.{StatesFrom, StateSegment, StatesAlong, StatesAs}
 use Rattle.parallel_bridge.specs.Tries.{TryMapOf, EachOk}
@@ -29,9 +31,9 @@ depth_of_few n some few =
     let one : top.0 ≡ 1 = exponent_one top.0 n some few top.2 top.3 in
     omega (arith, top.1, one)
 
--- at the second pick a call goes along the list's shape
-pub along_shape : {X R : Type 0} (identity : R → Type 0) (allowed : List X → R → Type 0) (reduce : R → R → R → Type 0) (depth pick : ℕ) (xs : List X) (r : R) → FoldsAs identity allowed reduce depth pick xs r → pick ≡ 1 → AlongLeaves identity allowed reduce (Shape depth xs) r
-along_shape identity allowed reduce depth pick xs r h second = subst (λ p. FoldsAs identity allowed reduce depth p xs r) second h
+-- in parallel a call goes along the list's shape
+pub along_shape : {X R : Type 0} (identity : R → Type 0) (allowed : List X → R → Type 0) (reduce : R → R → R → Type 0) (depth : ℕ) (path : Path) (xs : List X) (r : R) → FoldsAs identity allowed reduce depth path xs r → path ≡ Parallel → AlongLeaves identity allowed reduce (Shape depth xs) r
+along_shape identity allowed reduce depth path xs r h parallel = subst (λ p. FoldsAs identity allowed reduce depth p xs r) parallel h
 
 -- the value along a cut of a fold by functions
 abbrev pub along_value : {X R : Type 0} → R → (R → X → R) → (R → R → R) → Cut X → R
@@ -84,12 +86,12 @@ counts_along init step (segment xs) ys h fresh counts = counts_are init step xs 
 counts_along init step (halves p q) ys (us, vs, left, right, joined) fresh counts =
     joined ∙ ap (λ l. l ++ vs) (counts_along init step p us left fresh counts) ∙ ap (λ l. counted_along p ++ l) (counts_along init step q vs right fresh counts)
 
--- which states a map has, by its pick
-pub states_in_one : {S X Y : Type 0} (init : S → Type 0) (step : S → X → Y → S → Type 0) (depth pick : ℕ) (xs : List X) (ys : List Y) → StatesAs init step depth pick xs ys → pick ≡ 0 → StateSegment init step xs ys
-states_in_one init step depth pick xs ys h first = subst (λ p. StatesAs init step depth p xs ys) first h
+-- which states a map has, by its path
+pub states_in_one : {S X Y : Type 0} (init : S → Type 0) (step : S → X → Y → S → Type 0) (depth : ℕ) (path : Path) (xs : List X) (ys : List Y) → StatesAs init step depth path xs ys → path ≡ Serial → StateSegment init step xs ys
+states_in_one init step depth path xs ys h serial = subst (λ p. StatesAs init step depth p xs ys) serial h
 
-pub states_along : {S X Y : Type 0} (init : S → Type 0) (step : S → X → Y → S → Type 0) (depth pick : ℕ) (xs : List X) (ys : List Y) → StatesAs init step depth pick xs ys → pick ≡ 1 → StatesAlong init step (Shape depth xs) ys
-states_along init step depth pick xs ys h second = subst (λ p. StatesAs init step depth p xs ys) second h
+pub states_along : {S X Y : Type 0} (init : S → Type 0) (step : S → X → Y → S → Type 0) (depth : ℕ) (path : Path) (xs : List X) (ys : List Y) → StatesAs init step depth path xs ys → path ≡ Parallel → StatesAlong init step (Shape depth xs) ys
+states_along init step depth path xs ys h parallel = subst (λ p. StatesAs init step depth p xs ys) parallel h
 
 maps_to : {X Y : Type 0} (allowed : X → Y → Type 0) (f : X → Y) → ((x : X) (y : Y) → allowed x y → y ≡ f x) → (xs : List X) (ys : List Y) → AllZip allowed xs ys → ys ≡ map f xs
 maps_to allowed f calls [] [] h = refl

@@ -11,16 +11,20 @@ use Rattle.parallel_policy.specs.declared.Site.{Site}
 use Rattle.commonware_parallel.specs.Calls.{body_call}
 use Rattle.commonware_parallel.specs.Explorers.{ExplorerTakes, picked, plans_of, rule_of}
 use Rattle.commonware_parallel.specs.declared.mocks.explorer.Explorer.{Explorer}
-use Rattle.commonware_parallel.specs.declared.mocks.rule.Rule.TheVariants.{Parallel}
+use Rattle.commonware_parallel.specs.declared.call.Pick.TheVariants.{By}
+use Rattle.commonware_parallel.specs.declared.mocks.rule.Rule.TheVariants.{Parallel as ParallelRule}
+use Rattle.commonware_parallel.proofs.Picks.{one_path}
+use Rattle.parallel_bridge.specs.declared.path.Path.{Path}
+use Rattle.parallel_bridge.specs.declared.path.Path.TheVariants.{Parallel}
 
--- a parallel explorer that is planned for three takes the second pick of a body
-pub second_pick : (explorer : Explorer) (site : Site) (len pick : ℕ) → plans_of explorer ≡ 3 → rule_of explorer ≡ Parallel → ExplorerTakes explorer site (body_call len) pick → pick ≡ 1
-second_pick explorer site len pick planned rule takes =
-    takes.0 ∙ ap (λ p. picked p (rule_of explorer) site (body_call len)) planned ∙ ap (λ r. picked 3 r site (body_call len)) rule
+-- a parallel explorer that is planned for three runs a body in parallel
+pub explored_in_parallel : (explorer : Explorer) (site : Site) (len : ℕ) (path : Path) → plans_of explorer ≡ 3 → rule_of explorer ≡ ParallelRule → ExplorerTakes explorer site (body_call len) (By path) → path ≡ Parallel
+explored_in_parallel explorer site len path planned rule takes =
+    one_path path Parallel (takes.0 ∙ ap (λ p. picked p (rule_of explorer) site (body_call len)) planned ∙ ap (λ r. picked 3 r site (body_call len)) rule)
 
--- at the second pick a fold goes along the list's shape
-pub along_shape : {X R : Type 0} (identity : R → Type 0) (allowed : List X → R → Type 0) (reduce : R → R → R → Type 0) (depth pick : ℕ) (xs : List X) (r : R) → pick ≡ 1 → FoldsAs identity allowed reduce depth pick xs r → AlongLeaves identity allowed reduce (Shape depth xs) r
-along_shape identity allowed reduce depth pick xs r second folds = subst (λ p. FoldsAs identity allowed reduce depth p xs r) second folds
+-- in parallel a fold goes along the list's shape
+pub along_shape : {X R : Type 0} (identity : R → Type 0) (allowed : List X → R → Type 0) (reduce : R → R → R → Type 0) (depth : ℕ) (path : Path) (xs : List X) (r : R) → path ≡ Parallel → FoldsAs identity allowed reduce depth path xs r → AlongLeaves identity allowed reduce (Shape depth xs) r
+along_shape identity allowed reduce depth path xs r parallel folds = subst (λ p. FoldsAs identity allowed reduce depth p xs r) parallel folds
 
 exponent_one : (t : ℕ) → 2 ^ t ≤ 2 → 2 < 2 ^ suc t → t ≡ 1
 exponent_one zero low high = absurd (omega (arith, high))

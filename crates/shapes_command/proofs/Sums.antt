@@ -1,5 +1,5 @@
 -- A chain of steps that add numbers is the sum of the numbers.
-use Rattle.std.proofs.Common.{◌≡◌, ◌+◌, ◌*◌, ◌%◌, ◌^◌, ◌<◌, ◌≤◌, ◌∙◌, ℕ, List, [], Option, ◌∷◌, length, map, subst, arith, sum_by}
+use Rattle.std.proofs.Common.{◌≡◌, ◌+◌, ◌*◌, ◌%◌, ◌^◌, ◌<◌, ◌≤◌, ◌∙◌, ℕ, List, [], Option, ◌∷◌, length, map, arith, sum_by}
 use Rattle.std.proofs.Math.Nat.{suc-mul}
 use Rattle.std.specs.List.{All}
 use Rattle.std.specs.Iterator.{Drains}
@@ -7,15 +7,10 @@ use Rattle.std.proofs.lemmas.Iterator.{YieldsList, items_from_drains}
 use Rattle.std.proofs.lemmas.List.Elements.{All-head, All-tail}
 use Rattle.std.proofs.lemmas.List.Sums.{sum_by-cons}
 use Rattle.parallel_bridge.specs.Lists.{Chain}
-use Rattle.parallel_bridge.specs.Shapes.{FoldsAs}
 
 -- what came of a run is the list that every run gives
 pub drained : {S A B : Type 0} {steps : S → Option A → S → Type 0} {v : A → B} {s : S} {all : List B} (xs : List A) → Drains steps s xs → YieldsList steps v s all → map v xs ≡ all
 drained xs (u, (t, gave, ends)) road = items_from_drains xs (t, gave, λ _. (u, ends)) road
-
--- at pick 0 the fold is one segment
-pub one_segment : {X R : Type 0} (identity : R → Type 0) (allowed : List X → R → Type 0) (reduce : R → R → R → Type 0) (depth pick : ℕ) (xs : List X) (r : R) → pick ≡ 0 → FoldsAs identity allowed reduce depth pick xs r → allowed xs r
-one_segment identity allowed reduce depth pick xs r first folds = subst (λ p. FoldsAs identity allowed reduce depth p xs r) first folds
 
 -- each step adds the value of an item that is seen by v, and no value is above most, so the sum doesn't wrap around
 module _ {A B : Type 0} (v : A → B) (value : B → ℕ) (IsGood : B → Type 0) (most : ℕ) (step : ℕ → A → ℕ → Type 0) (at_most : (x : B) → IsGood x → value x ≤ most) (adds : (a : ℕ) (x : A) (b : ℕ) → IsGood (v x) → step a x b → b ≡ (a + value (v x)) % 2 ^ 64) where

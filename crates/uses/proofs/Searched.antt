@@ -1,23 +1,12 @@
 -- Sums of the numbers below 100 through an explorer, and what a search answers.
-use Rattle.std.proofs.Common.{◌≡◌, ◌+◌, ◌%◌, ◌^◌, ◌∙◌, ℕ, Bool, true, false, nat_le, List, [], ◌∷◌, Result, Ok, Err, ap, sym, refl, fold}
-use Rattle.std.specs.Prelude.{if◌then◌else◌, IfOk}
+use Rattle.std.proofs.Common.{◌≡◌, ◌+◌, ◌%◌, ◌^◌, ◌∙◌, ℕ, Bool, List, [], ◌∷◌, Result, Ok, Err, ap, sym, refl, fold}
+use Rattle.std.specs.Prelude.{IfOk}
 use Rattle.std.specs.Borrow.{Bor}
 use Rattle.parallel_bridge.specs.Lists.{Chain}
-use Rattle.commonware_parallel.specs.Calls.{body_call}
-use Rattle.commonware_parallel.specs.Explorers.{ExplorerTakes, picked, plans_of, rule_of}
 use Rattle.commonware_parallel.specs.Exploring.{Explored, RunsBy}
 use Rattle.commonware_parallel.specs.declared.mocks.explore_error.ExploreError.{ExploreError}
 use Rattle.commonware_parallel.specs.declared.mocks.explorer.Explorer.{Explorer}
 use Rattle.commonware_parallel.specs.declared.mocks.rule.Rule.TheVariants.{Serial}
-
-none_either_way : (b : Bool) → ◌≡◌ {A = ℕ} (if b then 0 else 0) 0
-none_either_way true = refl
-none_either_way false = refl
-
--- a serial explorer takes the first pick of a body
-pub first_pick : (explorer : Explorer) (site : _) (len pick : ℕ) → rule_of explorer ≡ Serial → ExplorerTakes explorer site (body_call len) pick → pick ≡ 0
-first_pick explorer site len pick rule takes =
-    takes.0 ∙ ap (λ r. picked (plans_of explorer) r site (body_call len)) rule ∙ none_either_way (nat_le (plans_of explorer) 1)
 
 -- a number more, wrapped around
 abbrev pub adds : ℕ → ℕ → ℕ

@@ -1,7 +1,9 @@
 -- Which pick a strategy takes that runs long lists alone in parallel.
-use Rattle.std.specs.Prelude.{◌≡◌, ℕ, ◌-◌, ◌<◌, ◌≤◌}
+use Rattle.std.specs.Prelude.{◌≡◌, ℕ, ◌<◌, ◌≤◌}
 use Rattle.std.specs.Int.NonZero.{non_zero_usize_get}
+use Rattle.commonware_parallel.specs.Calls.{first_pick, last_pick}
 use Rattle.commonware_parallel.specs.declared.call.Call.{Call}
+use Rattle.commonware_parallel.specs.declared.call.Pick.{Pick}
 use Rattle.uses.specs.declared.long_lists.LongLists.{LongLists}
 
 -- the number of items from which on a list is long
@@ -13,5 +15,5 @@ abbrev pub thread_number_of : LongLists → ℕ
 thread_number_of strategy = non_zero_usize_get strategy.threads
 
 -- the first pick for a short list, and the last one for a long list
-abbrev pub TakesByLength : ℕ → Call → ℕ → Type 0
-TakesByLength from call pick = (call.len < from → pick ≡ 0) × (from ≤ call.len → pick ≡ call.options - 1)
+abbrev pub TakesByLength : ℕ → Call → Pick → Type 0
+TakesByLength from call pick = (call.len < from → pick ≡ first_pick call) × (from ≤ call.len → pick ≡ last_pick call)

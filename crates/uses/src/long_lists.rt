@@ -8,7 +8,7 @@ ghost use Rattle.parallel_bridge.specs.Sources.{GivesSome};
 ghost use Rattle.uses.specs.LongLists.{from_of, thread_number_of};
 
 use crate::squares::squares;
-use commonware_parallel::{Call, Fault, Place, Source, Strategy, Trouble, Unmeasured};
+use commonware_parallel::{Call, Fault, Pick, Place, Source, Strategy, Trouble, Unmeasured};
 use std::alloc::Global;
 use std::num::NonZeroUsize;
 use std::sync::Wait;
@@ -16,8 +16,8 @@ use std::thread::Threads;
 
 /// Runs a call over few items on the caller's thread and any longer one in parallel.
 ///
-/// It shows all that a strategy of one's own takes. The functions below choose a pick and hand out
-/// two numbers; the ghost members say which picks are taken. Maps, folds, runs and batches come from
+/// It shows all that a strategy of one's own takes. The functions below choose a pick, which is a
+/// path or a number of parts, and hand out two numbers; the ghost members say which picks are taken. Maps, folds, runs and batches come from
 /// the trait, with their contracts proved once for every strategy, so nothing here can break them.
 #[derive(Clone, Copy, Debug, PartialEq, Eq)]
 pub struct LongLists {
@@ -27,6 +27,7 @@ pub struct LongLists {
 
 impl LongLists {
     ghost use Rattle.uses.specs.LongLists.{from_of, thread_number_of, TakesByLength};
+    ghost use Rattle.commonware_parallel.specs.Calls.{HasPick};
 
     /// A strategy that runs calls over `from` items and more in parallel, in as many parts as
     /// `threads` threads ask for.
@@ -39,15 +40,15 @@ impl LongLists {
 
     // The one decision: the first pick is the serial one, and the last one splits most. A method of
     // its own, since both functions of the trait that choose have to choose alike.
-    fn pick(&self, call: Call) -> usize
-        requires { 0 < call.options }
-        ensures below { result < call.options }
+    fn pick(&self, call: Call) -> Pick
+        requires { 0 < call.parts }
+        ensures has { HasPick call result }
         ensures takes { TakesByLength (from_of self.now) call result }
     {
         if call.len < self.from {
-            0
+            call.first()
         } else {
-            call.options - 1
+            call.last()
         }
     }
 }
@@ -95,7 +96,7 @@ impl Strategy for LongLists {
         Ok(*self)
     }
 
-    fn dispatch<Rt: Wait, P: Place, R, E, B: FnOnce(usize) -> Result<R, E>>(
+    fn dispatch<Rt: Wait, P: Place, R, E, B: FnOnce(Pick) -> Result<R, E>>(
         &self,
         _rt: &Rt,
         _alloc: Global,
@@ -112,7 +113,7 @@ impl Strategy for LongLists {
         _alloc: Global,
         _site: P,
         call: Call,
-    ) -> Result<(usize, Unmeasured), Fault> {
+    ) -> Result<(Pick, Unmeasured), Fault> {
         Ok((self.pick(call), Unmeasured))
     }
 }

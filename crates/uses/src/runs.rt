@@ -1,14 +1,14 @@
 // Runs: one of two bodies, as the strategy chooses.
-ghost use Rattle.std.specs.Prelude.{◌≡◌, ℕ, ◌<◌, ◌≤◌, ◌⊎◌, count_by, length, IfOk, IfErr};
+ghost use Rattle.std.specs.Prelude.{◌≡◌, ℕ, ◌≤◌, ◌⊎◌, count_by, length, IfOk, IfErr};
 ghost use Rattle.commonware_parallel.specs.Answers.{OneOf};
-ghost use Rattle.commonware_parallel.specs.Calls.{body_call};
+ghost use Rattle.commonware_parallel.specs.Calls.{AtSomePath, body_call};
 
 use commonware_parallel::{Fault, Place, Strategy};
 use std::alloc::Global;
 use std::sync::Wait;
 
-/// One of two values, as the strategy chooses for so many items: the first at pick 0, the second at
-/// pick 1.
+/// One of two values, as the strategy chooses for so many items: the first serially, the second in
+/// parallel.
 pub fn one_of<Rt: Wait, P: Place, S: Strategy, R: Drop>(
     rt: &Rt,
     alloc: Global,
@@ -19,9 +19,9 @@ pub fn one_of<Rt: Wait, P: Place, S: Strategy, R: Drop>(
     parallel: R,
 ) -> Result<R, Fault>
     ensures either { IfOk result (λ answer. (answer ≡ serial) ⊎ (answer ≡ parallel)) }
-    ensures picked { IfOk result (λ answer. (pick : ℕ) × (pick < 2)
-        × S.takes strategy.now (P.site_of site) (body_call len) pick
-        × OneOf (answer ≡ serial) (answer ≡ parallel) pick) }
+    ensures picked { IfOk result (λ answer.
+        AtSomePath (S.takes strategy.now (P.site_of site) (body_call len))
+        (OneOf (answer ≡ serial) (answer ≡ parallel))) }
     ensures refused { IfErr result (S.refuses strategy.now (P.site_of site) (body_call len)) }
 {
     strategy.run(rt, alloc, site, len, || serial, || parallel)

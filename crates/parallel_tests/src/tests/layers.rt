@@ -4,7 +4,7 @@ use commonware_parallel::bridge::bridge::depth_of;
 use commonware_parallel::bridge::list::fold::{fold_iter, fold_parallel};
 use commonware_parallel::bridge::list::map::{map_iter, map_parallel};
 use commonware_parallel::rayon::install;
-use commonware_parallel::{Call, Copies, Kind, Sequential, Strategy, ThreadPool};
+use commonware_parallel::{Call, Copies, Kind, Path, Pick, Sequential, Strategy, ThreadPool};
 use parallel_policy::Place;
 use std::num::NonZeroUsize;
 
@@ -16,14 +16,14 @@ fn a_strategy_hands_its_picks_out(rt: HostRuntime) {
         kind: Kind::Batches,
         len: 17,
         work: 18_446_744_073_709_551_615,
-        options: 3,
+        parts: 3,
     };
     assert_eq!(rt; call, expected);
     assert_eq!(rt; SITE.site(), SITE);
     let (pick, _) = Sequential
         .choose(&rt, alloc, SITE, call)
         .expect(&rt, "memory");
-    assert_eq!(rt; pick, 0);
+    assert_eq!(rt; pick, Pick::Into(1));
     assert!(rt; Sequential.starts_workers());
     let strategy = pool(&rt, alloc, 2, 8);
     assert!(rt; strategy.starts_workers());
@@ -31,21 +31,21 @@ fn a_strategy_hands_its_picks_out(rt: HostRuntime) {
     assert!(rt; pool(&rt, alloc, 2, 1).is_serial());
     assert!(rt; !strategy.is_serial());
     for (kind, planned, pick) in [
-        (Kind::Batches, 8, 2),
-        (Kind::Batches, 1, 0),
-        (Kind::Tiles, 8, 2),
-        (Kind::Spawn, 1, 2),
-        (Kind::Join, 1, 2),
+        (Kind::Batches, 8, Pick::Into(3)),
+        (Kind::Batches, 1, Pick::Into(1)),
+        (Kind::Tiles, 8, Pick::Into(3)),
+        (Kind::Spawn, 1, Pick::By(Path::Parallel)),
+        (Kind::Join, 1, Pick::By(Path::Parallel)),
     ] {
         let strategy = pool(&rt, alloc, 2, planned);
         let (chosen, _) = strategy
             .choose(&rt, alloc, SITE, Call { kind, ..call })
             .expect(&rt, "memory");
         assert_eq!(rt; chosen, pick, "{kind:?} of {planned}");
-        let doubled = strategy
-            .dispatch_body(&rt, alloc, SITE, 1, |pick| Ok(pick.wrapping_mul(2)))
+        let told = strategy
+            .dispatch_body(&rt, alloc, SITE, 1, |path| Ok(path))
             .expect(&rt, "memory");
-        assert_eq!(rt; doubled, if planned == 1 { 0 } else { 2 });
+        assert_eq!(rt; told, if planned == 1 { Path::Serial } else { Path::Parallel });
     }
 }
 

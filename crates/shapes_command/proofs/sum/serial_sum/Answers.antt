@@ -2,8 +2,11 @@ use Rattle.std.proofs.Common.{rules, ◌≡◌, ◌+◌, Bor, String, Global, ar
 use Rattle.std.specs.List.{All}
 use Rattle.std.proofs.lemmas.Result.{IfOk-weaker}
 use Rattle.std.proofs.lemmas.Iterator.{YieldsList-from_slice}
+use Rattle.parallel_bridge.proofs.OverLists.{in_one}
+use Rattle.parallel_bridge.specs.declared.path.Path.TheVariants.{Serial}
+use Rattle.commonware_parallel.proofs.Picks.{one_path}
 use Rattle.shapes_command.specs.Request.{IsItem, number_of}
-use Rattle.shapes_command.proofs.Sums.{drained, one_segment, chain_sum}
+use Rattle.shapes_command.proofs.Sums.{drained, chain_sum}
 use Rattle.shapes_command.proofs.sum.serial_sum.Goals as goal
 
 pub returns-clause-sum : goal.returns-clause-sum
@@ -13,7 +16,7 @@ returns-clause-sum g c =
     let items = c.args.items.now in
     let v : Bor (String Global) → String Global = λ word. word.now in
     let same : map v h.0 ≡ items = drained h.0 h.1 (YieldsList-from_slice {s = c.iter.result} items (search rules)) in
-    let segment = one_segment _ _ _ _ h.2.0 h.0 r h.2.2 h.2.3.1 in
+    let segment = in_one _ _ _ _ h.2.0 h.0 r h.2.2.1 (one_path h.2.0 Serial h.2.1) in
     let begins : segment.0 ≡ c.args.identity = search rules in
     let good : All IsItem (map v h.0) = subst (All IsItem) (sym same) c.requires.items.1 in
     let few = ap length same in

@@ -5,11 +5,12 @@ use Rattle.std.proofs.lemmas.List.{length-map}
 use Rattle.std.proofs.lemmas.Result.{IfOk-weaker}
 use Rattle.std.proofs.lemmas.Iterator.{YieldsList-from_slice}
 use Rattle.parallel_bridge.specs.Shapes.{Shape, cutdepth}
+use Rattle.parallel_bridge.specs.declared.path.Path.TheVariants.{Parallel}
 use Rattle.commonware_parallel.specs.Explorers.{pool_threads}
 use Rattle.shapes_command.specs.Answer.{SumsAlong}
 use Rattle.shapes_command.specs.Request.{IsItem, number_of}
 use Rattle.shapes_command.proofs.Sums.{drained}
-use Rattle.shapes_command.proofs.Alongs.{second_pick, along_shape, along_plain, depth_of_two, most_along}
+use Rattle.shapes_command.proofs.Alongs.{explored_in_parallel, along_shape, along_plain, depth_of_two, most_along}
 use Rattle.shapes_command.proofs.sum.sum_along.Goals as goal
 
 pub returns-clause-sum : goal.returns-clause-sum
@@ -21,8 +22,8 @@ returns-clause-sum g c =
     let identity = c.args.identity in
     let v : Bor (String Global) → String Global = λ word. word.now in
     let same : map v h.0 ≡ items = drained h.0 h.1 (YieldsList-from_slice {s = c.iter.result} items (search rules)) in
-    let second : h.2.0 ≡ 1 = second_pick explorer _ (length h.0) h.2.0 c.requires.planning c.requires.rule h.2.2 in
-    let along = along_shape _ _ _ _ h.2.0 h.0 r second h.2.3.1 in
+    let parallel : h.2.0 ≡ Parallel = explored_in_parallel explorer _ (length h.0) h.2.0 c.requires.planning c.requires.rule h.2.1 in
+    let along = along_shape _ _ _ _ h.2.0 h.0 r parallel h.2.2.1 in
     let good : All IsItem (map v h.0) = subst (All IsItem) (sym same) c.requires.items.1 in
     let few : length h.0 ≤ 1000 = omega (arith, length-map h.0 v, ap length same, c.requires.items.0) in
     let depth : cutdepth (pool_threads explorer) ≡ 2 = ap cutdepth c.requires.threads ∙ depth_of_two in
