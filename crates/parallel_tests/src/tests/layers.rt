@@ -45,7 +45,14 @@ fn a_strategy_hands_its_picks_out(rt: HostRuntime) {
         let told = strategy
             .dispatch_body(&rt, alloc, SITE, 1, |path| Ok(path))
             .expect(&rt, "memory");
-        assert_eq!(rt; told, if planned == 1 { Path::Serial } else { Path::Parallel });
+        assert_eq!(rt;
+            told,
+            if planned == 1 {
+                Path::Serial
+            } else {
+                Path::Parallel
+            }
+        );
     }
 }
 

@@ -82,7 +82,7 @@ fn values_print_their_parts(rt: HostRuntime) {
         text
     );
     let call = Call::body(4);
-    let text = "Call { kind: Body, len: 4, work: 4, options: 2 }";
+    let text = "Call { kind: Body, len: 4, work: 4, parts: 1 }";
     assert_eq!(rt;
         format!(in alloc; "{call:?}").expect(&rt, "memory").as_str(),
         text
