@@ -2,6 +2,7 @@ pub mod Shapes
 pub mod Bracketings
 pub mod Chains
 pub mod Coming
+pub mod Arriving
 mod Ranges
 pub mod Halves
 pub mod SegmentLengths

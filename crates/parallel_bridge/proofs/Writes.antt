@@ -1,47 +1,11 @@
 -- Answers that are written one after another into a window.
-use Rattle.std.proofs.Common.{◌≡◌, ℕ, zero, suc, ◌+◌, ◌<◌, ◌≤◌, List, [], ◌∷◌, ◌++◌, Result, Ok, Err, IfErr, IfOk, length, sym, subst, arith, ◌⊎◌, inl, inr}
-use Rattle.std.proofs.lemmas.List.{append-nil, length-append}
-use Rattle.parallel_bridge.specs.Fills.{Answered, OneAfterAnother, StandsFor, kept}
+use Rattle.std.proofs.Common.{ℕ, List, ◌++◌, Result, Ok, Err, sym, subst, inl, inr}
+use Rattle.parallel_bridge.specs.Fills.{Answered, OneAfterAnother}
 use Rattle.parallel_bridge.specs.Lists.{MapOf}
 use Rattle.parallel_bridge.specs.Shapes.{Cut, segment, halves, cut_items, Shape}
 use Rattle.parallel_bridge.specs.Tries.{TryAlongCut, OnlyOk}
-use Rattle.parallel_bridge.specs.Windows.{View}
 use Rattle.parallel_bridge.proofs.Shapes.{MapOf-append, Shape-items}
 use Rattle.parallel_bridge.proofs.TryShapes.{try_along_wider}
-
-pub low_or_high : (m n : ℕ) → (m < n) ⊎ (n ≤ m)
-low_or_high m zero = inr (omega arith)
-low_or_high zero (suc n) = inl (omega arith)
-low_or_high (suc m) (suc n) = elim (low_or_high m n) [ inl h ↦ inl (omega arith) | inr h ↦ inr (omega arith) ]
-
-module _ {X S T E : Type 0} (so_far : List X → S → List T → Type 0) (fails : List X → E → Type 0) where
-  -- an answer for each item so far, or an error, unless there were more items than places
-  abbrev pub StandIn : List X → S → View T → Result (Unit {0}) E → Type 0
-  StandIn xs state room done = (IfOk done (λ _. length room.items ≡ length xs) × StandsFor so_far fails xs state room.items done) ⊎ (room.room < length xs)
-
-  pub one_stands : (xs : List X) (x : X) (state state' : S) (old new : View T) (done done' : Result (Unit {0}) E) → old.before ≡ 0 → new.room ≡ old.room
-      → IfOk done' (λ _. old.before + length old.items < old.room → length new.items ≡ length old.items + 1)
-      → IfErr done (λ _. done' ≡ done)
-      → (IfOk done (λ _. old.before + length old.items < old.room) → StandsFor so_far fails xs state old.items done → StandsFor so_far fails (xs ++ x ∷ []) state' new.items done')
-      → StandIn xs state old done → StandIn (xs ++ x ∷ []) state' new done'
-  one_stands xs x state state' old new done done' none same more ended step (inr over) = let long = length-append xs (x ∷ []) in inr (omega arith)
-  one_stands xs x state state' old new (Err e) done' none same more ended step (inl h) =
-      inl (subst (λ d. IfOk d (λ _. length new.items ≡ length (xs ++ x ∷ []))) (sym ended) tt, step tt h.1)
-  one_stands xs x state state' old new (Ok d) (Err e) none same more ended step (inl h) =
-      let long = length-append xs (x ∷ []) in let count = h.0 in
-      elim (low_or_high (length old.items) old.room) [ inl low ↦ inl (tt, step (omega arith) h.1) | inr high ↦ inr (omega arith) ]
-  one_stands xs x state state' old new (Ok d) (Ok d') none same more ended step (inl h) =
-      let long = length-append xs (x ∷ []) in let count = h.0 in
-      elim (low_or_high (length old.items) old.room) [
-        | inl low ↦ inl (let one = more (omega arith) in omega arith, step (omega arith) h.1)
-        | inr high ↦ inr (omega arith)
-      ]
-
-  -- there are as many items as places
-  pub all_stand : (xs : List X) (state : S) (room : View T) (done : Result (Unit {0}) E) → length xs ≡ room.room → StandIn xs state room done → Answered so_far fails xs (kept done room.items)
-  all_stand xs state room done long (inr over) = absurd (omega arith)
-  all_stand xs state room (Ok d) long (inl h) = (state, h.1)
-  all_stand xs state room (Err e) long (inl h) = subst (λ l. fails l e) (append-nil xs) (h.1 [])
 
 -- where no item fails, each segment has its answers
 module _ {X S Y : Type 0} (E : Type 0) (so_far : List X → S → List Y → Type 0) (leaf : List X → List Y → Type 0) (ends : (xs : List X) (state : S) (ys : List Y) → so_far xs state ys → leaf xs ys) where

@@ -29,11 +29,6 @@ abbrev pub kept : {T E : Type 0} → Result (Unit {0}) E → List T → Result (
 kept (Ok done) ys = Ok ys
 kept (Err e) ys = Err e
 
--- behind so many items a state and answers stand, or an error, which is theirs whatever items follow
-abbrev pub StandsFor : {X S T E : Type 0} → (List X → S → List T → Type 0) → (List X → E → Type 0) → List X → S → List T → Result (Unit {0}) E → Type 0
-StandsFor so_far fails xs state ys (Ok done) = so_far xs state ys
-StandsFor {X = X} so_far fails xs state ys (Err e) = (more : List X) → fails (xs ++ more) e
-
 -- the answers for all items, from some state to some state, or the error of one of them
 abbrev pub Answered : {X S T E : Type 0} → (List X → S → List T → Type 0) → (List X → E → Type 0) → List X → Result (List T) E → Type 0
 Answered {S = S} so_far fails xs (Ok ys) = (state : S) × so_far xs state ys

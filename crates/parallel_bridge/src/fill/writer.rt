@@ -2,7 +2,7 @@
 ghost use Rattle.std.specs.Prelude.{◌≡◌, ◌++◌, ◌+◌, ◌<◌, ◌∷◌, [], IfErr, IfOk, List, Result, length};
 ghost use Rattle.std.specs.Iterator.{Drains, HoldsAlong, IsFinite};
 ghost use Rattle.std.specs.List.{All, Contains};
-ghost use Rattle.parallel_bridge.specs.Fills.{Answered, IsFull, IsRoom, SamePlaces, StandsFor, kept};
+ghost use Rattle.parallel_bridge.specs.Fills.{Answered, IsFull, IsRoom, SamePlaces, kept};
 ghost use Rattle.parallel_bridge.specs.Sources.{GivesSome};
 
 use crate::window::part::Window;
@@ -64,44 +64,33 @@ where
     ensures gives { GivesSome (Drains I.next_gives) iter (λ xs.
         Answered (W.so_far writer.now) (W.fails writer.now) xs (kept result room.new.items)) }
 {
+    let mut iter = iter;
     let mut state = writer.begin();
-    let mut done = Ok(());
-    for item in iter {
-        done = write_next(writer, &mut state, done, item, room);
+    while room.len() < room.room() {
+        let Some(item) = iter.next() else {
+            return Ok(());
+        };
+        match writer.answer(&mut state, item) {
+            Ok(answer) => room.put(answer),
+            Err(error) => {
+                pass_over(iter);
+                return Err(error);
+            }
+        }
     }
-    done
+    pass_over(iter);
+    Ok(())
 }
 
-// The same for one item behind others.
-fn write_next<X: Drop, W: Writer<X>>(
-    writer: &W,
-    state: &mut W::State,
-    done: Result<(), W::Error>,
-    item: X,
-    room: &mut Window<W::Answer>,
-) -> Result<(), W::Error>
-    requires { W.takes writer.now item }
-    ensures place { SamePlaces room.old room.new × (room.new.before ≡ room.old.before) }
-    ensures more { IfOk result (λ _. room.old.before + length room.old.items < room.old.room
-        → length room.new.items ≡ length room.old.items + 1) }
-    ensures same { IfErr done (λ _. result ≡ done) }
-    ensures stands { (xs : List X)
-        → IfOk done (λ _. room.old.before + length room.old.items < room.old.room)
-        → StandsFor (W.so_far writer.now) (W.fails writer.now) xs state.old room.old.items done
-        → StandsFor (W.so_far writer.now) (W.fails writer.now) (xs ++ item ∷ []) state.new
-        room.new.items result }
+// Drops the items that are left of an iterator.
+fn pass_over<I: Iterator>(iter: I)
+where
+    I::Item: Drop,
+    requires can { I.can_next iter }
+    requires ends { IsFinite (I.remaining iter) }
+    ensures { (xs : List I.Item) × Drains I.next_gives iter xs }
 {
-    match done {
-        Ok(()) => (),
-        Err(error) => return Err(error),
-    }
-    match writer.answer(state, item) {
-        Ok(answer) => {
-            room.put_within(answer);
-            Ok(())
-        }
-        Err(error) => Err(error),
-    }
+    for _item in iter {}
 }
 
 /// Writes the answers for a window's items, each taken from its place, up to the first item that fails,

@@ -1,11 +1,17 @@
--- an answer for each item that came, or the first error, unless there were more items than places
-use Rattle.std.proofs.Common.{◌≡◌, ◌<◌, ◌⊎◌, IfOk, length}
-use Rattle.parallel_bridge.specs.Fills.{SamePlaces, StandsFor}
+-- an answer for each item that came
+use Rattle.std.proofs.Common.{◌≡◌, ◌-◌, List, length}
+use Rattle.std.specs.Iterator.{IsFinite, Yields}
+use Rattle.parallel_bridge.specs.Fills.{SamePlaces}
 use Rattle.parallel_bridge.proofs.fill.writer.write_iter.Given as goal
 
-abbrev pub invariant-loop-item : goal.invariant-loop-item
-invariant-loop-item g l = record {
+abbrev pub invariant-loop-room : goal.invariant-loop-room
+invariant-loop-room g l = record {
+  came : (xs : List g.row.I-Item.Denot) × Yields g.I.Iterator.next_gives l.fn.iter xs l.iter × g.W.Writer.so_far l.writer xs l.state l.room.items × (length l.room.items ≡ length xs);
+  can : g.I.Iterator.can_next l.iter;
+  ends : IsFinite (g.I.Iterator.remaining l.iter);
   place : SamePlaces l.initial.room l.room;
   first : l.room.before ≡ 0;
-  stands : (IfOk l.done (λ _. length l.room.items ≡ length l.yielded) × StandsFor (g.W.Writer.so_far l.writer) (g.W.Writer.fails l.writer) l.yielded l.state l.room.items l.done) ⊎ (l.room.room < length l.yielded);
 }
+
+abbrev pub decreases-loop-room : goal.decreases-loop-room
+decreases-loop-room g l = l.room.room - length l.room.items
