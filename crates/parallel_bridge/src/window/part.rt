@@ -154,17 +154,6 @@ impl<T> Window<T> {
 }
 
 impl<T: Drop> Window<T> {
-    /// Writes an item behind the others where there is room for it, and else drops it.
-    pub fn put_within(&mut self, item: T)
-        ensures place { (self.new.start ≡ self.old.start) × (self.new.room ≡ self.old.room) × (self.new.before ≡ self.old.before) }
-        ensures put { self.old.before + length self.old.items < self.old.room → self.new.items ≡ self.old.items ++ item ∷ [] }
-        ensures kept { self.old.room ≤ self.old.before + length self.old.items → self.new.items ≡ self.old.items }
-    {
-        if self.before + self.len < self.room {
-            self.put(item);
-        }
-    }
-
     /// Drops the items, each one once, and keeps the places.
     pub fn clear(&mut self)
         ensures { self.new ≡ part self.old.start self.old.room 0 [] }
