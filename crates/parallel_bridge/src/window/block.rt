@@ -50,18 +50,6 @@ impl<T> Block<T> {
         Block { window, deed, vec }
     }
 
-    /// Reserves a block for at least `room` items, of which it has none yet.
-    ///
-    /// # Errors
-    ///
-    /// `AllocError` where memory is refused.
-    pub fn with_room(alloc: Global, room: usize) -> Result<Self, AllocError>
-        ensures { IfOk result (λ b. (b.items ≡ []) × (b.before ≡ 0) × (room ≤ b.room)) }
-    {
-        let vec = Vec::with_capacity(alloc, room)?;
-        Ok(Block::from_vec(vec))
-    }
-
     /// The items as a vector, which has the block. Nothing is copied.
     pub fn into_vec(self) -> Vec<T>
         requires { self.before ≡ 0 }
