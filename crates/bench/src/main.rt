@@ -23,8 +23,8 @@ use crate::case::CASES;
 use crate::choosing::race_choices;
 use crate::jobs::race_jobs;
 use crate::pools::soak_pools;
-use crate::race::race;
-use crate::request::{JOBS, POLICY, POOLS, Request, SOAK, parse_request};
+use crate::race::{call_once, race};
+use crate::request::{JOBS, ONCE, POLICY, POOLS, Request, SOAK, parse_request};
 use crate::soak::soak;
 use anyhow::Result;
 use std::process::ExitCode;
@@ -34,6 +34,7 @@ fn main(rt: HostRuntime) -> io::Result<ExitCode> {
     let outcome = match requested(&rt) {
         Ok(Some(Request::Names)) => names(&rt),
         Ok(Some(Request::Time(trial))) => race(&rt, trial),
+        Ok(Some(Request::Once(trial, way))) => call_once(&rt, trial, way),
         Ok(Some(Request::Choose(trial))) => race_choices(&rt, trial),
         Ok(Some(Request::Jobs(trial))) => race_jobs(&rt, trial),
         Ok(Some(Request::Soak(trial))) => soak(&rt, trial),
@@ -67,7 +68,7 @@ fn names(rt: &impl Print) -> Result<()> {
     for case in CASES {
         rt.println(case.name())?;
     }
-    for name in [POLICY, JOBS, SOAK, POOLS] {
+    for name in [ONCE, POLICY, JOBS, SOAK, POOLS] {
         rt.println(name)?;
     }
     Ok(())

@@ -143,6 +143,37 @@ where
     readings.report(rt)
 }
 
+/// Calls one way of a trial once, and prints its answer's checksum. Nothing else is called, so that a
+/// reading of the whole program is one of this call.
+pub fn call_once<Rt>(rt: &Rt, trial: Trial, way: Way) -> Result<()>
+where
+    Rt: time::Clock
+        + Print
+        + AllocGlobal
+        + Threads
+        + Wait
+        + Clone
+        + Drop
+        + Send
+        + Sync
+        + Debug
+        + 'static,
+{
+    let alloc = rt.alloc();
+    let clock = MonotonicClock::new(rt.clone()?)?;
+    let learning = Rayon::new(rt, alloc, trial.threads, clock)?;
+    let parallel = learning.without_policy()?;
+    let strategies = Strategies {
+        parallel: &parallel,
+        learning: &learning,
+    };
+    let items = items_of(alloc, trial.case, trial.len)?;
+    let input = Input::of(alloc, trial.form, items.as_slice())?;
+    let answer = by_way(rt, alloc, &strategies, way, trial.case, input)?;
+    println!(rt; "{}", answer.checksum())?;
+    Ok(())
+}
+
 /// An odd number of rounds: 7 for a long list, and up to 1001 for a short one.
 pub fn rounds_of(len: usize) -> u64 {
     let pairs = 10_000 / len.max(1);

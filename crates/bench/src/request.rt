@@ -1,7 +1,7 @@
 // What the words of the command line ask for.
 use crate::case::Case;
 use crate::soak::SoakTrial;
-use crate::ways::Form;
+use crate::ways::{Form, Way};
 use std::num::NonZeroUsize;
 
 /// The name by which the command line asks for the choices of a policy.
@@ -15,6 +15,9 @@ pub const SOAK: &str = "soak";
 
 /// The name by which the command line asks for a soak of pools.
 pub const POOLS: &str = "pools";
+
+/// The name by which the command line asks for one call of one way.
+pub const ONCE: &str = "once";
 
 /// A case to be timed over a list of `len` items, with a pool of `threads` threads.
 #[derive(Clone, Copy, Debug, PartialEq, Eq, Hash)]
@@ -57,6 +60,8 @@ pub enum Request {
     Names,
     /// A case to be timed.
     Time(Trial),
+    /// One call of one way, with nothing beside it, for whoever measures the whole program.
+    Once(Trial, Way),
     /// The choices of a policy to be timed.
     Choose(ChoiceTrial),
     /// The jobs of a pool to be timed.
@@ -70,9 +75,16 @@ pub enum Request {
 /// What the words after the program's name ask for: nothing for the names, `soak PLANS SEED` for random
 /// plans, `pools JOBS POOLS` for pools, and `policy LEN THREADS`, `jobs JOBS WORKERS` or
 /// `CASE LEN THREADS` for a trial of one thread at least, a case's with `iter` or `vec`, with `fresh` or
-/// with both behind it, in that order; a case of tiles has neither `iter` nor `vec`. Any other words ask
-/// for nothing.
+/// with both behind it, in that order; a case of tiles has neither `iter` nor `vec`. With `once WAY`
+/// before a case, `WAY` being `loop`, `sequential`, `rayon` or `policy`, that way alone is called, once.
+/// Any other words ask for nothing.
 pub fn parse_request(words: &[String]) -> Option<Request> {
+    if let [once, way, rest @ ..] = words
+        && once.as_str() == ONCE
+    {
+        let way = way_named(way.as_str())?;
+        return Some(Request::Once(parse_trial(rest)?, way));
+    }
     let [case, len, threads, options @ ..] = words else {
         return words.is_empty().then_some(Request::Names);
     };
@@ -88,29 +100,50 @@ pub fn parse_request(words: &[String]) -> Option<Request> {
         let trial = PoolTrial { jobs, pools };
         return options.is_empty().then_some(Request::Pools(trial));
     }
-    let len = len.parse().ok()?;
-    let threads = NonZeroUsize::new(threads.parse().ok()?)?;
     if case.as_str() == POLICY {
+        let len = len.parse().ok()?;
+        let threads = NonZeroUsize::new(threads.parse().ok()?)?;
         let trial = ChoiceTrial { len, threads };
         return options.is_empty().then_some(Request::Choose(trial));
     }
     if case.as_str() == JOBS {
-        let workers = threads;
-        let trial = JobTrial { jobs: len, workers };
+        let jobs = len.parse().ok()?;
+        let workers = NonZeroUsize::new(threads.parse().ok()?)?;
+        let trial = JobTrial { jobs, workers };
         return options.is_empty().then_some(Request::Jobs(trial));
     }
+    Some(Request::Time(parse_trial(words)?))
+}
+
+// A case with its length, its threads and its options.
+fn parse_trial(words: &[String]) -> Option<Trial> {
+    let [case, len, threads, options @ ..] = words else {
+        return None;
+    };
+    let len = len.parse().ok()?;
+    let threads = NonZeroUsize::new(threads.parse().ok()?)?;
     let case = Case::named(case.as_str())?;
     let (form, is_fresh) = parse_options(options)?;
     if case.is_tiles() && form != Form::Slice {
         return None;
     }
-    Some(Request::Time(Trial {
+    Some(Trial {
         case,
         len,
         threads,
         form,
         is_fresh,
-    }))
+    })
+}
+
+fn way_named(name: &str) -> Option<Way> {
+    match name {
+        "loop" => Some(Way::Loop),
+        "sequential" => Some(Way::Sequential),
+        "rayon" => Some(Way::Rayon),
+        "policy" => Some(Way::Policy),
+        _ => None,
+    }
 }
 
 // The form of the source, and whether answers are kept.
