@@ -1,5 +1,5 @@
 -- What an answer by a path says of the list that a source gave.
-use Rattle.std.proofs.Common.{◌≡◌, ℕ, ◌<◌, ◌≤◌, List, Bool, length, Result, Ok, Err, IfOk, sym, subst, refl}
+use Rattle.std.proofs.Common.{◌≡◌, ℕ, ◌<◌, ◌≤◌, List, Bool, length, Result, Ok, Err, IfOk, sym, subst}
 use Rattle.parallel_fault.specs.declared.fault.Trouble.{Trouble}
 use Rattle.parallel_fault.specs.declared.fault.Trouble.TheVariants.{Closure}
 use Rattle.parallel_fault.specs.declared.fault.Trouble.TheVariants.{Fault as OfFault}
@@ -9,38 +9,24 @@ use Rattle.parallel_bridge.specs.Sources.{GivesSome}
 use Rattle.parallel_fault.specs.declared.fault.Fault.TheVariants.{Memory}
 use Rattle.parallel_bridge.specs.declared.path.Path.{Path}
 use Rattle.parallel_bridge.specs.declared.path.Path.TheVariants.{Serial}
-use Rattle.commonware_parallel.specs.Answers.{AnswersAs, OnParts, OnPath, UnlessFault, UnlessFaulty}
-use Rattle.commonware_parallel.specs.Calls.{AtSomePath, HasPick, IsInnerOf, first_pick}
+use Rattle.commonware_parallel.specs.Answers.{OnParts, OnPath, UnlessFault, UnlessFaulty}
+use Rattle.commonware_parallel.specs.Calls.{AtSomePath, HasPick, IsInnerOf}
 use Rattle.parallel_fault.specs.declared.fault.Fault.{Fault}
 use Rattle.parallel_policy.specs.declared.Site.{Site}
 use Rattle.commonware_parallel.specs.declared.call.Call.{Call}
-use Rattle.commonware_parallel.specs.declared.call.Kind.TheVariants.{Body}
 use Rattle.commonware_parallel.specs.declared.call.Pick.{Pick}
 use Rattle.commonware_parallel.specs.declared.call.Pick.TheVariants.{By, Into}
 
--- what a body that is told a path answers, where the strategy tells a pick
-pub answers_by_path : {R E : Type 0} (call : Call) (takes : Pick → Type 0) (refuses : Fault → Type 0) (told : Pick → Result R E → Type 0) (allowed : Path → Result R E → Type 0) (result : Result R (Trouble E))
-    → ((pick : Pick) (out : Result R E) → told pick out → OnPath pick (λ path. allowed path out))
-    → AnswersAs (λ pick. HasPick call pick × takes pick) refuses told result → AnswersAs (λ path. takes (By path)) refuses allowed result
-answers_by_path call takes refuses told allowed (Ok r) says (By path, has, h) = (path, has.1, says (By path) (Ok r) h)
-answers_by_path call takes refuses told allowed (Ok r) says (Into parts, has, h) = absurd (says (Into parts) (Ok r) h)
-answers_by_path call takes refuses told allowed (Err (Closure e)) says (By path, has, h) = (path, has.1, says (By path) (Err e) h)
-answers_by_path call takes refuses told allowed (Err (Closure e)) says (Into parts, has, h) = absurd (says (Into parts) (Err e) h)
-answers_by_path call takes refuses told allowed (Err (OfFault f)) says h = h
+-- a fact of a body that is told a path, where the strategy tells a pick
+pub path_told : (call : Call) (takes : Pick → Type 0) (fact : Path → Type 0) (pick : Pick) → HasPick call pick × takes pick → OnPath pick fact → AtSomePath takes fact
+path_told call takes fact (By path) has h = (path, has.1, h)
+path_told call takes fact (Into parts) has h = absurd h
 
 -- the same of a body that is told a number of parts
-pub answers_in_parts : {R E : Type 0} (call : Call) (takes : Pick → Type 0) (refuses : Fault → Type 0) (told : Pick → Result R E → Type 0) (allowed : ℕ → Result R E → Type 0) (result : Result R (Trouble E))
-    → ((pick : Pick) (out : Result R E) → told pick out → OnParts pick (λ parts. allowed parts out))
-    → AnswersAs (λ pick. HasPick call pick × takes pick) refuses told result → AnswersAs (λ parts. (0 < parts) × (parts ≤ call.parts) × takes (Into parts)) refuses allowed result
-answers_in_parts call takes refuses told allowed (Ok r) says (By path, has, h) = absurd (says (By path) (Ok r) h)
-answers_in_parts call takes refuses told allowed (Ok r) says (Into parts, has, h) = (parts, (has.0.1, has.0.2, has.1), says (Into parts) (Ok r) h)
-answers_in_parts call takes refuses told allowed (Err (Closure e)) says (By path, has, h) = absurd (says (By path) (Err e) h)
-answers_in_parts call takes refuses told allowed (Err (Closure e)) says (Into parts, has, h) = (parts, (has.0.1, has.0.2, has.1), says (Into parts) (Err e) h)
-answers_in_parts call takes refuses told allowed (Err (OfFault f)) says h = h
-
--- the first pick of a body is serial
-pub first_of_body : (call : Call) → call.kind ≡ Body → By Serial ≡ first_pick call
-first_of_body call is = rw is refl
+pub parts_told : (call : Call) (takes : Pick → Type 0) (fact : ℕ → Type 0) (pick : Pick) → HasPick call pick × takes pick → OnParts pick fact
+    → (parts : ℕ) × ((0 < parts) × (parts ≤ call.parts) × takes (Into parts)) × fact parts
+parts_told call takes fact (By path) has h = absurd h
+parts_told call takes fact (Into parts) has h = (parts, (has.0.1, has.0.2, has.1), h)
 
 -- a fact at the depth for the thread number that the code took holds at the one for the clause's
 pub at_threads : {Q X : Type 0} (gives : Q → List X → Type 0) (parts : Q) (takes : Pick → Type 0) (fact : ℕ → Path → List X → Type 0) (taken threads : ℕ) → taken ≡ threads

@@ -17,7 +17,7 @@ mixed_all hash (x ∷ xs) = mixed_all (mixed_in hash x) xs
 abbrev pub mix_of : ℕ → Site → ℕ → ℕ
 mix_of seed site len = mixed_all 1 (seed ∷ length site.file.now ∷ (site.file.now ++ site.line ∷ site.column ∷ len ∷ []))
 
--- the first option, the last one, or the one that the hash says
+-- the first option, the last one, or the one that the hash says, by the number of options before it
 abbrev pub pick_of : Rule → Site → ℕ → ℕ → ℕ
 pick_of Serial site len options = 0
 pick_of Parallel site len options = options - 1

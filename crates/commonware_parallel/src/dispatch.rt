@@ -47,7 +47,11 @@ pub fn dispatch_path<S: Strategy, Rt: Wait, P: Place, R, E, B: FnOnce(Path) -> R
             Pick::Into(_) => unreachable!(),
         }
     };
-    strategy.dispatch(rt, alloc, site, call, told)
+    match strategy.dispatch(rt, alloc, site, call, told) {
+        Ok(answer) => Ok(answer),
+        Err(Trouble::Closure(error)) => Err(Trouble::Closure(error)),
+        Err(Trouble::Fault(fault)) => Err(Trouble::Fault(fault)),
+    }
 }
 
 /// An answer of a body in as many parts as the strategy takes for the call.
@@ -78,7 +82,11 @@ pub fn dispatch_parts<S: Strategy, Rt: Wait, P: Place, R, E, B: FnOnce(usize) ->
             Pick::Into(parts) => body(parts),
         }
     };
-    strategy.dispatch(rt, alloc, site, call, told)
+    match strategy.dispatch(rt, alloc, site, call, told) {
+        Ok(answer) => Ok(answer),
+        Err(Trouble::Closure(error)) => Err(Trouble::Closure(error)),
+        Err(Trouble::Fault(fault)) => Err(Trouble::Fault(fault)),
+    }
 }
 
 /// A path that the strategy takes for the call, with a meter of the run to come.

@@ -1,4 +1,4 @@
-ghost use Rattle.std.specs.Prelude.{◌≡◌, ◌≢◌, ℕ, ◌+◌, ◌/◌, ◌<◌, ◌≤◌, Bool, List, IfOk, IfErr, OnOk, IsTrue, MatchResult, false, length, max, true};
+ghost use Rattle.std.specs.Prelude.{◌≡◌, ◌≢◌, ℕ, ◌<◌, ◌≤◌, Bool, IfOk, IfErr, OnOk, IsTrue, MatchResult, length};
 ghost use Rattle.std.specs.Borrow.{MutBor};
 ghost use Rattle.std.specs.Int.NonZero.{non_zero_usize_get};
 ghost use Rattle.std.specs.List.Sorted.{IsPermutation, IsSortedByClosure, IsStableByClosure};
@@ -300,7 +300,7 @@ pub trait Strategy: Clone + Send + Sync + Debug + 'static {
     }
 
     /// A job, run on a clone of this strategy: serially at once, and in parallel on a worker of its own.
-    /// Where workers aren't started it is dropped in parallel, and stays pending (`BeginsAs`).
+    /// In parallel, where workers aren't started, it is dropped and stays pending (`BeginsAs`).
     ///
     /// Whatever it answers is an answer that the job allows on a clone (`gives`). `len` is the number of
     /// items that the job stands for, by which a policy tells calls apart.

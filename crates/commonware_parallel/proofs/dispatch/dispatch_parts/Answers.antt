@@ -1,9 +1,22 @@
 -- A call that is made in parts is told no path.
-use Rattle.std.proofs.Common.{rules, ℕ, Result}
-use Rattle.commonware_parallel.proofs.Settled.{answers_in_parts}
+use Rattle.std.proofs.Common.{rules, ℕ, Ok, Err}
+use Rattle.commonware_parallel.specs.Answers.{OnParts}
+use Rattle.commonware_parallel.specs.Calls.{HasPick}
+use Rattle.commonware_parallel.specs.declared.call.Pick.{Pick}
+use Rattle.commonware_parallel.proofs.Settled.{parts_told}
 use Rattle.commonware_parallel.proofs.dispatch.dispatch_parts.Goals as goal
 
-pub returns-clause-answers : goal.returns-clause-answers
-returns-clause-answers g c =
-    let allowed = λ (parts : ℕ) (out : Result g.row.R.Denot g.row.E.Denot). g.B.FnOnce.post c.args.body (parts, tt) out in
-    answers_in_parts c.args.call _ _ _ allowed c.dispatch.result (λ pick out h. search rules) c.dispatch.ensures.answers
+pub returns-in-Ok-clause-answers : goal.returns-in-Ok-clause-answers
+returns-in-Ok-clause-answers g c =
+    let takes = g.S.Strategy.takes c.args.strategy.now (g.P.Place.site_of c.args.site) c.args.call in
+    let fact = λ (parts : ℕ). g.B.FnOnce.post c.args.body (parts, tt) (Ok c.in-Ok.answer) in
+    let w = c.in-Ok.ensures.answers in
+    let told : OnParts w.0 fact = search rules in
+    parts_told c.args.call takes fact w.0 w.1 told
+
+pub returns-in-Err-Closure-clause-answers : goal.returns-in-Err-Closure-clause-answers
+returns-in-Err-Closure-clause-answers g c =
+    let takes = g.S.Strategy.takes c.args.strategy.now (g.P.Place.site_of c.args.site) c.args.call in
+    let fact = λ (parts : ℕ). g.B.FnOnce.post c.args.body (parts, tt) (Err c.in-Err-Closure.error) in
+    let told : (pick : Pick) × (HasPick c.args.call pick × takes pick) × OnParts pick fact = search rules in
+    parts_told c.args.call takes fact told.0 told.1 told.2
