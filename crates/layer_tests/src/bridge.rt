@@ -1,6 +1,7 @@
 // Consumers and producers at concrete types.
 mod windows;
 
+use crate::same::{row, same};
 use parallel_bridge::bridge::bridge;
 use parallel_bridge::consumer::list_vec::ListVecConsumer;
 use parallel_bridge::consumer::try_fold::TryFoldFolder;
@@ -13,7 +14,6 @@ use parallel_fault::Fault;
 use std::alloc::Global;
 use std::num::NonZeroUsize;
 use std::process::Abort;
-use std::test::Fail;
 
 // A number that isn't 0.
 fn number(rt: &impl Abort, value: usize) -> NonZeroUsize {
@@ -21,21 +21,22 @@ fn number(rt: &impl Abort, value: usize) -> NonZeroUsize {
 }
 
 #[test]
-fn each_segment_keeps_what_stands_before_its_first_none(rt: HostRuntime) -> Result<(), Fail> {
+fn each_segment_keeps_what_stands_before_its_first_none(rt: HostRuntime) {
     let alloc = rt.alloc();
-    let items = vec![in alloc; Some(1u8), None, Some(3), Some(4), Some(5), None, Some(7)]?;
+    let items = vec![in alloc; Some(1u8), None, Some(3), Some(4), Some(5), None, Some(7)].expect(
+        &rt, "memory",
+    );
     let consumer = WhileSomeConsumer {
         base: ListVecConsumer,
     };
     let parts = DrainProducer::from_vec(items);
-    let lists = bridge(&rt, alloc, number(&rt, 1), parts, consumer)?;
+    let lists = bridge(&rt, alloc, number(&rt, 1), parts, consumer).expect(&rt, "memory");
     let mut kept = Vec::new(alloc);
     for list in lists {
         let mut more = list;
-        kept.append(&mut more)?;
+        kept.append(&mut more).expect(&rt, "memory");
     }
-    assert_eq!(rt; kept.as_slice(), [1, 4, 5].as_slice());
-    Ok(())
+    same(&rt, kept.as_slice(), [1, 4, 5].as_slice());
 }
 
 // Whether a folder is full before an item that makes no difference to that, behind it, and behind one
@@ -68,25 +69,34 @@ fn a_folder_is_full_behind_an_error_or_none(rt: HostRuntime) {
         failed: None,
         map_op: &check,
     };
-    assert_eq!(rt; fullness(alloc, before, 4, 5), Ok([false, false, true]));
+    row(
+        &rt,
+        1,
+        fullness(alloc, before, 4, 5),
+        Ok([false, false, true]),
+    );
     let base = TryMapFolder {
         values: Vec::new(alloc),
         failed: None,
         map_op: &check,
     };
     let kept = WhileSomeFolder { base, full: false };
-    assert_eq!(rt;
+    row(
+        &rt,
+        2,
         fullness(alloc, kept, Some(4), None),
-        Ok([false, false, true])
+        Ok([false, false, true]),
     );
     let add = |left: u32, right: u32| left.wrapping_add(right);
     let reduced = TryReduceFolder {
         control: Ok(0),
         reduce_op: &add,
     };
-    assert_eq!(rt;
+    row(
+        &rt,
+        3,
         fullness(alloc, reduced, Ok(4), Err(5)),
-        Ok([false, false, true])
+        Ok([false, false, true]),
     );
     let half = |sum: u32, item: u32| check(sum.wrapping_add(item));
     let folded = TryFoldFolder {
@@ -97,38 +107,43 @@ fn a_folder_is_full_behind_an_error_or_none(rt: HostRuntime) {
         control: Ok(0),
         fold_op: &half,
     };
-    assert_eq!(rt; fullness(alloc, folded, 4, 5), Ok([false, false, true]));
+    row(
+        &rt,
+        4,
+        fullness(alloc, folded, 4, 5),
+        Ok([false, false, true]),
+    );
 }
 
 #[test]
-fn a_drain_gives_its_items_from_both_ends(rt: HostRuntime) -> Result<(), Fail> {
-    let mut drain = DrainProducer::from_vec(vec![in rt.alloc(); 1u8, 2, 3]?).drain();
-    assert_eq!(rt; drain.next(), Some(1));
-    assert_eq!(rt; drain.next_back(), Some(3));
-    assert_eq!(rt; drain.len(), 1);
-    assert_eq!(rt; drain.next(), Some(2));
-    assert_eq!(rt; drain.next(), None);
-    Ok(())
+fn a_drain_gives_its_items_from_both_ends(rt: HostRuntime) {
+    let mut drain = DrainProducer::from_vec(vec![in rt.alloc(); 1u8, 2, 3].expect(
+        &rt, "memory",
+    )).drain();
+    same(&rt, drain.next(), Some(1));
+    same(&rt, drain.next_back(), Some(3));
+    same(&rt, drain.len(), 1);
+    same(&rt, drain.next(), Some(2));
+    same(&rt, drain.next(), None);
 }
 
 #[test]
-fn indices_and_copies_are_split_in_front_and_rest(rt: HostRuntime) -> Result<(), Fail> {
+fn indices_and_copies_are_split_in_front_and_rest(rt: HostRuntime) {
     let alloc = rt.alloc();
     let indices = Indices { start: 3, end: 8 };
-    assert_eq!(rt; indices.len(), 5);
-    let (front, rest) = indices.split_at(alloc, 2)?;
-    assert_eq!(rt; front, Indices { start: 3, end: 5 });
-    assert_eq!(rt; rest, Indices { start: 5, end: 8 });
+    same(&rt, indices.len(), 5);
+    let (front, rest) = indices.split_at(alloc, 2).expect(&rt, "memory");
+    same(&rt, front, Indices { start: 3, end: 5 });
+    same(&rt, rest, Indices { start: 5, end: 8 });
     let none = Indices { start: 8, end: 3 };
-    assert_eq!(rt; none.len(), 0);
+    same(&rt, none.len(), 0);
 
     let numbers = [4u8, 5, 6];
     let copies = Copies { slice: &numbers };
-    assert_eq!(rt; Producer::len(&copies), 3);
-    let (front, rest) = copies.split_at(alloc, 1)?;
-    assert_eq!(rt; front.slice, [4].as_slice());
-    assert_eq!(rt; rest.slice, [5, 6].as_slice());
+    same(&rt, Producer::len(&copies), 3);
+    let (front, rest) = copies.split_at(alloc, 1).expect(&rt, "memory");
+    same(&rt, front.slice, [4].as_slice());
+    same(&rt, rest.slice, [5, 6].as_slice());
     let last = Producer::into_items(rest).last();
-    assert_eq!(rt; last, Some(6));
-    Ok(())
+    same(&rt, last, Some(6));
 }

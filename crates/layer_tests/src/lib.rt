@@ -8,4 +8,6 @@ mod policy;
 #[cfg(test)]
 mod pool;
 #[cfg(test)]
+mod same;
+#[cfg(test)]
 mod shares;

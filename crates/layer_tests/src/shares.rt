@@ -1,15 +1,17 @@
 // Shares over atomic words, and the pure machine, on plans whose words are known.
-ghost use Rattle.std.specs.Prelude.{◌≡◌};
+ghost use Rattle.std.specs.Prelude.{◌≡◌, ◌≢◌, IfOk};
 ghost use Rattle.std.specs.Int.NonZero.{non_zero_usize_get};
 ghost use Rattle.parallel_shares.specs.Seats.{AreSeatsOf};
 
+use crate::same::{row, same};
+use parallel_fault::Fault;
 use parallel_shares::machine::{Event, Outcome, Plan, State, replay};
-use parallel_shares::{Seat, Shares, Stretch, Tried, pack, stretches};
+use parallel_shares::{Seat, Shares, Tried, pack, stretches};
+use std::alloc::Global;
 use std::num::NonZeroUsize;
 use std::ops::Range;
 use std::process::Abort;
 use std::sync::Wait;
-use std::test::Fail;
 
 fn number(rt: &impl Abort, value: usize) -> NonZeroUsize
     ensures { non_zero_usize_get result ≡ value }
@@ -75,154 +77,245 @@ fn last_claim<R: Wait + Abort>(
     unreachable!()
 }
 
-#[test]
-fn one_seat_claims_a_whole_queue(rt: HostRuntime) -> Result<(), Fail> {
-    let alloc = rt.alloc();
-    let (shares, mut seats) = Shares::new(alloc, 65_536, 3, number(&rt, 1), number(&rt, 4), true)?;
-    assert_eq!(rt; (shares.unit(), shares.cells()), (6, 196_608));
-    assert_eq!(rt; (shares.workers(), shares.seats(), seats.len()), (4, 4, 4));
-    assert_eq!(rt; last_claim(&rt, &shares, &mut seats, 3), 196_602..196_608);
-    assert_eq!(rt;
-        steal_at(&rt, &shares, &mut seats, 3),
-        (Tried::Nothing, None)
-    );
+// What one seat does, and what comes of it.
+#[derive(Drop)]
+enum Step {
+    // One try to claim.
+    Claims(usize, Tried),
+    // Tries to claim until its own word is empty, of which the last but one is told.
+    Empties(usize, Range<usize>),
+    // One try to steal, and what the seat has in transit then.
+    Steals(usize, Tried, Option<Range<usize>>),
+    // Puts down what it has in transit.
+    Refills(usize),
+}
+
+// The seats take the step of that number.
+fn take<R: Wait + Abort>(
+    rt: &R,
+    shares: &Shares,
+    seats: &mut Vec<Seat>,
+    steps: &[Step],
+    number: usize,
+)
+    requires { AreSeatsOf shares.now seats.old.items }
+    ensures { AreSeatsOf shares.now seats.new.items }
+{
+    match steps.get(number) {
+        Some(Step::Claims(index, wanted)) => {
+            let tried = claim_at(rt, shares, seats, *index);
+            row(rt, number, &tried, wanted);
+        }
+        Some(Step::Empties(index, wanted)) => {
+            let last = last_claim(rt, shares, seats, *index);
+            row(rt, number, &last, wanted);
+        }
+        Some(Step::Steals(index, wanted, transit)) => {
+            let (tried, carried) = steal_at(rt, shares, seats, *index);
+            row(rt, number, &tried, wanted);
+            row(rt, number, &carried, transit);
+        }
+        Some(Step::Refills(index)) => refill_at(rt, shares, seats, *index),
+        None => {}
+    }
+}
+
+// The seats take all steps.
+fn play<R: Wait + Abort>(rt: &R, shares: &Shares, seats: &mut Vec<Seat>, steps: &[Step])
+    requires { AreSeatsOf shares.now seats.old.items }
+    ensures { AreSeatsOf shares.now seats.new.items }
+{
+    for number in 0..steps.len() {
+        take(rt, shares, seats, steps, number);
+    }
+}
+
+// Shares that were made, and their seats.
+fn opened(rt: &impl Abort, made: Result<(Shares, Vec<Seat>), Fault>) -> (Shares, Vec<Seat>)
+    requires { IfOk made (λ made. AreSeatsOf made.0 made.1.items) }
+    ensures { AreSeatsOf result.0 result.1.items }
+{
+    made.expect(rt, "memory")
+}
+
+// The words that are left.
+fn closes(rt: &impl Abort, shares: Shares, seats: Vec<Seat>, wanted: &[u64])
+    requires { AreSeatsOf shares seats.items }
+{
     let words = shares.close(seats);
-    assert_eq!(rt; words.as_slice(), [pack(32_768, 32_768)].as_slice());
-    Ok(())
+    same(rt, words.as_slice(), wanted);
 }
 
 #[test]
-fn the_last_claim_of_the_greatest_queue_is_its_last_row(rt: HostRuntime) -> Result<(), Fail> {
-    let alloc = rt.alloc();
+fn one_seat_claims_a_whole_queue(rt: HostRuntime) {
+    let (shares, mut seats) = opened(
+        &rt,
+        Shares::new(rt.alloc(), 65_536, 3, number(&rt, 1), number(&rt, 4), true),
+    );
+    same(&rt, (shares.unit(), shares.cells()), (6, 196_608));
+    same(
+        &rt,
+        (shares.workers(), shares.seats(), seats.len()),
+        (4, 4, 4),
+    );
+    let steps = [
+        Step::Empties(3, 196_602..196_608),
+        Step::Steals(3, Tried::Nothing, None),
+    ];
+    play(&rt, &shares, &mut seats, &steps);
+    closes(&rt, shares, seats, &[pack(32_768, 32_768)]);
+}
+
+#[test]
+fn the_last_claim_of_the_greatest_queue_is_its_last_row(rt: HostRuntime) {
     let len = 281_470_681_808_895;
-    let (shares, mut seats) = Shares::new(
-        alloc,
-        65_537,
-        len,
-        number(&rt, 1),
-        number(&rt, 1),
-        true,
-    )?;
-    assert_eq!(rt;
-        (shares.unit(), shares.cells()),
-        (562_941_363_617_790, usize::MAX)
+    let (shares, mut seats) = opened(
+        &rt,
+        Shares::new(
+            rt.alloc(),
+            65_537,
+            len,
+            number(&rt, 1),
+            number(&rt, 1),
+            true,
+        ),
     );
-    let last = last_claim(&rt, &shares, &mut seats, 0);
-    assert_eq!(rt;
-        last,
-        18_446_462_603_027_742_720..18_446_744_073_709_551_615
-    );
-    let words = shares.close(seats);
-    assert_eq!(rt; words.as_slice(), [pack(32_769, 32_769)].as_slice());
-    Ok(())
+    let sizes = (shares.unit(), shares.cells());
+    same(&rt, sizes, (562_941_363_617_790, usize::MAX));
+    let last = 18_446_462_603_027_742_720..18_446_744_073_709_551_615;
+    play(&rt, &shares, &mut seats, &[Step::Empties(0, last)]);
+    closes(&rt, shares, seats, &[pack(32_769, 32_769)]);
 }
 
 #[test]
-fn the_greatest_cut_plan_opens_with_two_halves(rt: HostRuntime) -> Result<(), Fail> {
-    let alloc = rt.alloc();
-    let (shares, seats) = Shares::new(alloc, 1, usize::MAX, number(&rt, 1), number(&rt, 2), false)?;
-    assert_eq!(rt; shares.unit(), 281_479_271_743_489);
-    let words = shares.close(seats);
-    assert_eq!(rt; words.as_slice(), [32_768, 2_147_549_183].as_slice());
-    Ok(())
+fn the_greatest_cut_plan_opens_with_two_halves(rt: HostRuntime) {
+    let (shares, seats) = opened(
+        &rt,
+        Shares::new(
+            rt.alloc(),
+            1,
+            usize::MAX,
+            number(&rt, 1),
+            number(&rt, 2),
+            false,
+        ),
+    );
+    same(&rt, shares.unit(), 281_479_271_743_489);
+    closes(&rt, shares, seats, &[32_768, 2_147_549_183]);
 }
 
 #[test]
-fn the_last_unit_of_a_cut_plan_has_the_cells_that_are_left(rt: HostRuntime) -> Result<(), Fail> {
-    let alloc = rt.alloc();
-    assert_eq!(rt; pack(3, 9), 196_617);
+fn the_last_unit_of_a_cut_plan_has_the_cells_that_are_left(rt: HostRuntime) {
+    same(&rt, pack(3, 9), 196_617);
     let plan = Plan::new(1, 100_001, number(&rt, 10), number(&rt, 2), false);
-    assert_eq!(rt;
+    same(
+        &rt,
         (plan.unit(), plan.workers(), plan.claim(), plan.units()),
-        (2, 2, 5, 50_001)
+        (2, 2, 5, 50_001),
     );
-    let state = State::new(alloc, &plan)?;
-    assert_eq!(rt; state.words(), [25_001, 1_638_515_537].as_slice());
-    let (shares, mut seats) = Shares::new(
-        alloc,
-        1,
-        100_001,
-        number(&rt, 10),
-        number(&rt, 2),
-        false,
-    )?;
-    assert_eq!(rt; last_claim(&rt, &shares, &mut seats, 1), 99_992..100_001);
-    Ok(())
+    let state = State::new(rt.alloc(), &plan).expect(&rt, "memory");
+    same(&rt, state.words(), [25_001, 1_638_515_537].as_slice());
+    let (shares, mut seats) = opened(
+        &rt,
+        Shares::new(
+            rt.alloc(),
+            1,
+            100_001,
+            number(&rt, 10),
+            number(&rt, 2),
+            false,
+        ),
+    );
+    play(
+        &rt,
+        &shares,
+        &mut seats,
+        &[Step::Empties(1, 99_992..100_001)],
+    );
 }
 
 #[test]
-fn a_thief_takes_the_last_of_equals(rt: HostRuntime) -> Result<(), Fail> {
-    let alloc = rt.alloc();
-    let (shares, mut seats) = Shares::new(alloc, 1, 12, number(&rt, 1), number(&rt, 3), false)?;
-    assert_eq!(rt; claim_at(&rt, &shares, &mut seats, 0), Tried::Claimed(0..1));
-    assert_eq!(rt; last_claim(&rt, &shares, &mut seats, 0), 3..4);
-    assert_eq!(rt;
-        steal_at(&rt, &shares, &mut seats, 0),
-        (Tried::Taken, Some(10..12))
+fn a_thief_takes_the_last_of_equals(rt: HostRuntime) {
+    let (shares, mut seats) = opened(
+        &rt,
+        Shares::new(rt.alloc(), 1, 12, number(&rt, 1), number(&rt, 3), false),
     );
-    refill_at(&rt, &shares, &mut seats, 0);
+    let steps = [
+        Step::Claims(0, Tried::Claimed(0..1)),
+        Step::Empties(0, 3..4),
+        Step::Steals(0, Tried::Taken, Some(10..12)),
+        Step::Refills(0),
+    ];
+    play(&rt, &shares, &mut seats, &steps);
+    closes(&rt, shares, seats, &[655_372, 262_152, 524_298]);
+}
+
+#[test]
+fn a_thief_takes_the_most_cells_and_not_the_most_units(rt: HostRuntime) {
+    let (shares, mut seats) = opened(
+        &rt,
+        Shares::new(rt.alloc(), 1, 65_537, number(&rt, 2), number(&rt, 3), false),
+    );
+    same(&rt, shares.unit(), 2);
+    let steps = [
+        Step::Empties(0, 21_844..21_846),
+        Step::Steals(0, Tried::Taken, Some(16_384..21_846)),
+        Step::Refills(0),
+    ];
+    play(&rt, &shares, &mut seats, &steps);
     let words = shares.close(seats);
-    assert_eq!(rt; words.as_slice(), [655_372, 262_152, 524_298].as_slice());
-    Ok(())
+    same(&rt, words.get(1), Some(&715_866_112));
 }
 
 #[test]
-fn a_thief_takes_the_most_cells_and_not_the_most_units(rt: HostRuntime) -> Result<(), Fail> {
-    let alloc = rt.alloc();
-    let (shares, mut seats) = Shares::new(alloc, 1, 65_537, number(&rt, 2), number(&rt, 3), false)?;
-    assert_eq!(rt; shares.unit(), 2);
-    assert_eq!(rt; last_claim(&rt, &shares, &mut seats, 0), 21_844..21_846);
-    let taken = steal_at(&rt, &shares, &mut seats, 0);
-    assert_eq!(rt; taken, (Tried::Taken, Some(16_384..21_846)));
-    refill_at(&rt, &shares, &mut seats, 0);
-    let words = shares.close(seats);
-    assert_eq!(rt; words.get(1), Some(&715_866_112));
-    Ok(())
-}
-
-#[test]
-fn nothing_is_taken_where_no_split_pays(rt: HostRuntime) -> Result<(), Fail> {
-    let alloc = rt.alloc();
-    let (shares, mut seats) = Shares::new(alloc, 1, 4, number(&rt, 2), number(&rt, 2), false)?;
-    assert_eq!(rt; claim_at(&rt, &shares, &mut seats, 0), Tried::Claimed(0..2));
-    assert_eq!(rt; claim_at(&rt, &shares, &mut seats, 0), Tried::Empty);
-    assert_eq!(rt;
-        steal_at(&rt, &shares, &mut seats, 0),
-        (Tried::Nothing, None)
+fn nothing_is_taken_where_no_split_pays(rt: HostRuntime) {
+    let (shares, mut seats) = opened(
+        &rt,
+        Shares::new(rt.alloc(), 1, 4, number(&rt, 2), number(&rt, 2), false),
     );
-    let words = shares.close(seats);
-    assert_eq!(rt; words.as_slice(), [pack(2, 2), 131_076].as_slice());
-
-    let (shares, mut seats) = Shares::new(alloc, 1, 8, number(&rt, 1), number(&rt, 1), false)?;
-    assert_eq!(rt; last_claim(&rt, &shares, &mut seats, 0), 7..8);
-    assert_eq!(rt;
-        steal_at(&rt, &shares, &mut seats, 0),
-        (Tried::Nothing, None)
-    );
-    Ok(())
+    let steps = [
+        Step::Claims(0, Tried::Claimed(0..2)),
+        Step::Claims(0, Tried::Empty),
+        Step::Steals(0, Tried::Nothing, None),
+    ];
+    play(&rt, &shares, &mut seats, &steps);
+    closes(&rt, shares, seats, &[pack(2, 2), 131_076]);
 }
 
 #[test]
-fn seats_share_a_row_by_a_steal(rt: HostRuntime) -> Result<(), Fail> {
-    let alloc = rt.alloc();
-    let (shares, mut seats) = Shares::new(alloc, 1, 8, number(&rt, 1), number(&rt, 2), false)?;
-    assert_eq!(rt; last_claim(&rt, &shares, &mut seats, 0), 3..4);
-    assert_eq!(rt;
-        steal_at(&rt, &shares, &mut seats, 0),
-        (Tried::Taken, Some(6..8))
+fn nothing_is_taken_where_there_is_no_other_seat(rt: HostRuntime) {
+    let (shares, mut seats) = opened(
+        &rt,
+        Shares::new(rt.alloc(), 1, 8, number(&rt, 1), number(&rt, 1), false),
     );
-    refill_at(&rt, &shares, &mut seats, 0);
-    assert_eq!(rt; claim_at(&rt, &shares, &mut seats, 0), Tried::Claimed(6..7));
-    assert_eq!(rt; claim_at(&rt, &shares, &mut seats, 0), Tried::Claimed(7..8));
-    assert_eq!(rt; claim_at(&rt, &shares, &mut seats, 1), Tried::Claimed(4..5));
-    assert_eq!(rt; claim_at(&rt, &shares, &mut seats, 1), Tried::Claimed(5..6));
-    let words = shares.close(seats);
-    assert_eq!(rt; words.as_slice(), [pack(8, 8), pack(6, 6)].as_slice());
-    Ok(())
+    let steps = [
+        Step::Empties(0, 7..8),
+        Step::Steals(0, Tried::Nothing, None),
+    ];
+    play(&rt, &shares, &mut seats, &steps);
 }
 
 #[test]
-fn a_replay_steals_and_loses_a_stale_claim(rt: HostRuntime) -> Result<(), Fail> {
+fn seats_share_a_row_by_a_steal(rt: HostRuntime) {
+    let (shares, mut seats) = opened(
+        &rt,
+        Shares::new(rt.alloc(), 1, 8, number(&rt, 1), number(&rt, 2), false),
+    );
+    let steps = [
+        Step::Empties(0, 3..4),
+        Step::Steals(0, Tried::Taken, Some(6..8)),
+        Step::Refills(0),
+        Step::Claims(0, Tried::Claimed(6..7)),
+        Step::Claims(0, Tried::Claimed(7..8)),
+        Step::Claims(1, Tried::Claimed(4..5)),
+        Step::Claims(1, Tried::Claimed(5..6)),
+    ];
+    play(&rt, &shares, &mut seats, &steps);
+    closes(&rt, shares, seats, &[pack(8, 8), pack(6, 6)]);
+}
+
+#[test]
+fn a_replay_steals_and_loses_a_stale_claim(rt: HostRuntime) {
     let alloc = rt.alloc();
     let plan = Plan::new(1, 8, number(&rt, 1), number(&rt, 2), false);
     let look_0 = Event::Load { seat: 0, share: 0 };
@@ -237,75 +330,90 @@ fn a_replay_steals_and_loses_a_stale_claim(rt: HostRuntime) -> Result<(), Fail> 
         steal_0, claim_1, fill_0, look_0, claim_0, look_0, claim_0, look_1, claim_1, look_1,
         claim_1,
     ];
-    let (state, outcomes) = replay(alloc, &plan, &events)?;
-    assert_eq!(rt; outcomes.get(10), Some(&Outcome::Taken(6..8)));
-    assert_eq!(rt; outcomes.get(11), Some(&Outcome::Lost));
-    assert_eq!(rt; outcomes.get(12), Some(&Outcome::Refilled(393_224)));
-    assert_eq!(rt; outcomes.get(17), Some(&Outcome::Loaded(262_150)));
-    assert_eq!(rt; state.words(), [pack(8, 8), pack(6, 6)].as_slice());
+    let (state, outcomes) = replay(alloc, &plan, &events).expect(&rt, "memory");
+    let told = [
+        (10, Outcome::Taken(6..8)),
+        (11, Outcome::Lost),
+        (12, Outcome::Refilled(393_224)),
+        (17, Outcome::Loaded(262_150)),
+    ];
+    for (at, outcome) in &told {
+        row(&rt, *at, outcomes.get(*at), Some(outcome));
+    }
+    same(&rt, state.words(), [pack(8, 8), pack(6, 6)].as_slice());
     assert!(rt; plan.workers() == 2);
-    let first = stretches(alloc, state.claims(0), 8)?;
-    let second = stretches(alloc, state.claims(1), 8)?;
-    let stretch = |row, columns| Stretch { row, columns };
-    assert_eq!(rt;
-        first.as_slice(),
-        [stretch(0, 0..4), stretch(0, 6..8)].as_slice()
-    );
-    assert_eq!(rt; second.as_slice(), [stretch(0, 4..6)].as_slice());
-    Ok(())
+    claims_stretches(&rt, alloc, state.claims(0), 8, &[(0, 0..4), (0, 6..8)]);
+    claims_stretches(&rt, alloc, state.claims(1), 8, &[(0, 4..6)]);
+}
+
+// The stretches of a seat's claims over rows of so many cells.
+fn claims_stretches(
+    rt: &impl Abort,
+    alloc: Global,
+    claims: &[Range<usize>],
+    len: usize,
+    wanted: &[(usize, Range<usize>)],
+)
+    requires { len ≢ 0 }
+{
+    let cut = stretches(alloc, claims, len).expect(rt, "memory");
+    same(rt, cut.len(), wanted.len());
+    for (stretch, (row, columns)) in cut.iter().zip(wanted) {
+        same(rt, (stretch.row, &stretch.columns), (*row, columns));
+    }
 }
 
 #[test]
-fn a_small_cut_plan_is_claimed_across_rows(rt: HostRuntime) -> Result<(), Fail> {
+fn a_small_cut_plan_is_claimed_across_rows(rt: HostRuntime) {
     let alloc = rt.alloc();
     let plan = Plan::new(3, 5, number(&rt, 2), number(&rt, 2), false);
     let load = Event::Load { seat: 0, share: 0 };
     let claim = Event::Claim { seat: 0 };
     let events = [load, claim, load, claim, load, claim, load, claim];
-    let (state, outcomes) = replay(alloc, &plan, &events)?;
-    assert_eq!(rt; outcomes.get(0), Some(&Outcome::Loaded(8)));
-    assert_eq!(rt; state.words(), [pack(8, 8), 524_303].as_slice());
+    let (state, outcomes) = replay(alloc, &plan, &events).expect(&rt, "memory");
+    same(&rt, outcomes.get(0), Some(&Outcome::Loaded(8)));
+    same(&rt, state.words(), [pack(8, 8), 524_303].as_slice());
     assert!(rt; plan.workers() == 2);
-    assert_eq!(rt; state.claims(0), [0..2, 2..4, 4..6, 6..8].as_slice());
-    let cut = stretches(alloc, state.claims(0), 5)?;
-    let stretch = |row, columns| Stretch { row, columns };
-    assert_eq!(rt;
-        cut.as_slice(),
-        [stretch(0, 0..5), stretch(1, 0..3)].as_slice()
-    );
-    Ok(())
+    same(&rt, state.claims(0), [0..2, 2..4, 4..6, 6..8].as_slice());
+    claims_stretches(&rt, alloc, state.claims(0), 5, &[(0, 0..5), (1, 0..3)]);
 }
 
 #[test]
-fn a_run_goes_on_in_a_row_and_over_to_the_next(rt: HostRuntime) -> Result<(), Fail> {
+fn a_run_goes_on_in_a_row_and_over_to_the_next(rt: HostRuntime) {
     let alloc = rt.alloc();
-    let (shares, mut seats) = Shares::new(alloc, 3, 5, number(&rt, 2), number(&rt, 2), false)?;
+    let (shares, mut seats) = opened(
+        &rt,
+        Shares::new(alloc, 3, 5, number(&rt, 2), number(&rt, 2), false),
+    );
     let Some(mut seat) = seats.pop() else {
         panic!(rt; "no seat")
     };
     let mut filled = 0_usize;
-    let results = shares.run(
+    let results = shares
+        .run(
+            &rt,
+            alloc,
+            &mut seat,
+            5,
+            &mut filled,
+            &|filled: &mut usize, _row: usize, columns: Range<usize>| {
+                *filled = filled.saturating_add(columns.end.saturating_sub(columns.start));
+            },
+            &|filled: &mut usize, row: usize| {
+                let cells = *filled;
+                *filled = 0;
+                (row, cells)
+            },
+        )
+        .expect(&rt, "memory");
+    same(
         &rt,
-        alloc,
-        &mut seat,
-        5,
-        &mut filled,
-        &|filled: &mut usize, _row: usize, columns: Range<usize>| {
-            *filled = filled.saturating_add(columns.end.saturating_sub(columns.start));
-        },
-        &|filled: &mut usize, row: usize| {
-            let cells = *filled;
-            *filled = 0;
-            (row, cells)
-        },
-    )?;
-    assert_eq!(rt;
         results.as_slice(),
-        [(1, 2), (2, 5), (0, 1), (1, 3)].as_slice()
+        [(1, 2), (2, 5), (0, 1), (1, 3)].as_slice(),
     );
-    assert_eq!(rt;
+    same(
+        &rt,
         (filled, seat.own_empty(), seat.in_transit()),
-        (0, true, None)
+        (0, true, None),
     );
-    Ok(())
 }

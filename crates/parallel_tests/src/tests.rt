@@ -13,6 +13,7 @@ mod plans;
 mod policies;
 mod printed;
 mod runs;
+mod same;
 mod shares;
 mod spawns;
 mod states;

@@ -1,6 +1,7 @@
 // Owned items that are taken from where they lie, and answers that are written where they stay: each is
 // dropped once, or handed out.
 use crate::bridge::number;
+use crate::same::{row, same};
 use parallel_bridge::list::map::map_parallel;
 use parallel_bridge::list::try_fold::try_fold_parallel;
 use parallel_bridge::list::try_map::try_map_parallel;
@@ -10,7 +11,6 @@ use std::alloc::Global;
 use std::process::Abort;
 use std::sync::Arc;
 use std::sync::atomic::{AtomicU64, Ordering};
-use std::test::Fail;
 use std::thread::Threads;
 
 // Counts those that were made and those that were let go.
@@ -70,9 +70,13 @@ fn map_counted<R: Threads + Sync + Abort>(rt: &R, alloc: Global, threads: usize,
     let answer = |item: Counted<'_>| Counted::new(&counts, item.place);
     let parts = DrainProducer::from_vec(items);
     if let Ok(answers) = map_parallel(rt, alloc, number(rt, threads), parts, &answer) {
-        assert_eq!(rt; answers.len(), count);
+        same(rt, answers.len(), count);
         for place in 0..count {
-            assert_eq!(rt; answers.get(place).map(|answer| answer.place), Some(place));
+            same(
+                rt,
+                answers.get(place).map(|answer| answer.place),
+                Some(place),
+            );
         }
         assert!(rt; all_gone_but(&counts, count));
     }
@@ -101,28 +105,25 @@ fn fold_counted<R: Threads + Sync + Abort>(
         Ok(sum) => {
             assert!(rt; count <= end);
             let twice = count.wrapping_mul(count).wrapping_sub(count);
-            assert_eq!(rt; sum.wrapping_mul(2), twice);
+            same(rt, sum.wrapping_mul(2), twice);
         }
-        Err(Trouble::Closure(place)) => assert_eq!(rt; place, end),
+        Err(Trouble::Closure(place)) => same(rt, place, end),
         Err(Trouble::Fault(_fault)) => (),
     }
     assert!(rt; all_gone_but(&counts, 0));
 }
 
 #[test]
-fn each_item_and_each_answer_is_dropped_once(rt: HostRuntime) -> Result<(), Fail> {
+fn each_item_and_each_answer_is_dropped_once(rt: HostRuntime) {
     for threads in 1..9usize {
         for len in [0usize, 1, 2, 1000] {
             map_counted(&rt, rt.alloc(), threads, len);
         }
     }
-    Ok(())
 }
 
 #[test]
-fn each_folded_item_is_dropped_once_before_and_behind_one_that_fails(
-    rt: HostRuntime,
-) -> Result<(), Fail> {
+fn each_folded_item_is_dropped_once_before_and_behind_one_that_fails(rt: HostRuntime) {
     for threads in 1..9usize {
         for len in [0usize, 1, 2, 1000] {
             fold_counted(&rt, rt.alloc(), threads, len, 1000);
@@ -130,20 +131,19 @@ fn each_folded_item_is_dropped_once_before_and_behind_one_that_fails(
             fold_counted(&rt, rt.alloc(), threads, len, 500);
         }
     }
-    Ok(())
 }
 
 #[test]
-fn an_owned_list_is_handed_over_and_no_other(rt: HostRuntime) -> Result<(), Fail> {
+fn an_owned_list_is_handed_over_and_no_other(rt: HostRuntime) {
     let alloc = rt.alloc();
-    let owned = DrainProducer::from_vec(vec![in alloc; 1u8, 2, 3]?);
+    let owned = DrainProducer::from_vec(vec![in alloc; 1u8, 2, 3].expect(&rt, "memory"));
     match owned.into_vec() {
-        Ok(items) => assert_eq!(rt; items.as_slice(), [1, 2, 3].as_slice()),
+        Ok(items) => same(&rt, items.as_slice(), [1, 2, 3].as_slice()),
         Err(_list) => assert!(rt; false),
     }
     match (Indices { start: 2, end: 5 }).into_vec() {
         Ok(_items) => assert!(rt; false),
-        Err(list) => assert_eq!(rt; list, Indices { start: 2, end: 5 }),
+        Err(list) => same(&rt, list, Indices { start: 2, end: 5 }),
     }
     match (Copies {
         slice: [7u8, 8].as_slice(),
@@ -151,51 +151,62 @@ fn an_owned_list_is_handed_over_and_no_other(rt: HostRuntime) -> Result<(), Fail
     .into_vec()
     {
         Ok(_items) => assert!(rt; false),
-        Err(list) => assert_eq!(rt; list.slice, [7u8, 8].as_slice()),
+        Err(list) => same(&rt, list.slice, [7u8, 8].as_slice()),
     }
-    Ok(())
 }
 
 #[test]
-fn values_of_size_zero_are_mapped_in_order(rt: HostRuntime) -> Result<(), Fail> {
+fn values_of_size_zero_are_mapped_in_order(rt: HostRuntime) {
     let alloc = rt.alloc();
     let all = Indices {
         start: 0,
         end: 5000,
     };
-    let nothing = map_parallel(&rt, alloc, number(&rt, 4), all, &|_place: usize| ())?;
-    assert_eq!(rt; nothing.len(), 5000);
+    let nothing = map_parallel(&rt, alloc, number(&rt, 4), all, &|_place: usize| ()).expect(
+        &rt, "memory",
+    );
+    row(&rt, 1, nothing.len(), 5000);
     let parts = DrainProducer::from_vec(nothing);
-    let ones = map_parallel(&rt, alloc, number(&rt, 4), parts, &|_nothing: ()| 1u8)?;
-    assert_eq!(rt; ones.len(), 5000);
+    let ones = map_parallel(&rt, alloc, number(&rt, 4), parts, &|_nothing: ()| 1u8).expect(
+        &rt, "memory",
+    );
+    row(&rt, 2, ones.len(), 5000);
     assert!(rt; ones.iter().all(|one| *one == 1));
-    Ok(())
 }
 
 #[test]
-fn counted_references_are_given_back(rt: HostRuntime) -> Result<(), Fail> {
+fn counted_references_are_given_back(rt: HostRuntime) {
     let alloc = rt.alloc();
     for len in 0..9usize {
-        let one = Arc::new(alloc, len)?;
+        let one = Arc::new(alloc, len).expect(&rt, "memory");
         let mut items = Vec::new(alloc);
         for _place in 0..len {
-            items.push(Arc::try_clone(&one)?)?;
+            items
+                .push(Arc::try_clone(&one).expect(&rt, "memory"))
+                .expect(&rt, "memory");
         }
         let parts = DrainProducer::from_vec(items);
-        let answers = map_parallel(&rt, alloc, number(&rt, 3), parts, &|item: Arc<usize>| item)?;
-        assert_eq!(rt; answers.len(), len);
+        let answers = map_parallel(
+            &rt,
+            alloc,
+            number(&rt, 3),
+            parts,
+            &|item: Arc<usize>| item,
+        ).expect(&rt, "memory");
+        same(&rt, answers.len(), len);
         drop(answers);
         assert!(rt; Arc::into_inner(one).is_some());
     }
-    Ok(())
 }
 
 #[test]
-fn texts_before_and_behind_the_first_failing_one_are_let_go(rt: HostRuntime) -> Result<(), Fail> {
+fn texts_before_and_behind_the_first_failing_one_are_let_go(rt: HostRuntime) {
     let alloc = rt.alloc();
     let mut items = Vec::new(alloc);
     for place in 0..100usize {
-        items.push(format!(in alloc; "text {place}")?)?;
+        items
+            .push(format!(in alloc; "text {place}").expect(&rt, "memory"))
+            .expect(&rt, "memory");
     }
     let parts = DrainProducer::from_vec(items);
     let answer = |text: String| if text.as_str() == "text 57" {
@@ -204,9 +215,8 @@ fn texts_before_and_behind_the_first_failing_one_are_let_go(rt: HostRuntime) -> 
         Ok(text)
     };
     match try_map_parallel(&rt, alloc, number(&rt, 4), parts, &answer) {
-        Err(Trouble::Closure(text)) => assert_eq!(rt; text.as_str(), "text 57"),
+        Err(Trouble::Closure(text)) => same(&rt, text.as_str(), "text 57"),
         Err(Trouble::Fault(_fault)) => assert!(rt; false),
         Ok(_values) => assert!(rt; false),
     }
-    Ok(())
 }

@@ -5,6 +5,7 @@ ghost use Rattle.parallel_policy.specs.Tables.{HoldsRunAt, HasOtherRuns};
 ghost use Rattle.parallel_policy.specs.declared.execution.RunExecution.{RunExecution};
 ghost use Rattle.parallel_policy.specs.declared.history.RunEvent.{RunEvent};
 
+use crate::same::same;
 use parallel_fault::Trouble;
 use parallel_policy::choices::decide;
 use parallel_policy::execution::RunExecution;
@@ -61,22 +62,24 @@ fn first_of<Rt: Wait>(rt: &Rt, table: &mut Table, key: Key) -> Result<RunExecuti
     Ok(path)
 }
 
+// What a table's samples of a key's runs in parallel and of its serial ones say.
+fn estimates_of(table: &Table, key: Key) -> Option<[Option<u64>; 2]> {
+    let entry = table.run_entry(key)?;
+    Some([entry.estimate(P), entry.estimate(S)])
+}
+
 #[test]
 fn a_decided_run_records_what_it_took(rt: HostRuntime) {
     let mut table = Table::new(rt.alloc());
     let key = Key::new(SITE, 64, 64, 4);
     let ticks = AtomicU64::new(0);
     let mut now = || ticks.fetch_add(100_000, Ordering::SeqCst);
-    let path = path_of(&rt, &mut table, key, &mut now);
-    assert_eq!(rt; path, Ok(P));
-    let path = path_of(&rt, &mut table, key, &mut now);
-    assert_eq!(rt; path, Ok(S));
-    let path = path_of(&rt, &mut table, key, &mut now);
-    assert_eq!(rt; path, Ok(S));
-    let estimate = table.run_entry(key).and_then(|entry| entry.estimate(P));
-    assert_eq!(rt; estimate, Some(100_000));
-    let estimate = table.run_entry(key).and_then(|entry| entry.estimate(S));
-    assert_eq!(rt; estimate, Some(100_000));
+    let first = path_of(&rt, &mut table, key, &mut now);
+    let second = path_of(&rt, &mut table, key, &mut now);
+    let third = path_of(&rt, &mut table, key, &mut now);
+    same(&rt, [first, second, third], [Ok(P), Ok(S), Ok(S)]);
+    let estimates = estimates_of(&table, key);
+    same(&rt, estimates, Some([Some(100_000), Some(100_000)]));
 }
 
 #[test]
@@ -85,21 +88,16 @@ fn a_clock_that_goes_back_gives_no_time(rt: HostRuntime) {
     let key = Key::new(SITE, 64, 64, 4);
     let ticks = AtomicU64::new(1_000_000);
     let mut now = || ticks.fetch_sub(100_000, Ordering::SeqCst);
-    let path = path_of(&rt, &mut table, key, &mut now);
-    assert_eq!(rt; path, Ok(P));
-    let path = path_of(&rt, &mut table, key, &mut now);
-    assert_eq!(rt; path, Ok(S));
-    let estimate = table.run_entry(key).and_then(|entry| entry.estimate(P));
-    assert_eq!(rt; estimate, Some(0));
-    let estimate = table.run_entry(key).and_then(|entry| entry.estimate(S));
-    assert_eq!(rt; estimate, Some(0));
+    let first = path_of(&rt, &mut table, key, &mut now);
+    let second = path_of(&rt, &mut table, key, &mut now);
+    same(&rt, [first, second], [Ok(P), Ok(S)]);
+    same(&rt, estimates_of(&table, key), Some([Some(0), Some(0)]));
 }
 
 #[test]
 fn a_body_that_reads_the_clock_reads_it_between(rt: HostRuntime) {
     let mut table = Table::new(rt.alloc());
     let key = Key::new(SITE, 64, 64, 4);
-    assert_eq!(rt; first_of(&rt, &mut table, key), Ok(P));
-    let estimate = table.run_entry(key).and_then(|entry| entry.estimate(P));
-    assert_eq!(rt; estimate, Some(300));
+    same(&rt, first_of(&rt, &mut table, key), Ok(P));
+    same(&rt, estimates_of(&table, key), Some([Some(300), None]));
 }

@@ -1,5 +1,6 @@
 // Calls whose memory may be refused at any point: each answers what it always does, or `Fault::Memory`, and then the
 // table is as it was and no body was called. Run with each allocation failing in turn.
+use crate::same::{row, same};
 use parallel_fault::{Fault, Trouble};
 use parallel_policy::choices::decide;
 use parallel_policy::execution::RunExecution;
@@ -21,12 +22,12 @@ fn a_refused_choice_leaves_the_table(rt: HostRuntime) {
         let key = Key::new(Site { column, ..SITE }, 64, 64, 4);
         match table.choose_run(key, 4) {
             Ok(answer) => {
-                assert_eq!(rt; answer, (RunExecution::Parallel, true));
+                same(&rt, answer, (RunExecution::Parallel, true));
                 let recorded = table.record_run(key, RunExecution::Parallel, 5);
-                assert_eq!(rt; recorded, Ok(()));
+                same(&rt, recorded, Ok(()));
             }
             Err(fault) => {
-                assert_eq!(rt; fault, Fault::Memory);
+                same(&rt, fault, Fault::Memory);
                 assert!(rt; table.run_entry(key).is_none());
             }
         }
@@ -53,11 +54,11 @@ fn a_refused_choice_calls_no_body(rt: HostRuntime) {
         );
         match called {
             Ok(call) => {
-                assert_eq!(rt; call, expected);
+                row(&rt, 1, call, expected);
                 expected = expected.wrapping_add(1);
             }
-            Err(trouble) => assert_eq!(rt; trouble, Trouble::Fault(Fault::Memory)),
+            Err(trouble) => same(&rt, trouble, Trouble::Fault(Fault::Memory)),
         }
     }
-    assert_eq!(rt; calls.load(Ordering::SeqCst), expected);
+    row(&rt, 2, calls.load(Ordering::SeqCst), expected);
 }

@@ -1,4 +1,5 @@
 // Tables and policies: which key an answer goes by, and what each call of a policy tells its table.
+use crate::same::same;
 use parallel_fault::{Fault, Trouble};
 use parallel_policy::execution::{RunExecution, SpawnExecution};
 use parallel_policy::history::SpawnSample;
@@ -6,8 +7,8 @@ use parallel_policy::key::Key;
 use parallel_policy::policy::{INLINE_BUDGET, Policy};
 use parallel_policy::site::Site;
 use parallel_policy::table::Table;
+use std::sync::Wait;
 use std::sync::atomic::{AtomicU64, Ordering};
-use std::test::Fail;
 
 const SITE: Site = Site {
     file: "tests",
@@ -19,131 +20,180 @@ const P: RunExecution = RunExecution::Parallel;
 
 const S: RunExecution = RunExecution::Serial;
 
+// The choices of two keys in turn, of which the near one's runs are short and the far one's long.
+fn choices_of_two(
+    table: &mut Table,
+    near: Key,
+    far: Key,
+) -> Result<[(RunExecution, bool); 5], Fault> {
+    let near_first = table.choose_run(near, 4)?;
+    table.record_run(near, P, 100_000)?;
+    let far_first = table.choose_run(far, 4)?;
+    table.record_run(far, P, 10_000_000)?;
+    let near_second = table.choose_run(near, 4)?;
+    table.record_run(near, S, 95_000)?;
+    let far_second = table.choose_run(far, 4)?;
+    let near_third = table.choose_run(near, 4)?;
+    Ok([near_first, far_first, near_second, far_second, near_third])
+}
+
+// What a table's samples of a key's serial runs say.
+fn serial_of(table: &Table, key: Key) -> Option<u64> {
+    table.run_entry(key)?.estimate(S)
+}
+
 #[test]
-fn a_table_keeps_an_entry_for_each_key(rt: HostRuntime) -> Result<(), Fail> {
+fn a_table_keeps_an_entry_for_each_key(rt: HostRuntime) {
     let mut table = Table::new(rt.alloc());
     let near = Key::new(SITE, 64, 64, 4);
     let far = Key::new(Site { column: 2, ..SITE }, 64, 64, 4);
-    assert_eq!(rt; table.choose_run(near, 4), Ok((P, true)));
-    assert_eq!(rt; table.record_run(near, P, 100_000), Ok(()));
-    assert_eq!(rt; table.choose_run(far, 4), Ok((P, true)));
-    assert_eq!(rt; table.record_run(far, P, 10_000_000), Ok(()));
-    assert_eq!(rt; table.choose_run(near, 4), Ok((S, true)));
-    assert_eq!(rt; table.record_run(near, S, 95_000), Ok(()));
-    assert_eq!(rt; table.choose_run(far, 4), Ok((P, true)));
-    assert_eq!(rt; table.choose_run(near, 4), Ok((S, false)));
-    let near = table.run_entry(near).and_then(|entry| entry.estimate(S));
-    assert_eq!(rt; near, Some(95_000));
-    let far = table.run_entry(far).and_then(|entry| entry.estimate(S));
-    assert_eq!(rt; far, None);
-    Ok(())
+    let choices = choices_of_two(&mut table, near, far);
+    let wanted = [(P, true), (P, true), (S, true), (P, true), (S, false)];
+    same(&rt, choices, Ok(wanted));
+    same(&rt, serial_of(&table, near), Some(95_000));
+    same(&rt, serial_of(&table, far), None);
+}
+
+// What a policy's samples of a key's runs in parallel and of its serial ones say.
+fn estimates_of(rt: &impl Wait, policy: &Policy, key: Key) -> Option<[Option<u64>; 2]> {
+    let entry = policy.run_entry(rt, key)?;
+    Some([entry.estimate(P), entry.estimate(S)])
+}
+
+// The choices of a policy, of which another handle is told what each run took.
+fn choices_of_runs(
+    rt: &impl Wait,
+    policy: &Policy,
+    shared: &Policy,
+    key: Key,
+) -> Result<[(RunExecution, bool); 3], Fault> {
+    let first = policy.choose_run(rt, key, 4)?;
+    shared.record_run(rt, key, P, 100_000)?;
+    let second = policy.choose_run(rt, key, 4)?;
+    shared.record_run(rt, key, S, 95_001)?;
+    Ok([first, second, policy.choose_run(rt, key, 4)?])
 }
 
 #[test]
-fn a_policy_records_the_run_that_it_is_told(rt: HostRuntime) -> Result<(), Fail> {
+fn a_policy_records_the_run_that_it_is_told(rt: HostRuntime) {
     let key = Key::new(SITE, 64, 64, 4);
-    let policy = Policy::new(rt.alloc())?;
-    let shared = policy.clone()?;
-    assert_eq!(rt; policy.choose_run(&rt, key, 4), Ok((P, true)));
-    assert_eq!(rt; shared.record_run(&rt, key, P, 100_000), Ok(()));
-    assert_eq!(rt; policy.choose_run(&rt, key, 4), Ok((S, true)));
-    assert_eq!(rt; shared.record_run(&rt, key, S, 95_001), Ok(()));
-    assert_eq!(rt; policy.choose_run(&rt, key, 4), Ok((S, false)));
-    let entry = policy.run_entry(&rt, key);
-    assert_eq!(rt; entry.and_then(|entry| entry.estimate(P)), Some(100_000));
-    let entry = policy.run_entry(&rt, key);
-    assert_eq!(rt; entry.and_then(|entry| entry.estimate(S)), Some(95_001));
+    let policy = Policy::new(rt.alloc()).expect(&rt, "memory");
+    let shared = policy.clone().expect(&rt, "memory");
+    let choices = choices_of_runs(&rt, &policy, &shared, key);
+    same(&rt, choices, Ok([(P, true), (S, true), (S, false)]));
+    let estimates = estimates_of(&rt, &policy, key);
+    same(&rt, estimates, Some([Some(100_000), Some(95_001)]));
     assert!(rt; policy.spawn_entry(&rt, key).is_none());
-    Ok(())
+}
+
+// Tells a policy of a job, of its overhead and of an inline run, and answers what its samples say of each.
+fn told_of_a_job(
+    rt: &impl Wait,
+    policy: &Policy,
+    key: Key,
+) -> Result<Option<[Option<u64>; 3]>, Fault> {
+    policy.record_spawn_job(rt, key, 25_003)?;
+    policy.record_spawn_overhead(rt, key, 10_002)?;
+    policy.record_spawn_inline(rt, key, 8_001)?;
+    let Some(entry) = policy.spawn_entry(rt, key) else {
+        return Ok(None);
+    };
+    let job = entry.estimate(SpawnSample::Job);
+    let overhead = entry.estimate(SpawnSample::Overhead);
+    Ok(Some([job, overhead, entry.estimate(SpawnSample::InlineRun)]))
 }
 
 #[test]
-fn a_policy_records_the_job_that_it_is_told(rt: HostRuntime) -> Result<(), Fail> {
-    let key = Key::new(SITE, 64, 64, 4);
-    let policy = Policy::new(rt.alloc())?;
-    assert_eq!(rt; policy.record_spawn_job(&rt, key, 25_003), Ok(()));
-    assert_eq!(rt; policy.record_spawn_overhead(&rt, key, 10_002), Ok(()));
-    assert_eq!(rt; policy.record_spawn_inline(&rt, key, 8_001), Ok(()));
-    let entry = policy.spawn_entry(&rt, key);
-    let estimate = |kind| entry.and_then(|entry| entry.estimate(kind));
-    assert_eq!(rt; estimate(SpawnSample::Job), Some(25_003));
-    assert_eq!(rt; estimate(SpawnSample::Overhead), Some(10_002));
-    assert_eq!(rt; estimate(SpawnSample::InlineRun), Some(8_001));
-    Ok(())
+fn a_policy_records_the_job_that_it_is_told(rt: HostRuntime) {
+    let policy = Policy::new(rt.alloc()).expect(&rt, "memory");
+    let told = told_of_a_job(&rt, &policy, Key::new(SITE, 64, 64, 4));
+    let wanted = [Some(25_003), Some(10_002), Some(8_001)];
+    same(&rt, told, Ok(Some(wanted)));
 }
 
 #[test]
 fn a_job_may_keep_its_caller_a_millisecond(rt: HostRuntime) {
-    assert_eq!(rt; INLINE_BUDGET, 1_000_000);
+    same(&rt, INLINE_BUDGET, 1_000_000);
+}
+
+// The choices of two handles of a policy for a key, and at the end for another key.
+fn choices_of_jobs(
+    rt: &impl Wait,
+    policy: &Policy,
+    shared: &Policy,
+    key: Key,
+    other: Key,
+) -> Result<[(SpawnExecution, bool); 4], Fault> {
+    let first = policy.choose_spawn(rt, key, INLINE_BUDGET)?;
+    shared.record_spawn_job(rt, key, 25_000)?;
+    policy.record_spawn_overhead(rt, key, 10_000)?;
+    let second = shared.choose_spawn(rt, key, INLINE_BUDGET)?;
+    policy.record_spawn_inline(rt, key, 8_000)?;
+    let third = policy.choose_spawn(rt, key, INLINE_BUDGET)?;
+    let of_other = shared.choose_spawn(rt, other, INLINE_BUDGET)?;
+    Ok([first, second, third, of_other])
 }
 
 #[test]
-fn records_of_jobs_feed_their_choices(rt: HostRuntime) -> Result<(), Fail> {
+fn records_of_jobs_feed_their_choices(rt: HostRuntime) {
     let key = Key::new(SITE, 64, 64, 4);
-    let policy = Policy::new(rt.alloc())?;
-    let shared = policy.clone()?;
+    let other = Key::new(SITE, 64, 64, 5);
+    let policy = Policy::new(rt.alloc()).expect(&rt, "memory");
+    let shared = policy.clone().expect(&rt, "memory");
+    let choices = choices_of_jobs(&rt, &policy, &shared, key, other);
     let inline = SpawnExecution::Inline;
     let offload = SpawnExecution::Offload;
-    assert_eq!(rt;
-        policy.choose_spawn(&rt, key, INLINE_BUDGET),
-        Ok((offload, true))
-    );
-    assert_eq!(rt; shared.record_spawn_job(&rt, key, 25_000), Ok(()));
-    assert_eq!(rt; policy.record_spawn_overhead(&rt, key, 10_000), Ok(()));
-    assert_eq!(rt;
-        shared.choose_spawn(&rt, key, INLINE_BUDGET),
-        Ok((inline, true))
-    );
-    assert_eq!(rt; policy.record_spawn_inline(&rt, key, 8_000), Ok(()));
-    assert_eq!(rt;
-        policy.choose_spawn(&rt, key, INLINE_BUDGET),
-        Ok((inline, false))
-    );
-    let other = Key::new(SITE, 64, 64, 5);
-    assert_eq!(rt;
-        shared.choose_spawn(&rt, other, INLINE_BUDGET),
-        Ok((offload, true))
-    );
+    let wanted = [
+        (offload, true),
+        (inline, true),
+        (inline, false),
+        (offload, true),
+    ];
+    same(&rt, choices, Ok(wanted));
     assert!(rt; policy.spawn_entry(&rt, other).is_some());
     assert!(rt; policy.run_entry(&rt, key).is_none());
-    Ok(())
 }
 
 #[test]
-fn a_run_planned_for_one_asks_no_policy(rt: HostRuntime) -> Result<(), Fail> {
-    let policy = Policy::new(rt.alloc())?;
+fn a_run_planned_for_one_asks_no_policy(rt: HostRuntime) {
+    let policy = Policy::new(rt.alloc()).expect(&rt, "memory");
     let body = |path: RunExecution| -> Result<RunExecution, u8> { Ok(path) };
     for planned in [0, 1] {
         let answer = policy.try_run(&rt, SITE, 64, 64, planned, &|| 0, body);
-        assert_eq!(rt; answer, Ok(S));
+        same(&rt, answer, Ok(S));
         assert!(rt;
             policy
                 .run_entry(&rt, Key::new(SITE, 64, 64, planned))
                 .is_none()
         );
     }
-    Ok(())
+}
+
+// Whether a policy has an entry for runs of the site at this length and work, planned for so many threads.
+fn has_runs(rt: &impl Wait, policy: &Policy, len: usize, work: usize, planned: usize) -> bool {
+    policy
+        .run_entry(rt, Key::new(SITE, len, work, planned))
+        .is_some()
 }
 
 #[test]
-fn a_fresh_policy_runs_in_parallel_and_then_serially(rt: HostRuntime) -> Result<(), Fail> {
-    let policy = Policy::new(rt.alloc())?;
+fn a_fresh_policy_runs_in_parallel_and_then_serially(rt: HostRuntime) {
+    let policy = Policy::new(rt.alloc()).expect(&rt, "memory");
     let body = |path: RunExecution| -> Result<RunExecution, u8> { Ok(path) };
     for path in [P, S, S] {
         let answer = policy.try_run(&rt, SITE, 64, 640, 4, &|| 0, body);
-        assert_eq!(rt; answer, Ok(path));
+        same(&rt, answer, Ok(path));
     }
-    assert!(rt; policy.run_entry(&rt, Key::new(SITE, 64, 640, 4)).is_some());
-    assert!(rt; policy.run_entry(&rt, Key::new(SITE, 64, 64, 4)).is_none());
-    assert!(rt; policy.run_entry(&rt, Key::new(SITE, 640, 64, 4)).is_none());
-    assert!(rt; policy.run_entry(&rt, Key::new(SITE, 64, 640, 1)).is_none());
-    Ok(())
+    assert!(rt; has_runs(&rt, &policy, 64, 640, 4));
+    assert!(rt; !has_runs(&rt, &policy, 64, 64, 4));
+    assert!(rt; !has_runs(&rt, &policy, 640, 64, 4));
+    assert!(rt; !has_runs(&rt, &policy, 64, 640, 1));
 }
 
 // The clock stands still but while a body runs: 70000 nanoseconds in parallel, 30000 serially.
 #[test]
-fn a_policy_measures_what_passes_in_the_body(rt: HostRuntime) -> Result<(), Fail> {
-    let policy = Policy::new(rt.alloc())?;
+fn a_policy_measures_what_passes_in_the_body(rt: HostRuntime) {
+    let policy = Policy::new(rt.alloc()).expect(&rt, "memory");
     let ticks = AtomicU64::new(5);
     let now = || ticks.load(Ordering::SeqCst);
     let body = |path: RunExecution| -> Result<RunExecution, u8> {
@@ -156,60 +206,67 @@ fn a_policy_measures_what_passes_in_the_body(rt: HostRuntime) -> Result<(), Fail
     };
     for path in [P, S] {
         let answer = policy.try_run(&rt, SITE, 64, 64, 4, &now, body);
-        assert_eq!(rt; answer, Ok(path));
+        same(&rt, answer, Ok(path));
     }
-    let key = Key::new(SITE, 64, 64, 4);
-    let entry = policy.run_entry(&rt, key);
-    assert_eq!(rt; entry.and_then(|entry| entry.estimate(P)), Some(70_000));
-    let entry = policy.run_entry(&rt, key);
-    assert_eq!(rt; entry.and_then(|entry| entry.estimate(S)), Some(30_000));
-    Ok(())
+    let estimates = estimates_of(&rt, &policy, Key::new(SITE, 64, 64, 4));
+    same(&rt, estimates, Some([Some(70_000), Some(30_000)]));
+}
+
+// One run over ten items, by a clock that goes on by 1000 at each reading. It answers 7, or fails by 57 where it is of
+// `fails`.
+fn run_of_ten<Rt: Wait>(
+    rt: &Rt,
+    policy: &Policy,
+    ticks: &AtomicU64,
+    fails: &[RunExecution],
+) -> Result<u8, Trouble<u8>> {
+    let now = || ticks.fetch_add(1_000, Ordering::SeqCst);
+    policy.try_run(
+        rt,
+        SITE,
+        10,
+        10,
+        4,
+        &now,
+        |path: RunExecution| -> Result<u8, u8> {
+            if fails.contains(&path) {
+                Err(57)
+            } else {
+                Ok(7)
+            }
+        },
+    )
 }
 
 #[test]
-fn success_is_recorded_and_errors_are_not(rt: HostRuntime) -> Result<(), Fail> {
-    let policy = Policy::new(rt.alloc())?;
+fn success_is_recorded_and_errors_are_not(rt: HostRuntime) {
+    let policy = Policy::new(rt.alloc()).expect(&rt, "memory");
     let key = Key::new(SITE, 10, 10, 4);
     let ticks = AtomicU64::new(0);
-    let now = || ticks.fetch_add(1_000, Ordering::SeqCst);
-    let fails = |_path: RunExecution| -> Result<u8, u8> { Err(57) };
-    let answer = policy.try_run(&rt, SITE, 10, 10, 4, &now, fails);
-    assert_eq!(rt; answer, Err(Trouble::Closure(57)));
-    let entry = policy.run_entry(&rt, key);
-    assert!(rt;
-        entry.is_some_and(|entry| entry.estimate(P).is_none() && entry.estimate(S).is_none())
-    );
-    let succeeds = |_path: RunExecution| -> Result<u8, u8> { Ok(7) };
-    assert_eq!(rt; policy.try_run(&rt, SITE, 10, 10, 4, &now, succeeds), Ok(7));
-    let mixed = |path: RunExecution| -> Result<u8, u8> {
-        match path {
-            RunExecution::Parallel => Err(57),
-            RunExecution::Serial => Ok(7),
-        }
-    };
+    let failed = run_of_ten(&rt, &policy, &ticks, &[P, S]);
+    same(&rt, failed, Err(Trouble::Closure(57)));
+    same(&rt, estimates_of(&rt, &policy, key), Some([None, None]));
+    same(&rt, run_of_ten(&rt, &policy, &ticks, &[]), Ok(7));
     for _ in 0..20 {
-        let answer = policy.try_run(&rt, SITE, 10, 10, 4, &now, mixed);
-        assert!(rt; answer == Ok(7) || answer == Err(Trouble::Closure(57)));
+        let answer = run_of_ten(&rt, &policy, &ticks, &[P]);
+        assert!(rt; matches!(answer, Ok(7) | Err(Trouble::Closure(57))));
     }
-    let entry = policy.run_entry(&rt, key);
-    assert_eq!(rt; entry.and_then(|entry| entry.estimate(P)), Some(1_000));
-    assert_eq!(rt; entry.and_then(|entry| entry.estimate(S)), Some(1_000));
-    Ok(())
+    let estimates = estimates_of(&rt, &policy, key);
+    same(&rt, estimates, Some([Some(1_000), Some(1_000)]));
 }
 
 // A body that asks the same policy would wait forever if the policy's lock were held.
 #[test]
-fn a_body_runs_without_the_lock(rt: HostRuntime) -> Result<(), Fail> {
-    let policy = Policy::new(rt.alloc())?;
-    let inner = policy.clone()?;
+fn a_body_runs_without_the_lock(rt: HostRuntime) {
+    let policy = Policy::new(rt.alloc()).expect(&rt, "memory");
+    let inner = policy.clone().expect(&rt, "memory");
     let body = move |path: RunExecution| -> Result<RunExecution, Fault> {
         let key = Key::new(SITE, 1, 1, 2);
         inner.record_run(&rt, key, path, 5)?;
         Ok(path)
     };
     let answer = policy.try_run(&rt, SITE, 64, 64, 4, &|| 0, body);
-    assert_eq!(rt; answer, Ok(P));
-    let entry = policy.run_entry(&rt, Key::new(SITE, 1, 1, 2));
-    assert_eq!(rt; entry.and_then(|entry| entry.estimate(P)), Some(5));
-    Ok(())
+    same(&rt, answer, Ok(P));
+    let estimates = estimates_of(&rt, &policy, Key::new(SITE, 1, 1, 2));
+    same(&rt, estimates, Some([Some(5), None]));
 }

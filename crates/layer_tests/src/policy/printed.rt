@@ -1,4 +1,5 @@
 // What is printed, and which traits the plain types have.
+use crate::same::{prints, row, same};
 use parallel_policy::bucket::len_bucket;
 use parallel_policy::cadence::Cadence;
 use parallel_policy::estimate::Estimate;
@@ -8,8 +9,9 @@ use parallel_policy::policy::Policy;
 use parallel_policy::run::RunEntry;
 use parallel_policy::site::Site;
 use parallel_policy::spawn::SpawnEntry;
+use std::alloc::Global;
 use std::collections::HashSet;
-use std::test::Fail;
+use std::process::Abort;
 
 const SITE: Site = Site {
     file: "tests",
@@ -18,53 +20,49 @@ const SITE: Site = Site {
 };
 
 #[test]
-fn values_print_their_parts(rt: HostRuntime) -> Result<(), Fail> {
+fn values_print_their_parts(rt: HostRuntime) {
     let alloc = rt.alloc();
     let key = Key::new(SITE, 64, 3, 4);
     let text =
         "Key { file: \"tests\", line: 3, column: 5, len_bucket: 7, work_bucket: 2, parallelism: 4 }";
-    assert_eq!(rt; format!(in alloc; "{key:?}")?.as_str(), text);
-    for (execution, text) in [
-        (RunExecution::Serial, "Serial"),
-        (RunExecution::Parallel, "Parallel"),
-    ] {
-        assert_eq!(rt; format!(in alloc; "{execution:?}")?.as_str(), text);
-    }
-    for (execution, text) in [
-        (SpawnExecution::Inline, "Inline"),
-        (SpawnExecution::Offload, "Offload"),
-    ] {
-        assert_eq!(rt; format!(in alloc; "{execution:?}")?.as_str(), text);
-    }
+    prints(&rt, alloc, &key, text);
+    prints(&rt, alloc, &RunExecution::Serial, "Serial");
+    prints(&rt, alloc, &RunExecution::Parallel, "Parallel");
+    prints(&rt, alloc, &SpawnExecution::Inline, "Inline");
+    prints(&rt, alloc, &SpawnExecution::Offload, "Offload");
     let mut entry = RunEntry::default();
     entry.record(RunExecution::Serial, 7);
     let text =
         "RunEntry { serial: Estimate(Some(7)), parallel: Estimate(None), cadence: Cadence { since_probe: 0 } }";
-    assert_eq!(rt; format!(in alloc; "{entry:?}")?.as_str(), text);
+    prints(&rt, alloc, &entry, text);
     let text =
         "SpawnEntry { inline: Estimate(None), job: Estimate(None), overhead: Estimate(None), cadence: Cadence { since_probe: 0 } }";
-    assert_eq!(rt;
-        format!(in alloc; "{:?}", SpawnEntry::default())?.as_str(),
-        text
-    );
-    let policy = Policy::new(alloc)?;
+    prints(&rt, alloc, &SpawnEntry::default(), text);
+    let policy = Policy::new(alloc).expect(&rt, "memory");
     let text =
         "Policy { table: Mutex { data: Table { runs: {}, spawns: {} }, poisoned: false, .. } }";
-    assert_eq!(rt; format!(in alloc; "{policy:?}")?.as_str(), text);
-    Ok(())
+    prints(&rt, alloc, &policy, text);
+}
+
+// How many of the keys differ, by their hashes and by `==`.
+fn distinct<const N: usize>(rt: &impl Abort, alloc: Global, keys: [Key; N]) -> usize {
+    let mut all = HashSet::new(alloc);
+    for key in keys {
+        all.insert(key).expect(rt, "memory");
+    }
+    all.len()
 }
 
 #[test]
-fn keys_are_told_apart_by_each_part(rt: HostRuntime) -> Result<(), Fail> {
+fn keys_are_told_apart_by_each_part(rt: HostRuntime) {
     let key = Key::new(SITE, 64, 64, 4);
     let copy = key;
-    assert_eq!(rt; copy.clone()?, key);
+    same(&rt, copy.clone().expect(&rt, "memory"), key);
     let elsewhere = Site {
         file: "others",
         ..SITE
     };
-    let mut keys = HashSet::new(rt.alloc());
-    for other in [
+    let keys = [
         key,
         Key::new(elsewhere, 64, 64, 4),
         Key::new(Site { line: 4, ..SITE }, 64, 64, 4),
@@ -73,16 +71,14 @@ fn keys_are_told_apart_by_each_part(rt: HostRuntime) -> Result<(), Fail> {
         Key::new(SITE, 64, 128, 4),
         Key::new(SITE, 64, 64, 5),
         Key::new(SITE, 127, 100, 4),
-    ] {
-        let _ = keys.insert(other)?;
-    }
-    assert_eq!(rt; keys.len(), 7);
-    let mut keys = HashSet::new(rt.alloc());
-    for len in [1, 2, 3] {
-        let _ = keys.insert(Key::new(SITE, len, len, 4))?;
-    }
-    assert_eq!(rt; keys.len(), 2);
-    Ok(())
+    ];
+    same(&rt, distinct(&rt, rt.alloc(), keys), 7);
+    let keys = [
+        Key::new(SITE, 1, 1, 4),
+        Key::new(SITE, 2, 2, 4),
+        Key::new(SITE, 3, 3, 4),
+    ];
+    same(&rt, distinct(&rt, rt.alloc(), keys), 2);
 }
 
 #[test]
@@ -97,25 +93,27 @@ fn lengths_count_by_their_binary_digits(rt: HostRuntime) {
         (64, 7),
         (usize::MAX, 64),
     ] {
-        assert_eq!(rt; len_bucket(len), bucket, "of {len}");
+        row(&rt, len, len_bucket(len), bucket);
     }
 }
 
 #[test]
-fn executions_and_entries_are_copied_and_compared(rt: HostRuntime) -> Result<(), Fail> {
-    assert!(rt; RunExecution::Serial.clone()? == RunExecution::Serial);
-    assert!(rt; RunExecution::Serial != RunExecution::Parallel);
-    assert!(rt; SpawnExecution::Inline.clone()? == SpawnExecution::Inline);
-    assert!(rt; SpawnExecution::Inline != SpawnExecution::Offload);
-    let mut estimate = Estimate::default();
-    let before = estimate;
+fn executions_and_entries_are_copied_and_compared(rt: HostRuntime) {
+    let serial = RunExecution::Serial;
+    let inline = SpawnExecution::Inline;
+    same(&rt, serial.clone().expect(&rt, "a copy"), serial);
+    assert!(rt; serial != RunExecution::Parallel);
+    same(&rt, inline.clone().expect(&rt, "a copy"), inline);
+    assert!(rt; inline != SpawnExecution::Offload);
+    let before = Estimate::default();
+    let mut estimate = before;
     estimate.record(5);
-    assert!(rt; before != estimate && estimate.get() == Some(5) && before.get().is_none());
-    let mut cadence = Cadence::default();
-    let before = cadence;
+    assert!(rt; before != estimate);
+    same(&rt, [before.get(), estimate.get()], [None, Some(5)]);
+    let before = Cadence::default();
+    let mut cadence = before;
     cadence.saturate();
     assert!(rt; before != cadence);
-    assert_eq!(rt; cadence.arbitrate(1, 2, 10, 10, true), (2, true));
-    assert_eq!(rt; before, cadence);
-    Ok(())
+    same(&rt, cadence.arbitrate(1, 2, 10, 10, true), (2, true));
+    same(&rt, before, cadence);
 }

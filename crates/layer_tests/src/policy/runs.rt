@@ -1,4 +1,5 @@
 // Entries of runs, by rows of what happens to a fresh one and what it answers.
+use crate::same::{row, same};
 use parallel_policy::execution::RunExecution;
 use parallel_policy::run::RunEntry;
 use std::process::Abort;
@@ -34,27 +35,23 @@ fn wait(
 ) {
     for call in 1..calls {
         let answer = entry.choose(parallelism);
-        assert_eq!(rt; answer, (path, call % 10 == 0), "choice {call} of {calls}");
+        row(rt, (call, calls), answer, (path, call % 10 == 0));
         if let (true, Some(sample)) = (answer.1, sample) {
             entry.record(path, sample);
         }
     }
-    assert_eq!(rt;
-        entry.choose(parallelism),
-        (last, true),
-        "after {calls} choices"
-    );
+    row(rt, calls, entry.choose(parallelism), (last, true));
 }
 
 // A fresh entry goes through all steps.
-fn play(rt: &impl Abort, row: &str, parallelism: usize, steps: &[Step]) {
+fn play(rt: &impl Abort, name: &str, parallelism: usize, steps: &[Step]) {
     let mut entry = RunEntry::default();
     for (at, step) in steps.iter().enumerate() {
         match *step {
             Step::Records(path, sample) => entry.record(path, sample),
             Step::Answers(path, measured) => {
                 let answer = entry.choose(parallelism);
-                assert_eq!(rt; answer, (path, measured), "{row}, step {at}");
+                row(rt, (name, at), answer, (path, measured));
             }
             Step::Waits(path, calls, last) => {
                 wait(rt, &mut entry, parallelism, path, calls, last, None);
@@ -63,7 +60,7 @@ fn play(rt: &impl Abort, row: &str, parallelism: usize, steps: &[Step]) {
                 wait(rt, &mut entry, parallelism, path, calls, last, Some(sample));
             }
             Step::Keeps(path, estimate) => {
-                assert_eq!(rt; entry.estimate(path), estimate, "{row}, step {at}");
+                row(rt, (name, at), entry.estimate(path), estimate);
             }
         }
     }
@@ -139,12 +136,12 @@ fn big_work_runs_in_parallel_ten_thousand_times(rt: HostRuntime) {
     entry.record(P, 25_000_000);
     for _ in 0..10_000 {
         let (execution, measured) = entry.choose(12);
-        assert_eq!(rt; execution, P);
+        same(&rt, execution, P);
         if measured {
             entry.record(P, 25_000_000);
         }
     }
-    assert_eq!(rt; entry.estimate(S), None);
+    same(&rt, entry.estimate(S), None);
 }
 
 #[test]
@@ -248,7 +245,7 @@ fn an_estimate_recovers_by_its_probes(rt: HostRuntime) {
             (RunExecution::Serial, false) => {}
         }
     }
-    assert_eq!(rt; probes, 5);
-    assert_eq!(rt; entry.estimate(P), Some(991_520));
-    assert_eq!(rt; entry.choose(4), (P, false));
+    same(&rt, probes, 5);
+    same(&rt, entry.estimate(P), Some(991_520));
+    same(&rt, entry.choose(4), (P, false));
 }

@@ -1,4 +1,5 @@
 // Entries of spawned jobs, by rows of what happens to a fresh one and what it answers.
+use crate::same::{row, same};
 use parallel_policy::execution::SpawnExecution;
 use parallel_policy::history::SpawnSample;
 use parallel_policy::policy::INLINE_BUDGET;
@@ -25,7 +26,7 @@ const INLINE: SpawnExecution = SpawnExecution::Inline;
 const OFFLOAD: SpawnExecution = SpawnExecution::Offload;
 
 // A fresh entry goes through all steps.
-fn play(rt: &impl Abort, row: &str, steps: &[Step]) {
+fn play(rt: &impl Abort, name: &str, steps: &[Step]) {
     let mut entry = SpawnEntry::default();
     for (at, step) in steps.iter().enumerate() {
         match *step {
@@ -36,12 +37,12 @@ fn play(rt: &impl Abort, row: &str, steps: &[Step]) {
             Step::RunsInline(inline) => entry.record_inline(inline),
             Step::Answers(way, measured) => {
                 let answer = entry.choose(INLINE_BUDGET);
-                assert_eq!(rt; answer, (way, measured), "{row}, step {at}");
+                row(rt, (name, at), answer, (way, measured));
             }
             Step::Waits(way, calls, last) => wait(rt, &mut entry, way, calls, last),
             Step::Keeps(inline) => {
                 let estimate = entry.estimate(SpawnSample::InlineRun);
-                assert_eq!(rt; estimate, Some(inline), "{row}, step {at}");
+                row(rt, (name, at), estimate, Some(inline));
             }
         }
     }
@@ -57,13 +58,9 @@ fn wait(
 ) {
     for call in 1..calls {
         let answer = entry.choose(INLINE_BUDGET);
-        assert_eq!(rt; answer, (way, call % 10 == 0), "choice {call} of {calls}");
+        row(rt, (call, calls), answer, (way, call % 10 == 0));
     }
-    assert_eq!(rt;
-        entry.choose(INLINE_BUDGET),
-        (last, true),
-        "after {calls} choices"
-    );
+    row(rt, calls, entry.choose(INLINE_BUDGET), (last, true));
 }
 
 #[test]
@@ -175,6 +172,6 @@ fn an_inline_estimate_recovers_by_its_probes(rt: HostRuntime) {
     let inline = entry.estimate(SpawnSample::InlineRun);
     assert!(rt; inline.is_some_and(|inline| inline <= 50_000));
     let overhead = entry.estimate(SpawnSample::Overhead);
-    assert_eq!(rt; overhead, Some(50_000));
-    assert_eq!(rt; entry.estimate(SpawnSample::Job), Some(2_000));
+    same(&rt, overhead, Some(50_000));
+    same(&rt, entry.estimate(SpawnSample::Job), Some(2_000));
 }

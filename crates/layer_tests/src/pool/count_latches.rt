@@ -2,10 +2,10 @@
 ghost use Rattle.std.specs.Prelude.{◌≡◌, All, IfOk, IfSome, false, true};
 ghost use Rattle.parallel_pool.specs.CountLatch.{IsShareOf, shares_of, unspent};
 
+use crate::same::same;
 use parallel_pool::latch::{CountLatch, CountShare};
 use std::alloc::Global;
 use std::num::NonZeroUsize;
-use std::test::Fail;
 
 // The last share of a list.
 fn take_one(latch: &CountLatch, shares: &mut Vec<CountShare>) -> Option<CountShare>
@@ -51,15 +51,14 @@ fn give_three(
 }
 
 #[test]
-fn the_third_of_three_shares_is_the_last(rt: HostRuntime) -> Result<(), Fail> {
+fn the_third_of_three_shares_is_the_last(rt: HostRuntime) {
     let three = NonZeroUsize::MIN.saturating_add(2);
-    let (latch, mut shares) = CountLatch::with_count(rt.alloc(), three)?;
-    let mut first = take_one(&latch, &mut shares).ok_or("a share")?;
-    let mut second = take_one(&latch, &mut shares).ok_or("a share")?;
-    let mut third = take_one(&latch, &mut shares).ok_or("a share")?;
-    assert_eq!(rt; give_one(&latch, &mut shares), None);
+    let (latch, mut shares) = CountLatch::with_count(rt.alloc(), three).expect(&rt, "memory");
+    let mut first = take_one(&latch, &mut shares).expect(&rt, "a share");
+    let mut second = take_one(&latch, &mut shares).expect(&rt, "a share");
+    let mut third = take_one(&latch, &mut shares).expect(&rt, "a share");
+    same(&rt, give_one(&latch, &mut shares), None);
     let given = give_three(&latch, &mut first, &mut second, &mut third);
-    assert_eq!(rt; given, (false, false, true));
+    same(&rt, given, (false, false, true));
     let _seen = latch.wait(&rt);
-    Ok(())
 }

@@ -4,13 +4,13 @@ ghost use Rattle.parallel_pool.specs.Latch.{IsSeatOf};
 
 use crate::pool::latches::core_latch;
 use crate::pool::threads::give_all;
+use crate::same::{row, same};
 use crossbeam_utils::sync::Parker;
 use parallel_pool::latch::{CoreLatch, CountLatch, LatchSeat, LockLatch};
 use parallel_pool::sleep::Sleep;
 use std::num::NonZeroUsize;
 use std::sync::atomic::{AtomicU64, Ordering};
 use std::sync::{Arc, Wait};
-use std::test::Fail;
 use std::thread;
 use std::time::{Clock, Duration};
 
@@ -31,41 +31,47 @@ fn is_raised(rt: &impl Clock, flag: &AtomicU64) -> bool {
 }
 
 #[test]
-fn the_last_give_wakes_who_sleeps(rt: HostRuntime) -> Result<(), Fail> {
+fn the_last_give_wakes_who_sleeps(rt: HostRuntime) {
     let two = NonZeroUsize::MIN.saturating_add(1);
-    let (latch, shares) = CountLatch::with_count(rt.alloc(), two)?;
-    let latch = Arc::new(rt.alloc(), latch)?;
-    let passed = Arc::new(rt.alloc(), AtomicU64::new(0))?;
-    let (theirs, flag) = (Arc::try_clone(&latch)?, Arc::try_clone(&passed)?);
+    let (latch, shares) = CountLatch::with_count(rt.alloc(), two).expect(&rt, "memory");
+    let latch = Arc::new(rt.alloc(), latch).expect(&rt, "memory");
+    let passed = Arc::new(rt.alloc(), AtomicU64::new(0)).expect(&rt, "memory");
+    let (theirs, flag) = (
+        Arc::try_clone(&latch).expect(&rt, "memory"),
+        Arc::try_clone(&passed).expect(&rt, "memory"),
+    );
     let waiter = thread::spawn(&rt, move || {
         theirs.wait(&rt);
         flag.store(1, Ordering::SeqCst);
-    })?;
+    })
+    .expect(&rt, "memory");
     let_it_sleep(&rt);
-    assert_eq!(rt; passed.load(Ordering::SeqCst), 0);
-    assert_eq!(rt; give_all(&latch, shares), 1);
+    same(&rt, passed.load(Ordering::SeqCst), 0);
+    same(&rt, give_all(&latch, shares), 1);
     assert!(rt; is_raised(&rt, &passed));
     waiter.join(&rt);
-    Ok(())
 }
 
 #[test]
-fn a_lock_latch_is_reset_and_wakes_who_sleeps(rt: HostRuntime) -> Result<(), Fail> {
-    let latch = Arc::new(rt.alloc(), LockLatch::new())?;
+fn a_lock_latch_is_reset_and_wakes_who_sleeps(rt: HostRuntime) {
+    let latch = Arc::new(rt.alloc(), LockLatch::new()).expect(&rt, "memory");
     latch.set(&rt);
     latch.wait_and_reset(&rt);
-    let passed = Arc::new(rt.alloc(), AtomicU64::new(0))?;
-    let (theirs, flag) = (Arc::try_clone(&latch)?, Arc::try_clone(&passed)?);
+    let passed = Arc::new(rt.alloc(), AtomicU64::new(0)).expect(&rt, "memory");
+    let (theirs, flag) = (
+        Arc::try_clone(&latch).expect(&rt, "memory"),
+        Arc::try_clone(&passed).expect(&rt, "memory"),
+    );
     let waiter = thread::spawn(&rt, move || {
         theirs.wait(&rt);
         flag.store(1, Ordering::SeqCst);
-    })?;
+    })
+    .expect(&rt, "memory");
     let_it_sleep(&rt);
-    assert_eq!(rt; passed.load(Ordering::SeqCst), 0, "the latch was reset");
+    row(&rt, "the latch was reset", passed.load(Ordering::SeqCst), 0);
     latch.set(&rt);
     assert!(rt; is_raised(&rt, &passed));
     waiter.join(&rt);
-    Ok(())
 }
 
 // An idle worker for which a job is always there, until it has tried to sleep. It answers whether it
@@ -89,18 +95,18 @@ fn idle_with_a_job<R: Wait>(
 }
 
 #[test]
-fn a_worker_asks_for_jobs_before_it_sleeps(rt: HostRuntime) -> Result<(), Fail> {
-    let awake = Arc::new(rt.alloc(), AtomicU64::new(0))?;
-    let flag = Arc::try_clone(&awake)?;
-    let (sleep, mut parkers) = Sleep::new(rt.alloc(), NonZeroUsize::MIN)?;
-    let parker = parkers.pop().ok_or("a parker")?;
-    let (latch, seat) = core_latch(rt.alloc())?;
+fn a_worker_asks_for_jobs_before_it_sleeps(rt: HostRuntime) {
+    let awake = Arc::new(rt.alloc(), AtomicU64::new(0)).expect(&rt, "memory");
+    let flag = Arc::try_clone(&awake).expect(&rt, "memory");
+    let (sleep, mut parkers) = Sleep::new(rt.alloc(), NonZeroUsize::MIN).expect(&rt, "memory");
+    let parker = parkers.pop().expect(&rt, "a parker");
+    let (latch, seat) = core_latch(&rt, rt.alloc());
     let worker = thread::spawn(&rt, move || {
         if idle_with_a_job(&rt, &sleep, &parker, &latch, seat) {
             flag.store(1, Ordering::SeqCst);
         }
-    })?;
+    })
+    .expect(&rt, "memory");
     assert!(rt; is_raised(&rt, &awake));
     worker.join(&rt);
-    Ok(())
 }

@@ -5,66 +5,62 @@
 ghost use Rattle.std.specs.Prelude.{◌≡◌};
 
 use crate::pool::pools::{Bell, becomes};
+use crate::same::{row, same};
 use parallel_fault::Fault;
 use parallel_pool::rayon::{OwnedJob, ThreadPoolBuildError, ThreadPoolBuilder};
 use std::alloc::{AllocError, Global};
 use std::collections::VecDeque;
 use std::sync::Arc;
 use std::sync::atomic::{AtomicU64, Ordering};
-use std::test::Fail;
 use std::time::Clock;
 
-#[test]
-fn a_start_that_is_refused_leaves_no_worker(rt: HostRuntime) -> Result<(), Fail> {
-    let Ok(ended) = Arc::new(rt.alloc(), AtomicU64::new(0)) else {
-        return Ok(());
-    };
+// A builder of four workers that raise a word once all have ended.
+fn with_end(alloc: Global, ended: &Arc<AtomicU64>) -> Option<ThreadPoolBuilder> {
     let bell = Bell {
-        word: Arc::try_clone(&ended)?,
+        word: Arc::try_clone(ended).ok()?,
     };
-    let Ok(handler) = Box::new(rt.alloc(), move |_: usize| bell.is_there()) else {
-        return Ok(());
-    };
-    let builder = ThreadPoolBuilder::new()
-        .num_threads(4)
-        .stack_size(usize::MAX);
-    match builder.start_handler(handler).build(&rt, rt.alloc()) {
-        Ok(_) => assert!(rt; false, "no thread has such a stack"),
-        Err(ThreadPoolBuildError::Memory | ThreadPoolBuildError::Spawn) => {}
-    }
-    assert_eq!(rt; ended.load(Ordering::SeqCst), 1);
-    Ok(())
+    let handler = Box::new(alloc, move |_: usize| bell.is_there()).ok()?;
+    let builder = ThreadPoolBuilder::new().num_threads(4);
+    Some(builder.start_handler(handler))
 }
 
 #[test]
-fn a_name_that_is_refused_is_want_of_memory(rt: HostRuntime) -> Result<(), Fail> {
-    let alloc = rt.alloc();
-    let Ok(ended) = Arc::new(alloc, AtomicU64::new(0)) else {
-        return Ok(());
+fn a_start_that_is_refused_leaves_no_worker(rt: HostRuntime) {
+    let Ok(ended) = Arc::new(rt.alloc(), AtomicU64::new(0)) else {
+        return;
     };
-    let bell = Bell {
-        word: Arc::try_clone(&ended)?,
+    let Some(builder) = with_end(rt.alloc(), &ended) else {
+        return;
     };
-    let Ok(handler) = Box::new(alloc, move |_: usize| bell.is_there()) else {
-        return Ok(());
-    };
-    let Ok(names) = Box::new(alloc, move |index: usize| {
+    let refused = builder.stack_size(usize::MAX).build(&rt, rt.alloc());
+    assert!(rt; refused.is_err(), "no thread has such a stack");
+    same(&rt, ended.load(Ordering::SeqCst), 1);
+}
+
+// The same, and the third worker's name is refused.
+fn with_two_names(alloc: Global, ended: &Arc<AtomicU64>) -> Option<ThreadPoolBuilder> {
+    let names = Box::new(alloc, move |index: usize| {
         if index == 2 {
             Err(AllocError)
         } else {
             String::from_str(alloc, "worker")
         }
-    }) else {
-        return Ok(());
+    })
+    .ok()?;
+    Some(with_end(alloc, ended)?.thread_name(names))
+}
+
+#[test]
+fn a_name_that_is_refused_is_want_of_memory(rt: HostRuntime) {
+    let Ok(ended) = Arc::new(rt.alloc(), AtomicU64::new(0)) else {
+        return;
     };
-    let builder = ThreadPoolBuilder::new()
-        .num_threads(4)
-        .start_handler(handler)
-        .thread_name(names);
-    let refused = builder.build(&rt, alloc);
+    let Some(builder) = with_two_names(rt.alloc(), &ended) else {
+        return;
+    };
+    let refused = builder.build(&rt, rt.alloc());
     assert!(rt; matches!(refused, Err(ThreadPoolBuildError::Memory)));
-    assert_eq!(rt; ended.load(Ordering::SeqCst), 1);
-    Ok(())
+    same(&rt, ended.load(Ordering::SeqCst), 1);
 }
 
 // A builder of four workers that raise a word as they start, and another once all have ended.
@@ -87,35 +83,35 @@ fn with_bell(
 }
 
 #[test]
-fn a_build_works_or_leaves_no_worker(rt: HostRuntime) -> Result<(), Fail> {
+fn a_build_works_or_leaves_no_worker(rt: HostRuntime) {
     let alloc = rt.alloc();
     let (Ok(ended), Ok(begun)) = (
         Arc::new(alloc, AtomicU64::new(0)),
         Arc::new(alloc, AtomicU64::new(0)),
     ) else {
-        return Ok(());
+        return;
     };
     let Some(builder) = with_bell(alloc, &begun, &ended) else {
-        return Ok(());
+        return;
     };
     match builder.build(&rt, alloc) {
         Ok((pool, _none)) => {
             pool.close(&rt);
-            assert_eq!(rt; begun.load(Ordering::SeqCst), 4);
+            same(&rt, begun.load(Ordering::SeqCst), 4);
             assert!(rt; becomes(&rt, &ended, 1));
         }
         Err(ThreadPoolBuildError::Memory | ThreadPoolBuildError::Spawn) => {
-            assert_eq!(rt;
+            row(
+                &rt,
+                "no worker has the handler",
                 ended.load(Ordering::SeqCst),
                 1,
-                "no worker has the handler"
             );
             let begun = begun.load(Ordering::SeqCst);
             assert!(rt; begun < 4, "a worker was refused, and {begun} have begun");
-            eprintln!(rt; "a build was refused of which {begun} workers had begun")?;
+            let _told = eprintln!(rt; "a build was refused of which {begun} workers had begun");
         }
     }
-    Ok(())
 }
 
 // A job that adds a unit to a word.
@@ -129,14 +125,14 @@ fn adds(alloc: Global, word: &Arc<AtomicU64>, unit: u64) -> Option<OwnedJob> {
 }
 
 #[test]
-fn a_refused_job_comes_back_and_runs_when_called(rt: HostRuntime) -> Result<(), Fail> {
+fn a_refused_job_comes_back_and_runs_when_called(rt: HostRuntime) {
     let alloc = rt.alloc();
     let builder = ThreadPoolBuilder::new().num_threads(1);
     let (Ok(called), Ok((pool, _none))) = (
         Arc::new(alloc, AtomicU64::new(0)),
         builder.build(&rt, alloc),
     ) else {
-        return Ok(());
+        return;
     };
     let mut boxed = 0u64;
     for _ in 0..140 {
@@ -145,19 +141,18 @@ fn a_refused_job_comes_back_and_runs_when_called(rt: HostRuntime) -> Result<(), 
         };
         boxed = boxed.wrapping_add(1);
         if let Err((fault, job)) = pool.spawn(&rt, job) {
-            assert_eq!(rt; fault, Fault::Memory);
+            same(&rt, fault, Fault::Memory);
             assert!(rt;
                 becomes(&rt, &called, boxed.wrapping_sub(1)),
                 "it isn't called yet"
             );
-            eprintln!(rt; "job {boxed} was refused")?;
+            let _told = eprintln!(rt; "job {boxed} was refused");
             job.call(0);
         }
         assert!(rt; becomes(&rt, &called, boxed));
     }
     pool.close(&rt);
-    assert_eq!(rt; called.load(Ordering::SeqCst), boxed);
-    Ok(())
+    same(&rt, called.load(Ordering::SeqCst), boxed);
 }
 
 // What the first so many of the four broadcast jobs add, each called once.
@@ -197,31 +192,28 @@ fn come_in_order(rt: &impl Clock, refused: VecDeque<OwnedJob>, called: &AtomicU6
 }
 
 #[test]
-fn jobs_that_were_not_broadcast_come_back_in_order(rt: HostRuntime) -> Result<(), Fail> {
+fn jobs_that_were_not_broadcast_come_back_in_order(rt: HostRuntime) {
     let alloc = rt.alloc();
     let builder = ThreadPoolBuilder::new().num_threads(4);
     let (Ok(called), Ok((pool, _none))) = (
         Arc::new(alloc, AtomicU64::new(0)),
         builder.build(&rt, alloc),
     ) else {
-        return Ok(());
+        return;
     };
     let Some(jobs) = four_jobs(alloc, &called) else {
-        return Ok(());
+        return;
     };
     assert!(rt; jobs.len() == pool.current_num_threads());
     if let Err((fault, refused)) = pool.spawn_broadcast(&rt, jobs) {
-        assert_eq!(rt; fault, Fault::Memory);
-        eprintln!(rt;
-            "broadcast job {} was refused",
-            4usize.saturating_sub(refused.len())
-        )?;
+        same(&rt, fault, Fault::Memory);
+        let job = 4usize.saturating_sub(refused.len());
+        let _told = eprintln!(rt; "broadcast job {job} was refused");
         assert!(rt;
             come_in_order(&rt, refused, &called),
             "those before it are called"
         );
     }
     pool.close(&rt);
-    assert_eq!(rt; called.load(Ordering::SeqCst), of_first(4), "each once");
-    Ok(())
+    row(&rt, "each once", called.load(Ordering::SeqCst), of_first(4));
 }

@@ -5,13 +5,13 @@ ghost use Rattle.parallel_pool.specs.Latch.{IsSeatOf};
 
 use crate::pool::count_latches::give_one;
 use crate::pool::latches::core_latch;
+use crate::same::same;
 use crossbeam_utils::sync::Parker;
 use parallel_pool::latch::{CoreLatch, CountLatch, CountShare, LatchSeat, LockLatch};
 use parallel_pool::sleep::Sleep;
 use std::num::NonZeroUsize;
 use std::sync::Wait;
 use std::sync::atomic::{AtomicU64, Ordering};
-use std::test::Fail;
 use std::thread::join;
 
 #[test]
@@ -26,7 +26,7 @@ fn a_lock_latch_ends_a_wait(rt: HostRuntime) {
         },
         || latch.set(&rt),
     );
-    assert_eq!(rt; passed.load(Ordering::SeqCst), 1);
+    same(&rt, passed.load(Ordering::SeqCst), 1);
     latch.wait_and_reset(&rt);
     latch.set(&rt);
     latch.wait(&rt);
@@ -47,12 +47,11 @@ pub(crate) fn give_all(latch: &CountLatch, mut shares: Vec<CountShare>) -> u32
 }
 
 #[test]
-fn a_count_latch_ends_a_wait(rt: HostRuntime) -> Result<(), Fail> {
+fn a_count_latch_ends_a_wait(rt: HostRuntime) {
     let many = NonZeroUsize::MIN.saturating_add(99);
-    let (latch, shares) = CountLatch::with_count(rt.alloc(), many)?;
+    let (latch, shares) = CountLatch::with_count(rt.alloc(), many).expect(&rt, "memory");
     let (_seen, last) = join(&rt, || latch.wait(&rt), || give_all(&latch, shares));
-    assert_eq!(rt; last, 1);
-    Ok(())
+    same(&rt, last, 1);
 }
 
 // An idle worker, until it has slept and was woken. It answers whether it got so far.
@@ -90,10 +89,10 @@ fn await_sleeper<R: Wait>(rt: &R, sleep: &Sleep) {
 }
 
 #[test]
-fn new_jobs_wake_a_sleeper(rt: HostRuntime) -> Result<(), Fail> {
-    let (sleep, mut parkers) = Sleep::new(rt.alloc(), NonZeroUsize::MIN)?;
-    let parker = parkers.pop().ok_or("a parker")?;
-    let (latch, seat) = core_latch(rt.alloc())?;
+fn new_jobs_wake_a_sleeper(rt: HostRuntime) {
+    let (sleep, mut parkers) = Sleep::new(rt.alloc(), NonZeroUsize::MIN).expect(&rt, "memory");
+    let parker = parkers.pop().expect(&rt, "a parker");
+    let (latch, seat) = core_latch(&rt, rt.alloc());
     let (wait, asleep, until) = (&rt, &sleep, &latch);
     let (woken, ()) = join(
         &rt,
@@ -105,15 +104,14 @@ fn new_jobs_wake_a_sleeper(rt: HostRuntime) -> Result<(), Fail> {
     );
     assert!(rt; woken);
     sleep.new_internal_jobs(&rt, 1, false);
-    assert_eq!(rt; sleep.counters(&rt).word(), 4_294_967_296);
-    Ok(())
+    same(&rt, sleep.counters(&rt).word(), 4_294_967_296);
 }
 
 #[test]
-fn a_latch_that_is_set_wakes_its_sleeper(rt: HostRuntime) -> Result<(), Fail> {
-    let (sleep, mut parkers) = Sleep::new(rt.alloc(), NonZeroUsize::MIN)?;
-    let parker = parkers.pop().ok_or("a parker")?;
-    let (latch, seat) = core_latch(rt.alloc())?;
+fn a_latch_that_is_set_wakes_its_sleeper(rt: HostRuntime) {
+    let (sleep, mut parkers) = Sleep::new(rt.alloc(), NonZeroUsize::MIN).expect(&rt, "memory");
+    let parker = parkers.pop().expect(&rt, "a parker");
+    let (latch, seat) = core_latch(&rt, rt.alloc());
     let (wait, asleep, until) = (&rt, &sleep, &latch);
     let (woken, ()) = join(
         &rt,
@@ -124,6 +122,5 @@ fn a_latch_that_is_set_wakes_its_sleeper(rt: HostRuntime) -> Result<(), Fail> {
         },
     );
     assert!(rt; woken);
-    assert_eq!(rt; sleep.counters(&rt).word(), 0);
-    Ok(())
+    same(&rt, sleep.counters(&rt).word(), 0);
 }

@@ -1,5 +1,6 @@
 // Batches: in which ranges their indices go.
 use crate::beyond::ranges_at_pool;
+use crate::tests::same::{answers, lists, row, same};
 use crate::tests::strategies::{SITE, number, pool};
 use commonware_parallel::{Batches, Fault, Sequential, Strategy, Trouble};
 use std::alloc::Global;
@@ -16,13 +17,13 @@ fn balanced_ranges_differ_by_one_at_most(rt: HostRuntime) {
     let four = Batches::balanced(alloc, &Sequential, SITE, 10, number(&rt, 4)).expect(
         &rt, "memory",
     );
-    assert_eq!(rt; four.ranges(), [0..3, 3..6, 6..8, 8..10].as_slice());
+    same(&rt, four.ranges(), [0..3, 3..6, 6..8, 8..10].as_slice());
     assert!(rt; !four.is_whole());
     let one = Batches::balanced(alloc, &Sequential, SITE, 10, number(&rt, 1)).expect(&rt, "memory");
-    assert_eq!(rt; one.ranges(), [0..10].as_slice());
+    same(&rt, one.ranges(), [0..10].as_slice());
     assert!(rt; one.is_whole());
     let none = Batches::whole(alloc, &Sequential, SITE, 0).expect(&rt, "memory");
-    assert_eq!(rt; none.ranges(), [0..0].as_slice());
+    same(&rt, none.ranges(), [0..0].as_slice());
     assert!(rt; none.is_whole());
 }
 
@@ -30,20 +31,42 @@ fn balanced_ranges_differ_by_one_at_most(rt: HostRuntime) {
 fn a_batch_has_as_many_ranges_as_are_planned(rt: HostRuntime) {
     let alloc = rt.alloc();
     let four = pool(&rt, alloc, 1, 4);
-    let ranges = batch_ranges(&rt, alloc, &four, SITE, 16, number(&rt, 1)).expect(&rt, "memory");
-    assert_eq!(rt; ranges.as_slice(), [0..4, 4..8, 8..12, 12..16].as_slice());
-    let ranges = batch_ranges(&rt, alloc, &four, SITE, 16, number(&rt, 5)).expect(&rt, "memory");
-    assert_eq!(rt; ranges.as_slice(), [0..6, 6..11, 11..16].as_slice());
-    let ranges = batch_ranges(&rt, alloc, &four, SITE, 16, number(&rt, 9)).expect(&rt, "memory");
-    assert_eq!(rt; ranges.as_slice(), [0..16].as_slice());
-    let ranges = batch_ranges(&rt, alloc, &four, SITE, 0, number(&rt, 1)).expect(&rt, "memory");
-    assert_eq!(rt; ranges.as_slice(), [0..0].as_slice());
-    let ranges = ranges_at_pool(&rt, alloc, &four, SITE, 16, number(&rt, 5)).expect(&rt, "memory");
-    assert_eq!(rt; ranges.as_slice(), [0..6, 6..11, 11..16].as_slice());
-    let ranges = batch_ranges(&rt, alloc, &Sequential, SITE, 16, number(&rt, 1)).expect(
-        &rt, "memory",
+    lists(
+        &rt,
+        1,
+        batch_ranges(&rt, alloc, &four, SITE, 16, number(&rt, 1)),
+        &[0..4, 4..8, 8..12, 12..16],
     );
-    assert_eq!(rt; ranges.as_slice(), [0..16].as_slice());
+    lists(
+        &rt,
+        2,
+        batch_ranges(&rt, alloc, &four, SITE, 16, number(&rt, 5)),
+        &[0..6, 6..11, 11..16],
+    );
+    lists(
+        &rt,
+        3,
+        batch_ranges(&rt, alloc, &four, SITE, 16, number(&rt, 9)),
+        &[0..16],
+    );
+    lists(
+        &rt,
+        4,
+        batch_ranges(&rt, alloc, &four, SITE, 0, number(&rt, 1)),
+        &[0..0],
+    );
+    lists(
+        &rt,
+        5,
+        ranges_at_pool(&rt, alloc, &four, SITE, 16, number(&rt, 5)),
+        &[0..6, 6..11, 11..16],
+    );
+    lists(
+        &rt,
+        6,
+        batch_ranges(&rt, alloc, &Sequential, SITE, 16, number(&rt, 1)),
+        &[0..16],
+    );
 }
 
 #[test]
@@ -64,21 +87,27 @@ fn a_batch_has_no_range_below_the_minimum(rt: HostRuntime) {
         let ranges = batch_ranges(&rt, rt.alloc(), &eight, SITE, len, number(&rt, minimum)).expect(
             &rt, "memory",
         );
-        assert_eq!(rt; ranges.len(), count, "{len} by {minimum}");
+        row(&rt, (len, minimum), ranges.len(), count);
     }
 }
 
 #[test]
 fn a_batch_looks_into_a_list_by_its_ranges(rt: HostRuntime) {
     let flags = [true, false, true, true, false];
-    assert_eq!(rt;
-        count_by_ranges(&rt, rt.alloc(), &Sequential, SITE, &flags).expect(&rt, "memory"),
-        3
+    answers(
+        &rt,
+        1,
+        count_by_ranges(&rt, rt.alloc(), &Sequential, SITE, &flags),
+        3,
     );
     for threads in 1..9usize {
         let strategy = pool(&rt, rt.alloc(), 1, threads);
-        let count = count_by_ranges(&rt, rt.alloc(), &strategy, SITE, &flags).expect(&rt, "memory");
-        assert_eq!(rt; count, 3, "{threads} threads");
+        answers(
+            &rt,
+            threads,
+            count_by_ranges(&rt, rt.alloc(), &strategy, SITE, &flags),
+            3,
+        );
     }
 }
 
@@ -105,23 +134,45 @@ fn an_input_that_is_not_split_runs_whole_and_once(rt: HostRuntime) {
     let one_thread = pool(&rt, alloc, 1, 1);
     let four_threads = pool(&rt, alloc, 4, 4);
     for len in [0, 1, 7, 8, 15] {
-        let serial = whole_and_calls(&rt, alloc, &Sequential, len, eight).expect(&rt, "memory");
-        assert_eq!(rt; serial, (true, 1), "{len}");
-        let one = whole_and_calls(&rt, alloc, &one_thread, len, eight).expect(&rt, "memory");
-        assert_eq!(rt; one, (true, 1), "{len}");
-        let four = whole_and_calls(&rt, alloc, &four_threads, len, eight).expect(&rt, "memory");
-        assert_eq!(rt; four, (true, 1), "{len}");
+        answers(
+            &rt,
+            ("serial", len),
+            whole_and_calls(&rt, alloc, &Sequential, len, eight),
+            (true, 1),
+        );
+        answers(
+            &rt,
+            ("one", len),
+            whole_and_calls(&rt, alloc, &one_thread, len, eight),
+            (true, 1),
+        );
+        answers(
+            &rt,
+            ("four", len),
+            whole_and_calls(&rt, alloc, &four_threads, len, eight),
+            (true, 1),
+        );
     }
     let least = NonZeroUsize::MIN;
     let greatest = NonZeroUsize::MAX;
-    let serial = whole_and_calls(&rt, alloc, &Sequential, usize::MAX, least).expect(&rt, "memory");
-    assert_eq!(rt; serial, (true, 1));
-    let one = whole_and_calls(&rt, alloc, &one_thread, usize::MAX, least).expect(&rt, "memory");
-    assert_eq!(rt; one, (true, 1));
-    let four = whole_and_calls(&rt, alloc, &four_threads, usize::MAX, greatest).expect(
-        &rt, "memory",
+    answers(
+        &rt,
+        1,
+        whole_and_calls(&rt, alloc, &Sequential, usize::MAX, least),
+        (true, 1),
     );
-    assert_eq!(rt; four, (true, 1));
+    answers(
+        &rt,
+        2,
+        whole_and_calls(&rt, alloc, &one_thread, usize::MAX, least),
+        (true, 1),
+    );
+    answers(
+        &rt,
+        3,
+        whole_and_calls(&rt, alloc, &four_threads, usize::MAX, greatest),
+        (true, 1),
+    );
 }
 
 #[test]
@@ -168,12 +219,7 @@ fn mapped_starts<Rt: Threads + Wait + Sync, S: Strategy>(
 #[test]
 fn a_batch_maps_what_is_prepared_of_its_ranges(rt: HostRuntime) {
     let alloc = rt.alloc();
-    assert_eq!(rt;
-        mapped_starts(&rt, alloc, &Sequential)
-            .expect(&rt, "memory")
-            .as_slice(),
-        [1].as_slice()
-    );
+    lists(&rt, 1, mapped_starts(&rt, alloc, &Sequential), &[1]);
     for planned in [2, 3, 4] {
         let strategy = pool(&rt, alloc, 2, planned);
         let mapped = mapped_starts(&rt, alloc, &strategy).expect(&rt, "memory");
@@ -182,7 +228,7 @@ fn a_batch_maps_what_is_prepared_of_its_ranges(rt: HostRuntime) {
             3 => [1, 5, 8].as_slice(),
             _ => [1, 4, 7, 9].as_slice(),
         };
-        assert_eq!(rt; mapped.as_slice(), expected, "{planned} ranges");
+        row(&rt, planned, mapped.as_slice(), expected);
     }
 }
 
@@ -214,11 +260,11 @@ fn starts_below<Rt: Threads + Wait + Sync, S: Strategy>(
 fn the_first_prepared_item_that_fails_is_the_error(rt: HostRuntime) {
     let alloc = rt.alloc();
     let strategy = pool(&rt, alloc, 2, 4);
-    assert_eq!(rt;
-        starts_below(&rt, alloc, &strategy, 10)
-            .expect(&rt, "memory")
-            .as_slice(),
-        [0, 3, 6, 8].as_slice()
+    lists(
+        &rt,
+        1,
+        starts_below(&rt, alloc, &strategy, 10),
+        &[0, 3, 6, 8],
     );
     let failed = starts_below(&rt, alloc, &strategy, 4);
     assert!(rt; matches!(failed, Err(Trouble::Closure(6))));
@@ -243,7 +289,7 @@ fn what_is_not_prepared_is_not_mapped(rt: HostRuntime) {
         Ok(calls.fetch_add(1, Ordering::SeqCst))
     });
     assert!(rt; matches!(refused, Err(Trouble::Fault(Fault::Worker))));
-    assert_eq!(rt; calls.load(Ordering::SeqCst), 0);
+    same(&rt, calls.load(Ordering::SeqCst), 0);
 }
 
 // The number of ranges, or the first index of the second range.
@@ -272,10 +318,7 @@ fn ranges_or_second<Rt: Wait, S: Strategy>(
 #[test]
 fn a_batch_answers_its_closures_error(rt: HostRuntime) {
     let alloc = rt.alloc();
-    assert_eq!(rt;
-        ranges_or_second(&rt, alloc, &Sequential).expect(&rt, "memory"),
-        1
-    );
+    answers(&rt, 1, ranges_or_second(&rt, alloc, &Sequential), 1);
     let strategy = pool(&rt, alloc, 1, 4);
     let failed = ranges_or_second(&rt, alloc, &strategy);
     assert!(rt; matches!(failed, Err(Trouble::Closure(3))));

@@ -1,4 +1,6 @@
 // The program's command lines, its refusals, and writers that fail.
+use crate::tests::same::{answers, row, same};
+use crate::tests::strategies::number;
 use parallel_fault::Fault;
 use parallel_shares::Shares;
 use shapes_command::drain::{drain, gather};
@@ -7,6 +9,7 @@ use std::alloc::{AllocError, Global};
 use std::io;
 use std::io::{ErrorKind, Write};
 use std::num::NonZeroUsize;
+use std::process::Abort;
 use std::sync::Wait;
 use std::test::Fail;
 use std::thread::Threads;
@@ -31,16 +34,37 @@ fn words_of(alloc: Global, line: &str) -> Result<Vec<String>, AllocError> {
 }
 
 // Runs the words of the line.
-fn run<R: Threads + Wait + Sync>(rt: &R, alloc: Global, line: &str) -> Result<Ran, Fail> {
-    let words = words_of(alloc, line)?;
+fn run<R: Threads + Wait + Abort + Sync>(rt: &R, alloc: Global, line: &str) -> Ran {
+    let words = words_of(alloc, line).expect(rt, "memory");
     let mut out = Vec::new(alloc);
     let mut err = Vec::new(alloc);
-    let status = command(rt, alloc, &words, &mut out, &mut err)?;
-    Ok(Ran {
+    let status = command(rt, alloc, &words, &mut out, &mut err).expect(rt, "writers that write");
+    Ran {
         status,
-        out: String::from_utf8(out)?,
-        err: String::from_utf8(err)?,
-    })
+        out: text_of(rt, out),
+        err: text_of(rt, err),
+    }
+}
+
+// The text that was written.
+fn text_of(rt: &impl Abort, written: Vec<u8>) -> String {
+    String::from_utf8(written).expect(rt, "a text")
+}
+
+// Runs the words of the line, which have to leave this status and these texts.
+fn leaves<R: Threads + Wait + Abort + Sync>(
+    rt: &R,
+    alloc: Global,
+    line: &str,
+    wanted: (u8, &str, &str),
+) {
+    let ran = run(rt, alloc, line);
+    row(
+        rt,
+        line,
+        (ran.status, ran.out.as_str(), ran.err.as_str()),
+        wanted,
+    );
 }
 
 // A writer that refuses each write.
@@ -58,7 +82,7 @@ impl Write for Closed {
 }
 
 #[test]
-fn each_command_answers_one_line(rt: HostRuntime) -> Result<(), Fail> {
+fn each_command_answers_one_line(rt: HostRuntime) {
     for (line, answer) in [
         ("", "0 1 2 3\n"),
         ("drain 4 2", "0 1 2 3\n"),
@@ -127,28 +151,38 @@ fn each_command_answers_one_line(rt: HostRuntime) -> Result<(), Fail> {
             "1244984759\n",
         ),
     ] {
-        let ran = run(&rt, rt.alloc(), line)?;
-        assert_eq!(rt; ran.status, 0, "at {line:?}: {ran:?}");
-        assert_eq!(rt; ran.out.as_str(), answer, "at {line:?}");
-        assert_eq!(rt; ran.err.as_str(), "", "at {line:?}");
+        leaves(&rt, rt.alloc(), line, (0, answer, ""));
     }
-    Ok(())
+}
+
+// How many words a command with a long answer leaves, where its answer begins and ends with these texts.
+fn words_left<R: Threads + Wait + Abort + Sync>(
+    rt: &R,
+    alloc: Global,
+    line: &str,
+    first: &str,
+    last: &str,
+) -> usize {
+    let ran = run(rt, alloc, line);
+    row(rt, line, ran.status, 0);
+    assert!(rt;
+        ran.out.starts_with(first) && ran.out.ends_with(last),
+        "{line}"
+    );
+    ran.out.split(' ').count()
 }
 
 #[test]
-fn the_widest_commands_answer(rt: HostRuntime) -> Result<(), Fail> {
-    let rows = run(&rt, rt.alloc(), "drain 65535 16")?;
-    assert_eq!(rt; rows.status, 0);
-    assert_eq!(rt; rows.out.split(' ').count(), 65_535);
-    assert!(rt; rows.out.starts_with("0 1 2 ") && rows.out.ends_with(" 65533 65534\n"));
-    let ranges = run(&rt, rt.alloc(), "batches 18446744073709551615 65535")?;
-    assert_eq!(rt; ranges.status, 0);
-    assert_eq!(rt; ranges.out.split(' ').count(), 65_535);
-    assert!(rt; ranges.out.ends_with("..18446744073709551615\n"));
-    let lengths = run(&rt, rt.alloc(), "segments 65535 18446744073709551615")?;
-    assert_eq!(rt; lengths.status, 0);
-    assert_eq!(rt; lengths.out.split(' ').count(), 65_536);
-    Ok(())
+fn the_widest_commands_answer(rt: HostRuntime) {
+    let alloc = rt.alloc();
+    let rows = words_left(&rt, alloc, "drain 65535 16", "0 1 2 ", " 65533 65534\n");
+    row(&rt, 1, rows, 65_535);
+    let line = "batches 18446744073709551615 65535";
+    let ranges = words_left(&rt, alloc, line, "0..", "..18446744073709551615\n");
+    row(&rt, 2, ranges, 65_535);
+    let line = "segments 65535 18446744073709551615";
+    let lengths = words_left(&rt, alloc, line, "", "\n");
+    row(&rt, 3, lengths, 65_536);
 }
 
 // The line of a fold of so many items, each the greatest number, from the greatest identity.
@@ -161,19 +195,16 @@ fn widest_fold(alloc: Global, items: usize) -> Result<String, AllocError> {
 }
 
 #[test]
-fn a_fold_takes_a_thousand_items(rt: HostRuntime) -> Result<(), Fail> {
+fn a_fold_takes_a_thousand_items(rt: HostRuntime) {
     let alloc = rt.alloc();
-    let widest = run(&rt, alloc, &widest_fold(alloc, 1_000)?)?;
-    assert_eq!(rt; (widest.status, widest.err.as_str()), (0, ""));
-    assert_eq!(rt; widest.out.as_str(), "1001000000\n");
-    let wider = run(&rt, alloc, &widest_fold(alloc, 1_001)?)?;
-    assert_eq!(rt; (wider.status, wider.out.as_str()), (2, ""));
-    assert_eq!(rt; wider.err.as_str(), "shapes: bad arguments\n");
-    Ok(())
+    let widest = widest_fold(alloc, 1_000).expect(&rt, "memory");
+    leaves(&rt, alloc, &widest, (0, "1001000000\n", ""));
+    let wider = widest_fold(alloc, 1_001).expect(&rt, "memory");
+    leaves(&rt, alloc, &wider, (2, "", "shapes: bad arguments\n"));
 }
 
 #[test]
-fn other_words_are_bad_arguments(rt: HostRuntime) -> Result<(), Fail> {
+fn other_words_are_bad_arguments(rt: HostRuntime) {
     for line in [
         "drain",
         "drain 4",
@@ -262,28 +293,15 @@ fn other_words_are_bad_arguments(rt: HostRuntime) -> Result<(), Fail> {
         "help",
         " ",
     ] {
-        let ran = run(&rt, rt.alloc(), line)?;
-        assert_eq!(rt; ran.status, 2, "at {line:?}: {ran:?}");
-        assert_eq!(rt; ran.out.as_str(), "", "at {line:?}");
-        assert_eq!(rt; ran.err.as_str(), "shapes: bad arguments\n", "at {line:?}");
+        leaves(&rt, rt.alloc(), line, (2, "", "shapes: bad arguments\n"));
     }
-    Ok(())
 }
 
 #[test]
-fn a_search_tells_the_sum_or_the_difference(rt: HostRuntime) -> Result<(), Fail> {
-    let sum = run(&rt, rt.alloc(), "explore sum")?;
-    assert_eq!(rt; sum.status, 0, "{sum:?}");
-    assert_eq!(rt; sum.out.as_str(), "4950\n");
-    assert_eq!(rt; sum.err.as_str(), "");
-    let bodies = run(&rt, rt.alloc(), "explore bodies")?;
-    assert_eq!(rt; bodies.status, 1, "{bodies:?}");
-    assert_eq!(rt; bodies.out.as_str(), "");
-    assert_eq!(rt;
-        bodies.err.as_str(),
-        "shapes: the Parallel run must return the serial run's output\n"
-    );
-    Ok(())
+fn a_search_tells_the_sum_or_the_difference(rt: HostRuntime) {
+    leaves(&rt, rt.alloc(), "explore sum", (0, "4950\n", ""));
+    let told = "shapes: the Parallel run must return the serial run's output\n";
+    leaves(&rt, rt.alloc(), "explore bodies", (1, "", told));
 }
 
 // A writer that takes one byte at a time.
@@ -309,7 +327,7 @@ impl Write for Narrow {
 }
 
 #[test]
-fn a_line_is_written_in_parts(rt: HostRuntime) -> Result<(), Fail> {
+fn a_line_is_written_in_parts(rt: HostRuntime) {
     let alloc = rt.alloc();
     let mut out = Narrow {
         taken: Vec::new(alloc),
@@ -317,42 +335,40 @@ fn a_line_is_written_in_parts(rt: HostRuntime) -> Result<(), Fail> {
     let mut err = Narrow {
         taken: Vec::new(alloc),
     };
-    assert_eq!(rt; command(&rt, alloc, &[], &mut out, &mut err)?, 0);
-    let unknown = [String::from_str(alloc, "unknown")?];
-    assert_eq!(rt; command(&rt, alloc, &unknown, &mut out, &mut err)?, 2);
-    assert_eq!(rt; String::from_utf8(out.taken)?.as_str(), "0 1 2 3\n");
-    assert_eq!(rt;
-        String::from_utf8(err.taken)?.as_str(),
-        "shapes: bad arguments\n"
+    answers(&rt, 1, command(&rt, alloc, &[], &mut out, &mut err), 0);
+    let unknown = words_of(alloc, "unknown").expect(&rt, "memory");
+    answers(&rt, 2, command(&rt, alloc, &unknown, &mut out, &mut err), 2);
+    same(&rt, text_of(&rt, out.taken).as_str(), "0 1 2 3\n");
+    same(
+        &rt,
+        text_of(&rt, err.taken).as_str(),
+        "shapes: bad arguments\n",
     );
-    Ok(())
 }
 
 #[test]
-fn a_failed_write_is_named_and_is_status_one(rt: HostRuntime) -> Result<(), Fail> {
+fn a_failed_write_is_named_and_is_status_one(rt: HostRuntime) {
     let alloc = rt.alloc();
     let mut kept = Vec::new(alloc);
     let error = command(&rt, alloc, &[], &mut Closed, &mut kept).expect_err(&rt, "a closed writer");
-    assert_eq!(rt; error.kind(), ErrorKind::BrokenPipe);
-    assert_eq!(rt; kept.len(), 0);
-    let unknown = [String::from_str(alloc, "unknown")?];
+    same(&rt, error.kind(), ErrorKind::BrokenPipe);
+    row(&rt, 1, kept.len(), 0);
+    let unknown = words_of(alloc, "unknown").expect(&rt, "memory");
     let answered = command(&rt, alloc, &unknown, &mut kept, &mut Closed);
     assert!(rt; answered.is_err());
-    assert_eq!(rt; kept.len(), 0);
-    assert_eq!(rt; unwritten(&error, &mut Closed), 1);
-    assert_eq!(rt; unwritten(&error, &mut kept), 1);
-    assert_eq!(rt; String::from_utf8(kept)?.as_str(), "shapes: broken pipe\n");
-    Ok(())
+    row(&rt, 2, kept.len(), 0);
+    row(&rt, 3, unwritten(&error, &mut Closed), 1);
+    row(&rt, 4, unwritten(&error, &mut kept), 1);
+    same(&rt, text_of(&rt, kept).as_str(), "shapes: broken pipe\n");
 }
 
 // What the line of a refusal says is the refusal's own text.
 #[test]
-fn a_refusal_says_its_text(rt: HostRuntime) -> Result<(), Fail> {
+fn a_refusal_says_its_text(rt: HostRuntime) {
     let mut err = Vec::new(rt.alloc());
-    assert_eq!(rt; out_of_memory(&mut err)?, 1);
-    let line = format!(in rt.alloc(); "shapes: {}\n", Fault::Memory)?;
-    assert_eq!(rt; String::from_utf8(err)?.as_str(), line.as_str());
-    Ok(())
+    answers(&rt, 1, out_of_memory(&mut err), 1);
+    let line = format!(in rt.alloc(); "shapes: {}\n", Fault::Memory).expect(&rt, "memory");
+    same(&rt, text_of(&rt, err).as_str(), line.as_str());
 }
 
 // Run with `rt try --test --fail-alloc N` for each N: a refused growth leaves no answer, half or whole.
@@ -381,43 +397,38 @@ fn a_refused_growth_leaves_no_answer(rt: HostRuntime) -> Result<(), Fail> {
         };
         let status = command(&rt, alloc, &words, &mut out, &mut err)?;
         let (out, err) = (String::from_utf8(out)?, String::from_utf8(err)?);
-        if status == 0 {
-            assert_eq!(rt; (out.as_str(), err.as_str()), (answer, ""), "at {line:?}");
+        let wanted = if status == 0 {
+            (answer, "")
         } else {
-            assert_eq!(rt;
-                (out.as_str(), err.as_str()),
-                ("", "shapes: out of memory\n"),
-                "at {line:?}"
-            );
-        }
+            ("", "shapes: out of memory\n")
+        };
+        row(&rt, line, (out.as_str(), err.as_str()), wanted);
     }
     Ok(())
 }
 
 #[test]
-fn words_that_could_not_be_read(rt: HostRuntime) -> Result<(), Fail> {
+fn words_that_could_not_be_read(rt: HostRuntime) {
     let mut err = Vec::new(rt.alloc());
-    assert_eq!(rt; unread(ErrorKind::InvalidData, &mut err)?, 2);
-    assert_eq!(rt; unread(ErrorKind::OutOfMemory, &mut err)?, 1);
-    assert_eq!(rt;
-        String::from_utf8(err)?.as_str(),
-        "shapes: bad arguments\nshapes: out of memory\n"
-    );
-    Ok(())
+    answers(&rt, 1, unread(ErrorKind::InvalidData, &mut err), 2);
+    answers(&rt, 2, unread(ErrorKind::OutOfMemory, &mut err), 1);
+    let said = "shapes: bad arguments\nshapes: out of memory\n";
+    same(&rt, text_of(&rt, err).as_str(), said);
 }
 
 // Two threads with a seat each, where threads can be made, claim from one queue of a thousand rows of three cells.
 #[test]
-fn threads_of_a_caller_claim_each_cell_once(rt: HostRuntime) -> Result<(), Fail> {
+fn threads_of_a_caller_claim_each_cell_once(rt: HostRuntime) {
     let alloc = rt.alloc();
-    let two = NonZeroUsize::new(2).expect(&rt, "a number above 0");
-    let (shares, seats) = Shares::new(alloc, 1_000, 3, NonZeroUsize::MIN, two, true)?;
-    let drained = drain(&rt, alloc, &shares, seats)?;
-    assert_eq!(rt; drained.len(), 2);
-    let (words, mut cells) = gather(alloc, shares, drained)?;
+    let two = number(&rt, 2);
+    let (shares, seats) = Shares::new(alloc, 1_000, 3, NonZeroUsize::MIN, two, true).expect(
+        &rt, "memory",
+    );
+    let drained = drain(&rt, alloc, &shares, seats).expect(&rt, "memory");
+    same(&rt, drained.len(), 2);
+    let (words, mut cells) = gather(alloc, shares, drained).expect(&rt, "memory");
     cells.sort_unstable();
-    assert_eq!(rt; words.as_slice(), [65_537_000].as_slice());
-    assert_eq!(rt; cells.len(), 3_000);
+    same(&rt, words.as_slice(), [65_537_000].as_slice());
+    same(&rt, cells.len(), 3_000);
     assert!(rt; cells.iter().enumerate().all(|(index, cell)| index == *cell));
-    Ok(())
 }

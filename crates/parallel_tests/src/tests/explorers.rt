@@ -1,6 +1,7 @@
 // Explorers: what they pick, and what the search through the rules answers.
 ghost use Rattle.parallel_shares.specs.Grid.{Fits};
 
+use crate::tests::same::{answers, same};
 use crate::tests::strategies::{SITE, Stopped, number, pool};
 use commonware_parallel::mocks::{
     ExploreError, Explorer, Rule, TASKS, WORKERS, explore, inline, mix, pick, pooled,
@@ -79,17 +80,21 @@ fn a_seed_picks_the_body_and_the_number_of_ranges(rt: HostRuntime) {
         (3, "serial", 5),
     ] {
         let explorer = by_seed(&rt, alloc, seed);
-        assert_eq!(rt; explorer.rule(), Rule::Seeded(seed));
-        let ran = explorer
-            .run(&rt, alloc, PLACE, 64, || "serial", || "parallel")
-            .expect(&rt, "memory");
-        assert_eq!(rt; ran, body, "seed {seed}");
-        let ranges = explorer
-            .run_batches(&rt, alloc, PLACE, 64, number(&rt, 1), 1, |batches| {
+        same(&rt, explorer.rule(), Rule::Seeded(seed));
+        answers(
+            &rt,
+            seed,
+            explorer.run(&rt, alloc, PLACE, 64, || "serial", || "parallel"),
+            body,
+        );
+        answers(
+            &rt,
+            seed,
+            explorer.run_batches(&rt, alloc, PLACE, 64, number(&rt, 1), 1, |batches| {
                 batches.ranges().len()
-            })
-            .expect(&rt, "memory");
-        assert_eq!(rt; ranges, count, "seed {seed}");
+            }),
+            count,
+        );
     }
     let first = by_seed(&rt, alloc, 0);
     let same = first
@@ -110,12 +115,14 @@ fn a_seed_picks_the_number_of_workers_of_tiles(rt: HostRuntime) {
     assert!(rt; Grid::fits(&grids, 64));
     for (seed, workers) in [(0, 5), (1, 8), (2, 3), (3, 5)] {
         let explorer = by_seed(&rt, alloc, seed);
-        let planned = explorer
-            .run_tiles(&rt, alloc, PLACE, 64, &grids, 1, |tiles| {
+        answers(
+            &rt,
+            seed,
+            explorer.run_tiles(&rt, alloc, PLACE, 64, &grids, 1, |tiles| {
                 tiles.workers().get()
-            })
-            .expect(&rt, "memory");
-        assert_eq!(rt; planned, workers, "seed {seed}");
+            }),
+            workers,
+        );
     }
 }
 
@@ -158,11 +165,14 @@ fn tiles_and_sorts_come_out_alike_by_every_rule(rt: HostRuntime) {
         tile_cost: number(&rt, 3),
     }];
     assert!(rt; Grid::fits(&grids, 100));
-    let cells = explore(&rt, alloc, |explorer| {
-        cells_filled(&rt, alloc, explorer, &grids).ok()
-    })
-    .expect(&rt, "memory");
-    assert_eq!(rt; cells, Some(900));
+    answers(
+        &rt,
+        1,
+        explore(&rt, alloc, |explorer| {
+            cells_filled(&rt, alloc, explorer, &grids).ok()
+        }),
+        Some(900),
+    );
     let mut numbers = Vec::new(alloc);
     for n in 0..20_000_u64 {
         numbers
@@ -193,19 +203,21 @@ fn an_explorer_keeps_the_numbers_and_asks_no_policy(rt: HostRuntime) {
         &rt, "memory",
     );
     let explorer = Explorer::parallel(&strategy).expect(&rt, "memory");
-    assert_eq!(rt; explorer.thread_number().get(), 2);
-    assert_eq!(rt; explorer.planning().get(), 3);
+    same(&rt, explorer.thread_number().get(), 2);
+    same(&rt, explorer.planning().get(), 3);
     for _ in 0..4 {
-        let ran = explorer
-            .run(&rt, alloc, SITE, 64, || "serial", || "parallel")
-            .expect(&rt, "memory");
-        assert_eq!(rt; ran, "parallel");
+        answers(
+            &rt,
+            1,
+            explorer.run(&rt, alloc, SITE, 64, || "serial", || "parallel"),
+            "parallel",
+        );
     }
     let copied = explorer.clone().expect(&rt, "memory");
-    assert_eq!(rt; copied.rule(), Rule::Parallel);
+    same(&rt, copied.rule(), Rule::Parallel);
     let alone = inline(&rt, alloc, number(&rt, 4), Stopped).expect(&rt, "memory");
-    assert_eq!(rt; alone.thread_number().get(), 1);
-    assert_eq!(rt; alone.planning().get(), 4);
+    same(&rt, alone.thread_number().get(), 1);
+    same(&rt, alone.planning().get(), 4);
 }
 
 #[test]
@@ -215,10 +227,12 @@ fn an_explorer_planned_for_one_runs_bodies_serially(rt: HostRuntime) {
         &rt, "memory",
     );
     let explorer = Explorer::parallel(&strategy).expect(&rt, "memory");
-    let ran = explorer
-        .run(&rt, alloc, SITE, 64, || "serial", || "parallel")
-        .expect(&rt, "memory");
-    assert_eq!(rt; ran, "serial");
+    answers(
+        &rt,
+        1,
+        explorer.run(&rt, alloc, SITE, 64, || "serial", || "parallel"),
+        "serial",
+    );
     let whole = explorer
         .run_batches(&rt, alloc, SITE, 64, number(&rt, 1), 1, |batches| {
             batches.is_whole()
@@ -252,14 +266,8 @@ fn the_parallel_rule_folds_and_maps_along_the_shape(rt: HostRuntime) {
         &rt, "memory",
     );
     let explorer = Explorer::parallel(&strategy).expect(&rt, "memory");
-    assert_eq!(rt;
-        sum_from_ten(&rt, alloc, &explorer, &[1, 2, 3]).expect(&rt, "memory"),
-        66
-    );
-    assert_eq!(rt;
-        sum_from_ten(&rt, alloc, &explorer, &[]).expect(&rt, "memory"),
-        20
-    );
+    answers(&rt, 1, sum_from_ten(&rt, alloc, &explorer, &[1, 2, 3]), 66);
+    answers(&rt, 2, sum_from_ten(&rt, alloc, &explorer, &[]), 20);
     let states = explorer
         .map_init_collect_vec(
             &rt,
@@ -273,7 +281,7 @@ fn the_parallel_rule_folds_and_maps_along_the_shape(rt: HostRuntime) {
             },
         )
         .expect(&rt, "memory");
-    assert_eq!(rt; states.as_slice(), [1, 1, 1].as_slice());
+    same(&rt, states.as_slice(), [1, 1, 1].as_slice());
 }
 
 #[test]
@@ -290,21 +298,24 @@ fn outputs_that_the_shape_does_not_change_are_answered(rt: HostRuntime) {
     })
     .expect(&rt, "memory");
     assert!(rt; squares);
-    let sum = explore(&rt, alloc, |explorer| {
-        explorer
-            .fold(
-                &rt,
-                alloc,
-                SITE,
-                0..100u64,
-                || 0,
-                |a: u64, n| a.wrapping_add(n),
-                |a: u64, b: u64| a.wrapping_add(b),
-            )
-            .ok()
-    })
-    .expect(&rt, "memory");
-    assert_eq!(rt; sum, Some(4950));
+    answers(
+        &rt,
+        1,
+        explore(&rt, alloc, |explorer| {
+            explorer
+                .fold(
+                    &rt,
+                    alloc,
+                    SITE,
+                    0..100u64,
+                    || 0,
+                    |a: u64, n| a.wrapping_add(n),
+                    |a: u64, b: u64| a.wrapping_add(b),
+                )
+                .ok()
+        }),
+        Some(4950),
+    );
     let first = explore(&rt, alloc, |explorer| {
         let checked = explorer.try_map_collect_vec(&rt, alloc, SITE, 0..100u64, |n| {
             if n == 57 || n == 99 { Err(n) } else { Ok(n) }
@@ -315,13 +326,12 @@ fn outputs_that_the_shape_does_not_change_are_answered(rt: HostRuntime) {
         }
     })
     .expect(&rt, "memory");
-    assert_eq!(rt; first, Some(57));
+    same(&rt, first, Some(57));
 }
 
 #[test]
 fn two_closures_are_told_apart(rt: HostRuntime) {
-    let sum = explore_from_zero(&rt, rt.alloc()).expect(&rt, "memory");
-    assert_eq!(rt; sum, Ok(4950));
+    answers(&rt, 1, explore_from_zero(&rt, rt.alloc()), Ok(4950));
     let told = explore_from_ten(&rt, rt.alloc());
     assert!(rt; matches!(told, Err(ExploreError::Differs(Rule::Parallel))));
 }
@@ -337,7 +347,7 @@ fn an_output_that_the_shape_changes_is_told(rt: HostRuntime) {
             .ok()
     });
     assert!(rt; matches!(told, Err(ExploreError::Differs(Rule::Parallel))));
-    assert_eq!(rt; calls.load(Ordering::SeqCst), 2);
+    same(&rt, calls.load(Ordering::SeqCst), 2);
 }
 
 #[test]
@@ -350,7 +360,8 @@ fn the_rules_come_in_their_order(rt: HostRuntime) {
     })
     .expect(&rt, "memory");
     assert!(rt; output);
-    assert_eq!(rt;
+    same(
+        &rt,
         rules.as_slice(),
         [
             Rule::Serial,
@@ -360,7 +371,7 @@ fn the_rules_come_in_their_order(rt: HostRuntime) {
             Rule::Seeded(2),
             Rule::Seeded(3),
         ]
-        .as_slice()
+        .as_slice(),
     );
 }
 
@@ -370,15 +381,17 @@ fn errors_of_a_search_print_their_text(rt: HostRuntime) {
     let parallel = format!(in alloc; "{}", ExploreError::Differs(Rule::Parallel)).expect(
         &rt, "memory",
     );
-    assert_eq!(rt;
+    same(
+        &rt,
         parallel.as_str(),
-        "the Parallel run must return the serial run's output"
+        "the Parallel run must return the serial run's output",
     );
     let seeded = format!(in alloc; "{}", ExploreError::Differs(Rule::Seeded(2))).expect(
         &rt, "memory",
     );
-    assert_eq!(rt;
+    same(
+        &rt,
         seeded.as_str(),
-        "the Seeded(2) run must return the serial run's output"
+        "the Seeded(2) run must return the serial run's output",
     );
 }

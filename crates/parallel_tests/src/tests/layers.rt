@@ -1,4 +1,5 @@
 // Each call of the layers below a strategy, once by itself.
+use crate::tests::same::{answers, lists, row, same};
 use crate::tests::strategies::{SITE, number, pool};
 use commonware_parallel::bridge::bridge::depth_of;
 use commonware_parallel::bridge::list::fold::{fold_iter, fold_parallel};
@@ -60,9 +61,9 @@ fn a_strategy_hands_its_picks_out(rt: HostRuntime) {
 fn lists_are_driven_without_a_strategy(rt: HostRuntime) {
     let alloc = rt.alloc();
     let two = number(&rt, 2);
-    assert_eq!(rt; depth_of(NonZeroUsize::MIN), 1);
-    assert_eq!(rt; depth_of(two), 2);
-    assert_eq!(rt; depth_of(NonZeroUsize::MAX), 64);
+    same(&rt, depth_of(NonZeroUsize::MIN), 1);
+    same(&rt, depth_of(two), 2);
+    same(&rt, depth_of(NonZeroUsize::MAX), 64);
 
     let half = |number: u32| number / 2;
     let halves = map_iter(
@@ -71,27 +72,35 @@ fn lists_are_driven_without_a_strategy(rt: HostRuntime) {
         &half,
     )
     .expect(&rt, "memory");
-    assert_eq!(rt; halves.as_slice(), [5, 10, 15].as_slice());
+    row(&rt, 1, halves.as_slice(), [5, 10, 15].as_slice());
     let tens = Copies {
         slice: [10, 20, 30].as_slice(),
     };
-    let halves = map_parallel(&rt, alloc, two, tens, &half).expect(&rt, "memory");
-    assert_eq!(rt; halves.as_slice(), [5, 10, 15].as_slice());
+    lists(
+        &rt,
+        2,
+        map_parallel(&rt, alloc, two, tens, &half),
+        &[5, 10, 15],
+    );
 
     let ten = || 10u32;
     let add = |left: u32, right: u32| left.wrapping_add(right);
-    assert_eq!(rt; fold_iter(1..4u32, &ten, &add), 16);
+    same(&rt, fold_iter(1..4u32, &ten, &add), 16);
     let few = Copies {
         slice: [1, 2, 3].as_slice(),
     };
-    let sum = fold_parallel(&rt, alloc, two, few, &ten, &add, &add).expect(&rt, "memory");
-    assert_eq!(rt; sum, 66);
+    answers(
+        &rt,
+        3,
+        fold_parallel(&rt, alloc, two, few, &ten, &add, &add),
+        66,
+    );
 }
 
 #[test]
 fn closures_run_on_a_worker(rt: HostRuntime) {
-    assert_eq!(rt; install(&rt, || 7), 7);
+    row(&rt, 1, install(&rt, || 7), 7);
     let pool = ThreadPool::new(number(&rt, 3));
-    assert_eq!(rt; pool.current_num_threads(), 3);
-    assert_eq!(rt; pool.install(&rt, || 7), 7);
+    same(&rt, pool.current_num_threads(), 3);
+    row(&rt, 2, pool.install(&rt, || 7), 7);
 }

@@ -1,4 +1,5 @@
 // Packed words, and the pure machine of shares on whole plans.
+use crate::tests::same::{row, same};
 use crate::tests::strategies::number;
 use commonware_parallel::Fault;
 use commonware_parallel::shares::machine::{Event, Outcome, Plan, State, replay, step};
@@ -25,17 +26,17 @@ const EVENTS: [Event; 13] = [
 
 #[test]
 fn words_pack_a_range(rt: HostRuntime) {
-    assert_eq!(rt; pack(3, 9), 196_617);
-    assert_eq!(rt; unpack(196_617), (3, 9));
-    assert_eq!(rt; unpack(0), (0, 0));
-    assert_eq!(rt; unpack(4_294_967_295), (65_535, 65_535));
+    same(&rt, pack(3, 9), 196_617);
+    same(&rt, unpack(196_617), (3, 9));
+    same(&rt, unpack(0), (0, 0));
+    same(&rt, unpack(4_294_967_295), (65_535, 65_535));
 }
 
 #[test]
 fn a_stale_claim_is_lost(rt: HostRuntime) {
     let plan = Plan::new(3, 2, number(&rt, 1), number(&rt, 2), true);
-    assert_eq!(rt; (plan.workers(), plan.unit(), plan.claim()), (2, 2, 1));
-    assert_eq!(rt; (plan.cells(), plan.units()), (6, 3));
+    same(&rt, (plan.workers(), plan.unit(), plan.claim()), (2, 2, 1));
+    same(&rt, (plan.cells(), plan.units()), (6, 3));
     let (state, outcomes) = replay(rt.alloc(), &plan, &EVENTS).expect(&rt, "memory");
     let expected = [
         Outcome::Loaded(3),
@@ -52,19 +53,23 @@ fn a_stale_claim_is_lost(rt: HostRuntime) {
         Outcome::Refused,
         Outcome::Refused,
     ];
-    assert_eq!(rt; outcomes.as_slice(), expected.as_slice());
-    assert_eq!(rt; state.words(), [196_611].as_slice());
-    assert_eq!(rt; state.claims(0), [0..2, 4..6].as_slice());
-    assert_eq!(rt; state.claims(1), [2..4].as_slice());
-    assert_eq!(rt; state.in_transit(1), None);
+    same(&rt, outcomes.as_slice(), expected.as_slice());
+    same(&rt, state.words(), [196_611].as_slice());
+    same(&rt, state.claims(0), [0..2, 4..6].as_slice());
+    same(&rt, state.claims(1), [2..4].as_slice());
+    same(&rt, state.in_transit(1), None);
 }
 
 #[test]
 fn a_unit_has_several_rows_where_there_are_many(rt: HostRuntime) {
     let plan = Plan::new(65_536, 3, number(&rt, 1), number(&rt, 4), true);
-    assert_eq!(rt; (plan.unit(), plan.workers(), plan.units()), (6, 4, 32_768));
+    same(
+        &rt,
+        (plan.unit(), plan.workers(), plan.units()),
+        (6, 4, 32_768),
+    );
     let state = State::new(rt.alloc(), &plan).expect(&rt, "memory");
-    assert_eq!(rt; state.words(), [32_768].as_slice());
+    same(&rt, state.words(), [32_768].as_slice());
 }
 
 // A replay, and one claim by steps, answer what they always do, or want of memory. Run with each
@@ -73,24 +78,24 @@ fn replay_or_refusal(rt: &impl Abort, alloc: Global) {
     let plan = Plan::new(3, 2, number(rt, 1), number(rt, 2), true);
     match replay(alloc, &plan, &EVENTS) {
         Ok((state, outcomes)) => {
-            assert_eq!(rt; state.words(), [196_611].as_slice());
-            assert_eq!(rt; outcomes.len(), EVENTS.len());
+            same(rt, state.words(), [196_611].as_slice());
+            same(rt, outcomes.len(), EVENTS.len());
         }
-        Err(fault) => assert_eq!(rt; fault, Fault::Memory),
+        Err(fault) => row(rt, 1, fault, Fault::Memory),
     }
     let Ok(mut state) = State::new(alloc, &plan) else {
         return;
     };
     let loaded = step(&plan, &mut state, Event::Load { seat: 0, share: 0 });
-    assert!(rt; matches!(loaded, Ok(Outcome::Loaded(3))));
+    same(rt, loaded, Ok(Outcome::Loaded(3)));
     match step(&plan, &mut state, Event::Claim { seat: 0 }) {
         Ok(outcome) => {
-            assert_eq!(rt; outcome, Outcome::Claimed(0..2));
-            assert_eq!(rt; state.words(), [65_539].as_slice());
+            same(rt, outcome, Outcome::Claimed(0..2));
+            same(rt, state.words(), [65_539].as_slice());
         }
         Err(fault) => {
-            assert_eq!(rt; fault, Fault::Memory);
-            assert_eq!(rt; state.words(), [3].as_slice());
+            row(rt, 2, fault, Fault::Memory);
+            same(rt, state.words(), [3].as_slice());
         }
     }
 }

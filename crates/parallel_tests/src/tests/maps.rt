@@ -1,4 +1,5 @@
 // Maps through each strategy.
+use crate::tests::same::{lists, row, same};
 use crate::tests::strategies::{SITE, number, pool};
 use commonware_parallel::{Fault, Sequential, Strategy};
 use std::alloc::Global;
@@ -32,12 +33,20 @@ fn hundred_squares<Rt: Threads + Wait + Sync, S: Strategy>(
 
 #[test]
 fn squares_come_in_order(rt: HostRuntime) {
-    let serial = hundred_squares(&rt, rt.alloc(), &Sequential).expect(&rt, "memory");
-    assert_eq!(rt; serial.as_slice(), SQUARES.as_slice());
+    lists(
+        &rt,
+        1,
+        hundred_squares(&rt, rt.alloc(), &Sequential),
+        &SQUARES,
+    );
     for threads in 1..9usize {
         let strategy = pool(&rt, rt.alloc(), threads, threads);
-        let answers = hundred_squares(&rt, rt.alloc(), &strategy).expect(&rt, "memory");
-        assert_eq!(rt; answers.as_slice(), SQUARES.as_slice(), "{threads} threads");
+        lists(
+            &rt,
+            threads,
+            hundred_squares(&rt, rt.alloc(), &strategy),
+            &SQUARES,
+        );
     }
 }
 
@@ -47,27 +56,31 @@ fn squares_of_a_slice_come_in_order(rt: HostRuntime) {
     let expected = [9, 0, 18_446_744_065_119_617_025, 1];
     for threads in 1..9usize {
         let strategy = pool(&rt, rt.alloc(), threads, threads);
-        let answers = squares(&rt, rt.alloc(), &strategy, SITE, &numbers).expect(&rt, "memory");
-        assert_eq!(rt;
-            answers.as_slice(),
-            expected.as_slice(),
-            "{threads} threads"
+        lists(
+            &rt,
+            threads,
+            squares(&rt, rt.alloc(), &strategy, SITE, &numbers),
+            &expected,
         );
         let empty = squares(&rt, rt.alloc(), &strategy, SITE, &[]).expect(&rt, "memory");
-        assert_eq!(rt; empty.len(), 0);
+        same(&rt, empty.len(), 0);
     }
     let long = LongLists::new(number(&rt, 4), 3);
-    let answers = squares_by_length(&rt, rt.alloc(), &long, SITE, &numbers).expect(&rt, "memory");
-    assert_eq!(rt; answers.as_slice(), expected.as_slice());
+    lists(
+        &rt,
+        1,
+        squares_by_length(&rt, rt.alloc(), &long, SITE, &numbers),
+        &expected,
+    );
 }
 
 #[test]
 fn squares_of_a_range_come_in_order(rt: HostRuntime) {
     let strategy = pool(&rt, rt.alloc(), 3, 3);
     let answers = first_squares(&rt, rt.alloc(), &strategy, SITE, 100).expect(&rt, "memory");
-    assert_eq!(rt; answers.len(), 100);
+    same(&rt, answers.len(), 100);
     for (index, square) in SQUARES.iter().enumerate() {
-        assert_eq!(rt; answers[index] as u64, *square);
+        same(&rt, answers[index] as u64, *square);
     }
 }
 
@@ -75,11 +88,19 @@ fn squares_of_a_range_come_in_order(rt: HostRuntime) {
 fn a_closure_is_asked_for_the_items_alone(rt: HostRuntime) {
     let numbers = [3, 0, 2_147_483_647];
     let expected = [6, 0, 4_294_967_294];
-    let serial = doubles(&rt, rt.alloc(), &Sequential, SITE, &numbers).expect(&rt, "memory");
-    assert_eq!(rt; serial.as_slice(), expected.as_slice());
+    lists(
+        &rt,
+        1,
+        doubles(&rt, rt.alloc(), &Sequential, SITE, &numbers),
+        &expected,
+    );
     let strategy = pool(&rt, rt.alloc(), 3, 3);
-    let parallel = doubles(&rt, rt.alloc(), &strategy, SITE, &numbers).expect(&rt, "memory");
-    assert_eq!(rt; parallel.as_slice(), expected.as_slice());
+    lists(
+        &rt,
+        2,
+        doubles(&rt, rt.alloc(), &strategy, SITE, &numbers),
+        &expected,
+    );
 }
 
 // The squares of a list from its end, and of a buffer that wraps around.
@@ -88,14 +109,20 @@ fn own_lists_are_mapped<Rt: Threads + Wait + Abort + Sync, S: Strategy>(
     alloc: Global,
     strategy: &S,
 ) {
-    let back = squares_backwards(rt, alloc, strategy, SITE, &[1, 2, 3, 4, 5]).expect(rt, "memory");
-    assert_eq!(rt; back.as_slice(), [25, 16, 9, 4, 1].as_slice());
-    let none = squares_backwards(rt, alloc, strategy, SITE, &[]).expect(rt, "memory");
-    assert_eq!(rt; none.len(), 0);
-    let wrapped = squares_of_wrapped(rt, alloc, strategy, SITE, &[4, 5], &[1, 2, 3]).expect(
-        rt, "memory",
+    lists(
+        rt,
+        1,
+        squares_backwards(rt, alloc, strategy, SITE, &[1, 2, 3, 4, 5]),
+        &[25, 16, 9, 4, 1],
     );
-    assert_eq!(rt; wrapped.as_slice(), [16, 25, 1, 4, 9].as_slice());
+    let none = squares_backwards(rt, alloc, strategy, SITE, &[]).expect(rt, "memory");
+    same(rt, none.len(), 0);
+    lists(
+        rt,
+        2,
+        squares_of_wrapped(rt, alloc, strategy, SITE, &[4, 5], &[1, 2, 3]),
+        &[16, 25, 1, 4, 9],
+    );
 }
 
 #[test]
@@ -110,19 +137,31 @@ fn lists_of_ones_own_are_mapped(rt: HostRuntime) {
 #[test]
 fn a_table_is_looked_into_at_the_items(rt: HostRuntime) {
     let table = [10, 20, 30, 40];
-    let serial = last_entries(&rt, rt.alloc(), &Sequential, SITE, &table, 3).expect(&rt, "memory");
-    assert_eq!(rt; serial.as_slice(), [40, 30, 20].as_slice());
+    lists(
+        &rt,
+        1,
+        last_entries(&rt, rt.alloc(), &Sequential, SITE, &table, 3),
+        &[40, 30, 20],
+    );
     let strategy = pool(&rt, rt.alloc(), 2, 2);
-    let parallel = last_entries(&rt, rt.alloc(), &strategy, SITE, &table, 3).expect(&rt, "memory");
-    assert_eq!(rt; parallel.as_slice(), [40, 30, 20].as_slice());
-    let borrowed = borrowed_squares(&rt, rt.alloc(), &strategy, SITE, &[3, 4]).expect(
-        &rt, "memory",
+    lists(
+        &rt,
+        2,
+        last_entries(&rt, rt.alloc(), &strategy, SITE, &table, 3),
+        &[40, 30, 20],
     );
-    assert_eq!(rt; borrowed.as_slice(), [9, 16].as_slice());
-    let both = squares_of_both(&rt, rt.alloc(), &strategy, SITE, &[3], &[4, 5]).expect(
-        &rt, "memory",
+    lists(
+        &rt,
+        3,
+        borrowed_squares(&rt, rt.alloc(), &strategy, SITE, &[3, 4]),
+        &[9, 16],
     );
-    assert_eq!(rt; both.as_slice(), [9, 16, 25].as_slice());
+    lists(
+        &rt,
+        4,
+        squares_of_both(&rt, rt.alloc(), &strategy, SITE, &[3], &[4, 5]),
+        &[9, 16, 25],
+    );
 }
 
 // Maps `count` items of size zero, in the order of a counter that each call raises.
@@ -143,19 +182,23 @@ fn map_nothing<Rt: Threads + Wait + Sync, S: Strategy>(
 
 #[test]
 fn values_of_size_zero_are_all_there(rt: HostRuntime) {
-    assert_eq!(rt;
+    row(
+        &rt,
+        1,
         map_nothing(&rt, rt.alloc(), &Sequential, 5000)
             .expect(&rt, "memory")
             .len(),
-        5000
+        5000,
     );
     for threads in 1..9usize {
         let strategy = pool(&rt, rt.alloc(), threads, threads);
-        assert_eq!(rt;
+        row(
+            &rt,
+            2,
             map_nothing(&rt, rt.alloc(), &strategy, 5000)
                 .expect(&rt, "memory")
                 .len(),
-            5000
+            5000,
         );
     }
 }
@@ -171,20 +214,24 @@ fn map_unsteadily<Rt: Threads + Wait + Abort + Sync, S: Strategy>(
     let answers = strategy.map_collect_vec(rt, alloc, SITE, 0..count, |_: usize| {
         calls.fetch_add(1, Ordering::SeqCst) % 2
     })?;
-    assert_eq!(rt; calls.load(Ordering::SeqCst), count as u64);
+    same(rt, calls.load(Ordering::SeqCst), count as u64);
     Ok(answers)
 }
 
 #[test]
 fn an_unsteady_closure_answers_each_item_once(rt: HostRuntime) {
-    let serial = map_unsteadily(&rt, rt.alloc(), &Sequential, 5).expect(&rt, "memory");
-    assert_eq!(rt; serial.as_slice(), [0, 1, 0, 1, 0].as_slice());
+    lists(
+        &rt,
+        1,
+        map_unsteadily(&rt, rt.alloc(), &Sequential, 5),
+        &[0, 1, 0, 1, 0],
+    );
     for threads in 1..9usize {
         let strategy = pool(&rt, rt.alloc(), threads, threads);
         let answers = map_unsteadily(&rt, rt.alloc(), &strategy, 1000).expect(&rt, "memory");
-        assert_eq!(rt; answers.len(), 1000);
+        same(&rt, answers.len(), 1000);
         assert!(rt; answers.iter().all(|answer| *answer < 2));
         let zeros = answers.iter().filter(|answer| **answer == 0).count();
-        assert_eq!(rt; zeros, 500);
+        same(&rt, zeros, 500);
     }
 }

@@ -1,5 +1,6 @@
 // Calls whose memory may be refused at any point: each one answers what it always does, or
 // `Fault::Memory`, and nothing else. Run with each allocation failing in turn.
+use crate::tests::same::{row, same};
 use crate::tests::strategies::{SITE, Stopped, number};
 use commonware_parallel::{Fault, Rayon, Sequential, Strategy, Trouble};
 use parallel_pool::rayon::ThreadPoolBuildError;
@@ -21,16 +22,16 @@ fn map_or_refusal<Rt: Threads + Wait + Abort + Sync, S: Strategy>(
 ) {
     match first_squares(rt, alloc, strategy, SITE, count) {
         Ok(answers) => {
-            assert_eq!(rt; answers.len(), count);
+            same(rt, answers.len(), count);
             let mut expected = 0usize;
             let mut step = 1usize;
             for answer in &answers {
-                assert_eq!(rt; *answer, expected);
+                same(rt, *answer, expected);
                 expected = expected.wrapping_add(step);
                 step = step.wrapping_add(2);
             }
         }
-        Err(fault) => assert_eq!(rt; fault, Fault::Memory),
+        Err(fault) => same(rt, fault, Fault::Memory),
     }
 }
 
@@ -43,16 +44,16 @@ fn fold_or_refusal<Rt: Threads + Wait + Abort + Sync, S: Strategy>(
     sum: u32,
 ) {
     match sum_of_squares(rt, alloc, strategy, SITE, numbers) {
-        Ok(answer) => assert_eq!(rt; answer, sum),
-        Err(fault) => assert_eq!(rt; fault, Fault::Memory),
+        Ok(answer) => same(rt, answer, sum),
+        Err(fault) => same(rt, fault, Fault::Memory),
     }
 }
 
 // The expected number, or a refusal.
 fn is_or_refused(rt: &impl Abort, answer: Result<usize, Fault>, expected: usize) {
     match answer {
-        Ok(number) => assert_eq!(rt; number, expected),
-        Err(fault) => assert_eq!(rt; fault, Fault::Memory),
+        Ok(number) => same(rt, number, expected),
+        Err(fault) => same(rt, fault, Fault::Memory),
     }
 }
 
@@ -69,12 +70,12 @@ fn tries_or_refusals<Rt: Threads + Wait + Abort + Sync, S: Strategy>(
         Err(trouble) => assert!(rt; matches!(trouble, Trouble::Fault(Fault::Memory))),
     }
     match verify_all(rt, alloc, strategy, SITE, threes, |three: u64| three == 4) {
-        Ok(()) => assert_eq!(rt; threes.len(), 0),
-        Err(Trouble::Closure(index)) => assert_eq!(rt; index, 0),
-        Err(Trouble::Fault(fault)) => assert_eq!(rt; fault, Fault::Memory),
+        Ok(()) => row(rt, 1, threes.len(), 0),
+        Err(Trouble::Closure(index)) => row(rt, 2, index, 0),
+        Err(Trouble::Fault(fault)) => same(rt, fault, Fault::Memory),
     }
     match sum_within(rt, alloc, strategy, SITE, threes, 3) {
-        Ok(sum) => assert_eq!(rt; sum, 3u64.wrapping_mul(threes.len() as u64)),
+        Ok(sum) => same(rt, sum, 3u64.wrapping_mul(threes.len() as u64)),
         Err(trouble) => assert!(rt; matches!(trouble, Trouble::Fault(Fault::Memory))),
     }
 }
@@ -116,13 +117,13 @@ fn sorts_or_refusals<Rt: Threads + Wait + Abort + Sync, S: Strategy>(
     let sorted = sort_by_first(rt, alloc, strategy, SITE, pairs);
     is_or_refused(rt, sorted.map(|_| 0), 0);
     let odd = pairs.iter().filter(|pair| pair.0 % 2 == 1).count();
-    assert_eq!(rt; odd, count);
+    row(rt, 1, odd, count);
     let both = strategy.join(rt, alloc, SITE, || 1usize, || 2usize);
     is_or_refused(rt, both.map(|both| both.1), 2);
     match strategy.try_run(rt, alloc, SITE, count, || Err(count), || Err(count)) {
         Ok(()) => assert!(rt; false),
-        Err(Trouble::Closure(error)) => assert_eq!(rt; error, count),
-        Err(Trouble::Fault(fault)) => assert_eq!(rt; fault, Fault::Memory),
+        Err(Trouble::Closure(error)) => row(rt, 2, error, count),
+        Err(Trouble::Fault(fault)) => same(rt, fault, Fault::Memory),
     }
 }
 

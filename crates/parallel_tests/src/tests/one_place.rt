@@ -1,4 +1,5 @@
 // The calls of one place, each under its short name.
+use crate::tests::same::{answers, lists, same};
 use crate::tests::strategies::{SITE, pool};
 use commonware_parallel::{Fault, Indices, On, Sequential, Strategy, Trouble};
 use std::alloc::Global;
@@ -15,8 +16,8 @@ fn squares_and_their_sum_come_of_one_place(rt: HostRuntime) {
         let (squares, sum) = squares_and_sum(&rt, alloc, &strategy, SITE, &[1, 2, 3, 4]).expect(
             &rt, "memory",
         );
-        assert_eq!(rt; squares.as_slice(), [1, 4, 9, 16].as_slice());
-        assert_eq!(rt; sum, 30);
+        same(&rt, squares.as_slice(), [1, 4, 9, 16].as_slice());
+        same(&rt, sum, 30);
     }
 }
 
@@ -33,27 +34,31 @@ fn lists_of_five<Rt: Threads + Wait + Abort + Sync, S: Strategy>(
         site: SITE,
     };
     let five = Indices { start: 0, end: 5 };
-    let next = on
-        .map(five, |n: usize| n.wrapping_add(1))
-        .expect(rt, "memory");
-    assert_eq!(rt; next.as_slice(), [1, 2, 3, 4, 5].as_slice());
+    lists(
+        rt,
+        1,
+        on.map(five, |n: usize| n.wrapping_add(1)),
+        &[1, 2, 3, 4, 5],
+    );
     let tried = on.try_map(five, |n: usize| if n < 3 { Ok(n) } else { Err(n) });
-    assert!(rt; matches!(tried, Err(Trouble::Closure(3))));
-    let stateful = on
-        .map_init(
+    same(rt, tried, Err(Trouble::Closure(3)));
+    lists(
+        rt,
+        2,
+        on.map_init(
             five,
             || 7,
             |state: &mut usize, n: usize| n.wrapping_add(*state),
-        )
-        .expect(rt, "memory");
-    assert_eq!(rt; stateful.as_slice(), [7, 8, 9, 10, 11].as_slice());
+        ),
+        &[7, 8, 9, 10, 11],
+    );
     let (even, odd) = on
         .map_partition(five, |n: usize| {
             if n % 2 == 0 { (n, Some(n)) } else { (n, None) }
         })
         .expect(rt, "memory");
-    assert_eq!(rt; even.as_slice(), [0, 2, 4].as_slice());
-    assert_eq!(rt; odd.as_slice(), [1, 3].as_slice());
+    same(rt, even.as_slice(), [0, 2, 4].as_slice());
+    same(rt, odd.as_slice(), [1, 3].as_slice());
 }
 
 // Sums of the numbers below five.
@@ -70,17 +75,19 @@ fn sums_of_five<Rt: Threads + Wait + Abort + Sync, S: Strategy>(
     };
     let five = Indices { start: 0, end: 5 };
     let add = |left: usize, right: usize| left.wrapping_add(right);
-    assert_eq!(rt; on.fold(five, || 0, add, add).expect(rt, "memory"), 10);
-    let counted = on
-        .fold_init(
+    answers(rt, 1, on.fold(five, || 0, add, add), 10);
+    answers(
+        rt,
+        2,
+        on.fold_init(
             five,
             || 0usize,
             || 0,
             |sum: usize, state: &mut usize, n: usize| sum.wrapping_add(n).wrapping_add(*state),
             add,
-        )
-        .expect(rt, "memory");
-    assert_eq!(rt; counted, 10);
+        ),
+        10,
+    );
     let tried = on.try_fold(
         five,
         || 0,
@@ -91,7 +98,7 @@ fn sums_of_five<Rt: Threads + Wait + Abort + Sync, S: Strategy>(
         },
         add,
     );
-    assert!(rt; matches!(tried, Err(Trouble::Closure(4))));
+    same(rt, tried, Err(Trouble::Closure(4)));
 }
 
 // Sorts and a join.
@@ -109,11 +116,11 @@ fn sorts_and_a_join<Rt: Threads + Wait + Abort + Sync, S: Strategy>(
     let mut numbers = [3, 1, 2u32];
     on.sort_by(&mut numbers, |left: &u32, right: &u32| right.cmp(left))
         .expect(rt, "memory");
-    assert_eq!(rt; numbers.as_slice(), [3, 2, 1].as_slice());
+    same(rt, numbers.as_slice(), [3, 2, 1].as_slice());
     on.sort_unstable_by(&mut numbers, |left: &u32, right: &u32| left.cmp(right))
         .expect(rt, "memory");
-    assert_eq!(rt; numbers.as_slice(), [1, 2, 3].as_slice());
-    assert_eq!(rt; on.join(|| 1, || 2).expect(rt, "memory"), (1, 2));
+    same(rt, numbers.as_slice(), [1, 2, 3].as_slice());
+    answers(rt, 1, on.join(|| 1, || 2), (1, 2));
 }
 
 #[test]

@@ -1,4 +1,5 @@
 // Segments of lists, cuts of indices, and grids of tiles.
+use crate::tests::same::{lists, same};
 use crate::tests::strategies::number;
 use commonware_parallel::bridge::segments::segments;
 use commonware_parallel::{Fault, Grid, cut};
@@ -10,36 +11,36 @@ const GREATEST: usize = usize::MAX;
 fn lists_are_cut_by_threads_and_by_items(rt: HostRuntime) {
     let alloc = rt.alloc();
     let four = number(&rt, 4);
-    let lengths = segments(alloc, four, 100).expect(&rt, "memory");
-    assert_eq!(rt;
-        lengths.as_slice(),
-        [12, 13, 12, 13, 12, 13, 12, 13].as_slice()
+    lists(
+        &rt,
+        1,
+        segments(alloc, four, 100),
+        &[12, 13, 12, 13, 12, 13, 12, 13],
     );
-    let lengths = segments(alloc, number(&rt, 3), 5).expect(&rt, "memory");
-    assert_eq!(rt; lengths.as_slice(), [1, 1, 1, 2].as_slice());
-    let lengths = segments(alloc, number(&rt, 1), 1).expect(&rt, "memory");
-    assert_eq!(rt; lengths.as_slice(), [1].as_slice());
-    let lengths = segments(alloc, four, 0).expect(&rt, "memory");
-    assert_eq!(rt; lengths.as_slice(), [0].as_slice());
+    lists(&rt, 2, segments(alloc, number(&rt, 3), 5), &[1, 1, 1, 2]);
+    lists(&rt, 3, segments(alloc, number(&rt, 1), 1), &[1]);
+    lists(&rt, 4, segments(alloc, four, 0), &[0]);
     let most = number(&rt, 65_535);
-    let lengths = segments(alloc, most, 3).expect(&rt, "memory");
-    assert_eq!(rt; lengths.as_slice(), [1, 1, 1].as_slice());
-    let lengths = segments(alloc, most, 0).expect(&rt, "memory");
-    assert_eq!(rt; lengths.as_slice(), [0].as_slice());
+    lists(&rt, 5, segments(alloc, most, 3), &[1, 1, 1]);
+    lists(&rt, 6, segments(alloc, most, 0), &[0]);
 }
 
 #[test]
 fn cuts_put_the_longer_ranges_first(rt: HostRuntime) {
     let alloc = rt.alloc();
-    let ranges = cut(alloc, 10, number(&rt, 4)).expect(&rt, "memory");
-    assert_eq!(rt; ranges.as_slice(), [0..3, 3..6, 6..8, 8..10].as_slice());
-    let ranges = cut(alloc, 3, number(&rt, 5)).expect(&rt, "memory");
-    assert_eq!(rt;
-        ranges.as_slice(),
-        [0..1, 1..2, 2..3, 3..3, 3..3].as_slice()
+    lists(
+        &rt,
+        1,
+        cut(alloc, 10, number(&rt, 4)),
+        &[0..3, 3..6, 6..8, 8..10],
     );
-    let ranges = cut(alloc, 0, number(&rt, 2)).expect(&rt, "memory");
-    assert_eq!(rt; ranges.as_slice(), [0..0, 0..0].as_slice());
+    lists(
+        &rt,
+        2,
+        cut(alloc, 3, number(&rt, 5)),
+        &[0..1, 1..2, 2..3, 3..3, 3..3],
+    );
+    lists(&rt, 3, cut(alloc, 0, number(&rt, 2)), &[0..0, 0..0]);
     let ranges = cut(alloc, GREATEST, number(&rt, 3)).expect(&rt, "memory");
     let third = 6_148_914_691_236_517_205;
     let two_thirds = 12_297_829_382_473_034_410;
@@ -48,7 +49,7 @@ fn cuts_put_the_longer_ranges_first(rt: HostRuntime) {
         third..two_thirds,
         two_thirds..18_446_744_073_709_551_615,
     ];
-    assert_eq!(rt; ranges.as_slice(), expected.as_slice());
+    same(&rt, ranges.as_slice(), expected.as_slice());
 }
 
 #[test]
@@ -63,17 +64,17 @@ fn grids_cost_their_longest_chain(rt: HostRuntime) {
         tile_cost: NonZeroUsize::MIN,
     };
     let eight = number(&rt, 8);
-    assert_eq!(rt; grid.critical_path(64, eight), (35, false));
-    assert_eq!(rt; grid.critical_path(64, NonZeroUsize::MIN), (260, true));
+    same(&rt, grid.critical_path(64, eight), (35, false));
+    same(&rt, grid.critical_path(64, NonZeroUsize::MIN), (260, true));
     let (index, cost, whole) = Grid::choose(&[grid, grid], 64, eight);
-    assert_eq!(rt; (index, cost, whole), (0, 35, false));
+    same(&rt, (index, cost, whole), (0, 35, false));
 
     let greatest = Grid {
         rows: GREATEST,
         tile_cost: NonZeroUsize::MAX,
     };
     let path = greatest.critical_path(GREATEST, NonZeroUsize::MIN);
-    assert_eq!(rt; path, (18_446_744_073_709_551_615, true));
+    same(&rt, path, (18_446_744_073_709_551_615, true));
     assert!(rt; !Grid::fits(&[greatest], GREATEST));
 }
 

@@ -1,4 +1,5 @@
 // What a policy learns, through the calls of a pool.
+use crate::tests::same::{answers, lists, same};
 use crate::tests::strategies::{SITE, Stopped, number};
 use commonware_parallel::{Clock, Fault, Rayon, Sequential, Site, Strategy};
 use std::alloc::Global;
@@ -51,43 +52,25 @@ fn which<Rt: Wait, S: Strategy>(
 fn a_fresh_policy_runs_in_parallel(rt: HostRuntime) {
     let alloc = rt.alloc();
     let fresh = Rayon::new(&rt, alloc, number(&rt, 4), Stopped).expect(&rt, "memory");
-    assert_eq!(rt; which(&rt, alloc, &fresh).expect(&rt, "memory"), "parallel");
-    assert_eq!(rt;
-        which(&rt, alloc, &Sequential).expect(&rt, "memory"),
-        "serial"
-    );
+    answers(&rt, 1, which(&rt, alloc, &fresh), "parallel");
+    answers(&rt, 2, which(&rt, alloc, &Sequential), "serial");
 }
 
 #[test]
 fn a_short_parallel_run_is_followed_by_serial_ones(rt: HostRuntime) {
     let alloc = rt.alloc();
     let strategy = learning(&rt, alloc, 100_000);
-    assert_eq!(rt;
-        which(&rt, alloc, &strategy).expect(&rt, "memory"),
-        "parallel"
-    );
-    assert_eq!(rt;
-        which(&rt, alloc, &strategy).expect(&rt, "memory"),
-        "serial"
-    );
-    assert_eq!(rt;
-        which(&rt, alloc, &strategy).expect(&rt, "memory"),
-        "serial"
-    );
+    answers(&rt, 1, which(&rt, alloc, &strategy), "parallel");
+    answers(&rt, 2, which(&rt, alloc, &strategy), "serial");
+    answers(&rt, 3, which(&rt, alloc, &strategy), "serial");
 }
 
 #[test]
 fn a_clock_that_goes_back_counts_as_no_time(rt: HostRuntime) {
     let alloc = rt.alloc();
     let strategy = learning(&rt, alloc, u64::MAX - 99_999);
-    assert_eq!(rt;
-        which(&rt, alloc, &strategy).expect(&rt, "memory"),
-        "parallel"
-    );
-    assert_eq!(rt;
-        which(&rt, alloc, &strategy).expect(&rt, "memory"),
-        "serial"
-    );
+    answers(&rt, 1, which(&rt, alloc, &strategy), "parallel");
+    answers(&rt, 2, which(&rt, alloc, &strategy), "serial");
 }
 
 #[test]
@@ -95,19 +78,13 @@ fn a_clone_has_the_same_policy(rt: HostRuntime) {
     let alloc = rt.alloc();
     let strategy = learning(&rt, alloc, 100_000);
     let clone = strategy.clone().expect(&rt, "memory");
-    assert_eq!(rt;
-        which(&rt, alloc, &strategy).expect(&rt, "memory"),
-        "parallel"
-    );
-    assert_eq!(rt; which(&rt, alloc, &clone).expect(&rt, "memory"), "serial");
+    answers(&rt, 1, which(&rt, alloc, &strategy), "parallel");
+    answers(&rt, 2, which(&rt, alloc, &clone), "serial");
     let fixed = strategy.without_policy().expect(&rt, "memory");
-    assert_eq!(rt; which(&rt, alloc, &fixed).expect(&rt, "memory"), "parallel");
+    answers(&rt, 3, which(&rt, alloc, &fixed), "parallel");
     let planned = strategy.with_parallelism(number(&rt, 8));
-    assert_eq!(rt;
-        which(&rt, alloc, &planned).expect(&rt, "memory"),
-        "parallel"
-    );
-    assert_eq!(rt; which(&rt, alloc, &planned).expect(&rt, "memory"), "serial");
+    answers(&rt, 4, which(&rt, alloc, &planned), "parallel");
+    answers(&rt, 5, which(&rt, alloc, &planned), "serial");
 }
 
 // The numbers' sum from 10, by which the body can be told: each segment adds 10 twice.
@@ -134,22 +111,10 @@ fn folds_ask_the_policy_by_their_site(rt: HostRuntime) {
     let alloc = rt.alloc();
     let strategy = learning(&rt, alloc, 100_000);
     let other = Site { column: 2, ..SITE };
-    assert_eq!(rt;
-        sum_from_ten(&rt, alloc, &strategy, SITE).expect(&rt, "memory"),
-        66
-    );
-    assert_eq!(rt;
-        sum_from_ten(&rt, alloc, &strategy, SITE).expect(&rt, "memory"),
-        16
-    );
-    assert_eq!(rt;
-        sum_from_ten(&rt, alloc, &strategy, other).expect(&rt, "memory"),
-        66
-    );
-    assert_eq!(rt;
-        sum_from_ten(&rt, alloc, &strategy, other).expect(&rt, "memory"),
-        16
-    );
+    answers(&rt, 1, sum_from_ten(&rt, alloc, &strategy, SITE), 66);
+    answers(&rt, 2, sum_from_ten(&rt, alloc, &strategy, SITE), 16);
+    answers(&rt, 3, sum_from_ten(&rt, alloc, &strategy, other), 66);
+    answers(&rt, 4, sum_from_ten(&rt, alloc, &strategy, other), 16);
 }
 
 #[test]
@@ -158,28 +123,34 @@ fn batches_ask_the_policy(rt: HostRuntime) {
     let strategy = learning(&rt, alloc, 100_000);
     let one = number(&rt, 1);
     let four = [0..4, 4..8, 8..12, 12..16];
-    let ranges = batch_ranges(&rt, alloc, &strategy, SITE, 16, one).expect(&rt, "memory");
-    assert_eq!(rt; ranges.as_slice(), four.as_slice());
-    let ranges = batch_ranges(&rt, alloc, &strategy, SITE, 16, one).expect(&rt, "memory");
-    assert_eq!(rt; ranges.as_slice(), [0..16].as_slice());
+    lists(
+        &rt,
+        1,
+        batch_ranges(&rt, alloc, &strategy, SITE, 16, one),
+        &four,
+    );
+    lists(
+        &rt,
+        2,
+        batch_ranges(&rt, alloc, &strategy, SITE, 16, one),
+        &[0..16],
+    );
     // Runs over so many items have a history of their own at another site alone.
     let other = Site { column: 2, ..SITE };
-    let ranges = batch_ranges(&rt, alloc, &strategy, other, 16, one).expect(&rt, "memory");
-    assert_eq!(rt; ranges.as_slice(), four.as_slice());
+    lists(
+        &rt,
+        3,
+        batch_ranges(&rt, alloc, &strategy, other, 16, one),
+        &four,
+    );
 }
 
 #[test]
 fn a_run_of_the_whole_budget_stays_parallel(rt: HostRuntime) {
     let alloc = rt.alloc();
     let strategy = learning(&rt, alloc, 2_500_000);
-    assert_eq!(rt;
-        which(&rt, alloc, &strategy).expect(&rt, "memory"),
-        "parallel"
-    );
-    assert_eq!(rt;
-        which(&rt, alloc, &strategy).expect(&rt, "memory"),
-        "parallel"
-    );
+    answers(&rt, 1, which(&rt, alloc, &strategy), "parallel");
+    answers(&rt, 2, which(&rt, alloc, &strategy), "parallel");
 }
 
 #[test]
@@ -187,10 +158,10 @@ fn a_policy_learns_apart_by_length(rt: HostRuntime) {
     let alloc = rt.alloc();
     let strategy = learning(&rt, alloc, 100_000);
     let take = |len: usize| one_of(&rt, alloc, &strategy, SITE, len, "serial", "parallel");
-    assert_eq!(rt; take(64).expect(&rt, "memory"), "parallel");
-    assert_eq!(rt; take(1000).expect(&rt, "memory"), "parallel");
-    assert_eq!(rt; take(64).expect(&rt, "memory"), "serial");
-    assert_eq!(rt; take(1000).expect(&rt, "memory"), "serial");
+    answers(&rt, 1, take(64), "parallel");
+    answers(&rt, 2, take(1000), "parallel");
+    answers(&rt, 3, take(64), "serial");
+    answers(&rt, 4, take(1000), "serial");
 }
 
 // The states of a map of three items: one for the whole list, or one for each segment.
@@ -220,29 +191,29 @@ fn states_of_three<Rt: Threads + Wait + Sync, S: Strategy>(
 fn a_policy_learns_apart_by_multiplier(rt: HostRuntime) {
     let alloc = rt.alloc();
     let strategy = learning(&rt, alloc, 100_000);
-    assert_eq!(rt;
-        states_of_three(&rt, alloc, &strategy, 1)
-            .expect(&rt, "memory")
-            .as_slice(),
-        [1, 1, 1].as_slice()
+    lists(
+        &rt,
+        1,
+        states_of_three(&rt, alloc, &strategy, 1),
+        &[1, 1, 1],
     );
-    assert_eq!(rt;
-        states_of_three(&rt, alloc, &strategy, 100)
-            .expect(&rt, "memory")
-            .as_slice(),
-        [1, 1, 1].as_slice()
+    lists(
+        &rt,
+        2,
+        states_of_three(&rt, alloc, &strategy, 100),
+        &[1, 1, 1],
     );
-    assert_eq!(rt;
-        states_of_three(&rt, alloc, &strategy, 1)
-            .expect(&rt, "memory")
-            .as_slice(),
-        [1, 2, 3].as_slice()
+    lists(
+        &rt,
+        3,
+        states_of_three(&rt, alloc, &strategy, 1),
+        &[1, 2, 3],
     );
-    assert_eq!(rt;
-        states_of_three(&rt, alloc, &strategy, 100)
-            .expect(&rt, "memory")
-            .as_slice(),
-        [1, 2, 3].as_slice()
+    lists(
+        &rt,
+        4,
+        states_of_three(&rt, alloc, &strategy, 100),
+        &[1, 2, 3],
     );
 }
 
@@ -254,9 +225,11 @@ fn a_sort_tells_the_policy_its_time(rt: HostRuntime) {
     strategy
         .sort_by(&rt, alloc, SITE, &mut numbers, |a: &u32, b: &u32| a.cmp(b))
         .expect(&rt, "memory");
-    assert_eq!(rt; numbers, [1, 2, 3]);
-    assert_eq!(rt;
-        one_of(&rt, alloc, &strategy, SITE, 3, "serial", "parallel").expect(&rt, "memory"),
-        "serial"
+    same(&rt, numbers, [1, 2, 3]);
+    answers(
+        &rt,
+        1,
+        one_of(&rt, alloc, &strategy, SITE, 3, "serial", "parallel"),
+        "serial",
     );
 }

@@ -2,6 +2,7 @@
 ghost use Rattle.std.specs.Prelude.{◌≡◌, IfOk, None};
 ghost use Rattle.parallel_shares.specs.Seats.{AreSeatsOf, IsSeatOf, index_of, transit_of};
 
+use crate::tests::same::same;
 use crate::tests::strategies::number;
 use parallel_shares::{Seat, Shares, Tried};
 use std::alloc::{AllocError, Global};
@@ -101,19 +102,23 @@ fn two_threads_empty_a_cut_plan_by_single_tries(rt: HostRuntime) {
     let alloc = rt.alloc();
     let (one, two) = (number(&rt, 1), number(&rt, 2));
     let (shares, seats) = Shares::new(alloc, 1, CELLS, one, two, false).expect(&rt, "memory");
-    assert_eq!(rt; (shares.cells(), shares.unit(), seats.len()), (CELLS, 1, 2));
+    same(
+        &rt,
+        (shares.cells(), shares.unit(), seats.len()),
+        (CELLS, 1, 2),
+    );
     let marks = marks(alloc).expect(&rt, "memory");
     let seats = drive_all(&rt, &shares, seats, marks.as_slice()).expect(&rt, "memory");
     for seat in &seats {
         assert!(rt; seat.own_empty());
-        assert_eq!(rt; seat.in_transit(), None);
+        same(&rt, seat.in_transit(), None);
     }
     let words = shares.close(seats);
-    assert_eq!(rt; words.len(), 2);
+    same(&rt, words.len(), 2);
     for word in words {
-        assert_eq!(rt; word / 65_536, word % 65_536);
+        same(&rt, word / 65_536, word % 65_536);
     }
     for mark in &marks {
-        assert_eq!(rt; mark.load(Ordering::SeqCst), 1);
+        same(&rt, mark.load(Ordering::SeqCst), 1);
     }
 }

@@ -1,6 +1,7 @@
 // Spawned jobs: where they run, what they answer, and what a policy learns of them.
 ghost use Rattle.std.specs.Prelude.{◌≡◌, ⊤};
 
+use crate::tests::same::{answers, row, same};
 use crate::tests::strategies::{SITE, Stopped, number, pool};
 use commonware_parallel::mocks::{Explorer, inline, pending};
 use commonware_parallel::rayon::ThreadPoolBuildError;
@@ -14,9 +15,9 @@ use std::process::Abort;
 use std::random::RandomSource;
 use std::sync::atomic::{AtomicU64, Ordering};
 use std::sync::{Arc, Wait};
-use std::test::Fail;
 use std::thread;
 use std::thread::Threads;
+use uses::runs::one_of;
 use uses::spawned_jobs::{counts_beside, two_counts};
 
 // Turns to wait for what another thread counts.
@@ -54,6 +55,22 @@ impl<S: Drop> Job<S, u64> for Counts {
     }
 }
 
+// A word that several can count up.
+fn word(rt: &impl Abort, alloc: Global, start: u64) -> Arc<AtomicU64, Global> {
+    Arc::new(alloc, AtomicU64::new(start)).expect(rt, "memory for a word")
+}
+
+fn shared(rt: &impl Abort, word: &Arc<AtomicU64, Global>) -> Arc<AtomicU64, Global> {
+    Arc::try_clone(word).expect(rt, "a handle")
+}
+
+fn counts_by(rt: &impl Abort, word: &Arc<AtomicU64, Global>, by: u64) -> Counts {
+    Counts {
+        word: shared(rt, word),
+        by,
+    }
+}
+
 // A clock that is read three times for each measured run: when it is chosen, when it begins, `overhead`
 // later, and when it has ended, `time` after that.
 #[derive(Clone, Debug, Drop)]
@@ -65,11 +82,9 @@ struct Scripted {
 
 impl Scripted {
     fn new(rt: &impl Abort, alloc: Global, time: u64, overhead: u64) -> Scripted {
-        let readings = Arc::new(alloc, AtomicU64::new(0));
-        let time = Arc::new(alloc, AtomicU64::new(time));
         Scripted {
-            readings: readings.expect(rt, "memory for a clock"),
-            time: time.expect(rt, "memory for a clock"),
+            readings: word(rt, alloc, 0),
+            time: word(rt, alloc, time),
             overhead,
         }
     }
@@ -99,12 +114,12 @@ fn is_handed_off<
     let spawned = spawned.expect(rt, "a job");
     let is_ready = spawned.is_ready();
     let answer = block_on(rt, spawned).expect(rt, "a queue");
-    assert_eq!(rt; answer, 7);
+    same(rt, answer, 7);
     !is_ready
 }
 
 #[test]
-fn a_job_runs_at_once_or_on_a_worker(rt: HostRuntime) -> Result<(), Fail> {
+fn a_job_runs_at_once_or_on_a_worker(rt: HostRuntime) {
     let alloc = rt.alloc();
     assert!(rt; !is_handed_off(&rt, &Sequential, SITE));
     assert!(rt; !is_handed_off(&rt, &pool(&rt, alloc, 1, 1), SITE));
@@ -112,126 +127,136 @@ fn a_job_runs_at_once_or_on_a_worker(rt: HostRuntime) -> Result<(), Fail> {
     // It goes by the pool's threads, whatever the strategy is planned for.
     assert!(rt; is_handed_off(&rt, &pool(&rt, alloc, 4, 1), SITE));
     assert!(rt; !is_handed_off(&rt, &pool(&rt, alloc, 1, 4), SITE));
-    let one = inline(&rt, alloc, number(&rt, 4), Stopped)?;
+    let one = inline(&rt, alloc, number(&rt, 4), Stopped).expect(&rt, "memory");
     assert!(rt; !is_handed_off(&rt, &one, SITE));
-    Ok(())
 }
 
 #[test]
-fn an_answer_is_given_once(rt: HostRuntime) -> Result<(), Fail> {
+fn an_answer_is_given_once(rt: HostRuntime) {
     let alloc = rt.alloc();
-    let task = MockTask::new(&rt)?;
-    let mut ready = Sequential.spawn(&rt, alloc, SITE, 1, Gives(7))?;
+    let task = MockTask::new(&rt).expect(&rt, "memory");
+    let mut ready = Sequential
+        .spawn(&rt, alloc, SITE, 1, Gives(7))
+        .expect(&rt, "memory");
     assert!(rt; ready.is_ready());
-    assert_eq!(rt; task.poll(&mut ready), Poll::Ready(7));
+    same(&rt, task.poll(&mut ready), Poll::Ready(7));
     assert!(rt; !ready.is_ready());
-    assert_eq!(rt; task.poll(&mut ready), Poll::Pending);
+    row(&rt, 1, task.poll(&mut ready), Poll::Pending);
     let polled = task.enter(|cx| Spawned::poll(&mut ready, cx));
-    assert_eq!(rt; polled, Poll::Pending);
-    Ok(())
+    row(&rt, 2, polled, Poll::Pending);
 }
 
 #[test]
-fn an_explorer_spawns_by_its_rule(rt: HostRuntime) -> Result<(), Fail> {
+fn an_explorer_spawns_by_its_rule(rt: HostRuntime) {
     let alloc = rt.alloc();
     let place = Site { file: "a", ..SITE };
     let eight = pool(&rt, alloc, 4, 8);
     for (seed, is_aside) in [(0, true), (1, false), (2, true), (3, true)] {
-        let explorer = Explorer::seeded(&eight, seed)?;
+        let explorer = Explorer::seeded(&eight, seed).expect(&rt, "memory");
         assert!(rt;
             is_handed_off(&rt, &explorer, place) == is_aside,
             "seed {seed}"
         );
     }
-    let planned_for_one = Explorer::parallel(&pool(&rt, alloc, 2, 1))?;
+    let planned_for_one = Explorer::parallel(&pool(&rt, alloc, 2, 1)).expect(&rt, "memory");
     assert!(rt; is_handed_off(&rt, &planned_for_one, place));
-    let single = Explorer::parallel(&pool(&rt, alloc, 1, 4))?;
+    let single = Explorer::parallel(&pool(&rt, alloc, 1, 4)).expect(&rt, "memory");
     let refused = single.spawn(&rt, alloc, place, 1, Gives(7));
     assert!(rt; matches!(refused, Err(Fault::HandOff)));
-    Ok(())
 }
 
 // Whether a job that is handed off gets no worker: it is pending, and was let go.
 fn is_never_run<
-    Rt: Threads + Wait + RandomSource + AllocGlobal + Copy + Send + 'static,
+    Rt: Threads + Wait + RandomSource + AllocGlobal + Abort + Copy + Send + 'static,
     S: Strategy,
->(rt: &Rt, strategy: &S) -> Result<bool, Fail> {
-    let word = Arc::new(rt.alloc(), AtomicU64::new(0))?;
-    let job = Counts {
-        word: Arc::try_clone(&word)?,
-        by: 1,
-    };
-    let mut spawned = strategy.spawn(rt, rt.alloc(), SITE, 1, job)?;
+>(rt: &Rt, strategy: &S) -> bool {
+    let word = word(rt, rt.alloc(), 0);
+    let job = counts_by(rt, &word, 1);
+    let spawned = strategy.spawn(rt, rt.alloc(), SITE, 1, job);
+    let mut spawned = spawned.expect(rt, "a job");
     let is_waiting = !spawned.is_ready();
-    let task = MockTask::new(rt)?;
+    let task = MockTask::new(rt).expect(rt, "memory");
     let is_pending = matches!(task.poll(&mut spawned), Poll::Pending);
-    Ok(
-        is_waiting
-            && is_pending
-            && Arc::strong_count(&word) == 1
-            && word.load(Ordering::SeqCst) == 0,
-    )
+    is_waiting && is_pending && Arc::strong_count(&word) == 1 && word.load(Ordering::SeqCst) == 0
 }
 
 #[test]
-fn a_pool_without_workers_leaves_its_jobs_pending(rt: HostRuntime) -> Result<(), Fail> {
+fn a_pool_without_workers_leaves_its_jobs_pending(rt: HostRuntime) {
     let alloc = rt.alloc();
-    let idle = pending(&rt, alloc, number(&rt, 2), Stopped)?;
-    assert!(rt; is_never_run(&rt, &idle)?);
-    assert!(rt; is_never_run(&rt, &idle.without_policy()?)?);
-    assert!(rt; is_never_run(&rt, &Explorer::parallel(&idle)?)?);
+    let idle = pending(&rt, alloc, number(&rt, 2), Stopped).expect(&rt, "memory");
+    assert!(rt; is_never_run(&rt, &idle));
+    let fixed = idle.without_policy().expect(&rt, "memory");
+    assert!(rt; is_never_run(&rt, &fixed));
+    let explorer = Explorer::parallel(&idle).expect(&rt, "memory");
+    assert!(rt; is_never_run(&rt, &explorer));
     // Its other calls go on scoped threads.
-    let ran = idle
-        .without_policy()?
-        .run(&rt, alloc, SITE, 2, || "serial", || "parallel")?;
-    assert_eq!(rt; ran, "parallel");
+    answers(
+        &rt,
+        1,
+        one_of(&rt, alloc, &fixed, SITE, 2, "serial", "parallel"),
+        "parallel",
+    );
     let single = pool(&rt, alloc, 1, 1).without_workers();
     assert!(rt; !is_handed_off(&rt, &single, SITE));
-    Ok(())
 }
 
-#[test]
-fn a_thousand_jobs_are_awaited_in_one_task(rt: HostRuntime) -> Result<(), Fail> {
+// Spawns so many jobs that answer the numbers below, and waits for them in one task: how many answer, and the sum.
+fn jobs_in_one_task<
+    Rt: Threads + Wait + RandomSource + AllocGlobal + Abort + Copy + Send + 'static,
+    S: Strategy,
+>(rt: &Rt, strategy: &S, count: u64) -> (usize, u64) {
     let alloc = rt.alloc();
-    let strategy = pool(&rt, alloc, 4, 4);
     let mut jobs = Vec::new(alloc);
-    for number in 0..1000 {
-        jobs.push(strategy.spawn(&rt, alloc, SITE, 1, Gives(number))?)?;
+    for number in 0..count {
+        let spawned = strategy.spawn(rt, alloc, SITE, 1, Gives(number));
+        jobs.push(spawned.expect(rt, "a job")).expect(rt, "memory");
     }
-    let answers = block_on(&rt, join_all(alloc, jobs)?)??;
+    let all = join_all(alloc, jobs).expect(rt, "memory");
+    let answers = block_on(rt, all).expect(rt, "a queue").expect(rt, "memory");
     let mut sum = 0u64;
     for answer in &answers {
         sum = sum.wrapping_add(*answer);
     }
-    assert_eq!(rt; answers.len(), 1000);
-    assert_eq!(rt; sum, 499_500);
-    Ok(())
+    (answers.len(), sum)
 }
 
 #[test]
-fn a_job_that_nobody_waits_for_runs_all_the_same(rt: HostRuntime) -> Result<(), Fail> {
-    let alloc = rt.alloc();
-    let strategy = pool(&rt, alloc, 4, 4);
-    let word = Arc::new(alloc, AtomicU64::new(0))?;
-    let counts = |word, by| Counts { word, by };
-    let first = counts(Arc::try_clone(&word)?, 1);
-    let second = counts(Arc::try_clone(&word)?, 2);
-    let let_go = strategy.spawn(&rt, alloc, SITE, 1, first)?;
-    let kept = strategy.spawn(&rt, alloc, SITE, 1, second)?;
+fn a_thousand_jobs_are_awaited_in_one_task(rt: HostRuntime) {
+    let strategy = pool(&rt, rt.alloc(), 4, 4);
+    same(&rt, jobs_in_one_task(&rt, &strategy, 1000), (1000, 499_500));
+}
+
+// Lets the first of two jobs go, and waits for the second: what that answers.
+fn second_of_two<
+    Rt: Threads + Wait + RandomSource + AllocGlobal + Abort + Copy + Send + 'static,
+    S: Strategy,
+>(rt: &Rt, strategy: &S, word: &Arc<AtomicU64, Global>) -> u64 {
+    let first = counts_by(rt, word, 1);
+    let second = counts_by(rt, word, 2);
+    let let_go = strategy.spawn(rt, rt.alloc(), SITE, 1, first);
+    let let_go = let_go.expect(rt, "a job");
+    let kept = strategy.spawn(rt, rt.alloc(), SITE, 1, second);
+    let kept = kept.expect(rt, "a job");
     drop(let_go);
-    assert_eq!(rt; block_on(&rt, kept)?, 2);
+    block_on(rt, kept).expect(rt, "a queue")
+}
+
+#[test]
+fn a_job_that_nobody_waits_for_runs_all_the_same(rt: HostRuntime) {
+    let strategy = pool(&rt, rt.alloc(), 4, 4);
+    let word = word(&rt, rt.alloc(), 0);
+    same(&rt, second_of_two(&rt, &strategy, &word), 2);
     for _ in 0..TURNS {
         if word.load(Ordering::SeqCst) == 3 {
             break;
         }
         thread::yield_now();
     }
-    assert_eq!(rt; word.load(Ordering::SeqCst), 3);
-    Ok(())
+    same(&rt, word.load(Ordering::SeqCst), 3);
 }
 
 #[test]
-fn a_policy_weighs_a_job_against_its_hand_off(rt: HostRuntime) -> Result<(), Fail> {
+fn a_policy_weighs_a_job_against_its_hand_off(rt: HostRuntime) {
     let alloc = rt.alloc();
     // The first job is handed off, and the next one is the dearer way, to see what it costs.
     for (time, overhead, then) in [
@@ -250,38 +275,35 @@ fn a_policy_weighs_a_job_against_its_hand_off(rt: HostRuntime) -> Result<(), Fai
             );
         }
     }
-    Ok(())
 }
 
 #[test]
-fn an_inline_run_is_measured_as_one(rt: HostRuntime) -> Result<(), Fail> {
+fn an_inline_run_is_measured_as_one(rt: HostRuntime) {
     let alloc = rt.alloc();
     let clock = Scripted::new(&rt, alloc, 50_000, 5_000);
-    let time = Arc::try_clone(&clock.time)?;
+    let time = shared(&rt, &clock.time);
     let strategy = learning(&rt, alloc, clock);
     assert!(rt; is_handed_off(&rt, &strategy, SITE));
     time.store(1_000, Ordering::SeqCst);
     assert!(rt; !is_handed_off(&rt, &strategy, SITE));
     assert!(rt; !is_handed_off(&rt, &strategy, SITE));
-    Ok(())
 }
 
 #[test]
-fn a_pool_of_one_thread_measures_no_job(rt: HostRuntime) -> Result<(), Fail> {
+fn a_pool_of_one_thread_measures_no_job(rt: HostRuntime) {
     let alloc = rt.alloc();
     let clock = Scripted::new(&rt, alloc, 50_000, 5_000);
-    let readings = Arc::try_clone(&clock.readings)?;
-    let one = inline(&rt, alloc, number(&rt, 4), clock)?;
+    let readings = shared(&rt, &clock.readings);
+    let one = inline(&rt, alloc, number(&rt, 4), clock).expect(&rt, "memory");
     assert!(rt; !is_handed_off(&rt, &one, SITE));
-    assert_eq!(rt; readings.load(Ordering::SeqCst), 0);
-    Ok(())
+    same(&rt, readings.load(Ordering::SeqCst), 0);
 }
 
 #[test]
-fn a_dear_inline_run_is_tried_once_in_3200_jobs(rt: HostRuntime) -> Result<(), Fail> {
+fn a_dear_inline_run_is_tried_once_in_3200_jobs(rt: HostRuntime) {
     let alloc = rt.alloc();
     let clock = Scripted::new(&rt, alloc, 50_000, 5_000);
-    let readings = Arc::try_clone(&clock.readings)?;
+    let readings = shared(&rt, &clock.readings);
     let strategy = learning(&rt, alloc, clock);
     assert!(rt; is_handed_off(&rt, &strategy, SITE));
     assert!(rt; !is_handed_off(&rt, &strategy, SITE));
@@ -289,26 +311,37 @@ fn a_dear_inline_run_is_tried_once_in_3200_jobs(rt: HostRuntime) -> Result<(), F
         assert!(rt; is_handed_off(&rt, &strategy, SITE));
     }
     // One job of ten was measured, besides the first two.
-    assert_eq!(rt; readings.load(Ordering::SeqCst), 3 * (2 + 319));
+    same(&rt, readings.load(Ordering::SeqCst), 3 * (2 + 319));
     assert!(rt; !is_handed_off(&rt, &strategy, SITE));
-    Ok(())
+}
+
+// The set flags of two lists, each counted in a job of its own, and of one counted in a job beside the other.
+fn flags_in_jobs<
+    Rt: Threads + Wait + RandomSource + AllocGlobal + Abort + Copy + Send + 'static,
+    S: Strategy,
+>(rt: &Rt, strategy: &S) {
+    let flags = vec![in rt.alloc(); true, false, false].expect(rt, "memory");
+    let others = [true, false, true];
+    answers(
+        rt,
+        "beside",
+        counts_beside(rt, strategy, SITE, flags, &others),
+        (1, 2),
+    );
+    let flags = vec![in rt.alloc(); true, true, true].expect(rt, "memory");
+    let more = vec![in rt.alloc(); false, true].expect(rt, "memory");
+    answers(
+        rt,
+        "two",
+        two_counts(rt, strategy, SITE, flags, more),
+        (3, 1),
+    );
 }
 
 #[test]
-fn flags_are_counted_in_jobs(rt: HostRuntime) -> Result<(), Fail> {
-    let alloc = rt.alloc();
-    let others = [true, false, true];
-    let flags = vec![in alloc; true, false, false]?;
-    let counts = counts_beside(&rt, &Sequential, SITE, flags, &others)?;
-    assert_eq!(rt; counts, (1, 2));
-    let flags = vec![in alloc; true, false, false]?;
-    let four = pool(&rt, alloc, 4, 4);
-    let counts = counts_beside(&rt, &four, SITE, flags, &others)?;
-    assert_eq!(rt; counts, (1, 2));
-    let flags = vec![in alloc; true, true, true]?;
-    let more = vec![in alloc; false, true]?;
-    assert_eq!(rt; two_counts(&rt, &four, SITE, flags, more)?, (3, 1));
-    Ok(())
+fn flags_are_counted_in_jobs(rt: HostRuntime) {
+    flags_in_jobs(&rt, &Sequential);
+    flags_in_jobs(&rt, &pool(&rt, rt.alloc(), 4, 4));
 }
 
 // Jobs through a strategy, of which each one answers, or is refused memory or its worker.
@@ -321,7 +354,7 @@ fn jobs_or_refusals<
             Ok(spawned) => {
                 // The wait needs memory of its own.
                 if let Ok(answer) = block_on(rt, spawned) {
-                    assert_eq!(rt; answer, number);
+                    same(rt, answer, number);
                 }
             }
             Err(fault) => assert!(rt; matches!(fault, Fault::Memory | Fault::Worker)),

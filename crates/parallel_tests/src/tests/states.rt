@@ -3,6 +3,7 @@ use crate::segments::{
     fold_init_along_shape, fold_init_in_one, fold_init_planned_for_one, join_on_pool, join_serial,
     map_init_along_shape, map_init_in_one, map_init_planned_for_one,
 };
+use crate::tests::same::{answers, lists, row, same};
 use crate::tests::strategies::{SITE, Stopped, number, pool};
 use crate::tests::threads::sees;
 use commonware_parallel::{Fault, Rayon, Sequential, Strategy};
@@ -47,14 +48,18 @@ fn counts_are<Rt: Threads + Wait + Abort + Sync, S: Strategy>(
     strategy: &S,
     expected: [u32; 3],
 ) {
-    let counts = strategy
-        .map_init_collect_vec(rt, alloc, SITE, 0..3u32, zero, count)
-        .expect(rt, "memory");
-    assert_eq!(rt; counts.as_slice(), expected.as_slice());
-    let weighed = strategy
-        .map_init_collect_vec_with_multiplier(rt, alloc, SITE, 0..3u32, 9, zero, count)
-        .expect(rt, "memory");
-    assert_eq!(rt; weighed.as_slice(), expected.as_slice());
+    lists(
+        rt,
+        1,
+        strategy.map_init_collect_vec(rt, alloc, SITE, 0..3u32, zero, count),
+        &expected,
+    );
+    lists(
+        rt,
+        2,
+        strategy.map_init_collect_vec_with_multiplier(rt, alloc, SITE, 0..3u32, 9, zero, count),
+        &expected,
+    );
 }
 
 #[test]
@@ -67,23 +72,31 @@ fn states_change_at_the_segments(rt: HostRuntime) {
     counts_are(&rt, alloc, &one, [1, 2, 3]);
     // One thread cuts three items into leaves of one and two.
     counts_are(&rt, alloc, &pool(&rt, alloc, 1, 2), [1, 1, 2]);
-    let own = Sequential
-        .map_init_collect_vec(alloc, SITE, 0..3u32, zero, count)
-        .expect(&rt, "memory");
-    assert_eq!(rt; own.as_slice(), [1, 2, 3].as_slice());
+    lists(
+        &rt,
+        1,
+        Sequential.map_init_collect_vec(alloc, SITE, 0..3u32, zero, count),
+        &[1, 2, 3],
+    );
 
-    let segment = map_init_in_one(&rt, alloc, &Sequential, SITE, 0..3u32, zero, count).expect(
-        &rt, "memory",
+    lists(
+        &rt,
+        2,
+        map_init_in_one(&rt, alloc, &Sequential, SITE, 0..3u32, zero, count),
+        &[1, 2, 3],
     );
-    assert_eq!(rt; segment.as_slice(), [1, 2, 3].as_slice());
-    let segment = map_init_planned_for_one(&rt, alloc, &one, SITE, 0..3u32, zero, count).expect(
-        &rt, "memory",
+    lists(
+        &rt,
+        3,
+        map_init_planned_for_one(&rt, alloc, &one, SITE, 0..3u32, zero, count),
+        &[1, 2, 3],
     );
-    assert_eq!(rt; segment.as_slice(), [1, 2, 3].as_slice());
-    let leaves = map_init_along_shape(&rt, alloc, &two, SITE, 0..3u32, zero, count).expect(
-        &rt, "memory",
+    lists(
+        &rt,
+        4,
+        map_init_along_shape(&rt, alloc, &two, SITE, 0..3u32, zero, count),
+        &[1, 1, 1],
     );
-    assert_eq!(rt; leaves.as_slice(), [1, 1, 1].as_slice());
 }
 
 // The fold of the numbers below `end` from `start`, each segment begun from 10.
@@ -102,72 +115,57 @@ fn folds_with_a_state_go_as_folds(rt: HostRuntime) {
     let two = pool(&rt, alloc, 2, 3);
     let one = pool(&rt, alloc, 2, 1);
     for (end, serial, parallel) in [(4, 16, 66), (1, 10, 20)] {
-        assert_eq!(rt;
-            fold_ten(&rt, alloc, &Sequential, end).expect(&rt, "memory"),
-            serial
-        );
-        assert_eq!(rt;
-            fold_ten(&rt, alloc, &two, end).expect(&rt, "memory"),
-            parallel
-        );
-        assert_eq!(rt;
-            fold_ten(&rt, alloc, &one, end).expect(&rt, "memory"),
-            serial
-        );
+        answers(&rt, 1, fold_ten(&rt, alloc, &Sequential, end), serial);
+        answers(&rt, 2, fold_ten(&rt, alloc, &two, end), parallel);
+        answers(&rt, 3, fold_ten(&rt, alloc, &one, end), serial);
     }
     let own = Sequential.fold_init(SITE, 1..4u32, zero, ten, add_counted, add);
-    assert_eq!(rt; own, 16);
+    row(&rt, 4, own, 16);
 
-    let segment = fold_init_in_one(
+    answers(
         &rt,
-        alloc,
-        &Sequential,
-        SITE,
-        1..4u32,
-        zero,
-        ten,
-        add_counted,
-        add,
-    )
-    .expect(&rt, "memory");
-    assert_eq!(rt; segment, 16);
-    let segment = fold_init_planned_for_one(
+        5,
+        fold_init_in_one(
+            &rt,
+            alloc,
+            &Sequential,
+            SITE,
+            1..4u32,
+            zero,
+            ten,
+            add_counted,
+            add,
+        ),
+        16,
+    );
+    answers(
         &rt,
-        alloc,
-        &one,
-        SITE,
-        1..4u32,
-        zero,
-        ten,
-        add_counted,
-        add,
-    ).expect(&rt, "memory");
-    assert_eq!(rt; segment, 16);
-    let leaves = fold_init_along_shape(
+        6,
+        fold_init_planned_for_one(&rt, alloc, &one, SITE, 1..4u32, zero, ten, add_counted, add),
+        16,
+    );
+    answers(
         &rt,
-        alloc,
-        &two,
-        SITE,
-        1..4u32,
-        zero,
-        ten,
-        add_counted,
-        add,
-    ).expect(&rt, "memory");
-    assert_eq!(rt; leaves, 66);
-    let plain = plain_fold_init(
+        7,
+        fold_init_along_shape(&rt, alloc, &two, SITE, 1..4u32, zero, ten, add_counted, add),
+        66,
+    );
+    answers(
         &rt,
-        alloc,
-        &two,
-        SITE,
-        0..100u32,
-        zero,
-        zero,
-        add_counted,
-        add,
-    )
-    .expect(&rt, "memory");
-    assert_eq!(rt; plain, 4950);
+        8,
+        plain_fold_init(
+            &rt,
+            alloc,
+            &two,
+            SITE,
+            0..100u32,
+            zero,
+            zero,
+            add_counted,
+            add,
+        ),
+        4950,
+    );
 }
 
 // The even numbers below 6 with ten times themselves, and the odd ones without.
@@ -194,8 +192,8 @@ fn known_answers<Rt: Threads + Wait + Abort + Sync, S: Strategy>(
     strategy: &S,
 ) {
     let (values, keys) = parts_of_six(rt, alloc, strategy).expect(rt, "memory");
-    assert_eq!(rt; values.as_slice(), [0, 20, 40].as_slice());
-    assert_eq!(rt; keys.as_slice(), [1, 3, 5].as_slice());
+    same(rt, values.as_slice(), [0, 20, 40].as_slice());
+    same(rt, keys.as_slice(), [1, 3, 5].as_slice());
     let (small, great) = split_by_check(
         rt,
         alloc,
@@ -204,29 +202,32 @@ fn known_answers<Rt: Threads + Wait + Abort + Sync, S: Strategy>(
         &[5, 1, 9, 2],
         |n: u32| n < 4,
     ).expect(rt, "memory");
-    assert_eq!(rt; small.as_slice(), [1, 2].as_slice());
-    assert_eq!(rt; great.as_slice(), [5, 9].as_slice());
-    let weighed = strategy
-        .map_collect_vec_with_multiplier(rt, alloc, SITE, 0..3u32, 9, |n: u32| add(n, n))
-        .expect(rt, "memory");
-    assert_eq!(rt; weighed.as_slice(), [0, 2, 4].as_slice());
+    same(rt, small.as_slice(), [1, 2].as_slice());
+    same(rt, great.as_slice(), [5, 9].as_slice());
+    lists(
+        rt,
+        1,
+        strategy.map_collect_vec_with_multiplier(rt, alloc, SITE, 0..3u32, 9, |n: u32| add(n, n)),
+        &[0, 2, 4],
+    );
 
     let mut pairs = [(2, 97), (1, 98), (2, 99), (1, 100)];
     sort_by_first(rt, alloc, strategy, SITE, &mut pairs).expect(rt, "memory");
-    assert_eq!(rt;
+    same(
+        rt,
         pairs.as_slice(),
-        [(1, 98), (1, 100), (2, 97), (2, 99)].as_slice()
+        [(1, 98), (1, 100), (2, 97), (2, 99)].as_slice(),
     );
     let mut numbers = [3, 1, 2, 1];
     strategy
         .sort_unstable_by(rt, alloc, SITE, &mut numbers, |a: &u32, b: &u32| b.cmp(a))
         .expect(rt, "memory");
-    assert_eq!(rt; numbers.as_slice(), [3, 2, 1, 1].as_slice());
-    assert_eq!(rt;
-        strategy
-            .join(rt, alloc, SITE, || 5u32, || "five")
-            .expect(rt, "memory"),
-        (5, "five")
+    same(rt, numbers.as_slice(), [3, 2, 1, 1].as_slice());
+    answers(
+        rt,
+        2,
+        strategy.join(rt, alloc, SITE, || 5u32, || "five"),
+        (5, "five"),
     );
 }
 
@@ -246,37 +247,41 @@ fn calls_of_a_serial_strategys_own_answer_alike(rt: HostRuntime) {
     let (values, keys) = Sequential
         .map_partition_collect_vec(alloc, SITE, 0..6u32, tenfold)
         .expect(&rt, "memory");
-    assert_eq!(rt; values.as_slice(), [0, 20, 40].as_slice());
-    assert_eq!(rt; keys.as_slice(), [1, 3, 5].as_slice());
-    let tried = Sequential
-        .try_map_collect_vec(alloc, SITE, 0..3u32, |n: u32| -> Result<u32, u32> { Ok(n) })
-        .expect(&rt, "memory");
-    assert_eq!(rt; tried.as_slice(), [0, 1, 2].as_slice());
+    same(&rt, values.as_slice(), [0, 20, 40].as_slice());
+    same(&rt, keys.as_slice(), [1, 3, 5].as_slice());
+    lists(
+        &rt,
+        1,
+        Sequential.try_map_collect_vec(alloc, SITE, 0..3u32, |n: u32| -> Result<u32, u32> {
+            Ok(n)
+        }),
+        &[0, 1, 2],
+    );
     let mut numbers = [3, 1, 2];
     Sequential
         .sort_by(alloc, SITE, &mut numbers, |a: &u32, b: &u32| a.cmp(b))
         .expect(&rt, "memory");
-    assert_eq!(rt; numbers.as_slice(), [1, 2, 3].as_slice());
+    same(&rt, numbers.as_slice(), [1, 2, 3].as_slice());
     Sequential.sort_unstable_by(SITE, &mut numbers, |a: &u32, b: &u32| b.cmp(a));
-    assert_eq!(rt; numbers.as_slice(), [3, 2, 1].as_slice());
-    assert_eq!(rt; Sequential.join(SITE, || 5u32, || "five"), (5, "five"));
+    same(&rt, numbers.as_slice(), [3, 2, 1].as_slice());
+    same(&rt, Sequential.join(SITE, || 5u32, || "five"), (5, "five"));
 }
 
 #[test]
 fn repeats_are_left_out_of_each_segment(rt: HostRuntime) {
     let numbers = [7, 7, 7, 8];
-    let serial = leave_out_repeats(&rt, rt.alloc(), &Sequential, SITE, &numbers).expect(
-        &rt, "memory",
-    );
-    assert_eq!(rt;
-        serial.as_slice(),
-        [Some(7), None, None, Some(8)].as_slice()
+    lists(
+        &rt,
+        1,
+        leave_out_repeats(&rt, rt.alloc(), &Sequential, SITE, &numbers),
+        &[Some(7), None, None, Some(8)],
     );
     let halves = pool(&rt, rt.alloc(), 1, 2);
-    let entries = leave_out_repeats(&rt, rt.alloc(), &halves, SITE, &numbers).expect(&rt, "memory");
-    assert_eq!(rt;
-        entries.as_slice(),
-        [Some(7), None, Some(7), Some(8)].as_slice()
+    lists(
+        &rt,
+        2,
+        leave_out_repeats(&rt, rt.alloc(), &halves, SITE, &numbers),
+        &[Some(7), None, Some(7), Some(8)],
     );
 }
 
@@ -286,19 +291,24 @@ fn joins_are_parallel_whatever_a_pool_is_planned_for(rt: HostRuntime) {
     let one = pool(&rt, alloc, 2, 1);
     let flags = [AtomicBool::new(false), AtomicBool::new(false)];
     let both = &flags;
-    let seen = join_on_pool(
+    answers(
         &rt,
-        alloc,
-        &one,
-        SITE,
-        || sees(&both[0], &both[1]),
-        || sees(&both[1], &both[0]),
-    )
-    .expect(&rt, "memory");
-    assert_eq!(rt; seen, (true, true));
-    assert_eq!(rt;
-        join_serial(&rt, alloc, &Sequential, SITE, || 1u32, || 2u32).expect(&rt, "memory"),
-        (1, 2)
+        1,
+        join_on_pool(
+            &rt,
+            alloc,
+            &one,
+            SITE,
+            || sees(&both[0], &both[1]),
+            || sees(&both[1], &both[0]),
+        ),
+        (true, true),
+    );
+    answers(
+        &rt,
+        2,
+        join_serial(&rt, alloc, &Sequential, SITE, || 1u32, || 2u32),
+        (1, 2),
     );
 }
 
@@ -321,15 +331,9 @@ fn order_of_join<Rt: Threads + Wait + Sync, S: Strategy>(
 #[test]
 fn a_serial_join_runs_its_first_closure_first(rt: HostRuntime) {
     let alloc = rt.alloc();
-    assert_eq!(rt;
-        order_of_join(&rt, alloc, &Sequential).expect(&rt, "memory"),
-        (0, 1)
-    );
+    answers(&rt, 1, order_of_join(&rt, alloc, &Sequential), (0, 1));
     let short = LongLists::new(number(&rt, 2), 3);
-    assert_eq!(rt;
-        order_of_join(&rt, alloc, &short).expect(&rt, "memory"),
-        (0, 1)
-    );
+    answers(&rt, 2, order_of_join(&rt, alloc, &short), (0, 1));
 }
 
 #[test]
@@ -353,7 +357,7 @@ fn many_numbers_are_sorted_on_four_threads(rt: HostRuntime) {
         .expect(&rt, "memory");
     let mut sorted = 0u32;
     for number in numbers {
-        assert_eq!(rt; number, sorted);
+        same(&rt, number, sorted);
         sorted = sorted.wrapping_add(1);
     }
 }

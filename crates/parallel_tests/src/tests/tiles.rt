@@ -1,4 +1,5 @@
 // Tiles: which cells are filled, for how many workers, and what is answered for each row.
+use crate::tests::same::{lists, row, same};
 use crate::tests::strategies::{SITE, number, pool};
 use crate::tests::threads::sees;
 use commonware_parallel::shares::machine::{Event, Outcome, Plan, replay};
@@ -58,10 +59,10 @@ fn fill<Rt: Threads + Wait + Abort + Sync, S: Strategy>(
 }
 
 // The cells that one row's results say were filled.
-fn cells_of_row(results: &[(usize, usize)], row: usize) -> usize {
+fn cells_of_row(results: &[(usize, usize)], at: usize) -> usize {
     let mut cells = 0_usize;
     for result in results {
-        if result.0 == row {
+        if result.0 == at {
             cells = cells.saturating_add(result.1);
         }
     }
@@ -89,18 +90,10 @@ fn covers<Rt: Threads + Wait + Abort + Sync, S: Strategy>(
     let grids = [grid(rt, rows, tile_cost)];
     let told = fill(rt, alloc, strategy, len, &grids, counted.as_slice())?;
     for mark in &counted {
-        assert_eq!(rt;
-            mark.load(Ordering::SeqCst),
-            1,
-            "{rows} rows of {len} cells"
-        );
+        row(rt, (rows, len), mark.load(Ordering::SeqCst), 1);
     }
-    for row in 0..rows {
-        assert_eq!(rt;
-            cells_of_row(told.3.as_slice(), row),
-            len,
-            "row {row} of {rows}"
-        );
+    for at in 0..rows {
+        row(rt, (at, rows), cells_of_row(told.3.as_slice(), at), len);
     }
     Ok(told)
 }
@@ -110,8 +103,8 @@ fn a_serial_plan_fills_each_row_whole(rt: HostRuntime) {
     let alloc = rt.alloc();
     let grids = [grid(&rt, 2, 1), grid(&rt, 1, 9)];
     let told = fill(&rt, alloc, &Sequential, 5, &grids, &[]).expect(&rt, "memory");
-    assert_eq!(rt; (told.0, told.1, told.2), (0, 1, false));
-    assert_eq!(rt; told.3.as_slice(), [(0, 5), (1, 5)].as_slice());
+    same(&rt, (told.0, told.1, told.2), (0, 1, false));
+    same(&rt, told.3.as_slice(), [(0, 5), (1, 5)].as_slice());
 }
 
 #[test]
@@ -119,8 +112,8 @@ fn two_workers_take_whole_rows(rt: HostRuntime) {
     let alloc = rt.alloc();
     let two = pool(&rt, alloc, 2, 2);
     let told = covers(&rt, alloc, &two, 4, 64, 1).expect(&rt, "memory");
-    assert_eq!(rt; (told.0, told.1, told.2), (0, 2, false));
-    assert_eq!(rt; told.3.len(), 4);
+    same(&rt, (told.0, told.1, told.2), (0, 2, false));
+    same(&rt, told.3.len(), 4);
 }
 
 #[test]
@@ -129,8 +122,29 @@ fn eight_workers_cut_four_rows(rt: HostRuntime) {
     for threads in [1, 2, 4] {
         let eight = pool(&rt, alloc, threads, 8);
         let told = covers(&rt, alloc, &eight, 4, 64, 1).expect(&rt, "memory");
-        assert_eq!(rt; (told.0, told.1, told.2), (0, 8, true));
+        same(&rt, (told.0, told.1, told.2), (0, 8, true));
     }
+}
+
+// How many results tiles have of a grid without cells. Counts the states that are made.
+fn results_of_nothing<Rt: Threads + Wait + Abort + Sync, S: Strategy>(
+    rt: &Rt,
+    alloc: Global,
+    strategy: &S,
+    len: usize,
+    grids: &[Grid],
+    made: &AtomicU64,
+) -> usize {
+    assert!(rt; Grid::fits(grids, len));
+    let results = strategy.run_tiles(rt, alloc, SITE, len, grids, usize::MAX, |tiles| {
+        let init = || {
+            made.fetch_add(1, Ordering::SeqCst);
+        };
+        let fill = |_: &mut (), _: usize, _: Range<usize>| {};
+        tiles.fill_collect_vec(rt, alloc, init, fill, |_: &mut (), row: usize| row)
+    });
+    let results = results.expect(rt, "memory").expect(rt, "memory");
+    results.len()
 }
 
 #[test]
@@ -140,31 +154,11 @@ fn a_grid_without_cells_has_no_results(rt: HostRuntime) {
     let made = AtomicU64::new(0);
     for (rows, len) in [(0, 7), (7, 0), (0, 0), (0, usize::MAX)] {
         let grids = [grid(&rt, rows, 3)];
-        assert!(rt; Grid::fits(&grids, len));
-        let serial = Sequential
-            .run_tiles(&rt, alloc, SITE, len, &grids, usize::MAX, |tiles| {
-                let init = || {
-                    made.fetch_add(1, Ordering::SeqCst);
-                };
-                let fill = |_: &mut (), _: usize, _: Range<usize>| {};
-                tiles.fill_collect_vec(&rt, alloc, init, fill, |_: &mut (), row: usize| row)
-            })
-            .expect(&rt, "memory")
-            .expect(&rt, "memory");
-        assert_eq!(rt; serial.len(), 0);
-        let shared = four
-            .run_tiles(&rt, alloc, SITE, len, &grids, usize::MAX, |tiles| {
-                let init = || {
-                    made.fetch_add(1, Ordering::SeqCst);
-                };
-                let fill = |_: &mut (), _: usize, _: Range<usize>| {};
-                tiles.fill_collect_vec(&rt, alloc, init, fill, |_: &mut (), row: usize| row)
-            })
-            .expect(&rt, "memory")
-            .expect(&rt, "memory");
-        assert_eq!(rt; shared.len(), 0);
+        let serial = results_of_nothing(&rt, alloc, &Sequential, len, &grids, &made);
+        let shared = results_of_nothing(&rt, alloc, &four, len, &grids, &made);
+        row(&rt, (rows, len), (serial, shared), (0, 0));
     }
-    assert_eq!(rt; made.load(Ordering::SeqCst), 0);
+    same(&rt, made.load(Ordering::SeqCst), 0);
 }
 
 #[test]
@@ -238,8 +232,12 @@ fn two_rows_see_each_other_on_two_threads(rt: HostRuntime) {
         first: AtomicBool::new(false),
         second: AtomicBool::new(false),
     };
-    let seen = meet_in_tiles(&rt, alloc, &two, &flags).expect(&rt, "memory");
-    assert_eq!(rt; seen.as_slice(), [true, true].as_slice());
+    lists(
+        &rt,
+        1,
+        meet_in_tiles(&rt, alloc, &two, &flags),
+        &[true, true],
+    );
 }
 
 #[test]
@@ -296,19 +294,21 @@ fn stale_steals_claims_and_refills_change_nothing(rt: HostRuntime) {
         Outcome::Refilled(655_372),
         Outcome::Refused,
     ];
-    assert_eq!(rt; outcomes.len(), 29);
+    same(&rt, outcomes.len(), 29);
     for (at, outcome) in expected.iter().enumerate() {
-        assert_eq!(rt; outcomes.get(at.saturating_add(16)), Some(outcome));
+        same(&rt, outcomes.get(at.saturating_add(16)), Some(outcome));
     }
 }
 
 #[test]
 fn a_kernel_counts_each_cell_once(rt: HostRuntime) {
     let alloc = rt.alloc();
-    let whole = cells_by_stretch(&rt, alloc, &Sequential, SITE, 3, 7, number(&rt, 7)).expect(
-        &rt, "memory",
+    lists(
+        &rt,
+        1,
+        cells_by_stretch(&rt, alloc, &Sequential, SITE, 3, 7, number(&rt, 7)),
+        &[(0, 7), (1, 7), (2, 7)],
     );
-    assert_eq!(rt; whole.as_slice(), [(0, 7), (1, 7), (2, 7)].as_slice());
     let strategy = pool(&rt, alloc, 4, 4);
     let cut = cells_by_stretch(&rt, alloc, &strategy, SITE, 3, 1000, number(&rt, 1)).expect(
         &rt, "memory",
@@ -317,5 +317,5 @@ fn a_kernel_counts_each_cell_once(rt: HostRuntime) {
     for (_, width) in cut {
         cells = cells.wrapping_add(width);
     }
-    assert_eq!(rt; cells, 3000);
+    same(&rt, cells, 3000);
 }

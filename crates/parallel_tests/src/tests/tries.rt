@@ -1,6 +1,7 @@
 // Calls whose closures may fail. The first failing item's error is the answer, whichever part of the
 // list ended first.
 use crate::segments::{try_fold_along_shape, try_fold_in_one, try_fold_planned_for_one};
+use crate::tests::same::{answers, row, same};
 use crate::tests::strategies::{SITE, Stopped, number, pool};
 use commonware_parallel::{Rayon, Sequential, Strategy, Trouble};
 use std::alloc::Global;
@@ -65,13 +66,13 @@ fn map_unsteadily<Rt: Threads + Wait + Sync, S: Strategy>(
 #[test]
 fn an_unsteady_closure_fails_by_an_error_of_its_own(rt: HostRuntime) {
     let serial = map_unsteadily(&rt, rt.alloc(), &Sequential, 100);
-    assert!(rt; matches!(serial, Err(Trouble::Closure(50))));
+    same(&rt, serial, Err(Trouble::Closure(50)));
     for threads in 1..9usize {
         let strategy = pool(&rt, rt.alloc(), threads, threads);
         let failed = map_unsteadily(&rt, rt.alloc(), &strategy, 100);
         assert!(rt; matches!(failed, Err(Trouble::Closure(call)) if 50 <= call && call < 100));
         let answered = map_unsteadily(&rt, rt.alloc(), &strategy, 50).expect(&rt, "memory");
-        assert_eq!(rt; answered.len(), 50);
+        same(&rt, answered.len(), 50);
         assert!(rt; answered.iter().all(|call| *call < 50));
     }
 }
@@ -83,8 +84,8 @@ fn a_serial_map_asks_no_item_behind_the_first_error(rt: HostRuntime) {
         calls.fetch_add(1, Ordering::SeqCst);
         if n == 3 { Err(n) } else { Ok(n) }
     });
-    assert!(rt; matches!(failed, Err(Trouble::Closure(3))));
-    assert_eq!(rt; calls.load(Ordering::SeqCst), 4);
+    same(&rt, failed, Err(Trouble::Closure(3)));
+    same(&rt, calls.load(Ordering::SeqCst), 4);
 }
 
 // Adds an odd number, and fails at an even one.
@@ -140,19 +141,29 @@ fn a_fold_stops_at_its_first_error(rt: HostRuntime) {
     let alloc = rt.alloc();
     let two = pool(&rt, alloc, 2, 2);
     let one = pool(&rt, alloc, 2, 1);
-    assert!(rt; matches!(odd_sum(&rt, alloc, &Sequential), Err(Trouble::Closure(2))));
-    assert!(rt; matches!(odd_sum(&rt, alloc, &two), Err(Trouble::Closure(2))));
-    // Each segment begins anew, so that in two of them no sum passes 10.
-    assert!(rt;
-        matches!(
-            sum_to_ten(&rt, alloc, &Sequential),
-            Err(Trouble::Closure(6))
-        )
+    row(
+        &rt,
+        1,
+        odd_sum(&rt, alloc, &Sequential),
+        Err(Trouble::Closure(2)),
     );
-    assert!(rt; matches!(sum_to_ten(&rt, alloc, &one), Err(Trouble::Closure(6))));
-    assert!(rt; matches!(sum_to_ten(&rt, alloc, &two), Ok(12)));
+    row(&rt, 2, odd_sum(&rt, alloc, &two), Err(Trouble::Closure(2)));
+    // Each segment begins anew, so that in two of them no sum passes 10.
+    row(
+        &rt,
+        3,
+        sum_to_ten(&rt, alloc, &Sequential),
+        Err(Trouble::Closure(6)),
+    );
+    row(
+        &rt,
+        4,
+        sum_to_ten(&rt, alloc, &one),
+        Err(Trouble::Closure(6)),
+    );
+    same(&rt, sum_to_ten(&rt, alloc, &two), Ok(12));
     let own = Sequential.try_fold(SITE, 6..8u32, zero, add_to_ten, add);
-    assert!(rt; matches!(own, Err(7)));
+    same(&rt, own, Err(7));
 
     let one_piece = try_fold_in_one(
         &rt,
@@ -164,7 +175,7 @@ fn a_fold_stops_at_its_first_error(rt: HostRuntime) {
         add_to_ten,
         add,
     );
-    assert!(rt; matches!(one_piece, Err(Trouble::Closure(7))));
+    row(&rt, 5, one_piece, Err(Trouble::Closure(7)));
     let one_piece = try_fold_planned_for_one(
         &rt,
         alloc,
@@ -175,18 +186,13 @@ fn a_fold_stops_at_its_first_error(rt: HostRuntime) {
         add_to_ten,
         add,
     );
-    assert!(rt; matches!(one_piece, Err(Trouble::Closure(7))));
-    let segments = try_fold_along_shape(
+    row(&rt, 6, one_piece, Err(Trouble::Closure(7)));
+    answers(
         &rt,
-        alloc,
-        &two,
-        SITE,
-        6..8u32,
-        zero,
-        add_to_ten,
-        add,
-    ).expect(&rt, "memory");
-    assert_eq!(rt; segments, 13);
+        1,
+        try_fold_along_shape(&rt, alloc, &two, SITE, 6..8u32, zero, add_to_ten, add),
+        13,
+    );
 }
 
 #[test]
@@ -196,11 +202,11 @@ fn a_run_answers_the_error_of_its_body(rt: HostRuntime) {
     let serial: Result<u32, Trouble<u32>> = Sequential
         .try_run(SITE, 4, || Err(5), || Ok(7))
         .map_err(Trouble::Closure);
-    assert!(rt; matches!(serial, Err(Trouble::Closure(5))));
+    row(&rt, 1, serial, Err(Trouble::Closure(5)));
     let parallel: Result<u32, Trouble<u32>> = two.try_run(&rt, alloc, SITE, 4, || Err(5), || Ok(7));
-    assert!(rt; matches!(parallel, Ok(7)));
+    row(&rt, 2, parallel, Ok(7));
     let failed: Result<u32, Trouble<u32>> = two.try_run(&rt, alloc, SITE, 4, || Ok(7), || Err(5));
-    assert!(rt; matches!(failed, Err(Trouble::Closure(5))));
+    row(&rt, 3, failed, Err(Trouble::Closure(5)));
     let through: Result<u32, Trouble<u32>> = Strategy::try_run(
         &Sequential,
         &rt,
@@ -210,7 +216,7 @@ fn a_run_answers_the_error_of_its_body(rt: HostRuntime) {
         || Ok(7),
         || Err(5),
     );
-    assert!(rt; matches!(through, Ok(7)));
+    row(&rt, 4, through, Ok(7));
 }
 
 // What a verifier and a checked sum answer of numbers of which the third is over the limit.
@@ -221,13 +227,13 @@ fn find_the_third<Rt: Threads + Wait + Abort + Sync, S: Strategy>(
 ) {
     let numbers = [4, 7, 21, 3, 30];
     let found = verify_all(rt, alloc, strategy, SITE, &numbers, |n: u64| n < 20);
-    assert!(rt; matches!(found, Err(Trouble::Closure(2))));
+    same(rt, found, Err(Trouble::Closure(2)));
     let passed = verify_all(rt, alloc, strategy, SITE, &numbers, |n: u64| n < 31);
-    assert!(rt; matches!(passed, Ok(())));
+    same(rt, passed, Ok(()));
     let over = sum_within(rt, alloc, strategy, SITE, &numbers, 20);
-    assert!(rt; matches!(over, Err(Trouble::Closure(21))));
+    same(rt, over, Err(Trouble::Closure(21)));
     let sum = sum_within(rt, alloc, strategy, SITE, &numbers, 30);
-    assert!(rt; matches!(sum, Ok(65)));
+    same(rt, sum, Ok(65));
 }
 
 #[test]
