@@ -113,6 +113,55 @@ fn fold_counted<R: Threads + Sync + Abort>(
     assert!(rt; all_gone_but(&counts, 0));
 }
 
+// Takes so many counted items from the front of a drain and so many from its back, and lets it go.
+fn drain_counted<R: Abort>(rt: &R, alloc: Global, len: usize, front: usize, back: usize) {
+    let counts = no_counts();
+    let items = counted_items(alloc, &counts, len);
+    let count = items.len();
+    let mut drain = DrainProducer::from_vec(items).drain();
+    for place in 0..front.min(count) {
+        same(rt, drain.next().map(|item| item.place), Some(place));
+    }
+    let left = drain.len();
+    for taken in 0..back.min(left) {
+        let place = count.wrapping_sub(taken).wrapping_sub(1);
+        same(rt, drain.next_back().map(|item| item.place), Some(place));
+    }
+    assert!(rt; all_gone_but(&counts, drain.len()));
+    drop(drain);
+    assert!(rt; all_gone_but(&counts, 0));
+}
+
+// Splits counted items at an index, and lets the front one go before the back one.
+fn split_counted<R: Abort>(rt: &R, alloc: Global, len: usize, index: usize) {
+    let counts = no_counts();
+    let parts = DrainProducer::from_vec(counted_items(alloc, &counts, len));
+    let len = parts.len();
+    if index <= len
+        && let Ok((front, back)) = parts.split_at(alloc, index)
+    {
+        same(rt, front.len(), index);
+        drop(front);
+        assert!(rt; all_gone_but(&counts, len.wrapping_sub(index)));
+        same(rt, back.len(), len.wrapping_sub(index));
+    }
+    assert!(rt; all_gone_but(&counts, 0));
+}
+
+#[test]
+fn a_drain_or_a_part_that_is_let_go_drops_what_is_left(rt: HostRuntime) {
+    for (len, first, second) in [
+        (0usize, 0usize, 0usize),
+        (1, 1, 0),
+        (5, 0, 2),
+        (5, 2, 3),
+        (1000, 300, 1),
+    ] {
+        drain_counted(&rt, rt.alloc(), len, first, second);
+        split_counted(&rt, rt.alloc(), len, first);
+    }
+}
+
 #[test]
 fn each_item_and_each_answer_is_dropped_once(rt: HostRuntime) {
     for threads in 1..9usize {
