@@ -47,6 +47,7 @@ pub fn dispatch_path<S: Strategy, Rt: Wait, P: Place, R, E, B: FnOnce(Path) -> R
             Pick::Into(_) => unreachable!(),
         }
     };
+    // (each outcome by itself, so that its facts have a name in the proof)
     match strategy.dispatch(rt, alloc, site, call, told) {
         Ok(answer) => Ok(answer),
         Err(Trouble::Closure(error)) => Err(Trouble::Closure(error)),
@@ -82,6 +83,7 @@ pub fn dispatch_parts<S: Strategy, Rt: Wait, P: Place, R, E, B: FnOnce(usize) ->
             Pick::Into(parts) => body(parts),
         }
     };
+    // (each outcome by itself, so that its facts have a name in the proof)
     match strategy.dispatch(rt, alloc, site, call, told) {
         Ok(answer) => Ok(answer),
         Err(Trouble::Closure(error)) => Err(Trouble::Closure(error)),
