@@ -45,10 +45,10 @@ fn values_print_their_parts(rt: HostRuntime) {
 }
 
 // How many of the keys differ, by their hashes and by `==`.
-fn distinct<const N: usize>(rt: &impl Abort, alloc: Global, keys: [Key; N]) -> usize {
+fn distinct(rt: &impl Abort, alloc: Global, keys: &[Key]) -> usize {
     let mut all = HashSet::new(alloc);
     for key in keys {
-        all.insert(key).expect(rt, "memory");
+        all.insert(*key).expect(rt, "memory");
     }
     all.len()
 }
@@ -72,13 +72,13 @@ fn keys_are_told_apart_by_each_part(rt: HostRuntime) {
         Key::new(SITE, 64, 64, 5),
         Key::new(SITE, 127, 100, 4),
     ];
-    same(&rt, distinct(&rt, rt.alloc(), keys), 7);
+    same(&rt, distinct(&rt, rt.alloc(), &keys), 7);
     let keys = [
         Key::new(SITE, 1, 1, 4),
         Key::new(SITE, 2, 2, 4),
         Key::new(SITE, 3, 3, 4),
     ];
-    same(&rt, distinct(&rt, rt.alloc(), keys), 2);
+    same(&rt, distinct(&rt, rt.alloc(), &keys), 2);
 }
 
 #[test]

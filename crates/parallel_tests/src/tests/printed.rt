@@ -72,9 +72,9 @@ fn values_are_copied_compared_and_hashed(rt: HostRuntime) {
 
     let other_line = Site { line: 2, ..SITE };
     assert!(rt; SITE != other_line);
-    row(&rt, 3, distinct(&rt, alloc, [SITE, other_line, SITE]), 2);
+    row(&rt, 3, distinct(&rt, alloc, &[SITE, other_line, SITE]), 2);
     let calls = [Call::body(4), Call::body(5), Call::body(4)];
-    row(&rt, 4, distinct(&rt, alloc, calls), 2);
+    row(&rt, 4, distinct(&rt, alloc, &calls), 2);
     let kinds = [
         Kind::Body,
         Kind::Batches,
@@ -83,18 +83,14 @@ fn values_are_copied_compared_and_hashed(rt: HostRuntime) {
         Kind::Join,
         Kind::Body,
     ];
-    row(&rt, 5, distinct(&rt, alloc, kinds), 5);
+    row(&rt, 5, distinct(&rt, alloc, &kinds), 5);
 }
 
 // How many of the values differ, by their hashes and by `==`.
-fn distinct<T: Hash + Eq + Drop, const N: usize>(
-    rt: &impl Abort,
-    alloc: Global,
-    values: [T; N],
-) -> usize {
+fn distinct<T: Copy + Hash + Eq + Drop>(rt: &impl Abort, alloc: Global, values: &[T]) -> usize {
     let mut all = HashSet::new(alloc);
     for value in values {
-        all.insert(value).expect(rt, "memory");
+        all.insert(*value).expect(rt, "memory");
     }
     all.len()
 }
