@@ -11,11 +11,11 @@ use Rattle.commonware_parallel.specs.declared.call.Pick.TheVariants.{By, Into}
 use Rattle.commonware_parallel.specs.declared.mocks.explorer.Explorer.{Explorer}
 use Rattle.commonware_parallel.specs.declared.mocks.rule.Rule.TheVariants.{Serial as SerialRule}
 
-path_of : Pick → Path
+abbrev path_of : Pick → Path
 path_of (By path) = path
 path_of (Into parts) = Serial
 
-parts_of : Pick → ℕ
+abbrev parts_of : Pick → ℕ
 parts_of (By path) = zero
 parts_of (Into parts) = parts
 

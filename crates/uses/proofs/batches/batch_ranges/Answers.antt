@@ -8,5 +8,5 @@ use Rattle.uses.proofs.batches.batch_ranges.Goals as goal
 pub returns-clause-each_once : goal.returns-clause-each_once
 returns-clause-each_once g c =
     let w = c.in_ok-ranges.ensures.answers in
-    let same : ranges_of w.3 ≡ c.in_ok-ranges-2.field-0.items = search rules in
-    subst (CoversOnce c.args.len) same (BalancedCut-indices c.args.len (ranges_of w.3) w.4.0)
+    let same : ranges_of w.4 ≡ c.in_ok-ranges-2.field-0.items = search rules in
+    subst (CoversOnce c.args.len) same (BalancedCut-indices c.args.len (ranges_of w.4) w.5.0)
