@@ -81,7 +81,7 @@ pub counts_are : {X : Type 0} (init : ℕ → Type 0) (step : ℕ → X → ℕ 
 counts_are init step xs ys (s, begun, states) fresh counts = states_are step counts s xs ys states ∙ ap (λ v. counted_from v xs) (fresh s begun)
 
 -- and so along a cut
-pub counts_along : {X : Type 0} (init : ℕ → Type 0) (step : ℕ → X → ℕ → ℕ → Type 0) (cut : Cut X) (ys : List ℕ) → StatesAlong init step cut ys → ((s : ℕ) → init s → s ≡ 0) → ((s : ℕ) (x : X) (y t : ℕ) → step s x y t → (y ≡ next s) × (t ≡ next s)) → ys ≡ counted_along cut
+counts_along : {X : Type 0} (init : ℕ → Type 0) (step : ℕ → X → ℕ → ℕ → Type 0) (cut : Cut X) (ys : List ℕ) → StatesAlong init step cut ys → ((s : ℕ) → init s → s ≡ 0) → ((s : ℕ) (x : X) (y t : ℕ) → step s x y t → (y ≡ next s) × (t ≡ next s)) → ys ≡ counted_along cut
 counts_along init step (segment xs) ys h fresh counts = counts_are init step xs ys h fresh counts
 counts_along init step (halves p q) ys (us, vs, left, right, joined) fresh counts =
     joined ∙ ap (λ l. l ++ vs) (counts_along init step p us left fresh counts) ∙ ap (λ l. counted_along p ++ l) (counts_along init step q vs right fresh counts)
@@ -90,8 +90,12 @@ counts_along init step (halves p q) ys (us, vs, left, right, joined) fresh count
 pub states_in_one : {S X Y : Type 0} (init : S → Type 0) (step : S → X → Y → S → Type 0) (depth : ℕ) (path : Path) (xs : List X) (ys : List Y) → StatesAs init step depth path xs ys → path ≡ Serial → StateSegment init step xs ys
 states_in_one init step depth path xs ys h serial = subst (λ p. StatesAs init step depth p xs ys) serial h
 
-pub states_along : {S X Y : Type 0} (init : S → Type 0) (step : S → X → Y → S → Type 0) (depth : ℕ) (path : Path) (xs : List X) (ys : List Y) → StatesAs init step depth path xs ys → path ≡ Parallel → StatesAlong init step (Shape depth xs) ys
+states_along : {S X Y : Type 0} (init : S → Type 0) (step : S → X → Y → S → Type 0) (depth : ℕ) (path : Path) (xs : List X) (ys : List Y) → StatesAs init step depth path xs ys → path ≡ Parallel → StatesAlong init step (Shape depth xs) ys
 states_along init step depth path xs ys h parallel = subst (λ p. StatesAs init step depth p xs ys) parallel h
+
+-- the answers of a map that counts the items of each segment, in parallel
+pub counts_as : {X : Type 0} (init : ℕ → Type 0) (step : ℕ → X → ℕ → ℕ → Type 0) (depth : ℕ) (path : Path) (xs : List X) (ys : List ℕ) → StatesAs init step depth path xs ys → path ≡ Parallel → ((s : ℕ) → init s → s ≡ 0) → ((s : ℕ) (x : X) (y t : ℕ) → step s x y t → (y ≡ next s) × (t ≡ next s)) → ys ≡ counted_along (Shape depth xs)
+counts_as init step depth path xs ys h parallel fresh counts = counts_along init step (Shape depth xs) ys (states_along init step depth path xs ys h parallel) fresh counts
 
 maps_to : {X Y : Type 0} (allowed : X → Y → Type 0) (f : X → Y) → ((x : X) (y : Y) → allowed x y → y ≡ f x) → (xs : List X) (ys : List Y) → AllZip allowed xs ys → ys ≡ map f xs
 maps_to allowed f calls [] [] h = refl
