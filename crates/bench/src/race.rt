@@ -8,6 +8,7 @@ use anyhow::{Context, Result, ensure};
 use commonware_parallel::{Clock, MonotonicClock, Rayon};
 use std::alloc::Global;
 use std::fmt::Debug;
+use std::num::NonZeroUsize;
 use std::sync::Wait;
 use std::thread::Threads;
 use std::time;
@@ -112,8 +113,7 @@ where
 {
     let alloc = rt.alloc();
     let clock = MonotonicClock::new(rt.clone()?)?;
-    let learning = Rayon::new(rt, alloc, trial.threads, clock.clone()?)?;
-    let parallel = learning.without_policy()?;
+    let (parallel, learning) = rayons(rt, alloc, clock.clone()?, trial.threads)?;
     let strategies = Strategies {
         parallel: &parallel,
         learning: &learning,
@@ -161,8 +161,7 @@ where
 {
     let alloc = rt.alloc();
     let clock = MonotonicClock::new(rt.clone()?)?;
-    let learning = Rayon::new(rt, alloc, trial.threads, clock)?;
-    let parallel = learning.without_policy()?;
+    let (parallel, learning) = rayons(rt, alloc, clock, trial.threads)?;
     let strategies = Strategies {
         parallel: &parallel,
         learning: &learning,
@@ -172,6 +171,18 @@ where
     let answer = by_way(rt, alloc, &strategies, way, trial.case, input)?;
     println!(rt; "{}", answer.checksum())?;
     Ok(())
+}
+
+/// A strategy without a policy and one with it, over one pool.
+fn rayons<Rt: Threads + Wait + Sync, C: Clock>(
+    rt: &Rt,
+    alloc: Global,
+    clock: C,
+    threads: NonZeroUsize,
+) -> Result<(Rayon<C>, Rayon<C>)> {
+    let learning = Rayon::new(rt, alloc, threads, clock)?;
+    let parallel = learning.without_policy()?;
+    Ok((parallel, learning))
 }
 
 /// An odd number of rounds: 7 for a long list, and up to 1001 for a short one.

@@ -1,7 +1,7 @@
 // Consumers and producers at concrete types.
 mod windows;
 
-use crate::same::{row, same};
+use crate::same::same;
 use parallel_bridge::bridge::bridge;
 use parallel_bridge::consumer::list_vec::ListVecConsumer;
 use parallel_bridge::consumer::try_fold::TryFoldFolder;
@@ -58,59 +58,73 @@ fn fullness<X: Drop, R, E, F: Folder<X, R, E>>(
     Ok([before, between, folder.full()])
 }
 
+// A number below 5, or the number as an error.
+fn check(number: u32) -> Result<u32, u32> {
+    if number < 5 { Ok(number) } else { Err(number) }
+}
+
+fn add(left: u32, right: u32) -> u32 {
+    left.wrapping_add(right)
+}
+
+// The sum, where it is below 5.
+fn add_checked(sum: u32, item: u32) -> Result<u32, u32> {
+    check(sum.wrapping_add(item))
+}
+
 #[test]
-fn a_folder_is_full_behind_an_error_or_none(rt: HostRuntime) {
+fn a_folder_of_a_fallible_map_is_full_behind_an_error(rt: HostRuntime) {
     let alloc = rt.alloc();
-    let check = |number: u32| -> Result<u32, u32> {
-        if number < 5 { Ok(number) } else { Err(number) }
-    };
-    let before = TryMapFolder {
+    let folder = TryMapFolder {
         values: Vec::new(alloc),
         failed: None,
         map_op: &check,
     };
-    row(
-        &rt,
-        1,
-        fullness(alloc, before, 4, 5),
-        Ok([false, false, true]),
-    );
+    same(&rt, fullness(alloc, folder, 4, 5), Ok([false, false, true]));
+}
+
+#[test]
+fn a_folder_of_options_is_full_behind_none(rt: HostRuntime) {
+    let alloc = rt.alloc();
     let base = TryMapFolder {
         values: Vec::new(alloc),
         failed: None,
         map_op: &check,
     };
-    let kept = WhileSomeFolder { base, full: false };
-    row(
+    let folder = WhileSomeFolder { base, full: false };
+    same(
         &rt,
-        2,
-        fullness(alloc, kept, Some(4), None),
+        fullness(alloc, folder, Some(4), None),
         Ok([false, false, true]),
     );
-    let add = |left: u32, right: u32| left.wrapping_add(right);
-    let reduced = TryReduceFolder {
+}
+
+#[test]
+fn a_folder_of_a_fallible_reduction_is_full_behind_an_error(rt: HostRuntime) {
+    let folder = TryReduceFolder {
         control: Ok(0),
         reduce_op: &add,
     };
-    row(
+    same(
         &rt,
-        3,
-        fullness(alloc, reduced, Ok(4), Err(5)),
+        fullness(rt.alloc(), folder, Ok(4), Err(5)),
         Ok([false, false, true]),
     );
-    let half = |sum: u32, item: u32| check(sum.wrapping_add(item));
-    let folded = TryFoldFolder {
+}
+
+#[test]
+fn a_folder_of_a_fallible_fold_is_full_behind_an_error(rt: HostRuntime) {
+    let folder = TryFoldFolder {
         base: TryReduceFolder {
             control: Ok(0),
             reduce_op: &add,
         },
         control: Ok(0),
-        fold_op: &half,
+        fold_op: &add_checked,
     };
-    row(
+    same(
         &rt,
-        4,
-        fullness(alloc, folded, 4, 5),
+        fullness(rt.alloc(), folder, 4, 5),
         Ok([false, false, true]),
     );
 }

@@ -17,6 +17,7 @@ mod same;
 mod shares;
 mod spawns;
 mod states;
+mod steps;
 mod strategies;
 mod threads;
 mod tiles;

@@ -1,8 +1,8 @@
 // Batches: in which ranges their indices go.
-use crate::beyond::ranges_at_pool;
 use crate::tests::same::{answers, lists, row, same};
 use crate::tests::strategies::{SITE, number, pool};
 use commonware_parallel::{Batches, Fault, Sequential, Strategy, Trouble};
+use known_answers::beyond::ranges_at_pool;
 use std::alloc::Global;
 use std::num::NonZeroUsize;
 use std::ops::Range;

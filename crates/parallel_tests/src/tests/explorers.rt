@@ -2,6 +2,7 @@
 ghost use Rattle.parallel_shares.specs.Grid.{Fits};
 
 use crate::tests::same::{answers, same};
+use crate::tests::steps::{add, ascending, count, ten, zero};
 use crate::tests::strategies::{SITE, Stopped, number, pool};
 use commonware_parallel::mocks::{
     ExploreError, Explorer, Rule, TASKS, WORKERS, explore, inline, mix, pick, pooled,
@@ -174,7 +175,7 @@ fn tiles_and_sorts_come_out_alike_by_every_rule(rt: HostRuntime) {
         Some(900),
     );
     let mut numbers = Vec::new(alloc);
-    for n in 0..20_000_u64 {
+    for n in 0..20_000_u32 {
         numbers
             .push(n.wrapping_mul(7_919) % 20_011)
             .expect(&rt, "memory");
@@ -182,13 +183,7 @@ fn tiles_and_sorts_come_out_alike_by_every_rule(rt: HostRuntime) {
     let is_sorted = explore(&rt, alloc, |explorer| {
         numbers.reverse();
         explorer
-            .sort_by(
-                &rt,
-                alloc,
-                SITE,
-                &mut numbers,
-                |left, right| left.cmp(right),
-            )
+            .sort_by(&rt, alloc, SITE, &mut numbers, ascending)
             .is_ok()
             && numbers.is_sorted()
     })
@@ -246,17 +241,9 @@ fn sum_from_ten<Rt: Threads + Wait + Sync, S: Strategy>(
     rt: &Rt,
     alloc: Global,
     strategy: &S,
-    items: &[u64],
-) -> Result<u64, Fault> {
-    strategy.fold(
-        rt,
-        alloc,
-        SITE,
-        items,
-        || 10,
-        |sum: u64, item: &u64| sum.wrapping_add(*item),
-        |left: u64, right: u64| left.wrapping_add(right),
-    )
+    items: &[u32],
+) -> Result<u32, Fault> {
+    strategy.fold(rt, alloc, SITE, items.iter().copied(), ten, add, add)
 }
 
 #[test]
@@ -269,17 +256,7 @@ fn the_parallel_rule_folds_and_maps_along_the_shape(rt: HostRuntime) {
     answers(&rt, 1, sum_from_ten(&rt, alloc, &explorer, &[1, 2, 3]), 66);
     answers(&rt, 2, sum_from_ten(&rt, alloc, &explorer, &[]), 20);
     let states = explorer
-        .map_init_collect_vec(
-            &rt,
-            alloc,
-            SITE,
-            0..3u64,
-            || 0u64,
-            |state, _| {
-                *state = state.wrapping_add(1);
-                *state
-            },
-        )
+        .map_init_collect_vec(&rt, alloc, SITE, 0..3u32, zero, count)
         .expect(&rt, "memory");
     same(&rt, states.as_slice(), [1, 1, 1].as_slice());
 }

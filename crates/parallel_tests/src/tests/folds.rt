@@ -1,11 +1,12 @@
 // Folds through each strategy. The identity 10 isn't neutral for addition, so that the sum tells in
 // how many segments a list went: each leaf of its shape adds 20, and a list in one piece adds 10.
-use crate::beyond::{
-    fold_along_shape, fold_by_own, fold_in_one, fold_planned_for_one, planned_pool,
-};
 use crate::tests::same::{answers, row};
+use crate::tests::steps::{add, ten, zero};
 use crate::tests::strategies::{SITE, Stopped, number, pool};
 use commonware_parallel::{Fault, Sequential, Strategy};
+use known_answers::beyond::{
+    fold_along_shape, fold_by_own, fold_in_one, fold_planned_for_one, planned_pool,
+};
 use std::alloc::Global;
 use std::num::NonZeroUsize;
 use std::process::Abort;
@@ -16,14 +17,6 @@ use uses::long_lists::{LongLists, fold_by_length};
 use uses::words::longest_word;
 
 const ONE_TO_THREE: [u32; 3] = [1, 2, 3];
-
-fn ten() -> u32 {
-    10
-}
-
-fn add(left: u32, right: u32) -> u32 {
-    left.wrapping_add(right)
-}
 
 fn fold_ten<Rt: Threads + Wait + Sync, S: Strategy>(
     rt: &Rt,
@@ -119,7 +112,7 @@ fn fold_numbers<Rt: Threads + Wait + Sync, S: Strategy>(
     strategy: &S,
     count: u32,
 ) -> Result<u32, Fault> {
-    strategy.fold(rt, alloc, SITE, 0..count, || 0, add, add)
+    strategy.fold(rt, alloc, SITE, 0..count, zero, add, add)
 }
 
 // What sums and the longest word are through any strategy, which the row tells.

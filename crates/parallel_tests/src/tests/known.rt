@@ -1,11 +1,11 @@
 // The known answers once each, which their contracts state.
-use crate::known::{
-    cost_of_four_rows, first_odd_of_four, first_two_choices, from_ten_in_one, places_in_one,
-    segments_of_five, ten_in_four, tens_of_even_numbers,
-};
 use crate::tests::same::{answers, lists, same};
 use crate::tests::strategies::{SITE, pool};
 use commonware_parallel::{Sequential, Trouble};
+use known_answers::known::{
+    cost_of_four_rows, first_odd_of_four, first_two_choices, from_ten_in_one, places_in_one,
+    segments_of_five, ten_in_four, tens_of_even_numbers,
+};
 use parallel_policy::RunExecution;
 
 #[test]

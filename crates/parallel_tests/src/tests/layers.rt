@@ -1,5 +1,6 @@
 // Each call of the layers below a strategy, once by itself.
 use crate::tests::same::{answers, lists, row, same};
+use crate::tests::steps::{add, ten};
 use crate::tests::strategies::{SITE, number, pool};
 use commonware_parallel::bridge::bridge::depth_of;
 use commonware_parallel::bridge::list::fold::{fold_iter, fold_parallel};
@@ -19,12 +20,12 @@ fn a_strategy_hands_its_picks_out(rt: HostRuntime) {
         work: 18_446_744_073_709_551_615,
         parts: 3,
     };
-    assert_eq!(rt; call, expected);
-    assert_eq!(rt; SITE.site(), SITE);
+    same(&rt, call, expected);
+    same(&rt, SITE.site(), SITE);
     let (pick, _) = Sequential
         .choose(&rt, alloc, SITE, call)
         .expect(&rt, "memory");
-    assert_eq!(rt; pick, Pick::Into(1));
+    same(&rt, pick, Pick::Into(1));
     assert!(rt; Sequential.starts_workers());
     let strategy = pool(&rt, alloc, 2, 8);
     assert!(rt; strategy.starts_workers());
@@ -42,18 +43,16 @@ fn a_strategy_hands_its_picks_out(rt: HostRuntime) {
         let (chosen, _) = strategy
             .choose(&rt, alloc, SITE, Call { kind, ..call })
             .expect(&rt, "memory");
-        assert_eq!(rt; chosen, pick, "{kind:?} of {planned}");
+        row(&rt, (kind, planned), chosen, pick);
         let told = strategy
             .dispatch_body(&rt, alloc, SITE, 1, |path| Ok(path))
             .expect(&rt, "memory");
-        assert_eq!(rt;
-            told,
-            if planned == 1 {
-                Path::Serial
-            } else {
-                Path::Parallel
-            }
-        );
+        let path = if planned == 1 {
+            Path::Serial
+        } else {
+            Path::Parallel
+        };
+        same(&rt, told, path);
     }
 }
 
@@ -83,8 +82,6 @@ fn lists_are_driven_without_a_strategy(rt: HostRuntime) {
         &[5, 10, 15],
     );
 
-    let ten = || 10u32;
-    let add = |left: u32, right: u32| left.wrapping_add(right);
     same(&rt, fold_iter(1..4u32, &ten, &add), 16);
     let few = Copies {
         slice: [1, 2, 3].as_slice(),

@@ -1,6 +1,7 @@
 // Calls whose memory may be refused at any point: each one answers what it always does, or
 // `Fault::Memory`, and nothing else. Run with each allocation failing in turn.
 use crate::tests::same::{row, same};
+use crate::tests::steps::{add, add_counted, zero};
 use crate::tests::strategies::{SITE, Stopped, number};
 use commonware_parallel::{Fault, Rayon, Sequential, Strategy, Trouble};
 use parallel_pool::rayon::ThreadPoolBuildError;
@@ -92,17 +93,11 @@ fn states_or_refusals<Rt: Threads + Wait + Abort + Sync, S: Strategy>(
     is_or_refused(rt, entries.map(|entries| entries.len()), count);
     let parts = split_by_check(rt, alloc, strategy, SITE, threes, |three: u32| three == 3);
     is_or_refused(rt, parts.map(|parts| parts.0.len()), count);
-    let sum = strategy.fold_init(
-        rt,
-        alloc,
-        SITE,
-        threes.iter().copied(),
-        || (),
-        || 0,
-        |sum: usize, _: &mut (), _: u32| sum.wrapping_add(1),
-        |left: usize, right: usize| left.wrapping_add(right),
-    );
-    is_or_refused(rt, sum, count);
+    let numbers = threes.iter().copied();
+    match strategy.fold_init(rt, alloc, SITE, numbers, zero, zero, add_counted, add) {
+        Ok(sum) => row(rt, 3, sum as usize, count.wrapping_mul(3)),
+        Err(fault) => same(rt, fault, Fault::Memory),
+    }
 }
 
 // A sort of pairs whose first parts are odd, which stay there also where it is refused; a join and a

@@ -1,5 +1,6 @@
 // The calls of one place, each under its short name.
 use crate::tests::same::{answers, lists, same};
+use crate::tests::steps::{add, add_counted, ascending, descending, zero};
 use crate::tests::strategies::{SITE, pool};
 use commonware_parallel::{Fault, Indices, On, Sequential, Strategy, Trouble};
 use std::alloc::Global;
@@ -73,31 +74,19 @@ fn sums_of_five<Rt: Threads + Wait + Abort + Sync, S: Strategy>(
         strategy,
         site: SITE,
     };
-    let five = Indices { start: 0, end: 5 };
-    let add = |left: usize, right: usize| left.wrapping_add(right);
-    answers(rt, 1, on.fold(five, || 0, add, add), 10);
+    answers(rt, 1, on.fold(0..5u32, zero, add, add), 10);
     answers(
         rt,
         2,
-        on.fold_init(
-            five,
-            || 0usize,
-            || 0,
-            |sum: usize, state: &mut usize, n: usize| sum.wrapping_add(n).wrapping_add(*state),
-            add,
-        ),
+        on.fold_init(0..5u32, zero, zero, add_counted, add),
         10,
     );
-    let tried = on.try_fold(
-        five,
-        || 0,
-        |sum: usize, n: usize| if n < 4 {
-            Ok(sum.wrapping_add(n))
-        } else {
-            Err(n)
-        },
-        add,
-    );
+    let below_four = |sum: u32, n: u32| if n < 4 {
+        Ok(sum.wrapping_add(n))
+    } else {
+        Err(n)
+    };
+    let tried = on.try_fold(0..5u32, zero, below_four, add);
     same(rt, tried, Err(Trouble::Closure(4)));
 }
 
@@ -114,10 +103,9 @@ fn sorts_and_a_join<Rt: Threads + Wait + Abort + Sync, S: Strategy>(
         site: SITE,
     };
     let mut numbers = [3, 1, 2u32];
-    on.sort_by(&mut numbers, |left: &u32, right: &u32| right.cmp(left))
-        .expect(rt, "memory");
+    on.sort_by(&mut numbers, descending).expect(rt, "memory");
     same(rt, numbers.as_slice(), [3, 2, 1].as_slice());
-    on.sort_unstable_by(&mut numbers, |left: &u32, right: &u32| left.cmp(right))
+    on.sort_unstable_by(&mut numbers, ascending)
         .expect(rt, "memory");
     same(rt, numbers.as_slice(), [1, 2, 3].as_slice());
     answers(rt, 1, on.join(|| 1, || 2), (1, 2));

@@ -1,5 +1,6 @@
 // What a policy learns, through the calls of a pool.
 use crate::tests::same::{answers, lists, same};
+use crate::tests::steps::{add, ascending, count, ten, zero};
 use crate::tests::strategies::{SITE, Stopped, number};
 use commonware_parallel::{Clock, Fault, Rayon, Sequential, Site, Strategy};
 use std::alloc::Global;
@@ -93,17 +94,9 @@ fn sum_from_ten<Rt: Threads + Wait + Sync, S: Strategy>(
     alloc: Global,
     strategy: &S,
     site: Site,
-) -> Result<u64, Fault> {
+) -> Result<u32, Fault> {
     let numbers = [1, 2, 3];
-    strategy.fold(
-        rt,
-        alloc,
-        site,
-        numbers.iter().copied(),
-        || 10,
-        |sum: u64, number: u64| sum.wrapping_add(number),
-        |left: u64, right: u64| left.wrapping_add(right),
-    )
+    strategy.fold(rt, alloc, site, numbers.iter().copied(), ten, add, add)
 }
 
 #[test]
@@ -172,17 +165,13 @@ fn states_of_three<Rt: Threads + Wait + Sync, S: Strategy>(
     multiplier: usize,
 ) -> Result<Vec<u32>, Fault> {
     let numbers = [7u32, 7, 7];
-    let count = |state: &mut u32, _number: &u32| {
-        *state = state.wrapping_add(1);
-        *state
-    };
     strategy.map_init_collect_vec_with_multiplier(
         rt,
         alloc,
         SITE,
-        numbers.as_slice(),
+        numbers.iter().copied(),
         multiplier,
-        || 0u32,
+        zero,
         count,
     )
 }
@@ -223,7 +212,7 @@ fn a_sort_tells_the_policy_its_time(rt: HostRuntime) {
     let strategy = learning(&rt, alloc, 100_000);
     let mut numbers = [3u32, 1, 2];
     strategy
-        .sort_by(&rt, alloc, SITE, &mut numbers, |a: &u32, b: &u32| a.cmp(b))
+        .sort_by(&rt, alloc, SITE, &mut numbers, ascending)
         .expect(&rt, "memory");
     same(&rt, numbers, [1, 2, 3]);
     answers(

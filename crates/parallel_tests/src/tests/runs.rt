@@ -1,9 +1,9 @@
 // Runs, and the numbers of a pool.
-use crate::beyond::{planned_pool, run_parallel, run_serial};
 use crate::tests::same::{answers, row, same};
 use crate::tests::strategies::{SITE, Stopped, number, pool};
 use commonware_parallel::rayon::ThreadPoolBuilder;
 use commonware_parallel::{Clock, MonotonicClock, Rayon, Sequential, Strategy};
+use known_answers::beyond::{planned_pool, run_parallel, run_serial};
 use uses::long_lists::LongLists;
 use uses::runs::{count_set, one_of};
 

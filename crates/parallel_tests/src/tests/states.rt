@@ -1,12 +1,13 @@
 // Maps and folds with a state at hand, partitions, sorts and joins, through each strategy.
-use crate::segments::{
-    fold_init_along_shape, fold_init_in_one, fold_init_planned_for_one, join_on_pool, join_serial,
-    map_init_along_shape, map_init_in_one, map_init_planned_for_one,
-};
 use crate::tests::same::{answers, lists, row, same};
+use crate::tests::steps::{add, add_counted, ascending, count, descending, ten, zero};
 use crate::tests::strategies::{SITE, Stopped, number, pool};
 use crate::tests::threads::sees;
 use commonware_parallel::{Fault, Rayon, Sequential, Strategy};
+use known_answers::segments::{
+    fold_init_along_shape, fold_init_in_one, fold_init_planned_for_one, join_on_pool, join_serial,
+    map_init_along_shape, map_init_in_one, map_init_planned_for_one,
+};
 use std::alloc::Global;
 use std::process::Abort;
 use std::sync::Wait;
@@ -15,30 +16,6 @@ use std::thread::Threads;
 use uses::long_lists::LongLists;
 use uses::stateful::{leave_out_repeats, plain_fold_init, sort_by_first};
 use uses::verifier::split_by_check;
-
-fn zero() -> u32 {
-    0
-}
-
-fn ten() -> u32 {
-    10
-}
-
-fn add(left: u32, right: u32) -> u32 {
-    left.wrapping_add(right)
-}
-
-// Adds 1 to the state and answers it, whatever the item.
-fn count(state: &mut u32, _item: u32) -> u32 {
-    *state = state.wrapping_add(1);
-    *state
-}
-
-// Adds the item, and counts it in the state.
-fn add_counted(sum: u32, state: &mut u32, item: u32) -> u32 {
-    *state = state.wrapping_add(1);
-    sum.wrapping_add(item)
-}
 
 // The number of each of three items in its segment, by a map with a state and by one whose items stand
 // for more work.
@@ -220,7 +197,7 @@ fn known_answers<Rt: Threads + Wait + Abort + Sync, S: Strategy>(
     );
     let mut numbers = [3, 1, 2, 1];
     strategy
-        .sort_unstable_by(rt, alloc, SITE, &mut numbers, |a: &u32, b: &u32| b.cmp(a))
+        .sort_unstable_by(rt, alloc, SITE, &mut numbers, descending)
         .expect(rt, "memory");
     same(rt, numbers.as_slice(), [3, 2, 1, 1].as_slice());
     answers(
@@ -259,10 +236,10 @@ fn calls_of_a_serial_strategys_own_answer_alike(rt: HostRuntime) {
     );
     let mut numbers = [3, 1, 2];
     Sequential
-        .sort_by(alloc, SITE, &mut numbers, |a: &u32, b: &u32| a.cmp(b))
+        .sort_by(alloc, SITE, &mut numbers, ascending)
         .expect(&rt, "memory");
     same(&rt, numbers.as_slice(), [1, 2, 3].as_slice());
-    Sequential.sort_unstable_by(SITE, &mut numbers, |a: &u32, b: &u32| b.cmp(a));
+    Sequential.sort_unstable_by(SITE, &mut numbers, descending);
     same(&rt, numbers.as_slice(), [3, 2, 1].as_slice());
     same(&rt, Sequential.join(SITE, || 5u32, || "five"), (5, "five"));
 }
@@ -347,13 +324,7 @@ fn many_numbers_are_sorted_on_four_threads(rt: HostRuntime) {
             .expect(&rt, "memory");
     }
     strategy
-        .sort_by(
-            &rt,
-            alloc,
-            SITE,
-            numbers.as_mut_slice(),
-            |a: &u32, b: &u32| a.cmp(b),
-        )
+        .sort_by(&rt, alloc, SITE, numbers.as_mut_slice(), ascending)
         .expect(&rt, "memory");
     let mut sorted = 0u32;
     for number in numbers {

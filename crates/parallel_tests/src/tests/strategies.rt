@@ -3,8 +3,8 @@ ghost use Rattle.std.specs.Prelude.{◌≡◌, false};
 ghost use Rattle.commonware_parallel.specs.Rayon.{chooses_of, planning_of};
 ghost use Rattle.std.specs.Int.NonZero.{non_zero_usize_get};
 
-use crate::beyond::planned_pool;
 use commonware_parallel::{Clock, Rayon, Site};
+use known_answers::beyond::planned_pool;
 use std::alloc::Global;
 use std::num::NonZeroUsize;
 use std::process::Abort;

@@ -1,9 +1,10 @@
 // Calls whose closures may fail. The first failing item's error is the answer, whichever part of the
 // list ended first.
-use crate::segments::{try_fold_along_shape, try_fold_in_one, try_fold_planned_for_one};
 use crate::tests::same::{answers, row, same};
+use crate::tests::steps::{add, zero};
 use crate::tests::strategies::{SITE, Stopped, number, pool};
 use commonware_parallel::{Rayon, Sequential, Strategy, Trouble};
+use known_answers::segments::{try_fold_along_shape, try_fold_in_one, try_fold_planned_for_one};
 use std::alloc::Global;
 use std::process::Abort;
 use std::sync::Wait;
@@ -101,14 +102,6 @@ fn add_odd(sum: u32, number: u32) -> Result<u32, u32> {
 fn add_to_ten(sum: u32, number: u32) -> Result<u32, u32> {
     let next = sum.wrapping_add(number);
     if next > 10 { Err(number) } else { Ok(next) }
-}
-
-fn zero() -> u32 {
-    0
-}
-
-fn add(left: u32, right: u32) -> u32 {
-    left.wrapping_add(right)
 }
 
 fn odd_sum<Rt: Threads + Wait + Sync, S: Strategy>(
