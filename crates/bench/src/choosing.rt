@@ -35,12 +35,36 @@ where
         policy: &policy,
     };
     for recording in [Recording::Measured, Recording::Every] {
-        let times = time_rounds(alloc, &clock, &mut table, keys, trial, recording)?;
-        report(rt, "Table", recording, times, trial.len)?;
-        let times = time_rounds(alloc, &clock, &mut shared, keys, trial, recording)?;
-        report(rt, "Policy", recording, times, trial.len)?;
+        time_learner(
+            rt, alloc, &clock, "Table", &mut table, keys, trial, recording,
+        )?;
+        time_learner(
+            rt,
+            alloc,
+            &clock,
+            "Policy",
+            &mut shared,
+            keys,
+            trial,
+            recording,
+        )?;
     }
     Ok(())
+}
+
+/// Times the rounds of a learner, and prints its line.
+fn time_learner<C: Clock, L: Learner>(
+    rt: &impl Print,
+    alloc: Global,
+    clock: &C,
+    way: &str,
+    learner: &mut L,
+    keys: &[Key],
+    trial: ChoiceTrial,
+    recording: Recording,
+) -> Result<()> {
+    let times = time_rounds(alloc, clock, learner, keys, trial, recording)?;
+    report(rt, way, recording, times, trial.len)
 }
 
 /// The keys that are chosen for: each site with each length.

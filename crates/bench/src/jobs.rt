@@ -80,7 +80,7 @@ fn time_pool<R: Threads + Wait + Copy + Send + 'static, C: Clock>(
     stirs: u64,
     is_from_worker: bool,
 ) -> Result<u64> {
-    let board = Arc::new(alloc, Board::new(alloc, trial.jobs)?)?;
+    let board = board_of(alloc, trial.jobs)?;
     let mut builder = ThreadPoolBuilder::new().num_threads(trial.workers.get());
     if is_from_worker {
         builder = builder.use_current_thread();
@@ -91,17 +91,34 @@ fn time_pool<R: Threads + Wait + Copy + Send + 'static, C: Clock>(
         "the pool has another worker here than was asked for"
     );
     let start = clock.now();
-    match worker {
-        None => spawn_all(rt, &pool, &board, 0..trial.jobs, stirs)?,
-        Some(mut worker) => {
-            spawn_all_from(rt, &pool, &mut worker, &board, stirs, trial.jobs)?;
-            call_all(rt, &pool, &mut worker);
-        }
-    }
+    bring_jobs(rt, &pool, worker, &board, stirs, trial.jobs)?;
     pool.close(rt);
     let end = clock.now();
     ensure!(board.is_each_once(), "jobs were lost");
     Ok(end.saturating_sub(start))
+}
+
+/// A board for so many jobs, to be shared by them.
+pub fn board_of(alloc: Global, jobs: usize) -> Result<Arc<Board, Global>> {
+    let board = Board::new(alloc, jobs)?;
+    Ok(Arc::new(alloc, board)?)
+}
+
+// Brings so many jobs to the pool, by `spawn` or from a worker of it.
+fn bring_jobs<R: Wait>(
+    rt: &R,
+    pool: &Pool,
+    worker: Option<WorkerThread<Errand>>,
+    board: &Arc<Board, Global>,
+    stirs: u64,
+    jobs: usize,
+) -> Result<(), Fault> {
+    let Some(mut worker) = worker else {
+        return spawn_all(rt, pool, board, 0..jobs, stirs);
+    };
+    spawn_all_from(rt, pool, &mut worker, board, stirs, jobs)?;
+    call_all(rt, pool, &mut worker);
+    Ok(())
 }
 
 /// Puts the jobs of these numbers among the injected ones of a pool.
@@ -162,7 +179,7 @@ fn time_threads<R: Threads, C: Clock>(
     at_once: NonZeroUsize,
     stirs: u64,
 ) -> Result<u64> {
-    let board = Arc::new(alloc, Board::new(alloc, jobs)?)?;
+    let board = board_of(alloc, jobs)?;
     let mut threads = VecDeque::new(alloc);
     let start = clock.now();
     for number in 0..jobs {
@@ -224,17 +241,27 @@ fn time_wakes<R: Threads + Wait + time::Clock + Copy + Send + 'static, C: Clock>
     let (pool, _) = builder.build_for::<R, Ring<C>>(rt, alloc)?;
     let mut readings = Vec::new(alloc);
     for _ in 0..WAKES {
-        thread::sleep(rt, time::Duration::from_millis(PAUSE));
-        let ring = Ring {
-            clock: Arc::try_clone(clock)?,
-            called: Arc::try_clone(&called)?,
-        };
-        let start = clock.now();
-        ensure!(pool.spawn(rt, ring).is_ok(), "a job was refused");
-        readings.push(come(rt, &called).saturating_sub(start))?;
+        readings.push(time_wake(rt, &pool, clock, &called)?)?;
     }
     pool.close(rt);
     Times::of(readings)
+}
+
+// The same of one job, after a pause in which the workers fall asleep.
+fn time_wake<R: Wait + time::Clock, C: Clock>(
+    rt: &R,
+    pool: &ThreadPool<Staff<Ring<C>>>,
+    clock: &Arc<C, Global>,
+    called: &Arc<AtomicU64, Global>,
+) -> Result<u64> {
+    thread::sleep(rt, time::Duration::from_millis(PAUSE));
+    let ring = Ring {
+        clock: Arc::try_clone(clock)?,
+        called: Arc::try_clone(called)?,
+    };
+    let start = clock.now();
+    ensure!(pool.spawn(rt, ring).is_ok(), "a job was refused");
+    Ok(come(rt, called).saturating_sub(start))
 }
 
 // When the job was called, once it was, or 0 where it wasn't within ten seconds.

@@ -1,6 +1,6 @@
 // Pools that are brought many jobs by several threads at once, and pools that come and go.
 use crate::errand::{Board, Errand, part_of};
-use crate::jobs::spawn_all;
+use crate::jobs::{board_of, spawn_all};
 use crate::request::PoolTrial;
 use anyhow::{Context, Result, ensure};
 use commonware_parallel::Fault;
@@ -64,7 +64,7 @@ fn soak_one<R: Clock + Threads + Wait + Copy + Send + Sync + 'static>(
     alloc: Global,
     jobs: usize,
 ) -> Result<()> {
-    let board = Arc::new(alloc, Board::new(alloc, jobs)?)?;
+    let board = board_of(alloc, jobs)?;
     let builder = ThreadPoolBuilder::new().num_threads(WORKERS);
     let (pool, _) = builder.build_for::<R, Errand>(rt, alloc)?;
     let brought = bring_all(rt, alloc, &pool, &board, jobs)?;
@@ -147,7 +147,7 @@ fn drop_one<R: Clock + Threads + Wait + Copy + Send + 'static>(
     alloc: Global,
     workers: usize,
 ) -> Result<()> {
-    let board = Arc::new(alloc, Board::new(alloc, FEW)?)?;
+    let board = board_of(alloc, FEW)?;
     let builder = ThreadPoolBuilder::new().num_threads(workers);
     let (pool, _) = builder.build_for::<R, Errand>(rt, alloc)?;
     spawn_all(rt, &pool, &board, 0..FEW, 0)?;

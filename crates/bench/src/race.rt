@@ -118,8 +118,19 @@ where
         parallel: &parallel,
         learning: &learning,
     };
+    run_rounds(rt, alloc, &clock, &strategies, trial)
+}
+
+/// Runs the rounds of a trial, and prints what was read of them.
+fn run_rounds<Rt: Print + Threads + Wait + Sync, C: Clock>(
+    rt: &Rt,
+    alloc: Global,
+    clock: &C,
+    strategies: &Strategies<'_, C>,
+    trial: Trial,
+) -> Result<()> {
     let mut items = items_of(alloc, trial.case, trial.len)?;
-    warm_up(rt, alloc, &clock, &strategies, trial, items.as_slice())?;
+    warm_up(rt, alloc, clock, strategies, trial, items.as_slice())?;
     let mut readings = Readings::new(alloc);
     let mut kept = Vec::new(alloc);
     for number in 0..rounds_of(trial.len) {
@@ -128,16 +139,7 @@ where
         }
         let order = if number % 2 == 0 { FORTH } else { BACK };
         let items = items.as_slice();
-        let lap = run_round(
-            rt,
-            alloc,
-            &clock,
-            &strategies,
-            order,
-            trial,
-            items,
-            &mut kept,
-        )?;
+        let lap = run_round(rt, alloc, clock, strategies, order, trial, items, &mut kept)?;
         readings.push(lap)?;
     }
     readings.report(rt)
@@ -166,11 +168,23 @@ where
         parallel: &parallel,
         learning: &learning,
     };
+    let checksum = checksum_by(rt, alloc, &strategies, trial, way)?;
+    println!(rt; "{checksum}")?;
+    Ok(())
+}
+
+/// Calls one way of a trial once, and answers its answer's checksum.
+fn checksum_by<Rt: Threads + Wait + Sync, C: Clock>(
+    rt: &Rt,
+    alloc: Global,
+    strategies: &Strategies<'_, C>,
+    trial: Trial,
+    way: Way,
+) -> Result<u64> {
     let items = items_of(alloc, trial.case, trial.len)?;
     let input = Input::of(alloc, trial.form, items.as_slice())?;
-    let answer = by_way(rt, alloc, &strategies, way, trial.case, input)?;
-    println!(rt; "{}", answer.checksum())?;
-    Ok(())
+    let answer = by_way(rt, alloc, strategies, way, trial.case, input)?;
+    Ok(answer.checksum())
 }
 
 /// A strategy without a policy and one with it, over one pool.

@@ -88,31 +88,35 @@ pub fn parse_request(words: &[String]) -> Option<Request> {
     let [case, len, threads, options @ ..] = words else {
         return words.is_empty().then_some(Request::Names);
     };
-    if case.as_str() == SOAK {
-        let plans = len.parse().ok()?;
-        let seed = threads.parse().ok()?;
-        let trial = SoakTrial { plans, seed };
-        return options.is_empty().then_some(Request::Soak(trial));
-    }
-    if case.as_str() == POOLS {
-        let jobs = len.parse().ok()?;
-        let pools = threads.parse().ok()?;
-        let trial = PoolTrial { jobs, pools };
-        return options.is_empty().then_some(Request::Pools(trial));
-    }
-    if case.as_str() == POLICY {
-        let len = len.parse().ok()?;
-        let threads = NonZeroUsize::new(threads.parse().ok()?)?;
-        let trial = ChoiceTrial { len, threads };
-        return options.is_empty().then_some(Request::Choose(trial));
-    }
-    if case.as_str() == JOBS {
-        let jobs = len.parse().ok()?;
-        let workers = NonZeroUsize::new(threads.parse().ok()?)?;
-        let trial = JobTrial { jobs, workers };
-        return options.is_empty().then_some(Request::Jobs(trial));
+    if options.is_empty()
+        && let Some(request) = parse_pair(case.as_str(), len.as_str(), threads.as_str())
+    {
+        return Some(request);
     }
     Some(Request::Time(parse_trial(words)?))
+}
+
+// What a word that names no case asks for, with two numbers behind it.
+fn parse_pair(word: &str, first: &str, second: &str) -> Option<Request> {
+    if word == SOAK {
+        let plans = first.parse().ok()?;
+        let seed = second.parse().ok()?;
+        Some(Request::Soak(SoakTrial { plans, seed }))
+    } else if word == POOLS {
+        let jobs = first.parse().ok()?;
+        let pools = second.parse().ok()?;
+        Some(Request::Pools(PoolTrial { jobs, pools }))
+    } else if word == POLICY {
+        let len = first.parse().ok()?;
+        let threads = NonZeroUsize::new(second.parse().ok()?)?;
+        Some(Request::Choose(ChoiceTrial { len, threads }))
+    } else if word == JOBS {
+        let jobs = first.parse().ok()?;
+        let workers = NonZeroUsize::new(second.parse().ok()?)?;
+        Some(Request::Jobs(JobTrial { jobs, workers }))
+    } else {
+        None
+    }
 }
 
 // A case with its length, its threads and its options.

@@ -190,22 +190,21 @@ fn by_source<Rt: Threads + Wait + Sync, S: Strategy, M, I: Source<M, Item = u64>
 ) -> Result<Answer, Fault>
     requires { I.can source }
 {
-    let answer = match case {
-        ItemCase::MapLight => Answer::Numbers(calls::map_light(rt, alloc, strategy, source)?),
-        ItemCase::MapHeavy => Answer::Numbers(calls::map_heavy(rt, alloc, strategy, source)?),
-        ItemCase::MapRising => Answer::Numbers(calls::map_rising(rt, alloc, strategy, source)?),
-        ItemCase::FoldLight => Answer::Number(calls::fold_light(rt, alloc, strategy, source)?),
-        ItemCase::FoldHeavy => Answer::Number(calls::fold_heavy(rt, alloc, strategy, source)?),
-        ItemCase::FoldRising => Answer::Number(calls::fold_rising(rt, alloc, strategy, source)?),
-        ItemCase::TryMapLight => Answer::Numbers(calls::try_map_light(
-            rt, alloc, strategy, source,
-        )?),
-        ItemCase::FoldInit => Answer::Number(calls::fold_init(rt, alloc, strategy, source)?),
+    match case {
+        ItemCase::MapLight => calls::map_light(rt, alloc, strategy, source).map(Answer::Numbers),
+        ItemCase::MapHeavy => calls::map_heavy(rt, alloc, strategy, source).map(Answer::Numbers),
+        ItemCase::MapRising => calls::map_rising(rt, alloc, strategy, source).map(Answer::Numbers),
+        ItemCase::FoldLight => calls::fold_light(rt, alloc, strategy, source).map(Answer::Number),
+        ItemCase::FoldHeavy => calls::fold_heavy(rt, alloc, strategy, source).map(Answer::Number),
+        ItemCase::FoldRising => calls::fold_rising(rt, alloc, strategy, source).map(Answer::Number),
+        ItemCase::TryMapLight => calls::try_map_light(rt, alloc, strategy, source).map(
+            Answer::Numbers,
+        ),
+        ItemCase::FoldInit => calls::fold_init(rt, alloc, strategy, source).map(Answer::Number),
         ItemCase::Partition => {
             let (values, keys) = calls::partition(rt, alloc, strategy, source)?;
-            Answer::Parts(values, keys)
+            Ok(Answer::Parts(values, keys))
         }
-        ItemCase::Sort => Answer::Numbers(calls::sort(rt, alloc, strategy, source)?),
-    };
-    Ok(answer)
+        ItemCase::Sort => calls::sort(rt, alloc, strategy, source).map(Answer::Numbers),
+    }
 }
