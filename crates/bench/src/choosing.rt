@@ -84,7 +84,8 @@ pub fn keys_of(alloc: Global, parallelism: usize) -> Result<Vec<Key>, AllocError
 
 /// What rounds of `trial.len` choices took, in nanoseconds.
 ///
-/// Before the first round each key was asked for, and each round is run once untimed before it is timed.
+/// Before the first round each key was asked for, and each round is run once untimed before it is
+/// timed.
 fn time_rounds<C: Clock, L: Learner>(
     alloc: Global,
     clock: &C,
@@ -140,8 +141,8 @@ pub fn round<L: Learner>(
     Ok(())
 }
 
-/// What the choice of that number is said to have taken: half a millisecond, and up to a microsecond
-/// more.
+/// What the choice of that number is said to have taken: half a millisecond, and up to a
+/// microsecond more.
 fn nanoseconds_of(number: usize) -> u64 {
     500_000 + (number % 1024) as u64
 }

@@ -15,7 +15,8 @@ impl Decimal {
         }
     }
 
-    /// How many times a whole goes into a number, rounded down to a thousandth; none where the whole is 0.
+    /// How many times a whole goes into a number, rounded down to a thousandth; none where the
+    /// whole is 0.
     pub fn ratio(number: u64, whole: u64) -> Option<Decimal> {
         if whole == 0 {
             return None;

@@ -23,7 +23,8 @@ const WAKES: usize = 201;
 /// After how many milliseconds without a job each worker sleeps.
 const PAUSE: u64 = 5;
 
-/// The most threads that are started for a job each: of more, the memory of their ends would be timed.
+/// The most threads that are started for a job each: of more, the memory of their ends would be
+/// timed.
 const MOST_THREADS: usize = 20_000;
 
 /// A pool of workers that call `Errand`s.
@@ -70,8 +71,8 @@ fn report(rt: &impl Print, kind: &str, way: &str, jobs: usize, taken: u64) -> Re
 }
 
 // From the first job's coming to a pool until all were called and the workers have ended, in
-// nanoseconds. The jobs come by `spawn`, or from a worker of the pool, which calls jobs too once all
-// have come.
+// nanoseconds. The jobs come by `spawn`, or from a worker of the pool, which calls jobs too once
+// all have come.
 fn time_pool<R: Threads + Wait + Copy + Send + 'static, C: Clock>(
     rt: &R,
     alloc: Global,
@@ -170,7 +171,8 @@ fn call_all<R: Wait>(rt: &R, pool: &Pool, worker: &mut WorkerThread<Errand>) {
     }
 }
 
-// From the first thread's start until all were joined. No more of them than `at_once` stand at a time.
+// From the first thread's start until all were joined. No more of them than `at_once` stand at a
+// time.
 fn time_threads<R: Threads, C: Clock>(
     rt: &R,
     alloc: Global,

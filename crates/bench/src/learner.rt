@@ -32,8 +32,8 @@ impl Recording {
 
 /// What chooses for a key, and takes a record of it.
 pub trait Learner {
-    /// Asks for a choice, and records `nanoseconds` for it where the choice is recorded. Answers whether
-    /// it was.
+    /// Asks for a choice, and records `nanoseconds` for it where the choice is recorded. Answers
+    /// whether it was.
     ///
     /// # Errors
     ///

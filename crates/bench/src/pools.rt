@@ -98,8 +98,8 @@ impl Bring for ThreadPool<Staff<Errand>> {
     }
 }
 
-// Each thread brings a part of the jobs. That a pool may be shared is found where nothing but the pool
-// has to be.
+// Each thread brings a part of the jobs. That a pool may be shared is found where nothing but the
+// pool has to be.
 fn bring_all<R: Clock + Threads + Wait + Sync>(
     rt: &R,
     alloc: Global,

@@ -145,8 +145,8 @@ fn run_rounds<Rt: Print + Threads + Wait + Sync, C: Clock>(
     readings.report(rt)
 }
 
-/// Calls one way of a trial once, and prints its answer's checksum. Nothing else is called, so that a
-/// reading of the whole program is one of this call.
+/// Calls one way of a trial once, and prints its answer's checksum. Nothing else is called, so that
+/// a reading of the whole program is one of this call.
 pub fn call_once<Rt>(rt: &Rt, trial: Trial, way: Way) -> Result<()>
 where
     Rt: time::Clock
@@ -205,7 +205,8 @@ pub fn rounds_of(len: usize) -> u64 {
     pairs.clamp(3, 500) as u64 * 2 + 1
 }
 
-/// Calls the strategy that has a policy, until the policy has settled: 50,000 times, or for three seconds.
+/// Calls the strategy that has a policy, until the policy has settled: 50,000 times, or for three
+/// seconds.
 fn warm_up<Rt: Threads + Wait + Sync, C: Clock>(
     rt: &Rt,
     alloc: Global,
@@ -227,10 +228,10 @@ fn warm_up<Rt: Threads + Wait + Sync, C: Clock>(
 
 /// What each way took in one round, in nanoseconds.
 ///
-/// Each call is made once before the clock is read, so that it meets the caches and the allocator as
-/// it leaves them itself, and not as another way left them. Where the memory is to be fresh the
-/// answers of both calls are kept, so that no later call gets their memory. A list that a call takes is
-/// made before the clock is read.
+/// Each call is made once before the clock is read, so that it meets the caches and the allocator
+/// as it leaves them itself, and not as another way left them. Where the memory is to be fresh the
+/// answers of both calls are kept, so that no later call gets their memory. A list that a call
+/// takes is made before the clock is read.
 ///
 /// # Errors
 ///

@@ -45,8 +45,8 @@ pub struct JobTrial {
     pub workers: NonZeroUsize,
 }
 
-/// Jobs to be brought to one pool by several threads, and pools to be made and dropped one after the
-/// other.
+/// Jobs to be brought to one pool by several threads, and pools to be made and dropped one after
+/// the other.
 #[derive(Clone, Copy, Debug, PartialEq, Eq, Hash)]
 pub struct PoolTrial {
     pub jobs: usize,
@@ -72,12 +72,12 @@ pub enum Request {
     Pools(PoolTrial),
 }
 
-/// What the words after the program's name ask for: nothing for the names, `soak PLANS SEED` for random
-/// plans, `pools JOBS POOLS` for pools, and `policy LEN THREADS`, `jobs JOBS WORKERS` or
-/// `CASE LEN THREADS` for a trial of one thread at least, a case's with `iter` or `vec`, with `fresh` or
-/// with both behind it, in that order; a case of tiles has neither `iter` nor `vec`. With `once WAY`
-/// before a case, `WAY` being `loop`, `sequential`, `rayon` or `policy`, that way alone is called, once.
-/// Any other words ask for nothing.
+/// What the words after the program's name ask for: nothing for the names, `soak PLANS SEED` for
+/// random plans, `pools JOBS POOLS` for pools, and `policy LEN THREADS`, `jobs JOBS WORKERS` or
+/// `CASE LEN THREADS` for a trial of one thread at least, a case's with `iter` or `vec`, with
+/// `fresh` or with both behind it, in that order; a case of tiles has neither `iter` nor `vec`.
+/// With `once WAY` before a case, `WAY` being `loop`, `sequential`, `rayon` or `policy`, that way
+/// alone is called, once. Any other words ask for nothing.
 pub fn parse_request(words: &[String]) -> Option<Request> {
     if let [once, way, rest @ ..] = words
         && once.as_str() == ONCE

@@ -88,8 +88,8 @@ pub struct Random {
 }
 
 impl Random {
-    // A number from 1 to `most`, small ones as often as great ones: the next number without so many of
-    // its last binary digits, 45 to 63 of them.
+    // A number from 1 to `most`, small ones as often as great ones: the next number without so many
+    // of its last binary digits, 45 to 63 of them.
     fn up_to(&mut self, most: usize) -> NonZeroUsize {
         let dropped = 45 + self.next() % 19;
         let number = (self.next() >> dropped) as usize;
@@ -176,8 +176,8 @@ fn is_whole(coin: bool, len: usize, tile_cost: NonZeroUsize) -> bool
     coin || len / 2 < tile_cost.get()
 }
 
-// Drives each seat in a thread of its own, and answers the words that are left, all claims, and what
-// was counted.
+// Drives each seat in a thread of its own, and answers the words that are left, all claims, and
+// what was counted.
 fn empty<Rt: Threads + Wait + Sync>(
     rt: &Rt,
     alloc: Global,
@@ -207,7 +207,8 @@ fn drive_all<Rt: Threads + Wait + Sync>(
         seats,
         &|seat: Seat| -> Driven
             requires { IsSeatOf shares.now seat }
-            ensures { IsSeatOf shares.entry.now (seat_of result) × (index_of (seat_of result) ≡ index_of seat) }
+            ensures { IsSeatOf shares.entry.now (seat_of result)
+                × (index_of (seat_of result) ≡ index_of seat) }
         { drive(rt, alloc, shares, seat) },
     )?;
     Ok(driven)
@@ -252,8 +253,8 @@ fn claim_all<Rt: Wait>(
     unreachable!()
 }
 
-// One try of a seat: to steal where it has seen its own share empty, and else to claim. What it has in
-// transit is put down first.
+// One try of a seat: to steal where it has seen its own share empty, and else to claim. What it has
+// in transit is put down first.
 fn step(shares: &Shares, seat: &mut Seat, counts: &mut Counts) -> Tried
     requires { IsSeatOf shares.now seat.old }
     ensures seat { IsSeatOf shares.now seat.new }

@@ -48,8 +48,8 @@ pub fn stir(state: u64) -> u64 {
         .wrapping_add(SUMMAND)
 }
 
-/// The items that a case is timed over, `len` of them: the numbers from 0 on where the work is to rise,
-/// and a shuffled list elsewhere.
+/// The items that a case is timed over, `len` of them: the numbers from 0 on where the work is to
+/// rise, and a shuffled list elsewhere.
 pub fn items_of(alloc: Global, case: Case, len: usize) -> Result<Vec<u64>, AllocError> {
     let factor = if case.is_rising() { 1 } else { FACTOR };
     let mut items = Vec::with_capacity(alloc, len)?;

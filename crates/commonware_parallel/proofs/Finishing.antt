@@ -10,16 +10,25 @@ pub some : (n : ℕ) → n ≢ 0 → 0 < n
 some zero h = absurd (h refl)
 some (suc n) h = omega arith
 
-module _ {T R : Type 0} (fill : T → ℕ → Range ℕ → T → Type 0) (finish : T → ℕ → R → T → Type 0) where
+module _ {T R : Type 0} (fill : T → ℕ → Range ℕ → T → Type 0)
+    (finish : T → ℕ → R → T → Type 0) where
   -- two chains, the second from where the first ends
-  pub finished_append : (s u t : T) (xs ys : List Stretch) (rs qs : List R) → Finished fill finish s xs rs u → Finished fill finish u ys qs t → Finished fill finish s (xs ++ ys) (rs ++ qs) t
+  pub finished_append : (s u t : T) (xs ys : List Stretch) (rs qs : List R)
+      → Finished fill finish s xs rs u → Finished fill finish u ys qs t
+      → Finished fill finish s (xs ++ ys) (rs ++ qs) t
   finished_append s u t [] ys [] qs e h = subst (λ v. Finished fill finish v ys qs t) (sym e) h
   finished_append s u t [] ys (r ∷ rs) qs wrong h = absurd wrong
   finished_append s u t (x ∷ xs) ys [] qs wrong h = absurd wrong
-  finished_append s u t (x ∷ xs) ys (r ∷ rs) qs (v, one, rest) h = (v, one, finished_append v u t xs ys rs qs rest h)
+  finished_append s u t (x ∷ xs) ys (r ∷ rs) qs (v, one, rest) h =
+      (v, one, finished_append v u t xs ys rs qs rest h)
 
   -- one whole row more
-  pub row_more : (len : ℕ) (first s u t : T) (row : ℕ) (before after : List R) (r : R) → len ≢ 0 → Finished fill finish first (whole_rows len row) before s → fill s row (record { start = 0; end = len }) u → finish u row r t → after ≡ before ++ r ∷ [] → Finished fill finish first (whole_rows len (row + 1)) after t
+  pub row_more : (len : ℕ) (first s u t : T) (row : ℕ) (before after : List R) (r : R) → len ≢ 0
+      → Finished fill finish first (whole_rows len row) before s
+      → fill s row (record { start = 0; end = len }) u → finish u row r t → after ≡ before ++ r ∷ []
+      → Finished fill finish first (whole_rows len (row + 1)) after t
   row_more len first s u t row before after r wide done fills gives more =
-      let filled : Filled fill row s 0 len u = last_fill s s u 0 0 len (no_fill s s 0 0 refl refl) (some len wide) fills in
-      rw (add-one row, more) (finished_append first s t (whole_rows len row) (whole_row len row ∷ []) before (r ∷ []) done (t, (u, filled, gives), refl))
+      let filled : Filled fill row s 0 len u =
+      last_fill s s u 0 0 len (no_fill s s 0 0 refl refl) (some len wide) fills in
+      rw (add-one row, more) (finished_append first s t (whole_rows len row)
+      (whole_row len row ∷ []) before (r ∷ []) done (t, (u, filled, gives), refl))

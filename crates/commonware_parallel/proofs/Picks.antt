@@ -32,6 +32,9 @@ serial_either_way true = refl
 serial_either_way false = refl
 
 -- an explorer by the serial rule runs a body serially
-pub explored_serially : (explorer : Explorer) (site : Site) (len : ℕ) (path : Path) → rule_of explorer ≡ SerialRule → ExplorerTakes explorer site (body_call len) (By path) → path ≡ Serial
+pub explored_serially : (explorer : Explorer) (site : Site) (len : ℕ) (path : Path)
+    → rule_of explorer ≡ SerialRule → ExplorerTakes explorer site (body_call len) (By path)
+    → path ≡ Serial
 explored_serially explorer site len path rule takes =
-    ap path_of (takes.0 ∙ ap (λ r. picked (plans_of explorer) r site (body_call len)) rule) ∙ serial_either_way (nat_le (plans_of explorer) 1)
+    ap path_of (takes.0 ∙ ap (λ r. picked (plans_of explorer) r site (body_call len)) rule)
+    ∙ serial_either_way (nat_le (plans_of explorer) 1)

@@ -3,20 +3,27 @@ use Rattle.std.proofs.Common.{◌≡◌, List, [], ◌∷◌, ◌++◌, subst}
 use Rattle.std.specs.Borrow.{MutBor}
 use Rattle.parallel_bridge.specs.States.{MapStep, StatesFrom, StateSegment, Stateful, no_segment, more_segments}
 
-module _ {S X Y : Type 0} (init : S → Type 0) (answered : MutBor S → X → Y → MutBor S → Type 0) (step : S → X → Y → S → Type 0) (says : (p : MutBor S) (x : X) (y : Y) (q : MutBor S) → answered p x y q → step p.now x y q.now) where
+module _ {S X Y : Type 0} (init : S → Type 0) (answered : MutBor S → X → Y → MutBor S → Type 0)
+    (step : S → X → Y → S → Type 0) (says : (p : MutBor S) (x : X) (y : Y) (q : MutBor S)
+    → answered p x y q → step p.now x y q.now) where
   one_seen : (s : S) (x : X) (y : Y) (t : S) → MapStep answered s x y t → step s x y t
-  one_seen s x y t (p, q, before, h, after) = subst (λ u. step u x y t) before (subst (λ u. step p.now x y u) after (says p x y q h))
+  one_seen s x y t (p, q, before, h, after) =
+      subst (λ u. step u x y t) before (subst (λ u. step p.now x y u) after (says p x y q h))
 
-  states_seen : (s : S) (xs : List X) (ys : List Y) → StatesFrom (MapStep answered) s xs ys → StatesFrom step s xs ys
+  states_seen : (s : S) (xs : List X) (ys : List Y) → StatesFrom (MapStep answered) s xs ys
+      → StatesFrom step s xs ys
   states_seen s [] ys none = none
   states_seen s (x ∷ xs) [] wrong = absurd wrong
   states_seen s (x ∷ xs) (y ∷ ys) (t, h, rest) = (t, one_seen s x y t h, states_seen t xs ys rest)
 
-  segments_seen : {xs : List X} {ys : List Y} → Stateful init (MapStep answered) xs ys → Stateful init step xs ys
+  segments_seen : {xs : List X} {ys : List Y} → Stateful init (MapStep answered) xs ys
+      → Stateful init step xs ys
   segments_seen no_segment = no_segment
   segments_seen (more_segments x xs rest ys more at answers (s, fresh, h) tail) =
-      more_segments x xs rest ys more at answers (s, fresh, states_seen s (x ∷ xs) ys h) (segments_seen tail)
+      more_segments x xs rest ys more at answers (s, fresh, states_seen s (x ∷ xs) ys h)
+      (segments_seen tail)
 
   -- of the list that came
-  pub seen : (items : List X) (ys : List Y) → (xs : List X) × (xs ≡ items) × Stateful init (MapStep answered) xs ys → Stateful init step items ys
+  pub seen : (items : List X) (ys : List Y) → (xs : List X) × (xs ≡ items)
+      × Stateful init (MapStep answered) xs ys → Stateful init step items ys
   seen items ys (xs, came, h) = subst (λ l. Stateful init step l ys) came (segments_seen h)

@@ -9,10 +9,13 @@ use Rattle.parallel_fault.specs.declared.fault.Trouble.{Trouble}
 use Rattle.parallel_fault.specs.declared.fault.Trouble.TheVariants.{Closure}
 use Rattle.parallel_fault.specs.declared.fault.Trouble.TheVariants.{Fault as OfFault}
 
--- an answer, or an error of the body's own, that the body allows where it is told what it may be told; or a refusal that may be met
-abbrev pub AnswersAs : {Told R E : Type 0} → (Told → Type 0) → (Fault → Type 0) → (Told → Result R E → Type 0) → Result R (Trouble E) → Type 0
+-- an answer, or an error of the body's own, that the body allows where it is told what it may be
+-- told; or a refusal that may be met
+abbrev pub AnswersAs : {Told R E : Type 0} → (Told → Type 0) → (Fault → Type 0)
+    → (Told → Result R E → Type 0) → Result R (Trouble E) → Type 0
 AnswersAs {Told = Told} may refuses allowed (Ok r) = (told : Told) × may told × allowed told (Ok r)
-AnswersAs {Told = Told} may refuses allowed (Err (Closure e)) = (told : Told) × may told × allowed told (Err e)
+AnswersAs {Told = Told} may refuses allowed (Err (Closure e)) = (told : Told) × may told
+    × allowed told (Err e)
 AnswersAs may refuses allowed (Err (OfFault f)) = refuses f
 
 -- the first serially, the second in parallel
@@ -37,7 +40,8 @@ UnlessFault (Err (Closure e)) P = P
 UnlessFault (Err (OfFault f)) P = Unit {0}
 
 -- allowed holds of the answer, or of the closure's error, and refused of a refusal
-abbrev pub UnlessFaulty : {R E : Type 0} → Result R (Trouble E) → (Result R E → Type 0) → (Fault → Type 0) → Type 0
+abbrev pub UnlessFaulty : {R E : Type 0} → Result R (Trouble E) → (Result R E → Type 0)
+    → (Fault → Type 0) → Type 0
 UnlessFaulty (Ok r) allowed refused = allowed (Ok r)
 UnlessFaulty (Err (Closure e)) allowed refused = allowed (Err e)
 UnlessFaulty (Err (OfFault f)) allowed refused = refused f

@@ -14,9 +14,11 @@ use Rattle.commonware_parallel.specs.declared.batches.Batches.{Batches}
 abbrev pub ranges_of : {S P : Type 0} → Batches S P → List (Range ℕ)
 ranges_of batches = batches.ranges.items
 
--- balanced ranges of the indices below len, so many, and of two or more none is shorter than the minimum
+-- balanced ranges of the indices below len, so many, and of two or more none is shorter than the
+-- minimum
 abbrev pub IsBatch : ℕ → ℕ → ℕ → List (Range ℕ) → Type 0
-IsBatch len count minimum ranges = BalancedCut len ranges × (length ranges ≡ count) × (2 ≤ length ranges → All (λ range. minimum ≤ range_length range) ranges)
+IsBatch len count minimum ranges = BalancedCut len ranges × (length ranges ≡ count)
+    × (2 ≤ length ranges → All (λ range. minimum ≤ range_length range) ranges)
 
 -- the strategy that the parts of a batch go through, and the place of its call
 abbrev pub strategy_of : {S P : Type 0} → Batches S P → S
@@ -25,12 +27,14 @@ strategy_of batches = batches.strategy.now
 abbrev pub place_of : {S P : Type 0} → Batches S P → P
 place_of batches = batches.site
 
--- allowed holds of some batch: of as many ranges as the strategy may take for the call, over its inner strategy and with the call's place
+-- allowed holds of some batch: of as many ranges as the strategy may take for the call, over its
+-- inner strategy and with the call's place
 abbrev pub OnSomeBatch : {S P : Type 0} (takes : S → Site → Call → Pick → Type 0)
     (refuses : S → Site → Call → Fault → Type 0) (plans threads : S → ℕ) (starts : S → Bool)
     (strategy : S) (site : Site) (place : P) (len minimum multiplier : ℕ)
     (allowed : Batches S P → Type 0) → Type 0
-OnSomeBatch takes refuses plans threads starts strategy site place len minimum multiplier allowed = (parts : ℕ)
+OnSomeBatch takes refuses plans threads starts strategy site place len minimum multiplier allowed =
+    (parts : ℕ)
     × (0 < parts) × (parts ≤ (batches_call (plans strategy) len minimum multiplier).parts)
     × takes strategy site (batches_call (plans strategy) len minimum multiplier) (Into parts)
     × (batches : Batches _ _) × IsBatch len parts minimum (ranges_of batches)

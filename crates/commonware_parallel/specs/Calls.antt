@@ -26,17 +26,27 @@ spawn_call len = record { kind = Spawn; len = len; work = len; parts = 1 }
 abbrev pub work_of : ℕ → ℕ → ℕ
 work_of len multiplier = min (len * multiplier) (2 ^ 64 - 1)
 
--- a choice between a serial and a parallel body, over so many items that each stand for so much work
+-- a choice between a serial and a parallel body, over so many items that each stand for so much
+-- work
 abbrev pub multiplied_call : ℕ → ℕ → Call
-multiplied_call len multiplier = record { kind = Body; len = len; work = work_of len multiplier; parts = 1 }
+multiplied_call len multiplier =
+    record { kind = Body; len = len; work = work_of len multiplier; parts = 1 }
 
--- a choice among numbers of ranges: as many as are planned for, but no range shorter than the minimum, and one at least
+-- a choice among numbers of ranges: as many as are planned for, but no range shorter than the
+-- minimum, and one at least
 abbrev pub batches_call : ℕ → ℕ → ℕ → ℕ → Call
-batches_call planned len minimum multiplier = record { kind = Batches; len = len; work = work_of len multiplier; parts = max 1 (min planned (len / minimum)) }
+batches_call planned len minimum multiplier =
+    record {
+      kind = Batches;
+      len = len;
+      work = work_of len multiplier;
+      parts = max 1 (min planned (len / minimum));
+    }
 
 -- a choice among numbers of workers, over rows of so many columns: as many as are planned for
 abbrev pub tiles_call : ℕ → ℕ → ℕ → ℕ → Call
-tiles_call planned len cost multiplier = record { kind = Tiles; len = len; work = work_of cost multiplier; parts = planned }
+tiles_call planned len cost multiplier =
+    record { kind = Tiles; len = len; work = work_of cost multiplier; parts = planned }
 
 -- whether calls of a kind go by a path, serially or in parallel; the others are made in parts
 abbrev pub goes_by_path : Kind → Bool
@@ -46,7 +56,8 @@ goes_by_path Tiles = false
 goes_by_path Spawn = true
 goes_by_path Join = true
 
--- the picks that a call has: either path, or a number of parts, of which there is one at least and no more than there may be
+-- the picks that a call has: either path, or a number of parts, of which there is one at least and
+-- no more than there may be
 abbrev pub HasPick : Call → Pick → Type 0
 HasPick call (By path) = goes_by_path call.kind ≡ true
 HasPick call (Into parts) = (goes_by_path call.kind ≡ false) × (0 < parts) × (parts ≤ call.parts)
@@ -76,11 +87,17 @@ nth_pick call index = if goes_by_path call.kind then By (nth_path index) else In
 abbrev pub AtSomePath : (Pick → Type 0) → (Path → Type 0) → Type 0
 AtSomePath takes fact = (path : Path) × takes (By path) × fact path
 
--- inner is a strategy like outer that no policy chooses for: it has the same numbers, takes one pick of a call at most, which outer may take too, and refuses no call but a spawn
-pub record IsInnerOf {S : Type 0} (takes : S → Site → Call → Pick → Type 0) (refuses : S → Site → Call → Fault → Type 0) (plans threads : S → ℕ) (starts : S → Bool) (outer inner : S) : Type 0 where
+-- inner is a strategy like outer that no policy chooses for: it has the same numbers, takes one
+-- pick of a call at most, which outer may take too, and refuses no call but a spawn
+pub record IsInnerOf {S : Type 0} (takes : S → Site → Call → Pick → Type 0)
+    (refuses : S → Site → Call → Fault → Type 0) (plans threads : S → ℕ) (starts : S → Bool)
+    (outer inner : S) : Type 0 where
   pub planned : plans inner ≡ plans outer
   pub threaded : threads inner ≡ threads outer
   pub started : starts inner ≡ starts outer
-  pub settled : (site : Site) (call : Call) (p q : Pick) → takes inner site call p → takes inner site call q → p ≡ q
-  pub within : (site : Site) (call : Call) (pick : Pick) → takes inner site call pick → takes outer site call pick
-  pub unrefused : (site : Site) (call : Call) (fault : Fault) → call.kind ≢ Spawn → refuses inner site call fault → ⊥
+  pub settled : (site : Site) (call : Call) (p q : Pick) → takes inner site call p
+      → takes inner site call q → p ≡ q
+  pub within : (site : Site) (call : Call) (pick : Pick) → takes inner site call pick
+      → takes outer site call pick
+  pub unrefused : (site : Site) (call : Call) (fault : Fault) → call.kind ≢ Spawn
+      → refuses inner site call fault → ⊥

@@ -5,8 +5,10 @@ use Rattle.parallel_shares.specs.declared.shares.stretch.Stretch.{Stretch}
 use Rattle.parallel_shares.specs.Fillings.{Finished}
 use Rattle.commonware_parallel.specs.Rectangles.{whole_rows}
 
--- stretches and results fall into the same chains; each chain begins with a fresh state, which goes from stretch to stretch
-pub data Chains {T R : Type 0} (init : T → Type 0) (fill : T → ℕ → Range ℕ → T → Type 0) (finish : T → ℕ → R → T → Type 0) : List Stretch → List R → Type 0 where
+-- stretches and results fall into the same chains; each chain begins with a fresh state, which goes
+-- from stretch to stretch
+pub data Chains {T R : Type 0} (init : T → Type 0) (fill : T → ℕ → Range ℕ → T → Type 0)
+    (finish : T → ℕ → R → T → Type 0) : List Stretch → List R → Type 0 where
   no_chain : Chains init fill finish [] []
   more_chains : (s t : T) (xs more : List Stretch) (rs rest : List R)
       {all : List Stretch} {results : List R} → all ≡ xs ++ more → results ≡ rs ++ rest → init s
@@ -14,5 +16,7 @@ pub data Chains {T R : Type 0} (init : T → Type 0) (fill : T → ℕ → Range
       → Chains init fill finish all results
 
 -- the results are those of all rows, whole and in order, by one chain from a fresh state
-abbrev pub OneChain : {T R : Type 0} → (T → Type 0) → (T → ℕ → Range ℕ → T → Type 0) → (T → ℕ → R → T → Type 0) → ℕ → ℕ → List R → Type 0
-OneChain {T = T} init fill finish rows len results = (s t : T) × init s × Finished fill finish s (whole_rows len rows) results t
+abbrev pub OneChain : {T R : Type 0} → (T → Type 0) → (T → ℕ → Range ℕ → T → Type 0)
+    → (T → ℕ → R → T → Type 0) → ℕ → ℕ → List R → Type 0
+OneChain {T = T} init fill finish rows len results = (s t : T) × init s
+    × Finished fill finish s (whole_rows len rows) results t

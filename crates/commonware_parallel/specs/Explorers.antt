@@ -31,7 +31,8 @@ explorer_starts explorer = explorer.starts_workers
 abbrev pub rule_of : Explorer → Rule
 rule_of explorer = explorer.rule
 
--- which of its picks a call is given: a body that is planned for one the first, all else the one that the rule says
+-- which of its picks a call is given: a body that is planned for one the first, all else the one
+-- that the rule says
 abbrev pub index_as : Kind → ℕ → ℕ → ℕ
 index_as Body planned index = if nat_le planned 1 then 0 else index
 index_as Batches planned index = index
@@ -41,14 +42,17 @@ index_as Join planned index = index
 
 -- the pick of a call
 abbrev pub picked : ℕ → Rule → Site → Call → Pick
-picked planned rule site call = nth_pick call (index_as call.kind planned (pick_of rule site call.len (options_of call)))
+picked planned rule site call =
+    nth_pick call (index_as call.kind planned (pick_of rule site call.len (options_of call)))
 
 -- that pick alone; a job isn't handed off to a pool of one thread
 abbrev pub ExplorerTakes : Explorer → Site → Call → Pick → Type 0
 ExplorerTakes explorer site call pick =
-    (pick ≡ picked (plans_of explorer) (rule_of explorer) site call) × (call.kind ≡ Spawn → pool_threads explorer ≡ 1 → pick ≡ first_pick call)
+    (pick ≡ picked (plans_of explorer) (rule_of explorer) site call)
+    × (call.kind ≡ Spawn → pool_threads explorer ≡ 1 → pick ≡ first_pick call)
 
 -- a job that the rule hands off, where the pool has one thread
 abbrev pub ExplorerRefuses : Explorer → Site → Call → Fault → Type 0
-ExplorerRefuses explorer site call fault = (call.kind ≡ Spawn) × (fault ≡ HandOff) × (pool_threads explorer ≡ 1)
+ExplorerRefuses explorer site call fault = (call.kind ≡ Spawn) × (fault ≡ HandOff)
+    × (pool_threads explorer ≡ 1)
     × (picked (plans_of explorer) (rule_of explorer) site call ≡ last_pick call)

@@ -11,7 +11,8 @@ use Rattle.commonware_parallel.specs.declared.mocks.rule.Rule.TheVariants.{Seria
 
 -- an explorer by this rule over so many threads, planned for 8
 abbrev pub IsExplorer : ℕ → Rule → Explorer → Type 0
-IsExplorer workers rule explorer = (pool_threads explorer ≡ workers) × (plans_of explorer ≡ 8) × (rule_of explorer ≡ rule)
+IsExplorer workers rule explorer = (pool_threads explorer ≡ workers) × (plans_of explorer ≡ 8)
+    × (rule_of explorer ≡ rule)
 
 -- the rules behind the serial one, in their order
 abbrev pub rules_behind : List Rule
@@ -20,22 +21,28 @@ rules_behind = Parallel ∷ Seeded 0 ∷ Seeded 1 ∷ Seeded 2 ∷ Seeded 3 ∷ 
 module _ {F R : Type 0} (step : F → Bor Explorer → R → F → Type 0) (eq : R → R → Bool) where
   -- from f a run by this rule, over 4 threads, gives r and leaves g
   abbrev pub RunsBy : Rule → F → R → F → Type 0
-  RunsBy rule f r g = (explorer : Bor Explorer) × IsExplorer 4 rule explorer.now × step f explorer r g
+  RunsBy rule f r g = (explorer : Bor Explorer) × IsExplorer 4 rule explorer.now
+      × step f explorer r g
 
   -- a run by this rule gives an equal output, or one that isn't
   abbrev pub Compares : R → Rule → F → F → Result (Unit {0}) ExploreError → Type 0
   Compares serial rule f g (Ok _) = (r : R) × RunsBy rule f r g × (eq r serial ≡ true)
-  Compares serial rule f g (Err (Differs other)) = (other ≡ rule) × (r : R) × RunsBy rule f r g × (eq r serial ≡ false)
+  Compares serial rule f g (Err (Differs other)) = (other ≡ rule) × (r : R) × RunsBy rule f r g
+      × (eq r serial ≡ false)
   Compares serial rule f g (Err (Build error)) = error ≡ Memory
 
   -- runs by these rules, one after another, give equal outputs
   abbrev pub Agree : R → List Rule → F → F → Type 0
   Agree serial [] f g = f ≡ g
-  Agree serial (rule ∷ rules) f g = (r : R) × (h : F) × RunsBy rule f r h × (eq r serial ≡ true) × Agree serial rules h g
+  Agree serial (rule ∷ rules) f g = (r : R) × (h : F) × RunsBy rule f r h × (eq r serial ≡ true)
+      × Agree serial rules h g
 
-  -- the serial output, where the runs by all other rules give equal ones; or the first rule of which the run doesn't, those before it do
+  -- the serial output, where the runs by all other rules give equal ones; or the first rule of
+  -- which the run doesn't, those before it do
   abbrev pub Explored : F → Result R ExploreError → Type 0
   Explored f (Ok serial) = (g h : F) × RunsBy Serial f serial g × Agree serial rules_behind g h
-  Explored f (Err (Differs rule)) = (serial r : R) × (g h i : F) × (before after : List Rule) × (rules_behind ≡ before ++ (rule ∷ after))
-      × RunsBy Serial f serial g × Agree serial before g h × RunsBy rule h r i × (eq r serial ≡ false)
+  Explored f (Err (Differs rule)) = (serial r : R) × (g h i : F) × (before after : List Rule)
+      × (rules_behind ≡ before ++ (rule ∷ after))
+      × RunsBy Serial f serial g × Agree serial before g h × RunsBy rule h r i
+      × (eq r serial ≡ false)
   Explored f (Err (Build error)) = error ≡ Memory

@@ -13,9 +13,12 @@ abbrev pub mixed_all : ℕ → List ℕ → ℕ
 mixed_all hash [] = hash
 mixed_all hash (x ∷ xs) = mixed_all (mixed_in hash x) xs
 
--- the hash of a seed, of the length of the file's name and its bytes, of the line, the column and the length
+-- the hash of a seed, of the length of the file's name and its bytes, of the line, the column and
+-- the length
 abbrev pub mix_of : ℕ → Site → ℕ → ℕ
-mix_of seed site len = mixed_all 1 (seed ∷ length site.file.now ∷ (site.file.now ++ site.line ∷ site.column ∷ len ∷ []))
+mix_of seed site len =
+    mixed_all 1
+    (seed ∷ length site.file.now ∷ (site.file.now ++ site.line ∷ site.column ∷ len ∷ []))
 
 -- the first option, the last one, or the one that the hash says, by the number of options before it
 abbrev pub pick_of : Rule → Site → ℕ → ℕ → ℕ

@@ -28,17 +28,23 @@ starts_of strategy = strategy.starts_workers
 abbrev pub chooses_of : {C : Type 0} → Rayon C → Bool
 chooses_of strategy = is_some strategy.policy
 
--- planned for one, the first pick; planned for more, the last one, or the first or the last where a policy chooses
+-- planned for one, the first pick; planned for more, the last one, or the first or the last where a
+-- policy chooses
 abbrev pub PlansTo : ℕ → Bool → Call → Pick → Type 0
 PlansTo planned chooses call pick =
-    (planned ≤ 1 → pick ≡ first_pick call) × (1 < planned → chooses ≡ false → pick ≡ last_pick call) × ((pick ≡ first_pick call) ⊎ (pick ≡ last_pick call))
+    (planned ≤ 1 → pick ≡ first_pick call) × (1 < planned → chooses ≡ false → pick ≡ last_pick call)
+    × ((pick ≡ first_pick call) ⊎ (pick ≡ last_pick call))
 
--- a join is always parallel; a spawned job goes by the thread number, all else by the planning number
+-- a join is always parallel; a spawned job goes by the thread number, all else by the planning
+-- number
 abbrev pub RayonTakes : ℕ → ℕ → Bool → Call → Pick → Type 0
 RayonTakes planned threads chooses call pick =
-    (call.kind ≡ Join → pick ≡ last_pick call) × (call.kind ≡ Spawn → PlansTo threads chooses call pick)
+    (call.kind ≡ Join → pick ≡ last_pick call)
+    × (call.kind ≡ Spawn → PlansTo threads chooses call pick)
     × (call.kind ≢ Join → call.kind ≢ Spawn → PlansTo planned chooses call pick)
 
--- only a policy is refused, for memory, and no policy is asked about a join, nor where there is one pick alone
+-- only a policy is refused, for memory, and no policy is asked about a join, nor where there is one
+-- pick alone
 abbrev pub RayonRefuses : Bool → Call → Fault → Type 0
-RayonRefuses chooses call fault = (fault ≡ Memory) × (chooses ≡ true) × (call.kind ≢ Join) × (2 ≤ options_of call)
+RayonRefuses chooses call fault = (fault ≡ Memory) × (chooses ≡ true) × (call.kind ≢ Join)
+    × (2 ≤ options_of call)

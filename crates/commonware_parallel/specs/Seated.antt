@@ -21,18 +21,23 @@ seat_of worked = worked.seat
 abbrev pub IsReady : Shares → Seat → Type 0
 IsReady shares seat = IsSeatOf shares seat × IsFresh seat
 
--- a fresh seat that came back: of the same number, and where it has results, with nothing left to claim; what it gained
--- was cut into stretches, which were filled and finished by one chain from the state s to the state t
-pub record WorksFrom {T R : Type 0} (shares : Shares) (len : ℕ) (fill : T → ℕ → Range ℕ → T → Type 0) (finish : T → ℕ → R → T → Type 0) (s : T) (seat : Seat) (worked : Worked R) (t : T) : Type 0 where
+-- a fresh seat that came back: of the same number, and where it has results, with nothing left to
+-- claim; what it gained was cut into stretches, which were filled and finished by one chain from
+-- the state s to the state t
+pub record WorksFrom {T R : Type 0} (shares : Shares) (len : ℕ)
+    (fill : T → ℕ → Range ℕ → T → Type 0) (finish : T → ℕ → R → T → Type 0) (s : T) (seat : Seat)
+    (worked : Worked R) (t : T) : Type 0 where
   pub belongs : IsSeatOf shares (seat_of worked)
   pub number : index_of (seat_of worked) ≡ index_of seat
   pub fresh : claims_of seat ≡ []
   pub done : IfOk worked.results (λ _. FoundNothing (plan_of shares) (seat_of worked))
   pub chain : IfOk worked.results (λ results. (gained : List (Range ℕ)) × (cut : List Stretch)
-      × (claims_of (seat_of worked) ≡ claims_of seat ++ gained) × All (IsFront (plan_of shares)) gained
+      × (claims_of (seat_of worked) ≡ claims_of seat ++ gained)
+      × All (IsFront (plan_of shares)) gained
       × Cutting gained len cut × Finished fill finish s cut results.items t)
 
 -- each seat has results, and these are all of them, in order
 abbrev pub AllResults : {R : Type 0} → List (Worked R) → List R → Type 0
 AllResults [] all = all ≡ []
-AllResults {R = R} (w ∷ ws) all = (results : Vec R Global) × (more : List R) × (w.results ≡ Ok results) × AllResults ws more × (all ≡ results.items ++ more)
+AllResults {R = R} (w ∷ ws) all = (results : Vec R Global) × (more : List R)
+    × (w.results ≡ Ok results) × AllResults ws more × (all ≡ results.items ++ more)

@@ -32,10 +32,12 @@ is_taken_at (Waiting worker ending) = false
 is_taken_at Unstarted = false
 is_taken_at Taken = true
 
--- the answer that is here, or one that the job allows on the strategy that went with it to a worker; else none
+-- the answer that is here, or one that the job allows on the strategy that went with it to a
+-- worker; else none
 abbrev pub gives_at : {S F T : Type 0} → (F → S → T → Type 0) → Stage S F T → T → Type 0
 gives_at may_answer (Ready answer) x = x ≡ answer
-gives_at may_answer (Waiting worker ending) x = may_answer worker.promise.job.value worker.promise.strategy.value x
+gives_at may_answer (Waiting worker ending) x =
+    may_answer worker.promise.job.value worker.promise.strategy.value x
 gives_at may_answer Unstarted x = ⊥
 gives_at may_answer Taken x = ⊥
 
@@ -70,15 +72,20 @@ gives_answer may_answer spawned x = gives_at may_answer spawned.stage x
 abbrev pub needs_of : {R S F T : Type 0} → Spawned R S F T → ℕ → Type 0
 needs_of spawned source = needs_at spawned.stage spawned.never.id source
 
--- serially the answer is here; in parallel it isn't, and there is a worker exactly where workers are started
+-- serially the answer is here; in parallel it isn't, and there is a worker exactly where workers
+-- are started
 abbrev pub BeginsAs : {R S F T : Type 0} → Bool → Path → Spawned R S F T → Type 0
-BeginsAs starts Serial spawned = (is_ready_now spawned ≡ true) × (is_taken spawned ≡ false) × (is_without_worker spawned ≡ false)
-BeginsAs starts Parallel spawned = (is_ready_now spawned ≡ false) × (is_taken spawned ≡ false) × (is_without_worker spawned ≡ not starts)
+BeginsAs starts Serial spawned = (is_ready_now spawned ≡ true) × (is_taken spawned ≡ false)
+    × (is_without_worker spawned ≡ false)
+BeginsAs starts Parallel spawned = (is_ready_now spawned ≡ false) × (is_taken spawned ≡ false)
+    × (is_without_worker spawned ≡ not starts)
 
 -- a refusal behind the choice: for memory, or of a worker's start where one was to be started
 abbrev pub FailsToBegin : Bool → Path → Fault → Type 0
-FailsToBegin starts path fault = (fault ≡ Memory) ⊎ ((fault ≡ Worker) × (starts ≡ true) × (path ≡ Parallel))
+FailsToBegin starts path fault = (fault ≡ Memory)
+    ⊎ ((fault ≡ Worker) × (starts ≡ true) × (path ≡ Parallel))
 
 -- a refusal of the choice, or one behind it
 abbrev pub FailsToSpawn : (Pick → Type 0) → (Fault → Type 0) → Bool → Fault → Type 0
-FailsToSpawn takes refuses starts fault = refuses fault ⊎ AtSomePath takes (λ path. FailsToBegin starts path fault)
+FailsToSpawn takes refuses starts fault = refuses fault
+    ⊎ AtSomePath takes (λ path. FailsToBegin starts path fault)

@@ -32,13 +32,16 @@ abbrev pub tiles_place : {S P : Type 0} → Tiles S P → P
 tiles_place tiles = tiles.site
 
 -- tiles of the grid of least cost for so many workers, on rows of so many columns
-pub record IsTiling {S P : Type 0} (grids : List Grid) (len workers : ℕ) (tiles : Tiles S P) : Type 0 where
+pub record IsTiling {S P : Type 0} (grids : List Grid) (len workers : ℕ)
+    (tiles : Tiles S P) : Type 0 where
   pub chosen : IsChosenGrid grids len workers (grid_of tiles)
   pub rows : HoldsAt (λ grid. rows_of tiles ≡ grid.rows) grids (grid_of tiles)
-  pub whole : HoldsAt (λ grid. keeps_rows tiles ≡ stays_whole grid len workers) grids (grid_of tiles)
+  pub whole : HoldsAt (λ grid. keeps_rows tiles ≡ stays_whole grid len workers) grids
+      (grid_of tiles)
   pub columns : columns_of tiles ≡ len
   pub planned : workers_of tiles ≡ workers
 
 -- what the grid of least cost for one worker costs
 abbrev pub IsSerialCost : List Grid → ℕ → ℕ → Type 0
-IsSerialCost grids len cost = (index : ℕ) × IsChosenGrid grids len 1 index × HoldsAt (λ grid. cost ≡ critical_cost grid len 1) grids index
+IsSerialCost grids len cost = (index : ℕ) × IsChosenGrid grids len 1 index
+    × HoldsAt (λ grid. cost ≡ critical_cost grid len 1) grids index

@@ -45,7 +45,8 @@ impl<'scope, S: Strategy, P: Place> Batches<'scope, S, P> {
     ) -> Result<Batches<'scope, S, P>, Fault>
         ensures strategy { IfOk result (λ batches. strategy_of batches ≡ strategy.now) }
         ensures place { IfOk result (λ batches. place_of batches ≡ site) }
-        ensures one { IfOk result (λ batches. ranges_of batches ≡ record { start = 0; end = len } ∷ []) }
+        ensures one { IfOk result (λ batches. ranges_of
+            batches ≡ record { start = 0; end = len } ∷ []) }
         ensures fault { IsMemoryOnErr result }
     {
         let mut ranges = Vec::with_capacity(alloc, 1)?;
@@ -68,9 +69,11 @@ impl<'scope, S: Strategy, P: Place> Batches<'scope, S, P> {
         ensures strategy { IfOk result (λ batches. strategy_of batches ≡ strategy.now) }
         ensures place { IfOk result (λ batches. place_of batches ≡ site) }
         ensures balanced { IfOk result (λ batches. BalancedCut len (ranges_of batches)) }
-        ensures count { IfOk result (λ batches. length (ranges_of batches) ≡ non_zero_usize_get count) }
+        ensures count { IfOk result (λ batches. length
+            (ranges_of batches) ≡ non_zero_usize_get count) }
         ensures least { IfOk result (λ batches.
-            All (λ range. len / non_zero_usize_get count ≤ range_length range) (ranges_of batches)) }
+            All (λ range. len / non_zero_usize_get count ≤ range_length range)
+            (ranges_of batches)) }
         ensures fault { IsMemoryOnErr result }
     {
         let ranges = cut(alloc, len, count)?;
@@ -109,9 +112,9 @@ impl<'scope, S: Strategy, P: Place> Batches<'scope, S, P> {
         self.ranges.len() == 1
     }
 
-    /// The answers of `map_op` for the items that `prepare` makes of the ranges, in the items' order
-    /// (`MapOf`). A whole batch is mapped on the caller's thread. Any other goes through the batch's
-    /// strategy, with the batch's place.
+    /// The answers of `map_op` for the items that `prepare` makes of the ranges, in the items'
+    /// order (`MapOf`). A whole batch is mapped on the caller's thread. Any other goes through the
+    /// batch's strategy, with the batch's place.
     ///
     /// # Errors
     ///
@@ -139,13 +142,13 @@ impl<'scope, S: Strategy, P: Place> Batches<'scope, S, P> {
         Ok(answers)
     }
 
-    /// The same with a closure that may fail: the answers, or the error of the first item in the list
-    /// that fails (`TryMapOf`), whichever thread was first.
+    /// The same with a closure that may fail: the answers, or the error of the first item in the
+    /// list that fails (`TryMapOf`), whichever thread was first.
     ///
     /// # Errors
     ///
-    /// `Trouble::Closure` with that error. `Trouble::Fault` with the refusal that `prepare` answers, and
-    /// `map_op` isn't called then; or with `Fault::Memory`.
+    /// `Trouble::Closure` with that error. `Trouble::Fault` with the refusal that `prepare`
+    /// answers, and `map_op` isn't called then; or with `Fault::Memory`.
     pub fn try_map_collect_vec<
         Rt: Threads + Wait + Sync,
         T: Send + Drop,

@@ -1,6 +1,7 @@
 ghost use Rattle.std.specs.Prelude.{◌≡◌, ◌<◌, ◌≤◌};
 ghost use Rattle.std.specs.Int.NonZero.{non_zero_usize_get};
-ghost use Rattle.commonware_parallel.specs.Calls.{HasPick, batches_call, body_call, first_pick, goes_by_path, join_call, last_pick, multiplied_call, nth_pick, options_of, spawn_call, tiles_call, work_of};
+ghost use Rattle.commonware_parallel.specs.Calls.{HasPick, batches_call, body_call, first_pick, goes_by_path, join_call, last_pick, multiplied_call, nth_pick};
+ghost use Rattle.commonware_parallel.specs.Calls.{options_of, spawn_call, tiles_call, work_of};
 
 use parallel_bridge::Path;
 use std::num::NonZeroUsize;
@@ -73,8 +74,8 @@ impl Call {
         }
     }
 
-    /// The choice between a serial and a parallel body over `len` items that stand for more work than
-    /// one each. The work is `len * multiplier`, which stops at the greatest `usize`.
+    /// The choice between a serial and a parallel body over `len` items that stand for more work
+    /// than one each. The work is `len * multiplier`, which stops at the greatest `usize`.
     pub fn body_with_multiplier(len: usize, multiplier: usize) -> Call
         ensures { result ≡ multiplied_call len multiplier }
     {
@@ -119,7 +120,8 @@ impl Call {
         minimum: NonZeroUsize,
         multiplier: usize,
     ) -> Call
-        ensures { result ≡ batches_call (non_zero_usize_get parallelism) len (non_zero_usize_get minimum) multiplier }
+        ensures { result ≡ batches_call (non_zero_usize_get parallelism) len
+            (non_zero_usize_get minimum) multiplier }
     {
         Call {
             kind: Kind::Batches,
@@ -129,8 +131,8 @@ impl Call {
         }
     }
 
-    /// The choice among numbers of workers for a strategy planned for `parallelism`, on rows of `len`
-    /// columns. The work is `cost * multiplier`, which stops at the greatest `usize`.
+    /// The choice among numbers of workers for a strategy planned for `parallelism`, on rows of
+    /// `len` columns. The work is `cost * multiplier`, which stops at the greatest `usize`.
     pub fn tiles(parallelism: NonZeroUsize, len: usize, cost: usize, multiplier: usize) -> Call
         ensures { result ≡ tiles_call (non_zero_usize_get parallelism) len cost multiplier }
     {

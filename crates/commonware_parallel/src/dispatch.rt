@@ -1,7 +1,7 @@
 // What the calls of a strategy are dispatched by: a body is told a path, or a number of parts.
 //
-// A strategy picks for every kind of call. Which picks a call has goes by its kind, so that a call that goes
-// by a path is told one, and any other a number of parts.
+// A strategy picks for every kind of call. Which picks a call has goes by its kind, so that a call
+// that goes by a path is told one, and any other a number of parts.
 ghost use Rattle.std.specs.Prelude.{◌≡◌, ◌≢◌, ◌<◌, ◌≤◌, ℕ, IfErr, IfOk, false, true};
 ghost use Rattle.parallel_bridge.specs.declared.path.Path.{Path};
 ghost use Rattle.parallel_fault.specs.Trouble.{IfFault};
@@ -101,7 +101,8 @@ pub fn choose_path<S: Strategy, Rt: Wait, P: Place>(
 ) -> Result<(Path, S::Measure), Fault>
     requires parts { 0 < call.parts }
     requires by_path { goes_by_path call.kind ≡ true }
-    ensures takes { IfOk result (λ chosen. S.takes strategy.now (P.site_of site) call (By chosen.0)) }
+    ensures takes { IfOk result (λ chosen. S.takes strategy.now (P.site_of site) call
+        (By chosen.0)) }
     ensures refused { IfErr result (S.refuses strategy.now (P.site_of site) call) }
     ensures memory { call.kind ≢ Spawn → IfErr result (λ fault. fault ≡ Memory) }
 {

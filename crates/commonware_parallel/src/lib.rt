@@ -2,9 +2,9 @@
 //!
 //! A program is written over `S: Strategy` and run through `Sequential`, on the caller's thread, or
 //! through `Rayon`, on a pool. Whatever the strategy, the number of its threads and the order in
-//! which they end, a call that isn't refused gives the list's own answer: a map the answers in input
-//! order, a fallible one the first failing item's error, a fold a reduction of neighbouring segments,
-//! a batch each index once.
+//! which they end, a call that isn't refused gives the list's own answer: a map the answers in
+//! input order, a fallible one the first failing item's error, a fold a reduction of neighbouring
+//! segments, a batch each index once.
 #![tactic(auto)]
 
 mod batches;

@@ -1,9 +1,9 @@
-// What the list calls of a strategy stand on: the list's parts, split or as they come, by a path that the
-// strategy takes.
+// What the list calls of a strategy stand on: the list's parts, split or as they come, by a path
+// that the strategy takes.
 //
-// These functions are generic in the parts and not in the source, and write the bodies that go to the
-// strategy: the checker refuses a closure over parts whose type is a source's ("what is passed does not
-// fit the bound").
+// These functions are generic in the parts and not in the source, and write the bodies that go to
+// the strategy: the checker refuses a closure over parts whose type is a source's ("what is passed
+// does not fit the bound").
 ghost use Rattle.std.specs.Prelude.{◌≡◌, ◌<◌, List, IfOk, IfErr, length};
 ghost use Rattle.std.specs.Borrow.{MutBor};
 ghost use Rattle.std.specs.Int.NonZero.{non_zero_usize_get};
@@ -77,7 +77,8 @@ pub fn dispatch_call<S: Strategy, Rt: Wait, P: Place, R, B: FnOnce(Path) -> Resu
     requires kind { call.kind ≡ Body }
     requires accepts { (path : Path) → S.takes strategy.now (P.site_of site) call (By path)
         → B.pre body path }
-    requires memory { (path : Path) (fault : Fault) → B.post body path (Err fault) → fault ≡ Memory }
+    requires memory { (path : Path) (fault : Fault) → B.post body path (Err fault)
+        → fault ≡ Memory }
     ensures answers { IfOk result (λ answer. AtSomePath (S.takes strategy.now (P.site_of site) call)
         (λ path. B.post body path (Ok answer))) }
     ensures fault { IsMemoryOnErr result }
@@ -445,9 +446,10 @@ where
     }
 }
 
-// The next three are calls of another crate's functions, written as functions of this one: from a closure
-// the checker refuses the call itself where the answer of `map_op` or `fold_op` is made of several types
-// ("it passes code that rattle makes, as for the drop of a value, which has no theorem yet").
+// The next three are calls of another crate's functions, written as functions of this one: from a
+// closure the checker refuses the call itself where the answer of `map_op` or `fold_op` is made of
+// several types ("it passes code that rattle makes, as for the drop of a value, which has no
+// theorem yet").
 fn try_map_here<
     Rt: Threads + Sync,
     P: Producer,
@@ -514,7 +516,8 @@ fn try_fold_here<
     requires reduce_accepts { G.IsAlwaysCallable reduce_op.now }
     ensures folds { UnlessRefused result (λ out. GivesSome P.gives parts
         (λ xs. TryFoldedAs (ID.post identity.now) (λ a x out. F.post fold_op.now a x out)
-        (λ a b c. G.post reduce_op.now a b c) (cutdepth (non_zero_usize_get threads)) path xs out)) }
+        (λ a b c. G.post reduce_op.now a b c)
+        (cutdepth (non_zero_usize_get threads)) path xs out)) }
 {
     try_fold_by(
         rt, alloc, threads, path, parts, identity, fold_op, reduce_op,

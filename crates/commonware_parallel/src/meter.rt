@@ -7,8 +7,8 @@ use std::sync::Wait;
 
 /// Measures a run that goes on after its strategy chose: on a worker, or in a body that writes.
 ///
-/// Nothing is claimed of what it measures. A run that is given up isn't ended, so nothing is recorded
-/// of it.
+/// Nothing is claimed of what it measures. A run that is given up isn't ended, so nothing is
+/// recorded of it.
 pub trait Meter: Drop {
     /// The run begins.
     fn begin(&mut self);
@@ -29,8 +29,8 @@ impl Meter for Unmeasured {
 
 /// Tells the policy of a `Rayon` how long a run took, where the policy asked for it.
 ///
-/// A run's time is from `begin` to `end`, and 0 where the clock went back. What can't be recorded for
-/// want of memory is left out.
+/// A run's time is from `begin` to `end`, and 0 where the clock went back. What can't be recorded
+/// for want of memory is left out.
 #[derive(Debug, Drop)]
 pub struct Measured<C> {
     told: Option<Told<C>>,

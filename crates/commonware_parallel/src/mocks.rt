@@ -1,4 +1,5 @@
-//! Many parallel shapes, for tests: a strategy that picks by a rule, and a search through the rules.
+//! Many parallel shapes, for tests: a strategy that picks by a rule, and a search through the
+//! rules.
 mod choice;
 mod explore_error;
 mod explorer;

@@ -23,11 +23,12 @@ use std::cmp::Ordering;
 use std::sync::Wait;
 use std::thread::Threads;
 
-/// What the calls of a place have in common: the runtime, the allocator, the strategy and the place.
+/// What the calls of a place have in common: the runtime, the allocator, the strategy and the
+/// place.
 ///
-/// A function makes one at its beginning, `let on = On { rt, alloc, strategy, site };`, and then writes
-/// `on.map(items, f)`. Each method is the strategy's call of the name in its comment, with that call's
-/// clauses and errors.
+/// A function makes one at its beginning, `let on = On { rt, alloc, strategy, site };`, and then
+/// writes `on.map(items, f)`. Each method is the strategy's call of the name in its comment, with
+/// that call's clauses and errors.
 #[derive(Drop)]
 pub struct On<'s, Rt, S, P> {
     /// The runtime.
@@ -51,7 +52,8 @@ impl<'s, Rt: Threads + Wait + Sync, S: Strategy, P: Place> On<'s, Rt, S, P> {
         requires first_runs { A.pre a }
         requires second_runs { B.pre b }
         ensures answers { IfOk result (λ answers. A.post a answers.0 × B.post b answers.1) }
-        ensures refused { IfErr result (S.refuses self.now.strategy.now (P.site_of self.now.site) join_call) }
+        ensures refused { IfErr result
+            (S.refuses self.now.strategy.now (P.site_of self.now.site) join_call) }
         ensures fault { IsMemoryOnErr result }
     {
         self.strategy.join(self.rt, self.alloc, self.site, a, b)
@@ -68,7 +70,8 @@ impl<'s, Rt: Threads + Wait + Sync, S: Strategy, P: Place> On<'s, Rt, S, P> {
         ensures sorted { OnOk result (IsSortedByClosure C.FnMut compare items.new) }
         ensures stable { IsStableByClosure C.FnMut compare items.old items.new }
         ensures asked { OnOk result (AtSomePath
-            (S.takes self.now.strategy.now (P.site_of self.now.site) (body_call (length items.old))) (λ _. Unit {0})) }
+            (S.takes self.now.strategy.now (P.site_of self.now.site) (body_call (length items.old)))
+            (λ _. Unit {0})) }
         ensures fault { IsMemoryOnErr result }
     {
         self.strategy
@@ -85,7 +88,8 @@ impl<'s, Rt: Threads + Wait + Sync, S: Strategy, P: Place> On<'s, Rt, S, P> {
         ensures permutation { IsPermutation items.old items.new }
         ensures sorted { OnOk result (IsSortedByClosure C.FnMut compare items.new) }
         ensures asked { OnOk result (AtSomePath
-            (S.takes self.now.strategy.now (P.site_of self.now.site) (body_call (length items.old))) (λ _. Unit {0})) }
+            (S.takes self.now.strategy.now (P.site_of self.now.site) (body_call (length items.old)))
+            (λ _. Unit {0})) }
         ensures fault { IsMemoryOnErr result }
     {
         self.strategy
@@ -103,7 +107,8 @@ impl<'s, Rt: Threads + Wait + Sync, S: Strategy, P: Place> On<'s, Rt, S, P> {
         ensures answers { IfOk result (λ ys. GivesSome I.gives source
             (λ xs. MapOf (F.post map_op) xs ys.items)) }
         ensures asked { OnOk result (GivesSome I.gives source
-            (λ xs. AtSomePath (S.takes self.now.strategy.now (P.site_of self.now.site) (body_call (length xs))) (λ _. Unit {0}))) }
+            (λ xs. AtSomePath (S.takes self.now.strategy.now (P.site_of self.now.site)
+            (body_call (length xs))) (λ _. Unit {0}))) }
         ensures fault { IsMemoryOnErr result }
     {
         self.strategy
@@ -127,9 +132,11 @@ impl<'s, Rt: Threads + Wait + Sync, S: Strategy, P: Place> On<'s, Rt, S, P> {
             (λ xs. Bracketing (ID.post identity) (λ a x b. F.post fold_op a x b)
             (λ a b c. G.post reduce_op a b c) xs r)) }
         ensures along { IfOk result (λ r. GivesSome I.gives source
-            (λ xs. AtSomePath (S.takes self.now.strategy.now (P.site_of self.now.site) (body_call (length xs)))
+            (λ xs. AtSomePath (S.takes self.now.strategy.now (P.site_of self.now.site)
+            (body_call (length xs)))
             (λ path. FoldedAs (ID.post identity) (λ a x b. F.post fold_op a x b)
-            (λ a b c. G.post reduce_op a b c) (cutdepth (S.threads self.now.strategy.now)) path xs r))) }
+            (λ a b c. G.post reduce_op a b c)
+            (cutdepth (S.threads self.now.strategy.now)) path xs r))) }
         ensures fault { IsMemoryOnErr result }
     {
         self.strategy.fold(
@@ -158,10 +165,12 @@ impl<'s, Rt: Threads + Wait + Sync, S: Strategy, P: Place> On<'s, Rt, S, P> {
             (FoldStep (λ a p x b q. F.post fold_op a p x b q)))
             (λ a b c. G.post reduce_op a b c) xs r)) }
         ensures along { IfOk result (λ r. GivesSome I.gives source
-            (λ xs. AtSomePath (S.takes self.now.strategy.now (P.site_of self.now.site) (body_call (length xs)))
+            (λ xs. AtSomePath (S.takes self.now.strategy.now (P.site_of self.now.site)
+            (body_call (length xs)))
             (λ path. FoldedInitAs (N.post init) (ID.post identity)
             (FoldStep (λ a p x b q. F.post fold_op a p x b q))
-            (λ a b c. G.post reduce_op a b c) (cutdepth (S.threads self.now.strategy.now)) path xs r))) }
+            (λ a b c. G.post reduce_op a b c)
+            (cutdepth (S.threads self.now.strategy.now)) path xs r))) }
         ensures fault { IsMemoryOnErr result }
     {
         self.strategy.fold_init(
@@ -187,9 +196,11 @@ impl<'s, Rt: Threads + Wait + Sync, S: Strategy, P: Place> On<'s, Rt, S, P> {
             (λ xs. TryBracketing (ID.post identity) (λ a x b. F.post fold_op a x b)
             (λ a b c. G.post reduce_op a b c) xs out)) }
         ensures along { UnlessRefused result (λ out. GivesSome I.gives source
-            (λ xs. AtSomePath (S.takes self.now.strategy.now (P.site_of self.now.site) (body_call (length xs)))
+            (λ xs. AtSomePath (S.takes self.now.strategy.now (P.site_of self.now.site)
+            (body_call (length xs)))
             (λ path. TryFoldedAs (ID.post identity) (λ a x b. F.post fold_op a x b)
-            (λ a b c. G.post reduce_op a b c) (cutdepth (S.threads self.now.strategy.now)) path xs out))) }
+            (λ a b c. G.post reduce_op a b c)
+            (cutdepth (S.threads self.now.strategy.now)) path xs out))) }
         ensures fault { IfErr result (λ trouble. IfFault trouble (λ fault. fault ≡ Memory)) }
     {
         self.strategy.try_fold(
@@ -210,7 +221,8 @@ impl<'s, Rt: Threads + Wait + Sync, S: Strategy, P: Place> On<'s, Rt, S, P> {
         ensures answers { UnlessRefused result (λ out. GivesSome I.gives source
             (λ xs. TryMapOf (F.post map_op) xs (listed out))) }
         ensures asked { UnlessRefused result (λ _. GivesSome I.gives source
-            (λ xs. AtSomePath (S.takes self.now.strategy.now (P.site_of self.now.site) (body_call (length xs)))
+            (λ xs. AtSomePath (S.takes self.now.strategy.now (P.site_of self.now.site)
+            (body_call (length xs)))
             (λ _. Unit {0}))) }
         ensures fault { IfErr result (λ trouble. IfFault trouble (λ fault. fault ≡ Memory)) }
     {
@@ -235,7 +247,8 @@ impl<'s, Rt: Threads + Wait + Sync, S: Strategy, P: Place> On<'s, Rt, S, P> {
             (λ xs. Stateful (N.post init) (MapStep (λ p x y q. F.post map_op p x y q))
             xs ys.items)) }
         ensures along { IfOk result (λ ys. GivesSome I.gives source
-            (λ xs. AtSomePath (S.takes self.now.strategy.now (P.site_of self.now.site) (body_call (length xs)))
+            (λ xs. AtSomePath (S.takes self.now.strategy.now (P.site_of self.now.site)
+            (body_call (length xs)))
             (λ path. MappedInitAs (N.post init) (MapStep (λ p x y q. F.post map_op p x y q))
             (cutdepth (S.threads self.now.strategy.now)) path xs ys.items))) }
         ensures fault { IsMemoryOnErr result }
@@ -257,7 +270,8 @@ impl<'s, Rt: Threads + Wait + Sync, S: Strategy, P: Place> On<'s, Rt, S, P> {
         ensures answers { IfOk result (λ parts. GivesSome I.gives source
             (λ xs. PartitionOf (F.post map_op) xs parts.0.items parts.1.items)) }
         ensures asked { OnOk result (GivesSome I.gives source
-            (λ xs. AtSomePath (S.takes self.now.strategy.now (P.site_of self.now.site) (body_call (length xs)))
+            (λ xs. AtSomePath (S.takes self.now.strategy.now (P.site_of self.now.site)
+            (body_call (length xs)))
             (λ _. Unit {0}))) }
         ensures fault { IsMemoryOnErr result }
     {

@@ -19,9 +19,10 @@ use std::thread::Threads;
 /// Runs each call on a pool of threads, in as many parts as the pool's thread number asks.
 ///
 /// Beside the pool it has a planning number and a policy. Planned for one it runs a call serially.
-/// Planned for more the policy chooses between serial and parallel, by what the clock told of earlier
-/// calls at the same site with as many items; without a policy the call runs in parallel. A join asks
-/// no policy and is always parallel. A clone has the same pool, the same numbers and the same policy.
+/// Planned for more the policy chooses between serial and parallel, by what the clock told of
+/// earlier calls at the same site with as many items; without a policy the call runs in parallel. A
+/// join asks no policy and is always parallel. A clone has the same pool, the same numbers and the
+/// same policy.
 #[derive(Clone, Debug, Drop)]
 pub struct Rayon<C> {
     pub(crate) pool: Arc<ThreadPool, Global>,
@@ -39,15 +40,16 @@ impl<C: Clock> Rayon<C> {
     ///
     /// # Errors
     ///
-    /// `ThreadPoolBuildError::Memory` where the pool's or the policy's memory was refused; the clock is
-    /// dropped.
+    /// `ThreadPoolBuildError::Memory` where the pool's or the policy's memory was refused; the
+    /// clock is dropped.
     pub fn new<Rt: Threads>(
         _rt: &Rt,
         alloc: Global,
         num_threads: NonZeroUsize,
         clock: C,
     ) -> Result<Rayon<C>, ThreadPoolBuildError>
-        ensures threads { IfOk result (λ strategy. threads_of strategy ≡ min (non_zero_usize_get num_threads) MAX_THREADS) }
+        ensures threads { IfOk result (λ strategy. threads_of strategy ≡ min
+            (non_zero_usize_get num_threads) MAX_THREADS) }
         ensures planning { IfOk result (λ strategy. planning_of strategy ≡ threads_of strategy) }
         ensures chooses { IfOk result (λ strategy. chooses_of strategy ≡ true) }
         ensures starts { IfOk result (λ strategy. starts_of strategy ≡ true) }
@@ -60,8 +62,8 @@ impl<C: Clock> Rayon<C> {
     /// A strategy with as many threads as the pool, planned for as many, with a policy that knows
     /// nothing yet and reads the clock.
     ///
-    /// The pool's number is read and the pool isn't kept: the threads of a call are scoped ones, which
-    /// end with it, so the pool's own workers are left to the jobs that are spawned on it.
+    /// The pool's number is read and the pool isn't kept: the threads of a call are scoped ones,
+    /// which end with it, so the pool's own workers are left to the jobs that are spawned on it.
     ///
     /// # Errors
     ///
@@ -95,7 +97,8 @@ impl<C> Rayon<C> {
     ghost use Rattle.commonware_parallel.specs.Calls.{HasPick, first_pick, last_pick, options_of};
     ghost use Rattle.commonware_parallel.specs.declared.call.Kind.TheVariants.{Join, Spawn};
 
-    /// The same strategy, planned for `parallelism`. The pool, its thread number and the policy stay.
+    /// The same strategy, planned for `parallelism`. The pool, its thread number and the policy
+    /// stay.
     pub fn with_parallelism(self, parallelism: NonZeroUsize) -> Rayon<C>
         ensures planning { planning_of result ≡ non_zero_usize_get parallelism }
         ensures threads { threads_of result ≡ threads_of self }
@@ -107,8 +110,8 @@ impl<C> Rayon<C> {
         planned
     }
 
-    /// The same strategy, which starts no worker for a job: where it hands a job off the job is dropped,
-    /// and its answer stays pending. All other calls go as before, on scoped threads.
+    /// The same strategy, which starts no worker for a job: where it hands a job off the job is
+    /// dropped, and its answer stays pending. All other calls go as before, on scoped threads.
     pub fn without_workers(self) -> Rayon<C>
         ensures starts { starts_of result ≡ false }
         ensures planning { planning_of result ≡ planning_of self }
@@ -133,8 +136,10 @@ impl<C> Rayon<C> {
 
     // The key by which a policy tells a call apart.
     fn key(&self, site: Site, call: Call) -> Key
-        ensures spawn { call.kind ≡ Spawn → result ≡ key_of site call.len call.work (threads_of self.now) }
-        ensures others { call.kind ≢ Spawn → result ≡ key_of site call.len call.work (planning_of self.now) }
+        ensures spawn { call.kind ≡ Spawn
+            → result ≡ key_of site call.len call.work (threads_of self.now) }
+        ensures others { call.kind ≢ Spawn
+            → result ≡ key_of site call.len call.work (planning_of self.now) }
     {
         Key::new(site, call.len, call.work, self.planned(call))
     }
@@ -143,7 +148,8 @@ impl<C> Rayon<C> {
     fn pick(&self, call: Call) -> Pick
         requires { 0 < call.parts }
         ensures has { HasPick call result }
-        ensures takes { RayonTakes (planning_of self.now) (threads_of self.now) (chooses_of self.now) call result }
+        ensures takes { RayonTakes (planning_of self.now) (threads_of self.now)
+            (chooses_of self.now) call result }
     {
         if call.kind == Kind::Join || self.planned(call) > 1 {
             call.last()
@@ -152,13 +158,16 @@ impl<C> Rayon<C> {
         }
     }
 
-    // The policy, where it is asked about a call: not about a join, nor where there is nothing to choose.
+    // The policy, where it is asked about a call: not about a join, nor where there is nothing to
+    // choose.
     fn asked(&self, call: Call) -> Option<&Policy>
         ensures chooses { IsSome result → chooses_of self.now ≡ true }
         ensures kind { IsSome result → call.kind ≢ Join }
         ensures options { IsSome result → 2 ≤ options_of call }
-        ensures first { IsSome result → RayonTakes (planning_of self.now) (threads_of self.now) (chooses_of self.now) call (first_pick call) }
-        ensures last { IsSome result → RayonTakes (planning_of self.now) (threads_of self.now) (chooses_of self.now) call (last_pick call) }
+        ensures first { IsSome result → RayonTakes (planning_of self.now) (threads_of self.now)
+            (chooses_of self.now) call (first_pick call) }
+        ensures last { IsSome result → RayonTakes (planning_of self.now) (threads_of self.now)
+            (chooses_of self.now) call (last_pick call) }
     {
         if call.kind == Kind::Join || call.options() < 2 || self.planned(call) < 2 {
             return None;
@@ -197,7 +206,8 @@ impl<C: Clone> Rayon<C> {
 impl<C: Clock> Strategy for Rayon<C> {
     ghost use Rattle.commonware_parallel.specs.Rayon.{planning_of, threads_of, chooses_of, starts_of, RayonTakes, RayonRefuses};
 
-    ghost takes = { λ strategy _ call pick. RayonTakes (planning_of strategy) (threads_of strategy) (chooses_of strategy) call pick };
+    ghost takes = { λ strategy _ call pick. RayonTakes (planning_of strategy) (threads_of strategy)
+        (chooses_of strategy) call pick };
 
     ghost refuses = { λ strategy _ call fault. RayonRefuses (chooses_of strategy) call fault };
 

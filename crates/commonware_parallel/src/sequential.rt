@@ -30,7 +30,8 @@ use std::sync::Wait;
 /// Runs each call on the caller's own thread, in one piece.
 ///
 /// Its own functions have the names of the trait's, take no right to wait or to start threads, and
-/// say the one answer that there is. In code that is generic over `Strategy` the trait's are called.
+/// say the one answer that there is. In code that is generic over `Strategy` the trait's are
+/// called.
 #[derive(Clone, Copy, Debug, Default)]
 pub struct Sequential;
 
@@ -63,8 +64,8 @@ impl Sequential {
         serial()
     }
 
-    /// The answers of `map_op` for the items as they come, in their order. Its list alone is gathered.
-    /// The one refusal is `Fault::Memory`, and the items are then gone.
+    /// The answers of `map_op` for the items as they come, in their order. Its list alone is
+    /// gathered. The one refusal is `Fault::Memory`, and the items are then gone.
     pub fn map_collect_vec<P: Place, I: Iterator, T: Drop, F: Fn(I::Item) -> T + Drop>(
         &self,
         alloc: Global,
@@ -131,8 +132,8 @@ impl Sequential {
     }
 
     /// The items folded from an identity as they come, from left to right, in one segment with one
-    /// state at hand that `init` makes and that goes from item to item (`FoldInitSegment`). Nothing is
-    /// gathered and nothing is reduced, so it takes no memory.
+    /// state at hand that `init` makes and that goes from item to item (`FoldInitSegment`). Nothing
+    /// is gathered and nothing is reduced, so it takes no memory.
     pub fn fold_init<
         P: Place,
         I: Iterator,
@@ -155,8 +156,9 @@ impl Sequential {
         fold_init_iter(iter, &init, &identity, &fold_op)
     }
 
-    /// The items folded from an identity as they come, up to the first step that fails, in one segment
-    /// (`TryFoldSegment`). Nothing is gathered and nothing is reduced, so it takes no memory.
+    /// The items folded from an identity as they come, up to the first step that fails, in one
+    /// segment (`TryFoldSegment`). Nothing is gathered and nothing is reduced, so it takes no
+    /// memory.
     ///
     /// # Errors
     ///
@@ -182,13 +184,13 @@ impl Sequential {
         try_fold_iter(iter, &identity, &fold_op)
     }
 
-    /// The values that `map_op` answers for the items, in their order, or the error of the first item
-    /// that fails (`TryMapOf`), behind which the other items are passed over.
+    /// The values that `map_op` answers for the items, in their order, or the error of the first
+    /// item that fails (`TryMapOf`), behind which the other items are passed over.
     ///
     /// # Errors
     ///
-    /// `Trouble::Closure` with the first failing item's error. `Trouble::Fault` with `Fault::Memory`
-    /// alone. The items are then gone.
+    /// `Trouble::Closure` with the first failing item's error. `Trouble::Fault` with
+    /// `Fault::Memory` alone. The items are then gone.
     pub fn try_map_collect_vec<
         P: Place,
         I: Iterator,
@@ -207,8 +209,8 @@ impl Sequential {
         try_map_iter(alloc, iter, &map_op)
     }
 
-    /// The answers of `map_op` for the items, in their order, with one state at hand that `init` makes
-    /// and that goes from item to item (`StateSegment`).
+    /// The answers of `map_op` for the items, in their order, with one state at hand that `init`
+    /// makes and that goes from item to item (`StateSegment`).
     ///
     /// # Errors
     ///
@@ -229,7 +231,8 @@ impl Sequential {
         requires map_accepts { HoldsAlong I.next_gives iter
             (All (λ x. (state : MutBor S) → F.pre map_op state x)) }
         ensures one_state { IfOk result (λ ys. GivesSome (Drains I.next_gives) iter
-            (λ xs. StateSegment (N.post init) (MapStep (λ p x y q. F.post map_op p x y q)) xs ys.items)) }
+            (λ xs. StateSegment (N.post init)
+            (MapStep (λ p x y q. F.post map_op p x y q)) xs ys.items)) }
         ensures fault { IsMemoryOnErr result }
     {
         let answers = map_init_iter(alloc, iter, &init, &map_op)?;
@@ -265,14 +268,15 @@ impl Sequential {
         requires map_accepts { HoldsAlong I.next_gives iter
             (All (λ x. (state : MutBor S) → F.pre map_op state x)) }
         ensures one_state { IfOk result (λ ys. GivesSome (Drains I.next_gives) iter
-            (λ xs. StateSegment (N.post init) (MapStep (λ p x y q. F.post map_op p x y q)) xs ys.items)) }
+            (λ xs. StateSegment (N.post init)
+            (MapStep (λ p x y q. F.post map_op p x y q)) xs ys.items)) }
         ensures fault { IsMemoryOnErr result }
     {
         self.map_init_collect_vec(alloc, site, iter, init, map_op)
     }
 
-    /// The values that `map_op` answers, and the keys of the items for which it answers none, both in
-    /// the items' order (`PartitionOf`).
+    /// The values that `map_op` answers, and the keys of the items for which it answers none, both
+    /// in the items' order (`PartitionOf`).
     ///
     /// # Errors
     ///
@@ -312,7 +316,8 @@ impl Sequential {
     }
 
     /// Sorts the items by a lawful order; items that tie keep their order. The one refusal is
-    /// `Fault::Memory`, of the sort's buffer, and the items are then a permutation of what they were.
+    /// `Fault::Memory`, of the sort's buffer, and the items are then a permutation of what they
+    /// were.
     pub fn sort_by<P: Place, T, C: Fn(&T, &T) -> Ordering>(
         &self,
         alloc: Global,

@@ -33,9 +33,9 @@ pub(crate) enum Stage<S, F: Job<S, T>, T> {
 
 /// A job that was spawned: its answer, or what waits for it.
 ///
-/// It is ready at once, or waits for a worker. As a future it gives the job's answer, once; a task or
-/// `block_on` of `futures` waits for it, and `poll` asks by hand. Dropped before its job has ended it
-/// leaves the job to run, and the answer goes with it.
+/// It is ready at once, or waits for a worker. As a future it gives the job's answer, once; a task
+/// or `block_on` of `futures` waits for it, and `poll` asks by hand. Dropped before its job has
+/// ended it leaves the job to run, and the answer goes with it.
 #[derive(Drop)]
 pub struct Spawned<R, S, F: Job<S, T>, T> {
     rt: R,
@@ -79,14 +79,15 @@ impl<R: Threads + Wait, S: Drop, F: Job<S, T> + Drop, T: Drop> Spawned<R, S, F, 
 
     /// The answer, once it is here.
     ///
-    /// A pending poll has left its task's waker, and so the task is polled again once the job has ended;
-    /// a poll that sees the end joins the worker. After the answer was taken every poll is pending and
-    /// leaves nothing.
+    /// A pending poll has left its task's waker, and so the task is polled again once the job has
+    /// ended; a poll that sees the end joins the worker. After the answer was taken every poll is
+    /// pending and leaves nothing.
     pub fn poll(&mut self, cx: &mut Context<'_>) -> Poll<T>
         ensures value { IfReady result (gives_answer F.may_answer self.old) }
         ensures taken { IfReady result (λ _. is_taken self.new ≡ true) }
         ensures same { OnPending result (stage_of self.new ≡ stage_of self.old) }
-        ensures registered { OnPending result (is_taken self.old ≡ false → Covers cx.new (needs_of self.new)) }
+        ensures registered { OnPending result
+            (is_taken self.old ≡ false → Covers cx.new (needs_of self.new)) }
         ensures pending { is_taken self.old ≡ true → result ≡ Poll.Pending }
         ensures left_alone { is_taken self.old ≡ true → cx.new ≡ cx.old }
         ensures ready { is_ready_now self.old ≡ true → result ≢ Poll.Pending }

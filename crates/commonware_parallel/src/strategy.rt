@@ -48,24 +48,26 @@ use std::sync::Wait;
 use std::thread;
 use std::thread::Threads;
 
-/// Runs a program's folds, maps, joins, sorts, batches and tiles, which are written once for all strategies.
+/// Runs a program's folds, maps, joins, sorts, batches and tiles, which are written once for all
+/// strategies.
 ///
-/// A strategy chooses and does nothing else. It is asked about a `Call`, and answers a `Pick`, one that
-/// the call has: a path, serial or parallel, or a number of ranges or workers. What the call then does is
-/// one of the `final` functions below, proved here once for every strategy: an implementation can't break
-/// what they say.
+/// A strategy chooses and does nothing else. It is asked about a `Call`, and answers a `Pick`, one
+/// that the call has: a path, serial or parallel, or a number of ranges or workers. What the call
+/// then does is one of the `final` functions below, proved here once for every strategy: an
+/// implementation can't break what they say.
 ///
 /// An implementation writes two functions that choose, `dispatch` and `choose`, readers of its
 /// numbers, `inner`, the type `Measure`, and six ghost members, in which it says what it may pick.
 /// Code that is generic over `S: Strategy` may rest on the clauses here alone; code at one strategy
-/// sees through its ghost members, and so learns from a clause `along` in which segments a call went.
+/// sees through its ghost members, and so learns from a clause `along` in which segments a call
+/// went.
 ///
-/// Every call takes the runtime, then the allocator, then the place of the call. A list call takes a
-/// source: a slice, a vector, indices, a list of the user's own, or any iterator that ends. Its list is
-/// one that the source gives (`Source::gives`). A list that is one already is neither gathered nor copied;
-/// an iterator's items are gathered where the strategy has to be asked by their number. A map's closure
-/// has to accept the items that may come (`Source::may`), at every state where it has one; every other
-/// closure has to accept every value of its argument types.
+/// Every call takes the runtime, then the allocator, then the place of the call. A list call takes
+/// a source: a slice, a vector, indices, a list of the user's own, or any iterator that ends. Its
+/// list is one that the source gives (`Source::gives`). A list that is one already is neither
+/// gathered nor copied; an iterator's items are gathered where the strategy has to be asked by
+/// their number. A map's closure has to accept the items that may come (`Source::may`), at every
+/// state where it has one; every other closure has to accept every value of its argument types.
 pub trait Strategy: Clone + Send + Sync + Debug + 'static {
     ghost use Rattle.commonware_parallel.specs.declared.batches.Batches.{Batches};
     ghost use Rattle.commonware_parallel.specs.declared.tiles.Tiles.{Tiles};
@@ -112,8 +114,9 @@ pub trait Strategy: Clone + Send + Sync + Debug + 'static {
     fn starts_workers(&self) -> bool
         ensures { result ≡ starts self.now };
 
-    /// Whether any call of the kind `Body` may run serially without the strategy being asked, as where
-    /// it has no other pick and measures nothing. A list call then goes over its source as it comes.
+    /// Whether any call of the kind `Body` may run serially without the strategy being asked, as
+    /// where it has no other pick and measures nothing. A list call then goes over its source as it
+    /// comes.
     fn is_serial(&self) -> bool
         ensures unasked { result ≡ unasked self.now }
         ensures first { IsTrue result → (site : Site) (call : Call) → call.kind ≡ Body
@@ -132,8 +135,8 @@ pub trait Strategy: Clone + Send + Sync + Debug + 'static {
     /// Picks for the call, tells the body on the caller's thread, and answers what it answered.
     ///
     /// The body runs inside, so that an implementation can time it and tell an error of it apart.
-    /// An answer or an error of the body's own is one that it allows at a pick that the call has and
-    /// that the strategy may take (`AnswersAs`).
+    /// An answer or an error of the body's own is one that it allows at a pick that the call has
+    /// and that the strategy may take (`AnswersAs`).
     ///
     /// # Errors
     ///
@@ -149,7 +152,8 @@ pub trait Strategy: Clone + Send + Sync + Debug + 'static {
     ) -> Result<R, Trouble<E>>
         requires parts { 0 < call.parts }
         requires kind { call.kind ≢ Spawn }
-        requires accepts { (pick : Pick) → HasPick call pick → takes self.now (P.site_of site) call pick → B.pre body pick }
+        requires accepts { (pick : Pick) → HasPick call pick
+            → takes self.now (P.site_of site) call pick → B.pre body pick }
         ensures answers { AnswersAs
             (λ pick. HasPick call pick × takes self.now (P.site_of site) call pick)
             (refuses self.now (P.site_of site) call)
@@ -159,8 +163,8 @@ pub trait Strategy: Clone + Send + Sync + Debug + 'static {
     /// Measures what goes on after a choice was handed out.
     type Measure: Meter + Send + 'static;
 
-    /// Hands out a pick for the call, with a meter of the run to come, where the body can't run inside:
-    /// for a job that goes on on a worker, and for a body that writes through a `&mut`.
+    /// Hands out a pick for the call, with a meter of the run to come, where the body can't run
+    /// inside: for a job that goes on on a worker, and for a body that writes through a `&mut`.
     ///
     /// # Errors
     ///
@@ -173,7 +177,8 @@ pub trait Strategy: Clone + Send + Sync + Debug + 'static {
         call: Call,
     ) -> Result<(Pick, Self::Measure), Fault>
         requires parts { 0 < call.parts }
-        ensures takes { IfOk result (λ chosen. HasPick call chosen.0 × takes self.now (P.site_of site) call chosen.0) }
+        ensures takes { IfOk result (λ chosen. HasPick call chosen.0
+            × takes self.now (P.site_of site) call chosen.0) }
         ensures refused { IfErr result (refuses self.now (P.site_of site) call) }
         ensures memory { call.kind ≢ Spawn → IfErr result (λ fault. fault ≡ Memory) };
 
@@ -183,7 +188,8 @@ pub trait Strategy: Clone + Send + Sync + Debug + 'static {
     ///
     /// # Errors
     ///
-    /// `Fault::Memory` alone, and only what `refuses` allows: a strategy without a policy refuses no run.
+    /// `Fault::Memory` alone, and only what `refuses` allows: a strategy without a policy refuses
+    /// no run.
     final fn run<Rt: Wait, P: Place, R, A: FnOnce() -> R + Drop, B: FnOnce() -> R + Drop>(
         &self,
         rt: &Rt,
@@ -195,14 +201,16 @@ pub trait Strategy: Clone + Send + Sync + Debug + 'static {
     ) -> Result<R, Fault>
         requires serial_runs { A.pre serial }
         requires parallel_runs { B.pre parallel }
-        ensures answers { IfOk result (λ answer. AtSomePath (takes self.now (P.site_of site) (body_call len))
+        ensures answers { IfOk result (λ answer. AtSomePath
+            (takes self.now (P.site_of site) (body_call len))
             (λ path. OneOf (A.post serial answer) (B.post parallel answer) path)) }
         ensures refused { IfErr result (refuses self.now (P.site_of site) (body_call len)) }
         ensures fault { IsMemoryOnErr result }
     {
         let body = move |path: Path| -> Result<R, ()>
             requires { A.pre serial × B.pre parallel }
-            ensures { MatchResult result (λ answer. OneOf (A.post serial answer) (B.post parallel answer) path) (λ _. ⊥) }
+            ensures { MatchResult result (λ answer. OneOf (A.post serial answer)
+                (B.post parallel answer) path) (λ _. ⊥) }
         {
             match path {
                 Path::Serial => Ok(serial()),
@@ -224,8 +232,8 @@ pub trait Strategy: Clone + Send + Sync + Debug + 'static {
     /// # Errors
     ///
     /// `Trouble::Closure` with the error of the body that was run. `Trouble::Fault` with
-    /// `Fault::Memory` alone, and only where `refuses` allows it: a strategy without a policy refuses
-    /// no run.
+    /// `Fault::Memory` alone, and only where `refuses` allows it: a strategy without a policy
+    /// refuses no run.
     final fn try_run<
         Rt: Wait,
         P: Place,
@@ -262,13 +270,13 @@ pub trait Strategy: Clone + Send + Sync + Debug + 'static {
         dispatch_path(self, rt, alloc, site, Call::body(len), body)
     }
 
-    /// An answer of each of two closures, which are run serially one after the other, and in parallel side
-    /// by side, one of them on the caller's thread.
+    /// An answer of each of two closures, which are run serially one after the other, and in
+    /// parallel side by side, one of them on the caller's thread.
     ///
     /// # Errors
     ///
-    /// `Fault::Memory` alone, and only where `refuses` allows it: `Sequential` and `Rayon` refuse no
-    /// join, whatever is chosen for their other calls.
+    /// `Fault::Memory` alone, and only where `refuses` allows it: `Sequential` and `Rayon` refuse
+    /// no join, whatever is chosen for their other calls.
     final fn join<
         Rt: Threads + Wait + Sync,
         P: Place,
@@ -285,7 +293,8 @@ pub trait Strategy: Clone + Send + Sync + Debug + 'static {
     {
         let body = move |path: Path| -> Result<(RA, RB), ()>
             requires { A.pre a × B.pre b }
-            ensures { MatchResult result (λ answers. A.post a answers.0 × B.post b answers.1) (λ _. ⊥) }
+            ensures { MatchResult result (λ answers. A.post a answers.0 × B.post b answers.1)
+                (λ _. ⊥) }
         {
             match path {
                 Path::Serial => Ok((a(), b())),
@@ -299,16 +308,17 @@ pub trait Strategy: Clone + Send + Sync + Debug + 'static {
         }
     }
 
-    /// A job, run on a clone of this strategy: serially at once, and in parallel on a worker of its own.
-    /// In parallel, where workers aren't started, it is dropped and stays pending (`BeginsAs`).
+    /// A job, run on a clone of this strategy: serially at once, and in parallel on a worker of its
+    /// own. In parallel, where workers aren't started, it is dropped and stays pending
+    /// (`BeginsAs`).
     ///
-    /// Whatever it answers is an answer that the job allows on a clone (`gives`). `len` is the number of
-    /// items that the job stands for, by which a policy tells calls apart.
+    /// Whatever it answers is an answer that the job allows on a clone (`gives`). `len` is the
+    /// number of items that the job stands for, by which a policy tells calls apart.
     ///
     /// # Errors
     ///
-    /// What the strategy refuses; `Fault::Memory`; in parallel `Fault::Worker` where the worker's start
-    /// was refused (`FailsToSpawn`). The job is then dropped.
+    /// What the strategy refuses; `Fault::Memory`; in parallel `Fault::Worker` where the worker's
+    /// start was refused (`FailsToSpawn`). The job is then dropped.
     final fn spawn<
         Rt: Threads + Wait + Copy + Send + 'static,
         P: Place,
@@ -324,10 +334,13 @@ pub trait Strategy: Clone + Send + Sync + Debug + 'static {
     ) -> Result<Spawned<Rt, Self, F, T>, Fault>
         requires { (clone : Self) → Self.is_clone self.now clone → F.may_run job clone }
         ensures gives { IfOk result (λ spawned. (clone : Self) × Self.is_clone self.now clone
-            × ((answer : T) → gives_answer F.may_answer spawned answer → F.may_answer job clone answer)) }
+            × ((answer : T) → gives_answer F.may_answer spawned answer
+            → F.may_answer job clone answer)) }
         ensures form { IfOk result (λ spawned. AtSomePath
-            (takes self.now (P.site_of site) (spawn_call len)) (λ path. BeginsAs (starts self.now) path spawned)) }
-        ensures refused { IfErr result (FailsToSpawn (takes self.now (P.site_of site) (spawn_call len))
+            (takes self.now (P.site_of site) (spawn_call len))
+            (λ path. BeginsAs (starts self.now) path spawned)) }
+        ensures refused { IfErr result
+            (FailsToSpawn (takes self.now (P.site_of site) (spawn_call len))
             (refuses self.now (P.site_of site) (spawn_call len)) (starts self.now)) }
     {
         let (path, meter) = choose_path(self, rt, alloc, site, Call::spawn(len))?;
@@ -335,13 +348,13 @@ pub trait Strategy: Clone + Send + Sync + Debug + 'static {
         begin(*rt, alloc, path, self.starts_workers(), meter, own, job)
     }
 
-    /// Sorts the items by an order; items that tie keep their order. Serially the caller's thread sorts
-    /// them; in parallel, where there are enough of them to gain, the pool's thread number of parts is
-    /// sorted side by side first.
+    /// Sorts the items by an order; items that tie keep their order. Serially the caller's thread
+    /// sorts them; in parallel, where there are enough of them to gain, the pool's thread number of
+    /// parts is sorted side by side first.
     ///
-    /// The order has to be lawful: a strict weak order that `compare` answers by. Whatever `compare`
-    /// answers, the items are those that were there before. The strategy is asked as for a body over
-    /// the items, and may measure the sort (`asked`).
+    /// The order has to be lawful: a strict weak order that `compare` answers by. Whatever
+    /// `compare` answers, the items are those that were there before. The strategy is asked as for
+    /// a body over the items, and may measure the sort (`asked`).
     ///
     /// # Errors
     ///
@@ -407,17 +420,20 @@ pub trait Strategy: Clone + Send + Sync + Debug + 'static {
         len: usize,
         body: B,
     ) -> Result<R, Fault>
-        requires accepts { (path : Path) → takes self.now (P.site_of site) (body_call len) (By path) → B.pre body path }
-        requires memory { (path : Path) (fault : Fault) → B.post body path (Err fault) → fault ≡ Memory }
+        requires accepts { (path : Path) → takes self.now (P.site_of site) (body_call len) (By path)
+            → B.pre body path }
+        requires memory { (path : Path) (fault : Fault) → B.post body path (Err fault)
+            → fault ≡ Memory }
         ensures answers { IfOk result (λ answer. AtSomePath
-            (takes self.now (P.site_of site) (body_call len)) (λ path. B.post body path (Ok answer))) }
+            (takes self.now (P.site_of site) (body_call len))
+            (λ path. B.post body path (Ok answer))) }
         ensures fault { IsMemoryOnErr result }
     {
         dispatch_call(self, rt, alloc, site, Call::body(len), body)
     }
 
-    /// The answers of `map_op` for the items, in the items' order (`MapOf`). The closure has to accept
-    /// each item that may come of the source, and no other value.
+    /// The answers of `map_op` for the items, in the items' order (`MapOf`). The closure has to
+    /// accept each item that may come of the source, and no other value.
     ///
     /// The strategy is asked by the number of items (`asked`).
     ///
@@ -438,7 +454,8 @@ pub trait Strategy: Clone + Send + Sync + Debug + 'static {
         ensures answers { IfOk result (λ ys. GivesSome I.gives source
             (λ xs. MapOf (F.post map_op) xs ys.items)) }
         ensures asked { OnOk result (GivesSome I.gives source
-            (λ xs. AtSomePath (takes self.now (P.site_of site) (body_call (length xs))) (λ _. Unit {0}))) }
+            (λ xs. AtSomePath (takes self.now (P.site_of site) (body_call (length xs)))
+            (λ _. Unit {0}))) }
         ensures fault { IsMemoryOnErr result }
     {
         if self.is_serial() {
@@ -478,7 +495,8 @@ pub trait Strategy: Clone + Send + Sync + Debug + 'static {
         ensures answers { IfOk result (λ ys. GivesSome I.gives source
             (λ xs. MapOf (F.post map_op) xs ys.items)) }
         ensures asked { OnOk result (GivesSome I.gives source
-            (λ xs. AtSomePath (takes self.now (P.site_of site) (multiplied_call (length xs) multiplier)) (λ _. Unit {0}))) }
+            (λ xs. AtSomePath (takes self.now (P.site_of site)
+            (multiplied_call (length xs) multiplier)) (λ _. Unit {0}))) }
         ensures fault { IsMemoryOnErr result }
     {
         if self.is_serial() {
@@ -491,13 +509,13 @@ pub trait Strategy: Clone + Send + Sync + Debug + 'static {
         Ok(answers)
     }
 
-    /// The items folded in neighbouring segments, each from an identity of its own, and the segments'
-    /// results reduced, left before right (`Bracketing`).
+    /// The items folded in neighbouring segments, each from an identity of its own, and the
+    /// segments' results reduced, left before right (`Bracketing`).
     ///
-    /// Serially the list is one segment and nothing is reduced. In parallel it goes along the list's
-    /// shape for the pool's thread number, and each leaf is reduced behind a further identity
-    /// (`FoldedAs`). `parallel_bridge::fold_law` says when every such answer is the plain fold from the
-    /// left.
+    /// Serially the list is one segment and nothing is reduced. In parallel it goes along the
+    /// list's shape for the pool's thread number, and each leaf is reduced behind a further
+    /// identity (`FoldedAs`). `parallel_bridge::fold_law` says when every such answer is the plain
+    /// fold from the left.
     ///
     /// # Errors
     ///
@@ -545,8 +563,8 @@ pub trait Strategy: Clone + Send + Sync + Debug + 'static {
         Ok(answer)
     }
 
-    /// The items folded as by `fold`, with a state at hand that goes from item to item of a segment and
-    /// begins there as a value of `init` (`FoldInitSegment`).
+    /// The items folded as by `fold`, with a state at hand that goes from item to item of a segment
+    /// and begins there as a value of `init` (`FoldInitSegment`).
     ///
     /// # Errors
     ///
@@ -608,8 +626,8 @@ pub trait Strategy: Clone + Send + Sync + Debug + 'static {
     ///
     /// # Errors
     ///
-    /// `Trouble::Closure` with the error of the step that failed. `Trouble::Fault` with `Fault::Memory`
-    /// alone. The items are then gone.
+    /// `Trouble::Closure` with the error of the step that failed. `Trouble::Fault` with
+    /// `Fault::Memory` alone. The items are then gone.
     final fn try_fold<
         Rt: Threads + Wait + Sync,
         P: Place,
@@ -653,14 +671,14 @@ pub trait Strategy: Clone + Send + Sync + Debug + 'static {
         )
     }
 
-    /// The values that `map_op` answers for the items, in the items' order, or the error of the first
-    /// item that fails, whichever part of the list ended first (`TryMapOf`). The closure has to accept
-    /// each item that may come of the source, and no other value.
+    /// The values that `map_op` answers for the items, in the items' order, or the error of the
+    /// first item that fails, whichever part of the list ended first (`TryMapOf`). The closure has
+    /// to accept each item that may come of the source, and no other value.
     ///
     /// # Errors
     ///
-    /// `Trouble::Closure` with the first failing item's error. `Trouble::Fault` with `Fault::Memory`
-    /// alone. The items are then gone.
+    /// `Trouble::Closure` with the first failing item's error. `Trouble::Fault` with
+    /// `Fault::Memory` alone. The items are then gone.
     final fn try_map_collect_vec<
         Rt: Threads + Wait + Sync,
         P: Place,
@@ -687,12 +705,12 @@ pub trait Strategy: Clone + Send + Sync + Debug + 'static {
         try_map_through(self, rt, alloc, site, call, parts, &map_op)
     }
 
-    /// The answers of `map_op` for the items, in the items' order, with a state at hand that goes from
-    /// item to item of a segment and begins there as a value of `init` (`Stateful`).
+    /// The answers of `map_op` for the items, in the items' order, with a state at hand that goes
+    /// from item to item of a segment and begins there as a value of `init` (`Stateful`).
     ///
-    /// Serially the list is one segment with one state. In parallel the states change at the segments
-    /// of the list's shape for the pool's thread number (`MappedInitAs`). The closure has to accept each
-    /// item that may come of the source, at every state.
+    /// Serially the list is one segment with one state. In parallel the states change at the
+    /// segments of the list's shape for the pool's thread number (`MappedInitAs`). The closure has
+    /// to accept each item that may come of the source, at every state.
     ///
     /// # Errors
     ///
@@ -771,7 +789,8 @@ pub trait Strategy: Clone + Send + Sync + Debug + 'static {
             (λ xs. Stateful (N.post init) (MapStep (λ p x y q. F.post map_op p x y q))
             xs ys.items)) }
         ensures along { IfOk result (λ ys. GivesSome I.gives source
-            (λ xs. AtSomePath (takes self.now (P.site_of site) (multiplied_call (length xs) multiplier))
+            (λ xs. AtSomePath (takes self.now (P.site_of site)
+            (multiplied_call (length xs) multiplier))
             (λ path. MappedInitAs (N.post init) (MapStep (λ p x y q. F.post map_op p x y q))
             (cutdepth (threads self.now)) path xs ys.items))) }
         ensures fault { IsMemoryOnErr result }
@@ -786,9 +805,9 @@ pub trait Strategy: Clone + Send + Sync + Debug + 'static {
         Ok(answers)
     }
 
-    /// The values that `map_op` answers, and the keys of the items for which it answers none, both in
-    /// the items' order (`PartitionOf`). The closure has to accept each item that may come of the source,
-    /// and no other value.
+    /// The values that `map_op` answers, and the keys of the items for which it answers none, both
+    /// in the items' order (`PartitionOf`). The closure has to accept each item that may come of
+    /// the source, and no other value.
     ///
     /// # Errors
     ///
@@ -828,13 +847,13 @@ pub trait Strategy: Clone + Send + Sync + Debug + 'static {
         Ok(answers)
     }
 
-    /// An answer of `run` over a batch of `0..len`: balanced ranges, as many as the strategy picks. Of two
-    /// or more none is shorter than `minimum` (`IsBatch`); a whole one may be.
+    /// An answer of `run` over a batch of `0..len`: balanced ranges, as many as the strategy picks.
+    /// Of two or more none is shorter than `minimum` (`IsBatch`); a whole one may be.
     ///
     /// There are at most as many ranges as the strategy is planned for. The work, by which a policy
-    /// tells calls apart, is `len * multiplier`, which stops at the greatest `usize`. The batch goes
-    /// through the strategy's `inner` and has the call's place. The closure has to accept each batch that
-    /// is one, and no other.
+    /// tells calls apart, is `len * multiplier`, which stops at the greatest `usize`. The batch
+    /// goes through the strategy's `inner` and has the call's place. The closure has to accept each
+    /// batch that is one, and no other.
     ///
     /// # Errors
     ///
@@ -850,8 +869,10 @@ pub trait Strategy: Clone + Send + Sync + Debug + 'static {
         run: F,
     ) -> Result<R, Fault>
         requires { (batches : Batches Self P) (count : ℕ)
-            → IsBatch len count (non_zero_usize_get minimum) (ranges_of batches) → F.pre run batches }
-        ensures answers { IfOk result (λ answer. OnSomeBatch takes refuses plans threads starts self.now
+            → IsBatch len count (non_zero_usize_get minimum) (ranges_of batches)
+            → F.pre run batches }
+        ensures answers { IfOk result (λ answer. OnSomeBatch takes refuses plans threads starts
+            self.now
             (P.site_of site) site len (non_zero_usize_get minimum) multiplier
             (λ batches. F.post run batches answer)) }
         ensures fault { IsMemoryOnErr result }
@@ -881,22 +902,24 @@ pub trait Strategy: Clone + Send + Sync + Debug + 'static {
         run: F,
     ) -> Result<R, Trouble<E>>
         requires { (batches : Batches Self P) (count : ℕ)
-            → IsBatch len count (non_zero_usize_get minimum) (ranges_of batches) → F.pre run batches }
-        ensures { UnlessRefused result (λ out. OnSomeBatch takes refuses plans threads starts self.now
+            → IsBatch len count (non_zero_usize_get minimum) (ranges_of batches)
+            → F.pre run batches }
+        ensures { UnlessRefused result
+            (λ out. OnSomeBatch takes refuses plans threads starts self.now
             (P.site_of site) site len (non_zero_usize_get minimum) multiplier
             (λ batches. F.post run batches out)) }
     {
         try_batches_through(self, rt, alloc, site, len, minimum, multiplier, run)
     }
 
-    /// An answer of `run` over tiles of one of `grids`, on rows of `len` columns: of the first one of
-    /// least cost for as many workers as the strategy picks (`IsTiling`).
+    /// An answer of `run` over tiles of one of `grids`, on rows of `len` columns: of the first one
+    /// of least cost for as many workers as the strategy picks (`IsTiling`).
     ///
-    /// There are at most as many workers as the strategy is planned for. The work, by which a policy
-    /// tells calls apart, is the least cost for one worker times `multiplier`, which stops at the
-    /// greatest `usize`. The tiles go through the strategy's `inner` and have the call's place. There has
-    /// to be a grid, and the cells of each have to be countable (`Grid::fits`). The closure has to accept
-    /// all tiles of the grids, and no other.
+    /// There are at most as many workers as the strategy is planned for. The work, by which a
+    /// policy tells calls apart, is the least cost for one worker times `multiplier`, which stops
+    /// at the greatest `usize`. The tiles go through the strategy's `inner` and have the call's
+    /// place. There has to be a grid, and the cells of each have to be countable (`Grid::fits`).
+    /// The closure has to accept all tiles of the grids, and no other.
     ///
     /// # Errors
     ///
@@ -912,11 +935,13 @@ pub trait Strategy: Clone + Send + Sync + Debug + 'static {
         run: F,
     ) -> Result<R, Fault>
         requires fits { Fits grids.now len }
-        requires accepts { (tiles : Tiles Self P) (workers : ℕ) → IsTiling grids.now len workers tiles
+        requires accepts { (tiles : Tiles Self P) (workers : ℕ)
+            → IsTiling grids.now len workers tiles
             → F.pre run tiles }
         ensures answers { IfOk result (λ answer. (cost : ℕ) × IsSerialCost grids.now len cost
             × (workers : ℕ) × (0 < workers) × (workers ≤ plans self.now)
-            × takes self.now (P.site_of site) (tiles_call (plans self.now) len cost multiplier) (Into workers)
+            × takes self.now (P.site_of site) (tiles_call (plans self.now) len cost multiplier)
+            (Into workers)
             × (tiles : Tiles Self P) × IsTiling grids.now len workers tiles
             × IsInnerOf takes refuses plans threads starts self.now (tiles_strategy tiles)
             × (tiles_place tiles ≡ site) × F.post run tiles answer) }

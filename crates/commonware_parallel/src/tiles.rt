@@ -117,10 +117,11 @@ impl<'scope, S: Strategy, P: Place> Tiles<'scope, S, P> {
     /// A result for each stretch of the grid: `fill` is lent a state with a row and neighbouring
     /// columns of it, until the stretch is filled, and then `finish` answers for the row.
     ///
-    /// The stretches cut the grid (`CutsRectangle`): each cell is in just one. Where rows aren't cut
-    /// each is a whole row. Stretches and results fall into chains (`Chains`), each from a state that
-    /// `init` makes and that goes from stretch to stretch; their order is open. A serial plan has one
-    /// chain, over the rows in order. A grid of no cells has no results, and `init` isn't called.
+    /// The stretches cut the grid (`CutsRectangle`): each cell is in just one. Where rows aren't
+    /// cut each is a whole row. Stretches and results fall into chains (`Chains`), each from a
+    /// state that `init` makes and that goes from stretch to stretch; their order is open. A serial
+    /// plan has one chain, over the rows in order. A grid of no cells has no results, and `init`
+    /// isn't called.
     ///
     /// # Errors
     ///
@@ -139,8 +140,10 @@ impl<'scope, S: Strategy, P: Place> Tiles<'scope, S, P> {
         ensures fills { IfOk result (λ results. (cut : List Stretch)
             × CutsRectangle (rows_of self.entry) (columns_of self.entry) cut
             × (keeps_rows self.entry ≡ true → All (IsWholeRow (columns_of self.entry)) cut)
-            × Chains (N.post init) (Fills (L.post fill)) (Gives (F.post finish)) cut results.items) }
-        ensures serial { workers_of self.entry ≡ 1 → rows_of self.entry ≢ 0 → columns_of self.entry ≢ 0
+            × Chains (N.post init) (Fills (L.post fill))
+            (Gives (F.post finish)) cut results.items) }
+        ensures serial { workers_of self.entry ≡ 1 → rows_of self.entry ≢ 0
+            → columns_of self.entry ≢ 0
             → IfOk result (λ results. OneChain (N.post init) (Fills (L.post fill))
             (Gives (F.post finish)) (rows_of self.entry) (columns_of self.entry) results.items) }
         ensures empty { (rows_of self.entry ≡ 0) ⊎ (columns_of self.entry ≡ 0)

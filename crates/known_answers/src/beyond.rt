@@ -104,7 +104,8 @@ where
     requires fold_accepts { F.IsAlwaysCallable fold_op }
     requires reduce_accepts { G.IsAlwaysCallable reduce_op }
     ensures along { IfOk result (λ r. (xs : List I.Item) × Drains I.next_gives iter xs
-        × Along (ID.post identity) (λ a x b. F.post fold_op a x b) (λ a b c. G.post reduce_op a b c) (Shape (cutdepth (threads_of strategy.now)) xs) r) }
+        × Along (ID.post identity) (λ a x b. F.post fold_op a x b) (λ a b c. G.post reduce_op a b c)
+        (Shape (cutdepth (threads_of strategy.now)) xs) r) }
     ensures fault { IfErr result (λ fault. fault ≡ Memory) }
 {
     strategy.fold(rt, alloc, site, iter, identity, fold_op, reduce_op)
@@ -201,8 +202,10 @@ pub fn planned_pool<Rt: Threads, C: Clock>(
     parallelism: NonZeroUsize,
     clock: C,
 ) -> Result<Rayon<C>, ThreadPoolBuildError>
-    ensures threads { IfOk result (λ strategy. threads_of strategy ≡ min (non_zero_usize_get num_threads) MAX_THREADS) }
-    ensures planning { IfOk result (λ strategy. planning_of strategy ≡ non_zero_usize_get parallelism) }
+    ensures threads { IfOk result (λ strategy. threads_of strategy ≡ min
+        (non_zero_usize_get num_threads) MAX_THREADS) }
+    ensures planning { IfOk result
+        (λ strategy. planning_of strategy ≡ non_zero_usize_get parallelism) }
     ensures no_policy { IfOk result (λ strategy. chooses_of strategy ≡ false) }
     ensures refused { IfErr result (λ error. error ≡ ThreadPoolBuildError.Memory) }
 {
@@ -213,8 +216,8 @@ pub fn planned_pool<Rt: Threads, C: Clock>(
     Ok(strategy)
 }
 
-/// The ranges of a batch at a pool without a policy: as many as are planned for, but no range shorter
-/// than `minimum`, and one at least.
+/// The ranges of a batch at a pool without a policy: as many as are planned for, but no range
+/// shorter than `minimum`, and one at least.
 pub fn ranges_at_pool<Rt: Wait, C: Clock, P: Place>(
     rt: &Rt,
     alloc: Global,
@@ -224,7 +227,9 @@ pub fn ranges_at_pool<Rt: Wait, C: Clock, P: Place>(
     minimum: NonZeroUsize,
 ) -> Result<Vec<Range<usize>>, Fault>
     requires no_policy { chooses_of strategy.now ≡ false }
-    ensures batch { IfOk result (λ ranges. IsBatch len (max 1 (min (planning_of strategy.now) (len / non_zero_usize_get minimum))) (non_zero_usize_get minimum) ranges.items) }
+    ensures batch { IfOk result (λ ranges. IsBatch len
+        (max 1 (min (planning_of strategy.now) (len / non_zero_usize_get minimum)))
+        (non_zero_usize_get minimum) ranges.items) }
     ensures fault { IfErr result (λ fault. fault ≡ Memory) }
 {
     let ranges = strategy.run_batches(rt, alloc, site, len, minimum, 1, |batches| {

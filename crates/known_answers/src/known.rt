@@ -1,5 +1,5 @@
-// Known answers, which follow from the public clauses alone: a definition that allowed another answer
-// would leave its contract here unproved.
+// Known answers, which follow from the public clauses alone: a definition that allowed another
+// answer would leave its contract here unproved.
 ghost use Rattle.std.specs.Prelude.{◌≡◌, ℕ, ◌<◌, false, true, [], ◌∷◌, Result, Ok, Err, IfOk};
 ghost use Rattle.std.specs.Int.NonZero.{non_zero_usize_get};
 ghost use Rattle.parallel_fault.specs.Trouble.{IsMemoryOnErr};
@@ -41,8 +41,8 @@ pub fn from_ten_in_one<Rt: Threads + Wait + Sync, P: Place>(
     )
 }
 
-/// The same on two threads, with no policy: 66 for 1, 2 and 3, of which each is a segment, and 20 for
-/// no numbers. A segment begins at 10 and is reduced behind a further 10.
+/// The same on two threads, with no policy: 66 for 1, 2 and 3, of which each is a segment, and 20
+/// for no numbers. A segment begins at 10 and is reduced behind a further 10.
 pub fn from_ten_on_two_threads<Rt: Threads + Wait + Sync, C: Clock, P: Place>(
     rt: &Rt,
     alloc: Global,
@@ -196,7 +196,8 @@ pub fn ten_in_four<'a, P: Place>(
     Batches::balanced(alloc, strategy, site, 10, four)
 }
 
-/// What four rows of 64 indices cost among eight workers, where a tile costs one index: rows are cut.
+/// What four rows of 64 indices cost among eight workers, where a tile costs one index: rows are
+/// cut.
 pub fn cost_of_four_rows() -> (usize, bool)
     ensures { result ≡ (35, false) }
 {
@@ -208,8 +209,8 @@ pub fn cost_of_four_rows() -> (usize, bool)
     grid.critical_path(64, eight)
 }
 
-/// The first two choices of a fresh entry for four threads, of which the first took 1000 nanoseconds:
-/// parallel, and then serial, both measured.
+/// The first two choices of a fresh entry for four threads, of which the first took 1000
+/// nanoseconds: parallel, and then serial, both measured.
 pub fn first_two_choices() -> ((RunExecution, bool), (RunExecution, bool))
     ensures { result ≡ ((RunExecution.Parallel, true), (RunExecution.Serial, true)) }
 {

@@ -1,5 +1,5 @@
-// Callers at one strategy of the calls with a state at hand or with steps that may fail, whose contracts
-// say more than the trait's clauses: in which segments a list goes.
+// Callers at one strategy of the calls with a state at hand or with steps that may fail, whose
+// contracts say more than the trait's clauses: in which segments a list goes.
 ghost use Rattle.std.specs.Prelude.{◌≡◌, ◌<◌, List, All, false, IfOk, IfErr, IsOk};
 ghost use Rattle.std.specs.Borrow.{MutBor};
 ghost use Rattle.std.specs.Iterator.{IsFinite, Drains};
@@ -50,7 +50,8 @@ where
     requires fold_accepts { F.IsAlwaysCallable fold_op }
     requires reduce_accepts { G.IsAlwaysCallable reduce_op }
     ensures segment { IfOk result (λ r. (xs : List I.Item) × Drains I.next_gives iter xs
-        × FoldInitSegment (N.post init) (ID.post identity) (FoldStep (λ a p x b q. F.post fold_op a p x b q)) xs r) }
+        × FoldInitSegment (N.post init) (ID.post identity)
+        (FoldStep (λ a p x b q. F.post fold_op a p x b q)) xs r) }
     ensures fault { IfErr result (λ fault. fault ≡ Memory) }
 {
     Strategy::fold_init(
@@ -137,7 +138,8 @@ where
     requires fold_accepts { F.IsAlwaysCallable fold_op }
     requires reduce_accepts { G.IsAlwaysCallable reduce_op }
     ensures segment { IfOk result (λ r. (xs : List I.Item) × Drains I.next_gives iter xs
-        × FoldInitSegment (N.post init) (ID.post identity) (FoldStep (λ a p x b q. F.post fold_op a p x b q)) xs r) }
+        × FoldInitSegment (N.post init) (ID.post identity)
+        (FoldStep (λ a p x b q. F.post fold_op a p x b q)) xs r) }
     ensures fault { IfErr result (λ fault. fault ≡ Memory) }
 {
     strategy.fold_init(rt, alloc, site, iter, init, identity, fold_op, reduce_op)
@@ -207,7 +209,8 @@ where
     requires map_accepts { (x : I.Item) → MayCome I.next_gives iter x
         → (state : MutBor W) → F.pre map_op state x }
     ensures along { IfOk result (λ ys. (xs : List I.Item) × Drains I.next_gives iter xs
-        × StatesAlong (N.post init) (MapStep (λ p x y q. F.post map_op p x y q)) (Shape (cutdepth (threads_of strategy.now)) xs) ys.items) }
+        × StatesAlong (N.post init) (MapStep (λ p x y q. F.post map_op p x y q))
+        (Shape (cutdepth (threads_of strategy.now)) xs) ys.items) }
     ensures fault { IfErr result (λ fault. fault ≡ Memory) }
 {
     strategy.map_init_collect_vec(rt, alloc, site, iter, init, map_op)
@@ -318,7 +321,8 @@ where
     requires fold_accepts { F.IsAlwaysCallable fold_op }
     requires reduce_accepts { G.IsAlwaysCallable reduce_op }
     ensures along { UnlessRefused result (λ out. (xs : List I.Item) × Drains I.next_gives iter xs
-        × TryAlong (ID.post identity) (λ a x b. F.post fold_op a x b) (λ a b c. G.post reduce_op a b c) (Shape (cutdepth (threads_of strategy.now)) xs) out) }
+        × TryAlong (ID.post identity) (λ a x b. F.post fold_op a x b)
+        (λ a b c. G.post reduce_op a b c) (Shape (cutdepth (threads_of strategy.now)) xs) out) }
     ensures fault { IfErr result (λ trouble. IfFault trouble (λ fault. fault ≡ Memory)) }
 {
     strategy.try_fold(rt, alloc, site, iter, identity, fold_op, reduce_op)
@@ -361,7 +365,8 @@ where
     strategy.try_fold(rt, alloc, site, iter, identity, fold_op, reduce_op)
 }
 
-/// A join through the trait's call at `Sequential`, which is never refused: an answer of each closure.
+/// A join through the trait's call at `Sequential`, which is never refused: an answer of each
+/// closure.
 pub fn join_serial<
     Rt: Threads + Wait + Sync,
     P: Place,

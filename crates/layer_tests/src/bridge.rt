@@ -39,8 +39,8 @@ fn each_segment_keeps_what_stands_before_its_first_none(rt: HostRuntime) {
     same(&rt, kept.as_slice(), [1, 4, 5].as_slice());
 }
 
-// Whether a folder is full before an item that makes no difference to that, behind it, and behind one
-// that fails.
+// Whether a folder is full before an item that makes no difference to that, behind it, and behind
+// one that fails.
 fn fullness<X: Drop, R, E, F: Folder<X, R, E>>(
     alloc: Global,
     folder: F,

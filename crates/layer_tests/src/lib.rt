@@ -1,4 +1,5 @@
-//! The tests of the crates below the strategies, at concrete types. Expected values stand in the tests.
+//! The tests of the crates below the strategies, at concrete types. Expected values stand in the
+//! tests.
 #![tactic(auto)]
 
 #[cfg(test)]

@@ -14,33 +14,75 @@ use Rattle.std.proofs.lemmas.Iterator.Adapters.{YieldsList-from_vec}
 use Rattle.parallel_bridge.specs.Lists.{Chain}
 use denote.Param.Members.{Mut}
 
-module _ {S A B F : Type 0} (steps : S → Option A → S → Type 0) (g : Mut F (A × Unit {0}) B) (allowed : A → B → Type 0) (f : F) (calls : (x : A) (y : B) (after : F) → Called g f (x, tt) y after → allowed x y × (after ≡ f)) where
-  -- the items of a mapped chain are allowed for the items of its source, place by place
-  pub mapped_items : (xs : List A) (s : Map S F) (ys : List B) → map_callee s ≡ f → AlwaysYields steps (λ x. x) (map_source s) xs → DrainsIf (map_steps steps g) (Unit {0}) s ys → AllZip allowed xs ys
-  mapped_items [] s [] same road (t, gave, ends) = tt
-  mapped_items [] s (y ∷ ys) same road (t, (j, (x, step, call), rest), ends) = absurd (road x (map_source j) step)
-  mapped_items (x ∷ xs) s [] same road (t, gave, ends) = let e = ends tt in absurd (road.0 (map_source e.0) (subst (λ v. steps (map_source v) None (map_source e.0)) (sym gave) e.1.0))
-  mapped_items (x ∷ xs) s (y ∷ ys) same road (t, (j, (x', step, call), rest), ends) =
-      let next = road.1 x' (map_source j) step in
-      let one = calls x' y (map_callee j) (subst (λ v. Called g v (x', tt) y (map_callee j)) same call) in
-      (subst (λ v. allowed v y) next.0 one.0, mapped_items xs j ys one.1 next.1 (t, rest, ends))
+module _ {S A B F : Type 0} (steps : S → Option A → S → Type 0) (g : Mut F (A × Unit {0}) B)
+    (allowed : A → B → Type 0) (f : F)
+    (calls : (x : A) (y : B) (after : F) → Called g f (x, tt) y after → allowed x y × (after ≡ f))
+  where
+    -- the items of a mapped chain are allowed for the items of its source, place by place
+    pub mapped_items : (xs : List A) (s : Map S F) (ys : List B) → map_callee s ≡ f
+        → AlwaysYields steps (λ x. x) (map_source s) xs
+        → DrainsIf (map_steps steps g) (Unit {0}) s ys
+        → AllZip allowed xs ys
+    mapped_items [] s [] same road (t, gave, ends) = tt
+    mapped_items [] s (y ∷ ys) same road (t, (j, (x, step, call), rest), ends) =
+        absurd (road x (map_source j) step)
+    mapped_items (x ∷ xs) s [] same road (t, gave, ends) =
+        let e = ends tt in
+        absurd (road.0 (map_source e.0)
+        (subst (λ v. steps (map_source v) None (map_source e.0)) (sym gave) e.1.0))
+    mapped_items (x ∷ xs) s (y ∷ ys) same road (t, (j, (x', step, call), rest), ends) =
+        let next = road.1 x' (map_source j) step in
+        let one =
+        calls x' y (map_callee j) (subst (λ v. Called g v (x', tt) y (map_callee j)) same call) in
+        (subst (λ v. allowed v y) next.0 one.0, mapped_items xs j ys one.1 next.1 (t, rest, ends))
 
-module _ {S A B F : Type 0} (steps : S → Option A → S → Type 0) (mapped : Map S F → Option B → Map S F → Type 0) (allowed : F → A → B → Type 0) (gives : (s t : Map S F) (y : B) → mapped s (Some y) t → (x : A) × steps (map_source s) (Some x) (map_source t) × allowed (map_callee s) x y × (map_callee t ≡ map_callee s)) (ends : (s t : Map S F) → mapped s None t → steps (map_source s) None (map_source t)) where
+module _ {S A B F : Type 0} (steps : S → Option A → S → Type 0)
+    (mapped : Map S F → Option B → Map S F → Type 0) (allowed : F → A → B → Type 0)
+    (gives : (s t : Map S F) (y : B) → mapped s (Some y) t → (x : A)
+    × steps (map_source s) (Some x) (map_source t) × allowed (map_callee s) x y
+    × (map_callee t ≡ map_callee s)) (ends : (s t : Map S F) → mapped s None t
+    → steps (map_source s) None (map_source t)) where
   -- what a mapped iterator gave until its end is allowed for the items that its source gave
-  pub mapped_as_they_come : (f : F) (s : Map S F) (ys : List B) → map_callee s ≡ f → DrainsIf mapped (Unit {0}) s ys → (xs : List A) × Drains steps (map_source s) xs × AllZip (allowed f) xs ys
+  pub mapped_as_they_come : (f : F) (s : Map S F) (ys : List B) → map_callee s ≡ f
+      → DrainsIf mapped (Unit {0}) s ys → (xs : List A) × Drains steps (map_source s) xs
+      × AllZip (allowed f) xs ys
   mapped_as_they_come f s [] same (t, gave, end) =
-      let e = end tt in
-      ([], (map_source e.0, (map_source s, refl, subst (λ v. steps (map_source v) None (map_source e.0)) (sym gave) (ends t e.0 e.1))), tt)
+      let e = end tt in (
+        [],
+        (
+          map_source e.0,
+          (
+            map_source s,
+            refl,
+            subst (λ v. steps (map_source v) None (map_source e.0)) (sym gave) (ends t e.0 e.1),
+          ),
+        ),
+        tt,
+      )
   mapped_as_they_come f s (y ∷ ys) same (t, (j, step, rest), end) =
       let one = gives s j y step in
-      let more = mapped_as_they_come f j ys (one.3 ∙ same) (t, rest, end) in
-      (one.0 ∷ more.0, (more.1.0, (more.1.1.0, (map_source j, one.1, more.1.1.1), more.1.1.2)), (subst (λ v. allowed v one.0 y) same one.2, more.2))
+      let more = mapped_as_they_come f j ys (one.3 ∙ same) (t, rest, end) in (
+        one.0 ∷ more.0,
+        (more.1.0, (more.1.1.0, (map_source j, one.1, more.1.1.1), more.1.1.2)),
+        (subst (λ v. allowed v one.0 y) same one.2, more.2),
+      )
 
 -- the same, where the source is named through an equation
-pub mapped_from : {S A B F : Type 0} (steps : S → Option A → S → Type 0) (mapped : Map S F → Option B → Map S F → Type 0) (f : F) (start : S) (s : Map S F) (ys : List B) → map_callee s ≡ f → map_source s ≡ start → DrainsIf mapped (Unit {0}) s ys → (allowed : F → A → B → Type 0) → ((s t : Map S F) (y : B) → mapped s (Some y) t → (x : A) × steps (map_source s) (Some x) (map_source t) × allowed (map_callee s) x y × (map_callee t ≡ map_callee s)) → ((s t : Map S F) → mapped s None t → steps (map_source s) None (map_source t)) → (xs : List A) × Drains steps start xs × AllZip (allowed f) xs ys
-mapped_from {A = A} steps mapped f start s ys same from gave allowed gives ends = subst (λ v. (xs : List A) × Drains steps v xs × AllZip (allowed f) xs ys) from (mapped_as_they_come steps mapped allowed gives ends f s ys same gave)
+pub mapped_from : {S A B F : Type 0} (steps : S → Option A → S → Type 0)
+    (mapped : Map S F → Option B → Map S F → Type 0) (f : F) (start : S) (s : Map S F) (ys : List B)
+    → map_callee s ≡ f → map_source s ≡ start → DrainsIf mapped (Unit {0}) s ys
+    → (allowed : F → A → B → Type 0)
+    → ((s t : Map S F) (y : B) → mapped s (Some y) t → (x : A)
+    × steps (map_source s) (Some x) (map_source t) × allowed (map_callee s) x y
+    × (map_callee t ≡ map_callee s))
+    → ((s t : Map S F) → mapped s None t → steps (map_source s) None (map_source t)) → (xs : List A)
+    × Drains steps start xs × AllZip (allowed f) xs ys
+mapped_from {A = A} steps mapped f start s ys same from gave allowed gives ends = subst
+    (λ v. (xs : List A) × Drains steps v xs × AllZip (allowed f) xs ys) from
+    (mapped_as_they_come steps mapped allowed gives ends f s ys same gave)
 
-last_of : {A : Type 0} (K : A → Type 0) (xs : List A) (x : A) → AllByRecursion K (xs ++ (x ∷ [])) → K x
+last_of : {A : Type 0} (K : A → Type 0) (xs : List A) (x : A) → AllByRecursion K (xs ++ (x ∷ []))
+    → K x
 last_of K [] x h = h.0
 last_of K (y ∷ ys) x h = last_of K ys x h.1
 
@@ -49,29 +91,50 @@ all_last : {A : Type 0} (K : A → Type 0) (xs : List A) (x : A) → All K (xs +
 all_last K xs x h = last_of K xs x (recursion_from_All K (xs ++ (x ∷ [])) h)
 
 -- one call more at the end of calls
-pub yields_push : {S A : Type 0} (steps : S → Option A → S → Type 0) (s : S) (xs : List A) (t : S) (x : A) (u : S) → Yields steps s xs t → steps t (Some x) u → Yields steps s (xs ++ (x ∷ [])) u
+pub yields_push : {S A : Type 0} (steps : S → Option A → S → Type 0) (s : S) (xs : List A) (t : S)
+    (x : A) (u : S) → Yields steps s xs t → steps t (Some x) u → Yields steps s (xs ++ (x ∷ [])) u
 yields_push steps s [] t x u led step = (u, subst (λ v. steps v (Some x) u) (sym led) step, refl)
-yields_push steps s (y ∷ ys) t x u (j, first, led) step = (j, first, yields_push steps j ys t x u led step)
+yields_push steps s (y ∷ ys) t x u (j, first, led) step =
+    (j, first, yields_push steps j ys t x u led step)
 
 -- what holds of all that comes holds of the next item
-pub next_has : {S A : Type 0} (steps : S → Option A → S → Type 0) (K : A → Type 0) (s t u : S) (xs : List A) (x : A) → HoldsAlong steps s (All K) → Yields steps s xs t → steps t (Some x) u → K x
-next_has steps K s t u xs x along led step = all_last K xs x (along (xs ++ (x ∷ [])) u (yields_push steps s xs t x u led step))
+pub next_has : {S A : Type 0} (steps : S → Option A → S → Type 0) (K : A → Type 0) (s t u : S)
+    (xs : List A) (x : A) → HoldsAlong steps s (All K) → Yields steps s xs t → steps t (Some x) u
+    → K x
+next_has steps K s t u xs x along led step =
+    all_last K xs x (along (xs ++ (x ∷ [])) u (yields_push steps s xs t x u led step))
 
--- a closure that its calls leave as it was may be called at each turn, where the items that come have what it asks
-pub serves_along : {S A P : Type 0} {steps : S → Option A → S → Type 0} {R : P → A → P → Type 0} {Q : P → A → Type 0} {s : S} {p : P} (K : A → Type 0) → HoldsAlong steps s (All K) → ((x : A) (q : P) → R p x q → q ≡ p) → ((x : A) → K x → Q p x) → CallableAtEachTurn steps R Q s p
+-- a closure that its calls leave as it was may be called at each turn, where the items that come
+-- have what it asks
+pub serves_along : {S A P : Type 0} {steps : S → Option A → S → Type 0} {R : P → A → P → Type 0}
+    {Q : P → A → Type 0} {s : S} {p : P} (K : A → Type 0) → HoldsAlong steps s (All K)
+    → ((x : A) (q : P) → R p x q → q ≡ p) → ((x : A) → K x → Q p x)
+    → CallableAtEachTurn steps R Q s p
 serves_along {steps = steps} {R = R} {Q = Q} {s = s} {p = p} K along same asks =
-    serves_by R (λ _ q. q ≡ p) (λ xs q x v e r. same x v (subst (λ w. R w x v) e r)) steps Q s p refl
-    (λ xs t q x u led step e. subst (λ w. Q w x) (sym e) (asks x (all_last K xs x (along (xs ++ (x ∷ [])) u (yields_push steps s xs t x u led step)))))
+    serves_by R (λ _ q. q ≡ p) (λ xs q x v e r. same x v (subst (λ w. R w x v) e r)) steps Q s p
+    refl
+    (λ xs t q x u led step e. subst (λ w. Q w x) (sym e)
+    (asks x (all_last K xs x (along (xs ++ (x ∷ [])) u (yields_push steps s xs t x u led step)))))
 
 -- what an owned list gives, also where the iterator over it is named through an equation
-pub vec_yields : {A Z : Type 0} (xs : List A) (s t : IntoIter A Z) → t ≡ s → into_iter_items s ≡ xs → into_iter_len s ≡ length xs → YieldsList (into_iter_steps {X = A} {Z = Z}) (λ y. y) t xs
-vec_yields xs s t same items long = subst (λ v. YieldsList into_iter_steps (λ y. y) v xs) (sym same) (YieldsList-from_vec xs items long)
+pub vec_yields : {A Z : Type 0} (xs : List A) (s t : IntoIter A Z) → t ≡ s → into_iter_items s ≡ xs
+    → into_iter_len s ≡ length xs → YieldsList (into_iter_steps {X = A} {Z = Z}) (λ y. y) t xs
+vec_yields xs s t same items long = subst (λ v. YieldsList into_iter_steps (λ y. y) v xs) (sym same)
+    (YieldsList-from_vec xs items long)
 
 -- the same, with what the closure answers last
-pub mapped_list : {S A B F : Type 0} (steps : S → Option A → S → Type 0) (g : Mut F (A × Unit {0}) B) (f : F) (allowed : A → B → Type 0) (xs : List A) (s : Map S F) (ys : List B) → DrainsIf (map_steps steps g) (Unit {0}) s ys → map_callee s ≡ f → YieldsList steps (λ x. x) (map_source s) xs → ((x : A) (y : B) (after : F) → Called g f (x, tt) y after → allowed x y × (after ≡ f)) → AllZip allowed xs ys
-mapped_list steps g f allowed xs s ys gave same road calls = mapped_items steps g allowed f calls xs s ys same road.runs gave
+pub mapped_list : {S A B F : Type 0} (steps : S → Option A → S → Type 0)
+    (g : Mut F (A × Unit {0}) B) (f : F) (allowed : A → B → Type 0) (xs : List A) (s : Map S F)
+    (ys : List B) → DrainsIf (map_steps steps g) (Unit {0}) s ys → map_callee s ≡ f
+    → YieldsList steps (λ x. x) (map_source s) xs
+    → ((x : A) (y : B) (after : F) → Called g f (x, tt) y after → allowed x y × (after ≡ f))
+    → AllZip allowed xs ys
+mapped_list steps g f allowed xs s ys gave same road calls =
+    mapped_items steps g allowed f calls xs s ys same road.runs gave
 
 -- one step more at the end of a chain
-pub chain_push : {X R : Type 0} (step : R → X → R → Type 0) (a : R) (xs : List X) (m : R) (x : X) (b : R) → Chain step a xs m → step m x b → Chain step a (xs ++ x ∷ []) b
+pub chain_push : {X R : Type 0} (step : R → X → R → Type 0) (a : R) (xs : List X) (m : R) (x : X)
+    (b : R) → Chain step a xs m → step m x b → Chain step a (xs ++ x ∷ []) b
 chain_push step a [] m x b same last = (b, subst (λ v. step v x b) (sym same) last, refl)
-chain_push step a (y ∷ ys) m x b (n, first, rest) last = (n, first, chain_push step n ys m x b rest last)
+chain_push step a (y ∷ ys) m x b (n, first, rest) last =
+    (n, first, chain_push step n ys m x b rest last)

@@ -1,4 +1,5 @@
--- A row of places may go to another thread where its items may, and the right to free a block where its allocator may.
+-- A row of places may go to another thread where its items may, and the right to free a block where
+-- its allocator may.
 use Rattle.std.specs.Prelude.{ℕ, ◌+◌, List, [], ◌∷◌, Option, Some, None}
 use Rattle.std.specs.Mem.{type_size}
 use base.Fraction.{full_share}
@@ -21,7 +22,8 @@ module _ (R : RattleType) (s : IsSend R) where
   places_keyless : (b o : ℕ) (cs : List (Option R.Denot)) → Keyless (slots R b o cs)
   places_keyless b o [] = tt
   places_keyless b o (None ∷ cs) = (tt, places_keyless b (o + type_size R) cs)
-  places_keyless b o (Some x ∷ cs) = (part_keyless R s full_share x b o, places_keyless b (o + type_size R) cs)
+  places_keyless b o (Some x ∷ cs) =
+      (part_keyless R s full_share x b o, places_keyless b (o + type_size R) cs)
 
   row_keyless : (p : Ptr) (cs : List (Option R.Denot)) → Keyless (cells_own R p cs)
   row_keyless (block_ptr b o) cs = (tt, places_keyless b o cs)
@@ -31,7 +33,9 @@ module _ (R : RattleType) (s : IsSend R) where
   cells_send =
       let owned = cells.the_type R in
       let parts : AllSend (fields owned) = (search sendable, tt) in
-      owning_send owned parts (λ d. row_keyless d.at d.slots) (λ k. quiet (to owned) (exits_of k (fields owned)) ((struct_send (shape owned) parts).leaving k))
+      owning_send owned parts (λ d. row_keyless d.at d.slots)
+      (λ k. quiet (to owned) (exits_of k (fields owned))
+      ((struct_send (shape owned) parts).leaving k))
 
 if_there : (there : Bool) (token : Fml) → Keyless token → Keyless (owns_if there token)
 if_there true token k = k
@@ -42,4 +46,6 @@ module _ (R A : RattleType) (g : Ghosts A.Denot) where
   deed_send f =
       let owned = deed.the_type R A g in
       let parts : AllSend (fields owned) = (search sendable, tt) in
-      owning_send owned parts (λ d. if_there (has_block d.len) _ (f.frees d.alloc _ d.at)) (λ k. quiet (to owned) (exits_of k (fields owned)) ((struct_send (shape owned) parts).leaving k))
+      owning_send owned parts (λ d. if_there (has_block d.len) _ (f.frees d.alloc _ d.at))
+      (λ k. quiet (to owned) (exits_of k (fields owned))
+      ((struct_send (shape owned) parts).leaving k))

@@ -11,22 +11,28 @@ use Rattle.parallel_bridge.specs.Onto.{TryMapOnto, TryMapBehind, PartitionOnto, 
 use Rattle.parallel_bridge.proofs.Shapes.{MapOf-append}
 
 module _ {X R : Type 0} (step : R → X → R → Type 0) where
-  pub chain_append : (a : R) (xs ys : List X) (m b : R) → Chain step a xs m → Chain step m ys b → Chain step a (xs ++ ys) b
+  pub chain_append : (a : R) (xs ys : List X) (m b : R) → Chain step a xs m → Chain step m ys b
+      → Chain step a (xs ++ ys) b
   chain_append a [] ys m b h k = subst (λ v. Chain step v ys b) (sym h) k
   chain_append a (x ∷ xs) ys m b (n, one, h) k = (n, one, chain_append n xs ys m b h k)
 
   -- the same of a value that is an outcome
-  pub chain_only : {E : Type 0} (a : R) (xs ys : List X) (m : R) (out : Result R E) → Chain step a xs m → OnlyOk (Chain step m ys) out → OnlyOk (Chain step a (xs ++ ys)) out
+  pub chain_only : {E : Type 0} (a : R) (xs ys : List X) (m : R) (out : Result R E)
+      → Chain step a xs m → OnlyOk (Chain step m ys) out → OnlyOk (Chain step a (xs ++ ys)) out
   chain_only a xs ys m (Ok b) h k = chain_append a xs ys m b h k
   chain_only a xs ys m (Err e) h k = k
 
 module _ {X R E : Type 0} (step : R → X → Result R E → Type 0) where
-  pub try_chain_append : (a : R) (xs ys : List X) (v out : Result R E) → TryChain step a xs v → TryContinues step v ys out → TryChain step a (xs ++ ys) out
+  pub try_chain_append : (a : R) (xs ys : List X) (v out : Result R E) → TryChain step a xs v
+      → TryContinues step v ys out → TryChain step a (xs ++ ys) out
   try_chain_append a [] ys v out h k = subst (λ w. TryContinues step w ys out) h k
-  try_chain_append a (x ∷ xs) ys v out (inl (b, one, h)) k = inl (b, one, try_chain_append b xs ys v out h k)
-  try_chain_append a (x ∷ xs) ys v out (inr (e, one, same)) k = inr (e, one, subst (λ w. TryContinues step w ys out) same k)
+  try_chain_append a (x ∷ xs) ys v out (inl (b, one, h)) k =
+      inl (b, one, try_chain_append b xs ys v out h k)
+  try_chain_append a (x ∷ xs) ys v out (inr (e, one, same)) k =
+      inr (e, one, subst (λ w. TryContinues step w ys out) same k)
 
-  pub try_onward : (start v out : Result R E) (xs ys : List X) → TryContinues step start xs v → TryContinues step v ys out → TryContinues step start (xs ++ ys) out
+  pub try_onward : (start v out : Result R E) (xs ys : List X) → TryContinues step start xs v
+      → TryContinues step v ys out → TryContinues step start (xs ++ ys) out
   try_onward (Ok a) v out xs ys h k = try_chain_append a xs ys v out h k
   try_onward (Err e) v out xs ys h k = subst (λ w. TryContinues step w ys out) h k
 
@@ -36,20 +42,45 @@ module _ {X R E : Type 0} (step : R → X → Result R E → Type 0) where
   try_rests (Err e) = refl
 
   -- an error stands, whatever comes
-  pub try_stands : (control : Result R E) (xs ys : List X) (v : Result R E) → IsTrue (is_err control) → TryContinues step control xs v → TryContinues step control ys v
+  pub try_stands : (control : Result R E) (xs ys : List X) (v : Result R E)
+      → IsTrue (is_err control) → TryContinues step control xs v → TryContinues step control ys v
   try_stands (Ok a) xs ys v full h = absurd (cc full)
   try_stands (Err e) xs ys v full h = h
 
 module _ {X Y E : Type 0} (allowed : X → Result Y E → Type 0) where
-  pub onto_append : (before : List Y) (xs ys : List X) (v out : Result (List Y) E) → TryMapOnto allowed before xs v → TryMapBehind allowed v ys out → TryMapOnto allowed before (xs ++ ys) out
-  onto_append before xs ys (Ok mid) (Ok zs) (new, at, each) (new', at', each') =
-      (new ++ new', at' ∙ ap (λ l. l ++ new') at ∙ append_assoc before new new', MapOf-append (λ x y. allowed x (Ok y)) xs ys new new' each each')
-  onto_append before xs ys (Ok mid) (Err e) (new, at, each) (front, bad, after, vs, at', each', fails) =
-      (xs ++ front, bad, after, new ++ vs, ap (λ l. xs ++ l) at' ∙ sym (append_assoc xs front (bad ∷ after)), MapOf-append (λ x y. allowed x (Ok y)) xs front new vs each each', fails)
+  pub onto_append : (before : List Y) (xs ys : List X) (v out : Result (List Y) E)
+      → TryMapOnto allowed before xs v → TryMapBehind allowed v ys out
+      → TryMapOnto allowed before (xs ++ ys) out
+  onto_append before xs ys (Ok mid) (Ok zs) (new, at, each) (new', at', each') = (
+    new ++ new',
+    at' ∙ ap (λ l. l ++ new') at ∙ append_assoc before new new',
+    MapOf-append (λ x y. allowed x (Ok y)) xs ys new new' each each',
+  )
+  onto_append before xs ys (Ok mid) (Err e) (new, at, each)
+      (front, bad, after, vs, at', each', fails) = (
+        xs ++ front,
+        bad,
+        after,
+        new ++ vs,
+        ap (λ l. xs ++ l) at'
+            ∙ sym (append_assoc xs front (bad ∷ after)),
+        MapOf-append (λ x y. allowed x (Ok y)) xs front new vs each each',
+        fails,
+      )
   onto_append before xs ys (Err e) out (front, bad, after, vs, at, each, fails) same =
-      subst (TryMapOnto allowed before (xs ++ ys)) (sym same) (front, bad, after ++ ys, vs, ap (λ l. l ++ ys) at ∙ append_assoc front (bad ∷ after) ys, each, fails)
+      subst (TryMapOnto allowed before (xs ++ ys)) (sym same) (
+        front,
+        bad,
+        after ++ ys,
+        vs,
+        ap (λ l. l ++ ys) at ∙ append_assoc front (bad ∷ after) ys,
+        each,
+        fails,
+      )
 
-  pub behind_append : (start v out : Result (List Y) E) (xs ys : List X) → TryMapBehind allowed start xs v → TryMapBehind allowed v ys out → TryMapBehind allowed start (xs ++ ys) out
+  pub behind_append : (start v out : Result (List Y) E) (xs ys : List X)
+      → TryMapBehind allowed start xs v → TryMapBehind allowed v ys out
+      → TryMapBehind allowed start (xs ++ ys) out
   behind_append (Ok before) v out xs ys h k = onto_append before xs ys v out h k
   behind_append (Err e) v out xs ys h k = subst (λ w. TryMapBehind allowed w ys out) h k
 
@@ -59,23 +90,28 @@ module _ {X Y E : Type 0} (allowed : X → Result Y E → Type 0) where
   behind_rests (Err e) = refl
 
   -- behind nothing stand the values of the items
-  pub behind_none : (xs : List X) (out : Result (List Y) E) → TryMapOnto allowed [] xs out → TryMapOf allowed xs out
+  pub behind_none : (xs : List X) (out : Result (List Y) E) → TryMapOnto allowed [] xs out
+      → TryMapOf allowed xs out
   behind_none xs (Ok zs) (new, at, each) = subst (λ l. EachOk allowed xs l) (sym at) each
   behind_none xs (Err e) h = h
 
 -- the values and keys of two parts one after another
-pub values_of-append : {K U : Type 0} (ps qs : List (K × Option U)) → values_of (ps ++ qs) ≡ values_of ps ++ values_of qs
+pub values_of-append : {K U : Type 0} (ps qs : List (K × Option U))
+    → values_of (ps ++ qs) ≡ values_of ps ++ values_of qs
 values_of-append [] qs = refl
 values_of-append ((k, Some u) ∷ ps) qs = ap (λ l. u ∷ l) (values_of-append ps qs)
 values_of-append ((k, None) ∷ ps) qs = values_of-append ps qs
 
-pub keys_of-append : {K U : Type 0} (ps qs : List (K × Option U)) → keys_of (ps ++ qs) ≡ keys_of ps ++ keys_of qs
+pub keys_of-append : {K U : Type 0} (ps qs : List (K × Option U))
+    → keys_of (ps ++ qs) ≡ keys_of ps ++ keys_of qs
 keys_of-append [] qs = refl
 keys_of-append ((k, Some u) ∷ ps) qs = keys_of-append ps qs
 keys_of-append ((k, None) ∷ ps) qs = ap (λ l. k ∷ l) (keys_of-append ps qs)
 
 module _ {X K U : Type 0} (allowed : X → (K × Option U) → Type 0) where
-  pub PartitionOf-append : (xs ys : List X) (us us' : List U) (ks ks' : List K) → PartitionOf allowed xs us ks → PartitionOf allowed ys us' ks' → PartitionOf allowed (xs ++ ys) (us ++ us') (ks ++ ks')
+  pub PartitionOf-append : (xs ys : List X) (us us' : List U) (ks ks' : List K)
+      → PartitionOf allowed xs us ks → PartitionOf allowed ys us' ks'
+      → PartitionOf allowed (xs ++ ys) (us ++ us') (ks ++ ks')
   PartitionOf-append xs ys us us' ks ks' (ps, each, are_us, are_ks) (qs, each', are_us', are_ks') = (
     ps ++ qs,
     MapOf-append allowed xs ys ps qs each each',
@@ -83,21 +119,31 @@ module _ {X K U : Type 0} (allowed : X → (K × Option U) → Type 0) where
     ap (λ l. l ++ ks') are_ks ∙ ap (λ l. keys_of ps ++ l) are_ks' ∙ sym (keys_of-append ps qs),
   )
 
-  pub part_append : (values us us' : List U) (keys ks ks' : List K) (xs ys : List X) → PartitionOnto allowed values keys xs us ks → PartitionOnto allowed us ks ys us' ks' → PartitionOnto allowed values keys (xs ++ ys) us' ks'
-  part_append values us us' keys ks ks' xs ys (new_us, new_ks, at_us, at_ks, part) (more_us, more_ks, at_us', at_ks', part') = (
-    new_us ++ more_us,
-    new_ks ++ more_ks,
-    at_us' ∙ ap (λ l. l ++ more_us) at_us ∙ append_assoc values new_us more_us,
-    at_ks' ∙ ap (λ l. l ++ more_ks) at_ks ∙ append_assoc keys new_ks more_ks,
-    PartitionOf-append xs ys new_us more_us new_ks more_ks part part',
-  )
+  pub part_append : (values us us' : List U) (keys ks ks' : List K) (xs ys : List X)
+      → PartitionOnto allowed values keys xs us ks → PartitionOnto allowed us ks ys us' ks'
+      → PartitionOnto allowed values keys (xs ++ ys) us' ks'
+  part_append values us us' keys ks ks' xs ys (new_us, new_ks, at_us, at_ks, part)
+      (more_us, more_ks, at_us', at_ks', part') = (
+        new_us ++ more_us,
+        new_ks ++ more_ks,
+        at_us' ∙ ap (λ l. l ++ more_us) at_us ∙ append_assoc values new_us more_us,
+        at_ks' ∙ ap (λ l. l ++ more_ks) at_ks ∙ append_assoc keys new_ks more_ks,
+        PartitionOf-append xs ys new_us more_us new_ks more_ks part part',
+      )
 
 -- the same of lists that are an outcome
-pub part_only : {X K U E : Type 0} (allowed : X → (K × Option U) → Type 0) (values us : List U) (keys ks : List K) (xs ys : List X) (out : Result (Vec U Global × Vec K Global) E) → PartitionOnto allowed values keys xs us ks → OnlyOk (λ r. PartitionOnto allowed us ks ys r.0.items r.1.items) out → OnlyOk (λ r. PartitionOnto allowed values keys (xs ++ ys) r.0.items r.1.items) out
-part_only allowed values us keys ks xs ys (Ok r) h k = part_append allowed values us r.0.items keys ks r.1.items xs ys h k
+pub part_only : {X K U E : Type 0} (allowed : X → (K × Option U) → Type 0) (values us : List U)
+    (keys ks : List K) (xs ys : List X) (out : Result (Vec U Global × Vec K Global) E)
+    → PartitionOnto allowed values keys xs us ks
+    → OnlyOk (λ r. PartitionOnto allowed us ks ys r.0.items r.1.items) out
+    → OnlyOk (λ r. PartitionOnto allowed values keys (xs ++ ys) r.0.items r.1.items) out
+part_only allowed values us keys ks xs ys (Ok r) h k =
+    part_append allowed values us r.0.items keys ks r.1.items xs ys h k
 part_only allowed values us keys ks xs ys (Err e) h k = k
 
 -- the items of lists of lists one after another
-pub joined-append : {T : Type 0} (vs ws : List (Vec T Global)) → joined (vs ++ ws) ≡ joined vs ++ joined ws
+pub joined-append : {T : Type 0} (vs ws : List (Vec T Global))
+    → joined (vs ++ ws) ≡ joined vs ++ joined ws
 joined-append [] ws = refl
-joined-append (v ∷ vs) ws = ap (λ l. v.items ++ l) (joined-append vs ws) ∙ sym (append_assoc v.items (joined vs) (joined ws))
+joined-append (v ∷ vs) ws = ap (λ l. v.items ++ l) (joined-append vs ws)
+    ∙ sym (append_assoc v.items (joined vs) (joined ws))

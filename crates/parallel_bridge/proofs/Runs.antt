@@ -27,11 +27,17 @@ module _ {X : Type 0} where
 
   length_items : (xs : List X) (r : ℕ) → length (map Some xs ++ empty r) ≡ length xs + r
   length_items [] r = let e = length-replicate r vacant in omega arith
-  length_items (x ∷ xs) r = let e = length_items xs r in let goal : suc (length (map Some xs ++ empty r)) ≡ suc (length xs) + r = omega arith in goal
+  length_items (x ∷ xs) r =
+      let e = length_items xs r in
+      let goal : suc (length (map Some xs ++ empty r)) ≡ suc (length xs) + r = omega arith in
+      goal
 
   pub length_laid : (b : ℕ) (xs : List X) (r : ℕ) → length (laid b xs r) ≡ b + (length xs + r)
   length_laid zero xs r = let e = length_items xs r in omega arith
-  length_laid (suc b) xs r = let e = length_laid b xs r in let goal : suc (length (laid b xs r)) ≡ suc b + (length xs + r) = omega arith in goal
+  length_laid (suc b) xs r =
+      let e = length_laid b xs r in
+      let goal : suc (length (laid b xs r)) ≡ suc b + (length xs + r) = omega arith in
+      goal
 
   none_there : (r i : ℕ) → get_or (empty r) i None ≡ None
   none_there zero i = refl
@@ -39,18 +45,24 @@ module _ {X : Type 0} where
   none_there (suc r) (suc i) = none_there r i
 
   -- the place behind the items is empty, and an item is put there
-  pub at_next : (b : ℕ) (xs : List X) (r i : ℕ) → i ≡ b + length xs → get_or (laid b xs r) i None ≡ None
+  pub at_next : (b : ℕ) (xs : List X) (r i : ℕ) → i ≡ b + length xs
+      → get_or (laid b xs r) i None ≡ None
   at_next zero [] r i e = none_there r i
   at_next zero (x ∷ xs) r zero e = let more : 0 ≡ 0 + suc (length xs) = e in absurd (omega arith)
-  at_next zero (x ∷ xs) r (suc i) e = let more : suc i ≡ 0 + suc (length xs) = e in at_next zero xs r i (omega arith)
+  at_next zero (x ∷ xs) r (suc i) e =
+      let more : suc i ≡ 0 + suc (length xs) = e in
+      at_next zero xs r i (omega arith)
   at_next (suc b) xs r zero e = absurd (omega arith)
   at_next (suc b) xs r (suc i) e = at_next b xs r i (omega arith)
 
-  pub next_put : (b : ℕ) (xs : List X) (r i : ℕ) (x : X) → i ≡ b + length xs → set (laid b xs (suc r)) i (Some x) ≡ laid b (xs ++ x ∷ []) r
+  pub next_put : (b : ℕ) (xs : List X) (r i : ℕ) (x : X) → i ≡ b + length xs
+      → set (laid b xs (suc r)) i (Some x) ≡ laid b (xs ++ x ∷ []) r
   next_put zero [] r zero x e = refl
   next_put zero [] r (suc i) x e = let none : suc i ≡ 0 + 0 = e in absurd (omega arith)
   next_put zero (y ∷ xs) r zero x e = let more : 0 ≡ 0 + suc (length xs) = e in absurd (omega arith)
-  next_put zero (y ∷ xs) r (suc i) x e = let more : suc i ≡ 0 + suc (length xs) = e in ap (λ l. Some y ∷ l) (next_put zero xs r i x (omega arith))
+  next_put zero (y ∷ xs) r (suc i) x e =
+      let more : suc i ≡ 0 + suc (length xs) = e in
+      ap (λ l. Some y ∷ l) (next_put zero xs r i x (omega arith))
   next_put (suc b) xs r zero x e = absurd (omega arith)
   next_put (suc b) xs r (suc i) x e = ap (λ l. None ∷ l) (next_put b xs r i x (omega arith))
 
@@ -59,24 +71,31 @@ module _ {X : Type 0} where
   at_first zero x xs r = refl
   at_first (suc b) x xs r = at_first b x xs r
 
-  pub first_out : (b : ℕ) (x : X) (xs : List X) (r : ℕ) → set (laid b (x ∷ xs) r) b None ≡ laid (suc b) xs r
+  pub first_out : (b : ℕ) (x : X) (xs : List X) (r : ℕ)
+      → set (laid b (x ∷ xs) r) b None ≡ laid (suc b) xs r
   first_out zero x xs r = refl
   first_out (suc b) x xs r = ap (λ l. None ∷ l) (first_out b x xs r)
 
   -- the last item is moved out
-  pub at_last : (b : ℕ) (xs : List X) (x : X) (r i : ℕ) → i ≡ b + length xs → get_or (laid b (xs ++ x ∷ []) r) i None ≡ Some x
+  pub at_last : (b : ℕ) (xs : List X) (x : X) (r i : ℕ) → i ≡ b + length xs
+      → get_or (laid b (xs ++ x ∷ []) r) i None ≡ Some x
   at_last zero [] x r zero e = refl
   at_last zero [] x r (suc i) e = let none : suc i ≡ 0 + 0 = e in absurd (omega arith)
   at_last zero (y ∷ xs) x r zero e = let more : 0 ≡ 0 + suc (length xs) = e in absurd (omega arith)
-  at_last zero (y ∷ xs) x r (suc i) e = let more : suc i ≡ 0 + suc (length xs) = e in at_last zero xs x r i (omega arith)
+  at_last zero (y ∷ xs) x r (suc i) e =
+      let more : suc i ≡ 0 + suc (length xs) = e in
+      at_last zero xs x r i (omega arith)
   at_last (suc b) xs x r zero e = absurd (omega arith)
   at_last (suc b) xs x r (suc i) e = at_last b xs x r i (omega arith)
 
-  pub last_out : (b : ℕ) (xs : List X) (x : X) (r i : ℕ) → i ≡ b + length xs → set (laid b (xs ++ x ∷ []) r) i None ≡ laid b xs (suc r)
+  pub last_out : (b : ℕ) (xs : List X) (x : X) (r i : ℕ) → i ≡ b + length xs
+      → set (laid b (xs ++ x ∷ []) r) i None ≡ laid b xs (suc r)
   last_out zero [] x r zero e = refl
   last_out zero [] x r (suc i) e = let none : suc i ≡ 0 + 0 = e in absurd (omega arith)
   last_out zero (y ∷ xs) x r zero e = let more : 0 ≡ 0 + suc (length xs) = e in absurd (omega arith)
-  last_out zero (y ∷ xs) x r (suc i) e = let more : suc i ≡ 0 + suc (length xs) = e in ap (λ l. Some y ∷ l) (last_out zero xs x r i (omega arith))
+  last_out zero (y ∷ xs) x r (suc i) e =
+      let more : suc i ≡ 0 + suc (length xs) = e in
+      ap (λ l. Some y ∷ l) (last_out zero xs x r i (omega arith))
   last_out (suc b) xs x r zero e = absurd (omega arith)
   last_out (suc b) xs x r (suc i) e = ap (λ l. None ∷ l) (last_out b xs x r i (omega arith))
 
@@ -84,22 +103,35 @@ module _ {X : Type 0} where
   take_empty : (i r k : ℕ) → k ≡ i → i ≤ r → take i (empty r) ≡ empty k
   take_empty zero r k e le = ap empty (sym e)
   take_empty (suc i) zero k e le = absurd (omega arith)
-  take_empty (suc i) (suc r) k e le = ap (λ l. None ∷ l) (take_empty i r i refl (omega arith)) ∙ ap empty (sym e)
+  take_empty (suc i) (suc r) k e le = ap (λ l. None ∷ l) (take_empty i r i refl (omega arith))
+      ∙ ap empty (sym e)
 
   drop_empty : (i r k : ℕ) → k ≡ r - i → drop i (empty r) ≡ empty k
   drop_empty zero r k e = let same : r ≡ k = omega arith in ap empty same
   drop_empty (suc i) zero k e = let none : 0 ≡ k = omega arith in ap empty none
   drop_empty (suc i) (suc r) k e = drop_empty i r k (omega arith)
 
-  pub front_of : (i : ℕ) (xs : List X) (r k : ℕ) → k ≡ i - length xs → i ≤ length xs + r → take i (laid 0 xs r) ≡ laid 0 (take i xs) k
+  pub front_of : (i : ℕ) (xs : List X) (r k : ℕ) → k ≡ i - length xs → i ≤ length xs + r
+      → take i (laid 0 xs r) ≡ laid 0 (take i xs) k
   front_of zero xs r k e le = let none : 0 ≡ k = omega arith in ap empty none
-  front_of (suc i) [] r k e le = let more : k ≡ suc i - 0 = e in let within : suc i ≤ 0 + r = le in take_empty (suc i) r k (omega arith) (omega arith)
-  front_of (suc i) (x ∷ xs) r k e le = let more : k ≡ suc i - suc (length xs) = e in let within : suc i ≤ suc (length xs) + r = le in ap (λ l. Some x ∷ l) (front_of i xs r k (omega arith) (omega arith))
+  front_of (suc i) [] r k e le =
+      let more : k ≡ suc i - 0 = e in
+      let within : suc i ≤ 0 + r = le in
+      take_empty (suc i) r k (omega arith) (omega arith)
+  front_of (suc i) (x ∷ xs) r k e le =
+      let more : k ≡ suc i - suc (length xs) = e in
+      let within : suc i ≤ suc (length xs) + r = le in
+      ap (λ l. Some x ∷ l) (front_of i xs r k (omega arith) (omega arith))
 
-  pub back_of : (i : ℕ) (xs : List X) (r k : ℕ) → k ≡ r - (i - length xs) → drop i (laid 0 xs r) ≡ laid 0 (drop i xs) k
+  pub back_of : (i : ℕ) (xs : List X) (r k : ℕ) → k ≡ r - (i - length xs)
+      → drop i (laid 0 xs r) ≡ laid 0 (drop i xs) k
   back_of zero xs r k e = let same : r ≡ k = omega arith in ap (λ n. map Some xs ++ empty n) same
-  back_of (suc i) [] r k e = let more : k ≡ r - (suc i - 0) = e in drop_empty (suc i) r k (omega arith)
-  back_of (suc i) (x ∷ xs) r k e = let more : k ≡ r - (suc i - suc (length xs)) = e in back_of i xs r k (omega arith)
+  back_of (suc i) [] r k e =
+      let more : k ≡ r - (suc i - 0) = e in
+      drop_empty (suc i) r k (omega arith)
+  back_of (suc i) (x ∷ xs) r k e =
+      let more : k ≡ r - (suc i - suc (length xs)) = e in
+      back_of i xs r k (omega arith)
 
   -- a row without items goes on a row
   empty_empty : (n m k : ℕ) → k ≡ n + m → empty n ++ empty m ≡ empty k
@@ -107,7 +139,8 @@ module _ {X : Type 0} where
   empty_empty (suc n) m zero e = absurd (omega arith)
   empty_empty (suc n) m (suc k) e = ap (λ l. None ∷ l) (empty_empty n m k (omega arith))
 
-  items_empty : (xs : List X) (r m k : ℕ) → k ≡ r + m → (map Some xs ++ empty r) ++ empty m ≡ map Some xs ++ empty k
+  items_empty : (xs : List X) (r m k : ℕ) → k ≡ r + m
+      → (map Some xs ++ empty r) ++ empty m ≡ map Some xs ++ empty k
   items_empty [] r m k e = empty_empty r m k e
   items_empty (x ∷ xs) r m k e = ap (λ l. Some x ∷ l) (items_empty xs r m k e)
 
@@ -115,20 +148,26 @@ module _ {X : Type 0} where
   laid_empty zero xs r m k e = items_empty xs r m k e
   laid_empty (suc b) xs r m k e = ap (λ l. None ∷ l) (laid_empty b xs r m k e)
 
-  pub then_none : (b : ℕ) (xs : List X) (r c s k : ℕ) → k ≡ r + (c + s) → laid b xs r ++ laid c [] s ≡ laid b xs k
-  then_none b xs r c s k e = ap (λ l. laid b xs r ++ l) (empty_empty c s (c + s) refl) ∙ laid_empty b xs r (c + s) k e
+  pub then_none : (b : ℕ) (xs : List X) (r c s k : ℕ) → k ≡ r + (c + s)
+      → laid b xs r ++ laid c [] s ≡ laid b xs k
+  then_none b xs r c s k e = ap (λ l. laid b xs r ++ l) (empty_empty c s (c + s) refl)
+      ∙ laid_empty b xs r (c + s) k e
 
   -- a row that begins with its items goes on a row that ends with its items
-  items_items : (xs ys : List X) (s : ℕ) → (map Some xs ++ []) ++ (map Some ys ++ empty s) ≡ map Some (xs ++ ys) ++ empty s
+  items_items : (xs ys : List X) (s : ℕ)
+      → (map Some xs ++ []) ++ (map Some ys ++ empty s) ≡ map Some (xs ++ ys) ++ empty s
   items_items [] ys s = refl
   items_items (x ∷ xs) ys s = ap (λ l. Some x ∷ l) (items_items xs ys s)
 
-  pub then_more : (b : ℕ) (xs ys : List X) (s : ℕ) → laid b xs 0 ++ laid 0 ys s ≡ laid b (xs ++ ys) s
+  pub then_more : (b : ℕ) (xs ys : List X) (s : ℕ)
+      → laid b xs 0 ++ laid 0 ys s ≡ laid b (xs ++ ys) s
   then_more zero xs ys s = items_items xs ys s
   then_more (suc b) xs ys s = ap (λ l. None ∷ l) (then_more b xs ys s)
 
   -- what is laid out so is a row of these items
-  pub is_row : (at start : Ptr) (slots : List (Option X)) (room b n : ℕ) (xs : List X) (r : ℕ) → at ≡ start → slots ≡ laid b xs r → n ≡ length xs → room ≡ b + (n + r) → IsRow at start slots room b n × (values slots ≡ xs)
+  pub is_row : (at start : Ptr) (slots : List (Option X)) (room b n : ℕ) (xs : List X) (r : ℕ)
+      → at ≡ start → slots ≡ laid b xs r → n ≡ length xs → room ≡ b + (n + r)
+      → IsRow at start slots room b n × (values slots ≡ xs)
   is_row at start slots room b n xs r a e long all =
       let is : values slots ≡ xs = ap values e ∙ values_laid b xs r in
       let rest : r ≡ room - (b + n) = omega arith in
@@ -142,16 +181,22 @@ no_items [] e = refl
 no_items (x ∷ xs) e = absurd (omega arith)
 
 -- a list with a first, or a last, item
-pub first_of : {X : Type 0} (xs : List X) → 0 < length xs → (x : X) × ((ys : List X) × (xs ≡ x ∷ ys))
+pub first_of : {X : Type 0} (xs : List X) → 0 < length xs → (x : X)
+    × ((ys : List X) × (xs ≡ x ∷ ys))
 first_of [] some = absurd (omega arith)
 first_of (x ∷ xs) some = (x, (xs, refl))
 
-pub last_of : {X : Type 0} (xs : List X) → 0 < length xs → (x : X) × ((ys : List X) × (xs ≡ ys ++ x ∷ []))
+pub last_of : {X : Type 0} (xs : List X) → 0 < length xs → (x : X)
+    × ((ys : List X) × (xs ≡ ys ++ x ∷ []))
 last_of [] some = absurd (omega arith)
 last_of (x ∷ []) some = (x, ([], refl))
-last_of (x ∷ y ∷ xs) some = let more : 0 < suc (length xs) = omega arith in let (z, (ys, e)) = last_of (y ∷ xs) more in (z, (x ∷ ys, ap (λ l. x ∷ l) e))
+last_of (x ∷ y ∷ xs) some =
+    let more : 0 < suc (length xs) = omega arith in
+    let (z, (ys, e)) = last_of (y ∷ xs) more in
+    (z, (x ∷ ys, ap (λ l. x ∷ l) e))
 
-module _ {X : Type 0} (at start : Ptr) (slots : List (Option X)) (room b n : ℕ) (row : IsRow at start slots room b n) where
+module _ {X : Type 0} (at start : Ptr) (slots : List (Option X)) (room b n : ℕ)
+    (row : IsRow at start slots room b n) where
   abbrev items : List X
   items = values slots
 
@@ -160,34 +205,75 @@ module _ {X : Type 0} (at start : Ptr) (slots : List (Option X)) (room b n : ℕ
 
   -- one more item, in the place behind the others
   pub put_row : (x : X) → b + n < room → (b + n < length slots) × (get_or slots (b + n) None ≡ None)
-      × IsRow at start (set slots (b + n) (Some x)) room b (n + 1) × (values (set slots (b + n) (Some x)) ≡ items ++ x ∷ [])
+      × IsRow at start (set slots (b + n) (Some x)) room b (n + 1)
+      × (values (set slots (b + n) (Some x)) ≡ items ++ x ∷ [])
   put_row x lt =
-      let long : n ≡ length items = row.1 in let laid_long = length_laid b items left in let same : length slots ≡ length (laid b items left) = ap length row.3 in
+      let long : n ≡ length items = row.1 in
+      let laid_long = length_laid b items left in
+      let same : length slots ≡ length (laid b items left) = ap length row.3 in
       let more : left ≡ suc (left - 1) = omega arith in
-      let put : set slots (b + n) (Some x) ≡ laid b (items ++ x ∷ []) (left - 1) = ap (λ l. set l (b + n) (Some x)) (row.3 ∙ ap (laid b items) more) ∙ next_put b items (left - 1) (b + n) x (omega arith) in
+      let put : set slots (b + n) (Some x) ≡ laid b (items ++ x ∷ []) (left - 1) = ap
+      (λ l. set l (b + n) (Some x)) (row.3 ∙ ap (laid b items) more)
+      ∙ next_put b items (left - 1) (b + n) x (omega arith) in
       let longer = length-append items (x ∷ []) in
-      let is = is_row at start (set slots (b + n) (Some x)) room b (n + 1) (items ++ x ∷ []) (left - 1) row.0 put (omega arith) (omega arith) in
-      (omega arith, ap (λ l. get_or l (b + n) None) row.3 ∙ at_next b items left (b + n) (omega arith), is.0, is.1)
+      let is = is_row at start (set slots (b + n) (Some x)) room b (n + 1) (items ++ x ∷ [])
+      (left - 1) row.0 put (omega arith) (omega arith) in (
+        omega arith,
+        ap (λ l. get_or l (b + n) None) row.3
+            ∙ at_next b items left (b + n) (omega arith),
+        is.0,
+        is.1,
+      )
 
   -- the items without the first
-  pub take_row : 0 < n → (x : X) × ((get_or slots b None ≡ Some x) × IsRow at start (set slots b None) room (b + 1) (n - 1) × (items ≡ x ∷ values (set slots b None)))
+  pub take_row : 0 < n → (x : X)
+      × ((get_or slots b None ≡ Some x) × IsRow at start (set slots b None) room (b + 1) (n - 1)
+      × (items ≡ x ∷ values (set slots b None)))
   take_row some =
-      let long : n ≡ length items = row.1 in let first = first_of items (omega arith) in let x = first.0 in let ys = first.1.0 in
-      let shorter : length items ≡ suc (length ys) = ap length first.1.1 in let on : suc b ≡ b + 1 = omega arith in
+      let long : n ≡ length items = row.1 in
+      let first = first_of items (omega arith) in
+      let x = first.0 in
+      let ys = first.1.0 in
+      let shorter : length items ≡ suc (length ys) = ap length first.1.1 in
+      let on : suc b ≡ b + 1 = omega arith in
       let now : slots ≡ laid b (x ∷ ys) left = row.3 ∙ ap (λ zs. laid b zs left) first.1.1 in
-      let gone : set slots b None ≡ laid (b + 1) ys left = ap (λ l. set l b None) now ∙ first_out b x ys left ∙ ap (λ k. laid k ys left) on in
-      let is = is_row at start (set slots b None) room (b + 1) (n - 1) ys left row.0 gone (omega arith) (omega arith) in
-      (x, (ap (λ l. get_or l b None) now ∙ at_first b x ys left, is.0, first.1.1 ∙ ap (λ zs. x ∷ zs) (sym is.1)))
+      let gone : set slots b None ≡ laid (b + 1) ys left = ap (λ l. set l b None) now
+      ∙ first_out b x ys left ∙ ap (λ k. laid k ys left) on in
+      let is = is_row at start (set slots b None) room (b + 1) (n - 1) ys left row.0 gone
+      (omega arith) (omega arith) in (
+        x,
+        (
+          ap (λ l. get_or l b None) now ∙ at_first b x ys left,
+          is.0,
+          first.1.1
+              ∙ ap (λ zs. x ∷ zs) (sym is.1),
+        ),
+      )
 
   -- the items without the last
-  pub back_row : 0 < n → (x : X) × ((get_or slots (b + n - 1) None ≡ Some x) × IsRow at start (set slots (b + n - 1) None) room b (n - 1) × (items ≡ values (set slots (b + n - 1) None) ++ x ∷ []))
+  pub back_row : 0 < n → (x : X)
+      × ((get_or slots (b + n - 1) None ≡ Some x)
+      × IsRow at start (set slots (b + n - 1) None) room b (n - 1)
+      × (items ≡ values (set slots (b + n - 1) None) ++ x ∷ []))
   back_row some =
-      let long : n ≡ length items = row.1 in let last = last_of items (omega arith) in let x = last.0 in let ys = last.1.0 in
-      let shorter : length items ≡ length (ys ++ x ∷ []) = ap length last.1.1 in let one = length-append ys (x ∷ []) in
+      let long : n ≡ length items = row.1 in
+      let last = last_of items (omega arith) in
+      let x = last.0 in
+      let ys = last.1.0 in
+      let shorter : length items ≡ length (ys ++ x ∷ []) = ap length last.1.1 in
+      let one = length-append ys (x ∷ []) in
       let now : slots ≡ laid b (ys ++ x ∷ []) left = row.3 ∙ ap (λ zs. laid b zs left) last.1.1 in
-      let gone : set slots (b + n - 1) None ≡ laid b ys (suc left) = ap (λ l. set l (b + n - 1) None) now ∙ last_out b ys x left (b + n - 1) (omega arith) in
-      let is = is_row at start (set slots (b + n - 1) None) room b (n - 1) ys (suc left) row.0 gone (omega arith) (omega arith) in
-      (x, (ap (λ l. get_or l (b + n - 1) None) now ∙ at_last b ys x left (b + n - 1) (omega arith), is.0, last.1.1 ∙ ap (λ zs. zs ++ x ∷ []) (sym is.1)))
+      let gone : set slots (b + n - 1) None ≡ laid b ys (suc left) =
+      ap (λ l. set l (b + n - 1) None) now ∙ last_out b ys x left (b + n - 1) (omega arith) in
+      let is = is_row at start (set slots (b + n - 1) None) room b (n - 1) ys (suc left) row.0 gone
+      (omega arith) (omega arith) in (
+        x,
+        (
+          ap (λ l. get_or l (b + n - 1) None) now ∙ at_last b ys x left (b + n - 1) (omega arith),
+          is.0,
+          last.1.1 ∙ ap (λ zs. zs ++ x ∷ []) (sym is.1),
+        ),
+      )
 
   -- the first i places of a row that begins with its items, and the rest
   module _ (i : ℕ) (none : b ≡ 0) (le : i ≤ room) where
@@ -195,79 +281,141 @@ module _ {X : Type 0} (at start : Ptr) (slots : List (Option X)) (room b n : ℕ
     from_items = row.3 ∙ ap (λ k. laid k items left) none
 
     pub in_row : i ≤ length slots
-    in_row = let long : n ≡ length items = row.1 in let laid_long = length_laid 0 items left in let same : length slots ≡ length (laid 0 items left) = ap length from_items in omega arith
+    in_row =
+        let long : n ≡ length items = row.1 in
+        let laid_long = length_laid 0 items left in
+        let same : length slots ≡ length (laid 0 items left) = ap length from_items in
+        omega arith
 
-    pub front_row : (m : ℕ) → (m ≤ i) × (m ≤ n) × ((m ≡ n) ⊎ (m ≡ i)) → IsRow at start (take i slots) i 0 m × (values (take i slots) ≡ take i items)
+    pub front_row : (m : ℕ) → (m ≤ i) × (m ≤ n) × ((m ≡ n) ⊎ (m ≡ i))
+        → IsRow at start (take i slots) i 0 m × (values (take i slots) ≡ take i items)
     front_row m is =
         let long : n ≡ length items = row.1 in let cut = length-take i items in let bounds = is in
-        let count : m ≡ length (take i items) = elim is.2 [ inl e ↦ omega arith | inr e ↦ omega arith ] in
-        is_row at start (take i slots) i 0 m (take i items) (i - length items) row.0 (ap (take i) from_items ∙ front_of i items left (i - length items) refl (omega arith)) count (omega arith)
+        let count : m ≡ length (take i items) =
+        elim is.2 [ inl e ↦ omega arith | inr e ↦ omega arith ] in
+        is_row at start (take i slots) i 0 m (take i items) (i - length items) row.0
+        (ap (take i) from_items ∙ front_of i items left (i - length items) refl (omega arith))
+        count (omega arith)
 
-    pub back_rows : (m : ℕ) (p q : Ptr) → p ≡ q → (m ≤ i) × (m ≤ n) × ((m ≡ n) ⊎ (m ≡ i)) → IsRow p q (drop i slots) (room - i) 0 (n - m) × (values (drop i slots) ≡ drop i items)
+    pub back_rows : (m : ℕ) (p q : Ptr) → p ≡ q → (m ≤ i) × (m ≤ n) × ((m ≡ n) ⊎ (m ≡ i))
+        → IsRow p q (drop i slots) (room - i) 0 (n - m) × (values (drop i slots) ≡ drop i items)
     back_rows m p q same is =
         let long : n ≡ length items = row.1 in let cut = length-drop i items in let bounds = is in
-        let count : n - m ≡ length (drop i items) = elim is.2 [ inl e ↦ omega arith | inr e ↦ omega arith ] in
-        is_row p q (drop i slots) (room - i) 0 (n - m) (drop i items) (left - (i - length items)) same (ap (drop i) from_items ∙ back_of i items left (left - (i - length items)) refl) count (omega arith)
+        let count : n - m ≡ length (drop i items) =
+        elim is.2 [ inl e ↦ omega arith | inr e ↦ omega arith ] in
+        is_row p q (drop i slots) (room - i) 0 (n - m) (drop i items)
+        (left - (i - length items)) same
+        (ap (drop i) from_items ∙ back_of i items left (left - (i - length items)) refl) count
+        (omega arith)
 
   pub row_length : length slots ≡ room
-  row_length = let long : n ≡ length items = row.1 in let within : b + n ≤ room = row.2 in let laid_long = length_laid b items left in let same : length slots ≡ length (laid b items left) = ap length row.3 in omega arith
+  row_length =
+      let long : n ≡ length items = row.1 in
+      let within : b + n ≤ room = row.2 in
+      let laid_long = length_laid b items left in
+      let same : length slots ≡ length (laid b items left) = ap length row.3 in
+      omega arith
 
   -- two rows side by side
-  pub two_rows : {at' start' : Ptr} {slots' : List (Option X)} {room' b' n' : ℕ} → IsRow at' start' slots' room' b' n' → ((b + n ≡ room) × (b' ≡ 0)) ⊎ (n' ≡ 0)
-      → IsRow at start (slots ++ slots') (room + room') b (n + n') × (values (slots ++ slots') ≡ items ++ values slots')
+  pub two_rows : {at' start' : Ptr} {slots' : List (Option X)} {room' b' n' : ℕ}
+      → IsRow at' start' slots' room' b' n' → ((b + n ≡ room) × (b' ≡ 0)) ⊎ (n' ≡ 0)
+      → IsRow at start (slots ++ slots') (room + room') b (n + n')
+      × (values (slots ++ slots') ≡ items ++ values slots')
   two_rows {slots' = slots'} {room' = room'} {b' = b'} {n' = n'} other (inl full) =
-      let xs = values slots' in let long : n ≡ length items = row.1 in let more : n' ≡ length xs = other.1 in let sum = length-append items xs in let within = other.2 in
+      let xs = values slots' in
+      let long : n ≡ length items = row.1 in
+      let more : n' ≡ length xs = other.1 in
+      let sum = length-append items xs in
+      let within = other.2 in
       let nothing : left ≡ 0 = omega arith in let rest = room' - (b' + n') in
-      let now : slots ++ slots' ≡ laid b (items ++ xs) rest = (λ i. (row.3 ∙ ap (laid b items) nothing) i ++ (other.3 ∙ ap (λ k. laid k xs rest) full.1) i) ∙ then_more b items xs rest in
-      is_row at start (slots ++ slots') (room + room') b (n + n') (items ++ xs) rest row.0 now (omega arith) (omega arith)
+      let now : slots ++ slots' ≡ laid b (items ++ xs) rest =
+      (λ i. (row.3 ∙ ap (laid b items) nothing) i ++ (other.3 ∙ ap (λ k. laid k xs rest) full.1)
+      i) ∙ then_more b items xs rest in
+      is_row at start (slots ++ slots') (room + room') b (n + n') (items ++ xs) rest row.0 now
+      (omega arith) (omega arith)
   two_rows {slots' = slots'} {room' = room'} {b' = b'} {n' = n'} other (inr none) =
-      let xs = values slots' in let long : n ≡ length items = row.1 in let more : n' ≡ length xs = other.1 in let within = other.2 in let inside = row.2 in
-      let nothing : xs ≡ [] = no_items xs (omega arith) in let rest = room' - (b' + n') in let sum = length-append items xs in
-      let now : slots ++ slots' ≡ laid b items (left + (b' + rest)) = (λ i. row.3 i ++ (other.3 ∙ ap (λ zs. laid b' zs rest) nothing) i) ∙ then_none b items left b' rest (left + (b' + rest)) refl in
-      let here : laid b items (left + (b' + rest)) ≡ laid b (items ++ xs) (left + (b' + rest)) = ap (λ zs. laid b zs (left + (b' + rest))) (sym (append-nil items) ∙ ap (λ l. items ++ l) (sym nothing)) in
-      is_row at start (slots ++ slots') (room + room') b (n + n') (items ++ xs) (left + (b' + rest)) row.0 (now ∙ here) (omega arith) (omega arith)
+      let xs = values slots' in
+      let long : n ≡ length items = row.1 in
+      let more : n' ≡ length xs = other.1 in
+      let within = other.2 in
+      let inside = row.2 in
+      let nothing : xs ≡ [] = no_items xs (omega arith) in
+      let rest = room' - (b' + n') in
+      let sum = length-append items xs in
+      let now : slots ++ slots' ≡ laid b items (left + (b' + rest)) =
+      (λ i. row.3 i ++ (other.3 ∙ ap (λ zs. laid b' zs rest) nothing) i)
+      ∙ then_none b items left b' rest (left + (b' + rest)) refl in
+      let here : laid b items (left + (b' + rest)) ≡ laid b (items ++ xs) (left + (b' + rest)) = ap
+      (λ zs. laid b zs (left + (b' + rest)))
+      (sym (append-nil items) ∙ ap (λ l. items ++ l) (sym nothing)) in
+      is_row at start (slots ++ slots') (room + room') b (n + n') (items ++ xs)
+      (left + (b' + rest)) row.0 (now ∙ here) (omega arith) (omega arith)
 
   -- a row without items is all room
   pub rewound_row : n ≡ 0 → IsRow at start slots room 0 0 × (items ≡ [])
   rewound_row none =
-      let long : n ≡ length items = row.1 in let within : b + n ≤ room = row.2 in let no : items ≡ [] = no_items items (omega arith) in
-      let now : slots ≡ laid 0 [] room = row.3 ∙ ap (λ xs. laid b xs left) no ∙ empty_empty b left room (omega arith) in
+      let long : n ≡ length items = row.1 in
+      let within : b + n ≤ room = row.2 in
+      let no : items ≡ [] = no_items items (omega arith) in
+      let now : slots ≡ laid 0 [] room = row.3 ∙ ap (λ xs. laid b xs left) no
+      ∙ empty_empty b left room (omega arith) in
       ((is_row at start slots room 0 0 [] room row.0 now refl (omega arith)).0, no)
 
 take_past : {X : Type 0} (i : ℕ) (xs : List X) → length xs ≤ i → take i xs ≡ xs
 take_past zero [] le = refl
 take_past zero (x ∷ xs) le = let more : suc (length xs) ≤ 0 = le in absurd (omega arith)
 take_past (suc i) [] le = refl
-take_past (suc i) (x ∷ xs) le = let more : suc (length xs) ≤ suc i = le in ap (λ l. x ∷ l) (take_past i xs (omega arith))
+take_past (suc i) (x ∷ xs) le =
+    let more : suc (length xs) ≤ suc i = le in
+    ap (λ l. x ∷ l) (take_past i xs (omega arith))
 
 drop_past : {X : Type 0} (i : ℕ) (xs : List X) → length xs ≤ i → drop i xs ≡ []
 drop_past zero [] le = refl
 drop_past zero (x ∷ xs) le = let more : suc (length xs) ≤ 0 = le in absurd (omega arith)
 drop_past (suc i) [] le = refl
-drop_past (suc i) (x ∷ xs) le = let more : suc (length xs) ≤ suc i = le in drop_past i xs (omega arith)
+drop_past (suc i) (x ∷ xs) le =
+    let more : suc (length xs) ≤ suc i = le in
+    drop_past i xs (omega arith)
 
 -- a block that begins with its items, cut behind them
-pub opened_rows : {X : Type 0} (at start : Ptr) (slots : List (Option X)) (c i n : ℕ) (xs : List X) → at ≡ start → slots ≡ laid 0 xs (c - length xs) → n ≡ length xs → n ≤ i → i ≤ c
-    → (i ≤ length slots) × (IsRow at start (take i slots) i 0 n × (values (take i slots) ≡ xs)) × (drop i slots ≡ replicate (c - i) None)
+pub opened_rows : {X : Type 0} (at start : Ptr) (slots : List (Option X)) (c i n : ℕ) (xs : List X)
+    → at ≡ start → slots ≡ laid 0 xs (c - length xs) → n ≡ length xs → n ≤ i → i ≤ c
+    → (i ≤ length slots) × (IsRow at start (take i slots) i 0 n × (values (take i slots) ≡ xs))
+    × (drop i slots ≡ replicate (c - i) None)
 opened_rows at start slots c i n xs a e long le lc =
-    let all = length_laid 0 xs (c - length xs) in let same : length slots ≡ length (laid 0 xs (c - length xs)) = ap length e in
-    let front = ap (take i) e ∙ front_of i xs (c - length xs) (i - length xs) refl (omega arith) ∙ ap (λ l. laid 0 l (i - length xs)) (take_past i xs (omega arith)) in
-    let back = ap (drop i) e ∙ back_of i xs (c - length xs) (c - i) (omega arith) ∙ ap (λ l. laid 0 l (c - i)) (drop_past i xs (omega arith)) in
-    (omega arith, is_row at start (take i slots) i 0 n xs (i - length xs) a front long (omega arith), back)
+    let all = length_laid 0 xs (c - length xs) in
+    let same : length slots ≡ length (laid 0 xs (c - length xs)) = ap length e in
+    let front = ap (take i) e ∙ front_of i xs (c - length xs) (i - length xs) refl (omega arith)
+    ∙ ap (λ l. laid 0 l (i - length xs)) (take_past i xs (omega arith)) in
+    let back = ap (drop i) e ∙ back_of i xs (c - length xs) (c - i) (omega arith)
+    ∙ ap (λ l. laid 0 l (c - i)) (drop_past i xs (omega arith)) in (
+      omega arith,
+      is_row at start (take i slots) i 0 n xs (i - length xs) a front long
+          (omega arith),
+      back,
+    )
 
 -- a row of items with the empty places behind it is a block
-pub closed_rows : {X : Type 0} (at start : Ptr) (slots tail : List (Option X)) (room n c : ℕ) → IsRow at start slots room 0 n → tail ≡ replicate (c - room) None → room ≤ c
-    → (length (slots ++ tail) ≡ c) × (length (values (slots ++ tail)) ≡ n) × (slots ++ tail ≡ laid 0 (values (slots ++ tail)) (c - n)) × (values (slots ++ tail) ≡ values slots)
+pub closed_rows : {X : Type 0} (at start : Ptr) (slots tail : List (Option X)) (room n c : ℕ)
+    → IsRow at start slots room 0 n → tail ≡ replicate (c - room) None → room ≤ c
+    → (length (slots ++ tail) ≡ c) × (length (values (slots ++ tail)) ≡ n)
+    × (slots ++ tail ≡ laid 0 (values (slots ++ tail)) (c - n))
+    × (values (slots ++ tail) ≡ values slots)
 closed_rows at start slots tail room n c row empty_tail le =
     let rest = is_row at at tail (c - room) 0 0 [] (c - room) refl empty_tail refl (omega arith) in
-    let all = two_rows at start slots room 0 n row {room' = c - room} {b' = 0} {n' = 0} rest.0 (inr refl) in
+    let all = two_rows at start slots room 0 n row {room' = c - room} {b' = 0} {n' = 0} rest.0
+    (inr refl) in
     let wide = row_length at start (slots ++ tail) (room + (c - room)) 0 (n + 0) all.0 in
     let none = ap length rest.1 in
-    let same : values (slots ++ tail) ≡ values slots = all.1 ∙ ap (λ l. values slots ++ l) rest.1 ∙ append-nil (values slots) in
+    let same : values (slots ++ tail) ≡ values slots = all.1 ∙ ap (λ l. values slots ++ l) rest.1
+    ∙ append-nil (values slots) in
     let counted : n + 0 ≡ length (values (slots ++ tail)) = all.0.1 in
     let left : room + (c - room) - (0 + (n + 0)) ≡ c - n = omega arith in
     (omega arith, omega arith, all.0.3 ∙ ap (λ k. laid 0 (values (slots ++ tail)) k) left, same)
 
 -- a block that begins with its items is one row
-pub whole_row : {X : Type 0} (at start : Ptr) (slots : List (Option X)) (c n : ℕ) (xs : List X) → at ≡ start → slots ≡ laid 0 xs (c - length xs) → n ≡ length xs → n ≤ c → IsRow at start slots c 0 n × (values slots ≡ xs)
-whole_row at start slots c n xs a e long le = is_row at start slots c 0 n xs (c - length xs) a e long (omega arith)
+pub whole_row : {X : Type 0} (at start : Ptr) (slots : List (Option X)) (c n : ℕ) (xs : List X)
+    → at ≡ start → slots ≡ laid 0 xs (c - length xs) → n ≡ length xs → n ≤ c
+    → IsRow at start slots c 0 n × (values slots ≡ xs)
+whole_row at start slots c n xs a e long le =
+    is_row at start slots c 0 n xs (c - length xs) a e long (omega arith)

@@ -10,10 +10,13 @@ use Rattle.std.proofs.lemmas.List.Sorted.{IsPermutation-append, IsPermutation-tr
 pub joined_permutation : {X : Type 0} {all front back first second joined sorted : List X}
     → all ≡ front ++ back → IsPermutation front first → IsPermutation back second
     → joined ≡ first ++ second → IsPermutation joined sorted → IsPermutation all sorted
-joined_permutation {all = all} {front = front} {back = back} {first = first} {second = second} {joined = joined} {sorted = sorted} cut a b is c =
-    rw cut (IsPermutation-trans (front ++ back) joined sorted (rw is (IsPermutation-append front first back second a b)) c)
+joined_permutation {all = all} {front = front} {back = back} {first = first} {second = second}
+    {joined = joined} {sorted = sorted} cut a b is c =
+    rw cut (IsPermutation-trans (front ++ back) joined sorted
+    (rw is (IsPermutation-append front first back second a b)) c)
 
--- g has the members of the closure, and h those of what calls it: a call of s is one of `inner s`, and leaves that.
+-- g has the members of the closure, and h those of what calls it: a call of s is one of `inner s`,
+-- and leaves that.
 module _ {F S X : Type 0} (g : Mut F (Bor X × (Bor X × Unit {0})) Ordering)
     (h : Mut S (Bor X × (Bor X × Unit {0})) Ordering) (inner : S → F)
     (through : (s : S) (a : Bor X × (Bor X × Unit {0})) (r : Ordering) (t : S)
@@ -25,8 +28,10 @@ module _ {F S X : Type 0} (g : Mut F (Bor X × (Bor X × Unit {0})) Ordering)
       (((says.at (a ∷ [])) r (inner s) (rw is at step.0)).0, step.1 ∙ is))
       s refl
 
-  pub sorted_through : (s : S) (xs : List X) → IsSortedByClosure h s xs → IsSortedByClosure g (inner s) xs
+  pub sorted_through : (s : S) (xs : List X) → IsSortedByClosure h s xs
+      → IsSortedByClosure g (inner s) xs
   sorted_through s xs is = λ lt order says. is lt order (compares_through lt s says)
 
-  pub stable_through : (s : S) (xs ys : List X) → IsStableByClosure h s xs ys → IsStableByClosure g (inner s) xs ys
+  pub stable_through : (s : S) (xs ys : List X) → IsStableByClosure h s xs ys
+      → IsStableByClosure g (inner s) xs ys
   stable_through s xs ys is = λ lt order says. is lt order (compares_through lt s says)

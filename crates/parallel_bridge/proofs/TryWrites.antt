@@ -16,33 +16,56 @@ use Rattle.parallel_bridge.proofs.TryShapes.{try_along_wider}
 
 module _ {X Y E : Type 0} (allowed : X → Result Y E → Type 0) where
   -- one value more
-  pub one_value : (x : X) (out : Result Y E) → allowed x out → IfOk out (λ y. (xs : List X) (ys : List Y) → EachOk allowed xs ys → EachOk allowed (xs ++ x ∷ []) (ys ++ y ∷ []))
-  one_value x (Ok y) h = λ xs ys each. MapOf-append (λ x y. allowed x (Ok y)) xs (x ∷ []) ys (y ∷ []) each (h, tt)
+  pub one_value : (x : X) (out : Result Y E) → allowed x out
+      → IfOk out (λ y. (xs : List X) (ys : List Y) → EachOk allowed xs ys
+      → EachOk allowed (xs ++ x ∷ []) (ys ++ y ∷ []))
+  one_value x (Ok y) h =
+      λ xs ys each. MapOf-append (λ x y. allowed x (Ok y)) xs (x ∷ []) ys (y ∷ []) each (h, tt)
   one_value x (Err e) h = tt
 
-  tries : (xs : List X) (out : Result (List Y) E) → Answered {S = Unit {0}} (λ xs s ys. EachOk allowed xs ys) (FirstErr allowed) xs out → TryMapOf allowed xs out
+  tries : (xs : List X) (out : Result (List Y) E)
+      → Answered {S = Unit {0}} (λ xs s ys. EachOk allowed xs ys) (FirstErr allowed) xs out
+      → TryMapOf allowed xs out
   tries xs (Ok ys) h = h.1
   tries xs (Err e) h = h
 
   -- the values of the segments one after another, or the leftmost error
-  tried_along : (cut : Cut X) (out : Result (List Y) E) → TryAlongCut (TryMapOf allowed) OneAfterAnother cut out → TryMapOf allowed (cut_items cut) out
+  tried_along : (cut : Cut X) (out : Result (List Y) E)
+      → TryAlongCut (TryMapOf allowed) OneAfterAnother cut out
+      → TryMapOf allowed (cut_items cut) out
   tried_along (segment xs) out h = h
-  tried_along (halves p q) (Ok c) (inl (a, b, h, i, n)) = subst (EachOk allowed (cut_items p ++ cut_items q)) (sym n) (MapOf-append (λ x y. allowed x (Ok y)) (cut_items p) (cut_items q) a b (tried_along p (Ok a) h) (tried_along q (Ok b) i))
+  tried_along (halves p q) (Ok c) (inl (a, b, h, i, n)) = subst
+      (EachOk allowed (cut_items p ++ cut_items q)) (sym n)
+      (MapOf-append (λ x y. allowed x (Ok y)) (cut_items p) (cut_items q) a b
+      (tried_along p (Ok a) h) (tried_along q (Ok b) i))
   tried_along (halves p q) (Err x) (inl (a, b, h, i, n)) = absurd n
   tried_along (halves p q) out (inr (inl (e, same, h))) =
-      subst (TryMapOf allowed (cut_items p ++ cut_items q)) (sym same) (onto_append allowed [] (cut_items p) (cut_items q) (Err e) (Err e) (tried_along p (Err e) h) refl)
+      subst (TryMapOf allowed (cut_items p ++ cut_items q)) (sym same)
+      (onto_append allowed [] (cut_items p) (cut_items q) (Err e) (Err e)
+      (tried_along p (Err e) h) refl)
   tried_along (halves p q) out (inr (inr (a, e, same, h, i))) =
-      subst (TryMapOf allowed (cut_items p ++ cut_items q)) (sym same) (onto_append allowed [] (cut_items p) (cut_items q) (Ok a) (Err e) (a, refl, tried_along p (Ok a) h) (tried_along q (Err e) i))
+      subst (TryMapOf allowed (cut_items p ++ cut_items q)) (sym same)
+      (onto_append allowed [] (cut_items p) (cut_items q) (Ok a) (Err e)
+      (a, refl, tried_along p (Ok a) h) (tried_along q (Err e) i))
 
   -- what is answered along the shape of a list
   abbrev pub Tried : ℕ → List X → Result (List Y) E → Type 0
-  Tried k xs out = TryAlongCut (Answered {S = Unit {0}} (λ xs s ys. EachOk allowed xs ys) (FirstErr allowed)) OneAfterAnother (Shape k xs) out
+  Tried k xs out =
+      TryAlongCut (Answered {S = Unit {0}} (λ xs s ys. EachOk allowed xs ys) (FirstErr allowed))
+      OneAfterAnother (Shape k xs) out
 
-  pub tried_shape : (k : ℕ) (xs : List X) (out : Result (List Y) E) → Tried k xs out → TryMapOf allowed xs out
+  pub tried_shape : (k : ℕ) (xs : List X) (out : Result (List Y) E) → Tried k xs out
+      → TryMapOf allowed xs out
   tried_shape k xs out h = subst (λ l. TryMapOf allowed l out) (Shape-items k xs)
-      (tried_along (Shape k xs) out (try_along_wider (Answered {S = Unit {0}} (λ xs s ys. EachOk allowed xs ys) (FirstErr allowed)) (TryMapOf allowed) OneAfterAnother OneAfterAnother tries (λ a b o n. n) (Shape k xs) out h))
+      (tried_along (Shape k xs) out (try_along_wider
+      (Answered {S = Unit {0}} (λ xs s ys. EachOk allowed xs ys) (FirstErr allowed))
+      (TryMapOf allowed) OneAfterAnother OneAfterAnother tries (λ a b o n. n) (Shape k xs) out h))
 
   -- an error is an error of values in a vector too
-  pub tried_error : {P : Type 0} (gives : P → List X → Type 0) (parts : P) (k : ℕ) (t : Trouble E) → Driven gives parts (Answered {S = Unit {0}} (λ xs s ys. EachOk allowed xs ys) (FirstErr allowed)) OneAfterAnother k (Err t) → UnlessRefused {R = Vec Y Global} (Err t) (λ out. GivesSome gives parts (λ xs. TryMapOf allowed xs (listed out)))
+  pub tried_error : {P : Type 0} (gives : P → List X → Type 0) (parts : P) (k : ℕ) (t : Trouble E)
+      → Driven gives parts (Answered {S = Unit {0}} (λ xs s ys. EachOk allowed xs ys)
+      (FirstErr allowed)) OneAfterAnother k (Err t)
+      → UnlessRefused {R = Vec Y Global} (Err t)
+      (λ out. GivesSome gives parts (λ xs. TryMapOf allowed xs (listed out)))
   tried_error gives parts k (Closure e) (xs, came, h) = (xs, came, tried_shape k xs (Err e) h)
   tried_error gives parts k (OfFault f) h = h

@@ -20,7 +20,8 @@ abbrev pub IsRoom : {T : Type 0} → View T → Type 0
 IsRoom window = (window.before ≡ 0) × (window.items ≡ [])
 
 -- what was written, or the trouble
-abbrev pub written : {T E : Type 0} → View T → Result (Unit {0}) (Trouble E) → Result (List T) (Trouble E)
+abbrev pub written : {T E : Type 0} → View T → Result (Unit {0}) (Trouble E)
+    → Result (List T) (Trouble E)
 written window (Ok done) = Ok window.items
 written window (Err trouble) = Err trouble
 
@@ -30,7 +31,8 @@ kept (Ok done) ys = Ok ys
 kept (Err e) ys = Err e
 
 -- the answers for all items, from some state to some state, or the error of one of them
-abbrev pub Answered : {X S T E : Type 0} → (List X → S → List T → Type 0) → (List X → E → Type 0) → List X → Result (List T) E → Type 0
+abbrev pub Answered : {X S T E : Type 0} → (List X → S → List T → Type 0) → (List X → E → Type 0)
+    → List X → Result (List T) E → Type 0
 Answered {S = S} so_far fails xs (Ok ys) = (state : S) × so_far xs state ys
 Answered so_far fails xs (Err e) = fails xs e
 
@@ -39,9 +41,16 @@ abbrev pub OneAfterAnother : {T E : Type 0} → List T → List T → Result (Li
 OneAfterAnother a b out = OnlyOk (λ c. c ≡ a ++ b) out
 
 -- there is a place for each answer to a list, and each item that may come is taken
-abbrev pub Fillable : {P X T : Type 0} → RattleType → (P → ℕ) → (P → X → Type 0) → (X → Type 0) → P → View T → Type 0
-Fillable {X = X} R count may takes parts room = IsRoom room × (room.room ≡ count parts) × FitsInBlock R room.room × ((x : X) → may parts x → takes x)
+abbrev pub Fillable : {P X T : Type 0} → RattleType → (P → ℕ) → (P → X → Type 0) → (X → Type 0) → P
+    → View T → Type 0
+Fillable {X = X} R count may takes parts room = IsRoom room × (room.room ≡ count parts)
+    × FitsInBlock R room.room × ((x : X) → may parts x → takes x)
 
--- the places are those of the room; unless there is trouble they are full, and the answers go along the shape of the list
-abbrev pub Filled : {P X T E : Type 0} → (P → List X → Type 0) → P → (List X → Result (List T) E → Type 0) → ℕ → View T → View T → Result (Unit {0}) (Trouble E) → Type 0
-Filled gives parts leaf depth room window answer = SamePlaces room window × IfOk answer (λ _. IsFull window) × Driven gives parts leaf OneAfterAnother depth (written window answer)
+-- the places are those of the room; unless there is trouble they are full, and the answers go along
+-- the shape of the list
+abbrev pub Filled : {P X T E : Type 0} → (P → List X → Type 0) → P
+    → (List X → Result (List T) E → Type 0) → ℕ → View T → View T → Result (Unit {0}) (Trouble E)
+    → Type 0
+Filled gives parts leaf depth room window answer = SamePlaces room window
+    × IfOk answer (λ _. IsFull window)
+    × Driven gives parts leaf OneAfterAnother depth (written window answer)

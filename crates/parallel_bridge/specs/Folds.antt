@@ -15,8 +15,11 @@ pub record FoldLaws {X R : Type 0}
   pub good_step : (a : R) (x : X) → IsTrue (good a) → Contains xs x → IsTrue (good (f a x))
   pub good_reduce : (a b : R) → IsTrue (good a) → IsTrue (good b) → IsTrue (good (g a b))
   pub neutral : (a : R) → IsTrue (good a) → g a unit ≡ a
-  pub passes : (a b : R) (x : X) → IsTrue (good a) → IsTrue (good b) → Contains xs x → f (g a b) x ≡ g a (f b x)
+  pub passes : (a b : R) (x : X) → IsTrue (good a) → IsTrue (good b) → Contains xs x
+      → f (g a b) x ≡ g a (f b x)
 
 -- under any such laws r is the plain fold of the list from the left
-abbrev pub IsPlainFold : {X R : Type 0} → (R → Type 0) → (R → X → R → Type 0) → (R → R → R → Type 0) → List X → R → Type 0
-IsPlainFold {X = X} {R = R} identity step reduce xs r = (unit : R) (f : R → X → R) (g : R → R → R) (good : R → Bool) → FoldLaws identity step reduce unit f g good xs → r ≡ fold f unit xs
+abbrev pub IsPlainFold : {X R : Type 0} → (R → Type 0) → (R → X → R → Type 0) → (R → R → R → Type 0)
+    → List X → R → Type 0
+IsPlainFold {X = X} {R = R} identity step reduce xs r = (unit : R) (f : R → X → R) (g : R → R → R)
+    (good : R → Bool) → FoldLaws identity step reduce unit f g good xs → r ≡ fold f unit xs

@@ -18,10 +18,13 @@ FoldSegment {R = R} identity step xs r = (a : R) × identity a × Chain step a x
 
 -- r comes from the list by neighbouring segments, each of which gives a value as segment allows,
 -- and by reductions of neighbours, left before right; a segment may be empty
-pub data Brackets {X R : Type 0} (segment : List X → R → Type 0) (reduce : R → R → R → Type 0) : List X → R → Type 0 where
+pub data Brackets {X R : Type 0} (segment : List X → R → Type 0)
+    (reduce : R → R → R → Type 0) : List X → R → Type 0 where
   of_segment : {xs : List X} {r : R} → segment xs r → Brackets segment reduce xs r
-  of_parts : {xs ys zs : List X} {p q r : R} → zs ≡ xs ++ ys → Brackets segment reduce xs p → Brackets segment reduce ys q → reduce p q r → Brackets segment reduce zs r
+  of_parts : {xs ys zs : List X} {p q r : R} → zs ≡ xs ++ ys → Brackets segment reduce xs p
+      → Brackets segment reduce ys q → reduce p q r → Brackets segment reduce zs r
 
 -- r is a reduction of folds of neighbouring segments, each begun anew from the identity
-abbrev pub Bracketing : {X R : Type 0} → (R → Type 0) → (R → X → R → Type 0) → (R → R → R → Type 0) → List X → R → Type 0
+abbrev pub Bracketing : {X R : Type 0} → (R → Type 0) → (R → X → R → Type 0) → (R → R → R → Type 0)
+    → List X → R → Type 0
 Bracketing identity step reduce xs r = Brackets (FoldSegment identity step) reduce xs r

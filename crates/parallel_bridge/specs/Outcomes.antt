@@ -32,8 +32,10 @@ joined (v ∷ vs) = v.items ++ joined vs
 abbrev pub IsListed : {T : Type 0} → List T → List (Vec T Global) → Type 0
 IsListed xs all = (joined all ≡ xs) × (xs ≡ [] → all ≡ [])
 
--- of two neighbours' outcomes the left one's trouble stands, behind a value of it the right one's, and two values are put together as node allows
-abbrev pub PutTogether : {R E : Type 0} → (R → R → Result R E → Type 0) → Result R (Trouble E) → Result R (Trouble E) → Result R (Trouble E) → Type 0
+-- of two neighbours' outcomes the left one's trouble stands, behind a value of it the right one's,
+-- and two values are put together as node allows
+abbrev pub PutTogether : {R E : Type 0} → (R → R → Result R E → Type 0) → Result R (Trouble E)
+    → Result R (Trouble E) → Result R (Trouble E) → Type 0
 PutTogether node (Err t) second result = result ≡ Err t
 PutTogether node (Ok a) (Err t) result = result ≡ Err t
 PutTogether node (Ok a) (Ok b) result = UnlessRefused result (λ out. node a b out)

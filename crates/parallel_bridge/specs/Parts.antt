@@ -14,6 +14,9 @@ keys_of [] = []
 keys_of ((k, Some u) ∷ ps) = keys_of ps
 keys_of ((k, None) ∷ ps) = k ∷ keys_of ps
 
--- us are the values, and ks the keys of the items without one, of pairs that are allowed for the items place by place
-abbrev pub PartitionOf : {X K U : Type 0} → (X → (K × Option U) → Type 0) → List X → List U → List K → Type 0
-PartitionOf {K = K} {U = U} allowed xs us ks = (ps : List (K × Option U)) × MapOf allowed xs ps × (us ≡ values_of ps) × (ks ≡ keys_of ps)
+-- us are the values, and ks the keys of the items without one, of pairs that are allowed for the
+-- items place by place
+abbrev pub PartitionOf : {X K U : Type 0} → (X → (K × Option U) → Type 0) → List X → List U → List K
+    → Type 0
+PartitionOf {K = K} {U = U} allowed xs us ks = (ps : List (K × Option U)) × MapOf allowed xs ps
+    × (us ≡ values_of ps) × (ks ≡ keys_of ps)

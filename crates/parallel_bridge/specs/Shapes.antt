@@ -26,39 +26,50 @@ abbrev pub Shape : {X : Type 0} → ℕ → List X → Cut X
 Shape zero xs = segment xs
 Shape (suc k) [] = segment []
 Shape (suc k) (x ∷ []) = segment (x ∷ [])
-Shape (suc k) (x ∷ (y ∷ xs)) = halves (Shape k (take (length (x ∷ (y ∷ xs)) / 2) (x ∷ (y ∷ xs)))) (Shape k (drop (length (x ∷ (y ∷ xs)) / 2) (x ∷ (y ∷ xs))))
+Shape (suc k) (x ∷ (y ∷ xs)) = halves (Shape k (take (length (x ∷ (y ∷ xs)) / 2) (x ∷ (y ∷ xs))))
+    (Shape k (drop (length (x ∷ (y ∷ xs)) / 2) (x ∷ (y ∷ xs))))
 
 -- the lengths of the segments of a list of n items that is split at most k levels deep
 abbrev pub halved_lengths : ℕ → ℕ → List ℕ
 halved_lengths zero n = n ∷ []
-halved_lengths (suc k) n = cond (nat_lt n 2) (n ∷ []) (halved_lengths k (n / 2) ++ halved_lengths k (n - n / 2))
+halved_lengths (suc k) n =
+    cond (nat_lt n 2) (n ∷ []) (halved_lengths k (n / 2) ++ halved_lengths k (n - n / 2))
 
 -- how many binary digits the word n has, 0 for 0: so often a number that begins as n is halved,
 -- rounding down, until it is 0
 abbrev pub cutdepth : ℕ → ℕ
 cutdepth n = 64 - leading_zeros w64 n
 
--- each segment gives an answer as leaf allows for its items, and two parts give what node allows for
--- the answers of left and right
-abbrev pub AlongCut : {X R : Type 0} → (List X → R → Type 0) → (R → R → R → Type 0) → Cut X → R → Type 0
+-- each segment gives an answer as leaf allows for its items, and two parts give what node allows
+-- for the answers of left and right
+abbrev pub AlongCut : {X R : Type 0} → (List X → R → Type 0) → (R → R → R → Type 0) → Cut X → R
+    → Type 0
 AlongCut leaf node (segment xs) r = leaf xs r
-AlongCut {R = R} leaf node (halves p q) r = (a b : R) × AlongCut leaf node p a × AlongCut leaf node q b × node a b r
+AlongCut {R = R} leaf node (halves p q) r = (a b : R) × AlongCut leaf node p a
+    × AlongCut leaf node q b × node a b r
 
 -- the reduction of a fresh identity and of what allowed says of the items
-abbrev pub ReducedSegment : {X R : Type 0} → (R → Type 0) → (List X → R → Type 0) → (R → R → R → Type 0) → List X → R → Type 0
-ReducedSegment {R = R} identity allowed reduce xs r = (e b : R) × identity e × allowed xs b × reduce e b r
+abbrev pub ReducedSegment : {X R : Type 0} → (R → Type 0) → (List X → R → Type 0)
+    → (R → R → R → Type 0) → List X → R → Type 0
+ReducedSegment {R = R} identity allowed reduce xs r = (e b : R) × identity e × allowed xs b
+    × reduce e b r
 
 -- a segment gives the reduction of a fresh identity and of what allowed says of its items; two
 -- parts give the reduction of left and right
-abbrev pub AlongLeaves : {X R : Type 0} → (R → Type 0) → (List X → R → Type 0) → (R → R → R → Type 0) → Cut X → R → Type 0
-AlongLeaves identity allowed reduce cut r = AlongCut (ReducedSegment identity allowed reduce) reduce cut r
+abbrev pub AlongLeaves : {X R : Type 0} → (R → Type 0) → (List X → R → Type 0)
+    → (R → R → R → Type 0) → Cut X → R → Type 0
+AlongLeaves identity allowed reduce cut r =
+    AlongCut (ReducedSegment identity allowed reduce) reduce cut r
 
 -- each segment is folded from an identity of its own, and reduced behind a further one
-abbrev pub Along : {X R : Type 0} → (R → Type 0) → (R → X → R → Type 0) → (R → R → R → Type 0) → Cut X → R → Type 0
+abbrev pub Along : {X R : Type 0} → (R → Type 0) → (R → X → R → Type 0) → (R → R → R → Type 0)
+    → Cut X → R → Type 0
 Along identity step reduce cut r = AlongLeaves identity (FoldSegment identity step) reduce cut r
 
 -- serially the whole list is one segment and nothing is reduced; in parallel the answer goes along
 -- the list's shape of that depth
-abbrev pub FoldsAs : {X R : Type 0} → (R → Type 0) → (List X → R → Type 0) → (R → R → R → Type 0) → ℕ → Path → List X → R → Type 0
+abbrev pub FoldsAs : {X R : Type 0} → (R → Type 0) → (List X → R → Type 0) → (R → R → R → Type 0)
+    → ℕ → Path → List X → R → Type 0
 FoldsAs identity allowed reduce depth Serial xs r = allowed xs r
-FoldsAs identity allowed reduce depth Parallel xs r = AlongLeaves identity allowed reduce (Shape depth xs) r
+FoldsAs identity allowed reduce depth Parallel xs r =
+    AlongLeaves identity allowed reduce (Shape depth xs) r

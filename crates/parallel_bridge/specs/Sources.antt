@@ -8,16 +8,22 @@ use Rattle.parallel_bridge.specs.Tries.{TryAlongCut}
 
 -- some calls lead to the item
 abbrev pub MayCome : {S A : Type 0} → (S → Option A → S → Type 0) → S → A → Type 0
-MayCome {S = S} {A = A} steps s x = (before : List A) × (t : S) × (u : S) × Yields steps s before t × steps t (Some x) u
+MayCome {S = S} {A = A} steps s x = (before : List A) × (t : S) × (u : S) × Yields steps s before t
+    × steps t (Some x) u
 
 -- a list that may come has the fact
 abbrev pub GivesSome : {S X : Type 0} → (S → List X → Type 0) → S → (List X → Type 0) → Type 0
 GivesSome {X = X} gives source fact = (xs : List X) × gives source xs × fact xs
 
 -- the outcome goes along the shape of a list that may come, by what segments and parts may give
-abbrev pub Driven : {S X R E : Type 0} → (S → List X → Type 0) → S → (List X → Result R E → Type 0) → (R → R → Result R E → Type 0) → ℕ → Result R (Trouble E) → Type 0
-Driven gives source leaf node depth result = UnlessRefused result (λ out. GivesSome gives source (λ xs. TryAlongCut leaf node (Shape depth xs) out))
+abbrev pub Driven : {S X R E : Type 0} → (S → List X → Type 0) → S → (List X → Result R E → Type 0)
+    → (R → R → Result R E → Type 0) → ℕ → Result R (Trouble E) → Type 0
+Driven gives source leaf node depth result = UnlessRefused result
+    (λ out. GivesSome gives source (λ xs. TryAlongCut leaf node (Shape depth xs) out))
 
--- a consumer may be handed a list: it may work, the list is as long as it knows, and it takes each item that may come
-abbrev pub Suits : {P C X : Type 0} → (C → Type 0) → (C → ℕ → Type 0) → (C → X → Type 0) → (P → ℕ) → (P → X → Type 0) → P → C → Type 0
-Suits {X = X} ready fits takes count may parts consumer = ready consumer × fits consumer (count parts) × ((x : X) → may parts x → takes consumer x)
+-- a consumer may be handed a list: it may work, the list is as long as it knows, and it takes each
+-- item that may come
+abbrev pub Suits : {P C X : Type 0} → (C → Type 0) → (C → ℕ → Type 0) → (C → X → Type 0) → (P → ℕ)
+    → (P → X → Type 0) → P → C → Type 0
+Suits {X = X} ready fits takes count may parts consumer = ready consumer
+    × fits consumer (count parts) × ((x : X) → may parts x → takes consumer x)

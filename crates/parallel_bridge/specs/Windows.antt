@@ -6,7 +6,8 @@ use denote.RattleType.{RattleType}
 use denote.RawPtr.{Ptr, coded_ptr}
 use Rattle.parallel_bridge.specs.Places.{laid, shifted, values}
 
--- the items in their order, where the row begins, how many places it has, and how many of them are empty in front of the items
+-- the items in their order, where the row begins, how many places it has, and how many of them are
+-- empty in front of the items
 pub record View (X : Type 0) : Type 0 where
   pub start : Ptr
   pub room : ℕ
@@ -15,18 +16,22 @@ pub record View (X : Type 0) : Type 0 where
 
 module _ {X : Type 0} where
   abbrev pub part : Ptr → ℕ → ℕ → List X → View X
-  part start room before items = record { start = start; room = room; before = before; items = items }
+  part start room before items =
+      record { start = start; room = room; before = before; items = items }
 
   abbrev pub view_code : Coded X → Coded (View X)
   view_code c = code_by (Ptr × (ℕ × (ℕ × List X)))
       (coded× coded_ptr (coded× coded_ℕ (coded× coded_ℕ (coded_list c))))
-      (λ v. (v.start, (v.room, (v.before, v.items)))) (λ p. part p.0 p.1.0 p.1.1.0 p.1.1.1) (λ _. refl)
+      (λ v. (v.start, (v.room, (v.before, v.items)))) (λ p. part p.0 p.1.0 p.1.1.0 p.1.1.1)
+      (λ _. refl)
 
 -- a row of places that begins at start: before empty ones, len items, and empty ones
 abbrev pub IsRow : {X : Type 0} → Ptr → Ptr → List (Option X) → ℕ → ℕ → ℕ → Type 0
-IsRow at start slots room before len = (at ≡ start) × (len ≡ length (values slots)) × (before + len ≤ room) × (slots ≡ laid before (values slots) (room - (before + len)))
+IsRow at start slots room before len = (at ≡ start) × (len ≡ length (values slots))
+    × (before + len ≤ room) × (slots ≡ laid before (values slots) (room - (before + len)))
 
--- the block of a row: where it begins, how many places the row has and how many the block, and where those behind the row begin
+-- the block of a row: where it begins, how many places the row has and how many the block, and
+-- where those behind the row begin
 pub record Site : Type 0 where
   pub start : Ptr
   pub room : ℕ
@@ -53,4 +58,5 @@ Follows R left right = right.start ≡ shifted R left.start left.room
 
 -- the items of both rows lie side by side, or the right row has none
 abbrev pub Adjoins : {X : Type 0} → View X → View X → Type 0
-Adjoins left right = ((left.before + length left.items ≡ left.room) × (right.before ≡ 0)) ⊎ (right.items ≡ [])
+Adjoins left right = ((left.before + length left.items ≡ left.room) × (right.before ≡ 0))
+    ⊎ (right.items ≡ [])

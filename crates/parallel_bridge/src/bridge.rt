@@ -29,8 +29,8 @@ pub fn depth_of(threads: NonZeroUsize) -> usize
 }
 
 /// Hands a list to the consumer, split along its shape for that many threads, of which the caller's
-/// is one. Where several segments fail, the leftmost one's error is answered; a refusal of memory may
-/// stand in its place.
+/// is one. Where several segments fail, the leftmost one's error is answered; a refusal of memory
+/// may stand in its place.
 pub fn bridge<Rt: Threads + Sync, P: Producer, C: Consumer<P::Item> + Send>(
     rt: &Rt,
     alloc: Global,

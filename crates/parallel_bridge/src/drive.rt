@@ -6,8 +6,8 @@ ghost use Rattle.std.specs.Thread.{IsSync, IsSend};
 use std::alloc::Global;
 use std::thread::{Threads, join};
 
-/// A part of a list with what is to be made of it. Its laws are the clauses here: what two halves come
-/// to, put together, is what the task may come to.
+/// A part of a list with what is to be made of it. Its laws are the clauses here: what two halves
+/// come to, put together, is what the task may come to.
 pub trait Task: Send + Sized + Drop {
     /// What a task comes to.
     type Done: Send + Drop;
@@ -61,8 +61,8 @@ pub trait Task: Send + Sized + Drop {
         ensures { together seam left right result };
 }
 
-/// What a task comes to that is halved at most `depth` times over, with that many threads to share, of
-/// which the caller's is one.
+/// What a task comes to that is halved at most `depth` times over, with that many threads to share,
+/// of which the caller's is one.
 #[cycle(halves)]
 pub fn drive<Rt: Threads + Sync, T: Task>(
     rt: &Rt,
@@ -86,8 +86,8 @@ pub fn drive<Rt: Threads + Sync, T: Task>(
 }
 
 // Two tasks, with that many threads to share. Of two tasks that are both split, one thread gets the
-// front of the first with the back of the second, and another the rest: where work rises along a list,
-// or falls, each has as much of it.
+// front of the first with the back of the second, and another the rest: where work rises along a
+// list, or falls, each has as much of it.
 #[cycle(halves)]
 fn drive_both<Rt: Threads + Sync, T: Task>(
     rt: &Rt,

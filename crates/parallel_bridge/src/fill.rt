@@ -23,9 +23,9 @@ pub mod map_init;
 pub mod try_map;
 pub mod writer;
 
-/// Writes the answers for the items of a list into the room for them, where the segments of the list's
-/// shape, halved at most `depth` times over, are answered side by side. Where several segments fail,
-/// the leftmost one's error is answered; a refusal of memory may stand in its place.
+/// Writes the answers for the items of a list into the room for them, where the segments of the
+/// list's shape, halved at most `depth` times over, are answered side by side. Where several
+/// segments fail, the leftmost one's error is answered; a refusal of memory may stand in its place.
 pub fn fill<Rt: Threads + Sync, P: Producer, W: Writer<P::Item> + Sync>(
     rt: &Rt,
     alloc: Global,

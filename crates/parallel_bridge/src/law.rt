@@ -11,8 +11,10 @@ pub fn fold_law<X, R, I: Fn() -> R, F: Fn(R, X) -> R, G: Fn(R, R) -> R>(
     fold_op: &F,
     reduce_op: &G,
 )
-    ensures { (xs : List X) (r : R) → Bracketing (I.post identity.now) (λ a x b. F.post fold_op.now a x b) (λ a b c. G.post reduce_op.now a b c) xs r
-        → IsPlainFold (I.post identity.now) (λ a x b. F.post fold_op.now a x b) (λ a b c. G.post reduce_op.now a b c) xs r }
+    ensures { (xs : List X) (r : R) → Bracketing (I.post identity.now)
+        (λ a x b. F.post fold_op.now a x b) (λ a b c. G.post reduce_op.now a b c) xs r
+        → IsPlainFold (I.post identity.now) (λ a x b. F.post fold_op.now a x b)
+        (λ a b c. G.post reduce_op.now a b c) xs r }
 {
     let _ = identity;
     let _ = fold_op;
@@ -20,8 +22,8 @@ pub fn fold_law<X, R, I: Fn() -> R, F: Fn(R, X) -> R, G: Fn(R, R) -> R>(
 }
 
 /// The law of lawful folds with a state: where the closures keep the laws that `FoldLaws` names
-/// whatever the state is, so that no step's answer depends on it, the fold is the plain one from the
-/// left. It does nothing.
+/// whatever the state is, so that no step's answer depends on it, the fold is the plain one from
+/// the left. It does nothing.
 pub fn fold_init_law<
     X,
     S,
@@ -49,7 +51,8 @@ pub fn fold_init_law<
 /// answers are the function's. It does nothing.
 pub fn map_law<X, T, F: Fn(X) -> T>(map_op: &F)
     ensures { (xs : List X) (ys : List T) → MapOf (F.post map_op.now) xs ys
-        → (f : X → T) → ((x : X) (y : T) → Contains xs x → F.post map_op.now x y → y ≡ f x) → ys ≡ map f xs }
+        → (f : X → T) → ((x : X) (y : T) → Contains xs x → F.post map_op.now x y → y ≡ f x)
+        → ys ≡ map f xs }
 {
     let _ = map_op;
 }

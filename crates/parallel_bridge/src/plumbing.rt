@@ -38,7 +38,8 @@ pub trait Folder<Item: Drop, R, E>: Sized + Drop {
         requires item { takes self item }
         ensures ready { IfOk result (λ f. ready f) }
         ensures takes { IfOk result (λ f. (x : Item) → takes self x → takes f x) }
-        ensures gives { IfOk result (λ f. (xs : List Item) (out : Result R E) → gives f xs out → gives self (item ∷ xs) out) }
+        ensures gives { IfOk result (λ f. (xs : List Item) (out : Result R E) → gives f xs out
+            → gives self (item ∷ xs) out) }
         ensures fault { IsMemoryOnErr result };
 
     /// The folder with the items of an iterator taken, in order, up to its end.
@@ -50,7 +51,8 @@ pub trait Folder<Item: Drop, R, E>: Sized + Drop {
         ensures ready { IfOk result (λ f. ready f) }
         ensures takes { IfOk result (λ f. (x : Item) → takes self x → takes f x) }
         ensures gives { IfOk result (λ f. (xs : List Item) × Drains I.next_gives iter xs
-            × ((more : List Item) (out : Result R E) → gives f more out → gives self (xs ++ more) out)) }
+            × ((more : List Item) (out : Result R E) → gives f more out
+            → gives self (xs ++ more) out)) }
         ensures fault { IsMemoryOnErr result };
 
     /// The answer, or the error that a closure answered for one of the items.
@@ -60,7 +62,8 @@ pub trait Folder<Item: Drop, R, E>: Sized + Drop {
 
     /// Whether further items make no difference, since an error or a `None` was met.
     fn full(&self) -> bool
-        ensures { IsTrue result → (xs ys : List Item) (out : Result R E) → gives self.now xs out → gives self.now ys out };
+        ensures { IsTrue result → (xs ys : List Item) (out : Result R E) → gives self.now xs out
+            → gives self.now ys out };
 }
 
 /// Takes the items of a list, which may be split first, each part for a consumer of its own.
@@ -88,7 +91,8 @@ pub trait Consumer<Item: Drop>: Sized + Drop {
     /// What the answers of a left and a right part may give.
     ghost node_gives: { Self → Self.Result → Self.Result → Result Self.Result Self.Error → Type 0 };
 
-    /// Two consumers, for the first `index` items and for the rest, and the reducer of their answers.
+    /// Two consumers, for the first `index` items and for the rest, and the reducer of their
+    /// answers.
     fn split_at(self, index: usize) -> Result<(Self, Self, Self::Reducer), Fault>
         requires { ready self }
         ensures ready { IfOk result (λ p. ready p.0 × ready p.1) }
@@ -96,11 +100,19 @@ pub trait Consumer<Item: Drop>: Sized + Drop {
         ensures fits { IfOk result (λ p. (n : ℕ) → index ≤ n → fits self n
             → fits p.0 index × fits p.1 (n - index)) }
         ensures reducer { IfOk result (λ p. (a b : Self.Result) → Self.Reducer.can_reduce p.2 a b) }
-        ensures left_leaf { IfOk result (λ p. (xs : List Item) (out : Result Self.Result Self.Error) → leaf_gives p.0 xs out → leaf_gives self xs out) }
-        ensures right_leaf { IfOk result (λ p. (xs : List Item) (out : Result Self.Result Self.Error) → leaf_gives p.1 xs out → leaf_gives self xs out) }
-        ensures left_node { IfOk result (λ p. (a b : Self.Result) (out : Result Self.Result Self.Error) → node_gives p.0 a b out → node_gives self a b out) }
-        ensures right_node { IfOk result (λ p. (a b : Self.Result) (out : Result Self.Result Self.Error) → node_gives p.1 a b out → node_gives self a b out) }
-        ensures node { IfOk result (λ p. (a b : Self.Result) (out : Result Self.Result Self.Error) → Self.Reducer.reduce_gives p.2 a b out → node_gives self a b out) }
+        ensures left_leaf { IfOk result (λ p. (xs : List Item) (out : Result Self.Result Self.Error)
+            → leaf_gives p.0 xs out → leaf_gives self xs out) }
+        ensures right_leaf { IfOk result
+            (λ p. (xs : List Item) (out : Result Self.Result Self.Error) → leaf_gives p.1 xs out
+            → leaf_gives self xs out) }
+        ensures left_node { IfOk result
+            (λ p. (a b : Self.Result) (out : Result Self.Result Self.Error) → node_gives p.0 a b out
+            → node_gives self a b out) }
+        ensures right_node { IfOk result
+            (λ p. (a b : Self.Result) (out : Result Self.Result Self.Error) → node_gives p.1 a b out
+            → node_gives self a b out) }
+        ensures node { IfOk result (λ p. (a b : Self.Result) (out : Result Self.Result Self.Error)
+            → Self.Reducer.reduce_gives p.2 a b out → node_gives self a b out) }
         ensures fault { IsMemoryOnErr result };
 
     /// What takes the items of a list that is not split.
@@ -108,11 +120,12 @@ pub trait Consumer<Item: Drop>: Sized + Drop {
         requires { ready self }
         ensures ready { IfOk result (λ f. Self.Folder.ready f) }
         ensures takes { IfOk result (λ f. (x : Item) → takes self x → Self.Folder.takes f x) }
-        ensures gives { IfOk result (λ f. (xs : List Item) (out : Result Self.Result Self.Error) → Self.Folder.gives f xs out → leaf_gives self xs out) }
+        ensures gives { IfOk result (λ f. (xs : List Item) (out : Result Self.Result Self.Error)
+            → Self.Folder.gives f xs out → leaf_gives self xs out) }
         ensures fault { IsMemoryOnErr result };
 
-    /// Whether no part of the list matters any more. No consumer knows of the others' parts, so none
-    /// is ever full.
+    /// Whether no part of the list matters any more. No consumer knows of the others' parts, so
+    /// none is ever full.
     fn full(&self) -> bool
         ensures { result ≡ false }
     {

@@ -12,9 +12,9 @@ use std::ops::Range;
 
 /// A list that may be split in two, each part a list of its own, with nothing gathered or copied.
 ///
-/// A producer of a user's own may stand for any list that has a length and can be cut at an index. Its
-/// laws are the clauses here: the lists of two parts, one after another, are the list, and what its
-/// iterator gives is the list.
+/// A producer of a user's own may stand for any list that has a length and can be cut at an index.
+/// Its laws are the clauses here: the lists of two parts, one after another, are the list, and what
+/// its iterator gives is the list.
 pub trait Producer: Send + Sized + Drop {
     /// What the list has.
     type Item: Send + Drop;
@@ -58,11 +58,12 @@ pub trait Producer: Send + Sized + Drop {
     fn into_items(self) -> Self::Iter
         ensures can { Self.Iter.can_next result }
         ensures ends { IsFinite (Self.Iter.remaining result) }
-        ensures gives { (xs : List Self.Item) → Drains Self.Iter.next_gives result xs → gives self xs }
+        ensures gives { (xs : List Self.Item) → Drains Self.Iter.next_gives result xs
+            → gives self xs }
         ensures may { HoldsAlong Self.Iter.next_gives result (All (may self)) };
 
-    /// The items as an owned list, where they are one already, or else the producer as it was. An owned
-    /// list is cut where it lies, without a copy.
+    /// The items as an owned list, where they are one already, or else the producer as it was. An
+    /// owned list is cut where it lies, without a copy.
     fn into_vec(self) -> Result<Vec<Self::Item>, Self>
         ensures counted { IfOk result (λ vec. length vec.items ≡ count self) }
         ensures gives { IfOk result (λ vec. gives self vec.items) }

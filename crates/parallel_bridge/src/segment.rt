@@ -1,5 +1,5 @@
-//! Parts of a list that are split, and then handed over item by item. What is left of a part, the memory
-//! of its items for one, comes back, and that of two neighbours is put together again.
+//! Parts of a list that are split, and then handed over item by item. What is left of a part, the
+//! memory of its items for one, comes back, and that of two neighbours is put together again.
 ghost use Rattle.std.specs.Prelude.{◌≡◌, ◌++◌, ◌-◌, ◌+◌, ◌≤◌, ℕ, List, Result, [], IfErr, IfOk, length};
 ghost use Rattle.std.specs.List.{Contains};
 ghost use Rattle.std.specs.Vec.Ownership.{FitsInBlock};

@@ -11,9 +11,11 @@ use std::num::NonZeroUsize;
 /// The lengths of the segments, in order, that a list of `len` items is cut into for that many
 /// threads.
 pub fn segments(alloc: Global, threads: NonZeroUsize, len: usize) -> Result<Vec<usize>, Fault>
-    ensures leaves { IfOk result (λ lengths. (xs : List ℕ) → length xs ≡ len → lengths.items ≡ leaf_lengths (Shape (cutdepth (non_zero_usize_get threads)) xs)) }
+    ensures leaves { IfOk result (λ lengths. (xs : List ℕ) → length xs ≡ len
+        → lengths.items ≡ leaf_lengths (Shape (cutdepth (non_zero_usize_get threads)) xs)) }
     ensures all { IfOk result (λ lengths. sum lengths.items ≡ len) }
-    ensures by_threads { IfOk result (λ lengths. length lengths.items ≤ 2 * non_zero_usize_get threads) }
+    ensures by_threads { IfOk result
+        (λ lengths. length lengths.items ≤ 2 * non_zero_usize_get threads) }
     ensures by_items { IfOk result (λ lengths. 0 < len → length lengths.items ≤ len) }
     ensures fault { IsMemoryOnErr result }
 {
@@ -24,7 +26,8 @@ pub fn segments(alloc: Global, threads: NonZeroUsize, len: usize) -> Result<Vec<
 
 /// Appends the lengths of the segments of a list of `len` items that is halved `depth` times.
 fn push_halves(lengths: &mut Vec<usize>, depth: usize, len: usize) -> Result<(), Fault>
-    ensures lengths { IfOk result (λ _. lengths.new.items ≡ lengths.old.items ++ halved_lengths depth len) }
+    ensures lengths { IfOk result (λ _. lengths.new.items ≡ lengths.old.items ++ halved_lengths
+        depth len) }
     ensures fault { IsMemoryOnErr result }
 {
     if depth == 0 || len < 2 {

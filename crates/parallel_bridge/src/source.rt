@@ -11,9 +11,9 @@ use std::alloc::Global;
 
 /// Where the items of a list call come from: a list that is one already, or any iterator that ends.
 ///
-/// The parameter names the kind of source. It is always inferred, and there so that every iterator, every
-/// producer and every vector can be a source: a call writes `fold(.., items, ..)` for a `&[T]`, a
-/// `Vec<T>`, a `0..n`, a chain or a producer of the user's own.
+/// The parameter names the kind of source. It is always inferred, and there so that every iterator,
+/// every producer and every vector can be a source: a call writes `fold(.., items, ..)` for a
+/// `&[T]`, a `Vec<T>`, a `0..n`, a chain or a producer of the user's own.
 pub trait Source<M>: Sized {
     /// What comes.
     type Item: Send + Drop;
@@ -24,8 +24,8 @@ pub trait Source<M>: Sized {
     /// What goes over the items as they come.
     type Iter: Iterator<Item = Self::Item>;
 
-    /// Whether the items may be asked for. It is nothing for a list, and for an iterator that it may be
-    /// called and ends.
+    /// Whether the items may be asked for. It is nothing for a list, and for an iterator that it
+    /// may be called and ends.
     ghost can: { Self → Type 0 };
 
     /// Whether a list may come.
@@ -39,7 +39,8 @@ pub trait Source<M>: Sized {
         requires { can self }
         ensures can { Self.Iter.can_next result }
         ensures ends { IsFinite (Self.Iter.remaining result) }
-        ensures gives { (xs : List Self.Item) → Drains Self.Iter.next_gives result xs → gives self xs }
+        ensures gives { (xs : List Self.Item) → Drains Self.Iter.next_gives result xs
+            → gives self xs }
         ensures may { HoldsAlong Self.Iter.next_gives result (All (may self)) };
 
     /// The list, to be split. What is no list yet is gathered.
@@ -49,7 +50,8 @@ pub trait Source<M>: Sized {
     /// `Fault::Memory` alone; the items are then gone.
     fn into_parts(self, alloc: Global) -> Result<Self::Parts, Fault>
         requires { can self }
-        ensures gives { IfOk result (λ parts. (xs : List Self.Item) → Self.Parts.gives parts xs → gives self xs) }
+        ensures gives { IfOk result (λ parts. (xs : List Self.Item) → Self.Parts.gives parts xs
+            → gives self xs) }
         ensures may { IfOk result (λ parts. (x : Self.Item) → Self.Parts.may parts x → may self x) }
         ensures fault { IsMemoryOnErr result };
 }

@@ -12,9 +12,16 @@ pub record Contest (P : Type 0) : Type 0 where
 -- the contest of these paths, by these times
 abbrev pub contest_of : {P : Type 0} → P → P → ℕ → ℕ → Bool → Contest P
 contest_of preferred loser winner_time loser_time probe =
-    record { preferred = preferred; loser = loser; winner_time = winner_time; loser_time = loser_time; probe = probe }
+    record {
+      preferred = preferred;
+      loser = loser;
+      winner_time = winner_time;
+      loser_time = loser_time;
+      probe = probe;
+    }
 
--- how many choices lie between two probes: 100, doubled for each time over that the loser is slower, five times at most
+-- how many choices lie between two probes: 100, doubled for each time over that the loser is
+-- slower, five times at most
 abbrev pub interval_of : ℕ → ℕ → ℕ
 interval_of winner_time loser_time = 100 * 2 ^ min (loser_time / max winner_time 1 - 1) 5
 
@@ -26,7 +33,8 @@ counted count = min (count + 1) 4294967295
 abbrev pub is_due : {P : Type 0} → Contest P → ℕ → Bool
 is_due contest count = nat_le (interval_of contest.winner_time contest.loser_time) (counted count)
 
--- the path that is chosen, and whether it is measured: at the interval the loser where it may be probed, always measured; else the preferred path, measured at each tenth choice
+-- the path that is chosen, and whether it is measured: at the interval the loser where it may be
+-- probed, always measured; else the preferred path, measured at each tenth choice
 abbrev pub arbitrated : {P : Type 0} → Contest P → ℕ → P × Bool
 arbitrated contest count = cond (is_due contest count)
     (cond contest.probe contest.loser contest.preferred, true)

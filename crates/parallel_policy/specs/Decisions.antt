@@ -9,13 +9,15 @@ use Rattle.parallel_policy.specs.declared.execution.RunExecution.{RunExecution}
 use Rattle.parallel_policy.specs.declared.execution.RunExecution.TheVariants.{Serial}
 
 -- the answer is one that a body allows on this path, and there was no refusal
-abbrev pub AnswersOn : {R E : Type 0} → (RunExecution → Result R E → Type 0) → RunExecution → Result R (Trouble E) → Type 0
+abbrev pub AnswersOn : {R E : Type 0} → (RunExecution → Result R E → Type 0) → RunExecution
+    → Result R (Trouble E) → Type 0
 AnswersOn allowed path (Ok r) = allowed path (Ok r)
 AnswersOn allowed path (Err (Closure e)) = allowed path (Err e)
 AnswersOn allowed path (Err (OfFault f)) = ⊥
 
 -- the answer is one that a body allows on one of the two paths, or a want of memory
-abbrev pub DecidesAs : {R E : Type 0} → (RunExecution → Result R E → Type 0) → Result R (Trouble E) → Type 0
+abbrev pub DecidesAs : {R E : Type 0} → (RunExecution → Result R E → Type 0) → Result R (Trouble E)
+    → Type 0
 DecidesAs allowed (Ok r) = (path : RunExecution) × allowed path (Ok r)
 DecidesAs allowed (Err (Closure e)) = (path : RunExecution) × allowed path (Err e)
 DecidesAs allowed (Err (OfFault f)) = f ≡ Memory
@@ -25,7 +27,8 @@ abbrev pub ReadsAs : {C : Type 0} → Mut C (Unit {0}) ℕ → C → ℕ → C �
 ReadsAs g earlier reading later = Called g earlier tt reading later
 
 -- a body that is lent a clock may answer r on this path, and leave the clock as the later one
-pub record RunsWith {F C R : Type 0} (g : Once F (MutBor C × (RunExecution × Unit {0})) (R × (MutBor C × Unit {0})))
+pub record RunsWith {F C R : Type 0}
+    (g : Once F (MutBor C × (RunExecution × Unit {0})) (R × (MutBor C × Unit {0})))
     (body : F) (earlier : C) (path : RunExecution) (r : R) (later : C) : Type 0 where
   pub lent : MutBor C
   pub lends : lent.now ≡ earlier
@@ -34,18 +37,27 @@ pub record RunsWith {F C R : Type 0} (g : Once F (MutBor C × (RunExecution × U
   pub leaves : left.now ≡ later
 
 -- the body may answer r on this path, at some state of the clock
-abbrev pub RunsSomewhen : {F C R : Type 0} → Once F (MutBor C × (RunExecution × Unit {0})) (R × (MutBor C × Unit {0})) → F → RunExecution → R → Type 0
-RunsSomewhen {C = C} g body path r = (earlier : C) × (later : C) × RunsWith g body earlier path r later
+abbrev pub RunsSomewhen : {F C R : Type 0}
+    → Once F (MutBor C × (RunExecution × Unit {0})) (R × (MutBor C × Unit {0})) → F → RunExecution
+    → R → Type 0
+RunsSomewhen {C = C} g body path r = (earlier : C) × (later : C)
+    × RunsWith g body earlier path r later
 
 -- planned for one thread: the body ran on the serial path, and the clock wasn't read
-abbrev pub RunsSerially : {C R E : Type 0} → (C → RunExecution → Result R E → C → Type 0) → Result R (Trouble E) → C → C → Type 0
-RunsSerially runs result earlier later = AnswersOn (λ path r. runs earlier path r later) Serial result
+abbrev pub RunsSerially : {C R E : Type 0} → (C → RunExecution → Result R E → C → Type 0)
+    → Result R (Trouble E) → C → C → Type 0
+RunsSerially runs result earlier later =
+    AnswersOn (λ path r. runs earlier path r later) Serial result
 
-module _ {S Q C R E : Type 0} (chooses : S → Q → ℕ → RunExecution × Bool → S → Type 0) (records : S → Q → RunExecution → ℕ → S → Type 0)
-    (refused : S → Q → S → Type 0) (reads : C → ℕ → C → Type 0) (runs : C → RunExecution → Result R E → C → Type 0) where
-  -- a measured run that answered: the clock was read, then the body ran, then the clock was read again; and one sample was
-  -- recorded, of the path and of the time between the two readings, a clock that went back as 0
-  pub record RecordsOnce (chosen : S) (key : Q) (path : RunExecution) (earlier : C) (r : R) (new : S) (later : C) : Type 0 where
+module _ {S Q C R E : Type 0} (chooses : S → Q → ℕ → RunExecution × Bool → S → Type 0)
+    (records : S → Q → RunExecution → ℕ → S → Type 0)
+    (refused : S → Q → S → Type 0) (reads : C → ℕ → C → Type 0)
+    (runs : C → RunExecution → Result R E → C → Type 0) where
+  -- a measured run that answered: the clock was read, then the body ran, then the clock was read
+  -- again; and one sample was recorded, of the path and of the time between the two readings, a
+  -- clock that went back as 0
+  pub record RecordsOnce (chosen : S) (key : Q) (path : RunExecution) (earlier : C) (r : R)
+      (new : S) (later : C) : Type 0 where
     pub start : ℕ
     pub started : C
     pub starts : reads earlier start started
@@ -56,7 +68,8 @@ module _ {S Q C R E : Type 0} (chooses : S → Q → ℕ → RunExecution × Boo
     pub recorded : records chosen key path (stop - start) new
 
   -- a run that isn't measured: the body ran, the clock wasn't read, and nothing was recorded
-  pub record RecordsNothing (chosen : S) (path : RunExecution) (earlier : C) (r : R) (new : S) (later : C) : Type 0 where
+  pub record RecordsNothing (chosen : S) (path : RunExecution) (earlier : C) (r : R) (new : S)
+      (later : C) : Type 0 where
     pub runs_alone : runs earlier path (Ok r) later
     pub same : new ≡ chosen
 
@@ -67,10 +80,16 @@ module _ {S Q C R E : Type 0} (chooses : S → Q → ℕ → RunExecution × Boo
     pub starts : reads earlier start started
     pub fails : runs started path (Err e) later
 
-  -- the choices went on by one choice, on whose path the body ran, and where it was measured and answered by one sample, and by nothing else; a refused choice is a want of memory, and nothing ran
+  -- the choices went on by one choice, on whose path the body ran, and where it was measured and
+  -- answered by one sample, and by nothing else; a refused choice is a want of memory, and nothing
+  -- ran
   abbrev pub Decides : S → Q → ℕ → C → Result R (Trouble E) → S → C → Type 0
-  Decides old key parallelism earlier (Ok r) new later = (path : RunExecution) × (measured : Bool) × (chosen : S) × chooses old key parallelism (path, measured) chosen
-      × MatchBool measured (RecordsOnce chosen key path earlier r new later) (RecordsNothing chosen path earlier r new later)
-  Decides old key parallelism earlier (Err (Closure e)) new later = (path : RunExecution) × (measured : Bool) × chooses old key parallelism (path, measured) new
+  Decides old key parallelism earlier (Ok r) new later = (path : RunExecution) × (measured : Bool)
+      × (chosen : S) × chooses old key parallelism (path, measured) chosen
+      × MatchBool measured (RecordsOnce chosen key path earlier r new later)
+      (RecordsNothing chosen path earlier r new later)
+  Decides old key parallelism earlier (Err (Closure e)) new later = (path : RunExecution)
+      × (measured : Bool) × chooses old key parallelism (path, measured) new
       × MatchBool measured (FailsMeasured path earlier e later) (runs earlier path (Err e) later)
-  Decides old key parallelism earlier (Err (OfFault f)) new later = (f ≡ Memory) × refused old key new × (later ≡ earlier)
+  Decides old key parallelism earlier (Err (OfFault f)) new later = (f ≡ Memory)
+      × refused old key new × (later ≡ earlier)

@@ -10,7 +10,8 @@ abbrev pub blended : Option ℕ → ℕ → Option ℕ
 blended None sample = Some sample
 blended (Some old) sample = Some (mean old sample)
 
--- the estimate of a list of samples, the latest first: the first sample, with the mean folded over the later ones
+-- the estimate of a list of samples, the latest first: the first sample, with the mean folded over
+-- the later ones
 abbrev pub estimated : List ℕ → Option ℕ
 estimated [] = None
 estimated (sample ∷ older) = blended (estimated older) sample

@@ -22,5 +22,7 @@ key_of site len work parallelism = record {
 
 -- whether two keys are equal in each part, the name of the file by its bytes
 abbrev pub same_key : Key → Key → Bool
-same_key a b = pointwise nat_eq a.file.now b.file.now && ((a.line == b.line) && ((a.column == b.column)
-    && ((a.len_bucket == b.len_bucket) && ((a.work_bucket == b.work_bucket) && (a.parallelism == b.parallelism)))))
+same_key a b = pointwise nat_eq a.file.now b.file.now
+    && ((a.line == b.line) && ((a.column == b.column)
+    && ((a.len_bucket == b.len_bucket)
+    && ((a.work_bucket == b.work_bucket) && (a.parallelism == b.parallelism)))))

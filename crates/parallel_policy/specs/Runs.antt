@@ -24,7 +24,8 @@ run_samples Parallel (Sampled Parallel sample ∷ older) = sample ∷ run_sample
 abbrev pub run_estimate : RunExecution → RunHistory → Option ℕ
 run_estimate path history = estimated (run_samples path history)
 
--- what a serial run may take: the parallel time on each thread in turn, stopping at the greatest u64
+-- what a serial run may take: the parallel time on each thread in turn, stopping at the greatest
+-- u64
 abbrev pub projection : ℕ → ℕ → ℕ
 projection parallel parallelism = min (parallel * parallelism) (2 ^ 64 - 1)
 
@@ -32,36 +33,46 @@ projection parallel parallelism = min (parallel * parallelism) (2 ^ 64 - 1)
 abbrev pub may_run_serially : ℕ → ℕ → Bool
 may_run_serially parallel parallelism = nat_lt (projection parallel parallelism) 10000000
 
--- whether the parallel path is preferred: a serial run may not be tried, or took ten milliseconds, or more than the parallel one
+-- whether the parallel path is preferred: a serial run may not be tried, or took ten milliseconds,
+-- or more than the parallel one
 abbrev pub prefers_parallel : ℕ → ℕ → ℕ → Bool
-prefers_parallel parallel serial parallelism = not (may_run_serially parallel parallelism) || nat_le 10000000 serial || nat_lt parallel serial
+prefers_parallel parallel serial parallelism = not (may_run_serially parallel parallelism)
+    || nat_le 10000000 serial || nat_lt parallel serial
 
--- the contest of the two paths; without a serial estimate the parallel path is preferred, and loses no time
+-- the contest of the two paths; without a serial estimate the parallel path is preferred, and loses
+-- no time
 abbrev pub run_contest : ℕ → Option ℕ → ℕ → Contest RunExecution
-run_contest parallel None parallelism = contest_of Parallel Serial parallel parallel (may_run_serially parallel parallelism)
+run_contest parallel None parallelism =
+    contest_of Parallel Serial parallel parallel (may_run_serially parallel parallelism)
 run_contest parallel (Some serial) parallelism = cond (prefers_parallel parallel serial parallelism)
     (contest_of Parallel Serial parallel serial (may_run_serially parallel parallelism))
     (contest_of Serial Parallel serial parallel true)
 
--- the answer by the two estimates and the count; without a parallel estimate the parallel path, measured
+-- the answer by the two estimates and the count; without a parallel estimate the parallel path,
+-- measured
 abbrev pub run_answer : Option ℕ → Option ℕ → ℕ → ℕ → RunExecution × Bool
 run_answer None serial count parallelism = (Parallel, true)
-run_answer (Some parallel) serial count parallelism = arbitrated (run_contest parallel serial parallelism) count
+run_answer (Some parallel) serial count parallelism =
+    arbitrated (run_contest parallel serial parallelism) count
 
 -- the count after that answer, the greatest u32 without a parallel estimate
 abbrev pub run_count_after : Option ℕ → Option ℕ → ℕ → ℕ → ℕ
 run_count_after None serial count parallelism = 4294967295
-run_count_after (Some parallel) serial count parallelism = count_after (run_contest parallel serial parallelism) count
+run_count_after (Some parallel) serial count parallelism =
+    count_after (run_contest parallel serial parallelism) count
 
--- how many choices since the last that made the count 0, or the greatest u32 after one that found no parallel estimate
+-- how many choices since the last that made the count 0, or the greatest u32 after one that found
+-- no parallel estimate
 abbrev pub run_count : RunHistory → ℕ
 run_count [] = 0
 run_count (Sampled _ _ ∷ older) = run_count older
-run_count (Chosen parallelism ∷ older) = run_count_after (run_estimate Parallel older) (run_estimate Serial older) (run_count older) parallelism
+run_count (Chosen parallelism ∷ older) = run_count_after (run_estimate Parallel older)
+    (run_estimate Serial older) (run_count older) parallelism
 
 -- the path that is chosen after a history, and whether it is measured
 abbrev pub run_choice : RunHistory → ℕ → RunExecution × Bool
-run_choice history parallelism = run_answer (run_estimate Parallel history) (run_estimate Serial history) (run_count history) parallelism
+run_choice history parallelism = run_answer (run_estimate Parallel history)
+    (run_estimate Serial history) (run_count history) parallelism
 
 -- what an entry keeps: the two estimates and the count
 pub record RunState : Type 0 where
@@ -75,7 +86,8 @@ fresh_run = record { serial = None; parallel = None; count = 0 }
 
 -- an entry holds a history: it keeps the history's estimates and its count
 abbrev pub HoldsRun : RunState → RunHistory → Type 0
-HoldsRun entry history = (entry.serial ≡ run_estimate Serial history) × (entry.parallel ≡ run_estimate Parallel history) × (entry.count ≡ run_count history)
+HoldsRun entry history = (entry.serial ≡ run_estimate Serial history)
+    × (entry.parallel ≡ run_estimate Parallel history) × (entry.count ≡ run_count history)
 
 -- an entry after one more sample of a path
 abbrev pub with_sample : RunState → RunExecution → ℕ → RunState

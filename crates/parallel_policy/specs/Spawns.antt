@@ -37,33 +37,41 @@ contest_by bound threshold probe = cond (nat_lt threshold bound)
     (contest_of Offload Inline threshold bound probe)
     (contest_of Inline Offload bound threshold true)
 
--- the contest by the overhead, the job's time on a worker and its time inline, which counts in place of the former where there is one
+-- the contest by the overhead, the job's time on a worker and its time inline, which counts in
+-- place of the former where there is one
 abbrev pub spawn_contest : ℕ → ℕ → Option ℕ → ℕ → Contest SpawnExecution
-spawn_contest overhead job inline budget = contest_by (unwrap_or inline job) (min overhead budget) (nat_lt job budget)
+spawn_contest overhead job inline budget =
+    contest_by (unwrap_or inline job) (min overhead budget) (nat_lt job budget)
 
--- the answer by the three estimates and the count; without overhead or job the job is handed off, measured
+-- the answer by the three estimates and the count; without overhead or job the job is handed off,
+-- measured
 abbrev pub spawn_answer : Option ℕ → Option ℕ → Option ℕ → ℕ → ℕ → SpawnExecution × Bool
 spawn_answer None job inline count budget = (Offload, true)
 spawn_answer (Some overhead) None inline count budget = (Offload, true)
-spawn_answer (Some overhead) (Some job) inline count budget = arbitrated (spawn_contest overhead job inline budget) count
+spawn_answer (Some overhead) (Some job) inline count budget =
+    arbitrated (spawn_contest overhead job inline budget) count
 
 -- the count after that answer, the greatest u32 without overhead or job
 abbrev pub spawn_count_after : Option ℕ → Option ℕ → Option ℕ → ℕ → ℕ → ℕ
 spawn_count_after None job inline count budget = 4294967295
 spawn_count_after (Some overhead) None inline count budget = 4294967295
-spawn_count_after (Some overhead) (Some job) inline count budget = count_after (spawn_contest overhead job inline budget) count
+spawn_count_after (Some overhead) (Some job) inline count budget =
+    count_after (spawn_contest overhead job inline budget) count
 
--- how many choices since the last that made the count 0, or the greatest u32 after one that found no overhead or no job
+-- how many choices since the last that made the count 0, or the greatest u32 after one that found
+-- no overhead or no job
 abbrev pub spawn_count : SpawnHistory → ℕ
 spawn_count [] = 0
 spawn_count (Sampled _ _ ∷ older) = spawn_count older
 spawn_count (Chosen budget ∷ older) =
-    spawn_count_after (spawn_estimate Overhead older) (spawn_estimate Job older) (spawn_estimate InlineRun older) (spawn_count older) budget
+    spawn_count_after (spawn_estimate Overhead older) (spawn_estimate Job older)
+    (spawn_estimate InlineRun older) (spawn_count older) budget
 
 -- the way that is chosen after a history, and whether it is measured
 abbrev pub spawn_choice : SpawnHistory → ℕ → SpawnExecution × Bool
 spawn_choice history budget =
-    spawn_answer (spawn_estimate Overhead history) (spawn_estimate Job history) (spawn_estimate InlineRun history) (spawn_count history) budget
+    spawn_answer (spawn_estimate Overhead history) (spawn_estimate Job history)
+    (spawn_estimate InlineRun history) (spawn_count history) budget
 
 -- what an entry keeps: the three estimates and the count
 pub record SpawnState : Type 0 where
@@ -78,7 +86,8 @@ fresh_spawn = record { inline = None; job = None; overhead = None; count = 0 }
 
 -- an entry holds a history: it keeps the history's estimates and its count
 abbrev pub HoldsSpawn : SpawnState → SpawnHistory → Type 0
-HoldsSpawn entry history = (entry.inline ≡ spawn_estimate InlineRun history) × (entry.job ≡ spawn_estimate Job history)
+HoldsSpawn entry history = (entry.inline ≡ spawn_estimate InlineRun history)
+    × (entry.job ≡ spawn_estimate Job history)
     × (entry.overhead ≡ spawn_estimate Overhead history) × (entry.count ≡ spawn_count history)
 
 -- an entry after one more sample of a kind

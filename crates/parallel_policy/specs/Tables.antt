@@ -17,7 +17,8 @@ run_of table key = get same_key table.runs key
 abbrev pub spawn_of : Table → Key → Option SpawnState
 spawn_of table key = get same_key table.spawns key
 
--- the entry of runs at a key holds a history; a table without one holds the empty history, as with a default entry
+-- the entry of runs at a key holds a history; a table without one holds the empty history, as with
+-- a default entry
 abbrev pub HoldsRunAt : Table → Key → RunHistory → Type 0
 HoldsRunAt table key history = HoldsRun (unwrap_or (run_of table key) fresh_run) history
 
@@ -35,26 +36,35 @@ HasSameSpawns old new = (key : Key) → spawn_of new key ≡ spawn_of old key
 
 -- two tables have the same entries of runs at every key that differs from this one
 abbrev pub HasOtherRuns : Table → Table → Key → Type 0
-HasOtherRuns old new key = (other : Key) → same_key key other ≡ false → run_of new other ≡ run_of old other
+HasOtherRuns old new key = (other : Key) → same_key key other ≡ false
+    → run_of new other ≡ run_of old other
 
 -- two tables have the same entries of spawned jobs at every key that differs from this one
 abbrev pub HasOtherSpawns : Table → Table → Key → Type 0
-HasOtherSpawns old new key = (other : Key) → same_key key other ≡ false → spawn_of new other ≡ spawn_of old other
+HasOtherSpawns old new key = (other : Key) → same_key key other ≡ false
+    → spawn_of new other ≡ spawn_of old other
 
--- a choice carried a table on: the answer is that of each history that the key's entry holds, whose history is longer by the choice, and no other entry changed
-pub record ChoosesRun (old : Table) (key : Key) (parallelism : ℕ) (answer : RunExecution × Bool) (new : Table) : Type 0 where
-  pub answers : (history : RunHistory) → HoldsRunAt old key history → answer ≡ run_choice history parallelism
-  pub holds : (history : RunHistory) → HoldsRunAt old key history → HoldsRunAt new key (Chosen parallelism ∷ history)
+-- a choice carried a table on: the answer is that of each history that the key's entry holds, whose
+-- history is longer by the choice, and no other entry changed
+pub record ChoosesRun (old : Table) (key : Key) (parallelism : ℕ) (answer : RunExecution × Bool)
+    (new : Table) : Type 0 where
+  pub answers : (history : RunHistory) → HoldsRunAt old key history
+      → answer ≡ run_choice history parallelism
+  pub holds : (history : RunHistory) → HoldsRunAt old key history
+      → HoldsRunAt new key (Chosen parallelism ∷ history)
   pub entry : IsSome (run_of new key)
   pub others : HasOtherRuns old new key
   pub spawns : HasSameSpawns old new
 
 -- the history that the key's entry of runs holds is longer by the sample
 abbrev pub AddsSample : Table → Key → RunExecution → ℕ → Table → Type 0
-AddsSample old key execution sample new = (history : RunHistory) → HoldsRunAt old key history → HoldsRunAt new key (Sampled execution sample ∷ history)
+AddsSample old key execution sample new = (history : RunHistory) → HoldsRunAt old key history
+    → HoldsRunAt new key (Sampled execution sample ∷ history)
 
--- a record carried a table on: the history that the key's entry holds is longer by the sample, but where a new entry was refused; no other entry changed
-pub record RecordsRun (old : Table) (key : Key) (execution : RunExecution) (sample : ℕ) (new : Table) : Type 0 where
+-- a record carried a table on: the history that the key's entry holds is longer by the sample, but
+-- where a new entry was refused; no other entry changed
+pub record RecordsRun (old : Table) (key : Key) (execution : RunExecution) (sample : ℕ)
+    (new : Table) : Type 0 where
   pub known : IsSome (run_of old key) → AddsSample old key execution sample new
   pub unknown : AddsSample old key execution sample new ⊎ HasSameRuns old new
   pub others : HasOtherRuns old new key

@@ -48,10 +48,10 @@ impl Cadence {
 
     /// Chooses between two paths, and says whether the run is to be measured.
     ///
-    /// The times are nanoseconds. Every so many choices, the more the slower the loser is, the loser
-    /// runs, measured, where `probe_allowed`, and the count begins anew; where it isn't, the preferred
-    /// path is measured in its place. In between the preferred path runs, and each tenth is measured
-    /// (`arbitrated`, `count_after`).
+    /// The times are nanoseconds. Every so many choices, the more the slower the loser is, the
+    /// loser runs, measured, where `probe_allowed`, and the count begins anew; where it isn't, the
+    /// preferred path is measured in its place. In between the preferred path runs, and each tenth
+    /// is measured (`arbitrated`, `count_after`).
     pub fn arbitrate<P: Copy>(
         &mut self,
         preferred: P,
@@ -60,8 +60,10 @@ impl Cadence {
         loser_time: u64,
         probe_allowed: bool,
     ) -> (P, bool)
-        ensures answer { result ≡ arbitrated (contest_of preferred loser winner_time loser_time probe_allowed) self.old }
-        ensures count { self.new ≡ count_after (contest_of preferred loser winner_time loser_time probe_allowed) self.old }
+        ensures answer { result ≡ arbitrated
+            (contest_of preferred loser winner_time loser_time probe_allowed) self.old }
+        ensures count { self.new ≡ count_after
+            (contest_of preferred loser winner_time loser_time probe_allowed) self.old }
         ensures in_range { IsCount self.new }
     {
         let interval = interval(winner_time, loser_time);

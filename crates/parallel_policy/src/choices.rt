@@ -9,8 +9,8 @@ use std::sync::Wait;
 
 /// Chooses how a run is to go, by a key, and learns how long it took.
 ///
-/// `chooses` says what a choice answers and leaves, `records` what a record leaves, and `refused` what
-/// a choice leaves that was refused memory. The right to wait is for those that take a lock.
+/// `chooses` says what a choice answers and leaves, `records` what a record leaves, and `refused`
+/// what a choice leaves that was refused memory. The right to wait is for those that take a lock.
 pub trait Choices<Q> {
     ghost chooses: { Self → Q → ℕ → RunExecution × Bool → Self → Type 0 };
 
@@ -73,7 +73,8 @@ pub fn decide<
         → RunsWith B.FnOnce body earlier path r later
         → N.IsAlwaysCallable later }
     ensures answers { DecidesAs (RunsSomewhen B.FnOnce body) result }
-    ensures planned_for_one { parallelism ≤ 1 → RunsSerially (RunsWith B.FnOnce body) result now.old now.new }
+    ensures planned_for_one { parallelism ≤ 1
+        → RunsSerially (RunsWith B.FnOnce body) result now.old now.new }
     ensures untouched { parallelism ≤ 1 → choices.new ≡ choices.old }
     ensures decided { 1 < parallelism
         → Decides C.chooses C.records C.refused (ReadsAs N.FnMut) (RunsWith B.FnOnce body)

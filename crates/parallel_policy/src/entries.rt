@@ -7,7 +7,8 @@ use parallel_fault::Fault;
 use std::collections::HashMap;
 use std::hash::Hash;
 
-// Changes the entry at `key` by `change`, a default one where there is none; no other entry changes.
+// Changes the entry at `key` by `change`, a default one where there is none; no other entry
+// changes.
 pub(crate) fn change_entry<K: Eq + Hash + Copy, V: Default + Copy, T, F: FnOnce(&mut V) -> T>(
     entries: &mut HashMap<K, V>,
     key: K,
@@ -20,9 +21,11 @@ where
         × MatchOption (get K.eq entries.old key) (V.is_default before) (λ v. before ≡ v)
         × FnOnceReturnsAtMut F.FnOnce change before answer after
         × (get K.eq entries.new key ≡ Some after)) }
-    ensures others { (other : K) → K.eq key other ≡ false → get K.eq entries.new other ≡ get K.eq entries.old other }
+    ensures others { (other : K) → K.eq key other ≡ false
+        → get K.eq entries.new other ≡ get K.eq entries.old other }
     ensures fault { IfErr result (λ fault. fault ≡ Fault.Memory) }
-    ensures err { OnErr result ((other : K) → get K.eq entries.new other ≡ get K.eq entries.old other) }
+    ensures err { OnErr result ((other : K)
+        → get K.eq entries.new other ≡ get K.eq entries.old other) }
     ensures known { IsSome (get K.eq entries.old key) → IsOk result }
 {
     if let Some(entry) = entries.get_mut(&key) {

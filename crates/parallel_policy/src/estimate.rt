@@ -38,7 +38,8 @@ impl Estimate {
     /// Blends `sample`, in nanoseconds, into the estimate, which stays between the two.
     pub fn record(&mut self, sample: u64)
         ensures blended { self.new ≡ blended self.old sample }
-        ensures between { (old : ℕ) → self.old ≡ Some old → IfSome self.new (λ new. (min old sample ≤ new) × (new ≤ max old sample)) }
+        ensures between { (old : ℕ) → self.old ≡ Some old
+            → IfSome self.new (λ new. (min old sample ≤ new) × (new ≤ max old sample)) }
     {
         self.0 = match self.0 {
             None => Some(sample),

@@ -21,8 +21,8 @@ pub struct Key {
 impl Key {
     ghost use Rattle.parallel_policy.specs.Keys.{key_of};
 
-    /// The key of a call at `site` over `len` items that stand for `work`, planned for `parallelism`
-    /// threads.
+    /// The key of a call at `site` over `len` items that stand for `work`, planned for
+    /// `parallelism` threads.
     pub fn new(site: Site, len: usize, work: usize, parallelism: usize) -> Key
         ensures { result ≡ key_of site len work parallelism }
     {

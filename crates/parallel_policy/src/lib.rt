@@ -1,4 +1,5 @@
-//! When parallel pays: a policy that learns it by measuring, and the call sites by which it tells calls apart.
+//! When parallel pays: a policy that learns it by measuring, and the call sites by which it tells
+//! calls apart.
 #![tactic(auto)]
 
 pub mod bucket;

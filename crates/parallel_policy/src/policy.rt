@@ -20,8 +20,8 @@ pub const INLINE_BUDGET: u64 = 1_000_000;
 /// Learns, by key, whether a parallel run pays, and whether a job is worth a hand-off.
 ///
 /// It is a table under a lock, shared by its clones. Each call takes the lock for one change of the
-/// table; no lock is held while a body runs. What is said of the table's calls holds for each change,
-/// and nothing is claimed of what other threads do between two calls.
+/// table; no lock is held while a body runs. What is said of the table's calls holds for each
+/// change, and nothing is claimed of what other threads do between two calls.
 #[derive(Clone, Debug, Drop)]
 pub struct Policy {
     table: Arc<Mutex<Table>, Global>,
@@ -40,14 +40,14 @@ impl Policy {
         Ok(Policy { table })
     }
 
-    /// Runs `body` as this policy chooses for a call at `site` over `len` items that stand for `work`,
-    /// planned for `parallelism` threads, and records how long it took where it was to be measured and
-    /// answered `Ok` (`decide`). No lock is held while the body runs.
+    /// Runs `body` as this policy chooses for a call at `site` over `len` items that stand for
+    /// `work`, planned for `parallelism` threads, and records how long it took where it was to be
+    /// measured and answered `Ok` (`decide`). No lock is held while the body runs.
     ///
     /// # Errors
     ///
-    /// `Trouble::Fault(Fault::Memory)` where the choice was refused memory; the body isn't called. The
-    /// body's own error as `Trouble::Closure`; nothing is recorded.
+    /// `Trouble::Fault(Fault::Memory)` where the choice was refused memory; the body isn't called.
+    /// The body's own error as `Trouble::Closure`; nothing is recorded.
     pub fn try_run<
         Rt: Wait,
         P: Place,
@@ -68,7 +68,8 @@ impl Policy {
         requires clock { N.IsAlwaysCallable now.now }
         requires body { B.IsAlwaysCallable body }
         ensures answers { DecidesAs (λ path r. B.post body path r) result }
-        ensures planned_for_one { parallelism ≤ 1 → AnswersOn (λ path r. B.post body path r) RunExecution.Serial result }
+        ensures planned_for_one { parallelism ≤ 1
+            → AnswersOn (λ path r. B.post body path r) RunExecution.Serial result }
     {
         let key = Key::new(site.site(), len, work, parallelism);
         let mut clock = || now();
@@ -162,7 +163,8 @@ impl Policy {
         self.table.lock(rt).record_spawn_inline(key, nanoseconds)
     }
 
-    /// Records how long a handed-off job took by itself, in nanoseconds (`Table::record_spawn_job`).
+    /// Records how long a handed-off job took by itself, in nanoseconds
+    /// (`Table::record_spawn_job`).
     ///
     /// # Errors
     ///
@@ -198,8 +200,8 @@ impl Policy {
 
 /// The choices of a policy: its table, locked for each choice and each record.
 ///
-/// Other threads may change the table in between, so nothing is said of an answer. A record that was
-/// refused memory is left out; a key that was chosen for has its entry.
+/// Other threads may change the table in between, so nothing is said of an answer. A record that
+/// was refused memory is left out; a key that was chosen for has its entry.
 #[derive(Drop)]
 pub struct Locked<'a> {
     table: &'a Mutex<Table>,

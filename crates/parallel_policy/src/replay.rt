@@ -40,8 +40,8 @@ pub fn replay_run_estimate(path: RunExecution, history: &[RunEvent]) -> Option<u
     }
 }
 
-/// How a run planned for `parallelism` threads is to go after a history, the latest event first, and
-/// whether it is to be measured: the answer of an entry that holds the history.
+/// How a run planned for `parallelism` threads is to go after a history, the latest event first,
+/// and whether it is to be measured: the answer of an entry that holds the history.
 ///
 /// It goes over the whole history, and so takes time like its length.
 pub fn replay_run(history: &[RunEvent], parallelism: usize) -> (RunExecution, bool)
@@ -85,8 +85,10 @@ fn after_runs(history: &[RunEvent]) -> Runs
 // The answer by the two estimates and the count, and the count after it.
 fn decided_run(after: &Runs, parallelism: usize) -> ((RunExecution, bool), u64)
     requires { after.now.count < 4294967296 }
-    ensures answer { result.0 ≡ run_answer after.now.parallel after.now.serial after.now.count parallelism }
-    ensures count { result.1 ≡ run_count_after after.now.parallel after.now.serial after.now.count parallelism }
+    ensures answer { result.0 ≡ run_answer after.now.parallel after.now.serial after.now.count
+        parallelism }
+    ensures count { result.1 ≡ run_count_after after.now.parallel after.now.serial after.now.count
+        parallelism }
     ensures most { result.1 < 4294967296 }
 {
     let Some(parallel) = after.parallel else {
@@ -136,8 +138,10 @@ fn contest<P: Copy>(
     count: u64,
 ) -> ((P, bool), u64)
     requires { count < 4294967296 }
-    ensures answer { result.0 ≡ arbitrated (contest_of preferred loser winner_time loser_time probe) count }
-    ensures count { result.1 ≡ count_after (contest_of preferred loser winner_time loser_time probe) count }
+    ensures answer { result.0 ≡ arbitrated
+        (contest_of preferred loser winner_time loser_time probe) count }
+    ensures count { result.1 ≡ count_after
+        (contest_of preferred loser winner_time loser_time probe) count }
     ensures most { result.1 < 4294967296 }
 {
     let counted = (count + 1).min(4294967295);
@@ -174,8 +178,8 @@ fn blended_time(before: Option<u64>, sample: u64) -> u64
     }
 }
 
-/// How long a job takes after a history, the latest event first, by samples of that kind: none before
-/// the first sample.
+/// How long a job takes after a history, the latest event first, by samples of that kind: none
+/// before the first sample.
 pub fn replay_spawn_estimate(kind: SpawnSample, history: &[SpawnEvent]) -> Option<u64>
     ensures { result ≡ spawn_estimate kind history.now }
 {
@@ -238,8 +242,10 @@ fn after_spawns(history: &[SpawnEvent]) -> Spawns
 // The answer by the three estimates and the count, and the count after it.
 fn decided_spawn(after: &Spawns, budget: u64) -> ((SpawnExecution, bool), u64)
     requires { after.now.count < 4294967296 }
-    ensures answer { result.0 ≡ spawn_answer after.now.overhead after.now.job after.now.inline after.now.count budget }
-    ensures count { result.1 ≡ spawn_count_after after.now.overhead after.now.job after.now.inline after.now.count budget }
+    ensures answer { result.0 ≡ spawn_answer after.now.overhead after.now.job after.now.inline
+        after.now.count budget }
+    ensures count { result.1 ≡ spawn_count_after after.now.overhead after.now.job after.now.inline
+        after.now.count budget }
     ensures most { result.1 < 4294967296 }
 {
     let (Some(overhead), Some(job)) = (after.overhead, after.job) else {

@@ -48,19 +48,26 @@ impl Default for RunEntry {
 }
 
 impl RunEntry {
-    /// Chooses how a call planned for `parallelism` threads is to run, and says whether the run is to
-    /// be measured and recorded.
+    /// Chooses how a call planned for `parallelism` threads is to run, and says whether the run is
+    /// to be measured and recorded.
     ///
-    /// Without a parallel estimate the run is parallel and measured. Serial is chosen only where the
-    /// parallel time on each thread in turn is under ten milliseconds.
+    /// Without a parallel estimate the run is parallel and measured. Serial is chosen only where
+    /// the parallel time on each thread in turn is under ten milliseconds.
     pub fn choose(&mut self, parallelism: usize) -> (RunExecution, bool)
-        ensures answer { (history : RunHistory) → HoldsRun self.old history → result ≡ run_choice history parallelism }
-        ensures holds { (history : RunHistory) → HoldsRun self.old history → HoldsRun self.new (RunEvent.Chosen parallelism ∷ history) }
-        ensures serial { result.0 ≡ RunExecution.Serial → IsSomeAnd self.old.parallel (λ parallel. parallel * parallelism < 10000000) }
+        ensures answer { (history : RunHistory) → HoldsRun self.old history
+            → result ≡ run_choice history parallelism }
+        ensures holds { (history : RunHistory) → HoldsRun self.old history
+            → HoldsRun self.new (RunEvent.Chosen parallelism ∷ history) }
+        ensures serial { result.0 ≡ RunExecution.Serial
+            → IsSomeAnd self.old.parallel (λ parallel. parallel * parallelism < 10000000) }
         ensures unmeasured { self.old.parallel ≡ None → result ≡ (RunExecution.Parallel, true) }
         ensures count { IsCount self.new.count }
-        ensures kept { self.new ≡ record self.old { count = run_count_after self.old.parallel self.old.serial self.old.count parallelism } }
-        ensures by_state { result ≡ run_answer self.old.parallel self.old.serial self.old.count parallelism }
+        ensures kept { self.new ≡ record self.old {
+          count = run_count_after self.old.parallel self.old.serial self.old.count
+              parallelism;
+        } }
+        ensures by_state { result ≡ run_answer self.old.parallel self.old.serial self.old.count
+            parallelism }
     {
         let Some(parallel) = self.parallel.get() else {
             self.cadence.saturate();
@@ -105,7 +112,8 @@ impl RunEntry {
 
     /// Records that a run of that kind took so many nanoseconds.
     pub fn record(&mut self, execution: RunExecution, nanoseconds: u64)
-        ensures holds { (history : RunHistory) → HoldsRun self.old history → HoldsRun self.new (RunEvent.Sampled execution nanoseconds ∷ history) }
+        ensures holds { (history : RunHistory) → HoldsRun self.old history
+            → HoldsRun self.new (RunEvent.Sampled execution nanoseconds ∷ history) }
         ensures kept { self.new ≡ with_sample self.old execution nanoseconds }
     {
         match execution {

@@ -11,9 +11,9 @@ use crate::execution::SpawnExecution;
 use crate::history::SpawnSample;
 use std::marker::Model;
 
-/// What a policy keeps for one key of spawned jobs: how long a job takes inline and on a worker, how
-/// much longer a handed-off job takes than the job itself, and how many choices there were since the
-/// last probe.
+/// What a policy keeps for one key of spawned jobs: how long a job takes inline and on a worker,
+/// how much longer a handed-off job takes than the job itself, and how many choices there were
+/// since the last probe.
 ///
 /// Its answers are those of its history, the list of choices and samples since it was a default
 /// entry (`spawn_choice`), of which it keeps the three estimates and the count (`HoldsSpawn`). A
@@ -29,9 +29,19 @@ pub struct SpawnEntry {
 impl Model for SpawnEntry {
     ghost Value = { SpawnState };
 
-    ghost view = { λ e. record { inline = e.inline; job = e.job; overhead = e.overhead; count = e.cadence } };
+    ghost view = { λ e. record {
+      inline = e.inline;
+      job = e.job;
+      overhead = e.overhead;
+      count = e.cadence;
+    } };
 
-    ghost inverse = { λ v. record { inline = v.inline; job = v.job; overhead = v.overhead; cadence = v.count } };
+    ghost inverse = { λ v. record {
+      inline = v.inline;
+      job = v.job;
+      overhead = v.overhead;
+      cadence = v.count;
+    } };
 }
 
 /// A default entry holds the empty history.
@@ -52,15 +62,22 @@ impl SpawnEntry {
     /// Chooses where a job is to run, and says whether the run is to be measured and recorded.
     ///
     /// A job is run inline where it takes its caller no longer than the hand-off costs, and than
-    /// `budget`, in nanoseconds. Without an estimate of the overhead and of the job on a worker it is
-    /// handed off, measured.
+    /// `budget`, in nanoseconds. Without an estimate of the overhead and of the job on a worker it
+    /// is handed off, measured.
     pub fn choose(&mut self, budget: u64) -> (SpawnExecution, bool)
-        ensures answer { (history : SpawnHistory) → HoldsSpawn self.old history → result ≡ spawn_choice history budget }
-        ensures holds { (history : SpawnHistory) → HoldsSpawn self.old history → HoldsSpawn self.new (SpawnEvent.Chosen budget ∷ history) }
-        ensures unmeasured { (self.old.overhead ≡ None) ⊎ (self.old.job ≡ None) → result ≡ (SpawnExecution.Offload, true) }
+        ensures answer { (history : SpawnHistory) → HoldsSpawn self.old history
+            → result ≡ spawn_choice history budget }
+        ensures holds { (history : SpawnHistory) → HoldsSpawn self.old history
+            → HoldsSpawn self.new (SpawnEvent.Chosen budget ∷ history) }
+        ensures unmeasured { (self.old.overhead ≡ None) ⊎ (self.old.job ≡ None)
+            → result ≡ (SpawnExecution.Offload, true) }
         ensures count { IsCount self.new.count }
-        ensures kept { self.new ≡ record self.old { count = spawn_count_after self.old.overhead self.old.job self.old.inline self.old.count budget } }
-        ensures by_state { result ≡ spawn_answer self.old.overhead self.old.job self.old.inline self.old.count budget }
+        ensures kept { self.new ≡ record self.old {
+          count = spawn_count_after self.old.overhead self.old.job self.old.inline
+              self.old.count budget;
+        } }
+        ensures by_state { result ≡ spawn_answer self.old.overhead self.old.job self.old.inline
+            self.old.count budget }
     {
         let (Some(overhead), Some(job)) = (self.overhead.get(), self.job.get()) else {
             self.cadence.saturate();
@@ -100,7 +117,8 @@ impl SpawnEntry {
 
     /// Records how long an inline run took, in nanoseconds.
     pub fn record_inline(&mut self, nanoseconds: u64)
-        ensures holds { (history : SpawnHistory) → HoldsSpawn self.old history → HoldsSpawn self.new (SpawnEvent.Sampled SpawnSample.InlineRun nanoseconds ∷ history) }
+        ensures holds { (history : SpawnHistory) → HoldsSpawn self.old history
+            → HoldsSpawn self.new (SpawnEvent.Sampled SpawnSample.InlineRun nanoseconds ∷ history) }
         ensures kept { self.new ≡ with_spawn_sample self.old SpawnSample.InlineRun nanoseconds }
     {
         self.inline.record(nanoseconds);
@@ -108,7 +126,8 @@ impl SpawnEntry {
 
     /// Records how long a handed-off job took by itself, in nanoseconds.
     pub fn record_job(&mut self, nanoseconds: u64)
-        ensures holds { (history : SpawnHistory) → HoldsSpawn self.old history → HoldsSpawn self.new (SpawnEvent.Sampled SpawnSample.Job nanoseconds ∷ history) }
+        ensures holds { (history : SpawnHistory) → HoldsSpawn self.old history
+            → HoldsSpawn self.new (SpawnEvent.Sampled SpawnSample.Job nanoseconds ∷ history) }
         ensures kept { self.new ≡ with_spawn_sample self.old SpawnSample.Job nanoseconds }
     {
         self.job.record(nanoseconds);
@@ -116,7 +135,8 @@ impl SpawnEntry {
 
     /// Records how much longer a handed-off job took than the job itself, in nanoseconds.
     pub fn record_overhead(&mut self, nanoseconds: u64)
-        ensures holds { (history : SpawnHistory) → HoldsSpawn self.old history → HoldsSpawn self.new (SpawnEvent.Sampled SpawnSample.Overhead nanoseconds ∷ history) }
+        ensures holds { (history : SpawnHistory) → HoldsSpawn self.old history
+            → HoldsSpawn self.new (SpawnEvent.Sampled SpawnSample.Overhead nanoseconds ∷ history) }
         ensures kept { self.new ≡ with_spawn_sample self.old SpawnSample.Overhead nanoseconds }
     {
         self.overhead.record(nanoseconds);

@@ -20,9 +20,9 @@ use std::sync::Wait;
 /// What a policy knows: an entry of runs and an entry of spawned jobs for each key that was chosen
 /// for.
 ///
-/// Each call changes the entry of its own key and no other; a key without an entry counts as one with
-/// a default entry, and gets it by the first call. A call for a key that has an entry takes no memory
-/// and can't fail. Where memory was refused, the table is as before.
+/// Each call changes the entry of its own key and no other; a key without an entry counts as one
+/// with a default entry, and gets it by the first call. A call for a key that has an entry takes no
+/// memory and can't fail. Where memory was refused, the table is as before.
 #[derive(Debug, Drop)]
 pub struct Table {
     runs: HashMap<Key, RunEntry>,
@@ -68,8 +68,10 @@ impl Table {
         key: Key,
         parallelism: usize,
     ) -> Result<(RunExecution, bool), Fault>
-        ensures answer { IfOk result (λ answer. (history : RunHistory) → HoldsRunAt self.old key history → answer ≡ run_choice history parallelism) }
-        ensures holds { OnOk result ((history : RunHistory) → HoldsRunAt self.old key history → HoldsRunAt self.new key (RunEvent.Chosen parallelism ∷ history)) }
+        ensures answer { IfOk result (λ answer. (history : RunHistory)
+            → HoldsRunAt self.old key history → answer ≡ run_choice history parallelism) }
+        ensures holds { OnOk result ((history : RunHistory) → HoldsRunAt self.old key history
+            → HoldsRunAt self.new key (RunEvent.Chosen parallelism ∷ history)) }
         ensures entry { OnOk result (IsSome (run_of self.new key)) }
         ensures others { HasOtherRuns self.old self.new key }
         ensures spawns { HasSameSpawns self.old self.new }
@@ -92,7 +94,8 @@ impl Table {
         execution: RunExecution,
         nanoseconds: u64,
     ) -> Result<(), Fault>
-        ensures holds { OnOk result ((history : RunHistory) → HoldsRunAt self.old key history → HoldsRunAt self.new key (RunEvent.Sampled execution nanoseconds ∷ history)) }
+        ensures holds { OnOk result ((history : RunHistory) → HoldsRunAt self.old key history
+            → HoldsRunAt self.new key (RunEvent.Sampled execution nanoseconds ∷ history)) }
         ensures entry { OnOk result (IsSome (run_of self.new key)) }
         ensures others { HasOtherRuns self.old self.new key }
         ensures spawns { HasSameSpawns self.old self.new }
@@ -113,8 +116,10 @@ impl Table {
     ///
     /// `Fault::Memory` where a new entry was refused memory; the table is as before.
     pub fn choose_spawn(&mut self, key: Key, budget: u64) -> Result<(SpawnExecution, bool), Fault>
-        ensures answer { IfOk result (λ answer. (history : SpawnHistory) → HoldsSpawnAt self.old key history → answer ≡ spawn_choice history budget) }
-        ensures holds { OnOk result ((history : SpawnHistory) → HoldsSpawnAt self.old key history → HoldsSpawnAt self.new key (SpawnEvent.Chosen budget ∷ history)) }
+        ensures answer { IfOk result (λ answer. (history : SpawnHistory)
+            → HoldsSpawnAt self.old key history → answer ≡ spawn_choice history budget) }
+        ensures holds { OnOk result ((history : SpawnHistory) → HoldsSpawnAt self.old key history
+            → HoldsSpawnAt self.new key (SpawnEvent.Chosen budget ∷ history)) }
         ensures entry { OnOk result (IsSome (spawn_of self.new key)) }
         ensures others { HasOtherSpawns self.old self.new key }
         ensures runs { HasSameRuns self.old self.new }
@@ -132,7 +137,9 @@ impl Table {
     /// `Fault::Memory` where a new entry was refused memory; the table is as before. A key that was
     /// chosen for has an entry.
     pub fn record_spawn_inline(&mut self, key: Key, nanoseconds: u64) -> Result<(), Fault>
-        ensures holds { OnOk result ((history : SpawnHistory) → HoldsSpawnAt self.old key history → HoldsSpawnAt self.new key (SpawnEvent.Sampled SpawnSample.InlineRun nanoseconds ∷ history)) }
+        ensures holds { OnOk result ((history : SpawnHistory) → HoldsSpawnAt self.old key history
+            → HoldsSpawnAt self.new key (SpawnEvent.Sampled SpawnSample.InlineRun
+            nanoseconds ∷ history)) }
         ensures entry { OnOk result (IsSome (spawn_of self.new key)) }
         ensures others { HasOtherSpawns self.old self.new key }
         ensures runs { HasSameRuns self.old self.new }
@@ -154,7 +161,9 @@ impl Table {
     /// `Fault::Memory` where a new entry was refused memory; the table is as before. A key that was
     /// chosen for has an entry.
     pub fn record_spawn_job(&mut self, key: Key, nanoseconds: u64) -> Result<(), Fault>
-        ensures holds { OnOk result ((history : SpawnHistory) → HoldsSpawnAt self.old key history → HoldsSpawnAt self.new key (SpawnEvent.Sampled SpawnSample.Job nanoseconds ∷ history)) }
+        ensures holds { OnOk result ((history : SpawnHistory) → HoldsSpawnAt self.old key history
+            → HoldsSpawnAt self.new key (SpawnEvent.Sampled SpawnSample.Job
+            nanoseconds ∷ history)) }
         ensures entry { OnOk result (IsSome (spawn_of self.new key)) }
         ensures others { HasOtherSpawns self.old self.new key }
         ensures runs { HasSameRuns self.old self.new }
@@ -165,14 +174,17 @@ impl Table {
         change_entry(&mut self.spawns, key, |entry| entry.record_job(nanoseconds))
     }
 
-    /// Records how much longer a handed-off job took than the job itself, in nanoseconds (`SpawnEntry::record_overhead`).
+    /// Records how much longer a handed-off job took than the job itself, in nanoseconds
+    /// (`SpawnEntry::record_overhead`).
     ///
     /// # Errors
     ///
     /// `Fault::Memory` where a new entry was refused memory; the table is as before. A key that was
     /// chosen for has an entry.
     pub fn record_spawn_overhead(&mut self, key: Key, nanoseconds: u64) -> Result<(), Fault>
-        ensures holds { OnOk result ((history : SpawnHistory) → HoldsSpawnAt self.old key history → HoldsSpawnAt self.new key (SpawnEvent.Sampled SpawnSample.Overhead nanoseconds ∷ history)) }
+        ensures holds { OnOk result ((history : SpawnHistory) → HoldsSpawnAt self.old key history
+            → HoldsSpawnAt self.new key (SpawnEvent.Sampled SpawnSample.Overhead
+            nanoseconds ∷ history)) }
         ensures entry { OnOk result (IsSome (spawn_of self.new key)) }
         ensures others { HasOtherSpawns self.old self.new key }
         ensures runs { HasSameRuns self.old self.new }
@@ -190,9 +202,9 @@ impl Table {
 
 /// The choices of a table, exactly: each is a choice or a record of its run entries.
 ///
-/// A choice for a key that has an entry isn't refused, and a record for one is never left out. A record
-/// for a key without an entry is left out where the new entry was refused memory; a key that was chosen
-/// for has one.
+/// A choice for a key that has an entry isn't refused, and a record for one is never left out. A
+/// record for a key without an entry is left out where the new entry was refused memory; a key that
+/// was chosen for has one.
 impl Choices<Key> for Table {
     ghost use Rattle.parallel_policy.specs.Tables.{ChoosesRun, RecordsRun, RefusesRun};
 

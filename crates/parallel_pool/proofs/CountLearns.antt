@@ -10,14 +10,16 @@ use Rattle.parallel_pool.proofs.Beginnings.{longest}
 use Rattle.parallel_pool.proofs.CountSteps.{held, held_set, held_more, all_set, all_more}
 
 -- a new seat, which has no share and has seen the gives that another has seen, keeps the rule
-pub tells : (n id : ℕ) (v : ShareView) → Splits (λ (s : State (Unit {0}) ShareView). IsCountOf n s.words s.views) id v v (telling v)
+pub tells : (n id : ℕ) (v : ShareView)
+    → Splits (λ (s : State (Unit {0}) ShareView). IsCountOf n s.words s.views) id v v (telling v)
 tells n id v s h at =
     let log : List ℕ = h.0 in
     let kept : CountsAs n log s.words s.views = h.1 in
     let mine : FitsShare n log id v = kept.fits id v at in
     let views : List ShareView = set s.views id v in
     let less : held views + v.unspent ≡ held s.views + v.unspent = held_set s.views id v v at in
-    let same : held (views ++ telling v ∷ []) ≡ held s.views = omega (arith, held_more views (telling v), less) in
+    let same : held (views ++ telling v ∷ []) ≡ held s.views =
+    omega (arith, held_more views (telling v), less) in
     let long : length views ≡ length s.views = length-set s.views id v in (
       log,
       record {
@@ -25,7 +27,12 @@ tells n id v s h at =
         left = omega (arith, same, kept.left);
         fits =
             all_more (FitsShare n log) views (telling v)
-            (record { seen = mine.seen; heard = (log, refl); of = λ none. absurd (omega arith); fresh = λ none. absurd (omega arith) })
+            (record {
+              seen = mine.seen;
+              heard = (log, refl);
+              of = λ none. absurd (omega arith);
+              fresh = λ none. absurd (omega arith);
+            })
             (all_set (FitsShare n log) s.views id v mine (λ by u ne there. kept.fits by u there));
         beyond = λ by far. kept.beyond by (omega (arith, length-append views (telling v ∷ [])));
         once = kept.once;
@@ -34,27 +41,36 @@ tells n id v s h at =
 
 -- a share hears a seat that has no share, which is dropped
 pub hears : (n id : ℕ) (v : ShareView) (other : ℕ) (w : ShareView) → w.unspent ≡ 0
-    → Joins (λ (s : State (Unit {0}) ShareView). IsCountOf n s.words s.views) id v other w (hearing v w) stranger
+    → Joins (λ (s : State (Unit {0}) ShareView). IsCountOf n s.words s.views) id v other w
+    (hearing v w) stranger
 hears n id v other w none s h at two at' =
     let log : List ℕ = h.0 in
     let kept : CountsAs n log s.words s.views = h.1 in
     let both : ShareView = hearing v w in
     let views : List ShareView = set s.views id both in
-    let was : get_elem? s.views other ≡ some w = ⊎_elim (λ x. absurd (two x.0)) (λ x. x.1) (at_set s.views id other both w at') in
+    let was : get_elem? s.views other ≡ some w =
+    ⊎_elim (λ x. absurd (two x.0)) (λ x. x.1) (at_set s.views id other both w at') in
     let mine : FitsShare n log id v = kept.fits id v at in
     let theirs : FitsShare n log other w = kept.fits other w was in
     let here : held views + v.unspent ≡ held s.views + v.unspent = held_set s.views id v both at in
-    let there : held (set views other stranger) + w.unspent ≡ held views + 0 = held_set views other w stranger at' in
+    let there : held (set views other stranger) + w.unspent ≡ held views + 0 =
+    held_set views other w stranger at' in
     let same : held (set views other stranger) ≡ held s.views = omega (arith, here, there, none) in
     let long : length views ≡ length s.views = length-set s.views id both in
-    let long' : length (set views other stranger) ≡ length views = length-set views other stranger in (
+    let long' : length (set views other stranger) ≡ length views =
+    length-set views other stranger in (
       log,
       record {
         word = kept.word ∙ ap (λ k. k ∷ []) (sym same);
         left = omega (arith, same, kept.left);
         fits =
             all_set (FitsShare n log) views other stranger
-            (record { seen = (log, refl); heard = (log, refl); of = λ may. absurd (omega arith); fresh = λ may. absurd (omega arith) })
+            (record {
+              seen = (log, refl);
+              heard = (log, refl);
+              of = λ may. absurd (omega arith);
+              fresh = λ may. absurd (omega arith);
+            })
             (λ by u ne there. all_set (FitsShare n log) s.views id both
             (record { seen = mine.seen; heard = theirs.seen; of = mine.of; fresh = mine.fresh })
             (λ by' u' ne' there'. kept.fits by' u' there') by u there);
@@ -65,14 +81,17 @@ hears n id v other w none s h at two at' =
 
 -- a share that hears another has then seen the longer of what both had seen
 pub learns : (n slots id : ℕ) (me : Me (Unit {0}) ShareView)
-    → Allows (λ (s : State (Unit {0}) ShareView). IsCountOf n s.words s.views) slots id me 0 (λ k. k) (λ found after. Longer me.0.seen me.0.heard after.0.seen × SameShare me.0 after.0 × (after.1 ≡ me.1))
+    → Allows (λ (s : State (Unit {0}) ShareView). IsCountOf n s.words s.views) slots id me 0
+    (λ k. k) (λ found after. Longer me.0.seen me.0.heard after.0.seen × SameShare me.0 after.0
+    × (after.1 ≡ me.1))
 learns n slots id me s h homes at small =
     let log : List ℕ = h.0 in
     let kept : CountsAs n log s.words s.views = h.1 in
     let mine : FitsShare n log id me.0 = kept.fits id me.0 at in
     let long = longest log me.0.seen me.0.heard mine.seen mine.heard in
     let w : ShareView = share_view me.0.unspent me.0.of long.0 in
-    let here : held (set s.views id w) + me.0.unspent ≡ held s.views + me.0.unspent = held_set s.views id me.0 w at in
+    let here : held (set s.views id w) + me.0.unspent ≡ held s.views + me.0.unspent =
+    held_set s.views id me.0 w at in
     let same : held (set s.views id w) ≡ held s.views = omega (arith, here) in (
       w,
       keeps,
@@ -86,7 +105,8 @@ learns n slots id me s h homes at small =
               all_set (FitsShare n log) s.views id w
               (record { seen = long.1; heard = (log, refl); of = mine.of; fresh = mine.fresh })
               (λ by u ne there. kept.fits by u there);
-          beyond = λ by far. let long' = length-set s.views id w in kept.beyond by (omega (arith, far, long'));
+          beyond = λ by far. let long' = length-set s.views id w in kept.beyond by
+              (omega (arith, far, long'));
           once = kept.once;
         },
       ),
@@ -102,4 +122,6 @@ gives_more old new g =
 
 -- who has learnt has seen as many gives as the other at least
 pub learns_more : (one other both : List ℕ) → Longer one other both → length other ≤ length both
-learns_more one other both l = let e : length both ≡ length (other ++ l.1.0) = ap length l.1.1 in omega (arith, e, length-append other l.1.0)
+learns_more one other both l =
+    let e : length both ≡ length (other ++ l.1.0) = ap length l.1.1 in
+    omega (arith, e, length-append other l.1.0)

@@ -9,9 +9,15 @@ use Rattle.parallel_pool.specs.Sleepers.{Sleepers}
 abbrev pub state_after : Block → ℕ → Sleepers → Sleepers
 state_after Changed worker state = state
 state_after Injected worker state = state
-state_after Blocked worker state = record { events = state.events; workers = slice_set state.workers worker Sleeping; woken = state.woken }
+state_after Blocked worker state =
+    record {
+      events = state.events;
+      workers = slice_set state.workers worker Sleeping;
+      woken = state.woken;
+    }
 
--- the round in which the worker goes on: it announces itself again, starts again, or stays where it is
+-- the round in which the worker goes on: it announces itself again, starts again, or stays where it
+-- is
 abbrev pub rounds_after : Block → ℕ → ℕ
 rounds_after Changed rounds = 32
 rounds_after Injected rounds = 0

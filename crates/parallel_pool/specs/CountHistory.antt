@@ -48,14 +48,16 @@ Longer one other both = GoesOn both one × GoesOn both other × ((both ≡ one) 
 abbrev pub SameShare : ShareView → ShareView → Type 0
 SameShare old new = (new.unspent ≡ old.unspent) × (new.of ≡ old.of)
 
--- a share has seen a beginning of the history, as has whom it hears, and does not stand in it while it is unspent
+-- a share has seen a beginning of the history, as has whom it hears, and does not stand in it while
+-- it is unspent
 pub record FitsShare (n : ℕ) (log : List ℕ) (by : ℕ) (v : ShareView) : Type 0 where
   pub seen : GoesOn log v.seen
   pub heard : GoesOn log v.heard
   pub of : 0 < v.unspent → v.of ≡ n
   pub fresh : 0 < v.unspent → times_given by log ≡ 0
 
--- there is one history of gives, in which each share stands at most once; the word is how many shares are left, and the seats hold as many
+-- there is one history of gives, in which each share stands at most once; the word is how many
+-- shares are left, and the seats hold as many
 pub record CountsAs (n : ℕ) (log words : List ℕ) (views : List ShareView) : Type 0 where
   pub word : words ≡ sum_by (λ v. v.unspent) views ∷ []
   pub left : sum_by (λ v. v.unspent) views + length log ≡ n
@@ -67,7 +69,8 @@ pub record CountsAs (n : ℕ) (log words : List ℕ) (views : List ShareView) : 
 abbrev pub IsCountOf : ℕ → List ℕ → List ShareView → Type 0
 IsCountOf n words views = (log : List ℕ) × CountsAs n log words views
 
--- one give of a share that had seen `old`: the history now seen is what came before it, which begins with all that the share had seen and does not have the share, and then the share
+-- one give of a share that had seen `old`: the history now seen is what came before it, which
+-- begins with all that the share had seen and does not have the share, and then the share
 pub record Gives (before : List ℕ) (by : ℕ) (old new : ShareView) : Type 0 where
   pub begins : GoesOn before old.seen
   pub ends : new.seen ≡ before ++ by ∷ []
@@ -77,7 +80,8 @@ pub record Gives (before : List ℕ) (by : ℕ) (old new : ShareView) : Type 0 w
 
 -- a give that found so many shares left, its own among them
 abbrev pub CountsFrom : ℕ → ShareView → ShareView → Type 0
-CountsFrom found old new = (before : List ℕ) × (by : ℕ) × Gives before by old new × (found + length before ≡ old.of) × (new.of ≡ old.of) × (0 < found)
+CountsFrom found old new = (before : List ℕ) × (by : ℕ) × Gives before by old new
+    × (found + length before ≡ old.of) × (new.of ≡ old.of) × (0 < found)
 
 -- a share was given
 abbrev pub Given : ShareView → ShareView → Type 0
@@ -85,4 +89,5 @@ Given old new = (before : List ℕ) × (by : ℕ) × Gives before by old new
 
 -- a look that found so many shares left, of a latch of which `about` tells
 abbrev pub Sees : ℕ → ShareView → ShareView → Type 0
-Sees found about new = (found + length new.seen ≡ about.of) × (new.of ≡ about.of) × (new.unspent ≡ 0) × ((by : ℕ) → times_given by new.seen ≤ 1)
+Sees found about new = (found + length new.seen ≡ about.of) × (new.of ≡ about.of)
+    × (new.unspent ≡ 0) × ((by : ℕ) → times_given by new.seen ≤ 1)

@@ -10,7 +10,8 @@ shares_of latch = latch.table.shared.key
 
 -- the share is one of this latch
 abbrev pub IsShareOf : CountLatch → CountShare → Type 0
-IsShareOf latch share = (share.seat.table_id ≡ latch.table.shared.table_id) × (share.seat.me.1 ≡ []) × (share.seat.me.0.of ≡ shares_of latch)
+IsShareOf latch share = (share.seat.table_id ≡ latch.table.shared.table_id) × (share.seat.me.1 ≡ [])
+    × (share.seat.me.0.of ≡ shares_of latch)
 
 -- what the share knows of its latch
 abbrev pub knows : CountShare → ShareView

@@ -1,4 +1,5 @@
--- The history of a queue of jobs: which jobs were pushed and taken, under which numbers, one after another.
+-- The history of a queue of jobs: which jobs were pushed and taken, under which numbers, one after
+-- another.
 use Rattle.std.specs.Prelude.{◌≡◌, ℕ, ◌+◌, ◌≤◌, ◌==◌, cond, Bool, false, List, [], ◌∷◌, ◌++◌, length, map}
 use mathlib.Core.Option.{some}
 use lib.ListN.{get_elem?}
@@ -7,7 +8,8 @@ use Rattle.parallel_pool.specs.declared.rayon.job_history.Deed.TheVariants.{Push
 use Rattle.parallel_pool.specs.declared.rayon.job_history.Event.{Event}
 use Rattle.parallel_pool.specs.declared.rayon.job_history.JobView.{JobView}
 
--- how a queue stands: the number of the next push, and the jobs in it with their numbers, first one first
+-- how a queue stands: the number of the next push, and the jobs in it with their numbers, first one
+-- first
 pub record Lineup (T : Type 0) : Type 0 where
   pub next : ℕ
   pub left : List (ℕ × T)
@@ -27,7 +29,8 @@ one_take TakeLast = 1
 module _ {T : Type 0} where
   -- what a pass did to a job
   abbrev pub event : ℕ → Deed → ℕ → T → Bool → Event T
-  event by deed number job called = record { by = by; deed = deed; number = number; job = job; called = called }
+  event by deed number job called =
+      record { by = by; deed = deed; number = number; job = job; called = called }
 
   -- what a pass knows that has seen these deeds, of which these are its own
   abbrev pub job_view : List (Event T) → List (Event T) → JobView T
@@ -43,7 +46,8 @@ module _ {T : Type 0} where
 
   -- what a deed does to a queue: a push gives the next number, and a job is taken with its number
   abbrev pub Moves : Deed → ℕ → T → Lineup T → Lineup T → Type 0
-  Moves Push number job s t = (number ≡ s.next) × (t.next ≡ s.next + 1) × (t.left ≡ s.left ++ (number, job) ∷ [])
+  Moves Push number job s t = (number ≡ s.next) × (t.next ≡ s.next + 1)
+      × (t.left ≡ s.left ++ (number, job) ∷ [])
   Moves TakeFirst number job s t = (t.next ≡ s.next) × (s.left ≡ (number, job) ∷ t.left)
   Moves TakeLast number job s t = (t.next ≡ s.next) × (s.left ≡ t.left ++ (number, job) ∷ [])
 
@@ -61,11 +65,13 @@ module _ {T : Type 0} where
   abbrev pub Goes : List (Event T) → List (Event T) → Type 0
   Goes log seen = (rest : List (Event T)) × (log ≡ seen ++ rest)
 
-  -- a pass has seen a beginning of the history, and its own deeds are all that the history has of it
+  -- a pass has seen a beginning of the history, and its own deeds are all that the history has of
+  -- it
   abbrev pub FitsJobs : List (Event T) → ℕ → JobView T → Type 0
   FitsJobs log by v = Goes log v.seen × (events_of by log ≡ v.own)
 
-  -- there is one history, which leads to the jobs in the queue, fits each pass, and has the deeds of no others
+  -- there is one history, which leads to the jobs in the queue, fits each pass, and has the deeds
+  -- of no others
   abbrev pub IsJobHistoryOf : List T → List (JobView T) → Type 0
   IsJobHistoryOf items views =
       (log : List (Event T)) × (now : Lineup T)
@@ -77,17 +83,21 @@ module _ {T : Type 0} where
   -- how often the job of a number was pushed, and how often it was taken
   abbrev pub times_pushed : ℕ → List (Event T) → ℕ
   times_pushed number [] = 0
-  times_pushed number (e ∷ es) = cond (e.number == number) (one_push e.deed) 0 + times_pushed number es
+  times_pushed number (e ∷ es) =
+      cond (e.number == number) (one_push e.deed) 0 + times_pushed number es
 
   abbrev pub times_taken : ℕ → List (Event T) → ℕ
   times_taken number [] = 0
-  times_taken number (e ∷ es) = cond (e.number == number) (one_take e.deed) 0 + times_taken number es
+  times_taken number (e ∷ es) =
+      cond (e.number == number) (one_take e.deed) 0 + times_taken number es
 
   -- each job that was taken was pushed, and none was pushed or taken twice
   abbrev pub IsEachOnce : List (Event T) → Type 0
-  IsEachOnce log = (number : ℕ) → (times_taken number log ≤ times_pushed number log) × (times_pushed number log ≤ 1)
+  IsEachOnce log = (number : ℕ) → (times_taken number log ≤ times_pushed number log)
+      × (times_pushed number log ≤ 1)
 
--- one deed of a pass: the history now seen begins with all that the pass had seen, is one of a queue, and ends with the deed; of the pass it has just this deed more
+-- one deed of a pass: the history now seen begins with all that the pass had seen, is one of a
+-- queue, and ends with the deed; of the pass it has just this deed more
 pub record Extends {T : Type 0} (old : JobView T) (e : Event T) (new : JobView T) : Type 0 where
   pub before : List (Event T)
   pub begins : Goes before old.seen
@@ -104,4 +114,5 @@ module _ {T : Type 0} where
 
   -- a job was taken, to be called or not, in this way
   abbrev pub HasTaken : Deed → Bool → JobView T → T → JobView T → Type 0
-  HasTaken deed called old job new = (by : ℕ) × (number : ℕ) × Extends old (event by deed number job called) new
+  HasTaken deed called old job new = (by : ℕ) × (number : ℕ)
+      × Extends old (event by deed number job called) new

@@ -5,7 +5,8 @@ use Rattle.parallel_pool.specs.declared.rayon.queue.Queue.{Queue}
 use Rattle.parallel_pool.specs.declared.rayon.queue.Queue.TheVariants.{Injected, Broadcast, Deque}
 use Rattle.parallel_pool.specs.JobHistory.{newcomer, HasPushed}
 
--- what a seat knows of the injected jobs, of each worker's broadcast queue and of each worker's deque
+-- what a seat knows of the injected jobs, of each worker's broadcast queue and of each worker's
+-- deque
 pub record SeatView (T : Type 0) : Type 0 where
   pub injected : JobView T
   pub broadcasts : List (JobView T)
@@ -31,13 +32,26 @@ view_of (Deque i) seat = slice_index_or seat.deques i newcomer
 
 -- the seat, knowing this of the queue and the same as before of all others
 abbrev pub with_view : {T : Type 0} → Queue → JobView T → SeatView T → SeatView T
-with_view Injected view seat = record { injected = view; broadcasts = seat.broadcasts; deques = seat.deques }
-with_view (Broadcast i) view seat = record { injected = seat.injected; broadcasts = slice_set seat.broadcasts i view; deques = seat.deques }
-with_view (Deque i) view seat = record { injected = seat.injected; broadcasts = seat.broadcasts; deques = slice_set seat.deques i view }
+with_view Injected view seat =
+    record { injected = view; broadcasts = seat.broadcasts; deques = seat.deques }
+with_view (Broadcast i) view seat =
+    record {
+      injected = seat.injected;
+      broadcasts = slice_set seat.broadcasts i view;
+      deques = seat.deques;
+    }
+with_view (Deque i) view seat =
+    record {
+      injected = seat.injected;
+      broadcasts = seat.broadcasts;
+      deques = slice_set seat.deques i view;
+    }
 
 -- a seat did something to one queue, and nothing to any other
-abbrev pub Does : {T : Type 0} → Queue → (JobView T → JobView T → Type 0) → SeatView T → SeatView T → Type 0
-Does {T} queue deed old new = (view : JobView T) × deed (view_of queue old) view × (new ≡ with_view queue view old)
+abbrev pub Does : {T : Type 0} → Queue → (JobView T → JobView T → Type 0) → SeatView T → SeatView T
+    → Type 0
+Does {T} queue deed old new = (view : JobView T) × deed (view_of queue old) view
+    × (new ≡ with_view queue view old)
 
 -- a seat of a pool of so many workers that has seen nothing
 pub record IsFreshSeat {T : Type 0} (workers : ℕ) (seat : SeatView T) : Type 0 where
@@ -47,11 +61,15 @@ pub record IsFreshSeat {T : Type 0} (workers : ℕ) (seat : SeatView T) : Type 0
   pub deques : length seat.deques ≡ workers
   pub deques_fresh : All (λ view. view ≡ newcomer) seat.deques
 
--- a seat pushed each job to the broadcast queue of one worker, from this worker on, in order, and did nothing else
+-- a seat pushed each job to the broadcast queue of one worker, from this worker on, in order, and
+-- did nothing else
 abbrev pub PushesFrom : {T : Type 0} → ℕ → List T → SeatView T → SeatView T → Type 0
 PushesFrom worker [] old new = new ≡ old
-PushesFrom {T} worker (job ∷ jobs) old new = (mid : SeatView T) × Does (Broadcast worker) (λ v w. HasPushed v job w) old mid × PushesFrom (worker + 1) jobs mid new
+PushesFrom {T} worker (job ∷ jobs) old new = (mid : SeatView T)
+    × Does (Broadcast worker) (λ v w. HasPushed v job w) old mid
+    × PushesFrom (worker + 1) jobs mid new
 
 -- the jobs that weren't pushed come back, and those before them were pushed
 abbrev pub PushesSome : {T : Type 0} → List T → List T → SeatView T → SeatView T → Type 0
-PushesSome {T} jobs back old new = (done : List T) × (jobs ≡ done ++ back) × PushesFrom 0 done old new
+PushesSome {T} jobs back old new = (done : List T) × (jobs ≡ done ++ back)
+    × PushesFrom 0 done old new

@@ -36,11 +36,13 @@ acts_of by (c ∷ cs) = cond (c.by == by) (c.act ∷ acts_of by cs) (acts_of by 
 abbrev pub Begins : List Call → List Call → Type 0
 Begins log seen = (rest : List Call) × (log ≡ seen ++ rest)
 
--- a seat has seen a beginning of the history, as has whom it hears, and its own acts are all that the history has of it
+-- a seat has seen a beginning of the history, as has whom it hears, and its own acts are all that
+-- the history has of it
 abbrev pub Fits : List Call → ℕ → View → Type 0
 Fits log by v = Begins log v.seen × Begins log v.heard × (acts_of by log ≡ v.own)
 
--- there is one history, whose phase is in the word: it fits each seat, and has the calls of no others
+-- there is one history, whose phase is in the word: it fits each seat, and has the calls of no
+-- others
 abbrev pub IsHistoryOf : List ℕ → List View → Type 0
 IsHistoryOf words views =
     (log : List Call)
@@ -48,16 +50,19 @@ IsHistoryOf words views =
     × ((by : ℕ) (v : View) → get_elem? views by ≡ some v → Fits log by v)
     × ((by : ℕ) → length views ≤ by → acts_of by log ≡ [])
 
--- one call of a seat: the history now seen is what came before it, which begins with all that the seat had seen, and then the call; of the seat it has just this call more
+-- one call of a seat: the history now seen is what came before it, which begins with all that the
+-- seat had seen, and then the call; of the seat it has just this call more
 pub record Makes (act : Act) (before : List Call) (by : ℕ) (old new : View) : Type 0 where
   pub begins : Begins before old.seen
   pub ends : new.seen ≡ before ++ call by act ∷ []
   pub own : new.own ≡ old.own ++ act ∷ []
   pub once : acts_of by new.seen ≡ new.own
 
--- a seat made one call of this kind, and `said` holds of the phase that the call found, to which the history before it leads
+-- a seat made one call of this kind, and `said` holds of the phase that the call found, to which
+-- the history before it leads
 abbrev pub Called : Act → (Phase → Type 0) → View → View → Type 0
-Called act said old new = (before : List Call) × (by : ℕ) × Makes act before by old new × said (phase_after before)
+Called act said old new = (before : List Call) × (by : ℕ) × Makes act before by old new
+    × said (phase_after before)
 
 -- of two beginnings of one history, a seat has seen the longer
 abbrev pub Longer : List Call → List Call → List Call → Type 0

@@ -4,7 +4,8 @@ use Rattle.parallel_pool.specs.declared.latch.history.Act.{Act}
 use Rattle.parallel_pool.specs.declared.latch.history.Act.TheVariants.{GetSleepy, FallAsleep, WakeUp, Set, Probe}
 use Rattle.parallel_pool.specs.declared.latch.history.Call.{Call}
 
--- the four phases of a core latch: its worker is awake, about to sleep, asleep; or the latch is set, for good
+-- the four phases of a core latch: its worker is awake, about to sleep, asleep; or the latch is
+-- set, for good
 pub data Phase : Type 0 where
   unset : Phase
   sleepy : Phase

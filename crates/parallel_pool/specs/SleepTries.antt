@@ -11,7 +11,8 @@ StaysAwake old new = Called GetSleepy (λ phase. is_unset phase ≡ false) old n
 
 -- the latch got sleepy, and was set before the worker fell asleep
 abbrev pub IsKeptAwake : View → View → Type 0
-IsKeptAwake old new = (mid : View) × Called GetSleepy (λ phase. is_unset phase ≡ true) old mid × Called FallAsleep (λ phase. is_sleepy phase ≡ false) mid new
+IsKeptAwake old new = (mid : View) × Called GetSleepy (λ phase. is_unset phase ≡ true) old mid
+    × Called FallAsleep (λ phase. is_sleepy phase ≡ false) mid new
 
 -- the latch was probed so often, and nothing else was done
 abbrev pub ProbesTimes : ℕ → View → View → Type 0
@@ -22,7 +23,8 @@ ProbesTimes (suc n) old new = (mid : View) × ProbesTimes n old mid × Called Pr
 abbrev pub OnlyProbes : View → View → Type 0
 OnlyProbes old new = (n : ℕ) × ProbesTimes n old new
 
--- the latch fell asleep, was only probed while its worker slept, and at the end its worker woke it up
+-- the latch fell asleep, was only probed while its worker slept, and at the end its worker woke it
+-- up
 abbrev pub SleepsAndWakes : View → View → Type 0
 SleepsAndWakes old new =
     (mid : View) × (asleep : View) × (last : View)

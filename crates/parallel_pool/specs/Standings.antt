@@ -40,13 +40,16 @@ looking_in workers = count_by is_looking workers
 
 -- the workers that are blocked, lowest index first
 abbrev pub blocked_of : List Standing → List ℕ
-blocked_of workers = filter (λ worker. is_blocked (standing_at workers worker)) (range_with_len 0 (length workers))
+blocked_of workers =
+    filter (λ worker. is_blocked (standing_at workers worker)) (range_with_len 0 (length workers))
 
--- the workers of a list are woken: they look for work again, and every other worker stands as before
+-- the workers of a list are woken: they look for work again, and every other worker stands as
+-- before
 pub record AreWoken (woken : List ℕ) (before after : List Standing) : Type 0 where
   pub as_many : length after ≡ length before
   pub looking : (worker : ℕ) → Contains woken worker → standing_at after worker ≡ Looking
-  pub others : (worker : ℕ) → (Contains woken worker → ⊥) → standing_at after worker ≡ standing_at before worker
+  pub others : (worker : ℕ) → (Contains woken worker → ⊥)
+      → standing_at after worker ≡ standing_at before worker
 
 -- the count of events after one more, which wraps at 32 bits
 abbrev pub event_after : ℕ → ℕ

@@ -40,21 +40,25 @@ module _ {T : Type 0} where
 
   -- the worker, knowing this of its own deque
   abbrev pub with_own : JobView T → WorkerView T → WorkerView T
-  with_own own worker = record { index = worker.index; label = worker.label; own = own; jobs = worker.jobs }
+  with_own own worker =
+      record { index = worker.index; label = worker.label; own = own; jobs = worker.jobs }
 
   -- the worker, with this seat
   abbrev pub with_jobs : SeatView T → WorkerView T → WorkerView T
-  with_jobs jobs worker = record { index = worker.index; label = worker.label; own = worker.own; jobs = jobs }
+  with_jobs jobs worker =
+      record { index = worker.index; label = worker.label; own = worker.own; jobs = jobs }
 
   -- it took the last job of its own deque to call it, and did nothing else
   abbrev pub CallsOwn : WorkerView T → T → WorkerView T → Type 0
-  CallsOwn old job new = (view : JobView T) × HasTaken TakeLast true old.own job view × (new ≡ with_own view old)
+  CallsOwn old job new = (view : JobView T) × HasTaken TakeLast true old.own job view
+      × (new ≡ with_own view old)
 
   -- it took the first job of one of the pool's queues to call it, and did nothing else
   abbrev pub CallsFirst : WorkerView T → T → WorkerView T → Type 0
   CallsFirst old job new =
       (queue : Queue) × (seat : SeatView T) × IsQueueOf queue old.jobs
-      × Does queue (λ v w. HasTaken TakeFirst true v job w) old.jobs seat × (new ≡ with_jobs seat old)
+      × Does queue (λ v w. HasTaken TakeFirst true v job w) old.jobs seat
+      × (new ≡ with_jobs seat old)
 
   -- it took one job to call it, and did nothing else
   abbrev pub CallsOne : WorkerView T → T → WorkerView T → Type 0
@@ -62,4 +66,5 @@ module _ {T : Type 0} where
 
   -- it pushed a job to its own deque, and did nothing else
   abbrev pub PushesOwn : WorkerView T → T → WorkerView T → Type 0
-  PushesOwn old job new = (view : JobView T) × HasPushed old.own job view × (new ≡ with_own view old)
+  PushesOwn old job new = (view : JobView T) × HasPushed old.own job view
+      × (new ≡ with_own view old)

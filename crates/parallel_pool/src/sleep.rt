@@ -84,8 +84,8 @@ impl Sleep {
         Some(state.start_looking(worker_index))
     }
 
-    /// The idle worker has found work, and up to two that sleep are woken. Nothing happens where the
-    /// worker doesn't look for work.
+    /// The idle worker has found work, and up to two that sleep are woken. Nothing happens where
+    /// the worker doesn't look for work.
     pub fn work_found<R: Wait>(&self, rt: &R, idle: IdleState) {
         let mut state = self.state.lock(rt);
         let worker_index = idle.worker_index();
@@ -125,16 +125,16 @@ impl Sleep {
         }
     }
 
-    /// Lets a worker that sleeps look whether its latch is set, which wakes it. It takes no lock and
-    /// never waits.
+    /// Lets a worker that sleeps look whether its latch is set, which wakes it. It takes no lock
+    /// and never waits.
     pub fn unpark_worker(&self, worker_index: usize) {
         if let Some(unparker) = self.unparkers.get(worker_index) {
             unparker.unpark();
         }
     }
 
-    /// The idle worker has found no work: it yields, announces that it is sleepy, or tries to sleep,
-    /// by the round that it is in. It sleeps on its own parker, until it is woken.
+    /// The idle worker has found no work: it yields, announces that it is sleepy, or tries to
+    /// sleep, by the round that it is in. It sleeps on its own parker, until it is woken.
     ///
     /// The latch is the one that the worker waits for, which keeps it from sleeping once set.
     /// `has_injected_jobs` says, just before the worker would sleep, whether a job is there for it;
@@ -151,12 +151,17 @@ impl Sleep {
         requires seat { IsSeatOf latch.now seat.old }
         requires callable { F.IsAlwaysCallable has_injected_jobs }
         ensures worker { worker_of idle.new ≡ worker_of idle.old }
-        ensures yields { rounds_of idle.old < ROUNDS_UNTIL_SLEEPY → rounds_of idle.new ≡ rounds_of idle.old + 1 }
-        ensures announces { rounds_of idle.old ≡ ROUNDS_UNTIL_SLEEPY → (rounds_of idle.new ≡ ROUNDS_UNTIL_SLEEPING) × IsSome (recorded_of idle.new) }
+        ensures yields { rounds_of idle.old < ROUNDS_UNTIL_SLEEPY
+            → rounds_of idle.new ≡ rounds_of idle.old + 1 }
+        ensures announces { rounds_of idle.old ≡ ROUNDS_UNTIL_SLEEPY
+            → (rounds_of idle.new ≡ ROUNDS_UNTIL_SLEEPING) × IsSome (recorded_of idle.new) }
         ensures sleeps { ROUNDS_UNTIL_SLEEPING ≤ rounds_of idle.old
-            → (idle.new ≡ idle.old) ⊎ ((recorded_of idle.new ≡ None) × ((rounds_of idle.new ≡ 0) ⊎ (rounds_of idle.new ≡ ROUNDS_UNTIL_SLEEPY))) }
-        ensures awake { rounds_of idle.old < ROUNDS_UNTIL_SLEEPING → known seat.new ≡ known seat.old }
-        ensures tries { ROUNDS_UNTIL_SLEEPING ≤ rounds_of idle.old → TriesToSleep (known seat.old) (known seat.new) }
+            → (idle.new ≡ idle.old) ⊎ ((recorded_of idle.new ≡ None)
+            × ((rounds_of idle.new ≡ 0) ⊎ (rounds_of idle.new ≡ ROUNDS_UNTIL_SLEEPY))) }
+        ensures awake { rounds_of idle.old < ROUNDS_UNTIL_SLEEPING
+            → known seat.new ≡ known seat.old }
+        ensures tries { ROUNDS_UNTIL_SLEEPING ≤ rounds_of idle.old
+            → TriesToSleep (known seat.old) (known seat.new) }
         ensures seat { IsSeatOf latch.now seat.new }
         ensures stays { HasSeenSet (known seat.old) → HasSeenSet (known seat.new) }
     {
@@ -187,7 +192,9 @@ impl Sleep {
         requires seat { IsSeatOf latch.now seat.old }
         requires callable { F.IsAlwaysCallable has_injected_jobs }
         ensures worker { worker_of idle.new ≡ worker_of idle.old }
-        ensures rounds { (idle.new ≡ idle.old) ⊎ ((recorded_of idle.new ≡ None) × ((rounds_of idle.new ≡ 0) ⊎ (rounds_of idle.new ≡ ROUNDS_UNTIL_SLEEPY))) }
+        ensures rounds { (idle.new ≡ idle.old)
+            ⊎ ((recorded_of idle.new ≡ None)
+            × ((rounds_of idle.new ≡ 0) ⊎ (rounds_of idle.new ≡ ROUNDS_UNTIL_SLEEPY))) }
         ensures tries { TriesToSleep (known seat.old) (known seat.new) }
         ensures seat { IsSeatOf latch.now seat.new }
         ensures stays { HasSeenSet (known seat.old) → HasSeenSet (known seat.new) }
@@ -220,7 +227,8 @@ impl Sleep {
         requires seat { IsSeatOf latch.now seat.old }
         ensures worker { worker_of idle.new ≡ worker_of idle.old }
         ensures awake { block ≢ Blocked → idle.new ≡ idle.old }
-        ensures blocked { block ≡ Blocked → (rounds_of idle.new ≡ 0) × (recorded_of idle.new ≡ None) }
+        ensures blocked { block ≡ Blocked → (rounds_of idle.new ≡ 0)
+            × (recorded_of idle.new ≡ None) }
         ensures probes { OnlyProbes (known seat.old) (known seat.new) }
         ensures seat { IsSeatOf latch.now seat.new }
         ensures stays { HasSeenSet (known seat.old) → HasSeenSet (known seat.new) }
@@ -279,8 +287,10 @@ impl Sleep {
 // The worker is blocked, or why it isn't. One that doesn't look for work starts again, awake.
 fn block(state: &mut SleepState, idle: &mut IdleState, injected: bool) -> Block
     ensures worker { worker_of idle.new ≡ worker_of idle.old }
-    ensures blocked { (result ≡ Blocked) ↔ (is_blocked (standing_at state.new.workers (worker_of idle.old)) ≡ true) }
-    ensures awake { result ≢ Blocked → (recorded_of idle.new ≡ None) × ((rounds_of idle.new ≡ 0) ⊎ (rounds_of idle.new ≡ ROUNDS_UNTIL_SLEEPY)) }
+    ensures blocked { (result ≡ Blocked) ↔
+        (is_blocked (standing_at state.new.workers (worker_of idle.old)) ≡ true) }
+    ensures awake { result ≢ Blocked → (recorded_of idle.new ≡ None)
+        × ((rounds_of idle.new ≡ 0) ⊎ (rounds_of idle.new ≡ ROUNDS_UNTIL_SLEEPY)) }
 {
     let worker_index = idle.worker_index();
     if state.is_inactive(worker_index) && !state.is_blocked(worker_index) {

@@ -35,7 +35,8 @@ side u start end =
     ]
 
 -- a range that is cut in two
-pub inside_cut : (u start middle end : ℕ) → start ≤ middle → middle ≤ end → inside u start middle + inside u middle end ≡ inside u start end
+pub inside_cut : (u start middle end : ℕ) → start ≤ middle → middle ≤ end
+    → inside u start middle + inside u middle end ≡ inside u start end
 unfolding inside
 inside_cut u start middle end s e = grind (arith, nat_tests)
 
@@ -49,14 +50,21 @@ unfolding inside
 inside_nothing u start end h = grind (arith, nat_tests)
 
 -- a cell is in the cells of some units exactly where its unit is among them
-pub inside_cells : (c a b unit cells : ℕ) → 0 < unit → c < cells → inside c (a * unit) (min (b * unit) cells) ≡ inside (c / unit) a b
+pub inside_cells : (c a b unit cells : ℕ) → 0 < unit → c < cells
+    → inside c (a * unit) (min (b * unit) cells) ≡ inside (c / unit) a b
 inside_cells c a b unit cells p h =
-    elim (side (c / unit) a b) as (λ _. inside c (a * unit) (min (b * unit) cells) ≡ inside (c / unit) a b) [
-      | within s e i ↦ inside_within c (a * unit) (min (b * unit) cells) (omega (arith, mul-le a unit (c / unit) unit s (omega arith))) (omega (arith, mul-le (suc (c / unit)) unit b unit e (omega arith))) ∙ sym i
-      | before l i ↦ inside_before c (a * unit) (min (b * unit) cells) (omega (arith, mul-le (suc (c / unit)) unit a unit l (omega arith))) ∙ sym i
-      | after m i ↦ inside_after c (a * unit) (min (b * unit) cells) (omega (arith, mul-le b unit (c / unit) unit m (omega arith))) ∙ sym i
+    elim (side (c / unit) a b) as (λ _. inside c (a * unit) (min (b * unit) cells) ≡ inside
+    (c / unit) a b) [
+      | within s e i ↦ inside_within c (a * unit) (min (b * unit) cells)
+          (omega (arith, mul-le a unit (c / unit) unit s (omega arith)))
+          (omega (arith, mul-le (suc (c / unit)) unit b unit e (omega arith))) ∙ sym i
+      | before l i ↦ inside_before c (a * unit) (min (b * unit) cells)
+          (omega (arith, mul-le (suc (c / unit)) unit a unit l (omega arith))) ∙ sym i
+      | after m i ↦ inside_after c (a * unit) (min (b * unit) cells)
+          (omega (arith, mul-le b unit (c / unit) unit m (omega arith))) ∙ sym i
     ]
 
 -- no cell past the end is in the cells of some units
-pub inside_no_cells : (c a b unit cells : ℕ) → cells ≤ c → inside c (a * unit) (min (b * unit) cells) ≡ 0
+pub inside_no_cells : (c a b unit cells : ℕ) → cells ≤ c
+    → inside c (a * unit) (min (b * unit) cells) ≡ 0
 inside_no_cells c a b unit cells h = inside_after c (a * unit) (min (b * unit) cells) (omega arith)

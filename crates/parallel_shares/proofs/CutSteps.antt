@@ -22,34 +22,51 @@ pub record IsCutSoFar (shorter longer count : ℕ) (rs : List (Range ℕ)) (to :
   pub longest : count ≤ longer → All (IsLonger shorter) rs
 
 -- one more of the longer ranges
-IsCutSoFar-longer : (shorter longer count : ℕ) (rs : List (Range ℕ)) (r : Range ℕ) → IsCutSoFar shorter longer count rs r.start → count < longer → r.end ≡ r.start + shorter + 1 → IsCutSoFar shorter longer (count + 1) (rs ++ r ∷ []) r.end
+IsCutSoFar-longer : (shorter longer count : ℕ) (rs : List (Range ℕ)) (r : Range ℕ)
+    → IsCutSoFar shorter longer count rs r.start → count < longer → r.end ≡ r.start + shorter + 1
+    → IsCutSoFar shorter longer (count + 1) (rs ++ r ∷ []) r.end
 IsCutSoFar-longer shorter longer count rs r so_far more ends =
     let all_longest = so_far.longest (omega arith) in
     record {
       placed = omega (arith, so_far.placed);
       counted = omega (arith, length_push rs r, so_far.counted);
       cuts = CutsFrom-push 0 rs r so_far.cuts (omega arith);
-      even = all_pairs_push (λ a b. (range_length b ≤ range_length a) × (range_length a ≤ range_length b + 1)) rs r so_far.even (λ k d within. let same = all_longest k d within in (omega (arith, same), omega (arith, same)));
+      even =
+          all_pairs_push (λ a b. (range_length b ≤ range_length a)
+          × (range_length a ≤ range_length b + 1)) rs r so_far.even
+          (λ k d within. let same = all_longest k d within in
+          (omega (arith, same), omega (arith, same)));
       near = All-push (IsNear shorter) rs r so_far.near (omega arith, omega arith);
       longest = λ _. All-push (IsLonger shorter) rs r all_longest (omega arith);
     }
 
 -- one more of the shorter ranges
-IsCutSoFar-shorter : (shorter longer count : ℕ) (rs : List (Range ℕ)) (r : Range ℕ) → IsCutSoFar shorter longer count rs r.start → longer ≤ count → r.end ≡ r.start + shorter → IsCutSoFar shorter longer (count + 1) (rs ++ r ∷ []) r.end
+IsCutSoFar-shorter : (shorter longer count : ℕ) (rs : List (Range ℕ)) (r : Range ℕ)
+    → IsCutSoFar shorter longer count rs r.start → longer ≤ count → r.end ≡ r.start + shorter
+    → IsCutSoFar shorter longer (count + 1) (rs ++ r ∷ []) r.end
 IsCutSoFar-shorter shorter longer count rs r so_far fewer ends =
     record {
       placed = omega (arith, so_far.placed);
       counted = omega (arith, length_push rs r, so_far.counted);
       cuts = CutsFrom-push 0 rs r so_far.cuts (omega arith);
-      even = all_pairs_push (λ a b. (range_length b ≤ range_length a) × (range_length a ≤ range_length b + 1)) rs r so_far.even (λ k d within. let close = so_far.near k d within in (omega (arith, close.0), omega (arith, close.1)));
+      even =
+          all_pairs_push (λ a b. (range_length b ≤ range_length a)
+          × (range_length a ≤ range_length b + 1)) rs r so_far.even
+          (λ k d within. let close = so_far.near k d within in
+          (omega (arith, close.0), omega (arith, close.1)));
       near = All-push (IsNear shorter) rs r so_far.near (omega arith, omega arith);
       longest = λ few. absurd (omega arith);
     }
 
 -- one more range, with one index more than `shorter` while `longer` asks for it
-pub IsCutSoFar-more : (shorter longer count extra : ℕ) (rs : List (Range ℕ)) (r : Range ℕ) → IsCutSoFar shorter longer count rs r.start → (count < longer → extra ≡ 1) → (longer ≤ count → extra ≡ 0) → r.end ≡ r.start + shorter + extra → IsCutSoFar shorter longer (count + 1) (rs ++ r ∷ []) r.end
+pub IsCutSoFar-more : (shorter longer count extra : ℕ) (rs : List (Range ℕ)) (r : Range ℕ)
+    → IsCutSoFar shorter longer count rs r.start → (count < longer → extra ≡ 1)
+    → (longer ≤ count → extra ≡ 0) → r.end ≡ r.start + shorter + extra
+    → IsCutSoFar shorter longer (count + 1) (rs ++ r ∷ []) r.end
 IsCutSoFar-more shorter longer count extra rs r so_far more fewer ends =
     elim (cases_lt count longer) [
-      | inl before ↦ IsCutSoFar-longer shorter longer count rs r so_far before (omega (arith, more before))
-      | inr behind ↦ IsCutSoFar-shorter shorter longer count rs r so_far behind (omega (arith, fewer behind))
+      | inl before ↦ IsCutSoFar-longer shorter longer count rs r so_far before
+          (omega (arith, more before))
+      | inr behind ↦ IsCutSoFar-shorter shorter longer count rs r so_far behind
+          (omega (arith, fewer behind))
     ]

@@ -11,45 +11,60 @@ use Rattle.std.specs.declared.ops.Range.{Range}
 use Rattle.parallel_shares.specs.Cut.{range_length, CutsFrom, IsEven, BalancedCut}
 
 -- two cuts, the second from where the first ends, are one cut
-pub CutsFrom-append : (from middle to : ℕ) (rs ss : List (Range ℕ)) → CutsFrom from rs middle → CutsFrom middle ss to → CutsFrom from (rs ++ ss) to
-CutsFrom-append from middle to [] ss cuts more = let P : ℕ → Type 0 = λ n. CutsFrom n ss to in subst P (sym cuts) more
-CutsFrom-append from middle to (r ∷ rs) ss cuts more = (cuts.0, cuts.1, CutsFrom-append r.end middle to rs ss cuts.2 more)
+pub CutsFrom-append : (from middle to : ℕ) (rs ss : List (Range ℕ)) → CutsFrom from rs middle
+    → CutsFrom middle ss to → CutsFrom from (rs ++ ss) to
+CutsFrom-append from middle to [] ss cuts more =
+    let P : ℕ → Type 0 = λ n. CutsFrom n ss to in
+    subst P (sym cuts) more
+CutsFrom-append from middle to (r ∷ rs) ss cuts more =
+    (cuts.0, cuts.1, CutsFrom-append r.end middle to rs ss cuts.2 more)
 
 -- a cut goes on by a range that begins where it ends
-pub CutsFrom-push : (from : ℕ) (rs : List (Range ℕ)) (r : Range ℕ) → CutsFrom from rs r.start → r.start ≤ r.end → CutsFrom from (rs ++ r ∷ []) r.end
-CutsFrom-push from rs r cuts ordered = CutsFrom-append from r.start r.end rs (r ∷ []) cuts (refl, ordered, refl)
+pub CutsFrom-push : (from : ℕ) (rs : List (Range ℕ)) (r : Range ℕ) → CutsFrom from rs r.start
+    → r.start ≤ r.end → CutsFrom from (rs ++ r ∷ []) r.end
+CutsFrom-push from rs r cuts ordered =
+    CutsFrom-append from r.start r.end rs (r ∷ []) cuts (refl, ordered, refl)
 
 -- a cut does not end before it begins
 pub CutsFrom-ordered : (from to : ℕ) (rs : List (Range ℕ)) → CutsFrom from rs to → from ≤ to
 CutsFrom-ordered from to [] cuts = omega arith
-CutsFrom-ordered from to (r ∷ rs) cuts = let rest = CutsFrom-ordered r.end to rs cuts.2 in omega arith
+CutsFrom-ordered from to (r ∷ rs) cuts =
+    let rest = CutsFrom-ordered r.end to rs cuts.2 in
+    omega arith
 
 -- the range lies within a cut
 abbrev pub IsWithin : ℕ → ℕ → Range ℕ → Type 0
 IsWithin from to r = (from ≤ r.start) × (r.start ≤ r.end) × (r.end ≤ to)
 
 -- each range of a cut lies within it
-pub CutsFrom-within : (from to : ℕ) (rs : List (Range ℕ)) → CutsFrom from rs to → All (IsWithin from to) rs
+pub CutsFrom-within : (from to : ℕ) (rs : List (Range ℕ)) → CutsFrom from rs to
+    → All (IsWithin from to) rs
 CutsFrom-within from to [] cuts = All-nil (IsWithin from to)
 CutsFrom-within from to (r ∷ rs) cuts =
     let rest = CutsFrom-ordered r.end to rs cuts.2 in
     let first : IsWithin from to r = (omega arith, cuts.1, rest) in
     All-cons (IsWithin from to) r rs first
-    (All-weaker (IsWithin r.end to) (IsWithin from to) (λ s h. (omega arith, h.1, h.2)) rs (CutsFrom-within r.end to rs cuts.2))
+    (All-weaker (IsWithin r.end to) (IsWithin from to) (λ s h. (omega arith, h.1, h.2)) rs
+    (CutsFrom-within r.end to rs cuts.2))
 
 -- the lengths of a cut's ranges add up to the number of its indices
-pub CutsFrom-sum : (from to : ℕ) (rs : List (Range ℕ)) → CutsFrom from rs to → from + sum_by range_length rs ≡ to
+pub CutsFrom-sum : (from to : ℕ) (rs : List (Range ℕ)) → CutsFrom from rs to
+    → from + sum_by range_length rs ≡ to
 CutsFrom-sum from to [] cuts = omega (arith, cuts)
 CutsFrom-sum from to (r ∷ rs) cuts =
     omega (arith, sum_by-cons range_length r rs, CutsFrom-sum r.end to rs cuts.2)
 
 -- each range ends at or before the number of indices
-pub BalancedCut-ends : (len : ℕ) (rs : List (Range ℕ)) → BalancedCut len rs → All (λ r. r.end ≤ len) rs
-BalancedCut-ends len rs cut = All-weaker (IsWithin 0 len) (λ r. r.end ≤ len) (λ r h. h.2) rs (CutsFrom-within 0 len rs cut.0)
+pub BalancedCut-ends : (len : ℕ) (rs : List (Range ℕ)) → BalancedCut len rs
+    → All (λ r. r.end ≤ len) rs
+BalancedCut-ends len rs cut =
+    All-weaker (IsWithin 0 len) (λ r. r.end ≤ len) (λ r h. h.2) rs (CutsFrom-within 0 len rs cut.0)
 
 -- each range begins at or before its end
-pub BalancedCut-ordered : (len : ℕ) (rs : List (Range ℕ)) → BalancedCut len rs → All (λ r. r.start ≤ r.end) rs
-BalancedCut-ordered len rs cut = All-weaker (IsWithin 0 len) (λ r. r.start ≤ r.end) (λ r h. h.1) rs (CutsFrom-within 0 len rs cut.0)
+pub BalancedCut-ordered : (len : ℕ) (rs : List (Range ℕ)) → BalancedCut len rs
+    → All (λ r. r.start ≤ r.end) rs
+BalancedCut-ordered len rs cut = All-weaker (IsWithin 0 len) (λ r. r.start ≤ r.end) (λ r h. h.1) rs
+    (CutsFrom-within 0 len rs cut.0)
 
 -- the second range has no more indices than the first, and at most one less
 abbrev IsLaterOf : Range ℕ → Range ℕ → Type 0
@@ -65,23 +80,38 @@ IsEven-tail r rs even = λ i j d before within. even (suc i) (suc j) d (omega ar
 
 -- one range from 0 up to the number of indices is a balanced cut
 pub BalancedCut-whole : (r : Range ℕ) → r.start ≡ 0 → BalancedCut r.end (r ∷ [])
-BalancedCut-whole r starts = ((starts, omega arith, refl), λ i j d before within. absurd (omega arith))
+BalancedCut-whole r starts =
+    ((starts, omega arith, refl), λ i j d before within. absurd (omega arith))
 
 -- ranges that each have at least m indices
-sum_by-at_least : (m : ℕ) (rs : List (Range ℕ)) → All (λ r. m ≤ range_length r) rs → length rs * m ≤ sum_by range_length rs
+sum_by-at_least : (m : ℕ) (rs : List (Range ℕ)) → All (λ r. m ≤ range_length r) rs
+    → length rs * m ≤ sum_by range_length rs
 sum_by-at_least m [] all = omega arith
 sum_by-at_least m (r ∷ rs) all =
     let first : m ≤ range_length r = All-head (λ s. m ≤ range_length s) r rs all in
     let longer : length (r ∷ rs) * m ≡ (length rs + 1) * m = ap (λ n. n * m) (omega arith) in
-    omega (arith, first, longer, sum_by-cons range_length r rs, sum_by-at_least m rs (All-tail (λ s. m ≤ range_length s) r rs all))
+    omega (
+      arith,
+      first,
+      longer,
+      sum_by-cons range_length r rs,
+      sum_by-at_least m rs (All-tail (λ s. m ≤ range_length s) r rs all),
+    )
 
 -- ranges that each have at least one index less than m
-sum_by-almost : (m : ℕ) (rs : List (Range ℕ)) → All (λ r. m ≤ range_length r + 1) rs → length rs * m ≤ sum_by range_length rs + length rs
+sum_by-almost : (m : ℕ) (rs : List (Range ℕ)) → All (λ r. m ≤ range_length r + 1) rs
+    → length rs * m ≤ sum_by range_length rs + length rs
 sum_by-almost m [] all = omega arith
 sum_by-almost m (r ∷ rs) all =
     let first : m ≤ range_length r + 1 = All-head (λ s. m ≤ range_length s + 1) r rs all in
     let longer : length (r ∷ rs) * m ≡ (length rs + 1) * m = ap (λ n. n * m) (omega arith) in
-    omega (arith, first, longer, sum_by-cons range_length r rs, sum_by-almost m rs (All-tail (λ s. m ≤ range_length s + 1) r rs all))
+    omega (
+      arith,
+      first,
+      longer,
+      sum_by-cons range_length r rs,
+      sum_by-almost m rs (All-tail (λ s. m ≤ range_length s + 1) r rs all),
+    )
 
 -- the range has `shorter` indices or one more
 abbrev pub IsNear : ℕ → Range ℕ → Type 0
@@ -93,29 +123,35 @@ record IsNearOne (rs : List (Range ℕ)) (shorter : ℕ) : Type 0 where
   below : sum_by range_length rs < length rs * (shorter + 1)
 
 -- a first range is near the number that those behind it are near
-IsNearOne-cons : (r s : Range ℕ) (rs : List (Range ℕ)) (shorter : ℕ) → IsEven (r ∷ s ∷ rs) → IsNearOne (s ∷ rs) shorter → IsNearOne (r ∷ s ∷ rs) shorter
+IsNearOne-cons : (r s : Range ℕ) (rs : List (Range ℕ)) (shorter : ℕ) → IsEven (r ∷ s ∷ rs)
+    → IsNearOne (s ∷ rs) shorter → IsNearOne (r ∷ s ∷ rs) shorter
 IsNearOne-cons r s rs shorter even rest =
     let ss = s ∷ rs in
     let apart = IsEven-head r ss even in
     let by_second : IsLaterOf r s = All-head (IsLaterOf r) s rs apart in
     let second : IsNear shorter s = All-head (IsNear shorter) s rs rest.near in
-    let longer : length (r ∷ ss) * (shorter + 1) ≡ (length ss + 1) * (shorter + 1) = ap (λ n. n * (shorter + 1)) (omega arith) in
+    let longer : length (r ∷ ss) * (shorter + 1) ≡ (length ss + 1) * (shorter + 1) =
+    ap (λ n. n * (shorter + 1)) (omega arith) in
     elim (cases_lt (shorter + 1) (range_length r)) [
       | inl long ↦
-          let all : All (λ t. shorter + 1 ≤ range_length t) ss = All-weaker (IsLaterOf r) (λ t. shorter + 1 ≤ range_length t) (λ t h. omega (arith, h.1)) ss apart in
+          let all : All (λ t. shorter + 1 ≤ range_length t) ss = All-weaker (IsLaterOf r)
+          (λ t. shorter + 1 ≤ range_length t) (λ t h. omega (arith, h.1)) ss apart in
           absurd (omega (arith, sum_by-at_least (shorter + 1) ss all, rest.below))
       | inr short ↦ record {
-        near = All-cons (IsNear shorter) r ss (omega (arith, second.0, by_second.0), short) rest.near;
+        near =
+            All-cons (IsNear shorter) r ss (omega (arith, second.0, by_second.0), short) rest.near;
         below = omega (arith, longer, sum_by-cons range_length r ss, rest.below);
       }
     ]
 
 -- some number is near to each of the ranges
-IsNearOne-from_even : (r : Range ℕ) (rs : List (Range ℕ)) → IsEven (r ∷ rs) → (shorter : ℕ) × IsNearOne (r ∷ rs) shorter
+IsNearOne-from_even : (r : Range ℕ) (rs : List (Range ℕ)) → IsEven (r ∷ rs) → (shorter : ℕ)
+    × IsNearOne (r ∷ rs) shorter
 IsNearOne-from_even r [] even = (
   range_length r,
   record {
-    near = All-cons (IsNear (range_length r)) r [] (omega arith, omega arith) (All-nil (IsNear (range_length r)));
+    near = All-cons (IsNear (range_length r)) r [] (omega arith, omega arith)
+        (All-nil (IsNear (range_length r)));
     below = omega (arith, sum_by-cons range_length r []);
   },
 )
@@ -124,44 +160,63 @@ IsNearOne-from_even r (s ∷ rs) even =
     (rest.0, IsNearOne-cons r s rs rest.0 even rest.1)
 
 -- each range has the whole number of indices that is its share, or one more
-pub BalancedCut-near : (len : ℕ) (rs : List (Range ℕ)) → BalancedCut len rs → 0 < length rs → All (IsNear (len / length rs)) rs
+pub BalancedCut-near : (len : ℕ) (rs : List (Range ℕ)) → BalancedCut len rs → 0 < length rs
+    → All (IsNear (len / length rs)) rs
 BalancedCut-near len [] cut some = absurd (omega arith)
 BalancedCut-near len (r ∷ rs) cut some =
     let ss = r ∷ rs in
     let one = IsNearOne-from_even r rs cut.1 in
     let total = CutsFrom-sum 0 len ss cut.0 in
-    let least : All (λ s. one.0 ≤ range_length s) ss = All-weaker (IsNear one.0) (λ s. one.0 ≤ range_length s) (λ s h. h.0) ss one.1.near in
-    let is : len / length ss ≡ one.0 = div-eq_of_lt-le (length ss) (omega (arith, total, sum_by-at_least one.0 ss least)) (omega (arith, total, one.1.below)) in
+    let least : All (λ s. one.0 ≤ range_length s) ss =
+    All-weaker (IsNear one.0) (λ s. one.0 ≤ range_length s) (λ s h. h.0) ss one.1.near in
+    let is : len / length ss ≡ one.0 = div-eq_of_lt-le (length ss)
+    (omega (arith, total, sum_by-at_least one.0 ss least))
+    (omega (arith, total, one.1.below)) in
     rw is one.1.near
 
 -- each range has at least its share of the indices
-pub BalancedCut-at_least : (len : ℕ) (rs : List (Range ℕ)) → BalancedCut len rs → 0 < length rs → All (λ r. len / length rs ≤ range_length r) rs
-BalancedCut-at_least len rs cut some = All-weaker (IsNear (len / length rs)) (λ r. len / length rs ≤ range_length r) (λ r h. h.0) rs (BalancedCut-near len rs cut some)
+pub BalancedCut-at_least : (len : ℕ) (rs : List (Range ℕ)) → BalancedCut len rs → 0 < length rs
+    → All (λ r. len / length rs ≤ range_length r) rs
+BalancedCut-at_least len rs cut some = All-weaker (IsNear (len / length rs))
+    (λ r. len / length rs ≤ range_length r) (λ r h. h.0) rs (BalancedCut-near len rs cut some)
 
 -- each range has at most one index more than its share
-pub BalancedCut-at_most : (len : ℕ) (rs : List (Range ℕ)) → BalancedCut len rs → 0 < length rs → All (λ r. range_length r ≤ len / length rs + 1) rs
-BalancedCut-at_most len rs cut some = All-weaker (IsNear (len / length rs)) (λ r. range_length r ≤ len / length rs + 1) (λ r h. h.1) rs (BalancedCut-near len rs cut some)
+pub BalancedCut-at_most : (len : ℕ) (rs : List (Range ℕ)) → BalancedCut len rs → 0 < length rs
+    → All (λ r. range_length r ≤ len / length rs + 1) rs
+BalancedCut-at_most len rs cut some = All-weaker (IsNear (len / length rs))
+    (λ r. range_length r ≤ len / length rs + 1) (λ r h. h.1) rs (BalancedCut-near len rs cut some)
 
 -- no more ranges than the indices have room for: none is shorter than the minimum
-pub BalancedCut-minimum : (len minimum : ℕ) (rs : List (Range ℕ)) → BalancedCut len rs → length rs * minimum ≤ len → All (λ r. minimum ≤ range_length r) rs
+pub BalancedCut-minimum : (len minimum : ℕ) (rs : List (Range ℕ)) → BalancedCut len rs
+    → length rs * minimum ≤ len → All (λ r. minimum ≤ range_length r) rs
 BalancedCut-minimum len minimum [] cut room = All-nil (λ r. minimum ≤ range_length r)
 BalancedCut-minimum len minimum (r ∷ rs) cut room =
-    let share : minimum ≤ len / length (r ∷ rs) = le-div minimum len (length (r ∷ rs)) (omega arith) (omega arith) in
-    All-weaker (λ s. len / length (r ∷ rs) ≤ range_length s) (λ s. minimum ≤ range_length s) (λ s h. omega arith) (r ∷ rs) (BalancedCut-at_least len (r ∷ rs) cut (omega arith))
+    let share : minimum ≤ len / length (r ∷ rs) =
+    le-div minimum len (length (r ∷ rs)) (omega arith) (omega arith) in
+    All-weaker (λ s. len / length (r ∷ rs) ≤ range_length s) (λ s. minimum ≤ range_length s)
+    (λ s h. omega arith) (r ∷ rs) (BalancedCut-at_least len (r ∷ rs) cut (omega arith))
 
 -- the same, where the ranges are no more than the minimum's times in the indices
-pub BalancedCut-minimum_share : (len minimum : ℕ) (rs : List (Range ℕ)) → BalancedCut len rs → length rs ≤ len / minimum → All (λ r. minimum ≤ range_length r) rs
+pub BalancedCut-minimum_share : (len minimum : ℕ) (rs : List (Range ℕ)) → BalancedCut len rs
+    → length rs ≤ len / minimum → All (λ r. minimum ≤ range_length r) rs
 BalancedCut-minimum_share len minimum rs cut few =
     let room : length rs * minimum ≤ len / minimum * minimum = mul-le-mul_right minimum few in
     BalancedCut-minimum len minimum rs cut (omega (arith, div-mul-le_self len minimum))
 
--- even ranges have no more indices than if all were as long as the first, and no fewer than if the others were shorter by one
-IsEven-sum : (r : Range ℕ) (rs : List (Range ℕ)) → IsEven (r ∷ rs) → (sum_by range_length (r ∷ rs) ≤ length (r ∷ rs) * range_length r) × (length (r ∷ rs) * range_length r ≤ sum_by range_length (r ∷ rs) + length rs)
+-- even ranges have no more indices than if all were as long as the first, and no fewer than if the
+-- others were shorter by one
+IsEven-sum : (r : Range ℕ) (rs : List (Range ℕ)) → IsEven (r ∷ rs)
+    → (sum_by range_length (r ∷ rs) ≤ length (r ∷ rs) * range_length r)
+    × (length (r ∷ rs) * range_length r ≤ sum_by range_length (r ∷ rs) + length rs)
 IsEven-sum r rs even =
     let apart = IsEven-head r rs even in
-    let longer : length (r ∷ rs) * range_length r ≡ (length rs + 1) * range_length r = ap (λ n. n * range_length r) (omega arith) in
-    let most = sum_by-le range_length (range_length r) rs (All-weaker (IsLaterOf r) (λ s. range_length s ≤ range_length r) (λ s h. h.0) rs apart) in
-    let least = sum_by-almost (range_length r) rs (All-weaker (IsLaterOf r) (λ s. range_length r ≤ range_length s + 1) (λ s h. h.1) rs apart) in
+    let longer : length (r ∷ rs) * range_length r ≡ (length rs + 1) * range_length r =
+    ap (λ n. n * range_length r) (omega arith) in
+    let most = sum_by-le range_length (range_length r) rs
+    (All-weaker (IsLaterOf r) (λ s. range_length s ≤ range_length r) (λ s h. h.0) rs apart) in
+    let least = sum_by-almost (range_length r) rs
+    (All-weaker (IsLaterOf r) (λ s. range_length r ≤ range_length s + 1) (λ s h. h.1) rs apart)
+    in
     let first = sum_by-cons range_length r rs in
     (omega (arith, longer, most, first), omega (arith, longer, least, first))
 
@@ -169,12 +224,14 @@ IsEven-sum r rs even =
 greatest_once : (n a b total : ℕ) → 0 < n → total ≤ n * a → n * b ≤ total + n - 1 → b ≤ a
 greatest_once n a b total some most least =
     elim (cases_lt a b) [
-      | inl less ↦ let far : n * (a + 1) ≤ n * b = mul-le-mul_left n (omega arith) in absurd (omega arith)
+      | inl less ↦ let far : n * (a + 1) ≤ n * b =
+          mul-le-mul_left n (omega arith) in absurd (omega arith)
       | inr more ↦ more
     ]
 
 -- two even cuts of the same indices into as many ranges are the same
-CutsFrom-unique : (from to : ℕ) (rs ss : List (Range ℕ)) → CutsFrom from rs to → CutsFrom from ss to → IsEven rs → IsEven ss → length rs ≡ length ss → rs ≡ ss
+CutsFrom-unique : (from to : ℕ) (rs ss : List (Range ℕ)) → CutsFrom from rs to → CutsFrom from ss to
+    → IsEven rs → IsEven ss → length rs ≡ length ss → rs ≡ ss
 CutsFrom-unique from to [] [] cut other even also same = refl
 CutsFrom-unique from to [] (s ∷ ss) cut other even also same = absurd (omega (arith, same))
 CutsFrom-unique from to (r ∷ rs) [] cut other even also same = absurd (omega (arith, same))
@@ -184,27 +241,36 @@ CutsFrom-unique from to (r ∷ rs) (s ∷ ss) cut other even also same =
     let total = CutsFrom-sum from to (r ∷ rs) cut in
     let again = CutsFrom-sum from to (s ∷ ss) other in
     let n = length (r ∷ rs) in
-    let turned : length (s ∷ ss) * range_length s ≡ n * range_length s = ap (λ k. k * range_length s) (sym same) in
+    let turned : length (s ∷ ss) * range_length s ≡ n * range_length s =
+    ap (λ k. k * range_length s) (sym same) in
     let tails : length rs ≡ length ss = omega (arith, same) in
-    let below : range_length s ≤ range_length r = greatest_once n (range_length r) (range_length s) (sum_by range_length (r ∷ rs)) (omega arith) one.0 (omega (arith, two.1, turned, total, again, tails)) in
-    let above : range_length r ≤ range_length s = greatest_once n (range_length s) (range_length r) (sum_by range_length (r ∷ rs)) (omega arith) (omega (arith, two.0, turned, total, again)) (omega (arith, one.1)) in
+    let below : range_length s ≤ range_length r = greatest_once n (range_length r) (range_length s)
+    (sum_by range_length (r ∷ rs)) (omega arith) one.0
+    (omega (arith, two.1, turned, total, again, tails)) in
+    let above : range_length r ≤ range_length s = greatest_once n (range_length s) (range_length r)
+    (sum_by range_length (r ∷ rs)) (omega arith) (omega (arith, two.0, turned, total, again))
+    (omega (arith, one.1)) in
     let starts : r.start ≡ s.start = cut.0 ∙ sym other.0 in
     let ends : r.end ≡ s.end = omega (arith, starts, below, above, cut.1, other.1) in
     let first : r ≡ s = λ i. record { start = starts i; end = ends i } in
     let P : ℕ → Type 0 = λ n. CutsFrom n ss to in
-    let rest : rs ≡ ss = CutsFrom-unique r.end to rs ss cut.2 (subst P (sym ends) other.2) (IsEven-tail r rs even) (IsEven-tail s ss also) tails in
+    let rest : rs ≡ ss = CutsFrom-unique r.end to rs ss cut.2 (subst P (sym ends) other.2)
+    (IsEven-tail r rs even) (IsEven-tail s ss also) tails in
     λ i. first i ∷ rest i
 
 -- the number of indices and the number of ranges settle a balanced cut
-pub BalancedCut-unique : (len : ℕ) (rs ss : List (Range ℕ)) → BalancedCut len rs → BalancedCut len ss → length rs ≡ length ss → rs ≡ ss
-BalancedCut-unique len rs ss cut other same = CutsFrom-unique 0 len rs ss cut.0 other.0 cut.1 other.1 same
+pub BalancedCut-unique : (len : ℕ) (rs ss : List (Range ℕ)) → BalancedCut len rs
+    → BalancedCut len ss → length rs ≡ length ss → rs ≡ ss
+BalancedCut-unique len rs ss cut other same =
+    CutsFrom-unique 0 len rs ss cut.0 other.0 cut.1 other.1 same
 
 -- a range's indices
 abbrev pub indices_of : Range ℕ → List ℕ
 indices_of r = range_with_len r.start (range_length r)
 
 -- so many numbers and then so many more are one run of numbers
-range_with_len-append : (a n m : ℕ) → range_with_len a n ++ range_with_len (a + n) m ≡ range_with_len a (n + m)
+range_with_len-append : (a n m : ℕ)
+    → range_with_len a n ++ range_with_len (a + n) m ≡ range_with_len a (n + m)
 range_with_len-append a zero m = rw (add-zero, zero-add) refl
 range_with_len-append a (suc n) m =
     let ih = range_with_len-append (a + 1) n m in
@@ -213,7 +279,8 @@ range_with_len-append a (suc n) m =
     rw (here, more) (ap (λ xs. a ∷ xs) ih)
 
 -- a run of numbers, and then the numbers that go on from it, are one run
-range_with_len-joined : (a b c n m total : ℕ) (xs : List ℕ) → b ≡ a → c ≡ a + n → xs ≡ range_with_len c m → n + m ≡ total → range_with_len b n ++ xs ≡ range_with_len a total
+range_with_len-joined : (a b c n m total : ℕ) (xs : List ℕ) → b ≡ a → c ≡ a + n
+    → xs ≡ range_with_len c m → n + m ≡ total → range_with_len b n ++ xs ≡ range_with_len a total
 range_with_len-joined a b c n m total xs starts goes_on more all =
     ap (λ k. range_with_len k n ++ xs) starts
     ∙ ap (λ ys. range_with_len a n ++ ys) (more ∙ ap (λ k. range_with_len k m) goes_on)
@@ -221,15 +288,20 @@ range_with_len-joined a b c n m total xs starts goes_on more all =
     ∙ ap (λ k. range_with_len a k) all
 
 -- the indices of a cut's ranges, one range after another, are all of its indices in order
-pub CutsFrom-indices : (from to : ℕ) (rs : List (Range ℕ)) → CutsFrom from rs to → flat_map indices_of rs ≡ range_with_len from (to - from)
+pub CutsFrom-indices : (from to : ℕ) (rs : List (Range ℕ)) → CutsFrom from rs to
+    → flat_map indices_of rs ≡ range_with_len from (to - from)
 CutsFrom-indices from to [] cuts = let none : to - from ≡ 0 = omega (arith, cuts) in rw none refl
 CutsFrom-indices from to (r ∷ rs) cuts =
-    range_with_len-joined from r.start r.end (range_length r) (to - r.end) (to - from) (flat_map indices_of rs) cuts.0 (omega (arith, cuts.0, cuts.1)) (CutsFrom-indices r.end to rs cuts.2)
+    range_with_len-joined from r.start r.end (range_length r) (to - r.end) (to - from)
+    (flat_map indices_of rs) cuts.0 (omega (arith, cuts.0, cuts.1))
+    (CutsFrom-indices r.end to rs cuts.2)
     (omega (arith, cuts.0, cuts.1, CutsFrom-ordered r.end to rs cuts.2))
 
 -- the ranges of a balanced cut have each index once, in order
-pub BalancedCut-indices : (len : ℕ) (rs : List (Range ℕ)) → BalancedCut len rs → flat_map indices_of rs ≡ range_with_len 0 len
-BalancedCut-indices len rs cut = CutsFrom-indices 0 len rs cut.0 ∙ ap (λ n. range_with_len 0 n) (omega arith)
+pub BalancedCut-indices : (len : ℕ) (rs : List (Range ℕ)) → BalancedCut len rs
+    → flat_map indices_of rs ≡ range_with_len 0 len
+BalancedCut-indices len rs cut = CutsFrom-indices 0 len rs cut.0
+    ∙ ap (λ n. range_with_len 0 n) (omega arith)
 
 -- ranges are a cut in one way alone
 pub CutsFrom-prop : (from : ℕ) (rs : List (Range ℕ)) (to : ℕ) → IsProp (CutsFrom from rs to)

@@ -1,4 +1,5 @@
--- Every event leads from holders that the machine showed to holders that it shows: by one move, or by none.
+-- Every event leads from holders that the machine showed to holders that it shows: by one move, or
+-- by none.
 use Rattle.std.proofs.Common.{◌≡◌, ℕ, ◌+◌, ◌<◌, ◌≤◌, inl, inr, Bool, true, false, cond, [], ◌∷◌, length, Some, None, refl, sym, ap, ◌∙◌, arith}
 use Rattle.std.proofs.lemmas.Bool.{cases_eq}
 use Rattle.std.proofs.lemmas.List.{length-set}
@@ -16,60 +17,92 @@ use Rattle.parallel_shares.specs.Holders.{pending, carried, claimed, Holders, Cl
 use Rattle.parallel_shares.proofs.Words.{start_of_packed, end_of_packed}
 use Rattle.parallel_shares.proofs.Counts.{side, within, before, after, inside_within, inside_cut, inside_nothing, inside_cells, inside_no_cells}
 use Rattle.parallel_shares.proofs.Lists.{in_ranges_push}
-use Rattle.parallel_shares.proofs.Places.{word_there, word_elsewhere, remembers_transit, remembers_claims, forgets_transit, forgets_claims, gains_transit, gains_there, gains_elsewhere, carries_claims, carries_there, carries_elsewhere, rememberer, carrier}
+use Rattle.parallel_shares.proofs.Places.{word_there, word_elsewhere, remembers_transit, remembers_claims, forgets_transit, forgets_claims, gains_transit}
+use Rattle.parallel_shares.proofs.Places.{gains_there, gains_elsewhere, carries_claims, carries_there, carries_elsewhere, rememberer, carrier}
 use Rattle.parallel_shares.proofs.Kept.{remembered_within, carried_within, steal_cuts}
 use Rattle.parallel_shares.proofs.Shown.{same_self, same_holder, other_pending, other_carried, other_claimed, handed, gives, takes, keeps, hands_over, Changes, shows_handed, shows_still}
 
 -- ---- no move
 
 -- a machine that shows what it showed before leads there by no move
-still : (sizes : Sizes) (old new : Machine) → ((share : ℕ) → word_at new share ≡ word_at old share) → ((seat : ℕ) → (place_at new seat).transit ≡ (place_at old seat).transit) → ((seat : ℕ) → (place_at new seat).claims ≡ (place_at old seat).claims) → Steps sizes old new
+still : (sizes : Sizes) (old new : Machine) → ((share : ℕ) → word_at new share ≡ word_at old share)
+    → ((seat : ℕ) → (place_at new seat).transit ≡ (place_at old seat).transit)
+    → ((seat : ℕ) → (place_at new seat).claims ≡ (place_at old seat).claims) → Steps sizes old new
 still sizes old new w t c holders s = ([], holders, refl, shows_still sizes old new holders w t c s)
 
 pub unmoved : (sizes : Sizes) (machine : Machine) → Steps sizes machine machine
 unmoved sizes machine = still sizes machine machine (λ _. refl) (λ _. refl) (λ _. refl)
 
-forgotten : (sizes : Sizes) (machine : Machine) (seat : ℕ) → Steps sizes machine (forgets machine seat)
+forgotten : (sizes : Sizes) (machine : Machine) (seat : ℕ)
+    → Steps sizes machine (forgets machine seat)
 forgotten sizes machine seat =
-    still sizes machine (forgets machine seat) (λ _. refl) (forgets_transit machine seat) (forgets_claims machine seat)
+    still sizes machine (forgets machine seat) (λ _. refl) (forgets_transit machine seat)
+    (forgets_claims machine seat)
 
-remembered : (sizes : Sizes) (machine : Machine) (seat : ℕ) (load : Remembered) → Steps sizes machine (remembers machine seat load)
+remembered : (sizes : Sizes) (machine : Machine) (seat : ℕ) (load : Remembered)
+    → Steps sizes machine (remembers machine seat load)
 remembered sizes machine seat load =
-    still sizes machine (remembers machine seat load) (λ _. refl) (remembers_transit machine seat load) (remembers_claims machine seat load)
+    still sizes machine (remembers machine seat load) (λ _. refl)
+    (remembers_transit machine seat load) (remembers_claims machine seat load)
 
 -- ---- parts of a word
 
 -- a word is its front and what is left behind it
-pub cut_front : (u word stop : ℕ) → start_of word ≤ stop → stop ≤ end_of word → end_of word ≤ 65535 → in_word u (packed stop (end_of word)) + inside u (start_of word) stop ≡ in_word u word
+pub cut_front : (u word stop : ℕ) → start_of word ≤ stop → stop ≤ end_of word → end_of word ≤ 65535
+    → in_word u (packed stop (end_of word)) + inside u (start_of word) stop ≡ in_word u word
 cut_front u word stop a b f =
-    rw (start_of_packed stop (end_of word) f, end_of_packed stop (end_of word) f) (omega (arith, inside_cut u (start_of word) stop (end_of word) a b))
+    rw (start_of_packed stop (end_of word) f, end_of_packed stop (end_of word) f)
+    (omega (arith, inside_cut u (start_of word) stop (end_of word) a b))
 
 -- a word is its back and what is left before it
-pub cut_back : (u word middle : ℕ) → start_of word ≤ middle → middle ≤ end_of word → end_of word ≤ 65535 → in_word u (packed (start_of word) middle) + inside u middle (end_of word) ≡ in_word u word
+pub cut_back : (u word middle : ℕ) → start_of word ≤ middle → middle ≤ end_of word
+    → end_of word ≤ 65535 → in_word u (packed (start_of word) middle) + inside u middle
+    (end_of word) ≡ in_word u word
 cut_back u word middle a b f =
-    rw (start_of_packed (start_of word) middle (omega arith), end_of_packed (start_of word) middle (omega arith)) (inside_cut u (start_of word) middle (end_of word) a b)
+    rw (
+      start_of_packed (start_of word) middle (omega arith),
+      end_of_packed (start_of word) middle (omega arith),
+    )
+    (inside_cut u (start_of word) middle (end_of word) a b)
 
 -- a unit in a range stands between its ends
 between : (u start end : ℕ) → inside u start end ≡ 1 → (start ≤ u) × (u < end)
-between u start end h = elim (side u start end) [ within s e i ↦ (s, e) | before l i ↦ absurd (omega arith) | after m i ↦ absurd (omega arith) ]
+between u start end h =
+    elim (side u start end) [
+      | within s e i ↦ (s, e)
+      | before l i ↦ absurd
+          (omega arith)
+      | after m i ↦ absurd (omega arith)
+    ]
 
-module _ (sizes : Sizes) (machine : Machine) (holders : Holders) (shows : Shows sizes machine holders) where
+module _ (sizes : Sizes) (machine : Machine) (holders : Holders)
+    (shows : Shows sizes machine holders) where
   -- a unit in a share's word is pending there, and a unit that is pending at a share is in its word
-  pending_there : (u share : ℕ) → u < sizes.units → in_word u (word_at machine share) ≡ 1 → holders u ≡ pending share
-  pending_there u share h i = same_holder (pending share) (holders u) (sym (shows.words u share h) ∙ i)
+  pending_there : (u share : ℕ) → u < sizes.units → in_word u (word_at machine share) ≡ 1
+      → holders u ≡ pending share
+  pending_there u share h i =
+      same_holder (pending share) (holders u) (sym (shows.words u share h) ∙ i)
 
-  in_the_word : (u share : ℕ) → u < sizes.units → holders u ≡ pending share → in_word u (word_at machine share) ≡ 1
-  in_the_word u share h e = shows.words u share h ∙ ap (λ x. same (pending share) x) e ∙ same_self (pending share)
+  in_the_word : (u share : ℕ) → u < sizes.units → holders u ≡ pending share
+      → in_word u (word_at machine share) ≡ 1
+  in_the_word u share h e = shows.words u share h ∙ ap (λ x. same (pending share) x) e
+      ∙ same_self (pending share)
 
-  carried_there : (u seat : ℕ) → u < sizes.units → in_transit u (place_at machine seat).transit ≡ 1 → holders u ≡ carried seat
-  carried_there u seat h i = same_holder (carried seat) (holders u) (sym (shows.transits u seat h) ∙ i)
+  carried_there : (u seat : ℕ) → u < sizes.units → in_transit u (place_at machine seat).transit ≡ 1
+      → holders u ≡ carried seat
+  carried_there u seat h i =
+      same_holder (carried seat) (holders u) (sym (shows.transits u seat h) ∙ i)
 
-  in_the_transit : (u seat : ℕ) → u < sizes.units → holders u ≡ carried seat → in_transit u (place_at machine seat).transit ≡ 1
-  in_the_transit u seat h e = shows.transits u seat h ∙ ap (λ x. same (carried seat) x) e ∙ same_self (carried seat)
+  in_the_transit : (u seat : ℕ) → u < sizes.units → holders u ≡ carried seat
+      → in_transit u (place_at machine seat).transit ≡ 1
+  in_the_transit u seat h e = shows.transits u seat h ∙ ap (λ x. same (carried seat) x) e
+      ∙ same_self (carried seat)
 
 -- ---- a claim
 
-module _ (sizes : Sizes) (old : Machine) (state : IsStateOf sizes old) (seat : ℕ) (can : CanClaim sizes old seat (word_at old (share_of sizes seat))) (some : ¬ IsEmptyWord (word_at old (share_of sizes seat))) where
+module _ (sizes : Sizes) (old : Machine) (state : IsStateOf sizes old) (seat : ℕ)
+    (can : CanClaim sizes old seat (word_at old (share_of sizes seat)))
+    (some : ¬ IsEmptyWord (word_at old (share_of sizes seat))) where
   abbrev own : ℕ
   own = share_of sizes seat
 
@@ -86,31 +119,61 @@ module _ (sizes : Sizes) (old : Machine) (state : IsStateOf sizes old) (seat : �
   claimer = with_word (forgets gained seat) own (packed (claim_stop sizes had) (end_of had))
 
   -- the claim is a nonempty front of the word
-  front : (start_of had < claim_stop sizes had) × (claim_stop sizes had ≤ end_of had) × (end_of had ≤ sizes.units)
+  front : (start_of had < claim_stop sizes had) × (claim_stop sizes had ≤ end_of had)
+      × (end_of had ≤ sizes.units)
   front =
       let w = state.words own in
       let s = state.sound.claim_counts in
       let l : start_of had < end_of had = omega (arith, w.0, some) in
       (omega arith, omega arith, w.1)
 
-  claim_changes : Changes sizes (start_of had) (claim_stop sizes had) (pending own) (claimed seat) old claimer
+  claim_changes : Changes sizes (start_of had) (claim_stop sizes had) (pending own)
+      (claimed seat) old claimer
   claim_changes =
       let load = remembered_within sizes old state seat _ can in
       let there : seat < length old.places = rememberer old seat _ can in
       let fits = state.sound.units_fit in
       record {
         words = λ u k h. elim (cases_eq k own) [
-          | inl e ↦ gives (ap pending e) refl (rw (e, word_there (forgets gained seat) own (packed (claim_stop sizes had) (end_of had)) (omega (arith, load.0, state.shares))) (cut_front u had (claim_stop sizes had) (omega (arith, front.0)) front.1 (omega (arith, front.2))))
-          | inr n ↦ keeps (other_pending k own n) refl (ap (λ w. in_word u w) (word_elsewhere (forgets gained seat) own (packed (claim_stop sizes had) (end_of had)) k n))
+          | inl e ↦ gives (ap pending e) refl
+              (rw (
+                e,
+                word_there (forgets gained seat) own
+                    (packed (claim_stop sizes had) (end_of had))
+                    (omega (arith, load.0, state.shares)),
+              )
+              (cut_front u had (claim_stop sizes had) (omega (arith, front.0)) front.1
+              (omega (arith, front.2))))
+          | inr n ↦ keeps (other_pending k own n) refl
+              (ap (λ w. in_word u w) (word_elsewhere (forgets gained seat) own
+              (packed (claim_stop sizes had) (end_of had)) k n))
         ];
-        transits = λ u k h. keeps refl refl (ap (λ t. in_transit u t) (forgets_transit gained seat k ∙ gains_transit old seat cells k));
+        transits = λ u k h. keeps refl refl
+            (ap (λ t. in_transit u t) (forgets_transit gained seat k
+            ∙ gains_transit old seat cells k));
         claims = λ c k h. elim (cases_eq k seat) [
-          | inl e ↦ takes (ap claimed e) refl (rw e (ap (λ rs. in_ranges c rs) (forgets_claims gained seat seat ∙ gains_there old seat cells there) ∙ in_ranges_push c (place_at old seat).claims cells ∙ ap (λ m. in_ranges c (place_at old seat).claims + m) (inside_cells c (start_of had) (claim_stop sizes had) sizes.unit sizes.cells state.sound.unit_counts h)))
-          | inr n ↦ keeps refl (other_claimed k seat n) (ap (λ rs. in_ranges c rs) (forgets_claims gained seat k ∙ gains_elsewhere old seat cells k n))
+          | inl e ↦ takes (ap claimed e) refl
+              (rw e (ap (λ rs. in_ranges c rs)
+              (forgets_claims gained seat seat ∙ gains_there old seat cells there)
+              ∙ in_ranges_push c (place_at old seat).claims cells
+              ∙ ap (λ m. in_ranges c (place_at old seat).claims + m)
+              (inside_cells c (start_of had) (claim_stop sizes had) sizes.unit sizes.cells
+              state.sound.unit_counts h)))
+          | inr n ↦ keeps refl (other_claimed k seat n)
+              (ap (λ rs. in_ranges c rs) (forgets_claims gained seat k
+              ∙ gains_elsewhere old seat cells k n))
         ];
         no_more = λ c k h. elim (cases_eq k seat) [
-          | inl e ↦ rw e (ap (λ rs. in_ranges c rs) (forgets_claims gained seat seat ∙ gains_there old seat cells there) ∙ in_ranges_push c (place_at old seat).claims cells ∙ omega (arith, inside_no_cells c (start_of had) (claim_stop sizes had) sizes.unit sizes.cells h))
-          | inr n ↦ ap (λ rs. in_ranges c rs) (forgets_claims gained seat k ∙ gains_elsewhere old seat cells k n)
+          | inl e ↦ rw e (ap (λ rs. in_ranges c rs)
+              (forgets_claims gained seat seat ∙ gains_there old seat cells there)
+              ∙ in_ranges_push c (place_at old seat).claims cells
+              ∙ omega (
+                arith,
+                inside_no_cells c (start_of had)
+                    (claim_stop sizes had) sizes.unit sizes.cells h,
+              ))
+          | inr n ↦ ap (λ rs. in_ranges c rs)
+              (forgets_claims gained seat k ∙ gains_elsewhere old seat cells k n)
         ];
       }
 
@@ -118,19 +181,30 @@ module _ (sizes : Sizes) (old : Machine) (state : IsStateOf sizes old) (seat : �
   claims_move holders s =
       let from : ℕ = start_of had in
       let to : ℕ = claim_stop sizes had in
-      let giver : (u : ℕ) → u < sizes.units → inside u from to ≡ 1 → holders u ≡ pending own = λ u h i. let b = between u from to i in pending_there sizes old holders s u own h (inside_within u from (end_of had) b.0 (omega (arith, b.1, front.1))) in
-      let move : Claims sizes seat from to holders (handed from to (claimed seat) holders) = record {
+      let giver : (u : ℕ) → u < sizes.units → inside u from to ≡ 1 → holders u ≡ pending own =
+      λ u h i. let b = between u from to i in pending_there sizes old holders s u own h
+      (inside_within u from (end_of had) b.0 (omega (arith, b.1, front.1))) in
+      let move : Claims sizes seat from to holders (handed from to (claimed seat) holders) =
+      record {
         seat_exists = omega (arith, rememberer old seat _ can, state.seats);
         some = front.0;
         within = omega (arith, front.1, front.2);
-        front = λ u h e. (between u from (end_of had) (in_the_word sizes old holders s u own h e)).0;
+        front =
+            λ u h e. (between u from (end_of had) (in_the_word sizes old holders s u own h e)).0;
         hands = hands_over sizes.units from to (pending own) (claimed seat) holders giver;
-      } in
-      (claim seat from to ∷ [], handed from to (claimed seat) holders, (holders, refl, move), shows_handed sizes state.sound from to (pending own) (claimed seat) old claimer holders claim_changes giver s)
+      } in (
+        claim seat from to ∷ [],
+        handed from to (claimed seat) holders,
+        (holders, refl, move),
+        shows_handed sizes state.sound from to (pending own)
+            (claimed seat) old claimer holders claim_changes giver s,
+      )
 
 -- ---- a steal
 
-module _ (sizes : Sizes) (old : Machine) (state : IsStateOf sizes old) (seat : ℕ) (load : Remembered) (can : CanSteal sizes old seat load) (pays : Pays sizes load.word) (found : word_at old load.share ≡ load.word) where
+module _ (sizes : Sizes) (old : Machine) (state : IsStateOf sizes old) (seat : ℕ)
+    (load : Remembered) (can : CanSteal sizes old seat load) (pays : Pays sizes load.word)
+    (found : word_at old load.share ≡ load.word) where
   abbrev loaded : ℕ
   loaded = load.word
 
@@ -141,31 +215,60 @@ module _ (sizes : Sizes) (old : Machine) (state : IsStateOf sizes old) (seat : �
   forgot = forgets old seat
 
   abbrev thief : Machine
-  thief = with_word (carries forgot seat (Some back)) load.share (packed (start_of loaded) (middle_of loaded))
+  thief = with_word (carries forgot seat (Some back)) load.share
+      (packed (start_of loaded) (middle_of loaded))
 
   -- the back half is nonempty, and so is what is left
-  halves : (start_of loaded < middle_of loaded) × (middle_of loaded < end_of loaded) × (end_of loaded ≤ sizes.units)
+  halves : (start_of loaded < middle_of loaded) × (middle_of loaded < end_of loaded)
+      × (end_of loaded ≤ sizes.units)
   halves =
       let w = (remembered_within sizes old state seat load can.0).1 in
       let p = pays.0 in
       (omega arith, omega arith, w.1)
 
-  steal_changes : Changes sizes (middle_of loaded) (end_of loaded) (pending load.share) (carried seat) old thief
+  steal_changes : Changes sizes (middle_of loaded) (end_of loaded) (pending load.share)
+      (carried seat) old thief
   steal_changes =
       let l = remembered_within sizes old state seat load can.0 in
       let there : seat < length old.places = rememberer old seat load can.0 in
       let fits = state.sound.units_fit in
       record {
         words = λ u k h. elim (cases_eq k load.share) [
-          | inl e ↦ gives (ap pending e) refl (rw (e, word_there (carries forgot seat (Some back)) load.share (packed (start_of loaded) (middle_of loaded)) (omega (arith, l.0, state.shares)), found) (cut_back u loaded (middle_of loaded) (omega (arith, halves.0)) (omega (arith, halves.1)) (omega (arith, halves.2))))
-          | inr n ↦ keeps (other_pending k load.share n) refl (ap (λ w. in_word u w) (word_elsewhere (carries forgot seat (Some back)) load.share (packed (start_of loaded) (middle_of loaded)) k n))
+          | inl e ↦ gives (ap pending e) refl
+              (rw (
+                e,
+                word_there (carries forgot seat (Some back)) load.share
+                    (packed (start_of loaded) (middle_of loaded))
+                    (omega (arith, l.0, state.shares)),
+                found,
+              ) (cut_back u loaded (middle_of loaded) (omega (arith, halves.0))
+              (omega (arith, halves.1)) (omega (arith, halves.2))))
+          | inr n ↦ keeps (other_pending k load.share n) refl
+              (ap (λ w. in_word u w) (word_elsewhere (carries forgot seat (Some back)) load.share
+              (packed (start_of loaded) (middle_of loaded)) k n))
         ];
         transits = λ u k h. elim (cases_eq k seat) [
-          | inl e ↦ takes (ap carried e) refl (rw (e, carries_there forgot seat (Some back) (omega (arith, there, length-set old.places seat (record (place_at old seat) { remembered = None }))), can.2) (omega arith))
-          | inr n ↦ keeps refl (other_carried k seat n) (ap (λ t. in_transit u t) (carries_elsewhere forgot seat (Some back) k n ∙ forgets_transit old seat k))
+          | inl e ↦ takes (ap carried e) refl
+              (rw (
+                e,
+                carries_there forgot seat (Some back)
+                    (omega (
+                      arith,
+                      there,
+                      length-set old.places seat
+                          (record (place_at old seat) { remembered = None }),
+                    )),
+                can.2,
+              ) (omega arith))
+          | inr n ↦ keeps refl (other_carried k seat n)
+              (ap (λ t. in_transit u t) (carries_elsewhere forgot seat (Some back) k n
+              ∙ forgets_transit old seat k))
         ];
-        claims = λ c k h. keeps refl refl (ap (λ rs. in_ranges c rs) (carries_claims forgot seat (Some back) k ∙ forgets_claims old seat k));
-        no_more = λ c k h. ap (λ rs. in_ranges c rs) (carries_claims forgot seat (Some back) k ∙ forgets_claims old seat k);
+        claims = λ c k h. keeps refl refl
+            (ap (λ rs. in_ranges c rs) (carries_claims forgot seat (Some back) k
+            ∙ forgets_claims old seat k));
+        no_more = λ c k h. ap (λ rs. in_ranges c rs)
+            (carries_claims forgot seat (Some back) k ∙ forgets_claims old seat k);
       }
 
   steals_move : Steps sizes old thief
@@ -173,28 +276,48 @@ module _ (sizes : Sizes) (old : Machine) (state : IsStateOf sizes old) (seat : �
       let from : ℕ = middle_of loaded in
       let to : ℕ = end_of loaded in
       let l = remembered_within sizes old state seat load can.0 in
-      let giver : (u : ℕ) → u < sizes.units → inside u from to ≡ 1 → holders u ≡ pending load.share = λ u h i. let b = between u from to i in pending_there sizes old holders s u load.share h (rw found (inside_within u (start_of loaded) to (omega (arith, b.0, halves.0)) b.1)) in
-      let move : Steals sizes seat load.share from to holders (handed from to (carried seat) holders) = record {
+      let giver : (u : ℕ) → u < sizes.units → inside u from to ≡ 1
+      → holders u ≡ pending load.share = λ u h i. let b = between u from to i in pending_there
+      sizes old holders s u load.share h
+      (rw found (inside_within u (start_of loaded) to (omega (arith, b.0, halves.0)) b.1)) in
+      let move : Steals sizes seat load.share from to holders
+      (handed from to (carried seat) holders) = record {
         cut = steal_cuts sizes old state seat load can;
         seat_exists = omega (arith, rememberer old seat load can.0, state.seats);
         share_exists = l.0;
         other = can.1;
         some = halves.1;
         within = halves.2;
-        back = λ u h e. (between u (start_of loaded) to (rw found at (in_the_word sizes old holders s u load.share h e))).1;
-        leaves = (start_of loaded, halves.0, pending_there sizes old holders s (start_of loaded) load.share (omega (arith, halves.0, halves.1, halves.2)) (rw found (inside_within (start_of loaded) (start_of loaded) to (omega arith) (omega (arith, halves.0, halves.1)))));
+        back =
+            λ u h e. (between u (start_of loaded) to
+            (rw found at (in_the_word sizes old holders s u load.share h e))).1;
+        leaves = (
+          start_of loaded,
+          halves.0,
+          pending_there sizes old holders s
+              (start_of loaded) load.share (omega (arith, halves.0, halves.1, halves.2))
+              (rw found (inside_within (start_of loaded) (start_of loaded) to (omega arith)
+              (omega (arith, halves.0, halves.1)))),
+        );
         hands = hands_over sizes.units from to (pending load.share) (carried seat) holders giver;
-      } in
-      (steal seat load.share from to ∷ [], handed from to (carried seat) holders, (holders, refl, move), shows_handed sizes state.sound from to (pending load.share) (carried seat) old thief holders steal_changes giver s)
+      } in (
+        steal seat load.share from to ∷ [],
+        handed from to (carried seat) holders,
+        (holders, refl, move),
+        shows_handed sizes state.sound from to (pending load.share)
+            (carried seat) old thief holders steal_changes giver s,
+      )
 
 -- ---- a refill
 
 -- the share that a seat claims from exists
-own_share : (whole : Bool) (workers seat : ℕ) → seat < workers → cond whole 0 seat < cond whole 1 workers
+own_share : (whole : Bool) (workers seat : ℕ) → seat < workers
+    → cond whole 0 seat < cond whole 1 workers
 own_share true workers seat h = omega arith
 own_share false workers seat h = h
 
-module _ (sizes : Sizes) (old : Machine) (state : IsStateOf sizes old) (seat : ℕ) (units : Range ℕ) (can : CanRefill sizes old seat units) where
+module _ (sizes : Sizes) (old : Machine) (state : IsStateOf sizes old) (seat : ℕ) (units : Range ℕ)
+    (can : CanRefill sizes old seat units) where
   abbrev mine : ℕ
   mine = share_of sizes seat
 
@@ -202,7 +325,8 @@ module _ (sizes : Sizes) (old : Machine) (state : IsStateOf sizes old) (seat : �
   filled = with_word (carries old seat None) mine (packed units.start units.end)
 
   mine_exists : mine < shares_of sizes
-  mine_exists = own_share sizes.whole sizes.workers seat (omega (arith, carrier old seat units can.0, state.seats))
+  mine_exists = own_share sizes.whole sizes.workers seat
+      (omega (arith, carrier old seat units can.0, state.seats))
 
   refill_changes : Changes sizes units.start units.end (carried seat) (pending mine) old filled
   refill_changes =
@@ -211,14 +335,31 @@ module _ (sizes : Sizes) (old : Machine) (state : IsStateOf sizes old) (seat : �
       let fits : units.end ≤ 65535 = omega (arith, c.1, state.sound.units_fit) in
       record {
         words = λ u k h. elim (cases_eq k mine) [
-          | inl e ↦ takes (ap pending e) refl (rw (e, word_there (carries old seat None) mine (packed units.start units.end) (omega (arith, mine_exists, state.shares)), start_of_packed units.start units.end fits, end_of_packed units.start units.end fits) (omega (arith, inside_nothing u (start_of (word_at old mine)) (end_of (word_at old mine)) (omega (arith, can.1)))))
-          | inr n ↦ keeps refl (other_pending k mine n) (ap (λ w. in_word u w) (word_elsewhere (carries old seat None) mine (packed units.start units.end) k n))
+          | inl e ↦ takes (ap pending e) refl
+              (rw (
+                e,
+                word_there (carries old seat None) mine (packed units.start units.end)
+                    (omega (arith, mine_exists, state.shares)),
+                start_of_packed units.start units.end fits,
+                end_of_packed units.start units.end fits,
+              )
+              (omega (
+                arith,
+                inside_nothing u (start_of (word_at old mine))
+                    (end_of (word_at old mine)) (omega (arith, can.1)),
+              )))
+          | inr n ↦ keeps refl (other_pending k mine n)
+              (ap (λ w. in_word u w) (word_elsewhere (carries old seat None) mine
+              (packed units.start units.end) k n))
         ];
         transits = λ u k h. elim (cases_eq k seat) [
-          | inl e ↦ gives (ap carried e) refl (rw (e, carries_there old seat None there, can.0) (omega arith))
-          | inr n ↦ keeps (other_carried k seat n) refl (ap (λ t. in_transit u t) (carries_elsewhere old seat None k n))
+          | inl e ↦ gives (ap carried e) refl
+              (rw (e, carries_there old seat None there, can.0) (omega arith))
+          | inr n ↦ keeps (other_carried k seat n) refl
+              (ap (λ t. in_transit u t) (carries_elsewhere old seat None k n))
         ];
-        claims = λ c k h. keeps refl refl (ap (λ rs. in_ranges c rs) (carries_claims old seat None k));
+        claims =
+            λ c k h. keeps refl refl (ap (λ rs. in_ranges c rs) (carries_claims old seat None k));
         no_more = λ c k h. ap (λ rs. in_ranges c rs) (carries_claims old seat None k);
       }
 
@@ -227,26 +368,44 @@ module _ (sizes : Sizes) (old : Machine) (state : IsStateOf sizes old) (seat : �
       let from : ℕ = units.start in
       let to : ℕ = units.end in
       let c = carried_within sizes old state seat units can.0 in
-      let giver : (u : ℕ) → u < sizes.units → inside u from to ≡ 1 → holders u ≡ carried seat = λ u h i. carried_there sizes old holders s u seat h (rw can.0 i) in
-      let move : Refills sizes seat from to holders (handed from to (pending mine) holders) = record {
+      let giver : (u : ℕ) → u < sizes.units → inside u from to ≡ 1 → holders u ≡ carried seat =
+      λ u h i. carried_there sizes old holders s u seat h (rw can.0 i) in
+      let move : Refills sizes seat from to holders (handed from to (pending mine) holders) =
+      record {
         seat_exists = omega (arith, carrier old seat units can.0, state.seats);
         some = c.0;
         within = c.1;
-        all = λ u h e. between u from to (rw can.0 at (in_the_transit sizes old holders s u seat h e));
-        empty = λ u h e. omega (arith, in_the_word sizes old holders s u mine h e, inside_nothing u (start_of (word_at old mine)) (end_of (word_at old mine)) (omega (arith, can.1)));
+        all =
+            λ u h e. between u from to (rw can.0 at
+            (in_the_transit sizes old holders s u seat h e));
+        empty =
+            λ u h e. omega (
+              arith,
+              in_the_word sizes old holders s u mine h e,
+              inside_nothing u (start_of (word_at old mine)) (end_of (word_at old mine))
+                  (omega (arith, can.1)),
+            );
         hands = hands_over sizes.units from to (carried seat) (pending mine) holders giver;
-      } in
-      (refill seat from to ∷ [], handed from to (pending mine) holders, (holders, refl, move), shows_handed sizes state.sound from to (carried seat) (pending mine) old filled holders refill_changes giver s)
+      } in (
+        refill seat from to ∷ [],
+        handed from to (pending mine) holders,
+        (holders, refl, move),
+        shows_handed sizes state.sound from to (carried seat)
+            (pending mine) old filled holders refill_changes giver s,
+      )
 
 -- ---- every event
 
 module _ (sizes : Sizes) (old : Machine) (state : IsStateOf sizes old) where
-  load_moves : (seat share : ℕ) (outcome : Outcome) (new : Machine) → LoadAnswers old seat share outcome new → Steps sizes old new
-  load_moves seat share (Loaded word) new (can, w, e) = rw e (remembered sizes old seat (record { share = share; word = word }))
+  load_moves : (seat share : ℕ) (outcome : Outcome) (new : Machine)
+      → LoadAnswers old seat share outcome new → Steps sizes old new
+  load_moves seat share (Loaded word) new (can, w, e) =
+      rw e (remembered sizes old seat (record { share = share; word = word }))
   load_moves seat share Refused new (_, e) = rw e (unmoved sizes old)
   load_moves seat share _ new a = absurd a
 
-  claim_moves : (seat : ℕ) (outcome : Outcome) (new : Machine) → ClaimAnswers sizes old seat outcome new → Steps sizes old new
+  claim_moves : (seat : ℕ) (outcome : Outcome) (new : Machine)
+      → ClaimAnswers sizes old seat outcome new → Steps sizes old new
   claim_moves seat Empty new (word, can, empty, e) = rw e (forgotten sizes old seat)
   claim_moves seat Lost new (word, can, some, lost, e) = rw e (forgotten sizes old seat)
   claim_moves seat (Claimed cells) new (word, can, some, found, is, e) =
@@ -254,19 +413,24 @@ module _ (sizes : Sizes) (old : Machine) (state : IsStateOf sizes old) where
   claim_moves seat Refused new (_, e) = rw e (unmoved sizes old)
   claim_moves seat _ new a = absurd a
 
-  steal_moves : (seat : ℕ) (outcome : Outcome) (new : Machine) → StealAnswers sizes old seat outcome new → Steps sizes old new
+  steal_moves : (seat : ℕ) (outcome : Outcome) (new : Machine)
+      → StealAnswers sizes old seat outcome new → Steps sizes old new
   steal_moves seat Nothing new (load, can, pays, e) = rw e (forgotten sizes old seat)
   steal_moves seat Lost new (load, can, pays, lost, e) = rw e (forgotten sizes old seat)
-  steal_moves seat (Taken units) new (load, can, pays, found, is, e) = rw (e, is) (steals_move sizes old state seat load can pays found)
+  steal_moves seat (Taken units) new (load, can, pays, found, is, e) =
+      rw (e, is) (steals_move sizes old state seat load can pays found)
   steal_moves seat Refused new (_, e) = rw e (unmoved sizes old)
   steal_moves seat _ new a = absurd a
 
-  refill_moves : (seat : ℕ) (outcome : Outcome) (new : Machine) → RefillAnswers sizes old seat outcome new → Steps sizes old new
-  refill_moves seat (Refilled word) new (units, can, is, e) = rw (e, is) (refills_move sizes old state seat units can)
+  refill_moves : (seat : ℕ) (outcome : Outcome) (new : Machine)
+      → RefillAnswers sizes old seat outcome new → Steps sizes old new
+  refill_moves seat (Refilled word) new (units, can, is, e) =
+      rw (e, is) (refills_move sizes old state seat units can)
   refill_moves seat Refused new (_, e) = rw e (unmoved sizes old)
   refill_moves seat _ new a = absurd a
 
-  pub answers_move : (event : Event) (outcome : Outcome) (new : Machine) → Answers sizes old event outcome new → Steps sizes old new
+  pub answers_move : (event : Event) (outcome : Outcome) (new : Machine)
+      → Answers sizes old event outcome new → Steps sizes old new
   answers_move (Load seat share) outcome new a = load_moves seat share outcome new a
   answers_move (Claim seat) outcome new a = claim_moves seat outcome new a
   answers_move (Steal seat) outcome new a = steal_moves seat outcome new a

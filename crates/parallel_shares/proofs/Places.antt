@@ -7,58 +7,88 @@ use Rattle.parallel_shares.specs.declared.machine.state.Remembered.{Remembered}
 use Rattle.parallel_shares.specs.Machine.{Machine, fresh, word_at, place_at, with_word, remembers, forgets, gains, carries}
 use Rattle.parallel_shares.proofs.Lists.{set_same, stands}
 
-pub word_there : (machine : Machine) (share word : ℕ) → share < length machine.words → word_at (with_word machine share word) share ≡ word
+pub word_there : (machine : Machine) (share word : ℕ) → share < length machine.words
+    → word_at (with_word machine share word) share ≡ word
 word_there machine share word h = get_or-set_same machine.words share word 0 h
 
-pub word_elsewhere : (machine : Machine) (share word other : ℕ) → other ≢ share → word_at (with_word machine share word) other ≡ word_at machine other
+pub word_elsewhere : (machine : Machine) (share word other : ℕ) → other ≢ share
+    → word_at (with_word machine share word) other ≡ word_at machine other
 word_elsewhere machine share word other n = get_or-set_other machine.words share other word 0 n
 
 -- ---- a seat's load changes no transit and no claims
 
-pub remembers_transit : (machine : Machine) (seat : ℕ) (load : Remembered) (k : ℕ) → (place_at (remembers machine seat load) k).transit ≡ (place_at machine k).transit
-remembers_transit machine seat load = set_same (λ (p : Place). p.transit) machine.places seat (record (place_at machine seat) { remembered = Some load }) fresh refl
+pub remembers_transit : (machine : Machine) (seat : ℕ) (load : Remembered) (k : ℕ)
+    → (place_at (remembers machine seat load) k).transit ≡ (place_at machine k).transit
+remembers_transit machine seat load = set_same (λ (p : Place). p.transit) machine.places seat
+    (record (place_at machine seat) { remembered = Some load }) fresh refl
 
-pub remembers_claims : (machine : Machine) (seat : ℕ) (load : Remembered) (k : ℕ) → (place_at (remembers machine seat load) k).claims ≡ (place_at machine k).claims
-remembers_claims machine seat load = set_same (λ (p : Place). p.claims) machine.places seat (record (place_at machine seat) { remembered = Some load }) fresh refl
+pub remembers_claims : (machine : Machine) (seat : ℕ) (load : Remembered) (k : ℕ)
+    → (place_at (remembers machine seat load) k).claims ≡ (place_at machine k).claims
+remembers_claims machine seat load = set_same (λ (p : Place). p.claims) machine.places seat
+    (record (place_at machine seat) { remembered = Some load }) fresh refl
 
-pub forgets_transit : (machine : Machine) (seat k : ℕ) → (place_at (forgets machine seat) k).transit ≡ (place_at machine k).transit
-forgets_transit machine seat = set_same (λ (p : Place). p.transit) machine.places seat (record (place_at machine seat) { remembered = None }) fresh refl
+pub forgets_transit : (machine : Machine) (seat k : ℕ)
+    → (place_at (forgets machine seat) k).transit ≡ (place_at machine k).transit
+forgets_transit machine seat = set_same (λ (p : Place). p.transit) machine.places seat
+    (record (place_at machine seat) { remembered = None }) fresh refl
 
-pub forgets_claims : (machine : Machine) (seat k : ℕ) → (place_at (forgets machine seat) k).claims ≡ (place_at machine k).claims
-forgets_claims machine seat = set_same (λ (p : Place). p.claims) machine.places seat (record (place_at machine seat) { remembered = None }) fresh refl
+pub forgets_claims : (machine : Machine) (seat k : ℕ)
+    → (place_at (forgets machine seat) k).claims ≡ (place_at machine k).claims
+forgets_claims machine seat = set_same (λ (p : Place). p.claims) machine.places seat
+    (record (place_at machine seat) { remembered = None }) fresh refl
 
 -- ---- claims change no transit
 
-pub gains_transit : (machine : Machine) (seat : ℕ) (cells : Range ℕ) (k : ℕ) → (place_at (gains machine seat cells) k).transit ≡ (place_at machine k).transit
-gains_transit machine seat cells = set_same (λ (p : Place). p.transit) machine.places seat (record (place_at machine seat) { claims = (place_at machine seat).claims ++ cells ∷ [] }) fresh refl
+pub gains_transit : (machine : Machine) (seat : ℕ) (cells : Range ℕ) (k : ℕ)
+    → (place_at (gains machine seat cells) k).transit ≡ (place_at machine k).transit
+gains_transit machine seat cells = set_same (λ (p : Place). p.transit) machine.places seat
+    (record (place_at machine seat) { claims = (place_at machine seat).claims ++ cells ∷ [] }) fresh
+    refl
 
-pub gains_there : (machine : Machine) (seat : ℕ) (cells : Range ℕ) → seat < length machine.places → (place_at (gains machine seat cells) seat).claims ≡ (place_at machine seat).claims ++ cells ∷ []
+pub gains_there : (machine : Machine) (seat : ℕ) (cells : Range ℕ) → seat < length machine.places
+    → (place_at (gains machine seat cells) seat).claims ≡ (place_at machine
+    seat).claims ++ cells ∷ []
 gains_there machine seat cells h =
-    ap (λ (p : Place). p.claims) (get_or-set_same machine.places seat (record (place_at machine seat) { claims = (place_at machine seat).claims ++ cells ∷ [] }) fresh h)
+    ap (λ (p : Place). p.claims) (get_or-set_same machine.places seat
+    (record (place_at machine seat) { claims = (place_at machine seat).claims ++ cells ∷ [] })
+    fresh h)
 
-pub gains_elsewhere : (machine : Machine) (seat : ℕ) (cells : Range ℕ) (k : ℕ) → k ≢ seat → (place_at (gains machine seat cells) k).claims ≡ (place_at machine k).claims
+pub gains_elsewhere : (machine : Machine) (seat : ℕ) (cells : Range ℕ) (k : ℕ) → k ≢ seat
+    → (place_at (gains machine seat cells) k).claims ≡ (place_at machine k).claims
 gains_elsewhere machine seat cells k n =
-    ap (λ (p : Place). p.claims) (get_or-set_other machine.places seat k (record (place_at machine seat) { claims = (place_at machine seat).claims ++ cells ∷ [] }) fresh n)
+    ap (λ (p : Place). p.claims) (get_or-set_other machine.places seat k
+    (record (place_at machine seat) { claims = (place_at machine seat).claims ++ cells ∷ [] })
+    fresh n)
 
 -- ---- a transit changes no claims
 
-pub carries_claims : (machine : Machine) (seat : ℕ) (units : Option (Range ℕ)) (k : ℕ) → (place_at (carries machine seat units) k).claims ≡ (place_at machine k).claims
-carries_claims machine seat units = set_same (λ (p : Place). p.claims) machine.places seat (record (place_at machine seat) { transit = units }) fresh refl
+pub carries_claims : (machine : Machine) (seat : ℕ) (units : Option (Range ℕ)) (k : ℕ)
+    → (place_at (carries machine seat units) k).claims ≡ (place_at machine k).claims
+carries_claims machine seat units = set_same (λ (p : Place). p.claims) machine.places seat
+    (record (place_at machine seat) { transit = units }) fresh refl
 
-pub carries_there : (machine : Machine) (seat : ℕ) (units : Option (Range ℕ)) → seat < length machine.places → (place_at (carries machine seat units) seat).transit ≡ units
+pub carries_there : (machine : Machine) (seat : ℕ) (units : Option (Range ℕ))
+    → seat < length machine.places → (place_at (carries machine seat units) seat).transit ≡ units
 carries_there machine seat units h =
-    ap (λ (p : Place). p.transit) (get_or-set_same machine.places seat (record (place_at machine seat) { transit = units }) fresh h)
+    ap (λ (p : Place). p.transit) (get_or-set_same machine.places seat
+    (record (place_at machine seat) { transit = units }) fresh h)
 
-pub carries_elsewhere : (machine : Machine) (seat : ℕ) (units : Option (Range ℕ)) (k : ℕ) → k ≢ seat → (place_at (carries machine seat units) k).transit ≡ (place_at machine k).transit
+pub carries_elsewhere : (machine : Machine) (seat : ℕ) (units : Option (Range ℕ)) (k : ℕ) → k ≢ seat
+    → (place_at (carries machine seat units) k).transit ≡ (place_at machine k).transit
 carries_elsewhere machine seat units k n =
-    ap (λ (p : Place). p.transit) (get_or-set_other machine.places seat k (record (place_at machine seat) { transit = units }) fresh n)
+    ap (λ (p : Place). p.transit) (get_or-set_other machine.places seat k
+    (record (place_at machine seat) { transit = units }) fresh n)
 
 -- ---- a seat that remembers or carries something exists
 
-pub rememberer : (machine : Machine) (seat : ℕ) (load : Remembered) → (place_at machine seat).remembered ≡ Some load → seat < length machine.places
+pub rememberer : (machine : Machine) (seat : ℕ) (load : Remembered)
+    → (place_at machine seat).remembered ≡ Some load → seat < length machine.places
 rememberer machine seat load e =
-    stands (λ (p : Place). p.remembered) machine.places seat fresh (λ n. let b : Some load ≡ None = sym e ∙ n in cc)
+    stands (λ (p : Place). p.remembered) machine.places seat fresh
+    (λ n. let b : Some load ≡ None = sym e ∙ n in cc)
 
-pub carrier : (machine : Machine) (seat : ℕ) (units : Range ℕ) → (place_at machine seat).transit ≡ Some units → seat < length machine.places
+pub carrier : (machine : Machine) (seat : ℕ) (units : Range ℕ)
+    → (place_at machine seat).transit ≡ Some units → seat < length machine.places
 carrier machine seat units e =
-    stands (λ (p : Place). p.transit) machine.places seat fresh (λ n. let b : Some units ≡ None = sym e ∙ n in cc)
+    stands (λ (p : Place). p.transit) machine.places seat fresh
+    (λ n. let b : Some units ≡ None = sym e ∙ n in cc)

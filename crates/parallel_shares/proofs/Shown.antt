@@ -17,7 +17,11 @@ same_self (claimed i) = rw (eq-eqb i i refl) refl
 -- two numbers whose test counts 1 are one
 one_number : (i j : ℕ) → same_number i j ≡ 1 → j ≡ i
 one_number i j h =
-    elim (cases_eq i j) [ inl e ↦ sym e | inr n ↦ absurd (let z : same_number i j ≡ 0 = rw (ne_eqb i j n) refl in omega (arith, h, z)) ]
+    elim (cases_eq i j) [
+      | inl e ↦ sym e
+      | inr n ↦ absurd
+          (let z : same_number i j ≡ 0 = rw (ne_eqb i j n) refl in omega (arith, h, z))
+    ]
 
 pub same_holder : (x y : Holder) → same x y ≡ 1 → y ≡ x
 same_holder (pending i) (pending j) h = ap pending (one_number i j h)
@@ -51,14 +55,19 @@ hand (suc _) taker holder = taker
 pub handed : ℕ → ℕ → Holder → Holders → Holders
 handed from to taker holders u = hand (inside u from to) taker (holders u)
 
--- what a count does at a holder when units go from a giver to a taker: it loses them, wins them, or stays
+-- what a count does at a holder when units go from a giver to a taker: it loses them, wins them, or
+-- stays
 pub data Change (giver taker holder : Holder) (moved old new : ℕ) : Type 0 where
-  gives : holder ≡ giver → same holder taker ≡ 0 → new + moved ≡ old → Change giver taker holder moved old new
-  takes : holder ≡ taker → same holder giver ≡ 0 → new ≡ old + moved → Change giver taker holder moved old new
-  keeps : same holder giver ≡ 0 → same holder taker ≡ 0 → new ≡ old → Change giver taker holder moved old new
+  gives : holder ≡ giver → same holder taker ≡ 0 → new + moved ≡ old
+      → Change giver taker holder moved old new
+  takes : holder ≡ taker → same holder giver ≡ 0 → new ≡ old + moved
+      → Change giver taker holder moved old new
+  keeps : same holder giver ≡ 0 → same holder taker ≡ 0 → new ≡ old
+      → Change giver taker holder moved old new
 
 -- where the count agreed with the holder, it still does after the change
-settled : (giver taker x y : Holder) (moved old new : ℕ) → Change giver taker x moved old new → moved ≤ 1 → (moved ≡ 1 → y ≡ giver) → old ≡ same x y → new ≡ same x (hand moved taker y)
+settled : (giver taker x y : Holder) (moved old new : ℕ) → Change giver taker x moved old new
+    → moved ≤ 1 → (moved ≡ 1 → y ≡ giver) → old ≡ same x y → new ≡ same x (hand moved taker y)
 unfolding hand
 settled giver taker x y zero old new (gives e n c) b g o = omega arith
 settled giver taker x y zero old new (takes e n c) b g o = omega arith
@@ -74,7 +83,9 @@ settled giver taker x y (suc zero) old new (keeps m n c) b g o =
 settled giver taker x y (suc (suc k)) old new c b g o = absurd (omega arith)
 
 -- units that go from giver to taker
-pub hands_over : (units from to : ℕ) (giver taker : Holder) (holders : Holders) → ((u : ℕ) → u < units → inside u from to ≡ 1 → holders u ≡ giver) → Hands units from to giver taker holders (handed from to taker holders)
+pub hands_over : (units from to : ℕ) (giver taker : Holder) (holders : Holders)
+    → ((u : ℕ) → u < units → inside u from to ≡ 1 → holders u ≡ giver)
+    → Hands units from to giver taker holders (handed from to taker holders)
 unfolding hand handed
 hands_over units from to giver taker holders g = record {
   given = λ u h s e. g u h (inside_within u from to s e);
@@ -84,28 +95,50 @@ hands_over units from to giver taker holders g = record {
 }
 
 -- what changes at each holder when a machine hands units over
-pub record Changes (sizes : Sizes) (from to : ℕ) (giver taker : Holder) (old new : Machine) : Type 0 where
-  pub words : (u share : ℕ) → u < sizes.units → Change giver taker (pending share) (inside u from to) (in_word u (word_at old share)) (in_word u (word_at new share))
-  pub transits : (u seat : ℕ) → u < sizes.units → Change giver taker (carried seat) (inside u from to) (in_transit u (place_at old seat).transit) (in_transit u (place_at new seat).transit)
-  pub claims : (c seat : ℕ) → c < sizes.cells → Change giver taker (claimed seat) (inside (c / sizes.unit) from to) (in_ranges c (place_at old seat).claims) (in_ranges c (place_at new seat).claims)
-  pub no_more : (c seat : ℕ) → sizes.cells ≤ c → in_ranges c (place_at new seat).claims ≡ in_ranges c (place_at old seat).claims
+pub record Changes (sizes : Sizes) (from to : ℕ) (giver taker : Holder)
+    (old new : Machine) : Type 0 where
+  pub words : (u share : ℕ) → u < sizes.units
+      → Change giver taker (pending share) (inside u from to) (in_word u (word_at old share))
+      (in_word u (word_at new share))
+  pub transits : (u seat : ℕ) → u < sizes.units
+      → Change giver taker (carried seat) (inside u from to)
+      (in_transit u (place_at old seat).transit) (in_transit u (place_at new seat).transit)
+  pub claims : (c seat : ℕ) → c < sizes.cells
+      → Change giver taker (claimed seat) (inside (c / sizes.unit) from to)
+      (in_ranges c (place_at old seat).claims) (in_ranges c (place_at new seat).claims)
+  pub no_more : (c seat : ℕ) → sizes.cells ≤ c
+      → in_ranges c (place_at new seat).claims ≡ in_ranges c (place_at old seat).claims
 
 -- the unit of a cell is one of the units
-pub unit_of_cell : (sizes : Sizes) → IsSound sizes → (c : ℕ) → c < sizes.cells → c / sizes.unit < sizes.units
-unit_of_cell sizes sound c h = div_below c sizes.unit sizes.units sound.unit_counts (omega (arith, sound.units_cover))
+pub unit_of_cell : (sizes : Sizes) → IsSound sizes → (c : ℕ) → c < sizes.cells
+    → c / sizes.unit < sizes.units
+unit_of_cell sizes sound c h =
+    div_below c sizes.unit sizes.units sound.unit_counts (omega (arith, sound.units_cover))
 
 -- a machine that hands units over shows the holders from before with the units handed over
-pub shows_handed : (sizes : Sizes) → IsSound sizes → (from to : ℕ) (giver taker : Holder) (old new : Machine) (holders : Holders) → Changes sizes from to giver taker old new → ((u : ℕ) → u < sizes.units → inside u from to ≡ 1 → holders u ≡ giver) → Shows sizes old holders → Shows sizes new (handed from to taker holders)
+pub shows_handed : (sizes : Sizes) → IsSound sizes
+    → (from to : ℕ) (giver taker : Holder) (old new : Machine) (holders : Holders)
+    → Changes sizes from to giver taker old new
+    → ((u : ℕ) → u < sizes.units → inside u from to ≡ 1 → holders u ≡ giver)
+    → Shows sizes old holders → Shows sizes new (handed from to taker holders)
 unfolding handed
 shows_handed sizes sound from to giver taker old new holders c g s = record {
-  words = λ u share h. settled giver taker (pending share) (holders u) (inside u from to) _ _ (c.words u share h) (inside_below u from to) (g u h) (s.words u share h);
-  transits = λ u seat h. settled giver taker (carried seat) (holders u) (inside u from to) _ _ (c.transits u seat h) (inside_below u from to) (g u h) (s.transits u seat h);
-  claims = λ e seat h. let u = e / sizes.unit in settled giver taker (claimed seat) (holders u) (inside u from to) _ _ (c.claims e seat h) (inside_below u from to) (g u (unit_of_cell sizes sound e h)) (s.claims e seat h);
+  words = λ u share h. settled giver taker (pending share) (holders u) (inside u from to) _ _
+      (c.words u share h) (inside_below u from to) (g u h) (s.words u share h);
+  transits = λ u seat h. settled giver taker (carried seat) (holders u) (inside u from to) _ _
+      (c.transits u seat h) (inside_below u from to) (g u h) (s.transits u seat h);
+  claims = λ e seat h. let u = e / sizes.unit in settled giver taker (claimed seat) (holders u)
+      (inside u from to) _ _ (c.claims e seat h) (inside_below u from to)
+      (g u (unit_of_cell sizes sound e h)) (s.claims e seat h);
   no_more = λ e seat h. c.no_more e seat h ∙ s.no_more e seat h;
 }
 
 -- a machine with the same words, transits and claims shows the same holders
-pub shows_still : (sizes : Sizes) (old new : Machine) (holders : Holders) → ((share : ℕ) → word_at new share ≡ word_at old share) → ((seat : ℕ) → (place_at new seat).transit ≡ (place_at old seat).transit) → ((seat : ℕ) → (place_at new seat).claims ≡ (place_at old seat).claims) → Shows sizes old holders → Shows sizes new holders
+pub shows_still : (sizes : Sizes) (old new : Machine) (holders : Holders)
+    → ((share : ℕ) → word_at new share ≡ word_at old share)
+    → ((seat : ℕ) → (place_at new seat).transit ≡ (place_at old seat).transit)
+    → ((seat : ℕ) → (place_at new seat).claims ≡ (place_at old seat).claims)
+    → Shows sizes old holders → Shows sizes new holders
 shows_still sizes old new holders w t c s = record {
   words = λ u share h. rw (w share) (s.words u share h);
   transits = λ u seat h. rw (t seat) (s.transits u seat h);

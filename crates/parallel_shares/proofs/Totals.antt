@@ -15,9 +15,12 @@ module _ {A : Type 0} (f : A → ℕ) where
   total_append (x ∷ xs) ys = omega (arith, total_append xs ys)
 
   -- a write changes the total by what it puts in and takes out
-  pub total_set : (xs : List A) (i : ℕ) (x y : A) → get_elem? xs i ≡ some x → total f (set xs i y) + f x ≡ total f xs + f y
+  pub total_set : (xs : List A) (i : ℕ) (x y : A) → get_elem? xs i ≡ some x
+      → total f (set xs i y) + f x ≡ total f xs + f y
   total_set [] i x y e = absurd (some-ne-none x (sym e))
-  total_set (a ∷ xs) zero x y e = let h : f a ≡ f x = ap f (some-injective a x e) in omega (arith, h)
+  total_set (a ∷ xs) zero x y e =
+      let h : f a ≡ f x = ap f (some-injective a x e) in
+      omega (arith, h)
   total_set (a ∷ xs) (suc i) x y e = omega (arith, total_set xs i x y e)
 
   pub total_at : (xs : List A) (i : ℕ) (x : A) → get_elem? xs i ≡ some x → f x ≤ total f xs
@@ -26,29 +29,43 @@ module _ {A : Type 0} (f : A → ℕ) where
   total_at (a ∷ xs) (suc i) x e = omega (arith, total_at xs i x e)
 
   -- two elements count no more than all
-  pub total_two : (xs : List A) (i j : ℕ) (x y : A) → get_elem? xs i ≡ some x → get_elem? xs j ≡ some y → ¬ (j ≡ i) → f x + f y ≤ total f xs
+  pub total_two : (xs : List A) (i j : ℕ) (x y : A) → get_elem? xs i ≡ some x
+      → get_elem? xs j ≡ some y → ¬ (j ≡ i) → f x + f y ≤ total f xs
   total_two [] i j x y e h n = absurd (some-ne-none x (sym e))
   total_two (a ∷ xs) zero zero x y e h n = absurd (n refl)
-  total_two (a ∷ xs) zero (suc j) x y e h n = let k : f a ≡ f x = ap f (some-injective a x e) in omega (arith, k, total_at xs j y h)
-  total_two (a ∷ xs) (suc i) zero x y e h n = let k : f a ≡ f y = ap f (some-injective a y h) in omega (arith, k, total_at xs i x e)
-  total_two (a ∷ xs) (suc i) (suc j) x y e h n = omega (arith, total_two xs i j x y e h (λ p. n (ap suc p)))
+  total_two (a ∷ xs) zero (suc j) x y e h n =
+      let k : f a ≡ f x = ap f (some-injective a x e) in
+      omega (arith, k, total_at xs j y h)
+  total_two (a ∷ xs) (suc i) zero x y e h n =
+      let k : f a ≡ f y = ap f (some-injective a y h) in
+      omega (arith, k, total_at xs i x e)
+  total_two (a ∷ xs) (suc i) (suc j) x y e h n =
+      omega (arith, total_two xs i j x y e h (λ p. n (ap suc p)))
 
   -- where no element counts, the total is 0
-  pub total_none : (xs : List A) → ((j : ℕ) (y : A) → get_elem? xs j ≡ some y → f y ≡ 0) → total f xs ≡ 0
+  pub total_none : (xs : List A) → ((j : ℕ) (y : A) → get_elem? xs j ≡ some y → f y ≡ 0)
+      → total f xs ≡ 0
   total_none [] none_of = refl
-  total_none (a ∷ xs) none_of = omega (arith, none_of 0 a refl, total_none xs (λ j y h. none_of (suc j) y h))
+  total_none (a ∷ xs) none_of =
+      omega (arith, none_of 0 a refl, total_none xs (λ j y h. none_of (suc j) y h))
 
   -- where only one element counts, the total is its count
-  pub total_alone : (xs : List A) (i : ℕ) (x : A) → get_elem? xs i ≡ some x → ((j : ℕ) (y : A) → get_elem? xs j ≡ some y → ¬ (j ≡ i) → f y ≡ 0) → total f xs ≡ f x
+  pub total_alone : (xs : List A) (i : ℕ) (x : A) → get_elem? xs i ≡ some x
+      → ((j : ℕ) (y : A) → get_elem? xs j ≡ some y → ¬ (j ≡ i) → f y ≡ 0) → total f xs ≡ f x
   total_alone [] i x e others = absurd (some-ne-none x (sym e))
   total_alone (a ∷ xs) zero x e others =
       let h : f a ≡ f x = ap f (some-injective a x e) in
       omega (arith, h, total_none xs (λ j y k. others (suc j) y k (λ p. omega arith)))
   total_alone (a ∷ xs) (suc i) x e others =
-      omega (arith, others 0 a refl (λ p. omega arith), total_alone xs i x e (λ j y k n. others (suc j) y k (λ p. n (omega arith))))
+      omega (
+        arith,
+        others 0 a refl (λ p. omega arith),
+        total_alone xs i x e (λ j y k n. others (suc j) y k (λ p. n (omega arith))),
+      )
 
 -- a write to a list of numbers
-pub total_put : (f : ℕ → ℕ) (xs : List ℕ) (i y : ℕ) → i < length xs → total f (set xs i y) + f (get_or xs i 0) ≡ total f xs + f y
+pub total_put : (f : ℕ → ℕ) (xs : List ℕ) (i y : ℕ) → i < length xs
+    → total f (set xs i y) + f (get_or xs i 0) ≡ total f xs + f y
 total_put f [] i y h = absurd (omega arith)
 total_put f (a ∷ xs) zero y h = omega arith
 total_put f (a ∷ xs) (suc i) y h = omega (arith, total_put f xs i y (omega arith))
@@ -64,7 +81,11 @@ set_get (x ∷ xs) (suc i) = ap (λ ys. x ∷ ys) (set_get xs i)
 -- a number counts where it is the one
 pub is_same : (i j : ℕ) → 0 < same_number i j → i ≡ j
 is_same i j h =
-    elim (cases_eq i j) [ inl e ↦ e | inr n ↦ absurd (let z : same_number i j ≡ 0 = rw (ne_eqb i j n) refl in omega (arith, h, z)) ]
+    elim (cases_eq i j) [
+      | inl e ↦ e
+      | inr n ↦ absurd
+          (let z : same_number i j ≡ 0 = rw (ne_eqb i j n) refl in omega (arith, h, z))
+    ]
 
 pub same_once : (i : ℕ) → same_number i i ≡ 1
 same_once i = rw (eq-eqb i i refl) refl
@@ -86,27 +107,33 @@ one_more k a n = grind (arith, nat_tests)
 pub times_range : (k a n : ℕ) → times k (range_with_len a n) ≡ inside k a (a + n)
 unfolding inside
 times_range k a zero = grind (arith, nat_tests)
-times_range k a (suc n) = let e : a + 1 ≡ suc a = omega arith in rw e (omega (arith, times_range k (suc a) n, one_more k a n))
+times_range k a (suc n) =
+    let e : a + 1 ≡ suc a = omega arith in
+    rw e (omega (arith, times_range k (suc a) n, one_more k a n))
 
-pub in_ranges_append : (c : ℕ) (rs qs : List (Range ℕ)) → in_ranges c (rs ++ qs) ≡ in_ranges c rs + in_ranges c qs
+pub in_ranges_append : (c : ℕ) (rs qs : List (Range ℕ))
+    → in_ranges c (rs ++ qs) ≡ in_ranges c rs + in_ranges c qs
 in_ranges_append c [] qs = omega arith
 in_ranges_append c (r ∷ rs) qs = omega (arith, in_ranges_append c rs qs)
 
 -- two lists that are empty together are each empty
 pub both_empty : {A : Type 0} (xs ys : List A) → xs ++ ys ≡ [] → (xs ≡ []) × (ys ≡ [])
 both_empty [] ys e = (refl, e)
-both_empty (x ∷ xs) ys e = absurd (let l : suc (length (xs ++ ys)) ≡ 0 = ap length e in omega (arith, l))
+both_empty (x ∷ xs) ys e =
+    absurd (let l : suc (length (xs ++ ys)) ≡ 0 = ap length e in omega (arith, l))
 
 -- ---- totals read by places
 
 module _ {A : Type 0} (f : A → ℕ) where
-  pub total_zero : (xs : List A) → ((i : ℕ) (d : A) → i < length xs → f (get_or xs i d) ≡ 0) → total f xs ≡ 0
+  pub total_zero : (xs : List A) → ((i : ℕ) (d : A) → i < length xs → f (get_or xs i d) ≡ 0)
+      → total f xs ≡ 0
   total_zero [] each = refl
   total_zero (x ∷ xs) each =
       omega (arith, each 0 x (omega arith), total_zero xs (λ i d h. each (suc i) d (omega arith)))
 
   -- an element that counts makes the total count
-  pub total_some : (xs : List A) (i : ℕ) → i < length xs → ((d : A) → 0 < f (get_or xs i d)) → 0 < total f xs
+  pub total_some : (xs : List A) (i : ℕ) → i < length xs → ((d : A) → 0 < f (get_or xs i d))
+      → 0 < total f xs
   total_some [] i h counts = absurd (omega (arith, h))
   total_some (x ∷ xs) zero h counts = omega (arith, counts x)
   total_some (x ∷ xs) (suc i) h counts = omega (arith, total_some xs i (omega arith) counts)
@@ -116,7 +143,8 @@ module _ {A : Type 0} (f : A → ℕ) where
   total_both g [] = refl
   total_both g (x ∷ xs) = omega (arith, total_both g xs)
 
-pub total_of_none : (f : ℕ → ℕ) (xs : List ℕ) → ((i : ℕ) → i < length xs → f (get_or xs i 0) ≡ 0) → total f xs ≡ 0
+pub total_of_none : (f : ℕ → ℕ) (xs : List ℕ) → ((i : ℕ) → i < length xs → f (get_or xs i 0) ≡ 0)
+    → total f xs ≡ 0
 total_of_none f [] each = refl
 total_of_none f (x ∷ xs) each =
     omega (arith, each 0 (omega arith), total_of_none f xs (λ i h. each (suc i) (omega arith)))

@@ -17,15 +17,22 @@ below_next k n h = elim (cases_eq k n) [ inl e ↦ inl e | inr apart ↦ inr (om
 module _ (sizes : Sizes) (own n : ℕ) (before view : View) where
   -- ---- the seat's own share is passed over
 
-  pub passes_own : n ≡ own → LooksRound sizes own n before view → LooksRound sizes own (n + 1) before view
+  pub passes_own : n ≡ own → LooksRound sizes own n before view
+      → LooksRound sizes own (n + 1) before view
   passes_own is looks = record {
     once = λ k h o. looks.once k (omega (arith, h, is, o)) o;
     within = λ k h o. looks.within k (omega (arith, h, is, o)) o;
     splits = λ k h o p. looks.splits k (omega (arith, h, is, o)) o p;
-    others = λ k where_. elim where_ [ inl e ↦ looks.others k (inl e) | inr l ↦ looks.others k (inr (omega (arith, l))) ];
+    others =
+        λ k where_. elim where_ [
+          | inl e ↦ looks.others k (inl e)
+          | inr l ↦ looks.others k
+              (inr (omega (arith, l)))
+        ];
   }
 
-  pub best_passes_own : n ≡ own → (best : Option Victim) → IsBest sizes own n view best → IsBest sizes own (n + 1) view best
+  pub best_passes_own : n ≡ own → (best : Option Victim) → IsBest sizes own n view best
+      → IsBest sizes own (n + 1) view best
   best_passes_own is None none_of = λ k h o. none_of k (omega (arith, h, is, o)) o
   best_passes_own is (Some v) (victim, word) = (
     record {
@@ -40,7 +47,8 @@ module _ (sizes : Sizes) (own n : ℕ) (before view : View) where
 
   -- ---- another share is loaded
 
-  module _ (word : ℕ) (apart : n ≢ own) (fits : n < length view.words) (counts : n < length view.loads) where
+  module _ (word : ℕ) (apart : n ≢ own) (fits : n < length view.words)
+      (counts : n < length view.loads) where
     abbrev next : View
     next = looked view n word
 
@@ -56,7 +64,8 @@ module _ (sizes : Sizes) (own n : ℕ) (before view : View) where
     not_counted : (k : ℕ) → k ≢ n → loads_at next k ≡ loads_at view k
     not_counted k o = get_or-set_other view.loads n k (loads_at view n + 1) 0 o
 
-    pub looks_more : IsWithin sizes.units word → (Pays sizes word → SomeSplitPays sizes) → LooksRound sizes own n before view → LooksRound sizes own (n + 1) before next
+    pub looks_more : IsWithin sizes.units word → (Pays sizes word → SomeSplitPays sizes)
+        → LooksRound sizes own n before view → LooksRound sizes own (n + 1) before next
     looks_more inner splits looks = record {
       once = λ k h o. elim (below_next k n h) as (λ _. loads_at next k ≡ loads_at before k + 1) [
         | inl e ↦ rw e (counted ∙ ap (λ m. m + 1) (looks.others n (inr (omega arith))).0)
@@ -71,8 +80,14 @@ module _ (sizes : Sizes) (own n : ℕ) (before view : View) where
         | inr l ↦ looks.splits k l o (subst (Pays sizes) (elsewhere k (omega (arith, l))) p)
       ];
       others = λ k where_.
-          let o : k ≢ n = elim where_ [ inl e ↦ (λ is. apart (sym is ∙ e)) | inr l ↦ (λ is. absurd (omega (arith, l, is))) ] in
-          let old = looks.others k (elim where_ [ inl e ↦ inl e | inr l ↦ inr (omega (arith, l)) ]) in
+          let o : k ≢ n =
+          elim where_ [
+            | inl e ↦ (λ is. apart (sym is ∙ e))
+            | inr l ↦
+                (λ is. absurd (omega (arith, l, is)))
+          ] in
+          let old =
+          looks.others k (elim where_ [ inl e ↦ inl e | inr l ↦ inr (omega (arith, l)) ]) in
           (not_counted k o ∙ old.0, elsewhere k o ∙ old.1);
     }
 
@@ -87,22 +102,25 @@ module _ (sizes : Sizes) (own n : ℕ) (before view : View) where
     old_pays : (k : ℕ) → k < n → Pays sizes (loaded_at next k) → Pays sizes (loaded_at view k)
     old_pays k l p = subst (Pays sizes) (elsewhere k (omega (arith, l))) p
 
-    old_cells : (k : ℕ) → k < n → cells_in sizes (loaded_at next k) ≡ cells_in sizes (loaded_at view k)
+    old_cells : (k : ℕ) → k < n → cells_in sizes (loaded_at next k) ≡ cells_in sizes
+        (loaded_at view k)
     old_cells k l = ap (cells_in sizes) (elsewhere k (omega (arith, l)))
 
     new_cells : cells_in sizes (loaded_at next n) ≡ cells_in sizes word
     new_cells = ap (cells_in sizes) there
 
-    pub better : (best : Option Victim) → IsBetter sizes best word → IsBest sizes own n view best → IsBest sizes own (n + 1) next (Some (record { share = n; word = word }))
+    pub better : (best : Option Victim) → IsBetter sizes best word → IsBest sizes own n view best
+        → IsBest sizes own (n + 1) next (Some (record { share = n; word = word }))
     better None b none_of = (
       record {
         exists = omega arith;
         other = apart;
         pays = rw there b.0;
-        most = λ k h o p. elim (below_next k n h) as (λ _. cells_in sizes (loaded_at next k) ≤ cells_in sizes (loaded_at next n)) [
-          | inl e ↦ rw e (omega arith)
-          | inr l ↦ absurd (none_of k l o (old_pays k l p))
-        ];
+        most = λ k h o p. elim (below_next k n h) as
+            (λ _. cells_in sizes (loaded_at next k) ≤ cells_in sizes (loaded_at next n)) [
+              | inl e ↦ rw e (omega arith)
+              | inr l ↦ absurd (none_of k l o (old_pays k l p))
+            ];
         last = λ k l h o p. absurd (omega (arith, l, h));
       },
       there,
@@ -112,16 +130,25 @@ module _ (sizes : Sizes) (own n : ℕ) (before view : View) where
         exists = omega arith;
         other = apart;
         pays = rw there b.0;
-        most = λ k h o p. elim (below_next k n h) as (λ _. cells_in sizes (loaded_at next k) ≤ cells_in sizes (loaded_at next n)) [
-          | inl e ↦ rw e (omega arith)
-          | inr l ↦ omega (arith, old_cells k l, new_cells, victim.most k l o (old_pays k l p), ap (cells_in sizes) same, b.1)
-        ];
+        most = λ k h o p. elim (below_next k n h) as
+            (λ _. cells_in sizes (loaded_at next k) ≤ cells_in sizes (loaded_at next n)) [
+              | inl e ↦ rw e (omega arith)
+              | inr l ↦ omega (
+                arith,
+                old_cells k l,
+                new_cells,
+                victim.most k l o (old_pays k l p),
+                ap (cells_in sizes) same,
+                b.1,
+              )
+            ];
         last = λ k l h o p. absurd (omega (arith, l, h));
       },
       there,
     )
 
-    pub no_better : (best : Option Victim) → IsNoBetter sizes best word → IsBest sizes own n view best → IsBest sizes own (n + 1) next best
+    pub no_better : (best : Option Victim) → IsNoBetter sizes best word
+        → IsBest sizes own n view best → IsBest sizes own (n + 1) next best
     no_better None (inl not) none_of = λ k h o p. elim (below_next k n h) [
       | inl e ↦ not (subst (Pays sizes) there (subst (λ j. Pays sizes (loaded_at next j)) e p))
       | inr l ↦ none_of k l o (old_pays k l p)
@@ -130,9 +157,12 @@ module _ (sizes : Sizes) (own n : ℕ) (before view : View) where
     no_better (Some v) less (victim, same) =
         let before_n : v.share < n = victim.exists in
         let kept = elsewhere v.share (omega (arith, before_n)) in
-        let cells : cells_in sizes (loaded_at next v.share) ≡ cells_in sizes (loaded_at view v.share) = old_cells v.share before_n in
-        let fewer : Pays sizes (loaded_at next n) → cells_in sizes (loaded_at next n) < cells_in sizes (loaded_at next v.share) =
-        λ p. elim less as (λ _. cells_in sizes (loaded_at next n) < cells_in sizes (loaded_at next v.share)) [
+        let cells : cells_in sizes (loaded_at next v.share) ≡ cells_in sizes
+        (loaded_at view v.share) = old_cells v.share before_n in
+        let fewer : Pays sizes (loaded_at next n)
+        → cells_in sizes (loaded_at next n) < cells_in sizes (loaded_at next v.share) =
+        λ p. elim less as (λ _. cells_in sizes (loaded_at next n) < cells_in sizes
+        (loaded_at next v.share)) [
           | inl not ↦ absurd (not (subst (Pays sizes) there p))
           | inr l ↦ omega (arith, l, new_cells, cells, ap (cells_in sizes) same)
         ] in (
@@ -140,23 +170,38 @@ module _ (sizes : Sizes) (own n : ℕ) (before view : View) where
             exists = omega (arith, before_n);
             other = victim.other;
             pays = subst (Pays sizes) (sym kept) victim.pays;
-            most = λ k h o p. elim (below_next k n h) as (λ _. cells_in sizes (loaded_at next k) ≤ cells_in sizes (loaded_at next v.share)) [
-              | inl e ↦ rw e (omega (arith, fewer (subst (λ j. Pays sizes (loaded_at next j)) e p)))
-              | inr l ↦ omega (arith, old_cells k l, cells, victim.most k l o (old_pays k l p))
-            ];
-            last = λ k g h o p. elim (below_next k n h) as (λ _. cells_in sizes (loaded_at next k) < cells_in sizes (loaded_at next v.share)) [
-              | inl e ↦ rw e (fewer (subst (λ j. Pays sizes (loaded_at next j)) e p))
-              | inr l ↦ omega (arith, old_cells k l, cells, victim.last k g l o (old_pays k l p))
-            ];
+            most = λ k h o p. elim (below_next k n h) as
+                (λ _. cells_in sizes (loaded_at next k) ≤ cells_in sizes (loaded_at next v.share)) [
+                  | inl e ↦ rw e (omega (
+                    arith,
+                    fewer
+                        (subst (λ j. Pays sizes (loaded_at next j)) e p),
+                  ))
+                  | inr l ↦ omega (arith, old_cells k l, cells, victim.most k l o (old_pays k l p))
+                ];
+            last = λ k g h o p. elim (below_next k n h) as
+                (λ _. cells_in sizes (loaded_at next k) < cells_in sizes (loaded_at next v.share)) [
+                  | inl e ↦ rw e (fewer (subst (λ j. Pays sizes (loaded_at next j)) e p))
+                  | inr l ↦ omega (
+                    arith,
+                    old_cells k l,
+                    cells,
+                    victim.last k g l o (old_pays k l p),
+                  )
+                ];
           },
           kept ∙ same,
         )
 
 -- a view with the same words and loads has looked round as well
-pub looks_kept : (sizes : Sizes) (own below : ℕ) (before view after : View) → after.words ≡ view.words → after.loads ≡ view.loads → LooksRound sizes own below before view → LooksRound sizes own below before after
+pub looks_kept : (sizes : Sizes) (own below : ℕ) (before view after : View)
+    → after.words ≡ view.words → after.loads ≡ view.loads → LooksRound sizes own below before view
+    → LooksRound sizes own below before after
 looks_kept sizes own below before view after words loads looks = record {
   once = λ k h o. ap (λ ls. get_or ls k 0) loads ∙ looks.once k h o;
-  within = λ k h o. subst (λ ws. IsWithin sizes.units (get_or ws k 0)) (sym words) (looks.within k h o);
+  within =
+      λ k h o. subst (λ ws. IsWithin sizes.units (get_or ws k 0)) (sym words) (looks.within k h o);
   splits = λ k h o p. looks.splits k h o (subst (λ ws. Pays sizes (get_or ws k 0)) words p);
-  others = λ k where_. let old = looks.others k where_ in (ap (λ ls. get_or ls k 0) loads ∙ old.0, ap (λ ws. get_or ws k 0) words ∙ old.1);
+  others = λ k where_. let old = looks.others k where_ in
+      (ap (λ ls. get_or ls k 0) loads ∙ old.0, ap (λ ws. get_or ws k 0) words ∙ old.1);
 }

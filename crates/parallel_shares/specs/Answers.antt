@@ -1,4 +1,5 @@
--- What each event of the machine answers, and what it changes: the need of each, and each outcome by cases.
+-- What each event of the machine answers, and what it changes: the need of each, and each outcome
+-- by cases.
 use Rattle.std.specs.Prelude.{◌≡◌, ◌≢◌, ℕ, ◌+◌, ◌-◌, ◌*◌, ◌/◌, ◌<◌, ◌≤◌, min, List, [], ◌∷◌, length, Some, None}
 use Rattle.std.specs.declared.ops.Range.{Range}
 use Rattle.parallel_shares.specs.declared.machine.event.Event.{Event}
@@ -21,7 +22,8 @@ abbrev pub CanClaim : Sizes → Machine → ℕ → ℕ → Type 0
 CanClaim sizes machine seat word =
     (place_at machine seat).remembered ≡ Some (record { share = share_of sizes seat; word = word })
 
--- a steal needs a remembered load of another share, nothing in transit, and the seat's own word empty
+-- a steal needs a remembered load of another share, nothing in transit, and the seat's own word
+-- empty
 abbrev pub CanSteal : Sizes → Machine → ℕ → Remembered → Type 0
 CanSteal sizes machine seat load =
     ((place_at machine seat).remembered ≡ Some load) × (load.share ≢ share_of sizes seat)
@@ -30,7 +32,8 @@ CanSteal sizes machine seat load =
 -- a refill needs these units in transit, and the seat's own word empty
 abbrev pub CanRefill : Sizes → Machine → ℕ → Range ℕ → Type 0
 CanRefill sizes machine seat units =
-    ((place_at machine seat).transit ≡ Some units) × IsEmptyWord (word_at machine (share_of sizes seat))
+    ((place_at machine seat).transit ≡ Some units)
+    × IsEmptyWord (word_at machine (share_of sizes seat))
 
 -- ---- claims and splits of a word
 
@@ -54,7 +57,8 @@ middle_of word = start_of word + (end_of word - start_of word) / 2
 -- the split of a word pays: it has two units, and its back half has more cells than a split costs
 abbrev pub Pays : Sizes → ℕ → Type 0
 Pays sizes word =
-    (2 ≤ end_of word - start_of word) × (sizes.split_cost < cells_to sizes (end_of word) - middle_of word * sizes.unit)
+    (2 ≤ end_of word - start_of word)
+    × (sizes.split_cost < cells_to sizes (end_of word) - middle_of word * sizes.unit)
 
 -- ---- the outcomes
 
@@ -66,7 +70,8 @@ LoadAnswers before seat share (Loaded word) after =
 LoadAnswers before seat share Refused after = (¬ CanLoad before seat share) × (after ≡ before)
 LoadAnswers before seat share _ after = ⊥
 
--- a claim takes the front of the remembered word, unless that word is empty or no longer there; it forgets the load
+-- a claim takes the front of the remembered word, unless that word is empty or no longer there; it
+-- forgets the load
 abbrev pub ClaimAnswers : Sizes → Machine → ℕ → Outcome → Machine → Type 0
 ClaimAnswers sizes before seat Empty after =
     (word : ℕ) × CanClaim sizes before seat word × IsEmptyWord word × (after ≡ forgets before seat)
@@ -76,16 +81,18 @@ ClaimAnswers sizes before seat Lost after =
 ClaimAnswers sizes before seat (Claimed cells) after =
     (word : ℕ) × CanClaim sizes before seat word × (¬ IsEmptyWord word)
     × (word_at before (share_of sizes seat) ≡ word) × (cells ≡ claim_cells sizes word)
-    × (after ≡ with_word (forgets (gains before seat cells) seat) (share_of sizes seat) (packed (claim_stop sizes word) (end_of word)))
+    × (after ≡ with_word (forgets (gains before seat cells) seat) (share_of sizes seat)
+    (packed (claim_stop sizes word) (end_of word)))
 ClaimAnswers sizes before seat Refused after =
     ((word : ℕ) → ¬ CanClaim sizes before seat word) × (after ≡ before)
 ClaimAnswers sizes before seat _ after = ⊥
 
--- a steal takes the back half of the remembered word into transit, unless that does not pay or the word is no longer
--- there; it forgets the load
+-- a steal takes the back half of the remembered word into transit, unless that does not pay or the
+-- word is no longer there; it forgets the load
 abbrev pub StealAnswers : Sizes → Machine → ℕ → Outcome → Machine → Type 0
 StealAnswers sizes before seat Nothing after =
-    (load : Remembered) × CanSteal sizes before seat load × (¬ Pays sizes load.word) × (after ≡ forgets before seat)
+    (load : Remembered) × CanSteal sizes before seat load × (¬ Pays sizes load.word)
+    × (after ≡ forgets before seat)
 StealAnswers sizes before seat Lost after =
     (load : Remembered) × CanSteal sizes before seat load × Pays sizes load.word
     × (word_at before load.share ≢ load.word) × (after ≡ forgets before seat)
@@ -93,7 +100,8 @@ StealAnswers sizes before seat (Taken units) after =
     (load : Remembered) × CanSteal sizes before seat load × Pays sizes load.word
     × (word_at before load.share ≡ load.word)
     × (units ≡ record { start = middle_of load.word; end = end_of load.word })
-    × (after ≡ with_word (carries (forgets before seat) seat (Some units)) load.share (packed (start_of load.word) (middle_of load.word)))
+    × (after ≡ with_word (carries (forgets before seat) seat (Some units)) load.share
+    (packed (start_of load.word) (middle_of load.word)))
 StealAnswers sizes before seat Refused after =
     ((load : Remembered) → ¬ CanSteal sizes before seat load) × (after ≡ before)
 StealAnswers sizes before seat _ after = ⊥
@@ -125,5 +133,6 @@ AddsClaim sizes machine _ = ⊥
 abbrev pub Replays : Sizes → Machine → List Event → List Outcome → Machine → Type 0
 Replays sizes before [] [] after = after ≡ before
 Replays sizes before (event ∷ events) (outcome ∷ outcomes) after =
-    (next : Machine) × Answers sizes before event outcome next × Replays sizes next events outcomes after
+    (next : Machine) × Answers sizes before event outcome next
+    × Replays sizes next events outcomes after
 Replays sizes before _ _ after = ⊥

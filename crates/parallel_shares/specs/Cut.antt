@@ -13,8 +13,10 @@ CutsFrom from (r ∷ rs) to = (r.start ≡ from) × (r.start ≤ r.end) × CutsF
 
 -- a later range has no more indices than an earlier one, and at most one less
 abbrev pub IsEven : List (Range ℕ) → Type 0
-IsEven rs = AllPairs (λ a b. (range_length b ≤ range_length a) × (range_length a ≤ range_length b + 1)) rs
+IsEven rs =
+    AllPairs (λ a b. (range_length b ≤ range_length a) × (range_length a ≤ range_length b + 1)) rs
 
--- the ranges cut the indices from 0 up to len, their lengths differ by at most one, and the longer ones come first
+-- the ranges cut the indices from 0 up to len, their lengths differ by at most one, and the longer
+-- ones come first
 abbrev pub BalancedCut : ℕ → List (Range ℕ) → Type 0
 BalancedCut len rs = CutsFrom 0 rs len × IsEven rs

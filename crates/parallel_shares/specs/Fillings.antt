@@ -1,4 +1,5 @@
--- What fills and finishes do along a list of stretches, with one state that goes from each to the next.
+-- What fills and finishes do along a list of stretches, with one state that goes from each to the
+-- next.
 use Rattle.std.specs.Prelude.{◌≡◌, ℕ, ◌<◌, List, [], ◌∷◌, ◌++◌, Option, Some, None}
 use Rattle.std.specs.Borrow.{MutBor}
 use Rattle.std.specs.declared.ops.Range.{Range}
@@ -7,26 +8,32 @@ use Rattle.parallel_shares.specs.declared.shares.stretch.Piece.{Piece}
 use Rattle.parallel_shares.specs.Stretches.{Parted}
 
 -- answered is a call that is lent a state: s is the state before the call, t the state after it
-abbrev pub Fills : {T : Type 0} → (MutBor T → ℕ → Range ℕ → Unit {0} → MutBor T → Type 0) → T → ℕ → Range ℕ → T → Type 0
-Fills {T = T} answered s row columns t = (p q : MutBor T) × (p.now ≡ s) × answered p row columns tt q × (q.now ≡ t)
+abbrev pub Fills : {T : Type 0} → (MutBor T → ℕ → Range ℕ → Unit {0} → MutBor T → Type 0) → T → ℕ
+    → Range ℕ → T → Type 0
+Fills {T = T} answered s row columns t = (p q : MutBor T) × (p.now ≡ s)
+    × answered p row columns tt q × (q.now ≡ t)
 
 -- the same of a call that answers r
 abbrev pub Gives : {T R : Type 0} → (MutBor T → ℕ → R → MutBor T → Type 0) → T → ℕ → R → T → Type 0
 Gives {T = T} answered s row r t = (p q : MutBor T) × (p.now ≡ s) × answered p row r q × (q.now ≡ t)
 
--- fills of nonempty ranges that tile the columns of a row from one up to another, in order, lead from the state s to the
--- state t
-pub data Filled {T : Type 0} (fill : T → ℕ → Range ℕ → T → Type 0) (row : ℕ) : T → ℕ → ℕ → T → Type 0 where
+-- fills of nonempty ranges that tile the columns of a row from one up to another, in order, lead
+-- from the state s to the state t
+pub data Filled {T : Type 0} (fill : T → ℕ → Range ℕ → T → Type 0) (row : ℕ) : T → ℕ → ℕ → T
+    → Type 0 where
   no_fill : (s t : T) (a b : ℕ) → s ≡ t → a ≡ b → Filled fill row s a b t
-  last_fill : (s u t : T) (a m b : ℕ) → Filled fill row s a m u → m < b → fill u row (record { start = m; end = b }) t → Filled fill row s a b t
+  last_fill : (s u t : T) (a m b : ℕ) → Filled fill row s a m u → m < b
+      → fill u row (record { start = m; end = b }) t → Filled fill row s a b t
 
 -- the fills of a stretch, and then its result
-abbrev pub Finishes : {T R : Type 0} → (T → ℕ → Range ℕ → T → Type 0) → (T → ℕ → R → T → Type 0) → T → Stretch → R → T → Type 0
+abbrev pub Finishes : {T R : Type 0} → (T → ℕ → Range ℕ → T → Type 0) → (T → ℕ → R → T → Type 0) → T
+    → Stretch → R → T → Type 0
 Finishes {T = T} fill finish s x r t =
     (u : T) × Filled fill x.row s x.columns.start x.columns.end u × finish u x.row r t
 
 -- one result for each stretch, in order, by one chain from the state s to the state t
-abbrev pub Finished : {T R : Type 0} → (T → ℕ → Range ℕ → T → Type 0) → (T → ℕ → R → T → Type 0) → T → List Stretch → List R → T → Type 0
+abbrev pub Finished : {T R : Type 0} → (T → ℕ → Range ℕ → T → Type 0) → (T → ℕ → R → T → Type 0) → T
+    → List Stretch → List R → T → Type 0
 Finished fill finish s [] [] t = s ≡ t
 Finished fill finish s [] (r ∷ rs) t = ⊥
 Finished fill finish s (x ∷ xs) [] t = ⊥
@@ -36,17 +43,20 @@ Finished {T = T} fill finish s (x ∷ xs) (r ∷ rs) t =
 -- ---- a chain on its way, with a stretch that is open
 
 -- the open stretch, if one is, was filled so far
-abbrev pub FilledOpen : {T : Type 0} → (T → ℕ → Range ℕ → T → Type 0) → T → Option Piece → T → Type 0
+abbrev pub FilledOpen : {T : Type 0} → (T → ℕ → Range ℕ → T → Type 0) → T → Option Piece → T
+    → Type 0
 FilledOpen fill s None t = s ≡ t
 FilledOpen fill s (Some p) t = Filled fill p.row s p.start p.end t
 
 -- the open stretch, if one is, gets its result
-abbrev pub Closes : {T R : Type 0} → (T → ℕ → R → T → Type 0) → Option Piece → T → List R → T → List R → Type 0
+abbrev pub Closes : {T R : Type 0} → (T → ℕ → R → T → Type 0) → Option Piece → T → List R → T
+    → List R → Type 0
 Closes finish None s before t after = (s ≡ t) × (after ≡ before)
-Closes {R = R} finish (Some p) s before t after = (r : R) × finish s p.row r t × (after ≡ before ++ r ∷ [])
+Closes {R = R} finish (Some p) s before t after = (r : R) × finish s p.row r t
+    × (after ≡ before ++ r ∷ [])
 
--- from the first state on, the cells so far were cut; the stretches before the open one have their results, and the open
--- one was filled so far
+-- from the first state on, the cells so far were cut; the stretches before the open one have their
+-- results, and the open one was filled so far
 pub record Underway {T R : Type 0}
     (fill : T → ℕ → Range ℕ → T → Type 0) (finish : T → ℕ → R → T → Type 0)
     (len : ℕ) (first : T) (cells : List ℕ)

@@ -7,4 +7,5 @@ use Rattle.parallel_shares.specs.Answers.{claim_cells}
 
 -- the cells of the front of some word that was not empty
 abbrev pub IsFront : Sizes → Range ℕ → Type 0
-IsFront sizes cells = (word : ℕ) × (¬ IsEmptyWord word) × IsWithin sizes.units word × (cells ≡ claim_cells sizes word)
+IsFront sizes cells = (word : ℕ) × (¬ IsEmptyWord word) × IsWithin sizes.units word
+    × (cells ≡ claim_cells sizes word)

@@ -22,15 +22,18 @@ whole_cost grid len workers = stopping (div_ceil grid.rows workers * row_cost gr
 
 -- where rows are cut: an even share of all rows, and three tiles' cost for the pieces
 abbrev pub cut_cost : Grid → ℕ → ℕ → ℕ
-cut_cost grid len workers = stopping (stopping (grid.rows * row_cost grid len) / workers + stopping (3 * tile_cost_of grid))
+cut_cost grid len workers =
+    stopping (stopping (grid.rows * row_cost grid len) / workers + stopping (3 * tile_cost_of grid))
 
 -- rows stay whole where they are shorter than two tiles' cost, or where cutting them is no cheaper
 abbrev pub stays_whole : Grid → ℕ → ℕ → Bool
-stays_whole grid len workers = nat_lt len (stopping (2 * tile_cost_of grid)) || nat_le (whole_cost grid len workers) (cut_cost grid len workers)
+stays_whole grid len workers = nat_lt len (stopping (2 * tile_cost_of grid))
+    || nat_le (whole_cost grid len workers) (cut_cost grid len workers)
 
 -- the cost of the longest chain of work: that of whole rows or of cut ones
 abbrev pub critical_cost : Grid → ℕ → ℕ → ℕ
-critical_cost grid len workers = if stays_whole grid len workers then whole_cost grid len workers else cut_cost grid len workers
+critical_cost grid len workers = if stays_whole grid len workers then whole_cost grid len workers
+    else cut_cost grid len workers
 
 -- the costs of a list of grids, in its order
 abbrev pub costs_of : List Grid → ℕ → ℕ → List ℕ
@@ -40,8 +43,10 @@ costs_of grids len workers = map (λ grid. critical_cost grid len workers) grids
 abbrev pub IsChosenGrid : List Grid → ℕ → ℕ → ℕ → Type 0
 IsChosenGrid grids len workers index =
     (index < length grids)
-    × EachIndex grids (λ i. slice_index (costs_of grids len workers) index ≤ slice_index (costs_of grids len workers) i)
-    × ((i : ℕ) → i < index → slice_index (costs_of grids len workers) index < slice_index (costs_of grids len workers) i)
+    × EachIndex grids (λ i. slice_index (costs_of grids len workers) index ≤ slice_index
+    (costs_of grids len workers) i)
+    × ((i : ℕ) → i < index → slice_index (costs_of grids len workers) index < slice_index
+    (costs_of grids len workers) i)
 
 -- there is a grid, and the number of indices of each is at most the greatest usize
 abbrev pub Fits : List Grid → ℕ → Type 0

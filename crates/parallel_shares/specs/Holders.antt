@@ -1,5 +1,5 @@
--- Who holds each unit: a share that it is pending at, a seat that carries it, or a seat that has claimed it. How units
--- go from holder to holder, and when a machine shows them.
+-- Who holds each unit: a share that it is pending at, a seat that carries it, or a seat that has
+-- claimed it. How units go from holder to holder, and when a machine shows them.
 use Rattle.std.specs.Prelude.{◌≡◌, ◌≢◌, ℕ, suc, ◌+◌, ◌/◌, ◌<◌, ◌≤◌, false, cond, eqb, ltb, leb, List, [], ◌∷◌, Option, Some, None}
 use Rattle.std.specs.declared.ops.Range.{Range}
 use Rattle.parallel_shares.specs.Words.{start_of, end_of}
@@ -75,12 +75,14 @@ Leads sizes (move ∷ moves) before after =
 -- each unit is pending at the share whose opening range it is in
 abbrev pub IsOpening : Sizes → Holders → Type 0
 IsOpening sizes holders =
-    (u : ℕ) → u < sizes.units → (share : ℕ) × (share < shares_of sizes) × (opening_start sizes share ≤ u)
+    (u : ℕ) → u < sizes.units → (share : ℕ) × (share < shares_of sizes)
+    × (opening_start sizes share ≤ u)
     × (u < opening_start sizes (suc share)) × (holders u ≡ pending share)
 
 -- moves lead from the opening to these holders
 abbrev pub IsRun : Sizes → List Move → Holders → Type 0
-IsRun sizes moves holders = (first : Holders) × IsOpening sizes first × Leads sizes moves first holders
+IsRun sizes moves holders = (first : Holders) × IsOpening sizes first
+    × Leads sizes moves first holders
 
 -- ---- what a machine shows
 
@@ -117,12 +119,15 @@ same (carried i) (carried j) = same_number i j
 same (claimed i) (claimed j) = same_number i j
 same _ _ = 0
 
--- words, transits and claims hold each unit exactly where its holder says, and nothing else. Claims are ranges of
--- cells: each cell of a unit is claimed by the unit's holder
+-- words, transits and claims hold each unit exactly where its holder says, and nothing else. Claims
+-- are ranges of cells: each cell of a unit is claimed by the unit's holder
 pub record Shows (sizes : Sizes) (machine : Machine) (holders : Holders) : Type 0 where
-  pub words : (u share : ℕ) → u < sizes.units → in_word u (word_at machine share) ≡ same (pending share) (holders u)
-  pub transits : (u seat : ℕ) → u < sizes.units → in_transit u (place_at machine seat).transit ≡ same (carried seat) (holders u)
-  pub claims : (c seat : ℕ) → c < sizes.cells → in_ranges c (place_at machine seat).claims ≡ same (claimed seat) (holders (c / sizes.unit))
+  pub words : (u share : ℕ) → u < sizes.units
+      → in_word u (word_at machine share) ≡ same (pending share) (holders u)
+  pub transits : (u seat : ℕ) → u < sizes.units
+      → in_transit u (place_at machine seat).transit ≡ same (carried seat) (holders u)
+  pub claims : (c seat : ℕ) → c < sizes.cells
+      → in_ranges c (place_at machine seat).claims ≡ same (claimed seat) (holders (c / sizes.unit))
   pub no_more : (c seat : ℕ) → sizes.cells ≤ c → in_ranges c (place_at machine seat).claims ≡ 0
 
 -- from any holders that the machine showed, moves lead to holders that it shows now
@@ -133,4 +138,5 @@ Steps sizes before after =
 
 -- the machine shows holders to which a run leads from the opening
 abbrev pub Reached : Sizes → Machine → Type 0
-Reached sizes machine = (moves : List Move) × (holders : Holders) × IsRun sizes moves holders × Shows sizes machine holders
+Reached sizes machine = (moves : List Move) × (holders : Holders) × IsRun sizes moves holders
+    × Shows sizes machine holders

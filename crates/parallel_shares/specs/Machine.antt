@@ -6,7 +6,8 @@ use Rattle.parallel_shares.specs.declared.machine.state.Remembered.{Remembered}
 use Rattle.parallel_shares.specs.Words.{packed, IsWithin}
 use Rattle.parallel_shares.specs.Sizes.{Sizes, shares_of, opening_start, IsSound}
 
--- the words of all shares, and the places of all seats: what each remembers, carries and has claimed
+-- the words of all shares, and the places of all seats: what each remembers, carries and has
+-- claimed
 pub record Machine : Type 0 where
   pub words : List ℕ
   pub places : List Place
@@ -33,35 +34,46 @@ with_place machine seat place = record machine { places = slice_set machine.plac
 
 -- the machine where a seat remembers what it loaded
 abbrev pub remembers : Machine → ℕ → Remembered → Machine
-remembers machine seat load = with_place machine seat (record (place_at machine seat) { remembered = Some load })
+remembers machine seat load =
+    with_place machine seat (record (place_at machine seat) { remembered = Some load })
 
 -- the machine where a seat has forgotten what it loaded
 abbrev pub forgets : Machine → ℕ → Machine
-forgets machine seat = with_place machine seat (record (place_at machine seat) { remembered = None })
+forgets machine seat =
+    with_place machine seat (record (place_at machine seat) { remembered = None })
 
 -- the machine where a seat has claimed more cells
 abbrev pub gains : Machine → ℕ → Range ℕ → Machine
 gains machine seat cells =
-    with_place machine seat (record (place_at machine seat) { claims = (place_at machine seat).claims ++ cells ∷ [] })
+    with_place machine seat (record (place_at machine seat)
+    { claims = (place_at machine seat).claims ++ cells ∷ [] })
 
 -- the machine where a seat carries these units, or none
 abbrev pub carries : Machine → ℕ → Option (Range ℕ) → Machine
-carries machine seat units = with_place machine seat (record (place_at machine seat) { transit = units })
+carries machine seat units =
+    with_place machine seat (record (place_at machine seat) { transit = units })
 
 -- the words of so many shares, from the first: balanced ranges that cover the units
 abbrev pub opening_words : Sizes → ℕ → List ℕ
 opening_words sizes zero = []
 opening_words sizes (suc share) =
-    opening_words sizes share ++ packed (opening_start sizes share) (opening_start sizes (suc share)) ∷ []
+    opening_words sizes share ++ packed (opening_start sizes share)
+    (opening_start sizes (suc share)) ∷ []
 
 -- the machine before any event
 abbrev pub opening : Sizes → Machine
-opening sizes = record { words = opening_words sizes (shares_of sizes); places = replicate sizes.workers fresh }
+opening sizes = record {
+  words = opening_words sizes (shares_of sizes);
+  places = replicate sizes.workers fresh;
+}
 
--- what a place of a plan's seat may remember and carry: a word of a share that exists, and units that do
+-- what a place of a plan's seat may remember and carry: a word of a share that exists, and units
+-- that do
 pub record IsPlaceOf (sizes : Sizes) (place : Place) : Type 0 where
-  pub load : IfSome place.remembered (λ l. (l.share < shares_of sizes) × IsWithin sizes.units l.word)
-  pub carried : IfSome place.transit (λ r. (r.start < r.end) × (r.end ≤ sizes.units) × (sizes.whole ≡ false))
+  pub load : IfSome place.remembered (λ l. (l.share < shares_of sizes)
+      × IsWithin sizes.units l.word)
+  pub carried : IfSome place.transit (λ r. (r.start < r.end) × (r.end ≤ sizes.units)
+      × (sizes.whole ≡ false))
 
 -- a state that belongs to a plan: its shares, its seats, and ranges of its units
 pub record IsStateOf (sizes : Sizes) (machine : Machine) : Type 0 where

@@ -40,7 +40,8 @@ transit_of seat = seat.transit
 -- what is in transit are units of a cut plan, at a seat whose own word is empty
 abbrev pub Carries : Sizes → Bool → Option (Range ℕ) → Type 0
 Carries sizes emptied None = Unit {0}
-Carries sizes emptied (Some range) = (range.start < range.end) × (range.end ≤ sizes.units) × (emptied ≡ true) × (sizes.whole ≡ false)
+Carries sizes emptied (Some range) = (range.start < range.end) × (range.end ≤ sizes.units)
+    × (emptied ≡ true) × (sizes.whole ≡ false)
 
 -- the seat is one of these shares
 pub record IsSeatOf (shares : Shares) (seat : Seat) : Type 0 where
@@ -60,7 +61,8 @@ pub record AreSeatsOf (shares : Shares) (seats : List Seat) : Type 0 where
 -- the seat has claimed nothing, has nothing in transit, and has taken no step
 abbrev pub IsFresh : Seat → Type 0
 IsFresh seat =
-    (claims_of seat ≡ []) × (transit_of seat ≡ None) × (has_emptied seat ≡ false) × ((known seat).changes ≡ 0)
+    (claims_of seat ≡ []) × (transit_of seat ≡ None) × (has_emptied seat ≡ false)
+    × ((known seat).changes ≡ 0)
     × ((known seat).exchanges ≡ 0)
 
 -- each seat is fresh
@@ -83,15 +85,19 @@ own_loads shares seat = loads_at (known seat) (own_share shares seat)
 
 -- the same number and the same transit
 abbrev pub IsSameSeat : Seat → Seat → Type 0
-IsSameSeat before after = (index_of after ≡ index_of before) × (transit_of after ≡ transit_of before)
+IsSameSeat before after = (index_of after ≡ index_of before)
+    × (transit_of after ≡ transit_of before)
 
 -- a load of an empty word sets the flag that it was seen empty, and another leaves it
 abbrev pub LoadsOwn : ℕ → Seat → Seat → Type 0
-LoadsOwn word before after = has_emptied after ≡ (has_emptied before || eqb (start_of word) (end_of word))
+LoadsOwn word before after =
+    has_emptied after ≡ (has_emptied before || eqb (start_of word) (end_of word))
 
--- an exchange met the word that was loaded and claimed its front, or it met another word and claimed nothing
+-- an exchange met the word that was loaded and claimed its front, or it met another word and
+-- claimed nothing
 abbrev pub MeetsFront : ℕ → View → ℕ → View → Type 0
-MeetsFront word before found after = (found ≡ word → after ≡ took_front before word) × (found ≢ word → after ≡ missed before found)
+MeetsFront word before found after = (found ≡ word → after ≡ took_front before word)
+    × (found ≢ word → after ≡ missed before found)
 
 -- so many exchanges more were tried, and so many steps more changed a word
 abbrev pub Steps : ℕ → ℕ → Seat → Seat → Type 0
@@ -103,32 +109,39 @@ Steps exchanges changes before after =
 abbrev pub AreSomeCells : Sizes → Range ℕ → Type 0
 AreSomeCells sizes cells = (cells.start < cells.end) × (cells.end ≤ sizes.cells)
 
--- what a try to claim tells, of the word that it loaded: its front was claimed by an exchange that met it; or it was
--- not empty and an exchange met another word; or it was empty, and no exchange was tried
+-- what a try to claim tells, of the word that it loaded: its front was claimed by an exchange that
+-- met it; or it was not empty and an exchange met another word; or it was empty, and no exchange
+-- was tried
 abbrev pub TriesClaim : Sizes → ℕ → Seat → Tried → Seat → Type 0
 TriesClaim sizes word before (Claimed cells) after =
-    (¬ IsEmptyWord word) × ((known after).met ≡ word) × (cells ≡ claim_cells sizes word) × AreSomeCells sizes cells
+    (¬ IsEmptyWord word) × ((known after).met ≡ word) × (cells ≡ claim_cells sizes word)
+    × AreSomeCells sizes cells
     × (claims_of after ≡ claims_of before ++ cells ∷ []) × Steps 1 1 before after
     × (has_emptied after ≡ has_emptied before)
 TriesClaim sizes word before Lost after =
     (¬ IsEmptyWord word) × ((known after).met ≢ word)
-    × (claims_of after ≡ claims_of before) × Steps 1 0 before after × (has_emptied after ≡ has_emptied before)
+    × (claims_of after ≡ claims_of before) × Steps 1 0 before after
+    × (has_emptied after ≡ has_emptied before)
 TriesClaim sizes word before Empty after =
-    IsEmptyWord word × (claims_of after ≡ claims_of before) × Steps 0 0 before after × (has_emptied after ≡ true)
+    IsEmptyWord word × (claims_of after ≡ claims_of before) × Steps 0 0 before after
+    × (has_emptied after ≡ true)
 TriesClaim sizes word before Taken after = ⊥
 TriesClaim sizes word before Nothing after = ⊥
 
 -- ---- at the end
 
--- each cell of the grid is once in a unit that is left in a word, in a unit in transit or in a claim, and no other cell
--- is claimed
+-- each cell of the grid is once in a unit that is left in a word, in a unit in transit or in a
+-- claim, and no other cell is claimed
 pub record IsPartition (sizes : Sizes) (words : List ℕ) (seats : List Seat) : Type 0 where
-  pub once : (c : ℕ) → c < sizes.cells → total (in_word (c / sizes.unit)) words + total (λ s. in_view sizes c (known s)) seats ≡ 1
+  pub once : (c : ℕ) → c < sizes.cells
+      → total (in_word (c / sizes.unit)) words + total (λ s. in_view sizes c (known s)) seats ≡ 1
   pub no_more : (c : ℕ) → sizes.cells ≤ c → total (λ s. in_ranges c (claims_of s)) seats ≡ 0
 
 -- each seat has seen its own word empty, and has nothing in transit
 abbrev pub AllDone : List Seat → Type 0
-AllDone seats = (i : ℕ) (d : Seat) → i < length seats → (has_emptied (slice_index_or seats i d) ≡ true) × (transit_of (slice_index_or seats i d) ≡ None)
+AllDone seats = (i : ℕ) (d : Seat) → i < length seats
+    → (has_emptied (slice_index_or seats i d) ≡ true)
+    × (transit_of (slice_index_or seats i d) ≡ None)
 
 -- no unit is left in any word
 abbrev pub AllEmpty : List ℕ → Type 0

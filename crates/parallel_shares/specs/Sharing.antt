@@ -1,4 +1,5 @@
--- What the seats of shares know, and what words and seats keep together whatever the order of their steps.
+-- What the seats of shares know, and what words and seats keep together whatever the order of their
+-- steps.
 use Rattle.std.specs.Prelude.{◌≡◌, ◌≢◌, ℕ, ◌+◌, ◌-◌, ◌/◌, ◌<◌, ◌≤◌, ◌⊎◌, false, cond, eqb, List, [], ◌∷◌, ◌++◌, drop, take, length, replicate, slice_index, slice_set, Option, Some, None}
 use Rattle.std.specs.List.{range_with_len}
 use mathlib.Core.Option.{some}
@@ -18,7 +19,18 @@ use Rattle.parallel_shares.specs.Totals.{total, times}
 -- of these seat numbers, before any step: no claim, nothing in transit, and no share loaded
 abbrev pub fresh_view : Sizes → List ℕ → View
 fresh_view sizes numbers =
-    record { owns = numbers; claims = []; transit = []; empties = []; words = replicate (shares_of sizes) 0; loads = replicate (shares_of sizes) 0; met = 0; exchanges = 0; changes = 0; plan = sizes }
+    record {
+      owns = numbers;
+      claims = [];
+      transit = [];
+      empties = [];
+      words = replicate (shares_of sizes) 0;
+      loads = replicate (shares_of sizes) 0;
+      met = 0;
+      exchanges = 0;
+      changes = 0;
+      plan = sizes;
+    }
 
 -- of the seats from a number on
 abbrev pub undealt : Sizes → ℕ → View
@@ -56,34 +68,49 @@ Idle view = view.owns ≡ [] → (view.claims ≡ []) × (view.transit ≡ []) �
 -- some opening word's split pays
 abbrev pub SomeSplitPays : Sizes → Type 0
 SomeSplitPays sizes =
-    (share : ℕ) × (share < shares_of sizes) × Pays sizes (slice_index (opening_words sizes (shares_of sizes)) share)
+    (share : ℕ) × (share < shares_of sizes)
+    × Pays sizes (slice_index (opening_words sizes (shares_of sizes)) share)
 
--- each cell of the grid is once in a unit that is left in a word, in a unit in transit or in a claim, and no other cell
--- is claimed; each seat number is with one seat; a word that its seat has seen empty is empty until that seat fills it;
--- until a seat has changed a word, the words are those of the opening; and where no opening word's split pays, no word's
--- does, and nothing is in transit
+-- each cell of the grid is once in a unit that is left in a word, in a unit in transit or in a
+-- claim, and no other cell is claimed; each seat number is with one seat; a word that its seat has
+-- seen empty is empty until that seat fills it; until a seat has changed a word, the words are
+-- those of the opening; and where no opening word's split pays, no word's does, and nothing is in
+-- transit
 pub record Kept (sizes : Sizes) (state : State (Unit {0}) View) : Type 0 where
   pub shares : length state.words ≡ shares_of sizes
   pub within : (share : ℕ) → IsWithin sizes.units (slice_index state.words share)
-  pub once : (c : ℕ) → c < sizes.cells → total (in_word (c / sizes.unit)) state.words + total (in_view sizes c) state.views ≡ 1
+  pub once : (c : ℕ) → c < sizes.cells
+      → total (in_word (c / sizes.unit)) state.words + total (in_view sizes c) state.views ≡ 1
   pub no_more : (c : ℕ) → sizes.cells ≤ c → total (λ v. in_ranges c v.claims) state.views ≡ 0
   pub seats : (k : ℕ) → total (λ v. times k v.owns) state.views ≡ inside k 0 sizes.workers
-  pub each : (i : ℕ) (v : View) → get_elem? state.views i ≡ some v → Empties sizes state.words v × Idle v
+  pub each : (i : ℕ) (v : View) → get_elem? state.views i ≡ some v → Empties sizes state.words v
+      × Idle v
   pub splits : (share : ℕ) → Pays sizes (slice_index state.words share) → SomeSplitPays sizes
-  pub taken : (i : ℕ) (v : View) → get_elem? state.views i ≡ some v → (v.transit ≡ []) ⊎ SomeSplitPays sizes
-  pub opening : total (λ v. v.changes) state.views ≡ 0 → state.words ≡ opening_words sizes (shares_of sizes)
+  pub taken : (i : ℕ) (v : View) → get_elem? state.views i ≡ some v → (v.transit ≡ [])
+      ⊎ SomeSplitPays sizes
+  pub opening : total (λ v. v.changes) state.views ≡ 0
+      → state.words ≡ opening_words sizes (shares_of sizes)
 
 -- ---- what a step tells its seat
 
 -- the seat after a load of its own share
 abbrev pub looked_own : View → ℕ → ℕ → View
 looked_own view share word =
-    record view { words = slice_set view.words share word; loads = slice_set view.loads share (loads_at view share + 1); empties = cond (eqb (start_of word) (end_of word)) view.owns view.empties }
+    record view {
+      words = slice_set view.words share word;
+      loads = slice_set view.loads share (loads_at view share + 1);
+      empties = cond (eqb (start_of word) (end_of word)) view.owns view.empties;
+    }
 
 -- the seat after its exchange found the word that it had loaded, and claimed the front
 abbrev pub took_front : View → ℕ → View
 took_front view word =
-    record view { claims = view.claims ++ claim_cells view.plan word ∷ []; met = word; exchanges = view.exchanges + 1; changes = view.changes + 1 }
+    record view {
+      claims = view.claims ++ claim_cells view.plan word ∷ [];
+      met = word;
+      exchanges = view.exchanges + 1;
+      changes = view.changes + 1;
+    }
 
 -- the seat after its exchange found another word
 abbrev pub missed : View → ℕ → View
@@ -92,40 +119,58 @@ missed view word = record view { met = word; exchanges = view.exchanges + 1 }
 -- the seat after a load of another share
 abbrev pub looked : View → ℕ → ℕ → View
 looked view share word =
-    record view { words = slice_set view.words share word; loads = slice_set view.loads share (loads_at view share + 1) }
+    record view {
+      words = slice_set view.words share word;
+      loads = slice_set view.loads share (loads_at view share + 1);
+    }
 
 -- the back half of a word
 abbrev pub back_half : ℕ → Range ℕ
 back_half word = record { start = middle_of word; end = end_of word }
 
--- the seat after its exchange found the word that it had loaded, and took the back half into transit
+-- the seat after its exchange found the word that it had loaded, and took the back half into
+-- transit
 abbrev pub took_back : View → ℕ → View
 took_back view word =
-    record view { transit = back_half word ∷ []; met = word; exchanges = view.exchanges + 1; changes = view.changes + 1 }
+    record view {
+      transit = back_half word ∷ [];
+      met = word;
+      exchanges = view.exchanges + 1;
+      changes = view.changes + 1;
+    }
 
 -- the seat after it stored what it had in transit as the word of its own share
 abbrev pub put_down : View → ℕ → ℕ → View
 put_down view share word =
-    record view { transit = []; empties = []; words = slice_set view.words share word; changes = view.changes + 1 }
+    record view {
+      transit = [];
+      empties = [];
+      words = slice_set view.words share word;
+      changes = view.changes + 1;
+    }
 
 -- a load of the seat's own share tells a range of units
 abbrev pub LooksOwn : Step (Unit {0}) → Me (Unit {0}) View → ℕ → Me (Unit {0}) View → Type 0
 LooksOwn step before word after =
-    IsWithin before.0.plan.units word × (after.0 ≡ looked_own before.0 step.word word) × (after.1 ≡ before.1)
+    IsWithin before.0.plan.units word × (after.0 ≡ looked_own before.0 step.word word)
+    × (after.1 ≡ before.1)
 
--- an exchange claims the front of the word that was loaded, or finds another word and claims nothing
+-- an exchange claims the front of the word that was loaded, or finds another word and claims
+-- nothing
 abbrev pub TakesFront : Step (Unit {0}) → Me (Unit {0}) View → ℕ → Me (Unit {0}) View → Type 0
 TakesFront step before word after =
     (word ≡ step.first → after.0 ≡ took_front before.0 step.first)
     × (word ≢ step.first → after.0 ≡ missed before.0 word) × (after.1 ≡ before.1)
 
--- a load of another share tells a range of units, whose split pays only where some opening word's does
+-- a load of another share tells a range of units, whose split pays only where some opening word's
+-- does
 abbrev pub LooksAt : Step (Unit {0}) → Me (Unit {0}) View → ℕ → Me (Unit {0}) View → Type 0
 LooksAt step before word after =
     IsWithin before.0.plan.units word × (Pays before.0.plan word → SomeSplitPays before.0.plan)
     × (after.0 ≡ looked before.0 step.word word) × (after.1 ≡ before.1)
 
--- an exchange takes the back half of the word that was loaded, or finds another word and takes nothing
+-- an exchange takes the back half of the word that was loaded, or finds another word and takes
+-- nothing
 abbrev pub TakesBack : Step (Unit {0}) → Me (Unit {0}) View → ℕ → Me (Unit {0}) View → Type 0
 TakesBack step before word after =
     (word ≡ step.first → after.0 ≡ took_back before.0 step.first)
@@ -133,7 +178,8 @@ TakesBack step before word after =
 
 -- a store puts what is in transit down in the seat's own share
 abbrev pub PutsDown : Step (Unit {0}) → Me (Unit {0}) View → ℕ → Me (Unit {0}) View → Type 0
-PutsDown step before word after = (after.0 ≡ put_down before.0 step.word word) × (after.1 ≡ before.1)
+PutsDown step before word after = (after.0 ≡ put_down before.0 step.word word)
+    × (after.1 ≡ before.1)
 
 -- ---- how seats are dealt and gathered
 
@@ -168,5 +214,14 @@ spent =
       met = 0;
       exchanges = 0;
       changes = 0;
-      plan = record { cells = 0; unit = 0; claim = 0; units = 0; workers = 0; split_cost = 0; whole = false };
+      plan =
+          record {
+            cells = 0;
+            unit = 0;
+            claim = 0;
+            units = 0;
+            workers = 0;
+            split_cost = 0;
+            whole = false;
+          };
     }

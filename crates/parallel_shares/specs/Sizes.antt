@@ -2,7 +2,8 @@
 use Rattle.std.specs.Prelude.{ℕ, zero, suc, ◌+◌, ◌*◌, ◌/◌, ◌%◌, ◌^◌, ◌<◌, ◌≤◌, min, Bool, cond, ltb}
 use Rattle.std.specs.Int.{div_ceil}
 
--- what a plan is made for: so many rows of so many cells, a tile's cost, workers, and whether rows stay whole
+-- what a plan is made for: so many rows of so many cells, a tile's cost, workers, and whether rows
+-- stay whole
 pub record Work : Type 0 where
   pub rows : ℕ
   pub len : ℕ
@@ -10,8 +11,8 @@ pub record Work : Type 0 where
   pub workers : ℕ
   pub whole : Bool
 
--- the numbers of a plan: cells, cells in a unit, units in a claim, units, workers, the cost that a split has to
--- exceed in cells, and whether rows stay whole
+-- the numbers of a plan: cells, cells in a unit, units in a claim, units, workers, the cost that a
+-- split has to exceed in cells, and whether rows stay whole
 pub record Sizes : Type 0 where
   pub cells : ℕ
   pub unit : ℕ
@@ -27,7 +28,8 @@ cells_of work = work.rows * work.len
 
 -- the cells of a unit, so that at most 65535 units cover the grid: whole rows, or any cells
 abbrev pub unit_of : Work → ℕ
-unit_of work = cond work.whole (work.len * div_ceil work.rows 65535) (div_ceil (cells_of work) 65535)
+unit_of work =
+    cond work.whole (work.len * div_ceil work.rows 65535) (div_ceil (cells_of work) 65535)
 
 -- the units of a claim: one unit of whole rows, or as many as a tile costs
 abbrev pub claim_of : Work → ℕ
@@ -48,12 +50,27 @@ split_cost_of work = cond work.whole 0 work.tile_cost
 -- the numbers of the plan for some work
 abbrev pub sizes_of : Work → Sizes
 sizes_of work =
-    record { cells = cells_of work; unit = unit_of work; claim = claim_of work; units = units_of work; workers = workers_of work; split_cost = split_cost_of work; whole = work.whole }
+    record {
+      cells = cells_of work;
+      unit = unit_of work;
+      claim = claim_of work;
+      units = units_of work;
+      workers = workers_of work;
+      split_cost = split_cost_of work;
+      whole = work.whole;
+    }
 
--- the numbers of the plan for so many rows of so many cells, a tile's cost, workers, and whether rows stay whole
+-- the numbers of the plan for so many rows of so many cells, a tile's cost, workers, and whether
+-- rows stay whole
 abbrev pub sizes_for : ℕ → ℕ → ℕ → ℕ → Bool → Sizes
 sizes_for rows len tile_cost workers whole =
-    sizes_of (record { rows = rows; len = len; tile_cost = tile_cost; workers = workers; whole = whole })
+    sizes_of (record {
+      rows = rows;
+      len = len;
+      tile_cost = tile_cost;
+      workers = workers;
+      whole = whole;
+    })
 
 -- the number of shares: one for whole rows, else one a worker
 abbrev pub shares_of : Sizes → ℕ
@@ -67,9 +84,11 @@ share_of sizes seat = cond sizes.whole 0 seat
 abbrev pub cells_to : Sizes → ℕ → ℕ
 cells_to sizes stop = min (stop * sizes.unit) sizes.cells
 
--- how many of the units the share at a place opens with: the first shares have the one more that is left over
+-- how many of the units the share at a place opens with: the first shares have the one more that is
+-- left over
 abbrev pub opening_size : Sizes → ℕ → ℕ
-opening_size sizes share = sizes.units / shares_of sizes + cond (ltb share (sizes.units % shares_of sizes)) 1 0
+opening_size sizes share = sizes.units / shares_of sizes + cond
+    (ltb share (sizes.units % shares_of sizes)) 1 0
 
 -- the first unit of the share at a place: the shares open in order and with no gap, from unit 0
 abbrev pub opening_start : Sizes → ℕ → ℕ

@@ -1,4 +1,5 @@
--- What a try to steal tells: each other share was loaded, and which of the loaded words is the victim.
+-- What a try to steal tells: each other share was loaded, and which of the loaded words is the
+-- victim.
 use Rattle.std.specs.Prelude.{◌≡◌, ◌≢◌, ℕ, ◌+◌, ◌<◌, ◌≤◌, ◌⊎◌, length, Option, [], ◌∷◌, ◌++◌, true, Some, None, IfSome, IsSomeAnd}
 use Rattle.parallel_shares.specs.declared.shares.rule.View.{View}
 use Rattle.parallel_shares.specs.declared.shares.seat.Seat.{Seat}
@@ -17,31 +18,35 @@ use Rattle.parallel_shares.specs.Seats.{plan_of, own_share, known, index_of, tra
 abbrev pub NeverSplits : Sizes → Type 0
 NeverSplits sizes = (sizes.whole ≡ true) ⊎ ¬ SomeSplitPays sizes
 
--- of the shares below a number each but one was loaded once more, as a range of units, whose split pays only where some
--- opening word's does; the others were not loaded
+-- of the shares below a number each but one was loaded once more, as a range of units, whose split
+-- pays only where some opening word's does; the others were not loaded
 pub record LooksRound (sizes : Sizes) (own below : ℕ) (before after : View) : Type 0 where
   pub once : (k : ℕ) → k < below → k ≢ own → loads_at after k ≡ loads_at before k + 1
   pub within : (k : ℕ) → k < below → k ≢ own → IsWithin sizes.units (loaded_at after k)
   pub splits : (k : ℕ) → k < below → k ≢ own → Pays sizes (loaded_at after k) → SomeSplitPays sizes
-  pub others : (k : ℕ) → (k ≡ own) ⊎ (below ≤ k) → (loads_at after k ≡ loads_at before k) × (loaded_at after k ≡ loaded_at before k)
+  pub others : (k : ℕ) → (k ≡ own) ⊎ (below ≤ k) → (loads_at after k ≡ loads_at before k)
+      × (loaded_at after k ≡ loaded_at before k)
 
 -- a seat loaded each other share once, as `LooksRound` says
 abbrev pub LoadsOthers : Shares → Seat → Seat → Type 0
 LoadsOthers shares before after =
-    LooksRound (plan_of shares) (own_share shares before) (shares_of (plan_of shares)) (known before) (known after)
+    LooksRound (plan_of shares) (own_share shares before) (shares_of (plan_of shares))
+    (known before) (known after)
 
 -- of the shares below a number but one, none has a loaded word whose split pays
 abbrev pub NonePays : Sizes → ℕ → ℕ → View → Type 0
 NonePays sizes own below view = (k : ℕ) → k < below → k ≢ own → ¬ Pays sizes (loaded_at view k)
 
--- of the shares below a number but one, this one has the loaded word with the most cells of those whose split pays, the
--- last of equals
+-- of the shares below a number but one, this one has the loaded word with the most cells of those
+-- whose split pays, the last of equals
 pub record IsVictim (sizes : Sizes) (own below : ℕ) (view : View) (share : ℕ) : Type 0 where
   pub exists : share < below
   pub other : share ≢ own
   pub pays : Pays sizes (loaded_at view share)
-  pub most : (k : ℕ) → k < below → k ≢ own → Pays sizes (loaded_at view k) → cells_in sizes (loaded_at view k) ≤ cells_in sizes (loaded_at view share)
-  pub last : (k : ℕ) → share < k → k < below → k ≢ own → Pays sizes (loaded_at view k) → cells_in sizes (loaded_at view k) < cells_in sizes (loaded_at view share)
+  pub most : (k : ℕ) → k < below → k ≢ own → Pays sizes (loaded_at view k)
+      → cells_in sizes (loaded_at view k) ≤ cells_in sizes (loaded_at view share)
+  pub last : (k : ℕ) → share < k → k < below → k ≢ own → Pays sizes (loaded_at view k)
+      → cells_in sizes (loaded_at view k) < cells_in sizes (loaded_at view share)
 
 -- the victim, with its loaded word, where there is one
 abbrev pub IsBest : Sizes → ℕ → ℕ → View → Option Victim → Type 0
@@ -51,11 +56,13 @@ IsBest sizes own below view (Some victim) =
 
 -- the split of a word pays, and the word has no fewer cells than the best so far
 abbrev pub IsBetter : Sizes → Option Victim → ℕ → Type 0
-IsBetter sizes best word = Pays sizes word × IfSome best (λ victim. cells_in sizes victim.word ≤ cells_in sizes word)
+IsBetter sizes best word = Pays sizes word
+    × IfSome best (λ victim. cells_in sizes victim.word ≤ cells_in sizes word)
 
 -- the split of a word doesn't pay, or the best so far has more cells
 abbrev pub IsNoBetter : Sizes → Option Victim → ℕ → Type 0
-IsNoBetter sizes best word = (¬ Pays sizes word) ⊎ IsSomeAnd best (λ victim. cells_in sizes word < cells_in sizes victim.word)
+IsNoBetter sizes best word = (¬ Pays sizes word)
+    ⊎ IsSomeAnd best (λ victim. cells_in sizes word < cells_in sizes victim.word)
 
 -- a look round changes nothing but what was loaded
 abbrev pub OnlyLooks : View → View → Type 0
@@ -63,37 +70,48 @@ OnlyLooks before after =
     (after ≡ record before { words = after.words; loads = after.loads })
     × (length after.words ≡ length before.words) × (length after.loads ≡ length before.loads)
 
--- an exchange met the word that was loaded and took its back half, or it met another word and took nothing
+-- an exchange met the word that was loaded and took its back half, or it met another word and took
+-- nothing
 abbrev pub MeetsBack : ℕ → Seat → ℕ → Seat → Type 0
 MeetsBack word before found after =
-    (found ≡ word → (known after ≡ took_back (known before) word) × (transit_of after ≡ Some (back_half word)))
-    × (found ≢ word → (known after ≡ missed (known before) found) × (transit_of after ≡ transit_of before))
+    (found ≡ word → (known after ≡ took_back (known before) word)
+    × (transit_of after ≡ Some (back_half word)))
+    × (found ≢ word → (known after ≡ missed (known before) found)
+    × (transit_of after ≡ transit_of before))
 
--- what a try to steal tells of the words that it loaded: the victim's back half was taken by an exchange that met its
--- word; or an exchange met another word there; or no split pays, and no exchange was tried
+-- what a try to steal tells of the words that it loaded: the victim's back half was taken by an
+-- exchange that met its word; or an exchange met another word there; or no split pays, and no
+-- exchange was tried
 abbrev pub TriesSteal : Sizes → Seat → Tried → Seat → Type 0
 TriesSteal sizes before Taken after =
-    (victim : ℕ) × IsVictim sizes (share_of sizes (index_of before)) (shares_of sizes) (known after) victim
+    (victim : ℕ) × IsVictim sizes (share_of sizes (index_of before)) (shares_of sizes)
+    (known after) victim
     × ((known after).met ≡ loaded_at (known after) victim)
-    × (transit_of after ≡ Some (back_half (loaded_at (known after) victim))) × Steps 1 1 before after
+    × (transit_of after ≡ Some (back_half (loaded_at (known after) victim)))
+    × Steps 1 1 before after
 TriesSteal sizes before Lost after =
-    (victim : ℕ) × IsVictim sizes (share_of sizes (index_of before)) (shares_of sizes) (known after) victim
-    × ((known after).met ≢ loaded_at (known after) victim) × (transit_of after ≡ None) × Steps 1 0 before after
+    (victim : ℕ) × IsVictim sizes (share_of sizes (index_of before)) (shares_of sizes)
+    (known after) victim
+    × ((known after).met ≢ loaded_at (known after) victim) × (transit_of after ≡ None)
+    × Steps 1 0 before after
 TriesSteal sizes before Nothing after =
     NonePays sizes (share_of sizes (index_of before)) (shares_of sizes) (known after)
     × (transit_of after ≡ None) × Steps 0 0 before after
 TriesSteal sizes before (Claimed cells) after = ⊥
 TriesSteal sizes before Empty after = ⊥
 
--- the seat has seen its own word empty, has nothing in transit, and looked round after it and found no split that pays
+-- the seat has seen its own word empty, has nothing in transit, and looked round after it and found
+-- no split that pays
 abbrev pub FoundNothing : Sizes → Seat → Type 0
 FoundNothing sizes seat =
     (has_emptied seat ≡ true) × (transit_of seat ≡ None)
     × NonePays sizes (share_of sizes (index_of seat)) (shares_of sizes) (known seat)
 
--- what a claim gained: the front of some word that was not empty; or nothing, where there was nothing to be found
+-- what a claim gained: the front of some word that was not empty; or nothing, where there was
+-- nothing to be found
 abbrev pub GainsClaim : Sizes → Seat → Option (Range ℕ) → Seat → Type 0
 GainsClaim sizes before (Some cells) after =
     (claims_of after ≡ claims_of before ++ cells ∷ []) × AreSomeCells sizes cells
-    × ((word : ℕ) × (¬ IsEmptyWord word) × IsWithin sizes.units word × (cells ≡ claim_cells sizes word))
+    × ((word : ℕ) × (¬ IsEmptyWord word) × IsWithin sizes.units word
+    × (cells ≡ claim_cells sizes word))
 GainsClaim sizes before None after = (claims_of after ≡ claims_of before) × FoundNothing sizes after

@@ -18,7 +18,8 @@ all_cells (r ∷ rs) = range_cells r ++ all_cells rs
 
 -- the cells of a stretch, on rows of so many cells
 abbrev pub stretch_cells : ℕ → Stretch → List ℕ
-stretch_cells len s = range_with_len (s.row * len + s.columns.start) (s.columns.end - s.columns.start)
+stretch_cells len s =
+    range_with_len (s.row * len + s.columns.start) (s.columns.end - s.columns.start)
 
 -- the cells of a list of stretches
 abbrev pub cut_cells : ℕ → List Stretch → List ℕ
@@ -66,7 +67,8 @@ IsPiece len p = (p.start < p.end) × (p.end ≤ len)
 abbrev pub piece_cells : ℕ → Piece → List ℕ
 piece_cells len p = stretch_cells len (stretch_of p)
 
--- the cells so far are cut into the stretches that were found and the open one; with none open there was no cell
+-- the cells so far are cut into the stretches that were found and the open one; with none open
+-- there was no cell
 abbrev pub Parted : ℕ → List ℕ → List Stretch → Option Piece → Type 0
 Parted len cells found None = (found ≡ []) × (cells ≡ [])
 Parted len cells found (Some p) = CutsCells len cells (found ++ stretch_of p ∷ [])
@@ -76,5 +78,6 @@ abbrev pub Grown : Option Piece → Piece → Option Piece → Type 0
 Grown None piece None = Unit {0}
 Grown (Some p) piece None = p.row ≡ piece.row → piece.start ≢ p.end
 Grown (Some p) piece (Some longer) =
-    (p.row ≡ piece.row) × (p.end ≡ piece.start) × (longer ≡ record { row = p.row; start = p.start; end = piece.end })
+    (p.row ≡ piece.row) × (p.end ≡ piece.start)
+    × (longer ≡ record { row = p.row; start = p.start; end = piece.end })
 Grown None piece (Some longer) = ⊥

@@ -52,9 +52,11 @@ impl Grid {
         requires { 0 < length grids.now }
         ensures chosen { IsChosenGrid grids.now len (non_zero_usize_get workers) result.0 }
         ensures cost { HoldsAt
-            (λ grid. result.1 ≡ critical_cost grid len (non_zero_usize_get workers)) grids.now result.0 }
+            (λ grid. result.1 ≡ critical_cost grid len (non_zero_usize_get workers)) grids.now
+            result.0 }
         ensures whole { HoldsAt
-            (λ grid. result.2 ≡ stays_whole grid len (non_zero_usize_get workers)) grids.now result.0 }
+            (λ grid. result.2 ≡ stays_whole grid len (non_zero_usize_get workers)) grids.now
+            result.0 }
     {
         let mut chosen = 0;
         let (mut cost, mut whole) = grids[0].critical_path(len, workers);

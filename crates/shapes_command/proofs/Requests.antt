@@ -5,7 +5,8 @@ use Rattle.shapes_command.specs.declared.request.Request.{Request}
 use Rattle.shapes_command.specs.declared.request.Request.TheVariants.{Drain, Batches, Grid, Segments, Fold, FoldParallel, Threads, Mix, ExploreSum}
 use Rattle.shapes_command.specs.Request.{Says, AreItems, IsInRange}
 
-pub in_range : (words : List (String Global)) (request : Request) → Says words request → IsInRange request
+pub in_range : (words : List (String Global)) (request : Request) → Says words request
+    → IsInRange request
 in_range words (Drain _ _) says = tt
 in_range words (Batches _ _) says = tt
 in_range words (Grid _ _ _) says = tt
@@ -41,7 +42,12 @@ neither first second (inl a) = first a
 neither first second (inr b) = second b
 
 -- the first of two that is found serves the lines of both
-pub found_either : {A : Type 0} (N M : Type 0) (P Q : A → Type 0) (first second result : Option A) → result ≡ option_or first second → MatchOption first (¬ N) P → MatchOption second (¬ M) Q → MatchOption result (¬ (N ⊎ M)) (λ a. P a ⊎ Q a)
-found_either N M P Q (Some a) second result same here there = subst (λ o. MatchOption o (¬ (N ⊎ M)) (λ b. P b ⊎ Q b)) (sym same) (inl here)
-found_either N M P Q None (Some a) result same none here = subst (λ o. MatchOption o (¬ (N ⊎ M)) (λ b. P b ⊎ Q b)) (sym same) (inr here)
-found_either N M P Q None None result same none none' = subst (λ o. MatchOption o (¬ (N ⊎ M)) (λ b. P b ⊎ Q b)) (sym same) (neither none none')
+pub found_either : {A : Type 0} (N M : Type 0) (P Q : A → Type 0) (first second result : Option A)
+    → result ≡ option_or first second → MatchOption first (¬ N) P → MatchOption second (¬ M) Q
+    → MatchOption result (¬ (N ⊎ M)) (λ a. P a ⊎ Q a)
+found_either N M P Q (Some a) second result same here there =
+    subst (λ o. MatchOption o (¬ (N ⊎ M)) (λ b. P b ⊎ Q b)) (sym same) (inl here)
+found_either N M P Q None (Some a) result same none here =
+    subst (λ o. MatchOption o (¬ (N ⊎ M)) (λ b. P b ⊎ Q b)) (sym same) (inr here)
+found_either N M P Q None None result same none none' =
+    subst (λ o. MatchOption o (¬ (N ⊎ M)) (λ b. P b ⊎ Q b)) (sym same) (neither none none')

@@ -32,40 +32,57 @@ range_text range = decimal range.start ++ (codes ".." ++ decimal range.end)
 
 -- what the longest chain of work costs, and whether the rows stay whole
 abbrev pub grid_text : Grid → ℕ → ℕ → List ℕ
-grid_text grid len workers = spaced (decimal (critical_cost grid len workers) ∷ (if stays_whole grid len workers then codes "whole" else codes "cut") ∷ [])
+grid_text grid len workers = spaced
+    (decimal (critical_cost grid len workers) ∷ (if stays_whole grid len workers then codes "whole"
+    else codes "cut") ∷ [])
 
--- what an environment's text says of a number: nothing where there is no text, and else the number that it writes, if it does
+-- what an environment's text says of a number: nothing where there is no text, and else the number
+-- that it writes, if it does
 abbrev pub SaysNumber : Option (Bor (List ℕ)) → Option ℕ → Type 0
 SaysNumber text number = MatchOption text (number ≡ None) (λ t. Writes t.now number)
 
--- for how many threads a pool is planned: what is set, above 0, or else the number by both texts and the machine's, and at most 65535
-abbrev pub IsPlannedFor : ℕ → Option (Bor (List ℕ)) → Option (Bor (List ℕ)) → Option NonZeroUsize → ℕ → Type 0
+-- for how many threads a pool is planned: what is set, above 0, or else the number by both texts
+-- and the machine's, and at most 65535
+abbrev pub IsPlannedFor : ℕ → Option (Bor (List ℕ)) → Option (Bor (List ℕ)) → Option NonZeroUsize
+    → ℕ → Type 0
 IsPlannedFor set num_threads num_cpus machine planned =
     (0 < set → planned ≡ min set 65535)
-    × (set ≡ 0 → (threads : Option ℕ) × (cpus : Option ℕ) × SaysNumber num_threads threads × SaysNumber num_cpus cpus
+    × (set ≡ 0 → (threads : Option ℕ) × (cpus : Option ℕ) × SaysNumber num_threads threads
+    × SaysNumber num_cpus cpus
     × (planned ≡ min (by_texts threads cpus (number_or 1 non_zero_usize_get machine)) 65535))
 
--- the sum along a cut of the items: each segment is summed from the identity, behind a further one, and the sums of neighbours are added
+-- the sum along a cut of the items: each segment is summed from the identity, behind a further one,
+-- and the sums of neighbours are added
 abbrev pub SumsAlong : ℕ → Cut (String Global) → ℕ → Type 0
-SumsAlong identity cut sum = Along (λ e. e ≡ identity) (λ a item b. b ≡ a + number_of item) (λ a b c. c ≡ a + b) cut sum
+SumsAlong identity cut sum =
+    Along (λ e. e ≡ identity) (λ a item b. b ≡ a + number_of item) (λ a b c. c ≡ a + b) cut sum
 
 -- the hash of a seed, of a length, and of the site in the file `a` that has this line and column
 abbrev pub IsMixedOf : ℕ → ℕ → ℕ → ℕ → ℕ → Type 0
 IsMixedOf seed line column len hash =
-    (site : Site) × (site.file.now ≡ codes "a") × (site.line ≡ line) × (site.column ≡ column) × (hash ≡ mix_of seed site len)
+    (site : Site) × (site.file.now ≡ codes "a") × (site.line ≡ line) × (site.column ≡ column)
+    × (hash ≡ mix_of seed site len)
 
--- the rows below a number; balanced ranges, as many as are asked for; the cost of a grid; the lengths of the segments
--- of any list of that length; the sum of the items from the identity, and along their shape for two threads; for how many threads a pool is planned; the hash; the sum of the numbers below 100
+-- the rows below a number; balanced ranges, as many as are asked for; the cost of a grid; the
+-- lengths of the segments of any list of that length; the sum of the items from the identity, and
+-- along their shape for two threads; for how many threads a pool is planned; the hash; the sum of
+-- the numbers below 100
 abbrev pub Answers : Request → List ℕ → Type 0
 Answers (Drain rows workers) text = text ≡ spaced (map decimal (range_with_len 0 rows))
-Answers (Batches len count) text = (ranges : List (Range ℕ)) × BalancedCut len ranges × (length ranges ≡ non_zero_usize_get count) × (text ≡ spaced (map range_text ranges))
+Answers (Batches len count) text = (ranges : List (Range ℕ)) × BalancedCut len ranges
+    × (length ranges ≡ non_zero_usize_get count) × (text ≡ spaced (map range_text ranges))
 Answers (OfGrid grid len workers) text = text ≡ grid_text grid len (non_zero_usize_get workers)
 Answers (Segments threads len) text =
-    (items : List ℕ) → length items ≡ len → text ≡ spaced (map decimal (leaf_lengths (Shape (cutdepth (non_zero_usize_get threads)) items)))
+    (items : List ℕ) → length items ≡ len
+    → text ≡ spaced (map decimal (leaf_lengths
+    (Shape (cutdepth (non_zero_usize_get threads)) items)))
 Answers (Fold identity items) text = text ≡ decimal (identity + sum_by number_of items.now)
-Answers (FoldParallel identity items) text = (sum : ℕ) × SumsAlong identity (Shape (cutdepth 2) items.now) sum × (text ≡ decimal sum)
-Answers (Threads set num_threads num_cpus machine) text = (planned : ℕ) × IsPlannedFor set num_threads num_cpus machine planned × (text ≡ decimal planned)
-Answers (Mix seed line column len) text = (hash : ℕ) × IsMixedOf seed line column len hash × (text ≡ decimal hash)
+Answers (FoldParallel identity items) text = (sum : ℕ)
+    × SumsAlong identity (Shape (cutdepth 2) items.now) sum × (text ≡ decimal sum)
+Answers (Threads set num_threads num_cpus machine) text = (planned : ℕ)
+    × IsPlannedFor set num_threads num_cpus machine planned × (text ≡ decimal planned)
+Answers (Mix seed line column len) text = (hash : ℕ) × IsMixedOf seed line column len hash
+    × (text ≡ decimal hash)
 Answers ExploreSum text = text ≡ decimal 4950
 
 -- a search that told of a difference ended at the parallel rule
@@ -75,4 +92,5 @@ EndsAtParallel (Build error) = Unit {0}
 
 -- the line answers the request that the words say
 abbrev pub IsAnswer : List (String Global) → List ℕ → Type 0
-IsAnswer words line = (request : Request) × (text : List ℕ) × Says words request × Answers request text × (line ≡ as_line text)
+IsAnswer words line = (request : Request) × (text : List ℕ) × Says words request
+    × Answers request text × (line ≡ as_line text)

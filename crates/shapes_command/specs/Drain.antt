@@ -19,8 +19,8 @@ listed c drained = in_ranges c drained.claims.items
 abbrev pub HasEachOnce : ℕ → List ℕ → Type 0
 HasEachOnce n numbers = (c : ℕ) → times c numbers ≡ inside c 0 n
 
--- the seat of a number has come back with nothing in transit, has seen its word empty, and has claimed just what its
--- list says
+-- the seat of a number has come back with nothing in transit, has seen its word empty, and has
+-- claimed just what its list says
 pub record IsDrained (shares : Shares) (number : ℕ) (drained : Drained) : Type 0 where
   pub belongs : IsSeatOf shares (seat_of drained)
   pub same : index_of (seat_of drained) ≡ number
@@ -31,4 +31,5 @@ pub record IsDrained (shares : Shares) (number : ℕ) (drained : Drained) : Type
 -- all seats of the shares have come back so, in order
 pub record AreDrained (shares : Shares) (drained : List Drained) : Type 0 where
   pub count : length drained ≡ (plan_of shares).workers
-  pub each : (i : ℕ) (d : Drained) → i < length drained → IsDrained shares i (slice_index_or drained i d)
+  pub each : (i : ℕ) (d : Drained) → i < length drained
+      → IsDrained shares i (slice_index_or drained i d)

@@ -28,4 +28,5 @@ AppendsPart old new line = (part : List ℕ) × IsBeginning part line × Appends
 
 -- known bytes stay as they were, or grow by a beginning of such a line
 abbrev pub AppendsPartOf : (List ℕ → Type 0) → Option (List ℕ) → Option (List ℕ) → Type 0
-AppendsPartOf IsLine old new = Keeps old new ⊎ ((line : List ℕ) × IsLine line × AppendsPart old new line)
+AppendsPartOf IsLine old new = Keeps old new
+    ⊎ ((line : List ℕ) × IsLine line × AppendsPart old new line)

@@ -21,40 +21,48 @@ HasForm words name count = (length words ≡ count) × (word words 0 ≡ name)
 
 -- `drain ROWS WORKERS`, each in its range
 abbrev pub IsDrainLine : List (String Global) → Type 0
-IsDrainLine words = HasForm words (codes "drain") 3 × IsNumberUpTo 65535 (word words 1) × IsCountUpTo 16 (word words 2)
+IsDrainLine words = HasForm words (codes "drain") 3 × IsNumberUpTo 65535 (word words 1)
+    × IsCountUpTo 16 (word words 2)
 
 -- the request of such a line
 abbrev pub SaysDrain : List (String Global) → Request → Type 0
-SaysDrain words (Drain rows workers) = IsDrainLine words × (rows ≡ number_at words 1) × (non_zero_usize_get workers ≡ number_at words 2)
+SaysDrain words (Drain rows workers) = IsDrainLine words × (rows ≡ number_at words 1)
+    × (non_zero_usize_get workers ≡ number_at words 2)
 SaysDrain words _ = ⊥
 
 -- `batches LEN COUNT`, each in its range
 abbrev pub IsBatchesLine : List (String Global) → Type 0
-IsBatchesLine words = HasForm words (codes "batches") 3 × IsNumberUpTo (2 ^ 64 - 1) (word words 1) × IsCountUpTo 65535 (word words 2)
+IsBatchesLine words = HasForm words (codes "batches") 3 × IsNumberUpTo (2 ^ 64 - 1) (word words 1)
+    × IsCountUpTo 65535 (word words 2)
 
 -- the request of such a line
 abbrev pub SaysBatches : List (String Global) → Request → Type 0
-SaysBatches words (Batches len count) = IsBatchesLine words × (len ≡ number_at words 1) × (non_zero_usize_get count ≡ number_at words 2)
+SaysBatches words (Batches len count) = IsBatchesLine words × (len ≡ number_at words 1)
+    × (non_zero_usize_get count ≡ number_at words 2)
 SaysBatches words _ = ⊥
 
 -- `grid ROWS COST LEN WORKERS`, each in its range
 abbrev pub IsGridLine : List (String Global) → Type 0
-IsGridLine words = HasForm words (codes "grid") 5 × IsNumberUpTo (2 ^ 64 - 1) (word words 1) × IsCountUpTo (2 ^ 64 - 1) (word words 2)
+IsGridLine words = HasForm words (codes "grid") 5 × IsNumberUpTo (2 ^ 64 - 1) (word words 1)
+    × IsCountUpTo (2 ^ 64 - 1) (word words 2)
     × IsNumberUpTo (2 ^ 64 - 1) (word words 3) × IsCountUpTo (2 ^ 64 - 1) (word words 4)
 
 -- the request of such a line
 abbrev pub SaysGrid : List (String Global) → Request → Type 0
-SaysGrid words (Grid grid len workers) = IsGridLine words × (grid.rows ≡ number_at words 1) × (non_zero_usize_get grid.tile_cost ≡ number_at words 2)
+SaysGrid words (Grid grid len workers) = IsGridLine words × (grid.rows ≡ number_at words 1)
+    × (non_zero_usize_get grid.tile_cost ≡ number_at words 2)
     × (len ≡ number_at words 3) × (non_zero_usize_get workers ≡ number_at words 4)
 SaysGrid words _ = ⊥
 
 -- `segments N LEN`, each in its range
 abbrev pub IsSegmentsLine : List (String Global) → Type 0
-IsSegmentsLine words = HasForm words (codes "segments") 3 × IsCountUpTo 65535 (word words 1) × IsNumberUpTo (2 ^ 64 - 1) (word words 2)
+IsSegmentsLine words = HasForm words (codes "segments") 3 × IsCountUpTo 65535 (word words 1)
+    × IsNumberUpTo (2 ^ 64 - 1) (word words 2)
 
 -- the request of such a line
 abbrev pub SaysSegments : List (String Global) → Request → Type 0
-SaysSegments words (Segments threads len) = IsSegmentsLine words × (non_zero_usize_get threads ≡ number_at words 1) × (len ≡ number_at words 2)
+SaysSegments words (Segments threads len) = IsSegmentsLine words
+    × (non_zero_usize_get threads ≡ number_at words 1) × (len ≡ number_at words 2)
 SaysSegments words _ = ⊥
 
 -- the number that a word writes
@@ -76,32 +84,40 @@ IsFoldLine way words = (3 ≤ length words) × (word words 0 ≡ codes "fold") �
 
 -- the request of such a line for the way `serial`
 abbrev pub SaysFold : List (String Global) → Request → Type 0
-SaysFold words (Fold identity items) = IsFoldLine (codes "serial") words × (identity ≡ number_at words 2) × (items.now ≡ drop 3 words)
+SaysFold words (Fold identity items) = IsFoldLine (codes "serial") words
+    × (identity ≡ number_at words 2) × (items.now ≡ drop 3 words)
 SaysFold words _ = ⊥
 
 -- and for the way `parallel`
 abbrev pub SaysFoldParallel : List (String Global) → Request → Type 0
-SaysFoldParallel words (FoldParallel identity items) = IsFoldLine (codes "parallel") words × (identity ≡ number_at words 2) × (items.now ≡ drop 3 words)
+SaysFoldParallel words (FoldParallel identity items) = IsFoldLine (codes "parallel") words
+    × (identity ≡ number_at words 2) × (items.now ≡ drop 3 words)
 SaysFoldParallel words _ = ⊥
 
--- `threads SET NUM CPUS MACHINE`: a number, two texts, and a number above 0, where `-` stands for none but at SET
+-- `threads SET NUM CPUS MACHINE`: a number, two texts, and a number above 0, where `-` stands for
+-- none but at SET
 abbrev pub IsThreadsLine : List (String Global) → Type 0
-IsThreadsLine words = HasForm words (codes "threads") 5 × IsNumberUpTo (2 ^ 64 - 1) (word words 1) × IsCountOrNone (2 ^ 64 - 1) (word words 4)
+IsThreadsLine words = HasForm words (codes "threads") 5 × IsNumberUpTo (2 ^ 64 - 1) (word words 1)
+    × IsCountOrNone (2 ^ 64 - 1) (word words 4)
 
 -- the request of such a line
 abbrev pub SaysThreads : List (String Global) → Request → Type 0
-SaysThreads words (Threads set num_threads num_cpus machine) = IsThreadsLine words × (set ≡ number_at words 1)
-    × IsTextOrNone (word words 2) num_threads × IsTextOrNone (word words 3) num_cpus × CountsOrNone (2 ^ 64 - 1) (word words 4) machine
+SaysThreads words (Threads set num_threads num_cpus machine) = IsThreadsLine words
+    × (set ≡ number_at words 1)
+    × IsTextOrNone (word words 2) num_threads × IsTextOrNone (word words 3) num_cpus
+    × CountsOrNone (2 ^ 64 - 1) (word words 4) machine
 SaysThreads words _ = ⊥
 
 -- `mix SEED LINE COLUMN LEN`: numbers of 64 bits, but of 32 bits at LINE and COLUMN
 abbrev pub IsMixLine : List (String Global) → Type 0
-IsMixLine words = HasForm words (codes "mix") 5 × IsNumberUpTo (2 ^ 64 - 1) (word words 1) × IsNumberUpTo (2 ^ 32 - 1) (word words 2)
+IsMixLine words = HasForm words (codes "mix") 5 × IsNumberUpTo (2 ^ 64 - 1) (word words 1)
+    × IsNumberUpTo (2 ^ 32 - 1) (word words 2)
     × IsNumberUpTo (2 ^ 32 - 1) (word words 3) × IsNumberUpTo (2 ^ 64 - 1) (word words 4)
 
 -- the request of such a line
 abbrev pub SaysMix : List (String Global) → Request → Type 0
-SaysMix words (Mix seed line column len) = IsMixLine words × (seed ≡ number_at words 1) × (line ≡ number_at words 2)
+SaysMix words (Mix seed line column len) = IsMixLine words × (seed ≡ number_at words 1)
+    × (line ≡ number_at words 2)
     × (column ≡ number_at words 3) × (len ≡ number_at words 4)
 SaysMix words _ = ⊥
 
@@ -129,7 +145,8 @@ IsShareLine words = IsDrainLine words ⊎ (IsBatchesLine words ⊎ IsGridLine wo
 
 -- the request of such a line
 abbrev pub SaysShare : List (String Global) → Request → Type 0
-SaysShare words request = SaysDrain words request ⊎ (SaysBatches words request ⊎ SaysGrid words request)
+SaysShare words request = SaysDrain words request
+    ⊎ (SaysBatches words request ⊎ SaysGrid words request)
 
 -- one of the lines about lists and about the threads for them
 abbrev pub IsListLine : List (String Global) → Type 0
@@ -137,15 +154,18 @@ IsListLine words = IsSegmentsLine words ⊎ (IsFoldLine (codes "serial") words �
 
 -- the request of such a line
 abbrev pub SaysList : List (String Global) → Request → Type 0
-SaysList words request = SaysSegments words request ⊎ (SaysFold words request ⊎ SaysThreads words request)
+SaysList words request = SaysSegments words request
+    ⊎ (SaysFold words request ⊎ SaysThreads words request)
 
 -- one of the lines about explorers
 abbrev pub IsExplorerLine : List (String Global) → Type 0
-IsExplorerLine words = IsMixLine words ⊎ (IsFoldLine (codes "parallel") words ⊎ IsExploreLine (codes "sum") words)
+IsExplorerLine words = IsMixLine words
+    ⊎ (IsFoldLine (codes "parallel") words ⊎ IsExploreLine (codes "sum") words)
 
 -- the request of such a line
 abbrev pub SaysExplorer : List (String Global) → Request → Type 0
-SaysExplorer words request = SaysMix words request ⊎ (SaysFoldParallel words request ⊎ SaysExploreSum words request)
+SaysExplorer words request = SaysMix words request
+    ⊎ (SaysFoldParallel words request ⊎ SaysExploreSum words request)
 
 -- one of the lines about calls: about lists, or about explorers
 abbrev pub IsCallLine : List (String Global) → Type 0

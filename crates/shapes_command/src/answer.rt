@@ -33,7 +33,8 @@ pub fn line<R: Threads + Wait + Sync>(
     request: Request,
 ) -> Result<String, Fault>
     requires { IsInRange request }
-    ensures line { IfOk result (λ line. (text : List ℕ) × Answers request.entry text × (string_bytes line ≡ as_line text)) }
+    ensures line { IfOk result (λ line. (text : List ℕ) × Answers request.entry text
+        × (string_bytes line ≡ as_line text)) }
     ensures fault { IfErr result (λ refusal. refusal ≡ Fault.Memory) }
 {
     let mut line = String::new(alloc);
@@ -50,7 +51,8 @@ fn push_answer<R: Threads + Wait + Sync>(
     request: Request,
 ) -> Result<(), Fault>
     requires { IsInRange request }
-    ensures text { IfOk result (λ _. (text : List ℕ) × Answers request.entry text × (string_bytes line.new ≡ string_bytes line.old ++ text)) }
+    ensures text { IfOk result (λ _. (text : List ℕ) × Answers request.entry text
+        × (string_bytes line.new ≡ string_bytes line.old ++ text)) }
     ensures fault { IfErr result (λ refusal. refusal ≡ Fault.Memory) }
 {
     match request {
@@ -86,7 +88,8 @@ fn push_answer<R: Threads + Wait + Sync>(
 
 // One number.
 fn push_number(line: &mut String, number: usize) -> Result<(), Fault>
-    ensures text { IfOk result (λ _. string_bytes line.new ≡ string_bytes line.old ++ decimal number) }
+    ensures text { IfOk result (λ _. string_bytes line.new ≡ string_bytes line.old ++ decimal
+        number) }
     ensures fault { IfErr result (λ refusal. refusal ≡ Fault.Memory) }
 {
     write!(line, "{number}")?;
@@ -101,7 +104,8 @@ fn push_planned(
     num_cpus: Option<&str>,
     machine: Option<NonZeroUsize>,
 ) -> Result<(), Fault>
-    ensures text { IfOk result (λ _. (planned : ℕ) × IsPlannedFor set num_threads.entry num_cpus.entry machine planned
+    ensures text { IfOk result (λ _. (planned : ℕ)
+        × IsPlannedFor set num_threads.entry num_cpus.entry machine planned
         × (string_bytes line.new ≡ string_bytes line.old ++ decimal planned)) }
     ensures fault { IfErr result (λ refusal. refusal ≡ Fault.Memory) }
 {
@@ -111,7 +115,8 @@ fn push_planned(
 
 // The hash of a site in the file `a`.
 fn push_mix(line: &mut String, seed: u64, row: u32, column: u32, len: usize) -> Result<(), Fault>
-    ensures text { IfOk result (λ _. (hash : ℕ) × IsMixedOf seed row column len hash × (string_bytes line.new ≡ string_bytes line.old ++ decimal hash)) }
+    ensures text { IfOk result (λ _. (hash : ℕ) × IsMixedOf seed row column len hash
+        × (string_bytes line.new ≡ string_bytes line.old ++ decimal hash)) }
     ensures fault { IfErr result (λ refusal. refusal ≡ Fault.Memory) }
 {
     let site = Site {
@@ -126,7 +131,8 @@ fn push_mix(line: &mut String, seed: u64, row: u32, column: u32, len: usize) -> 
 
 // The numbers, with spaces between them.
 fn push_numbers(line: &mut String, numbers: &[usize]) -> Result<(), Fault>
-    ensures text { IfOk result (λ _. string_bytes line.new ≡ string_bytes line.old ++ spaced (map decimal numbers.now)) }
+    ensures text { IfOk result (λ _. string_bytes line.new ≡ string_bytes line.old ++ spaced
+        (map decimal numbers.now)) }
     ensures fault { IfErr result (λ refusal. refusal ≡ Fault.Memory) }
 {
     for (index, number) in numbers.iter().enumerate() {
@@ -138,7 +144,8 @@ fn push_numbers(line: &mut String, numbers: &[usize]) -> Result<(), Fault>
 
 // The ranges, with spaces between them.
 fn push_ranges(line: &mut String, ranges: &[Range<usize>]) -> Result<(), Fault>
-    ensures text { IfOk result (λ _. string_bytes line.new ≡ string_bytes line.old ++ spaced (map range_text ranges.now)) }
+    ensures text { IfOk result (λ _. string_bytes line.new ≡ string_bytes line.old ++ spaced
+        (map range_text ranges.now)) }
     ensures fault { IfErr result (λ refusal. refusal ≡ Fault.Memory) }
 {
     for (index, range) in ranges.iter().enumerate() {
@@ -151,7 +158,8 @@ fn push_ranges(line: &mut String, ranges: &[Range<usize>]) -> Result<(), Fault>
 
 // The cost of the grid's critical path, and whether its rows are cut.
 fn push_grid(line: &mut String, grid: Grid, len: usize, workers: NonZeroUsize) -> Result<(), Fault>
-    ensures text { IfOk result (λ _. string_bytes line.new ≡ string_bytes line.old ++ grid_text grid len (non_zero_usize_get workers)) }
+    ensures text { IfOk result (λ _. string_bytes line.new ≡ string_bytes line.old ++ grid_text grid
+        len (non_zero_usize_get workers)) }
     ensures fault { IfErr result (λ refusal. refusal ≡ Fault.Memory) }
 {
     let (cost, whole) = grid.critical_path(len, workers);

@@ -79,8 +79,9 @@ pub fn drain<R: Threads + Wait + Sync>(
 /// Closes the shares with the seats that came back, and answers the words that are left and all
 /// cells of the lists.
 ///
-/// No unit is left in any word, and each cell of the grid is in the lists just once: that no cell is
-/// left out or twice there is proved of the lists themselves. The one refusal is `Fault::Memory`.
+/// No unit is left in any word, and each cell of the grid is in the lists just once: that no cell
+/// is left out or twice there is proved of the lists themselves. The one refusal is
+/// `Fault::Memory`.
 pub fn gather(
     alloc: Global,
     shares: Shares,
@@ -134,7 +135,8 @@ fn all_drained(
 // The seats, and all cells that their lists have.
 fn claimed_cells(alloc: Global, drained: Vec<Drained>) -> Result<(Vec<Seat>, Vec<usize>), Fault>
     ensures seats { IfOk result (λ r. r.0.items ≡ map seat_of drained.items) }
-    ensures cells { IfOk result (λ r. (c : ℕ) → times c r.1.items ≡ total (listed c) drained.items) }
+    ensures cells { IfOk result (λ r. (c : ℕ)
+        → times c r.1.items ≡ total (listed c) drained.items) }
     ensures fault { IfErr result (λ refusal. refusal ≡ Fault.Memory) }
 {
     let mut seats = Vec::new(alloc);
@@ -148,7 +150,8 @@ fn claimed_cells(alloc: Global, drained: Vec<Drained>) -> Result<(Vec<Seat>, Vec
 
 // The cells of the ranges, behind those that are there.
 fn push_cells(cells: &mut Vec<usize>, ranges: Vec<Range<usize>>) -> Result<(), Fault>
-    ensures cells { IfOk result (λ _. (c : ℕ) → times c cells.new.items ≡ times c cells.old.items + in_ranges c ranges.items) }
+    ensures cells { IfOk result (λ _. (c : ℕ)
+        → times c cells.new.items ≡ times c cells.old.items + in_ranges c ranges.items) }
     ensures fault { IfErr result (λ refusal. refusal ≡ Fault.Memory) }
 {
     for range in ranges {

@@ -42,7 +42,8 @@ pub fn number_of_32_bits(word: &str) -> Option<u32>
 /// The number from 1 to `most` that the word writes in decimal digits, read as `number` reads it.
 pub fn count(word: &str, most: usize) -> Option<NonZeroUsize>
     ensures { MatchOption result (¬ (IsCountUpTo most word.now))
-        (λ count. IsCountUpTo most word.now × (non_zero_usize_get count ≡ digits_value 10 word.now)) }
+        (λ count. IsCountUpTo most word.now
+        × (non_zero_usize_get count ≡ digits_value 10 word.now)) }
 {
     NonZeroUsize::new(number(word, most)?)
 }

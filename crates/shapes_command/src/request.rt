@@ -234,7 +234,8 @@ fn fold(words: &[String]) -> Option<Request<'_>>
 
 // The request of a line `fold parallel IDENTITY ITEM..`.
 fn fold_parallel(words: &[String]) -> Option<Request<'_>>
-    ensures { MatchOption result (¬ (IsFoldLine (codes "parallel") words.now)) (SaysFoldParallel words.now) }
+    ensures { MatchOption result (¬ (IsFoldLine (codes "parallel") words.now))
+        (SaysFoldParallel words.now) }
 {
     match words {
         [name, through, identity, items @ ..]
@@ -282,7 +283,8 @@ fn mix(words: &[String]) -> Option<Request<'_>>
 
 // The request of a line `explore sum`.
 fn explore_sum(words: &[String]) -> Option<Request<'_>>
-    ensures { MatchOption result (¬ (IsExploreLine (codes "sum") words.now)) (SaysExploreSum words.now) }
+    ensures { MatchOption result (¬ (IsExploreLine (codes "sum") words.now))
+        (SaysExploreSum words.now) }
 {
     match words {
         [name, what] if name.as_str() == "explore" && what.as_str() == "sum" => {

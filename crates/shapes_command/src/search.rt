@@ -1,4 +1,5 @@
-// Searches through the rules of an explorer: for the sum of a list, and for a body that answers otherwise.
+// Searches through the rules of an explorer: for the sum of a list, and for a body that answers
+// otherwise.
 ghost use Rattle.std.specs.Prelude.{◌≡◌, Bool, true, false, IfOk, IfErr};
 ghost use Rattle.commonware_parallel.specs.Explorers.{plans_of, rule_of};
 ghost use Rattle.commonware_parallel.specs.declared.mocks.rule.Rule.TheVariants.{Parallel, Serial};
@@ -41,7 +42,8 @@ fn known_sum<R: Threads, F: FnMut(&Explorer) -> Result<usize, Fault>>(
     run: F,
 ) -> Result<usize, Fault>
     requires callable { F.IsAlwaysCallable run }
-    requires sums { (f g : F) (explorer : _) (out : _) → F.step f explorer out g → IfOk out (λ sum. sum ≡ 4950) }
+    requires sums { (f g : F) (explorer : _) (out : _) → F.step f explorer out g
+        → IfOk out (λ sum. sum ≡ 4950) }
     ensures sum { IfOk result (λ sum. sum ≡ 4950) }
     ensures fault { IfErr result (λ refusal. refusal ≡ Fault.Memory) }
 {
@@ -81,7 +83,8 @@ pub fn differing_rule<R: Threads + Wait>(rt: &R, alloc: Global) -> Result<Rule, 
 {
     let run = |explorer: &Explorer| -> bool
         ensures serial { rule_of explorer.now ≡ Serial → result ≡ false }
-        ensures parallel { plans_of explorer.now ≡ 8 → rule_of explorer.now ≡ Parallel → result ≡ true }
+        ensures parallel { plans_of explorer.now ≡ 8 → rule_of explorer.now ≡ Parallel
+            → result ≡ true }
     { takes_parallel_body(rt, alloc, explorer) };
     match searched(rt, alloc, run) {
         Err(ExploreError::Differs(rule)) => Ok(rule),

@@ -6,12 +6,13 @@ ghost use Rattle.shapes_command.specs.Line.{AppendsPart};
 use std::io;
 use std::io::{ErrorKind, Write};
 
-// Writes the line, and again what is left of it where the writer took a part. The error is that of a
-// write that failed, and the writer has then got a beginning of the line: what std's `write_all` leaves
-// there its contract doesn't say.
+// Writes the line, and again what is left of it where the writer took a part. The error is that of
+// a write that failed, and the writer has then got a beginning of the line: what std's `write_all`
+// leaves there its contract doesn't say.
 pub(crate) fn write_line<W: Write>(writer: &mut W, line: &[u8]) -> io::Result<()>
     ensures whole { OnOk result (Appends (W.contents writer.old) (W.contents writer.new) line.now) }
-    ensures part { OnErr result (AppendsPart (W.contents writer.old) (W.contents writer.new) line.now) }
+    ensures part { OnErr result (AppendsPart (W.contents writer.old)
+        (W.contents writer.new) line.now) }
 {
     let mut rest = line;
     while !rest.is_empty() {
@@ -24,7 +25,8 @@ pub(crate) fn write_line<W: Write>(writer: &mut W, line: &[u8]) -> io::Result<()
 // Writes some of the bytes, and tries again where the writer was interrupted.
 fn write_part<W: Write>(writer: &mut W, bytes: &[u8]) -> io::Result<usize>
     ensures some { IfOk result (λ count. (0 < count) × (count ≤ length bytes.now)) }
-    ensures taken { IfOk result (λ count. Appends (W.contents writer.old) (W.contents writer.new) (take count bytes.now)) }
+    ensures taken { IfOk result (λ count. Appends (W.contents writer.old) (W.contents writer.new)
+        (take count bytes.now)) }
     ensures none { OnErr result (Keeps (W.contents writer.old) (W.contents writer.new)) }
 {
     for _ in 0..u64::MAX {

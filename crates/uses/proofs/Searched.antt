@@ -13,11 +13,15 @@ abbrev pub adds : ℕ → ℕ → ℕ
 adds a x = (a + x) % 2 ^ 64
 
 -- a chain of steps that add is the fold by them
-pub chain_adds : (step : ℕ → ℕ → ℕ → Type 0) → ((a x b : ℕ) → step a x b → b ≡ adds a x) → (xs : List ℕ) (a r : ℕ) → Chain step a xs r → r ≡ fold adds a xs
+pub chain_adds : (step : ℕ → ℕ → ℕ → Type 0) → ((a x b : ℕ) → step a x b → b ≡ adds a x)
+    → (xs : List ℕ) (a r : ℕ) → Chain step a xs r → r ≡ fold adds a xs
 chain_adds step is [] a r same = sym same
-chain_adds step is (x ∷ xs) a r (m, stepped, rest) = chain_adds step is xs m r rest ∙ ap (λ n. fold adds n xs) (is a x m stepped)
+chain_adds step is (x ∷ xs) a r (m, stepped, rest) = chain_adds step is xs m r rest
+    ∙ ap (λ n. fold adds n xs) (is a x m stepped)
 
 -- what a search answers is what a run by the serial rule gave
-pub serial_output : {F R : Type 0} (step : F → Bor Explorer → R → F → Type 0) (eq : R → R → Bool) (run : F) (result : Result R ExploreError) → Explored step eq run result → IfOk result (λ r. (g : F) × RunsBy step eq Serial run r g)
+pub serial_output : {F R : Type 0} (step : F → Bor Explorer → R → F → Type 0) (eq : R → R → Bool)
+    (run : F) (result : Result R ExploreError) → Explored step eq run result
+    → IfOk result (λ r. (g : F) × RunsBy step eq Serial run r g)
 serial_output step eq run (Ok r) told = (told.0, told.2)
 serial_output step eq run (Err e) told = tt

@@ -16,4 +16,5 @@ thread_number_of strategy = non_zero_usize_get strategy.threads
 
 -- the first pick for a short list, and the last one for a long list
 abbrev pub TakesByLength : ℕ → Call → Pick → Type 0
-TakesByLength from call pick = (call.len < from → pick ≡ first_pick call) × (from ≤ call.len → pick ≡ last_pick call)
+TakesByLength from call pick = (call.len < from → pick ≡ first_pick call)
+    × (from ≤ call.len → pick ≡ last_pick call)

@@ -5,9 +5,11 @@ use Rattle.std.specs.List.{AllWithin, HoldsAt}
 -- the item at the index may fail, and each item before it may pass
 abbrev pub IsFirstFailing : {X : Type 0} → (X → Bool → Type 0) → List X → ℕ → Type 0
 IsFirstFailing verdict xs index =
-    (index < length xs) × HoldsAt (λ x. verdict x false) xs index × AllWithin (λ x. verdict x true) xs 0 index
+    (index < length xs) × HoldsAt (λ x. verdict x false) xs index
+    × AllWithin (λ x. verdict x true) xs 0 index
 
--- an item with a value where it may pass, and without one where it may fail; both are the item itself
+-- an item with a value where it may pass, and without one where it may fail; both are the item
+-- itself
 abbrev pub IsSortedOut : {X : Type 0} → (X → Bool → Type 0) → X → (X × Option X) → Type 0
 IsSortedOut verdict x (key, Some value) = (key ≡ x) × (value ≡ x) × verdict x true
 IsSortedOut verdict x (key, None) = (key ≡ x) × verdict x false
@@ -15,12 +17,17 @@ IsSortedOut verdict x (key, None) = (key ≡ x) × verdict x false
 -- a number of the list is above the limit, and none before it
 abbrev pub IsFirstOver : ℕ → List ℕ → ℕ → Type 0
 IsFirstOver limit xs over =
-    (before : List ℕ) × (after : List ℕ) × (xs ≡ before ++ (over ∷ after)) × All (λ y. y ≤ limit) before × (limit < over)
+    (before : List ℕ) × (after : List ℕ) × (xs ≡ before ++ (over ∷ after))
+    × All (λ y. y ≤ limit) before × (limit < over)
 
--- an answer where the item at the index may pass, and an error, which is the index, where it may fail
+-- an answer where the item at the index may pass, and an error, which is the index, where it may
+-- fail
 abbrev pub Judges : {X Y : Type 0} → (X → Bool → Type 0) → List X → ℕ → Result Y ℕ → Type 0
-Judges verdict xs i out = MatchResult out (λ _. HoldsAt (λ x. verdict x true) xs i) (λ e. (e ≡ i) × HoldsAt (λ x. verdict x false) xs i)
+Judges verdict xs i out = MatchResult out (λ _. HoldsAt (λ x. verdict x true) xs i)
+    (λ e. (e ≡ i) × HoldsAt (λ x. verdict x false) xs i)
 
--- the next sum, which wraps around at 2 to the power of 64, where the number is within the limit; and an error, the number itself, where it is above
+-- the next sum, which wraps around at 2 to the power of 64, where the number is within the limit;
+-- and an error, the number itself, where it is above
 abbrev pub AddsWithin : ℕ → ℕ → ℕ → Result ℕ ℕ → Type 0
-AddsWithin limit a x out = MatchResult out (λ b. (b ≡ (a + x) % 2 ^ 64) × (x ≤ limit)) (λ e. (e ≡ x) × (limit < x))
+AddsWithin limit a x out =
+    MatchResult out (λ b. (b ≡ (a + x) % 2 ^ 64) × (x ≤ limit)) (λ e. (e ≡ x) × (limit < x))

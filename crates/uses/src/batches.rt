@@ -35,8 +35,8 @@ pub fn batch_ranges<Rt: Wait, P: Place, S: Strategy>(
     Ok(ranges?)
 }
 
-/// How many of the flags are set, counted range by range. The closure is asked for balanced ranges of
-/// the list's indices alone, so each of them may be cut out of the list.
+/// How many of the flags are set, counted range by range. The closure is asked for balanced ranges
+/// of the list's indices alone, so each of them may be cut out of the list.
 pub fn count_by_ranges<Rt: Wait, P: Place, S: Strategy>(
     rt: &Rt,
     alloc: Global,

@@ -1,5 +1,5 @@
-// A closure whose answer the shape of a run doesn't change, and one whose answer it does, told apart by a
-// search through the rules.
+// A closure whose answer the shape of a run doesn't change, and one whose answer it does, told
+// apart by a search through the rules.
 ghost use Rattle.std.specs.Prelude.{◌≡◌, IfOk};
 ghost use Rattle.parallel_fault.specs.Trouble.{IsMemoryOnErr};
 ghost use Rattle.commonware_parallel.specs.Explorers.{rule_of};
@@ -18,8 +18,8 @@ const SITE: Site = Site {
     column: 1,
 };
 
-/// What a search says of the sum of the numbers below 100 from 0 on: nothing is added to a segment by
-/// where it begins, so every run that isn't refused has the list's own sum.
+/// What a search says of the sum of the numbers below 100 from 0 on: nothing is added to a segment
+/// by where it begins, so every run that isn't refused has the list's own sum.
 pub fn explore_from_zero<Rt: Threads + Wait + Sync>(
     rt: &Rt,
     alloc: Global,
@@ -34,8 +34,8 @@ pub fn explore_from_zero<Rt: Threads + Wait + Sync>(
     explore_equal(rt, alloc, run)
 }
 
-/// What a search says of that sum from 10 on: each segment begins from 10, so the parallel run has a
-/// greater sum than the serial one, and `ExploreError::Differs` tells of it.
+/// What a search says of that sum from 10 on: each segment begins from 10, so the parallel run has
+/// a greater sum than the serial one, and `ExploreError::Differs` tells of it.
 pub fn explore_from_ten<Rt: Threads + Wait + Sync>(
     rt: &Rt,
     alloc: Global,
@@ -57,8 +57,10 @@ fn explore_equal<Rt: Threads, F: FnMut(&Explorer) -> Result<usize, Fault>>(
     run: F,
 ) -> Result<Result<usize, Fault>, ExploreError>
     requires callable { F.IsAlwaysCallable run }
-    requires sums { (f g : F) (explorer : _) (out : _) → F.step f explorer out g → IfOk out (λ sum. sum ≡ 4950) }
-    requires faults { (f g : F) (explorer : _) (out : _) → F.step f explorer out g → IsMemoryOnErr out }
+    requires sums { (f g : F) (explorer : _) (out : _) → F.step f explorer out g
+        → IfOk out (λ sum. sum ≡ 4950) }
+    requires faults { (f g : F) (explorer : _) (out : _) → F.step f explorer out g
+        → IsMemoryOnErr out }
     ensures sum { IfOk result (λ told. IfOk told (λ sum. sum ≡ 4950)) }
     ensures fault { IfOk result (λ told. IsMemoryOnErr told) }
 {
@@ -74,7 +76,8 @@ fn explore_unequal<Rt: Threads, F: FnMut(&Explorer) -> Result<usize, Fault>>(
     requires callable { F.IsAlwaysCallable run }
     requires sums { (f g : F) (explorer : _) (out : _) → F.step f explorer out g
         → rule_of explorer.now ≡ Serial → IfOk out (λ sum. sum ≡ 4960) }
-    requires faults { (f g : F) (explorer : _) (out : _) → F.step f explorer out g → IsMemoryOnErr out }
+    requires faults { (f g : F) (explorer : _) (out : _) → F.step f explorer out g
+        → IsMemoryOnErr out }
     ensures sum { IfOk result (λ told. IfOk told (λ sum. sum ≡ 4960)) }
     ensures fault { IfOk result (λ told. IsMemoryOnErr told) }
 {
@@ -89,7 +92,8 @@ fn sum_from<Rt: Threads + Wait + Sync>(
     identity: usize,
 ) -> Result<usize, Fault>
     ensures neutral { identity ≡ 0 → IfOk result (λ sum. sum ≡ 4950) }
-    ensures serial { identity ≡ 10 → rule_of explorer.now ≡ Serial → IfOk result (λ sum. sum ≡ 4960) }
+    ensures serial { identity ≡ 10 → rule_of explorer.now ≡ Serial
+        → IfOk result (λ sum. sum ≡ 4960) }
     ensures fault { IsMemoryOnErr result }
 {
     explorer.fold(

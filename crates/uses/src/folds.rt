@@ -1,4 +1,5 @@
-// Folds that are the plain fold from the left, since their closures keep the laws that `FoldLaws` names.
+// Folds that are the plain fold from the left, since their closures keep the laws that `FoldLaws`
+// names.
 ghost use Rattle.std.specs.Prelude.{◌≡◌, ◌*◌, ◌+◌, ◌%◌, ◌^◌, fold, sum_by, IfOk, IfErr};
 ghost use Rattle.parallel_fault.specs.declared.fault.Fault.TheVariants.{Memory};
 ghost use Rattle.parallel_bridge.specs.Folds.{IsPlainFold};
@@ -59,7 +60,8 @@ pub fn plain_fold<
     requires fold_accepts { F.IsAlwaysCallable fold_op }
     requires reduce_accepts { G.IsAlwaysCallable reduce_op }
     ensures plain { IfOk result (λ r. GivesSome I.gives source
-        (λ xs. IsPlainFold (ID.post identity) (λ a x b. F.post fold_op a x b) (λ a b c. G.post reduce_op a b c) xs r)) }
+        (λ xs. IsPlainFold (ID.post identity) (λ a x b. F.post fold_op a x b)
+        (λ a b c. G.post reduce_op a b c) xs r)) }
     ensures fault { IfErr result (λ fault. fault ≡ Memory) }
 {
     fold_law(&identity, &fold_op, &reduce_op);

@@ -1,5 +1,5 @@
-//! What a program writes over the strategies: callers to copy from, each proved from the public clauses
-//! alone.
+//! What a program writes over the strategies: callers to copy from, each proved from the public
+//! clauses alone.
 #![tactic(auto)]
 
 pub mod batches;

@@ -17,8 +17,9 @@ use std::thread::Threads;
 /// Runs a call over few items on the caller's thread and any longer one in parallel.
 ///
 /// It shows all that a strategy of one's own takes. The functions below choose a pick, which is a
-/// path or a number of parts, and hand out two numbers; the ghost members say which picks are taken. Maps, folds, runs and batches come from
-/// the trait, with their contracts proved once for every strategy, so nothing here can break them.
+/// path or a number of parts, and hand out two numbers; the ghost members say which picks are
+/// taken. Maps, folds, runs and batches come from the trait, with their contracts proved once for
+/// every strategy, so nothing here can break them.
 #[derive(Clone, Copy, Debug, PartialEq, Eq)]
 pub struct LongLists {
     threads: NonZeroUsize,
@@ -159,9 +160,11 @@ pub fn fold_by_length<
     requires identity_accepts { ID.IsAlwaysCallable identity }
     requires fold_accepts { F.IsAlwaysCallable fold_op }
     requires reduce_accepts { G.IsAlwaysCallable reduce_op }
-    ensures short { IfOk result (λ r. GivesSome I.gives source (λ xs. length xs < from_of strategy.now
+    ensures short { IfOk result (λ r. GivesSome I.gives source
+        (λ xs. length xs < from_of strategy.now
         → FoldSegment (ID.post identity) (λ a x b. F.post fold_op a x b) xs r)) }
-    ensures long { IfOk result (λ r. GivesSome I.gives source (λ xs. from_of strategy.now ≤ length xs
+    ensures long { IfOk result (λ r. GivesSome I.gives source
+        (λ xs. from_of strategy.now ≤ length xs
         → Along (ID.post identity) (λ a x b. F.post fold_op a x b) (λ a b c. G.post reduce_op a b c)
         (Shape (cutdepth (thread_number_of strategy.now)) xs) r)) }
     ensures fault { IfErr result (λ fault. fault ≡ Memory) }

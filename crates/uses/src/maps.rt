@@ -25,8 +25,8 @@ pub fn borrowed_squares<Rt: Threads + Wait + Sync, P: Place, S: Strategy>(
     })
 }
 
-/// The squares of the numbers below `count`, from 0 up, each of which wraps around at 2 to the power
-/// of 64.
+/// The squares of the numbers below `count`, from 0 up, each of which wraps around at 2 to the
+/// power of 64.
 pub fn first_squares<Rt: Threads + Wait + Sync, P: Place, S: Strategy>(
     rt: &Rt,
     alloc: Global,
@@ -47,8 +47,9 @@ pub fn first_squares<Rt: Threads + Wait + Sync, P: Place, S: Strategy>(
     })
 }
 
-/// The entries of a table at its first `count` indices, from the table's last entry back. The closure
-/// looks into the table at what its item says, which is in range for each index that may come.
+/// The entries of a table at its first `count` indices, from the table's last entry back. The
+/// closure looks into the table at what its item says, which is in range for each index that may
+/// come.
 pub fn last_entries<Rt: Threads + Wait + Sync, P: Place, S: Strategy>(
     rt: &Rt,
     alloc: Global,
@@ -59,7 +60,8 @@ pub fn last_entries<Rt: Threads + Wait + Sync, P: Place, S: Strategy>(
 ) -> Result<Vec<u64>, Fault>
     requires short { count < length table.now }
     ensures entries { IfOk result (λ answers. answers.items
-        ≡ map (λ i. slice_index table.now (length table.now - 1 - i)) (range_with_len 0 (count - 0))) }
+        ≡ map (λ i. slice_index table.now (length table.now - 1 - i))
+        (range_with_len 0 (count - 0))) }
     ensures fault { IfErr result (λ fault. fault ≡ Memory) }
 {
     let indices = Indices {
@@ -73,8 +75,8 @@ pub fn last_entries<Rt: Threads + Wait + Sync, P: Place, S: Strategy>(
     strategy.map_collect_vec(rt, alloc, site, indices, entry)
 }
 
-/// The squares of two lists' numbers, of the front's first, over an iterator. An iterator's items are
-/// gathered where the strategy is asked by their number.
+/// The squares of two lists' numbers, of the front's first, over an iterator. An iterator's items
+/// are gathered where the strategy is asked by their number.
 pub fn squares_of_both<Rt: Threads + Wait + Sync, P: Place, S: Strategy>(
     rt: &Rt,
     alloc: Global,

@@ -1,5 +1,5 @@
-// Lists of a user's own: a producer, which is a list that can be cut, and a source, which is made into
-// one where a call goes parallel.
+// Lists of a user's own: a producer, which is a list that can be cut, and a source, which is made
+// into one where a call goes parallel.
 ghost use Rattle.std.specs.Prelude.{◌≡◌, ◌*◌, ◌++◌, ◌⊎◌, length, map, reverse, IfOk, IfErr};
 ghost use Rattle.std.specs.List.{Contains};
 ghost use Rattle.parallel_fault.specs.declared.fault.Fault.TheVariants.{Memory};
@@ -61,7 +61,8 @@ pub struct Wrapped<'a, T> {
     pub back: &'a [T],
 }
 
-/// The kind of source that a wrapped buffer is, by which its calls are told from those of an iterator.
+/// The kind of source that a wrapped buffer is, by which its calls are told from those of an
+/// iterator.
 pub struct ByWrapping;
 
 impl<'a, T: Copy + Send + Sync + Drop> Source<ByWrapping> for Wrapped<'a, T> {

@@ -20,10 +20,11 @@ fn refused(fault: Fault) -> io::Error {
     }
 }
 
-/// The answer of a job that is handed over while this thread goes on with `meanwhile`, and waited for.
+/// The answer of a job that is handed over while this thread goes on with `meanwhile`, and waited
+/// for.
 ///
-/// A function that names the type of a spawned closure isn't proved, so what spawns closures is written
-/// over any job, as here, and called with a `Closure`.
+/// A function that names the type of a spawned closure isn't proved, so what spawns closures is
+/// written over any job, as here, and called with a `Closure`.
 pub fn answer_beside<
     Rt: Threads + Wait + RandomSource + AllocGlobal + Copy + Send + 'static,
     P: Place,
@@ -35,7 +36,8 @@ pub fn answer_beside<
 >(rt: &Rt, strategy: &S, site: P, len: usize, job: F, meanwhile: G) -> io::Result<(T, U)>
     requires may_run { (clone : S) → S.is_clone strategy.now clone → F.may_run job clone }
     requires goes_on { G.pre meanwhile }
-    ensures answer { IfOk result (λ both. (clone : S) × S.is_clone strategy.now clone × F.may_answer job clone both.0) }
+    ensures answer { IfOk result (λ both. (clone : S) × S.is_clone strategy.now clone
+        × F.may_answer job clone both.0) }
     ensures meanwhile { IfOk result (λ both. G.post meanwhile both.1) }
 {
     let spawned = strategy
@@ -46,7 +48,8 @@ pub fn answer_beside<
     Ok((there, here))
 }
 
-/// How many of the flags are set, which a job counts, and how many of the others, counted meanwhile.
+/// How many of the flags are set, which a job counts, and how many of the others, counted
+/// meanwhile.
 pub fn counts_beside<
     Rt: Threads + Wait + RandomSource + AllocGlobal + Copy + Send + 'static,
     P: Place,
@@ -60,8 +63,8 @@ pub fn counts_beside<
     answer_beside(rt, strategy, site, len, job, || count_in_one(others))
 }
 
-/// Counts the flags that are set. A job that is a type of one's own can be kept while it runs, as the
-/// type of its `Spawned` can be written out.
+/// Counts the flags that are set. A job that is a type of one's own can be kept while it runs, as
+/// the type of its `Spawned` can be written out.
 #[derive(Drop)]
 pub struct CountSet {
     pub flags: Vec<bool>,

@@ -15,8 +15,9 @@ use std::cmp::Ordering;
 use std::sync::Wait;
 use std::thread::Threads;
 
-/// The numbers, with a gap where a number repeats the one before it. Where a part of the list begins
-/// anew a repeated number is written out; the numbers can be told from the answer in any case.
+/// The numbers, with a gap where a number repeats the one before it. Where a part of the list
+/// begins anew a repeated number is written out; the numbers can be told from the answer in any
+/// case.
 pub fn leave_out_repeats<Rt: Threads + Wait + Sync, P: Place, S: Strategy>(
     rt: &Rt,
     alloc: Global,
@@ -42,8 +43,8 @@ pub fn leave_out_repeats<Rt: Threads + Wait + Sync, P: Place, S: Strategy>(
     strategy.map_init_collect_vec(rt, alloc, site, source, || None, entry)
 }
 
-/// A fold with a state at hand, which is the plain fold from the left wherever its closures keep the
-/// laws that `FoldLaws` names at every state.
+/// A fold with a state at hand, which is the plain fold from the left wherever its closures keep
+/// the laws that `FoldLaws` names at every state.
 pub fn plain_fold_init<
     Rt: Threads + Wait + Sync,
     P: Place,

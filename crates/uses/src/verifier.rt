@@ -14,8 +14,8 @@ use std::thread::Threads;
 ///
 /// # Errors
 ///
-/// `Trouble::Closure` with the index of an item that fails, before which each item passes, whichever
-/// was looked at first. `Trouble::Fault` with `Fault::Memory` alone.
+/// `Trouble::Closure` with the index of an item that fails, before which each item passes,
+/// whichever was looked at first. `Trouble::Fault` with `Fault::Memory` alone.
 pub fn verify_all<
     Rt: Threads + Wait + Sync,
     P: Place,

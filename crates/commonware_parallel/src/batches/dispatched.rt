@@ -41,7 +41,8 @@ pub(crate) fn batches_through<
 ) -> Result<R, Fault>
     requires accepts { (batches : Batches S P) (count : ℕ)
         → IsBatch len count (non_zero_usize_get minimum) (ranges_of batches) → F.pre run batches }
-    ensures answers { IfOk result (λ answer. OnSomeBatch S.takes S.refuses S.plans S.threads S.starts
+    ensures answers { IfOk result (λ answer. OnSomeBatch S.takes S.refuses S.plans S.threads
+        S.starts
         strategy.now (P.site_of site) site len (non_zero_usize_get minimum) multiplier
         (λ batches. F.post run batches answer)) }
     ensures fault { IsMemoryOnErr result }
@@ -51,7 +52,8 @@ pub(crate) fn batches_through<
     let body = move |parts: usize| -> Result<R, Fault>
         requires { ((batches : Batches S P) (count : ℕ)
             → IsBatch len count (non_zero_usize_get minimum) (ranges_of batches)
-            → F.pre run batches) × (0 < parts) × (parts ≤ max 1 (len / non_zero_usize_get minimum)) }
+            → F.pre run batches) × (0 < parts)
+            × (parts ≤ max 1 (len / non_zero_usize_get minimum)) }
         ensures answers { IfOk result (λ answer. (batches : Batches S P)
             × IsBatch len parts (non_zero_usize_get minimum) (ranges_of batches)
             × (strategy_of batches ≡ inner) × (place_of batches ≡ site)
@@ -68,7 +70,8 @@ pub(crate) fn batches_through<
     }
 }
 
-/// An answer of `run`, which may fail by an error of its own, over as many ranges as the strategy takes.
+/// An answer of `run`, which may fail by an error of its own, over as many ranges as the strategy
+/// takes.
 pub(crate) fn try_batches_through<
     S: Strategy,
     Rt: Wait,
@@ -97,7 +100,8 @@ pub(crate) fn try_batches_through<
     let body = move |parts: usize| -> Result<R, Trouble<E>>
         requires { ((batches : Batches S P) (count : ℕ)
             → IsBatch len count (non_zero_usize_get minimum) (ranges_of batches)
-            → F.pre run batches) × (0 < parts) × (parts ≤ max 1 (len / non_zero_usize_get minimum)) }
+            → F.pre run batches) × (0 < parts)
+            × (parts ≤ max 1 (len / non_zero_usize_get minimum)) }
         ensures { UnlessRefused result (λ out. (batches : Batches S P)
             × IsBatch len parts (non_zero_usize_get minimum) (ranges_of batches)
             × (strategy_of batches ≡ inner) × (place_of batches ≡ site) × F.post run batches out) }
@@ -131,8 +135,8 @@ fn run_in_parts<S: Strategy, P: Place, R, E, F: FnOnce(Batches<'_, S, P>) -> Res
     }
 }
 
-// An answer of a body that may also be refused memory, in as many parts as the strategy takes for the
-// call.
+// An answer of a body that may also be refused memory, in as many parts as the strategy takes for
+// the call.
 fn dispatch_settled<
     S: Strategy,
     Rt: Wait,

@@ -5,8 +5,8 @@ use crate::mocks::hash::mix;
 use crate::mocks::rule::Rule;
 use parallel_policy::Site;
 
-/// Which pick a rule gives a call of so many options at a site, over so many items, by the number of
-/// picks before it (`pick_of`).
+/// Which pick a rule gives a call of so many options at a site, over so many items, by the number
+/// of picks before it (`pick_of`).
 pub fn pick(rule: Rule, site: Site, len: usize, options: usize) -> usize
     requires { 0 < options }
     ensures pick { result ≡ pick_of rule site len options }

@@ -16,11 +16,12 @@ use std::alloc::Global;
 use std::num::NonZeroUsize;
 use std::sync::{Arc, Wait};
 
-/// A strategy that picks by a rule, for tests: the same call at the same site over as many items goes the
-/// same way in every run.
+/// A strategy that picks by a rule, for tests: the same call at the same site over as many items
+/// goes the same way in every run.
 ///
-/// It has a pool's thread number and a planning number, and no policy. Planned for one it runs every
-/// body serially; joins and jobs go by the rule alone. A clone has the same pool, number and rule.
+/// It has a pool's thread number and a planning number, and no policy. Planned for one it runs
+/// every body serially; joins and jobs go by the rule alone. A clone has the same pool, number and
+/// rule.
 #[derive(Clone, Debug, Drop)]
 pub struct Explorer {
     pub(crate) pool: Arc<ThreadPool, Global>,
@@ -42,8 +43,10 @@ impl Explorer {
     /// `Fault::Memory` where the pool's handle was refused memory.
     pub fn parallel<C>(strategy: &Rayon<C>) -> Result<Explorer, Fault>
         ensures planning { IfOk result (λ explorer. plans_of explorer ≡ planning_of strategy.now) }
-        ensures threads { IfOk result (λ explorer. pool_threads explorer ≡ threads_of strategy.now) }
-        ensures starts { IfOk result (λ explorer. explorer_starts explorer ≡ starts_of strategy.now) }
+        ensures threads { IfOk result (λ explorer. pool_threads explorer ≡ threads_of
+            strategy.now) }
+        ensures starts { IfOk result (λ explorer. explorer_starts explorer ≡ starts_of
+            strategy.now) }
         ensures rule { IfOk result (λ explorer. rule_of explorer ≡ Parallel) }
         ensures fault { IsMemoryOnErr result }
     {
@@ -56,16 +59,18 @@ impl Explorer {
         })
     }
 
-    /// Over the strategy's pool and planned as it is, a way of each call by a hash of the seed, the call's
-    /// site and its length.
+    /// Over the strategy's pool and planned as it is, a way of each call by a hash of the seed, the
+    /// call's site and its length.
     ///
     /// # Errors
     ///
     /// `Fault::Memory` where the pool's handle was refused memory.
     pub fn seeded<C>(strategy: &Rayon<C>, seed: u64) -> Result<Explorer, Fault>
         ensures planning { IfOk result (λ explorer. plans_of explorer ≡ planning_of strategy.now) }
-        ensures threads { IfOk result (λ explorer. pool_threads explorer ≡ threads_of strategy.now) }
-        ensures starts { IfOk result (λ explorer. explorer_starts explorer ≡ starts_of strategy.now) }
+        ensures threads { IfOk result (λ explorer. pool_threads explorer ≡ threads_of
+            strategy.now) }
+        ensures starts { IfOk result (λ explorer. explorer_starts explorer ≡ starts_of
+            strategy.now) }
         ensures rule { IfOk result (λ explorer. rule_of explorer ≡ Seeded seed) }
         ensures fault { IsMemoryOnErr result }
     {

@@ -12,8 +12,8 @@ const MULTIPLIER: u64 = 16_807;
 
 /// A hash of a seed, a call site and a length, below 2147483647.
 ///
-/// It is made of the seed, the number of bytes of the file's name, those bytes, the line, the column
-/// and the length, in that order (`mix_of`).
+/// It is made of the seed, the number of bytes of the file's name, those bytes, the line, the
+/// column and the length, in that order (`mix_of`).
 pub fn mix(seed: u64, site: Site, len: usize) -> u64
     ensures hash { result ≡ mix_of seed site len }
     ensures below { result < 2147483647 }

@@ -11,8 +11,8 @@ use std::alloc::Global;
 use std::num::NonZeroUsize;
 use std::thread::Threads;
 
-/// A strategy over a pool of `workers` threads, 65535 at most, planned for `parallelism`, with a policy
-/// that knows nothing yet.
+/// A strategy over a pool of `workers` threads, 65535 at most, planned for `parallelism`, with a
+/// policy that knows nothing yet.
 ///
 /// # Errors
 ///
@@ -24,8 +24,10 @@ pub fn pooled<Rt: Threads, C: Clock>(
     parallelism: NonZeroUsize,
     clock: C,
 ) -> Result<Rayon<C>, ThreadPoolBuildError>
-    ensures threads { IfOk result (λ strategy. threads_of strategy ≡ min (non_zero_usize_get workers) MAX_THREADS) }
-    ensures planning { IfOk result (λ strategy. planning_of strategy ≡ non_zero_usize_get parallelism) }
+    ensures threads { IfOk result (λ strategy. threads_of strategy ≡ min
+        (non_zero_usize_get workers) MAX_THREADS) }
+    ensures planning { IfOk result
+        (λ strategy. planning_of strategy ≡ non_zero_usize_get parallelism) }
     ensures chooses { IfOk result (λ strategy. chooses_of strategy ≡ true) }
     ensures starts { IfOk result (λ strategy. starts_of strategy ≡ true) }
     ensures refused { IfErr result (λ error. error ≡ Memory) }
@@ -46,7 +48,8 @@ pub fn inline<Rt: Threads, C: Clock>(
     clock: C,
 ) -> Result<Rayon<C>, ThreadPoolBuildError>
     ensures threads { IfOk result (λ strategy. threads_of strategy ≡ 1) }
-    ensures planning { IfOk result (λ strategy. planning_of strategy ≡ non_zero_usize_get parallelism) }
+    ensures planning { IfOk result
+        (λ strategy. planning_of strategy ≡ non_zero_usize_get parallelism) }
     ensures chooses { IfOk result (λ strategy. chooses_of strategy ≡ true) }
     ensures starts { IfOk result (λ strategy. starts_of strategy ≡ true) }
     ensures refused { IfErr result (λ error. error ≡ Memory) }
@@ -54,8 +57,8 @@ pub fn inline<Rt: Threads, C: Clock>(
     pooled(rt, alloc, NonZeroUsize::MIN, parallelism, clock)
 }
 
-/// A strategy over a pool of `workers` threads, 65535 at most, that are never started, planned for as
-/// many: a job that it hands off is dropped, and its answer stays pending.
+/// A strategy over a pool of `workers` threads, 65535 at most, that are never started, planned for
+/// as many: a job that it hands off is dropped, and its answer stays pending.
 ///
 /// It takes two workers at least: over one thread a job is run at once.
 ///
@@ -69,7 +72,8 @@ pub fn pending<Rt: Threads, C: Clock>(
     clock: C,
 ) -> Result<Rayon<C>, ThreadPoolBuildError>
     requires { 2 ≤ non_zero_usize_get workers }
-    ensures threads { IfOk result (λ strategy. threads_of strategy ≡ min (non_zero_usize_get workers) MAX_THREADS) }
+    ensures threads { IfOk result (λ strategy. threads_of strategy ≡ min
+        (non_zero_usize_get workers) MAX_THREADS) }
     ensures planning { IfOk result (λ strategy. planning_of strategy ≡ threads_of strategy) }
     ensures chooses { IfOk result (λ strategy. chooses_of strategy ≡ true) }
     ensures starts { IfOk result (λ strategy. starts_of strategy ≡ false) }

@@ -22,11 +22,11 @@ pub const WORKERS: usize = 4;
 /// The number that `explore` plans for.
 pub const TASKS: usize = 8;
 
-/// The output of a closure through a serial explorer, if its outputs through a parallel one and through
-/// the explorers of the seeds 0 to 3 are equal to it.
+/// The output of a closure through a serial explorer, if its outputs through a parallel one and
+/// through the explorers of the seeds 0 to 3 are equal to it.
 ///
-/// The closure is called once for each rule, in that order, up to the first output that differs, with
-/// explorers over `WORKERS` threads that are planned for `TASKS` (`Explored`).
+/// The closure is called once for each rule, in that order, up to the first output that differs,
+/// with explorers over `WORKERS` threads that are planned for `TASKS` (`Explored`).
 ///
 /// # Errors
 ///
@@ -80,7 +80,8 @@ fn compare<R: PartialEq + Drop, F: FnMut(&Explorer) -> R>(
     requires callable { F.IsAlwaysCallable run.old }
     requires workers { thread_count (arc_value pool.now) ≡ 4 }
     ensures callable { F.IsAlwaysCallable run.new }
-    ensures compares { Compares (λ f explorer r g. F.step f explorer r g) (λ a b. R.eq a b) serial.now rule run.old run.new result }
+    ensures compares { Compares (λ f explorer r g. F.step f explorer r g)
+        (λ a b. R.eq a b) serial.now rule run.old run.new result }
 {
     let explorer = explorer_by(pool, rule)?;
     if run(&explorer) == *serial {

@@ -26,7 +26,8 @@ impl Flag {
     fn poll(&mut self, cx: &mut Context<'_>, ended: &Source) -> Poll<()>
         ensures armed { OnPending result (IsArmed cx.new) }
         ensures heard { OnPending result (Hears cx.new ended.now.id) }
-        ensures left { OnPending result ((cx.new.lacks_waker ≡ true) ⊎ IsSomeAnd self.new.waker (λ waker. Wakes waker cx.old)) }
+        ensures left { OnPending result ((cx.new.lacks_waker ≡ true)
+            ⊎ IsSomeAnd self.new.waker (λ waker. Wakes waker cx.old)) }
         ensures kept { Keeps cx.old cx.new }
     {
         if self.has_ended {

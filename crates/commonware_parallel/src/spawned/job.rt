@@ -6,8 +6,8 @@ use std::thread::Promise;
 
 /// What can be spawned: it is run once, on a strategy of its own, and answers.
 ///
-/// A closure is spawned as a `Closure`. A type of one's own is spawned where the type of its `Spawned`
-/// has to be written out.
+/// A closure is spawned as a `Closure`. A type of one's own is spawned where the type of its
+/// `Spawned` has to be written out.
 pub trait Job<S, T> {
     /// The strategies on which the job may be run.
     ghost may_run: { Self → S → Type 0 };

@@ -14,13 +14,13 @@ use std::sync::{Arc, Wait};
 use std::thread;
 use std::thread::Threads;
 
-/// Begins a job: serially on the caller's thread, in parallel on a worker of its own, where workers are
-/// started. Where they aren't the job is dropped, and never answers.
+/// Begins a job: serially on the caller's thread, in parallel on a worker of its own, where workers
+/// are started. Where they aren't the job is dropped, and never answers.
 ///
 /// # Errors
 ///
-/// `Fault::Memory` where memory was refused before the worker was started; `Fault::Worker` where its
-/// start was refused. The job is then dropped.
+/// `Fault::Memory` where memory was refused before the worker was started; `Fault::Worker` where
+/// its start was refused. The job is then dropped.
 pub(crate) fn begin<
     R: Threads + Wait + Copy + Send + 'static,
     M: Meter + Send + 'static,
@@ -37,7 +37,8 @@ pub(crate) fn begin<
     job: F,
 ) -> Result<Spawned<R, S, F, T>, Fault>
     requires { F.may_run job strategy }
-    ensures gives { IfOk result (λ spawned. (x : T) → gives_answer F.may_answer spawned x → F.may_answer job strategy x) }
+    ensures gives { IfOk result (λ spawned. (x : T) → gives_answer F.may_answer spawned x
+        → F.may_answer job strategy x) }
     ensures form { IfOk result (BeginsAs starts path) }
     ensures refused { IfErr result (FailsToBegin starts path) }
 {
@@ -75,7 +76,8 @@ fn hand_off<
     T: Send + Drop + 'static,
 >(rt: R, alloc: Global, meter: M, strategy: S, job: F) -> Result<Spawned<R, S, F, T>, Fault>
     requires { F.may_run job strategy }
-    ensures gives { IfOk result (λ spawned. (x : T) → gives_answer F.may_answer spawned x → F.may_answer job strategy x) }
+    ensures gives { IfOk result (λ spawned. (x : T) → gives_answer F.may_answer spawned x
+        → F.may_answer job strategy x) }
     ensures form { IfOk result (BeginsAs true Parallel) }
     ensures refused { IfErr result (FailsToBegin true Parallel) }
 {

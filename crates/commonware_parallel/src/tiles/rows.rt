@@ -8,8 +8,8 @@ use parallel_fault::Fault;
 use std::alloc::Global;
 use std::ops::Range;
 
-/// The results of all rows of `len` columns, each filled in one piece, with one state that goes from
-/// row to row.
+/// The results of all rows of `len` columns, each filled in one piece, with one state that goes
+/// from row to row.
 pub(super) fn fill_rows<T, R: Drop, L: Fn(&mut T, usize, Range<usize>), F: Fn(&mut T, usize) -> R>(
     alloc: Global,
     rows: usize,

@@ -29,8 +29,8 @@ pub struct Worked<R> {
 }
 
 /// The results of all cells of a grid of `rows` rows of `len` columns, which are shared out among
-/// workers. Each worker is an item of a list call of the strategy, so that the workers of one segment
-/// have one state.
+/// workers. Each worker is an item of a list call of the strategy, so that the workers of one
+/// segment have one state.
 pub(super) fn fill_shared<
     S: Strategy,
     Rt: Threads + Wait + Sync,
@@ -61,7 +61,8 @@ pub(super) fn fill_shared<
     ensures fills { IfOk result (λ results. (work : Work) → work.len ≡ len
         → plan_of shares ≡ sizes_of work → (cut : List Stretch) × CutsRectangle work.rows len cut
         × (work.whole ≡ true → All (IsWholeRow len) cut)
-        × Chains (N.post init) (Fills (L.post fill.now)) (Gives (F.post finish.now)) cut results.items) }
+        × Chains (N.post init) (Fills (L.post fill.now))
+        (Gives (F.post finish.now)) cut results.items) }
     ensures fault { IsMemoryOnErr result }
 {
     let worked = work_all(

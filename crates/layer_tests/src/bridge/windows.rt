@@ -1,5 +1,5 @@
-// Owned items that are taken from where they lie, and answers that are written where they stay: each is
-// dropped once, or handed out.
+// Owned items that are taken from where they lie, and answers that are written where they stay:
+// each is dropped once, or handed out.
 use crate::bridge::number;
 use crate::same::{row, same};
 use parallel_bridge::list::map::map_parallel;
@@ -83,7 +83,8 @@ fn map_counted<R: Threads + Sync + Abort>(rt: &R, alloc: Global, threads: usize,
     assert!(rt; all_gone_but(&counts, 0));
 }
 
-// Adds the places of that many counted items up on that many threads, of which the one at `end` fails.
+// Adds the places of that many counted items up on that many threads, of which the one at `end`
+// fails.
 fn fold_counted<R: Threads + Sync + Abort>(
     rt: &R,
     alloc: Global,

@@ -33,7 +33,8 @@ fn path_of<Rt: Wait, N: FnMut() -> u64>(
     now: &mut N,
 ) -> Result<RunExecution, Trouble<u8>>
     requires { N.IsAlwaysCallable now.now }
-    ensures path { IfOk result (λ path. (history : RunHistory) → HoldsRunAt table.old key history → path ≡ (run_choice history 4).0) }
+    ensures path { IfOk result (λ path. (history : RunHistory) → HoldsRunAt table.old key history
+        → path ≡ (run_choice history 4).0) }
     ensures others { HasOtherRuns table.old table.new key }
 {
     let path = decide(rt, table, key, 4, now, |_now, path| Ok(path))?;
@@ -44,7 +45,8 @@ fn path_of<Rt: Wait, N: FnMut() -> u64>(
 // entry takes 300.
 fn first_of<Rt: Wait>(rt: &Rt, table: &mut Table, key: Key) -> Result<RunExecution, Trouble<u8>>
     requires { HoldsRunAt table.now key [] }
-    ensures { IfOk result (λ _. HoldsRunAt table.new key (RunEvent.Sampled RunExecution.Parallel 300 ∷ RunEvent.Chosen 4 ∷ [])) }
+    ensures { IfOk result (λ _. HoldsRunAt table.new key
+        (RunEvent.Sampled RunExecution.Parallel 300 ∷ RunEvent.Chosen 4 ∷ [])) }
 {
     let mut ticks = 0u64;
     let mut now = move ||

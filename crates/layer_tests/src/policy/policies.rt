@@ -86,7 +86,8 @@ fn a_policy_records_the_run_that_it_is_told(rt: HostRuntime) {
     assert!(rt; policy.spawn_entry(&rt, key).is_none());
 }
 
-// Tells a policy of a job, of its overhead and of an inline run, and answers what its samples say of each.
+// Tells a policy of a job, of its overhead and of an inline run, and answers what its samples say
+// of each.
 fn told_of_a_job(
     rt: &impl Wait,
     policy: &Policy,
@@ -169,7 +170,8 @@ fn a_run_planned_for_one_asks_no_policy(rt: HostRuntime) {
     }
 }
 
-// Whether a policy has an entry for runs of the site at this length and work, planned for so many threads.
+// Whether a policy has an entry for runs of the site at this length and work, planned for so many
+// threads.
 fn has_runs(rt: &impl Wait, policy: &Policy, len: usize, work: usize, planned: usize) -> bool {
     policy
         .run_entry(rt, Key::new(SITE, len, work, planned))
@@ -212,8 +214,8 @@ fn a_policy_measures_what_passes_in_the_body(rt: HostRuntime) {
     same(&rt, estimates, Some([Some(70_000), Some(30_000)]));
 }
 
-// One run over ten items, by a clock that goes on by 1000 at each reading. It answers 7, or fails by 57 where it is of
-// `fails`.
+// One run over ten items, by a clock that goes on by 1000 at each reading. It answers 7, or fails
+// by 57 where it is of `fails`.
 fn run_of_ten<Rt: Wait>(
     rt: &Rt,
     policy: &Policy,

@@ -11,7 +11,8 @@ enum Step {
     Records(RunExecution, u64),
     // One choice and its answer.
     Answers(RunExecution, bool),
-    // So many choices: all but the last of one path, measured at each tenth; the last of another, measured.
+    // So many choices: all but the last of one path, measured at each tenth; the last of another,
+    // measured.
     Waits(RunExecution, u32, RunExecution),
     // As many choices, where each that is measured is recorded with so many nanoseconds.
     Learns(RunExecution, u32, RunExecution, u64),
@@ -226,8 +227,8 @@ fn later_samples_move_an_estimate_by_a_fifth(rt: HostRuntime) {
     play(&rt, "one fast probe doesn't turn the preference", 4, &steps);
 }
 
-// A parallel estimate that was measured too long comes down by its probes: 2 ms, 1.7, 1.46, 1.268, 1.1144 and 0.99152,
-// the first after 200 choices and the others after 100 each.
+// A parallel estimate that was measured too long comes down by its probes: 2 ms, 1.7, 1.46, 1.268,
+// 1.1144 and 0.99152, the first after 200 choices and the others after 100 each.
 #[test]
 fn an_estimate_recovers_by_its_probes(rt: HostRuntime) {
     let mut entry = RunEntry::default();

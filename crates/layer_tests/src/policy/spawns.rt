@@ -15,7 +15,8 @@ enum Step {
     RunsInline(u64),
     // One choice and its answer.
     Answers(SpawnExecution, bool),
-    // So many choices: all but the last of one way, measured at each tenth; the last of another, measured.
+    // So many choices: all but the last of one way, measured at each tenth; the last of another,
+    // measured.
     Waits(SpawnExecution, u32, SpawnExecution),
     // What the inline samples say.
     Keeps(u64),

@@ -38,8 +38,10 @@ fn give_three(
     third: &mut CountShare,
 ) -> (bool, bool, bool)
     requires three { shares_of latch.now ≡ 3 }
-    requires belong { IsShareOf latch.now first.old × IsShareOf latch.now second.old × IsShareOf latch.now third.old }
-    requires unspent { (unspent first.old ≡ 1) × (unspent second.old ≡ 1) × (unspent third.old ≡ 1) }
+    requires belong { IsShareOf latch.now first.old × IsShareOf latch.now second.old
+        × IsShareOf latch.now third.old }
+    requires unspent { (unspent first.old ≡ 1) × (unspent second.old ≡ 1)
+        × (unspent third.old ≡ 1) }
     ensures { result ≡ (false, false, true) }
 {
     let one = latch.give(first);

@@ -74,8 +74,8 @@ fn a_lock_latch_is_reset_and_wakes_who_sleeps(rt: HostRuntime) {
     waiter.join(&rt);
 }
 
-// An idle worker for which a job is always there, until it has tried to sleep. It answers whether it
-// starts at round 0, with an unset latch.
+// An idle worker for which a job is always there, until it has tried to sleep. It answers whether
+// it starts at round 0, with an unset latch.
 fn idle_with_a_job<R: Wait>(
     rt: &R,
     sleep: &Sleep,

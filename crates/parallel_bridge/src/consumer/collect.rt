@@ -26,7 +26,8 @@ pub struct CollectReducer;
 impl<T: Drop, E> Reducer<Vec<T>, E> for CollectReducer {
     ghost can_reduce = { λ _ _ _. Unit {0} };
 
-    ghost reduce_gives = { λ _ left right out. OnlyOk (λ all. all.items ≡ left.items ++ right.items) out };
+    ghost reduce_gives = { λ _ left right out. OnlyOk
+        (λ all. all.items ≡ left.items ++ right.items) out };
 
     fn reduce(self, left: Vec<T>, right: Vec<T>) -> Result<Vec<T>, Trouble<E>> {
         let mut all = left;
@@ -85,7 +86,8 @@ impl<T: Send + Drop> Consumer<T> for CollectConsumer {
 
     ghost leaf_gives = { λ _ xs out. OnlyOk (λ ys. ys.items ≡ xs) out };
 
-    ghost node_gives = { λ _ left right out. OnlyOk (λ all. all.items ≡ left.items ++ right.items) out };
+    ghost node_gives = { λ _ left right out. OnlyOk
+        (λ all. all.items ≡ left.items ++ right.items) out };
 
     fn split_at(self, _index: usize) -> Result<(Self, Self, CollectReducer), Fault> {
         Ok((CollectConsumer, CollectConsumer, CollectReducer))

@@ -32,11 +32,13 @@ pub struct FoldFolder<'c, C, R, F> {
 
 impl<'c, X: Drop, U: Drop, R, E, C: Folder<U, R, E>, F: Fn(U, X) -> U> Folder<X, R, E>
     for FoldFolder<'c, C, U, F> {
-    ghost ready = { λ s. C.ready s.base × ((u : U) → C.takes s.base u) × F.IsAlwaysCallable s.fold_op.now };
+    ghost ready = { λ s. C.ready s.base × ((u : U) → C.takes s.base u)
+        × F.IsAlwaysCallable s.fold_op.now };
 
     ghost takes = { λ _ _. Unit {0} };
 
-    ghost gives = { λ s xs out. (b : U) × Chain (λ a x b. F.post s.fold_op.now a x b) s.item xs b × C.gives s.base (b ∷ []) out };
+    ghost gives = { λ s xs out. (b : U) × Chain (λ a x b. F.post s.fold_op.now a x b) s.item xs b
+        × C.gives s.base (b ∷ []) out };
 
     fn consume(self, _alloc: Global, item: X) -> Result<Self, Fault> {
         let value = (self.fold_op)(self.item, item);
@@ -82,13 +84,16 @@ impl<
 
     type Reducer = C::Reducer;
 
-    ghost ready = { λ s. C.ready s.base × ((u : U) → C.takes s.base u) × I.IsAlwaysCallable s.identity.now × F.IsAlwaysCallable s.fold_op.now };
+    ghost ready = { λ s. C.ready s.base × ((u : U) → C.takes s.base u)
+        × I.IsAlwaysCallable s.identity.now × F.IsAlwaysCallable s.fold_op.now };
 
     ghost takes = { λ _ _. Unit {0} };
 
     ghost fits = { λ s n. C.fits s.base n };
 
-    ghost leaf_gives = { λ s xs out. (b : U) × FoldSegment (I.post s.identity.now) (λ a x b. F.post s.fold_op.now a x b) xs b × C.leaf_gives s.base (b ∷ []) out };
+    ghost leaf_gives = { λ s xs out. (b : U)
+        × FoldSegment (I.post s.identity.now) (λ a x b. F.post s.fold_op.now a x b) xs b
+        × C.leaf_gives s.base (b ∷ []) out };
 
     ghost node_gives = { λ s a b out. C.node_gives s.base a b out };
 

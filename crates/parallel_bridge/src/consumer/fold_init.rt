@@ -8,8 +8,8 @@ use crate::plumbing::{Consumer, Folder};
 use parallel_fault::{Fault, Trouble};
 use std::alloc::Global;
 
-/// Folds the items of each segment from an identity with a state at hand, fresh for each segment, and
-/// hands the value to another consumer.
+/// Folds the items of each segment from an identity with a state at hand, fresh for each segment,
+/// and hands the value to another consumer.
 #[derive(Drop)]
 pub struct FoldInitConsumer<'c, C, N, I, F> {
     /// What takes the value of a segment.
@@ -22,7 +22,8 @@ pub struct FoldInitConsumer<'c, C, N, I, F> {
     pub fold_op: &'c F,
 }
 
-/// The value that the items of a segment are folded to so far, and the state that the next item meets.
+/// The value that the items of a segment are folded to so far, and the state that the next item
+/// meets.
 #[derive(Drop)]
 pub struct FoldInitFolder<'c, C, S, R, F> {
     /// What takes the value of the segment.
@@ -40,11 +41,14 @@ impl<'c, X: Drop, S: Drop, U: Drop, R, E, C: Folder<U, R, E>, F: Fn(U, &mut S, X
     R,
     E,
 > for FoldInitFolder<'c, C, S, U, F> {
-    ghost ready = { λ s. C.ready s.base × ((u : U) → C.takes s.base u) × F.IsAlwaysCallable s.fold_op.now };
+    ghost ready = { λ s. C.ready s.base × ((u : U) → C.takes s.base u)
+        × F.IsAlwaysCallable s.fold_op.now };
 
     ghost takes = { λ _ _. Unit {0} };
 
-    ghost gives = { λ s xs out. (b : U) × StateChain (FoldStep (λ a p x b q. F.post s.fold_op.now a p x b q)) s.state s.item xs b × C.gives s.base (b ∷ []) out };
+    ghost gives = { λ s xs out. (b : U)
+        × StateChain (FoldStep (λ a p x b q. F.post s.fold_op.now a p x b q)) s.state s.item xs b
+        × C.gives s.base (b ∷ []) out };
 
     fn consume(self, _alloc: Global, item: X) -> Result<Self, Fault> {
         let mut state = self.state;
@@ -96,7 +100,9 @@ impl<
 
     type Reducer = C::Reducer;
 
-    ghost ready = { λ s. C.ready s.base × ((u : U) → C.takes s.base u) × N.IsAlwaysCallable s.init.now × I.IsAlwaysCallable s.identity.now × F.IsAlwaysCallable s.fold_op.now };
+    ghost ready = { λ s. C.ready s.base × ((u : U) → C.takes s.base u)
+        × N.IsAlwaysCallable s.init.now × I.IsAlwaysCallable s.identity.now
+        × F.IsAlwaysCallable s.fold_op.now };
 
     ghost takes = { λ _ _. Unit {0} };
 
@@ -139,7 +145,8 @@ impl<
     }
 }
 
-/// The items that come folded from a value, in their order, with a state that goes from item to item.
+/// The items that come folded from a value, in their order, with a state that goes from item to
+/// item.
 pub(crate) fn fold_init_from<I: Iterator, S: Drop, R: Drop, F: Fn(R, &mut S, I::Item) -> R>(
     start: R,
     state: &mut S,

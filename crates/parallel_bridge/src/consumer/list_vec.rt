@@ -9,8 +9,8 @@ use std::alloc::Global;
 use std::collections::LinkedList;
 use std::convert::Infallible;
 
-/// Gives a list of lists, one for each segment that has items, whose items are those of all segments
-/// in order. Nothing is copied where two parts are joined.
+/// Gives a list of lists, one for each segment that has items, whose items are those of all
+/// segments in order. Nothing is copied where two parts are joined.
 #[derive(Drop)]
 pub struct ListVecConsumer;
 

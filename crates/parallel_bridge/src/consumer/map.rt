@@ -30,7 +30,8 @@ impl<'f, X: Drop, T: Drop, R, E, C: Folder<T, R, E>, F: Fn(X) -> T> Folder<X, R,
 
     ghost takes = { λ s x. F.pre s.map_op.now x };
 
-    ghost gives = { λ s xs out. (ys : List T) × MapOf (F.post s.map_op.now) xs ys × C.gives s.base ys out };
+    ghost gives = { λ s xs out. (ys : List T) × MapOf (F.post s.map_op.now) xs ys
+        × C.gives s.base ys out };
 
     fn consume(self, alloc: Global, item: X) -> Result<Self, Fault> {
         let answer = (self.map_op)(item);
@@ -76,7 +77,8 @@ impl<'f, X: Drop, T: Drop, C: Consumer<T>, F: Fn(X) -> T + Sync> Consumer<X>
 
     ghost fits = { λ s n. C.fits s.base n };
 
-    ghost leaf_gives = { λ s xs out. (ys : List T) × MapOf (F.post s.map_op.now) xs ys × C.leaf_gives s.base ys out };
+    ghost leaf_gives = { λ s xs out. (ys : List T) × MapOf (F.post s.map_op.now) xs ys
+        × C.leaf_gives s.base ys out };
 
     ghost node_gives = { λ s a b out. C.node_gives s.base a b out };
 

@@ -11,8 +11,8 @@ use crate::plumbing::{Consumer, Folder};
 use parallel_fault::{Fault, Trouble};
 use std::alloc::Global;
 
-/// Answers each item by a closure with a state at hand, fresh for each segment, and hands the answers
-/// to another consumer.
+/// Answers each item by a closure with a state at hand, fresh for each segment, and hands the
+/// answers to another consumer.
 #[derive(Drop)]
 pub struct MapInitConsumer<'f, C, N, F> {
     /// What takes the answers.
@@ -40,7 +40,9 @@ impl<'f, X: Drop, S: Drop, T: Drop, R, E, C: Folder<T, R, E>, F: Fn(&mut S, X) -
 
     ghost takes = { λ s x. (p : MutBor S) → F.pre s.map_op.now p x };
 
-    ghost gives = { λ s xs out. (ys : List T) × StatesFrom (MapStep (λ p x y q. F.post s.map_op.now p x y q)) s.item xs ys × C.gives s.base ys out };
+    ghost gives = { λ s xs out. (ys : List T)
+        × StatesFrom (MapStep (λ p x y q. F.post s.map_op.now p x y q)) s.item xs ys
+        × C.gives s.base ys out };
 
     fn consume(self, alloc: Global, item: X) -> Result<Self, Fault> {
         let mut state = self.item;
@@ -90,13 +92,16 @@ impl<
 
     type Reducer = C::Reducer;
 
-    ghost ready = { λ s. C.ready s.base × ((y : T) → C.takes s.base y) × N.IsAlwaysCallable s.init.now };
+    ghost ready = { λ s. C.ready s.base × ((y : T) → C.takes s.base y)
+        × N.IsAlwaysCallable s.init.now };
 
     ghost takes = { λ s x. (p : MutBor S) → F.pre s.map_op.now p x };
 
     ghost fits = { λ s n. C.fits s.base n };
 
-    ghost leaf_gives = { λ s xs out. (ys : List T) × StateSegment (N.post s.init.now) (MapStep (λ p x y q. F.post s.map_op.now p x y q)) xs ys × C.leaf_gives s.base ys out };
+    ghost leaf_gives = { λ s xs out. (ys : List T)
+        × StateSegment (N.post s.init.now) (MapStep (λ p x y q. F.post s.map_op.now p x y q)) xs ys
+        × C.leaf_gives s.base ys out };
 
     ghost node_gives = { λ s a b out. C.node_gives s.base a b out };
 
@@ -125,8 +130,8 @@ impl<
     }
 }
 
-/// The answers of `map_op` for the items that come, in their order, with a state that goes from item
-/// to item.
+/// The answers of `map_op` for the items that come, in their order, with a state that goes from
+/// item to item.
 pub(crate) fn map_init_from<I: Iterator, S: Drop, T: Drop, F: Fn(&mut S, I::Item) -> T>(
     alloc: Global,
     state: &mut S,
@@ -137,8 +142,10 @@ pub(crate) fn map_init_from<I: Iterator, S: Drop, T: Drop, F: Fn(&mut S, I::Item
     requires ends { IsFinite (I.remaining iter) }
     requires accepts { HoldsAlong I.next_gives iter
         (All (λ x. (p : MutBor S) → F.pre map_op.now p x)) }
-    ensures gives { IfOk result (λ ys. GivesSome (Drains I.next_gives) iter (λ xs. (more : List I.Item)
-        (zs : List T) → StatesFrom (MapStep (λ p x y q. F.post map_op.now p x y q)) state.new more zs
+    ensures gives { IfOk result (λ ys. GivesSome (Drains I.next_gives) iter
+        (λ xs. (more : List I.Item)
+        (zs : List T) → StatesFrom (MapStep (λ p x y q. F.post map_op.now p x y q)) state.new more
+        zs
         → StatesFrom (MapStep (λ p x y q. F.post map_op.now p x y q)) state.old (xs ++ more)
         (ys.items ++ zs))) }
     ensures fault { IsMemoryOnErr result }

@@ -39,7 +39,9 @@ pub struct PartitionReducer;
 impl<U: Drop, K: Drop> Reducer<(Vec<U>, Vec<K>), Infallible> for PartitionReducer {
     ghost can_reduce = { λ _ _ _. Unit {0} };
 
-    ghost reduce_gives = { λ _ left right out. OnlyOk (λ all. (all.0.items ≡ left.0.items ++ right.0.items) × (all.1.items ≡ left.1.items ++ right.1.items)) out };
+    ghost reduce_gives = { λ _ left right out. OnlyOk
+        (λ all. (all.0.items ≡ left.0.items ++ right.0.items)
+        × (all.1.items ≡ left.1.items ++ right.1.items)) out };
 
     fn reduce(
         self,
@@ -63,7 +65,9 @@ impl<'f, X: Drop, U: Drop, K: Drop, F: Fn(X) -> (K, Option<U>)> Folder<
 
     ghost takes = { λ s x. F.pre s.map_op.now x };
 
-    ghost gives = { λ s xs out. OnlyOk (λ r. PartitionOnto (F.post s.map_op.now) s.values.items s.keys.items xs r.0.items r.1.items) out };
+    ghost gives = { λ s xs out. OnlyOk
+        (λ r. PartitionOnto (F.post s.map_op.now) s.values.items s.keys.items xs r.0.items
+        r.1.items) out };
 
     fn consume(self, _alloc: Global, item: X) -> Result<Self, Fault> {
         let answer = (self.map_op)(item);
@@ -109,9 +113,12 @@ impl<'f, X: Drop, U: Send + Drop, K: Send + Drop, F: Fn(X) -> (K, Option<U>) + S
 
     ghost fits = { λ _ _. Unit {0} };
 
-    ghost leaf_gives = { λ s xs out. OnlyOk (λ r. PartitionOf (F.post s.map_op.now) xs r.0.items r.1.items) out };
+    ghost leaf_gives = { λ s xs out. OnlyOk
+        (λ r. PartitionOf (F.post s.map_op.now) xs r.0.items r.1.items) out };
 
-    ghost node_gives = { λ _ left right out. OnlyOk (λ all. (all.0.items ≡ left.0.items ++ right.0.items) × (all.1.items ≡ left.1.items ++ right.1.items)) out };
+    ghost node_gives = { λ _ left right out. OnlyOk
+        (λ all. (all.0.items ≡ left.0.items ++ right.0.items)
+        × (all.1.items ≡ left.1.items ++ right.1.items)) out };
 
     fn split_at(self, _index: usize) -> Result<(Self, Self, PartitionReducer), Fault> {
         let right = PartitionConsumer {
@@ -154,8 +161,8 @@ pub(crate) fn push_answer<K: Drop, U: Drop>(
     }
 }
 
-/// The values that `map_op` answers for the items that come, and the keys of those for which it answers
-/// none, in order and behind those that are there.
+/// The values that `map_op` answers for the items that come, and the keys of those for which it
+/// answers none, in order and behind those that are there.
 pub(crate) fn partition_onto<I: Iterator, K: Drop, U: Drop, F: Fn(I::Item) -> (K, Option<U>)>(
     values: Vec<U>,
     keys: Vec<K>,

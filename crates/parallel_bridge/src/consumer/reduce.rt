@@ -30,7 +30,8 @@ pub struct ReduceFolder<'r, T, G> {
 impl<'r, T, I: Fn() -> T, G: Fn(T, T) -> T> Reducer<T, Infallible> for ReduceConsumer<'r, I, G> {
     ghost can_reduce = { λ s _ _. G.IsAlwaysCallable s.reduce_op.now };
 
-    ghost reduce_gives = { λ s left right out. OnlyOk (λ all. G.post s.reduce_op.now left right all) out };
+    ghost reduce_gives = { λ s left right out. OnlyOk
+        (λ all. G.post s.reduce_op.now left right all) out };
 
     fn reduce(self, left: T, right: T) -> Result<T, Trouble<Infallible>> {
         Ok((self.reduce_op)(left, right))
@@ -42,7 +43,8 @@ impl<'r, T: Drop, G: Fn(T, T) -> T> Folder<T, T, Infallible> for ReduceFolder<'r
 
     ghost takes = { λ _ _. Unit {0} };
 
-    ghost gives = { λ s xs out. OnlyOk (λ r. Chain (λ a x b. G.post s.reduce_op.now a x b) s.item xs r) out };
+    ghost gives = { λ s xs out. OnlyOk
+        (λ r. Chain (λ a x b. G.post s.reduce_op.now a x b) s.item xs r) out };
 
     fn consume(self, _alloc: Global, item: T) -> Result<Self, Fault> {
         let value = (self.reduce_op)(self.item, item);
@@ -85,9 +87,12 @@ impl<'r, T: Send + Drop, I: Fn() -> T + Sync, G: Fn(T, T) -> T + Sync> Consumer<
 
     ghost fits = { λ _ _. Unit {0} };
 
-    ghost leaf_gives = { λ s xs out. OnlyOk (λ r. FoldSegment (I.post s.identity.now) (λ a x b. G.post s.reduce_op.now a x b) xs r) out };
+    ghost leaf_gives = { λ s xs out. OnlyOk
+        (λ r. FoldSegment (I.post s.identity.now) (λ a x b. G.post s.reduce_op.now a x b) xs r)
+        out };
 
-    ghost node_gives = { λ s left right out. OnlyOk (λ all. G.post s.reduce_op.now left right all) out };
+    ghost node_gives = { λ s left right out. OnlyOk
+        (λ all. G.post s.reduce_op.now left right all) out };
 
     fn split_at(self, _index: usize) -> Result<(Self, Self, Self), Fault> {
         let right = ReduceConsumer {

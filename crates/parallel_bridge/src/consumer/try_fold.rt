@@ -9,8 +9,8 @@ use crate::plumbing::{Consumer, Folder};
 use parallel_fault::{Fault, Trouble};
 use std::alloc::Global;
 
-/// Folds the items of each segment from an identity by a step that may fail, and hands the outcome to
-/// another consumer.
+/// Folds the items of each segment from an identity by a step that may fail, and hands the outcome
+/// to another consumer.
 #[derive(Drop)]
 pub struct TryFoldConsumer<'c, C, I, F> {
     /// What takes the outcome of a segment.
@@ -42,11 +42,14 @@ impl<
     C: Folder<Result<T, E>, R, D>,
     F: Fn(T, X) -> Result<T, E>,
 > Folder<X, R, D> for TryFoldFolder<'c, C, T, E, F> {
-    ghost ready = { λ s. C.ready s.base × ((v : Result T E) → C.takes s.base v) × F.IsAlwaysCallable s.fold_op.now };
+    ghost ready = { λ s. C.ready s.base × ((v : Result T E) → C.takes s.base v)
+        × F.IsAlwaysCallable s.fold_op.now };
 
     ghost takes = { λ _ _. Unit {0} };
 
-    ghost gives = { λ s xs out. (v : Result T E) × TryContinues (λ a x o. F.post s.fold_op.now a x o) s.control xs v × C.gives s.base (v ∷ []) out };
+    ghost gives = { λ s xs out. (v : Result T E)
+        × TryContinues (λ a x o. F.post s.fold_op.now a x o) s.control xs v
+        × C.gives s.base (v ∷ []) out };
 
     fn consume(self, _alloc: Global, item: X) -> Result<Self, Fault> {
         let control = try_fold_step(self.control, item, self.fold_op);
@@ -93,13 +96,16 @@ impl<
 
     type Reducer = C::Reducer;
 
-    ghost ready = { λ s. C.ready s.base × ((v : Result T E) → C.takes s.base v) × I.IsAlwaysCallable s.identity.now × F.IsAlwaysCallable s.fold_op.now };
+    ghost ready = { λ s. C.ready s.base × ((v : Result T E) → C.takes s.base v)
+        × I.IsAlwaysCallable s.identity.now × F.IsAlwaysCallable s.fold_op.now };
 
     ghost takes = { λ _ _. Unit {0} };
 
     ghost fits = { λ s n. C.fits s.base n };
 
-    ghost leaf_gives = { λ s xs out. (v : Result T E) × TryFoldSegment (I.post s.identity.now) (λ a x o. F.post s.fold_op.now a x o) xs v × C.leaf_gives s.base (v ∷ []) out };
+    ghost leaf_gives = { λ s xs out. (v : Result T E)
+        × TryFoldSegment (I.post s.identity.now) (λ a x o. F.post s.fold_op.now a x o) xs v
+        × C.leaf_gives s.base (v ∷ []) out };
 
     ghost node_gives = { λ s a b out. C.node_gives s.base a b out };
 

@@ -100,7 +100,8 @@ impl<'f, X: Drop, T: Send + Drop, E: Send + Drop, F: Fn(X) -> Result<T, E> + Syn
 
     ghost leaf_gives = { λ s xs out. TryMapOf (F.post s.map_op.now) xs (listed out) };
 
-    ghost node_gives = { λ _ left right out. OnlyOk (λ all. all.items ≡ left.items ++ right.items) out };
+    ghost node_gives = { λ _ left right out. OnlyOk
+        (λ all. all.items ≡ left.items ++ right.items) out };
 
     fn split_at(self, _index: usize) -> Result<(Self, Self, CollectReducer), Fault> {
         let right = TryMapConsumer {
@@ -118,9 +119,9 @@ impl<'f, X: Drop, T: Send + Drop, E: Send + Drop, F: Fn(X) -> Result<T, E> + Syn
     }
 }
 
-/// Puts the values of the items that come behind those that are there, in order, up to the first item
-/// that fails, whose error is put down. Behind an error, also one that was there, the items are passed
-/// over and the closure isn't called.
+/// Puts the values of the items that come behind those that are there, in order, up to the first
+/// item that fails, whose error is put down. Behind an error, also one that was there, the items
+/// are passed over and the closure isn't called.
 pub(crate) fn try_map_onward<I: Iterator, T: Drop, E: Drop, F: Fn(I::Item) -> Result<T, E>>(
     values: &mut Vec<T>,
     failed: &mut Option<E>,

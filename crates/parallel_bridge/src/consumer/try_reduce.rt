@@ -7,8 +7,8 @@ use crate::plumbing::{Consumer, Folder, Reducer};
 use parallel_fault::{Fault, Trouble};
 use std::alloc::Global;
 
-/// Reduces the outcomes of each segment behind an identity, and then the results; the leftmost error
-/// is answered instead.
+/// Reduces the outcomes of each segment behind an identity, and then the results; the leftmost
+/// error is answered instead.
 #[derive(Drop)]
 pub struct TryReduceConsumer<'r, I, G> {
     /// The closure that answers a value to reduce from.
@@ -29,7 +29,8 @@ pub struct TryReduceFolder<'r, T, E, G> {
 impl<'r, T, E, I: Fn() -> T, G: Fn(T, T) -> T> Reducer<T, E> for TryReduceConsumer<'r, I, G> {
     ghost can_reduce = { λ s _ _. G.IsAlwaysCallable s.reduce_op.now };
 
-    ghost reduce_gives = { λ s left right out. OnlyOk (λ all. G.post s.reduce_op.now left right all) out };
+    ghost reduce_gives = { λ s left right out. OnlyOk
+        (λ all. G.post s.reduce_op.now left right all) out };
 
     fn reduce(self, left: T, right: T) -> Result<T, Trouble<E>> {
         Ok((self.reduce_op)(left, right))
@@ -42,7 +43,8 @@ impl<'r, T: Drop, E: Drop, G: Fn(T, T) -> T> Folder<Result<T, E>, T, E>
 
     ghost takes = { λ _ _. Unit {0} };
 
-    ghost gives = { λ s xs out. TryContinues (ReducesTo (λ a b c. G.post s.reduce_op.now a b c)) s.control xs out };
+    ghost gives = { λ s xs out. TryContinues
+        (ReducesTo (λ a b c. G.post s.reduce_op.now a b c)) s.control xs out };
 
     fn consume(self, _alloc: Global, item: Result<T, E>) -> Result<Self, Fault> {
         let TryReduceFolder { control, reduce_op } = self;
@@ -92,9 +94,11 @@ impl<'r, T: Send + Drop, E: Send + Drop, I: Fn() -> T + Sync, G: Fn(T, T) -> T +
 
     ghost fits = { λ _ _. Unit {0} };
 
-    ghost leaf_gives = { λ s xs out. TryFoldSegment (I.post s.identity.now) (ReducesTo (λ a b c. G.post s.reduce_op.now a b c)) xs out };
+    ghost leaf_gives = { λ s xs out. TryFoldSegment (I.post s.identity.now)
+        (ReducesTo (λ a b c. G.post s.reduce_op.now a b c)) xs out };
 
-    ghost node_gives = { λ s left right out. OnlyOk (λ all. G.post s.reduce_op.now left right all) out };
+    ghost node_gives = { λ s left right out. OnlyOk
+        (λ all. G.post s.reduce_op.now left right all) out };
 
     fn split_at(self, _index: usize) -> Result<(Self, Self, Self), Fault> {
         let right = TryReduceConsumer {
@@ -123,7 +127,8 @@ fn try_reduce_step<T: Drop, E: Drop, G: Fn(T, T) -> T>(
     reduce_op: &G,
 ) -> Result<T, E>
     requires { G.IsAlwaysCallable reduce_op.now }
-    ensures { TryContinues (ReducesTo (λ a b c. G.post reduce_op.now a b c)) control (item ∷ []) result }
+    ensures { TryContinues (ReducesTo (λ a b c. G.post reduce_op.now a b c)) control
+        (item ∷ []) result }
 {
     let left = match control {
         Ok(left) => left,

@@ -103,7 +103,8 @@ fn take_some<T: Drop, R, E, C: Folder<T, R, E>>(
     ensures ready { IfOk result (λ r. C.ready r.0) }
     ensures takes { IfOk result (λ r. (y : T) → C.takes r.0 y) }
     ensures gives { IfOk result (λ r. (more : List (Option T)) (out : Result R E)
-        → C.gives r.0 (unless_full r.1 more) out → C.gives base (unless_full full (item ∷ more)) out) }
+        → C.gives r.0 (unless_full r.1 more) out
+        → C.gives base (unless_full full (item ∷ more)) out) }
     ensures fault { IsMemoryOnErr result }
 {
     if full {

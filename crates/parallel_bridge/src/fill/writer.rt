@@ -7,8 +7,8 @@ ghost use Rattle.parallel_bridge.specs.Sources.{GivesSome};
 
 use crate::window::part::Window;
 
-/// Answers the items of a segment one by one, with a state that goes from item to item and is fresh for
-/// each segment.
+/// Answers the items of a segment one by one, with a state that goes from item to item and is fresh
+/// for each segment.
 pub trait Writer<Item: Drop>: Sized + Drop {
     /// What an item is answered by.
     type Answer: Drop;
@@ -43,9 +43,9 @@ pub trait Writer<Item: Drop>: Sized + Drop {
             → so_far self.now xs state.old ys → fails self.now (xs ++ item ∷ more) e) };
 }
 
-/// Writes the answers for the items that come, in their order, up to the first item that fails, whose
-/// error it answers. There is a place for each item. Items behind an error are passed over. It takes
-/// no memory.
+/// Writes the answers for the items that come, in their order, up to the first item that fails,
+/// whose error it answers. There is a place for each item. Items behind an error are passed over.
+/// It takes no memory.
 pub(crate) fn write_iter<I: Iterator, W: Writer<I::Item>>(
     writer: &W,
     iter: I,
@@ -93,8 +93,8 @@ where
     for _item in iter {}
 }
 
-/// Writes the answers for a window's items, each taken from its place, up to the first item that fails,
-/// whose error it answers. There is a place for each answer. It takes no memory.
+/// Writes the answers for a window's items, each taken from its place, up to the first item that
+/// fails, whose error it answers. There is a place for each answer. It takes no memory.
 pub(crate) fn write_window<X: Drop, W: Writer<X>>(
     writer: &W,
     items: &mut Window<X>,

@@ -18,8 +18,8 @@ use std::alloc::Global;
 use std::num::NonZeroUsize;
 use std::thread::Threads;
 
-/// The items that an iterator gives folded from an identity, as they come and in their order, on the
-/// caller's thread. Nothing is gathered and nothing is reduced, so it takes no memory.
+/// The items that an iterator gives folded from an identity, as they come and in their order, on
+/// the caller's thread. Nothing is gathered and nothing is reduced, so it takes no memory.
 pub fn fold_iter<I: Iterator, R: Drop, ID: Fn() -> R, F: Fn(R, I::Item) -> R>(
     iter: I,
     identity: &ID,
@@ -35,8 +35,8 @@ pub fn fold_iter<I: Iterator, R: Drop, ID: Fn() -> R, F: Fn(R, I::Item) -> R>(
     fold_from(identity(), iter, fold_op)
 }
 
-/// The items of a list folded along its shape for that many threads: each segment from an identity of
-/// its own and reduced behind a further identity, and neighbours reduced left before right.
+/// The items of a list folded along its shape for that many threads: each segment from an identity
+/// of its own and reduced behind a further identity, and neighbours reduced left before right.
 pub fn fold_parallel<
     Rt: Threads + Sync,
     P: Producer,
@@ -74,8 +74,8 @@ pub fn fold_parallel<
     unfailing(bridge(rt, alloc, threads, parts, folding))
 }
 
-/// The items of a list folded: serially as they come and in one segment, in parallel along the list's
-/// shape.
+/// The items of a list folded: serially as they come and in one segment, in parallel along the
+/// list's shape.
 pub fn fold_by<
     Rt: Threads + Sync,
     P: Producer,

@@ -18,8 +18,9 @@ use std::alloc::Global;
 use std::num::NonZeroUsize;
 use std::thread::Threads;
 
-/// The items that an iterator gives folded from an identity, as they come and in their order, with one
-/// state that `init` makes and that goes from item to item, on the caller's thread. It takes no memory.
+/// The items that an iterator gives folded from an identity, as they come and in their order, with
+/// one state that `init` makes and that goes from item to item, on the caller's thread. It takes no
+/// memory.
 pub fn fold_init_iter<
     I: Iterator,
     S: Drop,
@@ -41,8 +42,9 @@ pub fn fold_init_iter<
     fold_init_from(identity(), &mut state, iter, fold_op)
 }
 
-/// The items of a list folded along its shape for that many threads: each segment from a state and an
-/// identity of its own and reduced behind a further identity, and neighbours reduced left before right.
+/// The items of a list folded along its shape for that many threads: each segment from a state and
+/// an identity of its own and reduced behind a further identity, and neighbours reduced left before
+/// right.
 pub fn fold_init_parallel<
     Rt: Threads + Sync,
     P: Producer,
@@ -87,8 +89,8 @@ pub fn fold_init_parallel<
     unfailing(bridge(rt, alloc, threads, parts, folding))
 }
 
-/// The items of a list folded with a state: serially as they come, in one segment and with one state,
-/// in parallel along the list's shape.
+/// The items of a list folded with a state: serially as they come, in one segment and with one
+/// state, in parallel along the list's shape.
 pub fn fold_init_by<
     Rt: Threads + Sync,
     P: Producer,

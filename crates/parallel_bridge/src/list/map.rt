@@ -17,8 +17,8 @@ use std::alloc::Global;
 use std::num::NonZeroUsize;
 use std::thread::Threads;
 
-/// The answers of `map_op` for the items that an iterator gives, as they come and in their order, on
-/// the caller's thread. The answers alone are gathered, not the items.
+/// The answers of `map_op` for the items that an iterator gives, as they come and in their order,
+/// on the caller's thread. The answers alone are gathered, not the items.
 pub fn map_iter<I: Iterator, T: Drop, F: Fn(I::Item) -> T>(
     alloc: Global,
     iter: I,
@@ -38,9 +38,9 @@ pub fn map_iter<I: Iterator, T: Drop, F: Fn(I::Item) -> T>(
     Ok(iter.map(answer).collect(alloc)?)
 }
 
-/// The answers of `map_op` for the items of a list, in their order, where the segments of the list's
-/// shape for that many threads are answered side by side. Memory for the answers is reserved once,
-/// before any segment starts, and each answer is written where it stays.
+/// The answers of `map_op` for the items of a list, in their order, where the segments of the
+/// list's shape for that many threads are answered side by side. Memory for the answers is reserved
+/// once, before any segment starts, and each answer is written where it stays.
 pub fn map_parallel<
     Rt: Threads + Sync,
     P: Producer,
@@ -66,8 +66,8 @@ pub fn map_parallel<
     }
 }
 
-/// The answers of `map_op` for the items of a list, in their order: serially as they come, in parallel
-/// side by side.
+/// The answers of `map_op` for the items of a list, in their order: serially as they come, in
+/// parallel side by side.
 pub fn map_by<Rt: Threads + Sync, P: Producer, T: Send + Drop, F: Fn(P::Item) -> T + Send + Sync>(
     rt: &Rt,
     alloc: Global,

@@ -22,8 +22,8 @@ use std::alloc::Global;
 use std::num::NonZeroUsize;
 use std::thread::Threads;
 
-/// The answers of `map_op` for the items that an iterator gives, as they come and in their order, with
-/// one state that `init` makes and that goes from item to item, on the caller's thread.
+/// The answers of `map_op` for the items that an iterator gives, as they come and in their order,
+/// with one state that `init` makes and that goes from item to item, on the caller's thread.
 pub fn map_init_iter<I: Iterator, S: Drop, T: Drop, N: Fn() -> S, F: Fn(&mut S, I::Item) -> T>(
     alloc: Global,
     iter: I,
@@ -44,10 +44,10 @@ pub fn map_init_iter<I: Iterator, S: Drop, T: Drop, N: Fn() -> S, F: Fn(&mut S, 
     map_init_from(alloc, &mut state, iter, map_op)
 }
 
-/// The answers of `map_op` for the items of a list, in their order, where the segments of the list's
-/// shape for that many threads are answered side by side. Each segment has a fresh state, which goes
-/// from item to item. Memory for the answers is reserved once, before any segment starts, and each
-/// answer is written where it stays.
+/// The answers of `map_op` for the items of a list, in their order, where the segments of the
+/// list's shape for that many threads are answered side by side. Each segment has a fresh state,
+/// which goes from item to item. Memory for the answers is reserved once, before any segment
+/// starts, and each answer is written where it stays.
 pub fn map_init_parallel<
     Rt: Threads + Sync,
     P: Producer,
@@ -85,8 +85,8 @@ pub fn map_init_parallel<
     }
 }
 
-/// The answers of `map_op` for the items of a list, in their order: serially as they come and with one
-/// state, in parallel side by side and with a state for each segment.
+/// The answers of `map_op` for the items of a list, in their order: serially as they come and with
+/// one state, in parallel side by side and with a state for each segment.
 pub fn map_init_by<
     Rt: Threads + Sync,
     P: Producer,

@@ -56,8 +56,8 @@ pub fn partition_parallel<
     unfailing(bridge(rt, alloc, threads, parts, PartitionConsumer { map_op }))
 }
 
-/// The values and the keys of the items of a list, in their order: serially as they come, in parallel
-/// side by side.
+/// The values and the keys of the items of a list, in their order: serially as they come, in
+/// parallel side by side.
 pub fn partition_by<
     Rt: Threads + Sync,
     P: Producer,

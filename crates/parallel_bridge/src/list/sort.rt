@@ -13,10 +13,11 @@ use std::thread::{Threads, join_mut};
 // A list shorter than this isn't worth a thread.
 const LEAST: usize = 4096;
 
-/// Sorts the items by an order, halves side by side where there are threads to share and enough items
-/// to gain, and then the whole by std's sort; items that tie keep their order. The one refusal is
-/// `Fault::Memory`, of a sort's buffer, and the items are then a permutation of what they were. The
-/// caller's thread is one of the threads, so that at most `threads - 1` threads are started.
+/// Sorts the items by an order, halves side by side where there are threads to share and enough
+/// items to gain, and then the whole by std's sort; items that tie keep their order. The one
+/// refusal is `Fault::Memory`, of a sort's buffer, and the items are then a permutation of what
+/// they were. The caller's thread is one of the threads, so that at most `threads - 1` threads are
+/// started.
 pub fn sort_parallel<Rt: Threads + Sync, T: Send, C: Fn(&T, &T) -> Ordering + Send + Sync>(
     rt: &Rt,
     alloc: Global,
@@ -37,8 +38,8 @@ pub fn sort_parallel<Rt: Threads + Sync, T: Send, C: Fn(&T, &T) -> Ordering + Se
     sort_shared(rt, alloc, threads.get(), items, by_reference)
 }
 
-// The halves side by side, where there are threads for them to share, and then the two sorted runs as
-// one.
+// The halves side by side, where there are threads for them to share, and then the two sorted runs
+// as one.
 #[cycle(halves)]
 fn sort_shared<Rt: Threads + Sync, T: Send, C: FnMut(&T, &T) -> Ordering + Copy + Send + Sync>(
     rt: &Rt,
@@ -79,12 +80,14 @@ fn sort_apart<Rt: Threads + Sync, T: Send, C: FnMut(&T, &T) -> Ordering + Copy +
     ensures back_stable { IsStableByClosure C.FnMut compare back.old back.new }
 {
     let mut first = || -> Result<(), Fault>
-        requires { IsSync Rt.row × IsSend T.row × IsSend C.row × (2 ≤ threads) × C.IsAlwaysCallable compare }
+        requires { IsSync Rt.row × IsSend T.row × IsSend C.row × (2 ≤ threads)
+            × C.IsAlwaysCallable compare }
         ensures permutation { IsPermutation front.entry.now front.exit.now }
         ensures stable { IsStableByClosure C.FnMut compare front.entry.now front.exit.now }
     { sort_shared(rt, alloc, threads / 2, front, compare) };
     let mut second = || -> Result<(), Fault>
-        requires { IsSync Rt.row × IsSend T.row × IsSend C.row × (2 ≤ threads) × C.IsAlwaysCallable compare }
+        requires { IsSync Rt.row × IsSend T.row × IsSend C.row × (2 ≤ threads)
+            × C.IsAlwaysCallable compare }
         ensures permutation { IsPermutation back.entry.now back.exit.now }
         ensures stable { IsStableByClosure C.FnMut compare back.entry.now back.exit.now }
     { sort_shared(rt, alloc, threads - threads / 2, back, compare) };

@@ -18,8 +18,8 @@ use std::alloc::Global;
 use std::num::NonZeroUsize;
 use std::thread::Threads;
 
-/// The items that an iterator gives folded from an identity, as they come and in their order, up to the
-/// first step that fails, on the caller's thread. Nothing is reduced, and no memory is taken.
+/// The items that an iterator gives folded from an identity, as they come and in their order, up to
+/// the first step that fails, on the caller's thread. Nothing is reduced, and no memory is taken.
 pub fn try_fold_iter<
     I: Iterator,
     R: Drop,
@@ -40,9 +40,9 @@ where
     try_fold_onward(Ok(identity()), iter, fold_op)
 }
 
-/// The items of a list folded along its shape for that many threads: each segment from an identity of
-/// its own, up to its own first error, and reduced behind a further identity; neighbours are reduced
-/// left before right, and of several errors the leftmost is answered.
+/// The items of a list folded along its shape for that many threads: each segment from an identity
+/// of its own, up to its own first error, and reduced behind a further identity; neighbours are
+/// reduced left before right, and of several errors the leftmost is answered.
 pub fn try_fold_parallel<
     Rt: Threads + Sync,
     P: Producer,
@@ -105,7 +105,8 @@ pub fn try_fold_by<
     requires reduce_accepts { G.IsAlwaysCallable reduce_op.now }
     ensures folds { UnlessRefused result (λ out. GivesSome P.gives parts
         (λ xs. TryFoldedAs (ID.post identity.now) (λ a x out. F.post fold_op.now a x out)
-        (λ a b c. G.post reduce_op.now a b c) (cutdepth (non_zero_usize_get threads)) path xs out)) }
+        (λ a b c. G.post reduce_op.now a b c)
+        (cutdepth (non_zero_usize_get threads)) path xs out)) }
 {
     match path {
         Path::Serial => match try_fold_iter(parts.into_items(), identity, fold_op) {

@@ -43,10 +43,10 @@ where
     }
 }
 
-/// The values that `map_op` answers for the items of a list, in their order, where the segments of the
-/// list's shape for that many threads are answered side by side; or the error of the first item that
-/// fails, whichever segment ends first. A segment stops at its own first error. Memory for the values
-/// is reserved once, before any segment starts, and each value is written where it stays.
+/// The values that `map_op` answers for the items of a list, in their order, where the segments of
+/// the list's shape for that many threads are answered side by side; or the error of the first item
+/// that fails, whichever segment ends first. A segment stops at its own first error. Memory for the
+/// values is reserved once, before any segment starts, and each value is written where it stays.
 pub fn try_map_parallel<
     Rt: Threads + Sync,
     P: Producer,

@@ -26,13 +26,14 @@ impl<T> Model for Block<T> {
 
     ghost view = { λ b. b.window };
 
-    ghost invariant = { λ b. (b.deed.at ≡ b.window.start) × (b.deed.len ≡ b.window.room) × (b.deed.alloc ≡ b.vec.alloc)
+    ghost invariant = { λ b. (b.deed.at ≡ b.window.start) × (b.deed.len ≡ b.window.room)
+        × (b.deed.alloc ≡ b.vec.alloc)
         × (b.vec.cap ≡ 0) × (b.window.room < 2 ^ 63) };
 }
 
 impl<T> Block<T> {
-    /// A vector's own block, with its items where they lie and its spare places behind them. Nothing is
-    /// copied.
+    /// A vector's own block, with its items where they lie and its spare places behind them.
+    /// Nothing is copied.
     pub fn from_vec(vec: Vec<T>) -> Self
         ensures { result ≡ part result.start vec.cap 0 vec.items }
     {
@@ -72,7 +73,8 @@ impl<T> Block<T> {
     /// Writes an item behind the others, where there is room for it. It takes no memory.
     pub fn put(&mut self, item: T)
         requires { self.old.before + length self.old.items < self.old.room }
-        ensures { self.new ≡ part self.old.start self.old.room self.old.before (self.old.items ++ item ∷ []) }
+        ensures { self.new ≡ part self.old.start self.old.room self.old.before
+            (self.old.items ++ item ∷ []) }
     {
         self.window.put(item);
     }
@@ -81,7 +83,8 @@ impl<T> Block<T> {
     pub fn take(&mut self) -> T
         requires { 0 < length self.old.items }
         ensures items { self.old.items ≡ result ∷ self.new.items }
-        ensures place { (self.new.start ≡ self.old.start) × (self.new.room ≡ self.old.room) × (self.new.before ≡ self.old.before + 1) }
+        ensures place { (self.new.start ≡ self.old.start) × (self.new.room ≡ self.old.room)
+            × (self.new.before ≡ self.old.before + 1) }
     {
         self.window.take()
     }
@@ -90,15 +93,16 @@ impl<T> Block<T> {
     pub fn take_back(&mut self) -> T
         requires { 0 < length self.old.items }
         ensures items { self.old.items ≡ self.new.items ++ result ∷ [] }
-        ensures place { (self.new.start ≡ self.old.start) × (self.new.room ≡ self.old.room) × (self.new.before ≡ self.old.before) }
+        ensures place { (self.new.start ≡ self.old.start) × (self.new.room ≡ self.old.room)
+            × (self.new.before ≡ self.old.before) }
     {
         self.window.take_back()
     }
 }
 
 impl<T: Drop> Block<T> {
-    /// The block with one item more, behind the others. Where it has no room left, its items move into
-    /// a bigger one.
+    /// The block with one item more, behind the others. Where it has no room left, its items move
+    /// into a bigger one.
     ///
     /// # Errors
     ///

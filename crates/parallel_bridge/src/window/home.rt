@@ -8,8 +8,8 @@ use crate::window::vector::{close, open};
 use std::alloc::{AllocError, Allocator};
 use std::marker::Model;
 
-/// The block that a window is over, with the right to free it. It can't be let go: a window over all
-/// its places is handed over with it as a vector, or freed with it.
+/// The block that a window is over, with the right to free it. It can't be let go: a window over
+/// all its places is handed over with it as a vector, or freed with it.
 pub struct Home<T, A: Allocator> {
     base: Base<T>,
     room: usize,
@@ -28,10 +28,16 @@ impl<T, A: Allocator> Model for Home<T, A> {
 
     ghost coded = { site_code };
 
-    ghost view = { λ h. record { start = h.base.ptr; room = h.room; capacity = h.capacity; end = h.end.ptr } };
+    ghost view = { λ h. record {
+      start = h.base.ptr;
+      room = h.room;
+      capacity = h.capacity;
+      end = h.end.ptr;
+    } };
 
     ghost invariant = { λ h. IsTail h.tail.at h.end.ptr h.tail.slots h.capacity h.room
-        × (h.deed.at ≡ h.base.ptr) × (h.deed.len ≡ h.capacity) × (h.deed.alloc ≡ h.vec.alloc) × (h.vec.cap ≡ 0) × (h.capacity < 2 ^ 63) };
+        × (h.deed.at ≡ h.base.ptr) × (h.deed.len ≡ h.capacity) × (h.deed.alloc ≡ h.vec.alloc)
+        × (h.vec.cap ≡ 0) × (h.capacity < 2 ^ 63) };
 }
 
 impl<T, A: Allocator> Home<T, A> {
@@ -45,15 +51,16 @@ impl<T, A: Allocator> Home<T, A> {
         ensures site { IfOk result (λ r. IsSite T.row r.1) }
     {
         // glibc gives free memory at the end of its heap back once that is twice the greatest block
-        // that was freed. A list that was gathered and its answers, as long, would be just as much, and
-        // each call would get all their pages anew; an eighth more keeps them.
+        // that was freed. A list that was gathered and its answers, as long, would be just as much,
+        // and each call would get all their pages anew; an eighth more keeps them.
         let vec = Vec::with_capacity(alloc, room.saturating_add(room / 8))?;
         Ok(Home::over(vec, room))
     }
 
     /// A window over a vector's own items, where they lie.
     pub fn adopt(vec: Vec<T, A>) -> (Window<T>, Self)
-        ensures window { (result.0 ≡ part result.1.start (length vec.items) 0 vec.items) × (result.1.room ≡ length vec.items) }
+        ensures window { (result.0 ≡ part result.1.start (length vec.items) 0 vec.items)
+            × (result.1.room ≡ length vec.items) }
         ensures site { IsSite T.row result.1 }
     {
         let room = vec.len();
@@ -63,7 +70,8 @@ impl<T, A: Allocator> Home<T, A> {
     // A window over the first places of a vector's block.
     fn over(vec: Vec<T, A>, room: usize) -> (Window<T>, Self)
         requires fits { (length vec.items ≤ room) × (room ≤ vec.cap) }
-        ensures window { (result.0 ≡ part result.1.start room 0 vec.items) × (result.1.room ≡ room) }
+        ensures window { (result.0 ≡ part result.1.start room 0 vec.items)
+            × (result.1.room ≡ room) }
         ensures site { IsSite T.row result.1 }
     {
         let mut vec = vec;

@@ -7,9 +7,9 @@ ghost use Rattle.parallel_bridge.specs.Windows.{Adjoins, Follows, IsRow, part};
 use crate::window::cells::{Base, Cells};
 use std::marker::Model;
 
-/// Places side by side, of which a run has items and the others are empty. Whoever has the window has
-/// its places, and nobody else does. A window that is let go drops its items; its places are given
-/// back through its [`Home`](crate::window::home::Home) alone.
+/// Places side by side, of which a run has items and the others are empty. Whoever has the window
+/// has its places, and nobody else does. A window that is let go drops its items; its places are
+/// given back through its [`Home`](crate::window::home::Home) alone.
 pub struct Window<T> {
     pub(crate) base: Base<T>,
     pub(crate) room: usize,
@@ -49,7 +49,8 @@ impl<T> Window<T> {
     /// Writes an item behind the others, where there is room for it. It takes no memory.
     pub fn put(&mut self, item: T)
         requires { self.old.before + length self.old.items < self.old.room }
-        ensures { self.new ≡ part self.old.start self.old.room self.old.before (self.old.items ++ item ∷ []) }
+        ensures { self.new ≡ part self.old.start self.old.room self.old.before
+            (self.old.items ++ item ∷ []) }
     {
         let index = self.before + self.len;
         self.cells.write(self.base, index, item);
@@ -60,7 +61,8 @@ impl<T> Window<T> {
     pub fn take(&mut self) -> T
         requires { 0 < length self.old.items }
         ensures items { self.old.items ≡ result ∷ self.new.items }
-        ensures place { (self.new.start ≡ self.old.start) × (self.new.room ≡ self.old.room) × (self.new.before ≡ self.old.before + 1) }
+        ensures place { (self.new.start ≡ self.old.start) × (self.new.room ≡ self.old.room)
+            × (self.new.before ≡ self.old.before + 1) }
     {
         let index = self.before;
         let item = self.cells.read(self.base, index);
@@ -73,7 +75,8 @@ impl<T> Window<T> {
     pub fn take_back(&mut self) -> T
         requires { 0 < length self.old.items }
         ensures items { self.old.items ≡ self.new.items ++ result ∷ [] }
-        ensures place { (self.new.start ≡ self.old.start) × (self.new.room ≡ self.old.room) × (self.new.before ≡ self.old.before) }
+        ensures place { (self.new.start ≡ self.old.start) × (self.new.room ≡ self.old.room)
+            × (self.new.before ≡ self.old.before) }
     {
         let index = self.before + self.len - 1;
         let item = self.cells.read(self.base, index);
@@ -85,7 +88,8 @@ impl<T> Window<T> {
     pub fn split(self, index: usize) -> (Self, Self)
         requires { (self.before ≡ 0) × (index ≤ self.room) }
         ensures left { result.0 ≡ part self.start index 0 (take index self.items) }
-        ensures right { result.1 ≡ part (shifted T.row self.start index) (self.room - index) 0 (drop index self.items) }
+        ensures right { result.1 ≡ part (shifted T.row self.start index) (self.room - index) 0
+            (drop index self.items) }
     {
         let Window {
             base,
@@ -113,7 +117,8 @@ impl<T> Window<T> {
         (left, right)
     }
 
-    // Where the row begins, its places, those in front of the items, the number of items, and the row.
+    // Where the row begins, its places, those in front of the items, the number of items, and the
+    // row.
     pub(crate) fn into_parts(self) -> (Base<T>, usize, usize, usize, Cells<T>)
         ensures view { self ≡ part result.0.ptr result.1 result.2 (values result.4.slots) }
         ensures row { IsRow result.4.at result.0.ptr result.4.slots result.1 result.2 result.3 }
@@ -133,7 +138,8 @@ impl<T> Window<T> {
         requires follows { Follows T.row self right }
         requires fits { FitsInBlock T.row (self.room + right.room) }
         requires adjoins { Adjoins self right }
-        ensures { result ≡ part self.start (self.room + right.room) self.before (self.items ++ right.items) }
+        ensures { result ≡ part self.start (self.room + right.room) self.before
+            (self.items ++ right.items) }
     {
         let Window {
             base,

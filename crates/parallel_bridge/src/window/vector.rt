@@ -16,8 +16,10 @@ struct Words<T> {
 /// Takes a vector's block out, and leaves the vector without one.
 pub(crate) fn open<T, A: Allocator>(vec: &mut Vec<T, A>) -> (Base<T>, Cells<T>, Deed<T, A>)
     ensures row { (result.0.ptr ≡ vec.old.ptr) × (result.1.at ≡ vec.old.ptr)
-        × (result.1.slots ≡ map Some vec.old.items ++ replicate (vec.old.cap - length vec.old.items) None) }
-    ensures deed { (result.2.at ≡ vec.old.ptr) × (result.2.len ≡ vec.old.cap) × (result.2.alloc ≡ vec.old.alloc) }
+        × (result.1.slots ≡ map Some vec.old.items ++ replicate
+        (vec.old.cap - length vec.old.items) None) }
+    ensures deed { (result.2.at ≡ vec.old.ptr) × (result.2.len ≡ vec.old.cap)
+        × (result.2.alloc ≡ vec.old.alloc) }
     ensures left { (vec.new.items ≡ []) × (vec.new.cap ≡ 0) × (vec.new.alloc ≡ vec.old.alloc) }
 {
     let words = vec as *mut Vec<T, A> as *mut Words<T>;
@@ -45,7 +47,8 @@ pub(crate) fn close<T, A: Allocator>(
     deed: Deed<T, A>,
 )
     requires vec { (vec.old.cap ≡ 0) × (capacity < 2 ^ 63) }
-    requires cells { (cells.at ≡ base.ptr) × (length cells.slots ≡ capacity) × (length (values cells.slots) ≡ len)
+    requires cells { (cells.at ≡ base.ptr) × (length cells.slots ≡ capacity)
+        × (length (values cells.slots) ≡ len)
         × (cells.slots ≡ map Some (values cells.slots) ++ replicate (capacity - len) None) }
     requires deed { (deed.at ≡ base.ptr) × (deed.len ≡ capacity) × (deed.alloc ≡ vec.old.alloc) }
     ensures { (vec.new.items ≡ values cells.slots) × (vec.new.alloc ≡ vec.old.alloc) }

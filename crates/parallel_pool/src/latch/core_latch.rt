@@ -88,7 +88,8 @@ impl CoreLatch {
     /// Makes an unset latch sleepy, and says whether it did.
     pub fn get_sleepy(&self, seat: &mut LatchSeat) -> bool
         requires { IsSeatOf self.now seat.old }
-        ensures call { Called GetSleepy (λ phase. result ≡ is_unset phase) (known seat.old) (known seat.new) }
+        ensures call { Called GetSleepy (λ phase. result ≡ is_unset phase) (known seat.old)
+            (known seat.new) }
         ensures stays { HasSeenSet (known seat.old) → HasSeenSet (known seat.new) }
         ensures seat { IsSeatOf self.now seat.new }
     {
@@ -102,7 +103,8 @@ impl CoreLatch {
     /// Lets a sleepy latch's worker fall asleep, and says whether it did.
     pub fn fall_asleep(&self, seat: &mut LatchSeat) -> bool
         requires { IsSeatOf self.now seat.old }
-        ensures call { Called FallAsleep (λ phase. result ≡ is_sleepy phase) (known seat.old) (known seat.new) }
+        ensures call { Called FallAsleep (λ phase. result ≡ is_sleepy phase) (known seat.old)
+            (known seat.new) }
         ensures stays { HasSeenSet (known seat.old) → HasSeenSet (known seat.new) }
         ensures seat { IsSeatOf self.now seat.new }
     {
@@ -128,7 +130,8 @@ impl CoreLatch {
     /// Sets the latch, for good, and says whether its worker was asleep.
     pub fn set(&self, seat: &mut LatchSeat) -> bool
         requires { IsSeatOf self.now seat.old }
-        ensures call { Called Set (λ phase. result ≡ is_sleeping phase) (known seat.old) (known seat.new) }
+        ensures call { Called Set (λ phase. result ≡ is_sleeping phase) (known seat.old)
+            (known seat.new) }
         ensures sees { HasSeenSet (known seat.new) }
         ensures again { HasSeenSet (known seat.old) → result ≡ false }
         ensures seat { IsSeatOf self.now seat.new }
@@ -139,7 +142,8 @@ impl CoreLatch {
     /// Says whether the latch is set.
     pub fn probe(&self, seat: &mut LatchSeat) -> bool
         requires { IsSeatOf self.now seat.old }
-        ensures call { Called Probe (λ phase. result ≡ is_latched phase) (known seat.old) (known seat.new) }
+        ensures call { Called Probe (λ phase. result ≡ is_latched phase) (known seat.old)
+            (known seat.new) }
         ensures sees { IsTrue result ↔ HasSeenSet (known seat.new) }
         ensures stays { HasSeenSet (known seat.old) → IsTrue result }
         ensures seat { IsSeatOf self.now seat.new }

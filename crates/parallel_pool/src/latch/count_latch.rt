@@ -54,7 +54,8 @@ impl CountLatch {
 
     // The latch, and a seat that holds all shares.
     fn of_word(alloc: Global, count: usize) -> Result<(CountLatch, CountShare), Fault>
-        ensures made { IfOk result (λ made. IsShareOf made.0 made.1 × (shares_of made.0 ≡ count) × (unspent made.1 ≡ count)) }
+        ensures made { IfOk result (λ made. IsShareOf made.0 made.1 × (shares_of made.0 ≡ count)
+            × (unspent made.1 ≡ count)) }
         ensures fault { IfErr result (λ refusal. refusal ≡ Fault.Memory) }
     {
         let count = count as u64;
@@ -79,7 +80,8 @@ impl CountLatch {
 
     /// Gives a share, and says whether it was the last. The last give wakes all that wait.
     ///
-    /// It is one atomic step, takes no memory and never waits. The share stays with the caller, spent.
+    /// It is one atomic step, takes no memory and never waits. The share stays with the caller,
+    /// spent.
     pub fn give(&self, share: &mut CountShare) -> bool
         requires belongs { IsShareOf self.now share.old }
         requires unspent { unspent share.old ≡ 1 }
@@ -105,7 +107,8 @@ impl CountLatch {
     pub fn learn(&self, share: &mut CountShare, other: &mut CountShare)
         requires share { IsShareOf self.now share.old }
         requires other { IsShareOf self.now other.old }
-        ensures learns { Longer (gives_seen share.old) (gives_seen other.old) (gives_seen share.new) }
+        ensures learns { Longer (gives_seen share.old) (gives_seen other.old)
+            (gives_seen share.new) }
         ensures unspent { unspent share.new ≡ unspent share.old }
         ensures same { knows other.new ≡ knows other.old }
         ensures share { IsShareOf self.now share.new }

@@ -75,7 +75,8 @@ impl Play<(), ShareView> for Learning {
     ghost use Rattle.std.specs.Prelude.{◌≡◌};
     ghost use Rattle.parallel_pool.specs.CountHistory.{Longer, SameShare};
 
-    ghost then = { λ _ me found after. Longer me.0.seen me.0.heard after.0.seen × SameShare me.0 after.0 × (after.1 ≡ me.1) };
+    ghost then = { λ _ me found after. Longer me.0.seen me.0.heard after.0.seen
+        × SameShare me.0 after.0 × (after.1 ≡ me.1) };
 }
 
 /// The step of `give`.

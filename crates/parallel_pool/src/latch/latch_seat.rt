@@ -62,7 +62,8 @@ impl Play<(), View> for Learning {
     ghost use Rattle.std.specs.Prelude.{◌≡◌};
     ghost use Rattle.parallel_pool.specs.LatchHistory.{Longer};
 
-    ghost then = { λ _ me found after. Longer me.0.seen me.0.heard after.0.seen × (after.0.own ≡ me.0.own) × (after.1 ≡ me.1) };
+    ghost then = { λ _ me found after. Longer me.0.seen me.0.heard after.0.seen
+        × (after.0.own ≡ me.0.own) × (after.1 ≡ me.1) };
 }
 
 /// A new seat has seen nothing, whatever the latch is.
@@ -84,7 +85,8 @@ impl Play<(), View> for GetsSleepy {
     ghost use Rattle.parallel_pool.specs.LatchHistory.{Called};
     ghost use Rattle.parallel_pool.specs.declared.latch.history.Act.TheVariants.{GetSleepy};
 
-    ghost then = { λ _ me found after. Called GetSleepy (λ phase. found ≡ word_of phase) me.0 after.0 × (after.1 ≡ me.1) };
+    ghost then = { λ _ me found after. Called GetSleepy
+        (λ phase. found ≡ word_of phase) me.0 after.0 × (after.1 ≡ me.1) };
 }
 
 /// The step of `fall_asleep`.
@@ -96,7 +98,8 @@ impl Play<(), View> for FallsAsleep {
     ghost use Rattle.parallel_pool.specs.LatchHistory.{Called};
     ghost use Rattle.parallel_pool.specs.declared.latch.history.Act.TheVariants.{FallAsleep};
 
-    ghost then = { λ _ me found after. Called FallAsleep (λ phase. found ≡ word_of phase) me.0 after.0 × (after.1 ≡ me.1) };
+    ghost then = { λ _ me found after. Called FallAsleep
+        (λ phase. found ≡ word_of phase) me.0 after.0 × (after.1 ≡ me.1) };
 }
 
 /// The step of `wake_up`.
@@ -108,7 +111,8 @@ impl Play<(), View> for WakesUp {
     ghost use Rattle.parallel_pool.specs.LatchHistory.{Called};
     ghost use Rattle.parallel_pool.specs.declared.latch.history.Act.TheVariants.{WakeUp};
 
-    ghost then = { λ _ me found after. Called WakeUp (λ phase. found ≡ word_of phase) me.0 after.0 × (after.1 ≡ me.1) };
+    ghost then = { λ _ me found after. Called WakeUp (λ phase. found ≡ word_of phase) me.0 after.0
+        × (after.1 ≡ me.1) };
 }
 
 /// The step of `set`.
@@ -120,7 +124,8 @@ impl Play<(), View> for Sets {
     ghost use Rattle.parallel_pool.specs.LatchHistory.{Called};
     ghost use Rattle.parallel_pool.specs.declared.latch.history.Act.TheVariants.{Set};
 
-    ghost then = { λ _ me found after. Called Set (λ phase. found ≡ word_of phase) me.0 after.0 × (after.1 ≡ me.1) };
+    ghost then = { λ _ me found after. Called Set (λ phase. found ≡ word_of phase) me.0 after.0
+        × (after.1 ≡ me.1) };
 }
 
 /// The step of `probe`.
@@ -132,5 +137,6 @@ impl Play<(), View> for Probes {
     ghost use Rattle.parallel_pool.specs.LatchHistory.{Called};
     ghost use Rattle.parallel_pool.specs.declared.latch.history.Act.TheVariants.{Probe};
 
-    ghost then = { λ _ me found after. Called Probe (λ phase. found ≡ word_of phase) me.0 after.0 × (after.1 ≡ me.1) };
+    ghost then = { λ _ me found after. Called Probe (λ phase. found ≡ word_of phase) me.0 after.0
+        × (after.1 ≡ me.1) };
 }

@@ -53,11 +53,12 @@ impl OnceLatch {
         &self.core_latch
     }
 
-    /// Sets the latch, for good, and answers the index of the worker to wake, which is there exactly
-    /// where that worker was asleep.
+    /// Sets the latch, for good, and answers the index of the worker to wake, which is there
+    /// exactly where that worker was asleep.
     pub fn set(&self, seat: &mut LatchSeat) -> Option<usize>
         requires { IsSeatOf (core_of self.now) seat.old }
-        ensures call { Called Set (λ phase. result ≡ (if is_sleeping phase then Some (target_of self.now) else None)) (known seat.old) (known seat.new) }
+        ensures call { Called Set (λ phase. result ≡ (if is_sleeping phase
+            then Some (target_of self.now) else None)) (known seat.old) (known seat.new) }
         ensures sees { HasSeenSet (known seat.new) }
         ensures again { HasSeenSet (known seat.old) → result ≡ None }
         ensures seat { IsSeatOf (core_of self.now) seat.new }

@@ -8,7 +8,8 @@ use parallel_fault::Fault;
 use std::alloc::Global;
 use std::num::NonZeroUsize;
 
-/// A core latch and the index of the worker that waits for it, which looks for other work meanwhile.
+/// A core latch and the index of the worker that waits for it, which looks for other work
+/// meanwhile.
 ///
 /// Contracts name the core latch by `core_of` and the index by `target_of`.
 #[derive(Drop)]
@@ -53,11 +54,12 @@ impl SpinLatch {
         &self.core_latch
     }
 
-    /// Sets the latch, for good, and answers the index of the worker to wake, which is there exactly
-    /// where that worker was asleep.
+    /// Sets the latch, for good, and answers the index of the worker to wake, which is there
+    /// exactly where that worker was asleep.
     pub fn set(&self, seat: &mut LatchSeat) -> Option<usize>
         requires { IsSeatOf (core_of self.now) seat.old }
-        ensures call { Called Set (λ phase. result ≡ (if is_sleeping phase then Some (target_of self.now) else None)) (known seat.old) (known seat.new) }
+        ensures call { Called Set (λ phase. result ≡ (if is_sleeping phase
+            then Some (target_of self.now) else None)) (known seat.old) (known seat.new) }
         ensures sees { HasSeenSet (known seat.new) }
         ensures again { HasSeenSet (known seat.old) → result ≡ None }
         ensures seat { IsSeatOf (core_of self.now) seat.new }
@@ -72,7 +74,8 @@ impl SpinLatch {
     /// Says whether the latch is set.
     pub fn probe(&self, seat: &mut LatchSeat) -> bool
         requires { IsSeatOf (core_of self.now) seat.old }
-        ensures call { Called Probe (λ phase. result ≡ is_latched phase) (known seat.old) (known seat.new) }
+        ensures call { Called Probe (λ phase. result ≡ is_latched phase) (known seat.old)
+            (known seat.new) }
         ensures sees { IsTrue result ↔ HasSeenSet (known seat.new) }
         ensures stays { HasSeenSet (known seat.old) → IsTrue result }
         ensures seat { IsSeatOf (core_of self.now) seat.new }

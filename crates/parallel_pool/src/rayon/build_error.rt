@@ -27,7 +27,8 @@ impl From<AllocError> for ThreadPoolBuildError {
     }
 }
 
-/// A refused growth that hands a value back is `ThreadPoolBuildError::Memory`, and the value is dropped.
+/// A refused growth that hands a value back is `ThreadPoolBuildError::Memory`, and the value is
+/// dropped.
 impl<T: Drop> From<AllocFailed<T>> for ThreadPoolBuildError {
     ghost use Rattle.parallel_pool.specs.declared.rayon.build_error.ThreadPoolBuildError.TheVariants.{Memory};
 

@@ -1,4 +1,5 @@
-// For how many threads a pool is planned: what is set, what an environment says, what a machine has.
+// For how many threads a pool is planned: what is set, what an environment says, what a machine
+// has.
 ghost use Rattle.std.specs.Prelude.{◌≡◌, ◌<◌, ◌≤◌, ℕ, min, Option, MatchOption, None};
 ghost use Rattle.std.specs.NonZero.{non_zero_usize_get};
 ghost use Rattle.parallel_pool.specs.PlannedThreads.{Writes, by_texts, number_or};
@@ -19,9 +20,10 @@ pub struct Environment {
 
 /// For how many threads a pool is planned, 1 to `MAX_THREADS`.
 ///
-/// A number that is set, above 0, wins. Else the first text's number is taken, where 0 stands for the
-/// machine's number. Where that text writes none, the second text's number is taken if it is above 0.
-/// Else it is the machine's number, or 1 without one. A text that `parse` refuses counts as none.
+/// A number that is set, above 0, wins. Else the first text's number is taken, where 0 stands for
+/// the machine's number. Where that text writes none, the second text's number is taken if it is
+/// above 0. Else it is the machine's number, or 1 without one. A text that `parse` refuses counts
+/// as none.
 pub fn planned_threads(
     set: usize,
     num_threads: Option<&str>,
@@ -32,7 +34,8 @@ pub fn planned_threads(
     ensures texts { set ≡ 0 → (threads : Option ℕ) × (cpus : Option ℕ)
         × MatchOption num_threads.entry (threads ≡ None) (λ text. Writes text.now threads)
         × MatchOption num_cpus.entry (cpus ≡ None) (λ text. Writes text.now cpus)
-        × (result ≡ min (by_texts threads cpus (number_or 1 non_zero_usize_get machine)) MAX_THREADS) }
+        × (result ≡ min (by_texts threads cpus (number_or 1 non_zero_usize_get machine))
+        MAX_THREADS) }
     ensures at_least { 1 ≤ result }
     ensures at_most { result ≤ MAX_THREADS }
 {

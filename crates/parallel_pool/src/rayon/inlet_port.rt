@@ -42,7 +42,8 @@ impl<T: Drop> InletPort<T> {
 
     /// Pushes a job behind the others. An Err hands it back where there is no memory for it.
     pub(crate) fn push<R: Wait>(&mut self, rt: &R, job: T) -> Result<(), T>
-        ensures { MatchResult result (λ _. HasPushed self.old job self.new) (λ back. (back ≡ job) × (self.new ≡ self.old)) }
+        ensures { MatchResult result (λ _. HasPushed self.old job self.new)
+            (λ back. (back ≡ job) × (self.new ≡ self.old)) }
     {
         self.queue.push_as::<Pushes, R>(rt, &mut self.pass, job)
     }
@@ -55,14 +56,16 @@ impl<T: Drop> InletPort<T> {
 
     // One try to take the first job.
     fn try_take<U: Purpose, R: Wait>(&mut self, rt: &R) -> Steal<T>
-        ensures { MatchSteal result (self.new ≡ self.old) (self.new ≡ self.old) (λ job. HasTaken TakeFirst U.called self.old job self.new) }
+        ensures { MatchSteal result (self.new ≡ self.old) (self.new ≡ self.old)
+            (λ job. HasTaken TakeFirst U.called self.old job self.new) }
     {
         self.queue.steal_as::<Takes<U>, R>(rt, &mut self.pass)
     }
 
     /// Takes the first job.
     pub(crate) fn take<U: Purpose, R: Wait>(&mut self, rt: &R) -> Option<T>
-        ensures { MatchOption result (self.new ≡ self.old) (λ job. HasTaken TakeFirst U.called self.old job self.new) }
+        ensures { MatchOption result (self.new ≡ self.old)
+            (λ job. HasTaken TakeFirst U.called self.old job self.new) }
     {
         for _ in rt.forever() {
             match self.try_take::<U, R>(rt) {

@@ -47,7 +47,8 @@ impl<T: Drop> JobDeque<T> {
 
     /// Pushes a job behind the others. An Err hands it back where there is no memory for it.
     pub fn push(&mut self, job: T) -> Result<(), T>
-        ensures { MatchResult result (λ _. HasPushed self.old job self.new) (λ back. (back ≡ job) × (self.new ≡ self.old)) }
+        ensures { MatchResult result (λ _. HasPushed self.old job self.new)
+            (λ back. (back ≡ job) × (self.new ≡ self.old)) }
     {
         self.own.push_as::<Pushes>(job)
     }
@@ -61,20 +62,23 @@ impl<T: Drop> JobDeque<T> {
 
     /// Takes the last job, where there is one.
     pub fn pop(&mut self) -> Option<T>
-        ensures { MatchOption result (self.new ≡ self.old) (λ job. HasTaken TakeLast false self.old job self.new) }
+        ensures { MatchOption result (self.new ≡ self.old)
+            (λ job. HasTaken TakeLast false self.old job self.new) }
     {
         self.pop_as::<ToKeep>()
     }
 
     /// Takes the last job, where there is one, to call it at once.
     pub(crate) fn pop_to_call(&mut self) -> Option<T>
-        ensures { MatchOption result (self.new ≡ self.old) (λ job. HasTaken TakeLast true self.old job self.new) }
+        ensures { MatchOption result (self.new ≡ self.old)
+            (λ job. HasTaken TakeLast true self.old job self.new) }
     {
         self.pop_as::<ToCall>()
     }
 
     fn pop_as<U: Purpose>(&mut self) -> Option<T>
-        ensures { MatchOption result (self.new ≡ self.old) (λ job. HasTaken TakeLast U.called self.old job self.new) }
+        ensures { MatchOption result (self.new ≡ self.old)
+            (λ job. HasTaken TakeLast U.called self.old job self.new) }
     {
         self.own.pop_as::<TakesLast<U>>()
     }

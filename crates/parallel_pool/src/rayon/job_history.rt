@@ -37,8 +37,8 @@ pub struct JobView<T> {
     pub own: LinkedList<Event<T>>,
 }
 
-/// The rule: one history of pushes and takes leads to the jobs in the queue, and each pass has seen a
-/// beginning of it.
+/// The rule: one history of pushes and takes leads to the jobs in the queue, and each pass has seen
+/// a beginning of it.
 pub struct Numbered;
 
 impl<T> Protocol<T, JobView<T>> for Numbered {

@@ -13,8 +13,9 @@ use std::alloc::Global;
 use std::num::NonZeroUsize;
 use std::sync::Arc;
 
-/// The queues of a pool: one for the injected jobs, and for each worker a broadcast queue and a deque
-/// of its own. Each is numbered for itself. Contracts name the number of workers by `workers_of`.
+/// The queues of a pool: one for the injected jobs, and for each worker a broadcast queue and a
+/// deque of its own. Each is numbered for itself. Contracts name the number of workers by
+/// `workers_of`.
 #[derive(Drop)]
 pub struct JobQueues<T: Drop = OwnedJob> {
     injected: Arc<Inlet<T>, Global>,

@@ -9,12 +9,13 @@ use std::collections::VecDeque;
 use std::marker::Model;
 use std::sync::Wait;
 
-/// One thread's views of a pool's queues: what it has seen pushed and taken there, and what it pushed
-/// and took itself.
+/// One thread's views of a pool's queues: what it has seen pushed and taken there, and what it
+/// pushed and took itself.
 ///
-/// Contracts see it as `injected`, `broadcasts` and `deques`: what it knows of each queue. A call says
-/// of one queue that its history, as far as this seat had seen it, goes on and ends with the call; in
-/// that history each job that was taken was pushed, under the same number, and none was taken twice.
+/// Contracts see it as `injected`, `broadcasts` and `deques`: what it knows of each queue. A call
+/// says of one queue that its history, as far as this seat had seen it, goes on and ends with the
+/// call; in that history each job that was taken was pushed, under the same number, and none was
+/// taken twice.
 #[derive(Drop)]
 pub struct JobSeat<T: Drop = OwnedJob> {
     pub(crate) injected: InletPort<T>,
@@ -27,7 +28,11 @@ impl<T: Drop> Model for JobSeat<T> {
 
     ghost Value = { SeatView T };
 
-    ghost view = { λ s. record { injected = s.injected; broadcasts = s.broadcasts.items; deques = s.deques.items } };
+    ghost view = { λ s. record {
+      injected = s.injected;
+      broadcasts = s.broadcasts.items;
+      deques = s.deques.items;
+    } };
 }
 
 impl<T: Drop> JobSeat<T> {
@@ -37,7 +42,8 @@ impl<T: Drop> JobSeat<T> {
     ghost use Rattle.parallel_pool.specs.declared.rayon.job_history.Deed.TheVariants.{TakeFirst};
     ghost use Rattle.parallel_pool.specs.declared.rayon.queue.Queue.TheVariants.{Injected, Broadcast, Deque};
 
-    /// Pushes a job to a queue. `Fault::Memory`, with the same job, where there is no memory for it.
+    /// Pushes a job to a queue. `Fault::Memory`, with the same job, where there is no memory for
+    /// it.
     pub fn push<R: Wait>(&mut self, rt: &R, queue: Queue, job: T) -> Result<(), (Fault, T)>
         requires { IsInlet queue self.old }
         ensures { MatchResult result (λ _. Does queue (λ v w. HasPushed v job w) self.old self.new)
@@ -56,8 +62,8 @@ impl<T: Drop> JobSeat<T> {
 
     /// Pushes job 0 to the broadcast queue of worker 0, job 1 to that of worker 1, and so on.
     ///
-    /// `Fault::Memory`, with the jobs that weren't pushed, in order, where there is no memory for one
-    /// of them; those before it stay pushed.
+    /// `Fault::Memory`, with the jobs that weren't pushed, in order, where there is no memory for
+    /// one of them; those before it stay pushed.
     pub fn push_each<R: Wait>(
         &mut self,
         rt: &R,
@@ -65,7 +71,8 @@ impl<T: Drop> JobSeat<T> {
     ) -> Result<(), (Fault, VecDeque<T>)>
         requires { length jobs.items ≤ length self.old.broadcasts }
         ensures { MatchResult result (λ _. PushesFrom 0 jobs.items self.old self.new)
-            (λ refused. (refused.0 ≡ Fault.Memory) × PushesSome jobs.items refused.1.items self.old self.new) }
+            (λ refused. (refused.0 ≡ Fault.Memory)
+            × PushesSome jobs.items refused.1.items self.old self.new) }
     {
         for worker in 0..jobs.len() {
             let Some(job) = jobs.pop_front() else {
@@ -81,7 +88,8 @@ impl<T: Drop> JobSeat<T> {
 
     // Pushes a job to the injected ones.
     fn inject<R: Wait>(&mut self, rt: &R, job: T) -> Result<(), T>
-        ensures { MatchResult result (λ _. Does Injected (λ v w. HasPushed v job w) self.old self.new)
+        ensures { MatchResult result (λ _. Does Injected
+            (λ v w. HasPushed v job w) self.old self.new)
             (λ back. (back ≡ job) × (self.new ≡ self.old)) }
     {
         self.injected.push(rt, job)
@@ -90,7 +98,8 @@ impl<T: Drop> JobSeat<T> {
     // Pushes a job to a worker's broadcast queue.
     fn push_for<R: Wait>(&mut self, rt: &R, worker: usize, job: T) -> Result<(), T>
         requires { worker < length self.old.broadcasts }
-        ensures { MatchResult result (λ _. Does (Broadcast worker) (λ v w. HasPushed v job w) self.old self.new)
+        ensures { MatchResult result (λ _. Does (Broadcast worker)
+            (λ v w. HasPushed v job w) self.old self.new)
             (λ back. (back ≡ job) × (self.new ≡ self.old)) }
     {
         self.broadcasts[worker].push(rt, job)
@@ -173,7 +182,8 @@ impl<T: Drop> JobSeat<T> {
     fn take_broadcast<U: Purpose, R: Wait>(&mut self, rt: &R, worker: usize) -> Option<T>
         requires { worker < length self.old.broadcasts }
         ensures { MatchOption result (self.new ≡ self.old)
-            (λ job. Does (Broadcast worker) (λ v w. HasTaken TakeFirst U.called v job w) self.old self.new) }
+            (λ job. Does (Broadcast worker)
+            (λ v w. HasTaken TakeFirst U.called v job w) self.old self.new) }
     {
         self.broadcasts[worker].take::<U, R>(rt)
     }
@@ -182,7 +192,8 @@ impl<T: Drop> JobSeat<T> {
     fn steal<U: Purpose, R: Wait>(&mut self, rt: &R, worker: usize) -> Option<T>
         requires { worker < length self.old.deques }
         ensures { MatchOption result (self.new ≡ self.old)
-            (λ job. Does (Deque worker) (λ v w. HasTaken TakeFirst U.called v job w) self.old self.new) }
+            (λ job. Does (Deque worker) (λ v w. HasTaken TakeFirst U.called v job w) self.old
+            self.new) }
     {
         self.deques[worker].take::<U, R>(rt)
     }

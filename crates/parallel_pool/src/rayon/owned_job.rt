@@ -9,8 +9,8 @@ pub trait Execute: Drop {
     fn execute(self, index: usize);
 }
 
-/// A closure that a worker calls once, with its index. The caller boxes it; it may be called with any
-/// index.
+/// A closure that a worker calls once, with its index. The caller boxes it; it may be called with
+/// any index.
 #[derive(Drop)]
 pub struct OwnedJob {
     run: Box<dyn FnOnce(usize) + Send>,

@@ -48,8 +48,8 @@ impl Registry {
         self.remaining.fetch_add(1, Ordering::SeqCst);
     }
 
-    /// A job was called to its end, or didn't come after all; or the pool is dropped. The last of them
-    /// ends the workers: it takes no lock and no memory.
+    /// A job was called to its end, or didn't come after all; or the pool is dropped. The last of
+    /// them ends the workers: it takes no lock and no memory.
     pub(crate) fn one_less(&self) {
         if self.remaining.fetch_sub(1, Ordering::SeqCst) == 1 {
             self.end_workers();
@@ -114,8 +114,8 @@ fn latches(alloc: Global, rests: &[Rest]) -> Result<Vec<Arc<OnceLatch, Global>>,
     Ok(all)
 }
 
-/// The pool's own part of what remains, until it is released. The workers end once it is and each job
-/// was called.
+/// The pool's own part of what remains, until it is released. The workers end once it is and each
+/// job was called.
 pub(crate) struct Hold {
     pub(crate) registry: Arc<Registry, Global>,
     is_held: bool,

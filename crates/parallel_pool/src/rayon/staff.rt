@@ -73,7 +73,8 @@ impl<T: Drop> Staff<T> {
 
     // Pushes job i to the broadcast queue of worker i, and wakes each worker that has one.
     fn inject_each<R: Wait>(&self, rt: &R, jobs: VecDeque<T>) -> Result<(), (Fault, VecDeque<T>)>
-        ensures { IfErr result (λ refused. (refused.0 ≡ Fault.Memory) × ((done : _) × (jobs.items ≡ done ++ refused.1.items))) }
+        ensures { IfErr result (λ refused. (refused.0 ≡ Fault.Memory)
+            × ((done : _) × (jobs.items ≡ done ++ refused.1.items))) }
     {
         let workers = jobs.len();
         for _ in 0..workers {
@@ -97,7 +98,8 @@ impl<T: Drop> Staff<T> {
 
     // The seat is one of the pool's queues, so there is one for each job.
     fn push_each<R: Wait>(&self, rt: &R, jobs: VecDeque<T>) -> Result<(), (Fault, VecDeque<T>)>
-        ensures { IfErr result (λ refused. (refused.0 ≡ Fault.Memory) × ((done : _) × (jobs.items ≡ done ++ refused.1.items))) }
+        ensures { IfErr result (λ refused. (refused.0 ≡ Fault.Memory)
+            × ((done : _) × (jobs.items ≡ done ++ refused.1.items))) }
     {
         let mut seat = self.seat.lock(rt);
         if seat.workers() < jobs.len() {
@@ -126,8 +128,8 @@ impl<T: Drop> Debug for ThreadPool<Staff<T>> {
 }
 
 impl<T: Drop> ThreadPool<Staff<T>> {
-    /// Puts a job among the injected ones: a worker will call it once. `Fault::Memory`, with the same
-    /// job, where there is no memory for it.
+    /// Puts a job among the injected ones: a worker will call it once. `Fault::Memory`, with the
+    /// same job, where there is no memory for it.
     pub fn spawn<R: Wait>(&self, rt: &R, job: T) -> Result<(), (Fault, T)>
         ensures { IfErr result (λ refused. refused ≡ (Fault.Memory, job)) }
     {
@@ -135,15 +137,17 @@ impl<T: Drop> ThreadPool<Staff<T>> {
     }
 
     /// Puts a job onto the worker's own deque where it is one of this pool's, by their labels, and
-    /// else among the injected jobs of this pool. `Fault::Memory`, with the same job, where there is
-    /// no memory for it.
+    /// else among the injected jobs of this pool. `Fault::Memory`, with the same job, where there
+    /// is no memory for it.
     pub fn spawn_from<R: Wait>(
         &self,
         rt: &R,
         worker: &mut WorkerThread<T>,
         job: T,
     ) -> Result<(), (Fault, T)>
-        ensures own { worker.old.label ≡ label_of self.now → MatchResult result (λ _. PushesOwn worker.old job worker.new) (λ refused. (refused ≡ (Fault.Memory, job)) × (worker.new ≡ worker.old)) }
+        ensures own { worker.old.label ≡ label_of self.now
+            → MatchResult result (λ _. PushesOwn worker.old job worker.new)
+            (λ refused. (refused ≡ (Fault.Memory, job)) × (worker.new ≡ worker.old)) }
         ensures other { worker.old.label ≢ label_of self.now → worker.new ≡ worker.old }
         ensures refused { IfErr result (λ refused. refused ≡ (Fault.Memory, job)) }
     {
@@ -155,14 +159,16 @@ impl<T: Drop> ThreadPool<Staff<T>> {
     }
 
     /// Gives job i to worker i, for each of the pool's workers. `Fault::Memory`, with the jobs that
-    /// weren't queued, in order, where there is no memory for one of them; those before it stay queued.
+    /// weren't queued, in order, where there is no memory for one of them; those before it stay
+    /// queued.
     pub fn spawn_broadcast<R: Wait>(
         &self,
         rt: &R,
         jobs: VecDeque<T>,
     ) -> Result<(), (Fault, VecDeque<T>)>
         requires { length jobs.items ≡ thread_count self.now }
-        ensures { IfErr result (λ refused. (refused.0 ≡ Fault.Memory) × ((done : _) × (jobs.items ≡ done ++ refused.1.items))) }
+        ensures { IfErr result (λ refused. (refused.0 ≡ Fault.Memory)
+            × ((done : _) × (jobs.items ≡ done ++ refused.1.items))) }
     {
         self.staff.inject_each(rt, jobs)
     }
@@ -179,8 +185,8 @@ impl<T: Drop> ThreadPool<Staff<T>> {
         }
     }
 
-    /// Ends the pool: waits until each job that came was called and each started worker has come to its
-    /// end. A pool that is dropped comes to the same end, and nobody waits for it.
+    /// Ends the pool: waits until each job that came was called and each started worker has come to
+    /// its end. A pool that is dropped comes to the same end, and nobody waits for it.
     ///
     /// It never returns where a job came for a worker that wasn't started and doesn't yield.
     pub fn close<R: Wait>(self, rt: &R) {
@@ -190,12 +196,13 @@ impl<T: Drop> ThreadPool<Staff<T>> {
 }
 
 impl<T: Execute> ThreadPool<Staff<T>> {
-    /// Calls one job, where the worker is one of this pool's, by their labels, and finds one. It looks
-    /// where a started worker does.
+    /// Calls one job, where the worker is one of this pool's, by their labels, and finds one. It
+    /// looks where a started worker does.
     pub fn yield_now<R: Wait>(&self, rt: &R, worker: &mut WorkerThread<T>) -> Option<Yield>
         ensures none { (result ≡ None) ↔ (worker.old.label ≢ label_of self.now) }
         ensures executed { (result ≡ Some Executed) ↔ (calls_of worker.old < calls_of worker.new) }
-        ensures once { result ≡ Some Executed → (job : _) × CallsOne worker.old job worker.new × (calls_of worker.new ≡ calls_of worker.old + 1) }
+        ensures once { result ≡ Some Executed → (job : _) × CallsOne worker.old job worker.new
+            × (calls_of worker.new ≡ calls_of worker.old + 1) }
         ensures idle { result ≢ Some Executed → worker.new ≡ worker.old }
     {
         if worker.label() != self.label() {

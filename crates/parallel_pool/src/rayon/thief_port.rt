@@ -8,8 +8,8 @@ use std::sync::Wait;
 /// What takes jobs at the front of a worker's deque.
 pub(crate) type Thief<T> = Stealer<T, Global, JobView<T>, Numbered>;
 
-/// One seat's pass of a worker's deque, at whose front it takes jobs. Contracts see what it knows of
-/// the deque.
+/// One seat's pass of a worker's deque, at whose front it takes jobs. Contracts see what it knows
+/// of the deque.
 #[derive(Drop)]
 pub(crate) struct ThiefPort<T: Drop> {
     thief: Thief<T>,
@@ -43,14 +43,16 @@ impl<T: Drop> ThiefPort<T> {
 
     // One try to take the first job.
     fn try_take<U: Purpose>(&mut self) -> Steal<T>
-        ensures { MatchSteal result (self.new ≡ self.old) (self.new ≡ self.old) (λ job. HasTaken TakeFirst U.called self.old job self.new) }
+        ensures { MatchSteal result (self.new ≡ self.old) (self.new ≡ self.old)
+            (λ job. HasTaken TakeFirst U.called self.old job self.new) }
     {
         self.thief.steal_as::<Takes<U>>(&mut self.pass)
     }
 
     /// Takes the first job.
     pub(crate) fn take<U: Purpose, R: Wait>(&mut self, rt: &R) -> Option<T>
-        ensures { MatchOption result (self.new ≡ self.old) (λ job. HasTaken TakeFirst U.called self.old job self.new) }
+        ensures { MatchOption result (self.new ≡ self.old)
+            (λ job. HasTaken TakeFirst U.called self.old job self.new) }
     {
         for _ in rt.forever() {
             match self.try_take::<U>() {

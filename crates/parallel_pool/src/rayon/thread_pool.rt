@@ -25,8 +25,8 @@ pub struct ThreadPool<W: Drop = Scoped> {
     pub ghost at_most: { non_zero_usize_get num_threads ≤ 65535 },
 }
 
-/// Behind a pool stands nothing but its number: no thread is kept waiting, and each call that needs a
-/// worker starts it and joins it.
+/// Behind a pool stands nothing but its number: no thread is kept waiting, and each call that needs
+/// a worker starts it and joins it.
 #[derive(Debug, Drop)]
 pub struct Scoped;
 
@@ -104,7 +104,8 @@ impl<W: Drop> ThreadPool<W> {
     /// Runs `op` on a worker and answers what it answered.
     ///
     /// The worker is a scoped one that ends with `op`; where the system makes no thread, `op` runs
-    /// on the caller's. The call counts as one from outside the pool, also where `op` itself installs.
+    /// on the caller's. The call counts as one from outside the pool, also where `op` itself
+    /// installs.
     pub fn install<R: Threads, T: Send, F: FnOnce() -> T + Send>(&self, rt: &R, op: F) -> T
         requires { F.pre op }
         ensures { F.post op result }
@@ -125,8 +126,10 @@ impl<W: Drop> ThreadPool<W> {
         requires { (index : ℕ) → index < thread_count self.now
             → F.pre op.now (context index (thread_count self.now)) }
         ensures count { IfOk result (λ answers. vec_len answers ≡ thread_count self.now) }
-        ensures each { IfOk result (λ answers. (index : ℕ) (other : _) → index < thread_count self.now
-            → F.post op.now (context index (thread_count self.now)) (slice_index_or answers.items index other)) }
+        ensures each { IfOk result (λ answers. (index : ℕ) (other : _)
+            → index < thread_count self.now
+            → F.post op.now (context index (thread_count self.now))
+            (slice_index_or answers.items index other)) }
         ensures fault { IfErr result (λ refusal. refusal ≡ Fault.Memory) }
     {
         let num_threads = self.current_num_threads();
@@ -143,8 +146,8 @@ impl<W: Drop> ThreadPool<W> {
     }
 }
 
-/// Runs `op` on a worker of its own and answers what it answered, as `ThreadPool::install` does, for
-/// callers that have no pool at hand.
+/// Runs `op` on a worker of its own and answers what it answered, as `ThreadPool::install` does,
+/// for callers that have no pool at hand.
 pub fn install<R: Threads, T: Send, F: FnOnce() -> T + Send>(rt: &R, op: F) -> T
     requires { F.pre op }
     ensures { F.post op result }

@@ -117,7 +117,8 @@ impl ThreadPoolBuilder {
         set
     }
 
-    /// Sets the pool's label. A worker belongs to each pool of its label, so give each pool its own.
+    /// Sets the pool's label. A worker belongs to each pool of its label, so give each pool its
+    /// own.
     pub fn label(self, label: u64) -> ThreadPoolBuilder
         ensures { result.plan ≡ record self.plan { label = label } }
     {
@@ -139,8 +140,8 @@ impl ThreadPoolBuilder {
     /// Builds the pool and starts its workers, for boxed jobs. With `use_current_thread` the second
     /// part is worker 0.
     ///
-    /// `ThreadPoolBuildError::Memory` where memory was refused, or a name; `Spawn` where the start of
-    /// a thread was. No worker is left running then: those that were started have ended.
+    /// `ThreadPoolBuildError::Memory` where memory was refused, or a name; `Spawn` where the start
+    /// of a thread was. No worker is left running then: those that were started have ended.
     pub fn build<R: Threads + Wait + Copy + Send + 'static>(
         self,
         rt: &R,

@@ -143,7 +143,8 @@ impl<T: Drop> WorkerThread<T> {
         self.jobs.take_to_call(rt, queue)
     }
 
-    // An idle worker, after it found no job: it starts to look for jobs, or goes on to its next round.
+    // An idle worker, after it found no job: it starts to look for jobs, or goes on to its next
+    // round.
     fn idle<R: Wait>(&mut self, rt: &R, idle: Option<IdleState>) -> Option<IdleState> {
         let Some(mut idle) = idle else {
             return self.registry.sleep.start_looking(rt, self.index);

@@ -30,7 +30,8 @@ impl Counters {
     /// The three counts in one word: 16 bits of sleeping workers, then 16 of inactive ones, then 32
     /// of events.
     pub fn word(&self) -> u64
-        ensures { result ≡ sleeping_of self.now + 65536 * inactive_of self.now + 4294967296 * events_of self.now }
+        ensures { result ≡ sleeping_of self.now + 65536 * inactive_of
+            self.now + 4294967296 * events_of self.now }
     {
         self.sleeping as u64 + 65_536 * self.inactive as u64 + 4_294_967_296 * self.events as u64
     }

@@ -31,8 +31,9 @@ pub enum Block {
 
 /// Where each of 1 to 65535 workers stands, with the counters.
 ///
-/// Contracts see it as `events`, the count of events; `workers`, the list of standings; and `woken`,
-/// whom the last call woke of those that wake workers. The counters always agree with the standings.
+/// Contracts see it as `events`, the count of events; `workers`, the list of standings; and
+/// `woken`, whom the last call woke of those that wake workers. The counters always agree with the
+/// standings.
 #[derive(Debug, Drop)]
 pub struct SleepState {
     counters: Counters,
@@ -48,7 +49,11 @@ impl Model for SleepState {
 
     ghost Value = { Sleepers };
 
-    ghost view = { λ s. record { events = events_of s.counters; workers = s.standings.items; woken = s.woken.items } };
+    ghost view = { λ s. record {
+      events = events_of s.counters;
+      workers = s.standings.items;
+      woken = s.woken.items;
+    } };
 
     ghost invariant = { λ s. (sleeping_of s.counters ≡ sleeping_in s.standings.items)
         × (inactive_of s.counters ≡ inactive_in s.standings.items)
@@ -60,7 +65,11 @@ impl SleepState {
     /// The state of so many workers, who all have work, with this count of events.
     pub fn new(alloc: Global, workers: NonZeroUsize, events: u32) -> Result<SleepState, Fault>
         requires { non_zero_usize_get workers ≤ MAX_THREADS }
-        ensures state { IfOk result (λ state. state ≡ record { events = events; workers = replicate (non_zero_usize_get workers) Working; woken = [] }) }
+        ensures state { IfOk result (λ state. state ≡ record {
+          events = events;
+          workers = replicate (non_zero_usize_get workers) Working;
+          woken = [];
+        }) }
         ensures fault { IfErr result (λ refusal. refusal ≡ Fault.Memory) }
     {
         let standings = Vec::from_elem(alloc, Standing::Working, workers.get())?;
@@ -122,7 +131,8 @@ impl SleepState {
     pub fn start_looking(&mut self, worker_index: usize) -> IdleState
         requires exists { worker_index < length self.old.workers }
         requires active { is_inactive (standing_at self.old.workers worker_index) ≡ false }
-        ensures state { self.new ≡ record self.old { workers = slice_set self.old.workers worker_index Looking } }
+        ensures state { self.new ≡ record self.old
+            { workers = slice_set self.old.workers worker_index Looking } }
         ensures worker { worker_of result ≡ worker_index }
         ensures rounds { rounds_of result ≡ 0 }
         ensures recorded { recorded_of result ≡ None }
@@ -136,13 +146,15 @@ impl SleepState {
         IdleState::new(worker_index)
     }
 
-    /// The idle worker has found work: it is active again, and up to two that sleep are woken, lowest
-    /// index first.
+    /// The idle worker has found work: it is active again, and up to two that sleep are woken,
+    /// lowest index first.
     pub fn work_found(&mut self, idle: IdleState)
         requires inactive { is_inactive (standing_at self.old.workers (worker_of idle)) ≡ true }
         requires awake { is_blocked (standing_at self.old.workers (worker_of idle)) ≡ false }
-        ensures woken { self.new.woken ≡ take 2 (blocked_of (slice_set self.old.workers (worker_of idle) Working)) }
-        ensures workers { AreWoken self.new.woken (slice_set self.old.workers (worker_of idle) Working) self.new.workers }
+        ensures woken { self.new.woken ≡ take 2
+            (blocked_of (slice_set self.old.workers (worker_of idle) Working)) }
+        ensures workers { AreWoken self.new.woken
+            (slice_set self.old.workers (worker_of idle) Working) self.new.workers }
         ensures events { self.new.events ≡ self.old.events }
     {
         self.standings[idle.worker_index()] = Standing::Working;
@@ -181,7 +193,8 @@ impl SleepState {
         requires inactive { is_inactive (standing_at self.old.workers (worker_of idle.old)) ≡ true }
         requires awake { is_blocked (standing_at self.old.workers (worker_of idle.old)) ≡ false }
         ensures changed { (result ≡ Changed) ↔ (recorded_of idle.old ≢ Some self.old.events) }
-        ensures injected { (result ≡ Injected) ↔ ((recorded_of idle.old ≡ Some self.old.events) × (injected ≡ true)) }
+        ensures injected { (result ≡ Injected) ↔
+            ((recorded_of idle.old ≡ Some self.old.events) × (injected ≡ true)) }
         ensures state { self.new ≡ state_after result (worker_of idle.old) self.old }
         ensures worker { worker_of idle.new ≡ worker_of idle.old }
         ensures rounds { rounds_of idle.new ≡ rounds_after result (rounds_of idle.old) }
@@ -205,12 +218,14 @@ impl SleepState {
     }
 
     /// Jobs have come: from here on the events are odd, and workers that sleep are woken, lowest
-    /// index first. As many are woken as there are jobs; where the queue was empty, the workers that
-    /// are awake and look for work take one job each first.
+    /// index first. As many are woken as there are jobs; where the queue was empty, the workers
+    /// that are awake and look for work take one job each first.
     pub fn new_jobs(&mut self, jobs: u32, queue_was_empty: bool)
         ensures events { self.new.events ≡ events_of_jobs self.old.events }
         ensures odd { self.new.events % 2 ≡ 1 }
-        ensures woken { self.new.woken ≡ take (if queue_was_empty then jobs - looking_in self.old.workers else jobs) (blocked_of self.old.workers) }
+        ensures woken { self.new.woken ≡ take
+            (if queue_was_empty then jobs - looking_in self.old.workers else jobs)
+            (blocked_of self.old.workers) }
         ensures workers { AreWoken self.new.woken self.old.workers self.new.workers }
     {
         let mut events = self.counters.events();
@@ -246,7 +261,9 @@ impl SleepState {
     /// Wakes a worker that sleeps, and says whether it did. Any other stays as it is.
     pub fn wake(&mut self, worker_index: usize) -> bool
         ensures answer { result ≡ is_blocked (standing_at self.old.workers worker_index) }
-        ensures state { self.new ≡ (if result then record self.old { workers = slice_set self.old.workers worker_index Looking } else self.old) }
+        ensures state { self.new ≡ (if result
+            then record self.old { workers = slice_set self.old.workers worker_index Looking }
+            else self.old) }
     {
         if !self.is_blocked(worker_index) {
             return false;

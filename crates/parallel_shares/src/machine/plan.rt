@@ -26,9 +26,26 @@ impl Model for Plan {
 
     ghost Value = { Sizes };
 
-    ghost view = { λ p. record { cells = p.cells; unit = p.unit; claim = p.claim; units = p.units; workers = p.workers; split_cost = p.split_cost; whole = p.whole } };
+    ghost view = { λ p. record {
+      cells = p.cells;
+      unit = p.unit;
+      claim = p.claim;
+      units = p.units;
+      workers = p.workers;
+      split_cost = p.split_cost;
+      whole = p.whole;
+    } };
 
-    ghost invariant = { λ p. IsSound (record { cells = p.cells; unit = p.unit; claim = p.claim; units = p.units; workers = p.workers; split_cost = p.split_cost; whole = p.whole }) };
+    ghost invariant = { λ p. IsSound
+        (record {
+          cells = p.cells;
+          unit = p.unit;
+          claim = p.claim;
+          units = p.units;
+          workers = p.workers;
+          split_cost = p.split_cost;
+          whole = p.whole;
+        }) };
 }
 
 impl Plan {
@@ -40,9 +57,9 @@ impl Plan {
     /// are at most `workers` workers.
     ///
     /// A whole plan hands out whole rows from one share. A plan that cuts rows gives each worker a
-    /// share of cells, and asks for rows of at least twice as many cells as a tile costs. The numbers
-    /// are those of `sizes_of`, and `IsSound` says what holds of them: the units cover the cells,
-    /// there are at most 65535 of them, and there is a claim for each worker.
+    /// share of cells, and asks for rows of at least twice as many cells as a tile costs. The
+    /// numbers are those of `sizes_of`, and `IsSound` says what holds of them: the units cover the
+    /// cells, there are at most 65535 of them, and there is a claim for each worker.
     pub fn new(
         rows: usize,
         len: usize,
@@ -54,7 +71,8 @@ impl Plan {
         requires some_cells { len ≢ 0 }
         requires cells_fit { rows * len < 2 ^ 64 }
         requires cut_pays { IsFalse whole → 2 * non_zero_usize_get tile_cost ≤ len }
-        ensures sizes { result ≡ sizes_for rows len (non_zero_usize_get tile_cost) (non_zero_usize_get workers) whole }
+        ensures sizes { result ≡ sizes_for rows len (non_zero_usize_get tile_cost)
+            (non_zero_usize_get workers) whole }
         ensures sound { IsSound result }
     {
         let cells = rows * len;
@@ -142,7 +160,10 @@ impl Plan {
     /// The cells of the units from `start` up to `stop`.
     pub(crate) fn cells_of(&self, start: usize, stop: usize) -> Range<usize>
         requires { start < self.now.units }
-        ensures cells { result ≡ record { start = start * self.now.unit; end = cells_to self.now stop } }
+        ensures cells { result ≡ record {
+          start = start * self.now.unit;
+          end = cells_to self.now stop;
+        } }
         ensures in_order { start ≤ stop → result.start ≤ result.end }
     {
         start * self.unit..stop.saturating_mul(self.unit).min(self.cells)

@@ -94,14 +94,16 @@ impl State {
 
     /// The state before any event, `opening`: nothing is remembered, carried or claimed.
     ///
-    /// The shares hold a balanced cut of the units, and each unit is pending at the share that holds
-    /// it, as `IsOpening` and `Shows` say. Such a state belongs to its plan, as `IsStateOf` says.
-    /// The one refusal is `Fault::Memory`, where the lists could not be grown.
+    /// The shares hold a balanced cut of the units, and each unit is pending at the share that
+    /// holds it, as `IsOpening` and `Shows` say. Such a state belongs to its plan, as `IsStateOf`
+    /// says. The one refusal is `Fault::Memory`, where the lists could not be grown.
     pub fn new(alloc: Global, plan: &Plan) -> Result<State, Fault>
         ensures opening { IfOk result (λ state. state ≡ opening plan.now) }
         ensures belongs { IfOk result (λ state. IsStateOf plan.now state) }
-        ensures balanced { IfOk result (λ state. BalancedCut plan.now.units (map range_of state.words)) }
-        ensures shows { IfOk result (λ state. (holders : Holders) × IsOpening plan.now holders × Shows plan.now state holders) }
+        ensures balanced { IfOk result
+            (λ state. BalancedCut plan.now.units (map range_of state.words)) }
+        ensures shows { IfOk result (λ state. (holders : Holders) × IsOpening plan.now holders
+            × Shows plan.now state holders) }
         ensures fault { IfErr result (λ refusal. refusal ≡ Fault.Memory) }
     {
         let words = opening_words(alloc, plan)?;
@@ -230,7 +232,8 @@ impl State {
 
 /// The words of a plan's shares before any event.
 pub(crate) fn opening_words(alloc: Global, plan: &Plan) -> Result<Vec<u64>, Fault>
-    ensures words { IfOk result (λ words. words.items ≡ opening_words plan.now (shares_of plan.now)) }
+    ensures words { IfOk result (λ words. words.items ≡ opening_words plan.now
+        (shares_of plan.now)) }
     ensures sound { IsSound plan.now }
     ensures fault { IfErr result (λ refusal. refusal ≡ Fault.Memory) }
 {

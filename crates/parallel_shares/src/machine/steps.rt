@@ -15,10 +15,10 @@ use parallel_fault::Fault;
 ///
 /// The outcome and the change are those of `Answers`: what the event needs, what it found, and what
 /// it leaves. Where its need is not met it is `Refused` and changes nothing. `Steps` says that the
-/// units go from holder to holder by a claim, a steal or a refill, or not at all. The one refusal of
-/// the call itself is `Fault::Memory`, where the list of a seat's claims could not be grown; the
-/// state is then as it was. It comes only of an event as `AddsClaim` says: a claim whose
-/// remembered word is still there and isn't empty.
+/// units go from holder to holder by a claim, a steal or a refill, or not at all. The one refusal
+/// of the call itself is `Fault::Memory`, where the list of a seat's claims could not be grown; the
+/// state is then as it was. It comes only of an event as `AddsClaim` says: a claim whose remembered
+/// word is still there and isn't empty.
 pub fn step(plan: &Plan, state: &mut State, event: Event) -> Result<Outcome, Fault>
     requires { IsStateOf plan.now state.old }
     ensures answers { IfOk result (λ outcome. Answers plan.now state.old event outcome state.new) }
@@ -51,7 +51,8 @@ fn load(state: &mut State, seat: usize, share: usize) -> Outcome
 /// A seat takes a claim from the front of the share that it claims from.
 fn claim(plan: &Plan, state: &mut State, seat: usize) -> Result<Outcome, Fault>
     requires { IsStateOf plan.now state.old }
-    ensures answers { IfOk result (λ outcome. ClaimAnswers plan.now state.old seat outcome state.new) }
+    ensures answers { IfOk result (λ outcome. ClaimAnswers plan.now state.old seat outcome
+        state.new) }
     ensures unchanged { OnErr result (state.new ≡ state.old) }
     ensures refused { OnErr result (AddsClaim plan.now state.old (Claim seat)) }
     ensures fault { IfErr result (λ refusal. refusal ≡ Fault.Memory) }

@@ -13,11 +13,11 @@ impl Shares {
     /// Claims the front of the share that the seat claims from; where that is empty, takes the back
     /// half of another share and goes on there.
     ///
-    /// It tries until an exchange wins a claim, or the seat has found its own word empty and then no
-    /// other word whose split pays. `Some` has the cells that the seat's claims gained. After `None`
-    /// the claims are as they were, `own_empty` holds, and the words that were loaded last have no
-    /// split that pays. Either way nothing is in transit. `rt` is the right to go on trying; no
-    /// memory is taken.
+    /// It tries until an exchange wins a claim, or the seat has found its own word empty and then
+    /// no other word whose split pays. `Some` has the cells that the seat's claims gained. After
+    /// `None` the claims are as they were, `own_empty` holds, and the words that were loaded last
+    /// have no split that pays. Either way nothing is in transit. `rt` is the right to go on
+    /// trying; no memory is taken.
     pub fn claim<R: Wait>(&self, rt: &R, seat: &mut Seat) -> Option<Range<usize>>
         requires { IsSeatOf self.now seat.old }
         ensures seat { IsSeatOf self.now seat.new }

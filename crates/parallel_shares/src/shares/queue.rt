@@ -39,12 +39,13 @@ impl Shares {
     ghost use Rattle.parallel_shares.specs.Seats.{IsSeatOf, AreSeatsOf, AreFresh, IsSameSeat, TriesClaim, LoadsOwn};
     ghost use Rattle.parallel_shares.specs.Seats.{MeetsFront, IsPartition, AllDone, AllEmpty, EachCellOnce};
 
-    /// Shares out `rows` rows of `len` cells each, where a tile costs `tile_cost` cells and there are
-    /// at most `workers` workers, and answers a seat for each worker, in order.
+    /// Shares out `rows` rows of `len` cells each, where a tile costs `tile_cost` cells and there
+    /// are at most `workers` workers, and answers a seat for each worker, in order.
     ///
-    /// The numbers are those of `Plan::new`, which asks for the same. Whole rows have one word for all
-    /// seats. Where rows are cut there is a word a seat, and the words are a balanced cut of the units.
-    /// The seats have claimed nothing and have nothing in transit. The one refusal is `Fault::Memory`.
+    /// The numbers are those of `Plan::new`, which asks for the same. Whole rows have one word for
+    /// all seats. Where rows are cut there is a word a seat, and the words are a balanced cut of
+    /// the units. The seats have claimed nothing and have nothing in transit. The one refusal is
+    /// `Fault::Memory`.
     pub fn new(
         alloc: Global,
         rows: usize,
@@ -57,7 +58,8 @@ impl Shares {
         requires some_cells { len ≢ 0 }
         requires cells_fit { rows * len < 2 ^ 64 }
         requires cut_pays { IsFalse whole → 2 * non_zero_usize_get tile_cost ≤ len }
-        ensures sizes { IfOk result (λ r. plan_of r.0 ≡ sizes_for rows len (non_zero_usize_get tile_cost) (non_zero_usize_get workers) whole) }
+        ensures sizes { IfOk result (λ r. plan_of r.0 ≡ sizes_for rows len
+            (non_zero_usize_get tile_cost) (non_zero_usize_get workers) whole) }
         ensures sound { IfOk result (λ r. IsSound (plan_of r.0)) }
         ensures seats { IfOk result (λ r. AreSeatsOf r.0 r.1.items) }
         ensures fresh { IfOk result (λ r. AreFresh r.1.items) }
@@ -138,16 +140,17 @@ impl Shares {
     /// and at most one exchange.
     ///
     /// `TriesClaim` says what the answer tells of the word that was loaded. `Claimed` has the cells
-    /// that the seat's claims gained, and the exchange met the word that was loaded. `Lost` comes only
-    /// where it met another word. `Empty` comes only where the loaded word was empty, and the seat's
-    /// `own_empty` holds from then on. No memory is taken, and nothing is waited for.
+    /// that the seat's claims gained, and the exchange met the word that was loaded. `Lost` comes
+    /// only where it met another word. `Empty` comes only where the loaded word was empty, and the
+    /// seat's `own_empty` holds from then on. No memory is taken, and nothing is waited for.
     pub fn try_claim(&self, seat: &mut Seat) -> Tried
         requires { IsSeatOf self.now seat.old }
         ensures seat { IsSeatOf self.now seat.new }
         ensures same { IsSameSeat seat.old seat.new }
         ensures one_load { own_loads self.now seat.new ≡ own_loads self.now seat.old + 1 }
         ensures within { IsWithin (plan_of self.now).units (own_word self.now seat.new) }
-        ensures answer { TriesClaim (plan_of self.now) (own_word self.now seat.new) seat.old result seat.new }
+        ensures answer { TriesClaim (plan_of self.now)
+            (own_word self.now seat.new) seat.old result seat.new }
     {
         let word = self.look_own(seat);
         let (start, end) = unpack(word);
@@ -164,17 +167,19 @@ impl Shares {
 
     /// Ends the shares with all of their seats, and answers the words that are left.
     ///
-    /// `IsPartition` says that each cell is once in a unit of a word, in transit or in a claim. Where
-    /// each seat has seen its own word empty and has nothing in transit, every word is empty, and each
-    /// cell is in just one claim. Where no seat has changed a word, the words are those of the opening.
-    /// The list is one that `new` reserved: no memory is taken, and nothing is waited for.
+    /// `IsPartition` says that each cell is once in a unit of a word, in transit or in a claim.
+    /// Where each seat has seen its own word empty and has nothing in transit, every word is empty,
+    /// and each cell is in just one claim. Where no seat has changed a word, the words are those of
+    /// the opening. The list is one that `new` reserved: no memory is taken, and nothing is waited
+    /// for.
     pub fn close(self, seats: Vec<Seat>) -> Vec<u64>
         requires { AreSeatsOf self seats.items }
         ensures count { vec_len result ≡ shares_of (plan_of self) }
         ensures partition { IsPartition (plan_of self) result.items seats.items }
         ensures empty { AllDone seats.items → AllEmpty result.items }
         ensures each_once { AllDone seats.items → EachCellOnce (plan_of self) seats.items }
-        ensures opening { total (λ s. (known s).changes) seats.items ≡ 0 → result.items ≡ opening_words (plan_of self) (shares_of (plan_of self)) }
+        ensures opening { total (λ s. (known s).changes) seats.items ≡ 0
+            → result.items ≡ opening_words (plan_of self) (shares_of (plan_of self)) }
     {
         let count = self.plan.shares();
         let all = self.gather(seats);
@@ -210,7 +215,8 @@ impl Shares {
         ensures seat { IsSeatOf self.now seat.new }
         ensures same { IsSameSeat seat.old seat.new }
         ensures within { IsWithin (plan_of self.now).units result }
-        ensures view { known seat.new ≡ looked_own (known seat.old) (own_share self.now seat.old) result }
+        ensures view { known seat.new ≡ looked_own (known seat.old)
+            (own_share self.now seat.old) result }
         ensures emptied { LoadsOwn result seat.old seat.new }
     {
         let share = self.plan.share_of(seat.index);
@@ -220,8 +226,8 @@ impl Shares {
         word
     }
 
-    // Tries to exchange the word that was loaded for what a claim leaves of it, and answers the word
-    // that was met.
+    // Tries to exchange the word that was loaded for what a claim leaves of it, and answers the
+    // word that was met.
     fn take_front(&self, seat: &mut Seat, word: u64, next: u64) -> u64
         requires seat { IsSeatOf self.now seat.old }
         requires within { IsWithin (plan_of self.now).units word }
@@ -256,7 +262,8 @@ fn final_words(closed: &Closed<(), Global>, count: usize, mut last: Vec<u64>) ->
 // The seat of this number, before any step.
 fn seated(seat: atomic_table::Seat<(), View>, index: usize) -> Seat
     requires { (sizes : Sizes) × (seat.me ≡ (fresh_view sizes (index ∷ []), [])) }
-    ensures { (result.seat ≡ seat) × (result.index ≡ index) × (result.own_empty ≡ false) × (result.transit ≡ None) }
+    ensures { (result.seat ≡ seat) × (result.index ≡ index) × (result.own_empty ≡ false)
+        × (result.transit ≡ None) }
 {
     Seat {
         seat,

@@ -19,15 +19,16 @@ impl Shares {
     ghost use Rattle.parallel_shares.specs.Steals.{FoundNothing};
     ghost use Rattle.parallel_shares.specs.Fronts.{IsFront};
 
-    /// Claims until nothing is left that pays, on rows of `len` cells, and answers a result for each
-    /// stretch of what it claimed, in order.
+    /// Claims until nothing is left that pays, on rows of `len` cells, and answers a result for
+    /// each stretch of what it claimed, in order.
     ///
-    /// The claims that the seat gained are fronts of words (`IsFront`), and are cut into stretches as
-    /// `Cutting` says. Each stretch is filled by calls of `fill` with its row and neighbouring columns, and then `finish` answers its
-    /// result; all calls are lent one state, which begins as the one handed in (`Finished`). The seat
-    /// ends as after a `claim` that answers `None`. The one refusal is `Fault::Memory`, where the
-    /// list of results could not grow: the seat is still one of these shares, its claims have grown by
-    /// what was claimed, and some of that has no result. `rt` is the right to go on trying.
+    /// The claims that the seat gained are fronts of words (`IsFront`), and are cut into stretches
+    /// as `Cutting` says. Each stretch is filled by calls of `fill` with its row and neighbouring
+    /// columns, and then `finish` answers its result; all calls are lent one state, which begins as
+    /// the one handed in (`Finished`). The seat ends as after a `claim` that answers `None`. The
+    /// one refusal is `Fault::Memory`, where the list of results could not grow: the seat is still
+    /// one of these shares, its claims have grown by what was claimed, and some of that has no
+    /// result. `rt` is the right to go on trying.
     pub fn run<W: Wait, T, R: Drop, L: Fn(&mut T, usize, Range<usize>), N: Fn(&mut T, usize) -> R>(
         &self,
         rt: &W,
@@ -47,8 +48,10 @@ impl Shares {
         ensures transit { transit_of seat.new ≡ None }
         ensures done { IfOk result (λ _. FoundNothing (plan_of self.now) seat.new) }
         ensures chain { IfOk result (λ results. (gained : List (Range ℕ)) × (cut : List Stretch)
-            × (claims_of seat.new ≡ claims_of seat.old ++ gained) × All (IsFront (plan_of self.now)) gained
-            × Cutting gained len cut × Finished (Fills (L.post fill.now)) (Gives (N.post finish.now)) state.old cut results.items state.new) }
+            × (claims_of seat.new ≡ claims_of seat.old ++ gained)
+            × All (IsFront (plan_of self.now)) gained
+            × Cutting gained len cut × Finished (Fills (L.post fill.now))
+            (Gives (N.post finish.now)) state.old cut results.items state.new) }
         ensures fault { IfErr result (λ refusal. refusal ≡ Fault.Memory) }
     {
         let mut results = Vec::new(alloc);
@@ -78,8 +81,10 @@ fn fill_claim<T, R: Drop, L: Fn(&mut T, usize, Range<usize>), N: Fn(&mut T, usiz
     requires fill_accepts { L.IsAlwaysCallable fill.now }
     requires finish_accepts { N.IsAlwaysCallable finish.now }
     ensures chain { IfOk result (λ next. (first : T) (cells : List ℕ)
-        → Underway (Fills (L.post fill.now)) (Gives (N.post finish.now)) len first cells opened results.old.items state.old
-        → Underway (Fills (L.post fill.now)) (Gives (N.post finish.now)) len first (cells ++ range_cells claim) next results.new.items state.new) }
+        → Underway (Fills (L.post fill.now))
+        (Gives (N.post finish.now)) len first cells opened results.old.items state.old
+        → Underway (Fills (L.post fill.now)) (Gives (N.post finish.now)) len first
+        (cells ++ range_cells claim) next results.new.items state.new) }
     ensures fault { IfErr result (λ refusal. refusal ≡ Fault.Memory) }
 {
     let mut opened = opened;
@@ -92,8 +97,8 @@ fn fill_claim<T, R: Drop, L: Fn(&mut T, usize, Range<usize>), N: Fn(&mut T, usiz
     Ok(opened)
 }
 
-// Fills a piece, and answers the stretch that is open then: the one that was, where the piece goes on
-// there; else that one is finished first.
+// Fills a piece, and answers the stretch that is open then: the one that was, where the piece goes
+// on there; else that one is finished first.
 fn fill_piece<T, R: Drop, L: Fn(&mut T, usize, Range<usize>), N: Fn(&mut T, usize) -> R>(
     results: &mut Vec<R>,
     opened: Option<Piece>,
@@ -105,8 +110,10 @@ fn fill_piece<T, R: Drop, L: Fn(&mut T, usize, Range<usize>), N: Fn(&mut T, usiz
     requires fill_accepts { L.IsAlwaysCallable fill.now }
     requires finish_accepts { N.IsAlwaysCallable finish.now }
     ensures chain { IfOk result (λ next. (len : ℕ) (first : T) (cells : List ℕ) → IsPiece len piece
-        → Underway (Fills (L.post fill.now)) (Gives (N.post finish.now)) len first cells opened results.old.items state.old
-        → Underway (Fills (L.post fill.now)) (Gives (N.post finish.now)) len first (cells ++ piece_cells len piece) (Some next) results.new.items state.new) }
+        → Underway (Fills (L.post fill.now))
+        (Gives (N.post finish.now)) len first cells opened results.old.items state.old
+        → Underway (Fills (L.post fill.now)) (Gives (N.post finish.now)) len first
+        (cells ++ piece_cells len piece) (Some next) results.new.items state.new) }
     ensures fault { IfErr result (λ refusal. refusal ≡ Fault.Memory) }
 {
     if let Some(longer) = grown(opened, piece) {
@@ -126,7 +133,9 @@ fn finish_open<T, R: Drop, N: Fn(&mut T, usize) -> R>(
     finish: &N,
 ) -> Result<(), Fault>
     requires { N.IsAlwaysCallable finish.now }
-    ensures closes { IfOk result (λ _. Closes (Gives (N.post finish.now)) opened state.old results.old.items state.new results.new.items) }
+    ensures closes { IfOk result (λ _. Closes
+        (Gives (N.post finish.now)) opened state.old results.old.items state.new
+        results.new.items) }
     ensures fault { IfErr result (λ refusal. refusal ≡ Fault.Memory) }
 {
     if let Some(piece) = opened {

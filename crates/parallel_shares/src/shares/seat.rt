@@ -4,7 +4,8 @@ ghost use Rattle.parallel_shares.specs.Sharing.{ranges_of};
 use super::rule::View;
 use std::ops::Range;
 
-/// One worker's right to claim from its shares. It is made by `Shares::new`, and `known` says what it knows.
+/// One worker's right to claim from its shares. It is made by `Shares::new`, and `known` says what
+/// it knows.
 #[derive(Drop)]
 pub struct Seat {
     pub(super) seat: atomic_table::Seat<(), View>,

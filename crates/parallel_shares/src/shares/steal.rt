@@ -29,13 +29,12 @@ impl Shares {
     /// Tries once to take the back half of another share into transit: one load of each other
     /// share's word, and at most one exchange.
     ///
-    /// The exchange is on the loaded word with the most cells of those whose split pays, the last of
-    /// equals; `TriesSteal` says so. After `Taken` its back half is `in_transit`, and a front is left
-    /// that isn't empty. `Lost` comes only where the exchange met another word. `Nothing` comes only
-    /// where no loaded word's split pays: so always in a plan of whole rows, which has no other share,
-    /// and in one in which no opening word's split pays.
-    /// The seat has seen its own word empty, and has nothing in transit. No memory is taken, and
-    /// nothing is waited for.
+    /// The exchange is on the loaded word with the most cells of those whose split pays, the last
+    /// of equals; `TriesSteal` says so. After `Taken` its back half is `in_transit`, and a front is
+    /// left that isn't empty. `Lost` comes only where the exchange met another word. `Nothing`
+    /// comes only where no loaded word's split pays: so always in a plan of whole rows, which has
+    /// no other share, and in one in which no opening word's split pays. The seat has seen its own
+    /// word empty, and has nothing in transit. No memory is taken, and nothing is waited for.
     pub fn try_steal(&self, seat: &mut Seat) -> Tried
         requires belongs { IsSeatOf self.now seat.old }
         requires own_empty { has_emptied seat.old ≡ true }
@@ -60,8 +59,8 @@ impl Shares {
 
     /// Puts what the seat has in transit into its own share, which is empty: one store.
     ///
-    /// The units become the seat's own word, and the claims stay. Something has to be in transit. No
-    /// memory is taken, and nothing is waited for.
+    /// The units become the seat's own word, and the claims stay. Something has to be in transit.
+    /// No memory is taken, and nothing is waited for.
     pub fn refill(&self, seat: &mut Seat)
         requires belongs { IsSeatOf self.now seat.old }
         requires carries { IsSome (transit_of seat.old) }
@@ -70,7 +69,8 @@ impl Shares {
         ensures own_empty { has_emptied seat.new ≡ false }
         ensures transit { transit_of seat.new ≡ None }
         ensures claims { claims_of seat.new ≡ claims_of seat.old }
-        ensures stored { IfSome (transit_of seat.old) (λ units. own_word self.now seat.new ≡ packed units.start units.end) }
+        ensures stored { IfSome (transit_of seat.old)
+            (λ units. own_word self.now seat.new ≡ packed units.start units.end) }
         ensures steps { Steps 0 1 seat.old seat.new }
     {
         let Some(units) = seat.in_transit() else {
@@ -93,7 +93,8 @@ impl Shares {
         ensures emptied { has_emptied seat.new ≡ has_emptied seat.old }
         ensures only { OnlyLooks (known seat.old) (known seat.new) }
         ensures looks { LoadsOthers self.now seat.old seat.new }
-        ensures best { IsBest (plan_of self.now) (own_share self.now seat.old) (shares_of (plan_of self.now)) (known seat.new) result }
+        ensures best { IsBest (plan_of self.now) (own_share self.now seat.old)
+            (shares_of (plan_of self.now)) (known seat.new) result }
     {
         let own = self.plan.share_of(seat.index);
         let mut best = None;
@@ -153,8 +154,10 @@ impl Shares {
 // Whether a word's split pays, and the word has no fewer cells than the best so far.
 fn is_better(plan: &Plan, best: &Option<Victim>, word: u64) -> bool
     requires within { IsWithin plan.now.units word }
-    requires best { IfSome best.now (λ victim. IsWithin plan.now.units victim.word × Pays plan.now victim.word) }
-    ensures { MatchBool result (IsBetter plan.now best.now word) (IsNoBetter plan.now best.now word) }
+    requires best { IfSome best.now (λ victim. IsWithin plan.now.units victim.word
+        × Pays plan.now victim.word) }
+    ensures { MatchBool result (IsBetter plan.now best.now word)
+        (IsNoBetter plan.now best.now word) }
 {
     if plan.split(word).is_none() {
         return false;

@@ -110,8 +110,8 @@ pub(super) fn front(start: usize, end: usize, len: usize) -> Piece
     }
 }
 
-/// The open stretch with the piece behind it, where the piece goes on in the row and column at which
-/// the stretch ends.
+/// The open stretch with the piece behind it, where the piece goes on in the row and column at
+/// which the stretch ends.
 pub(super) fn grown(opened: Option<Piece>, piece: Piece) -> Option<Piece>
     ensures { Grown opened piece result }
 {

@@ -155,7 +155,8 @@ fn each_command_answers_one_line(rt: HostRuntime) {
     }
 }
 
-// How many words a command with a long answer leaves, where its answer begins and ends with these texts.
+// How many words a command with a long answer leaves, where its answer begins and ends with these
+// texts.
 fn words_left<R: Threads + Wait + Abort + Sync>(
     rt: &R,
     alloc: Global,
@@ -371,7 +372,8 @@ fn a_refusal_says_its_text(rt: HostRuntime) {
     same(&rt, text_of(&rt, err).as_str(), line.as_str());
 }
 
-// Run with `rt try --test --fail-alloc N` for each N: a refused growth leaves no answer, half or whole.
+// Run with `rt try --test --fail-alloc N` for each N: a refused growth leaves no answer, half or
+// whole.
 #[test]
 fn a_refused_growth_leaves_no_answer(rt: HostRuntime) -> Result<(), Fail> {
     let alloc = rt.alloc();
@@ -416,7 +418,8 @@ fn words_that_could_not_be_read(rt: HostRuntime) {
     same(&rt, text_of(&rt, err).as_str(), said);
 }
 
-// Two threads with a seat each, where threads can be made, claim from one queue of a thousand rows of three cells.
+// Two threads with a seat each, where threads can be made, claim from one queue of a thousand rows
+// of three cells.
 #[test]
 fn threads_of_a_caller_claim_each_cell_once(rt: HostRuntime) {
     let alloc = rt.alloc();

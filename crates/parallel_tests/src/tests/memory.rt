@@ -100,8 +100,8 @@ fn states_or_refusals<Rt: Threads + Wait + Abort + Sync, S: Strategy>(
     }
 }
 
-// A sort of pairs whose first parts are odd, which stay there also where it is refused; a join and a
-// run.
+// A sort of pairs whose first parts are odd, which stay there also where it is refused; a join and
+// a run.
 fn sorts_or_refusals<Rt: Threads + Wait + Abort + Sync, S: Strategy>(
     rt: &Rt,
     alloc: Global,

@@ -11,7 +11,8 @@ use std::thread::Threads;
 use uses::batches::batch_ranges;
 use uses::runs::one_of;
 
-// A clock that goes on by `step` at each reading, or back where `step` is near 2 to the power of 64.
+// A clock that goes on by `step` at each reading, or back where `step` is near 2 to the power of
+// 64.
 #[derive(Clone, Debug, Drop)]
 struct Stepping {
     reading: Arc<AtomicU64, Global>,

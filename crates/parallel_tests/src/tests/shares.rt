@@ -14,8 +14,8 @@ use std::thread::{Threads, map_vec};
 // How many cells the plan has.
 const CELLS: usize = 65_535;
 
-// Tries of one seat, until it has seen its own share empty and no split of the other's pays. Counts in
-// `marks` how often it claims each cell.
+// Tries of one seat, until it has seen its own share empty and no split of the other's pays. Counts
+// in `marks` how often it claims each cell.
 fn drive<Rt: Wait>(rt: &Rt, shares: &Shares, seat: Seat, marks: &[AtomicU64]) -> Seat
     requires { IsSeatOf shares.now seat }
     ensures seat { IsSeatOf shares.now result }
@@ -32,8 +32,8 @@ fn drive<Rt: Wait>(rt: &Rt, shares: &Shares, seat: Seat, marks: &[AtomicU64]) ->
     unreachable!()
 }
 
-// One try of a seat: to steal where it has seen its own share empty, and else to claim. What it has in
-// transit is put down first.
+// One try of a seat: to steal where it has seen its own share empty, and else to claim. What it has
+// in transit is put down first.
 fn step(shares: &Shares, seat: &mut Seat) -> Tried
     requires { IsSeatOf shares.now seat.old }
     ensures seat { IsSeatOf shares.now seat.new }

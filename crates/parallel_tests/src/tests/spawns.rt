@@ -71,8 +71,8 @@ fn counts_by(rt: &impl Abort, word: &Arc<AtomicU64, Global>, by: u64) -> Counts 
     }
 }
 
-// A clock that is read three times for each measured run: when it is chosen, when it begins, `overhead`
-// later, and when it has ended, `time` after that.
+// A clock that is read three times for each measured run: when it is chosen, when it begins,
+// `overhead` later, and when it has ended, `time` after that.
 #[derive(Clone, Debug, Drop)]
 struct Scripted {
     readings: Arc<AtomicU64, Global>,
@@ -200,7 +200,8 @@ fn a_pool_without_workers_leaves_its_jobs_pending(rt: HostRuntime) {
     assert!(rt; !is_handed_off(&rt, &single, SITE));
 }
 
-// Spawns so many jobs that answer the numbers below, and waits for them in one task: how many answer, and the sum.
+// Spawns so many jobs that answer the numbers below, and waits for them in one task: how many
+// answer, and the sum.
 fn jobs_in_one_task<
     Rt: Threads + Wait + RandomSource + AllocGlobal + Abort + Copy + Send + 'static,
     S: Strategy,
@@ -315,7 +316,8 @@ fn a_dear_inline_run_is_tried_once_in_3200_jobs(rt: HostRuntime) {
     assert!(rt; !is_handed_off(&rt, &strategy, SITE));
 }
 
-// The set flags of two lists, each counted in a job of its own, and of one counted in a job beside the other.
+// The set flags of two lists, each counted in a job of its own, and of one counted in a job beside
+// the other.
 fn flags_in_jobs<
     Rt: Threads + Wait + RandomSource + AllocGlobal + Abort + Copy + Send + 'static,
     S: Strategy,

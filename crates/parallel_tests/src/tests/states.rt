@@ -17,8 +17,8 @@ use uses::long_lists::LongLists;
 use uses::stateful::{leave_out_repeats, plain_fold_init, sort_by_first};
 use uses::verifier::split_by_check;
 
-// The number of each of three items in its segment, by a map with a state and by one whose items stand
-// for more work.
+// The number of each of three items in its segment, by a map with a state and by one whose items
+// stand for more work.
 fn counts_are<Rt: Threads + Wait + Abort + Sync, S: Strategy>(
     rt: &Rt,
     alloc: Global,

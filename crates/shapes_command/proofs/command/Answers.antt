@@ -3,7 +3,8 @@ use Rattle.shapes_command.proofs.Requests.{in_range}
 use Rattle.shapes_command.proofs.command.Goals as goal
 
 pub line-requires-after_bounds : goal.line-requires-after_bounds
-line-requires-after_bounds g c = λ lifetimes outlives. in_range c.args.words.now c.in-Some.request c.in-Some.ensures
+line-requires-after_bounds g c =
+    λ lifetimes outlives. in_range c.args.words.now c.in-Some.request c.in-Some.ensures
 
 on_err : {T E P : Type 0} (result : Result T E) → P → OnErr result P
 on_err (Ok _) met = tt
@@ -14,4 +15,8 @@ pub returns-in_err-write_line-in-Ok-clause-unwritten : goal.returns-in_err-write
 returns-in_err-write_line-in-Ok-clause-unwritten g c =
     let (text, answers, same) = c.in-Ok.ensures.line in
     let part = c.in_err-write_line-in-Ok.ensures.part in
-    on_err _ (inr (c.as_bytes.result.now, (c.in-Some.request, text, c.in-Some.ensures, answers, search rules), part))
+    on_err _ (inr (
+      c.as_bytes.result.now,
+      (c.in-Some.request, text, c.in-Some.ensures, answers, search rules),
+      part,
+    ))

@@ -8,8 +8,12 @@ pub returns : goal.returns
 returns g c =
     let seats = c.args.seats.items in
     let driven = c.in_ok-driven.driven in
-    let count : length driven.items ≡ length seats = omega (arith, driven.ok.0, c.in_ok-driven.ensures.len, c.args.seats.ok.0) in
+    let count : length driven.items ≡ length seats =
+    omega (arith, driven.ok.0, c.in_ok-driven.ensures.len, c.args.seats.ok.0) in
     seats_back c.args.shares.now driven.items (count ∙ c.requires.count) (λ i d h.
     let here : i < length seats = omega (arith, h, count) in
-    let gives = (c.in_ok-driven.ensures.each i d here).1 in
-    (gives.call.met.0, gives.call.met.1 ∙ ap index_of gives.job_read ∙ c.requires.order i gives.job here))
+    let gives = (c.in_ok-driven.ensures.each i d here).1 in (
+      gives.call.met.0,
+      gives.call.met.1 ∙ ap index_of gives.job_read
+          ∙ c.requires.order i gives.job here,
+    ))

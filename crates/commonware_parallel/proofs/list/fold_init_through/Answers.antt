@@ -10,8 +10,15 @@ pub returns-clause-answers : goal.returns-clause-answers
 returns-clause-answers g c =
     let init = λ (s : g.row.V.Denot). g.N.Fn.post c.args.init.now tt s in
     let identity = λ (e : g.row.R.Denot). g.ID.Fn.post c.args.identity.now tt e in
-    let step = FoldStep (λ (a : g.row.R.Denot) (p : MutBor g.row.V.Denot) (x : g.row.Q-Item.Denot) (b : g.row.R.Denot) (q : MutBor g.row.V.Denot). g.F.Fn.post c.args.fold_op.now (a, (p, (x, tt))) (b, (q, tt))) in
-    let reduce = λ (a : g.row.R.Denot) (b : g.row.R.Denot) (r : g.row.R.Denot). g.G.Fn.post c.args.reduce_op.now (a, (b, tt)) r in
+    let step =
+    FoldStep (λ (a : g.row.R.Denot) (p : MutBor g.row.V.Denot) (x : g.row.Q-Item.Denot)
+    (b : g.row.R.Denot) (q : MutBor g.row.V.Denot). g.F.Fn.post c.args.fold_op.now
+    (a, (p, (x, tt))) (b, (q, tt))) in
+    let reduce =
+    λ (a : g.row.R.Denot) (b : g.row.R.Denot) (r : g.row.R.Denot). g.G.Fn.post
+    c.args.reduce_op.now (a, (b, tt)) r in
     let w = c.in_ok-answer.ensures.answers in
-    at_threads g.Q.Producer.gives c.args.parts (g.S.Strategy.takes c.args.strategy.now (g.P.Place.site_of c.args.site) c.args.call)
-    (λ depth path xs. FoldedInitAs init identity step reduce depth path xs c.in_ok-answer.answer) _ _ c.thread_number-threads.ensures.number w.0 w.1 (search rules)
+    at_threads g.Q.Producer.gives c.args.parts
+    (g.S.Strategy.takes c.args.strategy.now (g.P.Place.site_of c.args.site) c.args.call)
+    (λ depth path xs. FoldedInitAs init identity step reduce depth path xs c.in_ok-answer.answer) _
+    _ c.thread_number-threads.ensures.number w.0 w.1 (search rules)

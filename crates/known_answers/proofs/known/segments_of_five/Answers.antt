@@ -13,5 +13,6 @@ pub returns-clause-lengths : goal.returns-clause-lengths
 returns-clause-lengths c =
     let three : non_zero_usize_get c.saturating_add-three.result ≡ 3 = search rules in
     IfOk-weaker c.segments.result _ _
-    (λ lengths leaves. leaves five refl ∙ ap (λ n. leaf_lengths (Shape (cutdepth n) five)) three ∙ ap (λ d. leaf_lengths (Shape d five)) (depth_of_few 3 (omega arith) (omega arith)))
+    (λ lengths leaves. leaves five refl ∙ ap (λ n. leaf_lengths (Shape (cutdepth n) five)) three
+    ∙ ap (λ d. leaf_lengths (Shape d five)) (depth_of_few 3 (omega arith) (omega arith)))
     c.segments.ensures.leaves

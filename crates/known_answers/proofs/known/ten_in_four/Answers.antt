@@ -28,16 +28,23 @@ known : BalancedCut 10 ranges
 known = (
   (refl, omega arith, (refl, omega arith, (refl, omega arith, (refl, omega arith, refl)))),
   AllPairs-cons Later (range 0 3) (range 3 6 ∷ range 6 8 ∷ range 8 10 ∷ [])
-      (All-cons (Later (range 0 3)) (range 3 6) (range 6 8 ∷ range 8 10 ∷ []) (omega arith, omega arith) (All-cons (Later (range 0 3)) (range 6 8) (range 8 10 ∷ []) (omega arith, omega arith) (All-cons (Later (range 0 3)) (range 8 10) [] (omega arith, omega arith) (All-nil (Later (range 0 3))))))
+      (All-cons (Later (range 0 3)) (range 3 6) (range 6 8 ∷ range 8 10 ∷ [])
+      (omega arith, omega arith) (All-cons (Later (range 0 3)) (range 6 8) (range 8 10 ∷ [])
+      (omega arith, omega arith) (All-cons (Later (range 0 3)) (range 8 10) []
+      (omega arith, omega arith) (All-nil (Later (range 0 3))))))
       (AllPairs-cons Later (range 3 6) (range 6 8 ∷ range 8 10 ∷ [])
-      (All-cons (Later (range 3 6)) (range 6 8) (range 8 10 ∷ []) (omega arith, omega arith) (All-cons (Later (range 3 6)) (range 8 10) [] (omega arith, omega arith) (All-nil (Later (range 3 6)))))
+      (All-cons (Later (range 3 6)) (range 6 8) (range 8 10 ∷ []) (omega arith, omega arith)
+      (All-cons (Later (range 3 6)) (range 8 10) [] (omega arith, omega arith)
+      (All-nil (Later (range 3 6)))))
       (AllPairs-cons Later (range 6 8) (range 8 10 ∷ [])
-      (All-cons (Later (range 6 8)) (range 8 10) [] (omega arith, omega arith) (All-nil (Later (range 6 8))))
+      (All-cons (Later (range 6 8)) (range 8 10) [] (omega arith, omega arith)
+      (All-nil (Later (range 6 8))))
       last)),
 )
 
 pub returns-clause-ranges : goal.returns-clause-ranges
 returns-clause-ranges g c =
     let four : non_zero_usize_get c.saturating_add-four.result ≡ 4 = search rules in
-    IfOk-weaker c.balanced.result _ _ (λ batches both. BalancedCut-unique 10 _ ranges both.0 known (both.1 ∙ four))
+    IfOk-weaker c.balanced.result _ _
+    (λ batches both. BalancedCut-unique 10 _ ranges both.0 known (both.1 ∙ four))
     (both_ok c.balanced.result _ _ c.balanced.ensures.balanced c.balanced.ensures.count)

@@ -8,4 +8,11 @@ use Rattle.known_answers.proofs.segments.fold_init_planned_for_one.Goals as goal
 
 pub returns-clause-segment : goal.returns-clause-segment
 returns-clause-segment g c =
-    IfOk-weaker c.fold_init.result _ _ (λ r h. (h.0, h.1, in_one _ _ _ _ h.2.0 h.0 r h.2.2.1 (one_path h.2.0 Serial ((h.2.1.2 (λ e. cc) (λ e. cc)).0 (omega (arith, c.requires.planned)))))) c.fold_init.ensures.along
+    IfOk-weaker c.fold_init.result _ _
+    (λ r h. (
+      h.0,
+      h.1,
+      in_one _ _ _ _ h.2.0 h.0 r h.2.2.1
+          (one_path h.2.0 Serial ((h.2.1.2 (λ e. cc) (λ e. cc)).0
+          (omega (arith, c.requires.planned)))),
+    )) c.fold_init.ensures.along

@@ -5,4 +5,6 @@ use Rattle.layer_tests.proofs.shares.steal_at.Goals as goal
 
 pub returns : goal.returns
 returns g c =
-    seats_stepped c.args.shares.now c.args.seats.now.items c.args.index c.index_mut-seat.result.now c.try_steal-tried.new.seat c.requires (search rules) (search rules) c.try_steal-tried.ensures.seat c.try_steal-tried.ensures.index
+    seats_stepped c.args.shares.now c.args.seats.now.items c.args.index c.index_mut-seat.result.now
+    c.try_steal-tried.new.seat c.requires (search rules)
+    (search rules) c.try_steal-tried.ensures.seat c.try_steal-tried.ensures.index

@@ -5,13 +5,15 @@ use Rattle.parallel_bridge.proofs.SegmentLengths.{shape_by_threads, shape_by_ite
 use Rattle.parallel_bridge.proofs.bridge.bridge.Goals as goal
 
 pub returns-clause-by_threads : goal.returns-clause-by_threads
-returns-clause-by_threads g c xs = shape_by_threads c.args.threads.value xs (omega arith) (omega arith)
+returns-clause-by_threads g c xs =
+    shape_by_threads c.args.threads.value xs (omega arith) (omega arith)
 
 pub returns-clause-by_items : goal.returns-clause-by_items
 returns-clause-by_items g c xs some = shape_by_items (cutdepth c.args.threads.value) xs some
 
 pub returns-in-Ok-clause-by_threads : goal.returns-in-Ok-clause-by_threads
-returns-in-Ok-clause-by_threads g c xs = shape_by_threads c.args.threads.value xs (omega arith) (omega arith)
+returns-in-Ok-clause-by_threads g c xs =
+    shape_by_threads c.args.threads.value xs (omega arith) (omega arith)
 
 pub returns-in-Ok-clause-by_items : goal.returns-in-Ok-clause-by_items
 returns-in-Ok-clause-by_items g c xs some = shape_by_items (cutdepth c.args.threads.value) xs some

@@ -8,7 +8,9 @@ abbrev pub invariant-loop-alloc : goal.invariant-loop-alloc
 invariant-loop-alloc g l = record {
   ready : g.F.Folder.ready l.folder;
   takes : (x : g.row.T.Denot) → Contains l.window.items x → g.F.Folder.takes l.folder x;
-  gives : (more : List g.row.T.Denot) (out : Result g.row.R.Denot g.row.E.Denot) → g.F.Folder.gives l.folder (l.window.items ++ more) out → g.F.Folder.gives l.initial.folder (l.initial.window.items ++ more) out;
+  gives : (more : List g.row.T.Denot) (out : Result g.row.R.Denot g.row.E.Denot)
+      → g.F.Folder.gives l.folder (l.window.items ++ more) out
+      → g.F.Folder.gives l.initial.folder (l.initial.window.items ++ more) out;
   place : SamePlaces l.initial.window l.window;
 }
 

@@ -11,6 +11,10 @@ loop-index-preserved c =
     let new = string_bytes c.write.new.self in
     let space = c.if-index-eq0.space.now in
     elim c.if-index-eq0.branch [
-      | then-index-eq0 w ↦ first_written range_text c.args.ranges.now c.loop-index.index (record { start = 0; end = 0 }) start line new space (omega arith) w.if-index-eq0.true (ap (λ s. s.now) w.space-is) c.loop-index.invariant c.in_ok-write.ensures.bytes
-      | else-index-eq0 w ↦ next_written range_text c.args.ranges.now c.loop-index.index (record { start = 0; end = 0 }) start line new space (omega arith) w.if-index-eq0.false (ap (λ s. s.now) w.space-is) c.loop-index.invariant c.in_ok-write.ensures.bytes
+      | then-index-eq0 w ↦ first_written range_text c.args.ranges.now c.loop-index.index
+          (record { start = 0; end = 0 }) start line new space (omega arith) w.if-index-eq0.true
+          (ap (λ s. s.now) w.space-is) c.loop-index.invariant c.in_ok-write.ensures.bytes
+      | else-index-eq0 w ↦ next_written range_text c.args.ranges.now c.loop-index.index
+          (record { start = 0; end = 0 }) start line new space (omega arith) w.if-index-eq0.false
+          (ap (λ s. s.now) w.space-is) c.loop-index.invariant c.in_ok-write.ensures.bytes
     ]

@@ -12,6 +12,14 @@ loop-seat-preserved c =
     let x = c.in-Some.field-0 in
     let i = c.loop-seat.invariant in
     record {
-      seats = c.in_ok-push.ensures.items ∙ ap (λ xs. xs ++ seat_of x ∷ []) i.seats ∙ sym (pushed_map seat_of so_far x);
-      cells = λ n. omega (arith, c.in_ok-push_cells.ensures.cells n, i.cells n, total_append (listed n) so_far (x ∷ []), ap (λ v. in_ranges n v.items) c.in-Some.claims-is);
+      seats = c.in_ok-push.ensures.items ∙ ap (λ xs. xs ++ seat_of x ∷ []) i.seats
+          ∙ sym (pushed_map seat_of so_far x);
+      cells =
+          λ n. omega (
+            arith,
+            c.in_ok-push_cells.ensures.cells n,
+            i.cells n,
+            total_append (listed n) so_far (x ∷ []),
+            ap (λ v. in_ranges n v.items) c.in-Some.claims-is,
+          );
     }

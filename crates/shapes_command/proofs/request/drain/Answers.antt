@@ -8,9 +8,15 @@ use Rattle.shapes_command.proofs.request.drain.Goals as goal
 pub returns-in_ok-count-in-len3 : goal.returns-in_ok-count-in-len3
 returns-in_ok-count-in-len3 c =
     let words = c.args.words.now in
-    let form = has_form words 3 c.name-item.result c.as_str.result.now (codes "drain") (omega arith) (omega arith) c.name-item.is c.as_str.ensures.value c.if-eq.ensures in
+    let form = has_form words 3 c.name-item.result c.as_str.result.now (codes "drain") (omega arith)
+    (omega arith) c.name-item.is c.as_str.ensures.value c.if-eq.ensures in
     let rows = of_word words 1 c.rows-item.result c.deref.result.now c.rows-item.is c.deref.ensures
-    (λ (t : List ℕ). IsNumberUpTo 65535 t × (c.in_ok-number-in-len3.field-0 ≡ digits_value 10 t)) (omega arith) c.in_ok-number-in-len3.ensures in
-    let workers = of_word words 2 c.workers-item.result c.deref-in-len3.result.now c.workers-item.is c.deref-in-len3.ensures
-    (λ (t : List ℕ). IsCountUpTo 16 t × (non_zero_usize_get c.in_ok-count-in-len3.field-0 ≡ digits_value 10 t)) (omega arith) c.in_ok-count-in-len3.ensures in
+    (λ (t : List ℕ). IsNumberUpTo 65535 t × (c.in_ok-number-in-len3.field-0 ≡ digits_value 10 t))
+    (omega arith) c.in_ok-number-in-len3.ensures in
+    let workers =
+    of_word words 2 c.workers-item.result c.deref-in-len3.result.now c.workers-item.is
+    c.deref-in-len3.ensures
+    (λ (t : List ℕ). IsCountUpTo 16 t
+    × (non_zero_usize_get c.in_ok-count-in-len3.field-0 ≡ digits_value 10 t))
+    (omega arith) c.in_ok-count-in-len3.ensures in
     ((form, rows.0, workers.0), rows.1, workers.1)

@@ -11,5 +11,6 @@ below_100 = refl
 pub returns : goal.returns
 returns g c =
     IfOk-weaker c.fold.result _ _ (λ r h. h ∙ below_100)
-    (sum_of_list (range_with_len 0 100) (2 ^ 64) (λ (x : ℕ). x) _ _ _ c.fold.result c.fold.ensures.brackets (omega arith)
+    (sum_of_list (range_with_len 0 100) (2 ^ 64)
+    (λ (x : ℕ). x) _ _ _ c.fold.result c.fold.ensures.brackets (omega arith)
     (λ e k. search rules) (λ a x b k. search rules) (λ a b r k. search rules))

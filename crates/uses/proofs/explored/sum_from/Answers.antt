@@ -18,7 +18,8 @@ from_10 = refl
 pub returns-clause-neutral : goal.returns-clause-neutral
 returns-clause-neutral g c = λ zero.
     IfOk-weaker c.fold.result _ _ (λ r h. h ∙ below_100)
-    (sum_of_list (range_with_len 0 100) (2 ^ 64) (λ (x : ℕ). x) _ _ _ c.fold.result c.fold.ensures.brackets (omega arith)
+    (sum_of_list (range_with_len 0 100) (2 ^ 64)
+    (λ (x : ℕ). x) _ _ _ c.fold.result c.fold.ensures.brackets (omega arith)
     (λ e k. search rules) (λ a x b k. search rules) (λ a b r k. search rules))
 
 pub returns-clause-serial : goal.returns-clause-serial
@@ -28,6 +29,7 @@ returns-clause-serial g c = λ ten serial.
     let serially : h.2.0 ≡ Serial = explored_serially c.args.explorer.now _ _ h.2.0 serial h.2.1 in
     let segment = in_one _ _ _ _ h.2.0 h.0 r h.2.2.1 serially in
     let begins : segment.0 ≡ 10 = search rules in
-    let summed : r ≡ fold adds segment.0 h.0 = chain_adds _ (λ a x b k. search rules) h.0 segment.0 r segment.2 in
+    let summed : r ≡ fold adds segment.0 h.0 =
+    chain_adds _ (λ a x b k. search rules) h.0 segment.0 r segment.2 in
     summed ∙ ap (λ a. fold adds a h.0) begins ∙ ap (λ xs. fold adds 10 xs) h.1 ∙ from_10)
     c.fold.ensures.along

@@ -7,7 +7,12 @@ use Rattle.uses.proofs.maps.squares_of_both.Goals as goal
 
 pub returns-clause-squares : goal.returns-clause-squares
 returns-clause-squares g c =
-    let first = YieldsList-from_copied {s = c.copied.result} (YieldsList-from_slice c.args.front.now (search rules)) in
-    let second = YieldsList-from_copied {s = c.copied-2.result} (YieldsList-from_slice c.args.back.now (search rules)) in
-    let road = YieldsList-from_chain {s = c.chain-numbers.result} (YieldsList-at (search rules) first) (YieldsList-at (search rules) second) (search rules) (search rules) in
-    map_of_iterator _ _ (λ (x : ℕ). x * x) c.map_collect_vec.result c.map_collect_vec.ensures.answers road (λ x y within k. search rules)
+    let first = YieldsList-from_copied {s = c.copied.result}
+    (YieldsList-from_slice c.args.front.now (search rules)) in
+    let second = YieldsList-from_copied {s = c.copied-2.result}
+    (YieldsList-from_slice c.args.back.now (search rules)) in
+    let road = YieldsList-from_chain {s = c.chain-numbers.result}
+    (YieldsList-at (search rules) first) (YieldsList-at (search rules) second) (search rules)
+    (search rules) in
+    map_of_iterator _ _ (λ (x : ℕ). x * x) c.map_collect_vec.result
+    c.map_collect_vec.ensures.answers road (λ x y within k. search rules)

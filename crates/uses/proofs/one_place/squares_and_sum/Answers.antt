@@ -9,4 +9,5 @@ use Rattle.uses.proofs.one_place.squares_and_sum.Goals as goal
 pub returns-clause-squares : goal.returns-clause-squares
 returns-clause-squares g c =
     let answer : Result (Vec ℕ Global) Fault = Ok c.in_ok-squares.squares in
-    map_of_list _ _ (λ (x : ℕ). x * x) answer c.in_ok-squares.ensures.answers (λ x y within k. search rules)
+    map_of_list _ _ (λ (x : ℕ). x * x) answer c.in_ok-squares.ensures.answers
+    (λ x y within k. search rules)

@@ -4,4 +4,6 @@ use Rattle.parallel_bridge.proofs.OverLists.{map_of_list}
 use Rattle.uses.proofs.own_lists.squares_of_wrapped.Goals as goal
 
 pub returns-clause-squares : goal.returns-clause-squares
-returns-clause-squares g c = map_of_list _ _ (λ (x : ℕ). x * x) c.map_collect_vec.result c.map_collect_vec.ensures.answers (λ x y within k. search rules)
+returns-clause-squares g c = map_of_list _ _
+    (λ (x : ℕ). x * x) c.map_collect_vec.result c.map_collect_vec.ensures.answers
+    (λ x y within k. search rules)

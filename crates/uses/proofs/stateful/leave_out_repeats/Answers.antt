@@ -4,4 +4,6 @@ use Rattle.uses.proofs.Repeats.{filled_list}
 use Rattle.uses.proofs.stateful.leave_out_repeats.Goals as goal
 
 pub returns-clause-told : goal.returns-clause-told
-returns-clause-told g c = filled_list _ _ _ c.map_init_collect_vec.result c.map_init_collect_vec.ensures.stateful (λ s k. search rules) (λ s x y t k. search rules)
+returns-clause-told g c =
+    filled_list _ _ _ c.map_init_collect_vec.result c.map_init_collect_vec.ensures.stateful
+    (λ s k. search rules) (λ s x y t k. search rules)

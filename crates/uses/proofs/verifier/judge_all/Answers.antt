@@ -4,7 +4,13 @@ use Rattle.uses.proofs.Verdicts.{verified}
 use Rattle.uses.proofs.verifier.judge_all.Goals as goal
 
 pub returns-clause-each : goal.returns-clause-each
-returns-clause-each g c = if_ok _ _ c.try_map_collect_vec.result (verified c.args.items.now (λ x b. goal.C-post g c.args.check.now x b) (λ i out. goal.F-post g c.args.verdict i out) c.try_map_collect_vec.result c.try_map_collect_vec.ensures.answers c.requires.judges)
+returns-clause-each g c = if_ok _ _ c.try_map_collect_vec.result
+    (verified c.args.items.now (λ x b. goal.C-post g c.args.check.now x b)
+    (λ i out. goal.F-post g c.args.verdict i out) c.try_map_collect_vec.result
+    c.try_map_collect_vec.ensures.answers c.requires.judges)
 
 pub returns-clause-first : goal.returns-clause-first
-returns-clause-first g c = if_err _ _ c.try_map_collect_vec.result (verified c.args.items.now (λ x b. goal.C-post g c.args.check.now x b) (λ i out. goal.F-post g c.args.verdict i out) c.try_map_collect_vec.result c.try_map_collect_vec.ensures.answers c.requires.judges)
+returns-clause-first g c = if_err _ _ c.try_map_collect_vec.result
+    (verified c.args.items.now (λ x b. goal.C-post g c.args.check.now x b)
+    (λ i out. goal.F-post g c.args.verdict i out) c.try_map_collect_vec.result
+    c.try_map_collect_vec.ensures.answers c.requires.judges)

@@ -5,7 +5,8 @@ use Rattle.parallel_shares.specs.Cut.{BalancedCut, range_length}
 use Rattle.parallel_shares.proofs.Cuts.{BalancedCut-at_least}
 use Rattle.commonware_parallel.proofs.batches.Batches.balanced.Goals as goal
 
-least : (len count : ℕ) (rs : List (Range ℕ)) → BalancedCut len rs → length rs ≡ count → 0 < count → All (λ range. len / count ≤ range_length range) rs
+least : (len count : ℕ) (rs : List (Range ℕ)) → BalancedCut len rs → length rs ≡ count → 0 < count
+    → All (λ range. len / count ≤ range_length range) rs
 least len count rs cut counted some =
     let P : ℕ → Type 0 = λ n. All (λ range. len / n ≤ range_length range) rs in
     subst P counted (BalancedCut-at_least len rs cut (omega arith))
@@ -13,4 +14,5 @@ least len count rs cut counted some =
 pub returns-clause-least : goal.returns-clause-least
 returns-clause-least g c =
     let e = c.in_ok-ranges.ensures in
-    least _ _ _ e.balanced (omega (arith, c.in_ok-ranges.ranges.ok.0, e.count)) (omega (arith, c.args.count.ok))
+    least _ _ _ e.balanced (omega (arith, c.in_ok-ranges.ranges.ok.0, e.count))
+    (omega (arith, c.args.count.ok))

@@ -13,5 +13,9 @@ returns-clause-batch g c =
     let e = c.in_ok-batches.ensures in
     let least = non_zero_usize_get c.args.minimum in
     let ranges = ranges_of c.in_ok-batches.batches in
-    let counted : length ranges ≡ c.args.parts = search rules in
-    (e.balanced, counted, λ several. BalancedCut-minimum_share c.args.len least ranges e.balanced (few (length ranges) c.args.parts (c.args.len / least) counted several c.requires.fit))
+    let counted : length ranges ≡ c.args.parts = search rules in (
+      e.balanced,
+      counted,
+      λ several. BalancedCut-minimum_share c.args.len least ranges e.balanced
+          (few (length ranges) c.args.parts (c.args.len / least) counted several c.requires.fit),
+    )

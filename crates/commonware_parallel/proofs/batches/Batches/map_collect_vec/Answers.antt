@@ -2,7 +2,12 @@
 use Rattle.commonware_parallel.proofs.batches.Batches.map_collect_vec.Goals as goal
 
 pub map_prepared-requires-after_bounds : goal.map_prepared-requires-after_bounds
-map_prepared-requires-after_bounds g c κs bounds x has = c.requires.accepts c.in_ok-items.items (c.as_slice.result, c.in_ok-items.ensures, c.as_slice.ensures.value) x has
+map_prepared-requires-after_bounds g c κs bounds x has = c.requires.accepts c.in_ok-items.items
+    (c.as_slice.result, c.in_ok-items.ensures, c.as_slice.ensures.value) x has
 
 pub returns-clause-maps : goal.returns-clause-maps
-returns-clause-maps g c = (c.in_ok-items.items, (c.as_slice.result, c.in_ok-items.ensures, c.as_slice.ensures.value), c.in_ok-answers.ensures.maps)
+returns-clause-maps g c = (
+  c.in_ok-items.items,
+  (c.as_slice.result, c.in_ok-items.ensures, c.as_slice.ensures.value),
+  c.in_ok-answers.ensures.maps,
+)

@@ -10,8 +10,12 @@ use Rattle.commonware_parallel.proofs.tiles.Tiles.fill_collect_vec.Goals as goal
 
 pub returns-then-is_empty-clause-fills : goal.returns-then-is_empty-clause-fills
 returns-then-is_empty-clause-fills g c =
-    let self = c.args.self in
-    ([], no_rectangle self.rows self.len (c.is_empty.ensures.empty (search rules)), (λ _. All-nil (IsWholeRow self.len)), chains_of_none _ _ _ c.new.result.items c.new.ensures.items)
+    let self = c.args.self in (
+      [],
+      no_rectangle self.rows self.len (c.is_empty.ensures.empty (search rules)),
+      (λ _. All-nil (IsWholeRow self.len)),
+      chains_of_none _ _ _ c.new.result.items c.new.ensures.items,
+    )
 
 pub returns-then-is_empty-clause-serial : goal.returns-then-is_empty-clause-serial
 returns-then-is_empty-clause-serial g c one r l =
@@ -20,24 +24,46 @@ returns-then-is_empty-clause-serial g c one r l =
 pub returns-then-is_serial-clause-fills : goal.returns-then-is_serial-clause-fills
 returns-then-is_serial-clause-fills g c =
     let self = c.args.self in
-    let wide = some self.len (c.is_empty.ensures.some_columns (search rules)) in
-    (whole_rows self.len self.rows, whole_rectangle self.rows self.len wide, (λ _. rows_are_whole self.len self.rows), chains_of_one _ _ _ c.init-state.result _ (whole_rows self.len self.rows) c.in_ok-whole.whole.items c.init-state.ensures c.in_ok-whole.ensures.chain)
+    let wide = some self.len (c.is_empty.ensures.some_columns (search rules)) in (
+      whole_rows self.len self.rows,
+      whole_rectangle self.rows self.len wide,
+      (λ _. rows_are_whole self.len self.rows),
+      chains_of_one _ _ _ c.init-state.result _
+          (whole_rows self.len self.rows) c.in_ok-whole.whole.items c.init-state.ensures
+          c.in_ok-whole.ensures.chain,
+    )
 
 pub returns-then-is_serial-clause-serial : goal.returns-then-is_serial-clause-serial
-returns-then-is_serial-clause-serial g c one r l = (c.init-state.result, _, c.init-state.ensures, c.in_ok-whole.ensures.chain)
+returns-then-is_serial-clause-serial g c one r l =
+    (c.init-state.result, _, c.init-state.ensures, c.in_ok-whole.ensures.chain)
 
 pub returns-then-is_serial-clause-empty : goal.returns-then-is_serial-clause-empty
 returns-then-is_serial-clause-empty g c none =
-    elim none [ inl e ↦ absurd (c.is_empty.ensures.some_rows (search rules) e) | inr e ↦ absurd (c.is_empty.ensures.some_columns (search rules) e) ]
+    elim none [
+      | inl e ↦ absurd (c.is_empty.ensures.some_rows (search rules) e)
+      | inr e ↦ absurd
+          (c.is_empty.ensures.some_columns (search rules) e)
+    ]
 
 pub returns-clause-fills : goal.returns-clause-fills
 returns-clause-fills g c =
     let self = c.args.self in
-    c.in_ok-results.ensures.fills (record { rows = self.rows; len = self.len; tile_cost = non_zero_usize_get self.tile_cost; workers = non_zero_usize_get self.workers; whole = self.whole }) refl c.in_ok-shares.ensures.sizes
+    c.in_ok-results.ensures.fills (record {
+      rows = self.rows;
+      len = self.len;
+      tile_cost = non_zero_usize_get self.tile_cost;
+      workers = non_zero_usize_get self.workers;
+      whole = self.whole;
+    }) refl
+    c.in_ok-shares.ensures.sizes
 
 pub returns-clause-serial : goal.returns-clause-serial
 returns-clause-serial g c one r l = absurd (c.is_serial.ensures (search rules) one)
 
 pub returns-clause-empty : goal.returns-clause-empty
 returns-clause-empty g c none =
-    elim none [ inl e ↦ absurd (c.is_empty.ensures.some_rows (search rules) e) | inr e ↦ absurd (c.is_empty.ensures.some_columns (search rules) e) ]
+    elim none [
+      | inl e ↦ absurd (c.is_empty.ensures.some_rows (search rules) e)
+      | inr e ↦ absurd
+          (c.is_empty.ensures.some_columns (search rules) e)
+    ]

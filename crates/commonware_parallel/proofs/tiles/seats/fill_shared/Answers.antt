@@ -8,7 +8,8 @@ use Rattle.commonware_parallel.proofs.tiles.seats.fill_shared.Goals as goal
 pub close-words-requires : goal.close-words-requires
 close-words-requires g c =
     let z = all_came _ _ _ _ _ c.in_ok-worked.ensures.stateful in
-    subst (AreSeatsOf c.args.shares) (sym c.in_ok-seats.ensures.seats) (seats_back _ _ _ _ _ c.args.seats.items c.in_ok-worked.worked.items z c.requires.seats)
+    subst (AreSeatsOf c.args.shares) (sym c.in_ok-seats.ensures.seats)
+    (seats_back _ _ _ _ _ c.args.seats.items c.in_ok-worked.worked.items z c.requires.seats)
 
 pub returns-clause-fills : goal.returns-clause-fills
 returns-clause-fills g c work same planned =
@@ -20,6 +21,12 @@ returns-clause-fills g c work same planned =
     let wide = some c.args.len c.requires.some_columns in
     let z = all_came _ _ _ _ _ h in
     let back = c.in_ok-seats.ensures.seats in
-    let once = c.close-words.ensures.each_once (subst AllDone (sym back) (all_done _ _ _ _ _ c.args.seats.items worked z results all)) in
-    let chains = chains_of _ _ _ _ _ work same planned wide h results all in
-    (chains.0, rectangle _ _ _ _ _ work same planned wide chains.0 worked chains.2 (subst (EachCellOnce shares.plan) back once), chains.2.rows, chains.1)
+    let once = c.close-words.ensures.each_once
+    (subst AllDone (sym back) (all_done _ _ _ _ _ c.args.seats.items worked z results all)) in
+    let chains = chains_of _ _ _ _ _ work same planned wide h results all in (
+      chains.0,
+      rectangle _ _ _ _ _ work same planned wide chains.0 worked chains.2
+          (subst (EachCellOnce shares.plan) back once),
+      chains.2.rows,
+      chains.1,
+    )

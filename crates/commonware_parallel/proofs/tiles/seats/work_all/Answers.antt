@@ -3,4 +3,5 @@ use Rattle.commonware_parallel.proofs.Seen.{seen}
 use Rattle.commonware_parallel.proofs.tiles.seats.work_all.Goals as goal
 
 pub returns-clause-stateful : goal.returns-clause-stateful
-returns-clause-stateful g c = seen _ _ _ (λ p x y q h. h) c.args.seats.items c.in_ok-worked.worked.items c.in_ok-worked.ensures.stateful
+returns-clause-stateful g c = seen _ _ _
+    (λ p x y q h. h) c.args.seats.items c.in_ok-worked.worked.items c.in_ok-worked.ensures.stateful

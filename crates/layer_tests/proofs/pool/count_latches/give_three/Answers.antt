@@ -18,10 +18,23 @@ returns c =
     let n₂ = length (gives_seen c.give-two.new.share) in
     let n₃ = length (gives_seen c.give-three.new.share) in
     let least : 0 < n₁ = omega (arith, gives_more _ _ c.give-one.ensures.given) in
-    let second : n₁ < n₂ = omega (arith, learns_more _ _ _ c.learn.ensures.learns, gives_more _ _ c.give-two.ensures.given) in
-    let third : n₂ < n₃ = omega (arith, learns_more _ _ _ c.learn-2.ensures.learns, gives_more _ _ c.give-three.ensures.given) in
+    let second : n₁ < n₂ =
+    omega (
+      arith,
+      learns_more _ _ _ c.learn.ensures.learns,
+      gives_more _ _ c.give-two.ensures.given,
+    ) in
+    let third : n₂ < n₃ =
+    omega (
+      arith,
+      learns_more _ _ _ c.learn-2.ensures.learns,
+      gives_more _ _ c.give-three.ensures.given,
+    ) in
     let most : n₃ ≤ 3 = omega (arith, c.give-three.ensures.at_most, c.requires.three) in
-    let one : c.give-one.result ≡ false = told_false _ _ _ c.give-one.ensures.last (omega (arith, c.requires.three, second, third, most)) in
-    let two : c.give-two.result ≡ false = told_false _ _ _ c.give-two.ensures.last (omega (arith, c.requires.three, third, most)) in
-    let three : c.give-three.result ≡ true = told_true _ _ _ c.give-three.ensures.last (omega (arith, c.requires.three, least, second, third, most)) in
+    let one : c.give-one.result ≡ false = told_false _ _ _ c.give-one.ensures.last
+    (omega (arith, c.requires.three, second, third, most)) in
+    let two : c.give-two.result ≡ false =
+    told_false _ _ _ c.give-two.ensures.last (omega (arith, c.requires.three, third, most)) in
+    let three : c.give-three.result ≡ true = told_true _ _ _ c.give-three.ensures.last
+    (omega (arith, c.requires.three, least, second, third, most)) in
     λ i. (one i, two i, three i)

@@ -6,5 +6,7 @@ use Rattle.parallel_bridge.proofs.consumer.fold.fold_from.Goals as goal
 pub loop-item-preserved : goal.loop-item-preserved
 loop-item-preserved g c = record {
   accepts = search rules;
-  reached = chain_push (λ a x r. goal.F-post g c.args.fold_op.now a x r) _ c.loop-item.yielded _ _ _ c.loop-item.invariant.reached (search rules);
+  reached =
+      chain_push (λ a x r. goal.F-post g c.args.fold_op.now a x r) _ c.loop-item.yielded _ _ _
+      c.loop-item.invariant.reached (search rules);
 }

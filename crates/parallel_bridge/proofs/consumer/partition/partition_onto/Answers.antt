@@ -6,23 +6,37 @@ use Rattle.parallel_bridge.proofs.Turns.{part_end, part_one_value, part_one_key}
 use Rattle.parallel_bridge.proofs.consumer.partition.partition_onto.Goals as goal
 
 pub loop-item-init : goal.loop-item-init
-loop-item-init g c = part_end (λ x p. goal.F-post g c.args.map_op.now x p) c.args.values.items c.args.keys.items [] refl
+loop-item-init g c =
+    part_end (λ x p. goal.F-post g c.args.map_op.now x p) c.args.values.items c.args.keys.items []
+    refl
 
 pub map_op-key-requires : goal.map_op-key-requires
-map_op-key-requires g c = next_has g.I.Iterator.next_gives (λ (x : g.row.I-Item.Denot). goal.F-pre g c.args.map_op.now x) c.args.iter c.loop-item.item-iterator c.next.new.self c.loop-item.yielded c.in-Some.item c.requires.accepts (search rules) (search rules)
+map_op-key-requires g c = next_has g.I.Iterator.next_gives
+    (λ (x : g.row.I-Item.Denot). goal.F-pre g c.args.map_op.now x) c.args.iter
+    c.loop-item.item-iterator c.next.new.self c.loop-item.yielded c.in-Some.item c.requires.accepts
+    (search rules) (search rules)
 
 pub loop-item-preserved-in-Some-value : goal.loop-item-preserved-in-Some-value
 loop-item-preserved-in-Some-value g c =
-    let allowed = λ (x : g.row.I-Item.Denot) (p : g.row.K.Denot × Option g.row.U.Denot). goal.F-post g c.args.map_op.now x p in
+    let allowed =
+    λ (x : g.row.I-Item.Denot) (p : g.row.K.Denot × Option g.row.U.Denot). goal.F-post g
+    c.args.map_op.now x p in
     let values = c.loop-item.values.items in
     let keys = c.loop-item.keys.items in
-    part_append allowed c.args.values.items values c.push.new.self.items c.args.keys.items keys keys c.loop-item.yielded (c.in-Some.item ∷ []) c.loop-item.invariant
-    (part_one_value allowed values keys c.in-Some.item c.map_op-key.result c.in-Some-value.value c.push.new.self.items c.map_op-key.ensures c.in-Some-value.is (search rules))
+    part_append allowed c.args.values.items values c.push.new.self.items c.args.keys.items keys keys
+    c.loop-item.yielded (c.in-Some.item ∷ []) c.loop-item.invariant
+    (part_one_value allowed values keys c.in-Some.item c.map_op-key.result c.in-Some-value.value
+    c.push.new.self.items c.map_op-key.ensures c.in-Some-value.is (search rules))
 
 pub loop-item-preserved : goal.loop-item-preserved
 loop-item-preserved g c =
-    let allowed = λ (x : g.row.I-Item.Denot) (p : g.row.K.Denot × Option g.row.U.Denot). goal.F-post g c.args.map_op.now x p in
+    let allowed =
+    λ (x : g.row.I-Item.Denot) (p : g.row.K.Denot × Option g.row.U.Denot). goal.F-post g
+    c.args.map_op.now x p in
     let values = c.loop-item.values.items in
     let keys = c.loop-item.keys.items in
-    part_append allowed c.args.values.items values values c.args.keys.items keys c.push-in-None-value.new.self.items c.loop-item.yielded (c.in-Some.item ∷ []) c.loop-item.invariant
-    (part_one_key allowed values keys c.in-Some.item c.map_op-key.result c.push-in-None-value.new.self.items c.map_op-key.ensures c.in-None-value.is (search rules))
+    part_append allowed c.args.values.items values values c.args.keys.items keys
+    c.push-in-None-value.new.self.items c.loop-item.yielded
+    (c.in-Some.item ∷ []) c.loop-item.invariant
+    (part_one_key allowed values keys c.in-Some.item c.map_op-key.result
+    c.push-in-None-value.new.self.items c.map_op-key.ensures c.in-None-value.is (search rules))

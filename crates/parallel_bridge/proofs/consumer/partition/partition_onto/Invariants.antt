@@ -3,4 +3,6 @@ use Rattle.parallel_bridge.specs.Onto.{PartitionOnto}
 use Rattle.parallel_bridge.proofs.consumer.partition.partition_onto.Given as goal
 
 abbrev pub invariant-loop-item : goal.invariant-loop-item
-invariant-loop-item g l = PartitionOnto (λ x p. goal.F-post g l.map_op x p) l.initial.values.items l.initial.keys.items l.yielded l.values.items l.keys.items
+invariant-loop-item g l = PartitionOnto
+    (λ x p. goal.F-post g l.map_op x p) l.initial.values.items l.initial.keys.items l.yielded
+    l.values.items l.keys.items

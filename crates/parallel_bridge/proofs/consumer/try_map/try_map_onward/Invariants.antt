@@ -4,4 +4,5 @@ use Rattle.parallel_bridge.specs.Outcomes.{ended}
 use Rattle.parallel_bridge.proofs.consumer.try_map.try_map_onward.Given as goal
 
 abbrev pub invariant-loop-item : goal.invariant-loop-item
-invariant-loop-item g l = TryMapBehind (λ x o. goal.F-post g l.map_op x o) (ended l.fn.values.items l.fn.failed) l.yielded (ended l.values.items l.failed)
+invariant-loop-item g l = TryMapBehind (λ x o. goal.F-post g l.map_op x o)
+    (ended l.fn.values.items l.fn.failed) l.yielded (ended l.values.items l.failed)

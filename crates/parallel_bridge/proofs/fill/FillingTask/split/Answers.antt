@@ -1,5 +1,5 @@
--- The halves' places follow one another, their outcomes go along the shape, and of two errors the left
--- one stands.
+-- The halves' places follow one another, their outcomes go along the shape, and of two errors the
+-- left one stands.
 use Rattle.std.proofs.Common.{◌≡◌, ◌+◌, ◌-◌, ◌/◌, arith, refl, rules, sym, ap, subst, ◌∙◌}
 use Rattle.std.specs.Vec.Ownership.{FitsInBlock}
 use Rattle.parallel_bridge.specs.Fills.{Answered, OneAfterAnother, written}
@@ -15,13 +15,19 @@ returns-clause-meet g c depth a b left right =
     let half = c.len-len.result / 2 in
     let start : a.0.start ≡ self.room.start = left.0.0.0 ∙ ap (λ w. w.start) rooms.left in
     let front : a.0.room ≡ half = left.0.0.1 ∙ ap (λ w. w.room) rooms.left in
-    let next : b.0.start ≡ shifted R self.room.start half = right.0.0.0 ∙ ap (λ w. w.start) rooms.right in
+    let next : b.0.start ≡ shifted R self.room.start half = right.0.0.0
+    ∙ ap (λ w. w.start) rooms.right in
     let back : b.0.room ≡ self.room.room - half = right.0.0.1 ∙ ap (λ w. w.room) rooms.right in
     let long : self.room.room ≡ g.S.Segment.count self.parts = search rules in
     let counted = c.len-len.ensures.counted in
     let whole : a.0.room + b.0.room ≡ self.room.room = omega (arith, front, back, long, counted) in
-    let fits : FitsInBlock R self.room.room = search rules in
-    (next ∙ sym (λ i. shifted R (start i) (front i)), subst (FitsInBlock R) (sym whole) fits, left.0.1, right.0.1, (self.parts, c.in-Ok.ensures.rests a.2 b.2 left.1 right.1))
+    let fits : FitsInBlock R self.room.room = search rules in (
+      next ∙ sym (λ i. shifted R (start i) (front i)),
+      subst (FitsInBlock R) (sym whole) fits,
+      left.0.1,
+      right.0.1,
+      (self.parts, c.in-Ok.ensures.rests a.2 b.2 left.1 right.1),
+    )
 
 pub returns-clause-node : goal.returns-clause-node
 returns-clause-node g c depth a b all above left right together =
@@ -40,7 +46,8 @@ returns-clause-node g c depth a b all above left right together =
       (
         (together.0 ∙ start, together.1 ∙ whole),
         together.2,
-        driven_node S.gives self.parts c.in-Ok.halves.0 c.in-Ok.halves.1 leaf leaf leaf OneAfterAnother OneAfterAnother OneAfterAnother OneAfterAnother
+        driven_node S.gives self.parts c.in-Ok.halves.0 c.in-Ok.halves.1 leaf leaf leaf
+            OneAfterAnother OneAfterAnother OneAfterAnother OneAfterAnother
             half c.len-len.result depth above (omega (arith, c.requires.long, counted)) refl
             c.len-len.ensures.each parts.joined parts.front parts.some
             (λ xs out h. h) (λ xs out h. h) (λ a b out h. h) (λ a b out h. h) (λ a b out h. h)

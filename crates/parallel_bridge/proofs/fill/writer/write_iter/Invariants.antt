@@ -6,7 +6,8 @@ use Rattle.parallel_bridge.proofs.fill.writer.write_iter.Given as goal
 
 abbrev pub invariant-loop-room : goal.invariant-loop-room
 invariant-loop-room g l = record {
-  came : (xs : List g.row.I-Item.Denot) × Yields g.I.Iterator.next_gives l.fn.iter xs l.iter × g.W.Writer.so_far l.writer xs l.state l.room.items × (length l.room.items ≡ length xs);
+  came : (xs : List g.row.I-Item.Denot) × Yields g.I.Iterator.next_gives l.fn.iter xs l.iter
+      × g.W.Writer.so_far l.writer xs l.state l.room.items × (length l.room.items ≡ length xs);
   can : g.I.Iterator.can_next l.iter;
   ends : IsFinite (g.I.Iterator.remaining l.iter);
   place : SamePlaces l.initial.room l.room;

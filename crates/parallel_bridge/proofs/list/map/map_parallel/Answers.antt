@@ -11,11 +11,18 @@ use Rattle.parallel_bridge.proofs.list.map.map_parallel.Goals as goal
 
 pub returns-in-Ok-clause-maps : goal.returns-in-Ok-clause-maps
 returns-in-Ok-clause-maps g c =
-    let allowed = λ (x : g.row.P-Item.Denot) (y : g.row.T.Denot). g.F.Fn.post c.args.map_op.now (x, tt) y in
+    let allowed =
+    λ (x : g.row.P-Item.Denot) (y : g.row.T.Denot). g.F.Fn.post c.args.map_op.now (x, tt) y in
     let leaf = Answered {S = Unit {0}} {E = Infallible} (λ l s ys. MapOf allowed l ys) (λ l e. ⊥) in
     let gives = g.P.Producer.gives in
     let depth = c.depth_of-depth.result in
     let answers = c.fill-answers.result.0 in
-    let w : GivesSome gives c.args.parts (λ xs. TryAlongCut leaf OneAfterAnother (Shape depth xs) (Ok answers.items)) =
-    subst (λ d. Driven gives c.args.parts leaf OneAfterAnother depth (written answers d)) c.in-Ok.ensures.same c.fill-answers.ensures.2 in
-    (w.0, w.1, subst (MapOf allowed w.0) (sym c.into_vec.ensures) (filled_shape allowed Infallible depth w.0 answers.items w.2))
+    let w : GivesSome gives c.args.parts
+    (λ xs. TryAlongCut leaf OneAfterAnother (Shape depth xs) (Ok answers.items)) =
+    subst (λ d. Driven gives c.args.parts leaf OneAfterAnother depth (written answers d))
+    c.in-Ok.ensures.same c.fill-answers.ensures.2 in (
+      w.0,
+      w.1,
+      subst (MapOf allowed w.0) (sym c.into_vec.ensures)
+          (filled_shape allowed Infallible depth w.0 answers.items w.2),
+    )

@@ -15,13 +15,30 @@ use Rattle.parallel_bridge.proofs.list.map_init.map_init_parallel.Goals as goal
 pub returns-in-Ok-clause-along : goal.returns-in-Ok-clause-along
 returns-in-Ok-clause-along g c =
     let init = λ (s : g.row.S.Denot). g.N.Fn.post c.args.init.now tt s in
-    let step = MapStep (λ (p : MutBor g.row.S.Denot) (x : g.row.P-Item.Denot) (y : g.row.T.Denot) (q : MutBor g.row.S.Denot). goal.F-post g c.args.map_op.now p x y q) in
-    let so_far = λ (l : List g.row.P-Item.Denot) (s : g.row.S.Denot) (ys : List g.row.T.Denot). (more : List g.row.P-Item.Denot) (zs : List g.row.T.Denot) → StatesFrom step s more zs → StateSegment init step (l ++ more) (ys ++ zs) in
+    let step =
+    MapStep (λ (p : MutBor g.row.S.Denot) (x : g.row.P-Item.Denot) (y : g.row.T.Denot)
+    (q : MutBor g.row.S.Denot). goal.F-post g c.args.map_op.now p x y q) in
+    let so_far =
+    λ (l : List g.row.P-Item.Denot) (s : g.row.S.Denot) (ys : List g.row.T.Denot). (more : List
+    g.row.P-Item.Denot) (zs : List g.row.T.Denot) → StatesFrom step s more zs
+    → StateSegment init step (l ++ more) (ys ++ zs) in
     let leaf = Answered {E = Infallible} so_far (λ l e. ⊥) in
     let gives = g.P.Producer.gives in
     let depth = c.depth_of-depth.result in
     let answers = c.fill-answers.result.0 in
-    let w : GivesSome gives c.args.parts (λ xs. TryAlongCut leaf OneAfterAnother (Shape depth xs) (Ok answers.items)) =
-    subst (λ d. Driven gives c.args.parts leaf OneAfterAnother depth (written answers d)) c.in-Ok.ensures.same c.fill-answers.ensures.2 in
-    let each = answers_along Infallible so_far (StateSegment init step) (λ l s ys h. subst (λ xs. StateSegment init step xs ys) (append-nil l) (subst (StateSegment init step (l ++ [])) (append-nil ys) (h [] [] refl))) (Shape depth w.0) (Ok answers.items) w.2 in
-    (w.0, w.1, subst (λ k. StatesAlong init step (Shape k w.0) c.into_vec.result.items) c.depth_of-depth.ensures.digits (subst (StatesAlong init step (Shape depth w.0)) (sym c.into_vec.ensures) (along_unfailing Infallible (StateSegment init step) (λ a b c. c ≡ a ++ b) (Shape depth w.0) answers.items each)))
+    let w : GivesSome gives c.args.parts
+    (λ xs. TryAlongCut leaf OneAfterAnother (Shape depth xs) (Ok answers.items)) =
+    subst (λ d. Driven gives c.args.parts leaf OneAfterAnother depth (written answers d))
+    c.in-Ok.ensures.same c.fill-answers.ensures.2 in
+    let each = answers_along Infallible so_far (StateSegment init step)
+    (λ l s ys h. subst (λ xs. StateSegment init step xs ys) (append-nil l)
+    (subst (StateSegment init step (l ++ [])) (append-nil ys) (h [] [] refl))) (Shape depth w.0)
+    (Ok answers.items) w.2 in (
+      w.0,
+      w.1,
+      subst (λ k. StatesAlong init step (Shape k w.0) c.into_vec.result.items)
+          c.depth_of-depth.ensures.digits
+          (subst (StatesAlong init step (Shape depth w.0)) (sym c.into_vec.ensures)
+          (along_unfailing Infallible (StateSegment init step) (λ a b c. c ≡ a ++ b)
+          (Shape depth w.0) answers.items each)),
+    )

@@ -1,4 +1,5 @@
--- a list is above its two halves, these above their closures, and a closure above the half that it is given
+-- a list is above its two halves, these above their closures, and a closure above the half that it
+-- is given
 use Rattle.std.proofs.Common.{◌+◌, ◌*◌}
 use Rattle.parallel_bridge.proofs.list.sort.+halves.Given as goal
 

@@ -4,4 +4,6 @@ use Rattle.std.proofs.lemmas.List.FromFn.{length-range_with_len}
 use Rattle.parallel_bridge.proofs.producer.IndicesProducer.len.Goals as goal
 
 pub returns-clause-each : goal.returns-clause-each
-returns-clause-each c xs given = ap length given ∙ (length-range_with_len c.args.self.now.start (c.args.self.now.end - c.args.self.now.start) ∙ omega (arith, c.saturating_sub.ensures))
+returns-clause-each c xs given = ap length given
+    ∙ (length-range_with_len c.args.self.now.start (c.args.self.now.end - c.args.self.now.start)
+    ∙ omega (arith, c.saturating_sub.ensures))

@@ -13,4 +13,5 @@ loop-preserved g c = record {
 }
 
 pub returns-then-is_awake-clause-probes : goal.returns-then-is_awake-clause-probes
-returns-then-is_awake-clause-probes g c = one_probe _ _ _ c.loop.invariant.probes c.is_awake.ensures.probe
+returns-then-is_awake-clause-probes g c =
+    one_probe _ _ _ c.loop.invariant.probes c.is_awake.ensures.probe

@@ -12,12 +12,20 @@ loop-index-preserved c =
     let grid = c.index-grids-index in
     elim c.if-next_cost-cost.branch [
       | then-next_cost-cost w ↦ rw (w.chosen-is, w.cost-is, w.whole-is)
-          (IsChosenSoFar-takes c.args.grids.now c.args.len (non_zero_usize_get c.args.workers) l.index l.chosen l.cost l.whole grid.result next.result.0 next.result.1 l.invariant c.loop-index-test.true grid.is next.ensures.cost next.ensures.whole w.if-next_cost-cost.true)
+          (IsChosenSoFar-takes c.args.grids.now c.args.len
+          (non_zero_usize_get c.args.workers) l.index l.chosen l.cost l.whole grid.result
+          next.result.0 next.result.1 l.invariant c.loop-index-test.true grid.is next.ensures.cost
+          next.ensures.whole w.if-next_cost-cost.true)
       | else-next_cost-cost w ↦ rw (w.chosen-is, w.cost-is, w.whole-is)
-          (IsChosenSoFar-keeps c.args.grids.now c.args.len (non_zero_usize_get c.args.workers) l.index l.chosen l.cost l.whole grid.result l.invariant c.loop-index-test.true grid.is (omega (arith, next.ensures.cost, w.if-next_cost-cost.false)))
+          (IsChosenSoFar-keeps c.args.grids.now c.args.len
+          (non_zero_usize_get c.args.workers) l.index l.chosen l.cost l.whole grid.result
+          l.invariant c.loop-index-test.true grid.is
+          (omega (arith, next.ensures.cost, w.if-next_cost-cost.false)))
     ]
 
 pub returns-clause-chosen : goal.returns-clause-chosen
 returns-clause-chosen c =
     let l = c.loop-index in
-    IsChosenGrid-from_scan c.args.grids.now c.args.len (non_zero_usize_get c.args.workers) l.index l.chosen l.cost l.whole c.index-grids-0.result l.invariant (omega (arith, l.auto.index-end c.requires))
+    IsChosenGrid-from_scan c.args.grids.now c.args.len
+    (non_zero_usize_get c.args.workers) l.index l.chosen l.cost l.whole c.index-grids-0.result
+    l.invariant (omega (arith, l.auto.index-end c.requires))

@@ -4,4 +4,5 @@ use Rattle.parallel_shares.proofs.Grids.{IsChosenSoFar}
 use Rattle.parallel_shares.proofs.grid.Grid.choose.Given as goal
 
 abbrev pub invariant-loop-index : goal.invariant-loop-index
-invariant-loop-index l = IsChosenSoFar l.grids l.len (non_zero_usize_get l.workers) l.index l.chosen l.cost l.whole
+invariant-loop-index l =
+    IsChosenSoFar l.grids l.len (non_zero_usize_get l.workers) l.index l.chosen l.cost l.whole

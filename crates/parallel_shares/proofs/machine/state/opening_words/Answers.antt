@@ -11,7 +11,12 @@ use Rattle.parallel_shares.proofs.machine.state.opening_words.Goals.{After-openi
 end_fits : (c : After-opening_size) → c.loop-share.start + c.opening_size.result ≤ 65535
 end_fits c =
     let sound = c.shares-shares.ensures.sound in
-    omega (arith, sound.units_fit, c.loop-share.invariant.start, within_units c.args.plan.now sound (suc c.loop-share.share) (omega arith))
+    omega (
+      arith,
+      sound.units_fit,
+      c.loop-share.invariant.start,
+      within_units c.args.plan.now sound (suc c.loop-share.share) (omega arith),
+    )
 
 pub overflow_add-end : goal.overflow_add-end
 overflow_add-end c = omega (arith, end_fits c)
@@ -25,8 +30,12 @@ pub loop-share-preserved : goal.loop-share-preserved
 loop-share-preserved c =
     let i = c.loop-share.invariant in
     let share = c.loop-share.share in
-    let start : c.loop-share.start + c.opening_size.result ≡ opening_start c.args.plan.now (suc share) = omega (arith, i.start) in
+    let start : c.loop-share.start + c.opening_size.result ≡ opening_start c.args.plan.now
+    (suc share) = omega (arith, i.start) in
     rw (add-one share) (record {
       start = start;
-      words = c.in_ok-push.ensures.items ∙ ap (λ ws. ws ++ c.pack.result ∷ []) i.words ∙ ap (λ w. opening_words c.args.plan.now share ++ w ∷ []) (c.pack.ensures ∙ ap (λ a. packed a (c.loop-share.start + c.opening_size.result)) i.start ∙ ap (λ b. packed (opening_start c.args.plan.now share) b) start);
+      words = c.in_ok-push.ensures.items ∙ ap (λ ws. ws ++ c.pack.result ∷ []) i.words
+          ∙ ap (λ w. opening_words c.args.plan.now share ++ w ∷ [])
+          (c.pack.ensures ∙ ap (λ a. packed a (c.loop-share.start + c.opening_size.result)) i.start
+          ∙ ap (λ b. packed (opening_start c.args.plan.now share) b) start);
     })

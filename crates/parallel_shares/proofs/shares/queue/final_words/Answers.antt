@@ -11,9 +11,12 @@ loop-share-preserved c =
     let share = c.loop-share.share in
     let last = c.loop-share.last.items in
     let word = c.word.result in
-    let next : drop share all ≡ word ∷ drop (share + 1) all = rw (add-one share) (drop_at all share word c.word.ensures) in
+    let next : drop share all ≡ word ∷ drop (share + 1) all =
+    rw (add-one share) (drop_at all share word c.word.ensures) in
     record {
-      words = ap (λ xs. xs ++ drop (share + 1) all) c.push_reserved.ensures.items ∙ append_assoc last (word ∷ []) (drop (share + 1) all) ∙ ap (λ xs. last ++ xs) (sym next) ∙ i.words;
+      words = ap (λ xs. xs ++ drop (share + 1) all) c.push_reserved.ensures.items
+          ∙ append_assoc last (word ∷ []) (drop (share + 1) all) ∙ ap (λ xs. last ++ xs) (sym next)
+          ∙ i.words;
       count = omega (arith, c.push_reserved.ensures.len, i.count);
       room = omega (arith, c.push_reserved.ensures.capacity, i.room);
     }

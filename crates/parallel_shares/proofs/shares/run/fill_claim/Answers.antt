@@ -22,10 +22,15 @@ loop-at-preserved g c =
       begun = omega (arith, i.begun);
       within = omega (arith, i.begun, i.within, piece.ensures.within, c.loop-at-test.true);
       chain = λ first cells way.
-          rw (← claim_more len cells start at piece.result i.begun piece.ensures.start) (c.in_ok-fill_piece.ensures.chain len first (cells ++ range_with_len start (at - start)) piece.ensures.piece (i.chain first cells way));
+          rw (← claim_more len cells start at piece.result i.begun piece.ensures.start)
+          (c.in_ok-fill_piece.ensures.chain len first
+          (cells ++ range_with_len start (at - start)) piece.ensures.piece
+          (i.chain first cells way));
     }
 
 pub returns-clause-chain : goal.returns-clause-chain
 returns-clause-chain g c first cells way =
     let l = c.loop-at in
-    rw (← claim_all cells c.args.claim.start l.at c.args.claim.end (omega (arith, c.loop-at-test.false)) l.invariant.within) (l.invariant.chain first cells way)
+    rw (← claim_all cells c.args.claim.start l.at c.args.claim.end
+    (omega (arith, c.loop-at-test.false)) l.invariant.within)
+    (l.invariant.chain first cells way)

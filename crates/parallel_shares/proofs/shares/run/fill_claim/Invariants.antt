@@ -8,8 +8,12 @@ abbrev pub invariant-loop-at : goal.invariant-loop-at
 invariant-loop-at g l = record {
   begun : l.claim.start ≤ l.at;
   within : l.at - l.claim.start ≤ l.claim.end - l.claim.start;
-  chain : (first : g.row.T.Denot) (cells : List ℕ) → Underway (Fills (goal.L-post g l.fill)) (Gives (goal.N-post g l.finish)) l.len first cells l.fn.opened l.fn.results.items l.fn.state
-      → Underway (Fills (goal.L-post g l.fill)) (Gives (goal.N-post g l.finish)) l.len first (cells ++ range_with_len l.claim.start (l.at - l.claim.start)) l.opened l.results.items l.state;
+  chain : (first : g.row.T.Denot) (cells : List ℕ)
+      → Underway (Fills (goal.L-post g l.fill))
+      (Gives (goal.N-post g l.finish)) l.len first cells l.fn.opened l.fn.results.items l.fn.state
+      → Underway (Fills (goal.L-post g l.fill)) (Gives (goal.N-post g l.finish)) l.len first
+      (cells ++ range_with_len l.claim.start (l.at - l.claim.start)) l.opened l.results.items
+      l.state;
 }
 
 abbrev pub decreases-loop-at : goal.decreases-loop-at

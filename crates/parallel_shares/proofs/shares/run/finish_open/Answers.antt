@@ -4,4 +4,8 @@ use Rattle.parallel_shares.proofs.shares.run.finish_open.Goals as goal
 
 pub returns-in_ok-push-clause-closes : goal.returns-in_ok-push-clause-closes
 returns-in_ok-push-clause-closes g c =
-    rw c.in-Some.is (c.finish.result, (_, _, refl, c.finish.ensures, refl), c.in_ok-push.ensures.items)
+    rw c.in-Some.is (
+      c.finish.result,
+      (_, _, refl, c.finish.ensures, refl),
+      c.in_ok-push.ensures.items,
+    )

@@ -8,7 +8,9 @@ abbrev pub invariant-loop-at : goal.invariant-loop-at
 invariant-loop-at l = record {
   begun : l.claim.start ≤ l.at;
   within : l.at - l.claim.start ≤ l.claim.end - l.claim.start;
-  parted : (cells : List ℕ) → Parted l.len cells l.fn.found.items l.fn.opened → Parted l.len (cells ++ range_with_len l.claim.start (l.at - l.claim.start)) l.found.items l.opened;
+  parted : (cells : List ℕ) → Parted l.len cells l.fn.found.items l.fn.opened
+      → Parted l.len (cells ++ range_with_len l.claim.start (l.at - l.claim.start)) l.found.items
+      l.opened;
 }
 
 abbrev pub decreases-loop-at : goal.decreases-loop-at

@@ -11,8 +11,11 @@ loop-claim-preserved c =
     let claims = c.args.claims.now in
     let i = c.loop-claim.claim-index in
     let claim : Range ℕ = get_or claims i (record { start = 0; end = 0 }) in
-    let cells : all_cells (take (i + 1) claims) ≡ all_cells (take i claims) ++ range_cells claim = ap all_cells (take_more claims i (record { start = 0; end = 0 }) c.loop-claim-test.true) ∙ cells_push (take i claims) claim in
-    subst (λ xs. Parted c.args.len xs c.add_claim.new.found.items c.in_ok-opened.opened) (sym cells) (c.in_ok-opened.ensures.parted (all_cells (take i claims)) c.loop-claim.invariant)
+    let cells : all_cells (take (i + 1) claims) ≡ all_cells (take i claims) ++ range_cells claim =
+    ap all_cells (take_more claims i (record { start = 0; end = 0 }) c.loop-claim-test.true)
+    ∙ cells_push (take i claims) claim in
+    subst (λ xs. Parted c.args.len xs c.add_claim.new.found.items c.in_ok-opened.opened) (sym cells)
+    (c.in_ok-opened.ensures.parted (all_cells (take i claims)) c.loop-claim.invariant)
 
 pub returns-clause-cutting : goal.returns-clause-cutting
 returns-clause-cutting c =
@@ -21,4 +24,5 @@ returns-clause-cutting c =
     let l = c.loop-claim in
     let all = take_all l.claim-index claims c.loop-claim-test.false in
     subst (CutsCells len (all_cells claims)) (sym c.in_ok-close.ensures.found)
-    (parted_ends len (all_cells claims) l.found.items l.opened (subst (λ rs. Parted len (all_cells rs) l.found.items l.opened) all l.invariant))
+    (parted_ends len (all_cells claims) l.found.items l.opened
+    (subst (λ rs. Parted len (all_cells rs) l.found.items l.opened) all l.invariant))

@@ -5,7 +5,8 @@ use Rattle.parallel_tests.proofs.tests.shares.drive.Given as goal
 
 abbrev pub invariant-loop : goal.invariant-loop
 invariant-loop g l = record {
-  goes_on : (goal.iterator-loop g).can_next l.iterator' × (goal.iterator-loop g).is_finite l.iterator';
+  goes_on : (goal.iterator-loop g).can_next l.iterator'
+      × (goal.iterator-loop g).is_finite l.iterator';
   seat : IsSeatOf l.shares l.seat;
   index : index_of l.seat ≡ index_of l.fn.seat;
 }

@@ -7,7 +7,8 @@ pub returns : goal.returns
 returns g c =
     let seats = c.args.seats.items in
     let driven = c.in_ok-driven.driven in
-    let count : length driven.items ≡ length seats = omega (arith, driven.ok.0, c.in_ok-driven.ensures.len, c.args.seats.ok.0) in
+    let count : length driven.items ≡ length seats =
+    omega (arith, driven.ok.0, c.in_ok-driven.ensures.len, c.args.seats.ok.0) in
     record {
       count = count ∙ c.requires.count;
       each = λ i d h. (c.in_ok-driven.ensures.each i d (omega (arith, h, count))).1.call.met.0;

@@ -7,12 +7,19 @@ use Rattle.uses.proofs.own_lists.WrappedSourceByWrapping.into_items.Goals as goa
 
 pub returns-clause-gives : goal.returns-clause-gives
 returns-clause-gives g c xs drains =
-    let first = YieldsList-from_copied {s = c.copied.result} (YieldsList-from_slice c.args.self.front.now (search rules)) in
-    let second = YieldsList-from_copied {s = c.copied-2.result} (YieldsList-from_slice c.args.self.back.now (search rules)) in
-    came_as_it_is xs drains (YieldsList-from_chain {s = c.chain.result} (YieldsList-at (search rules) first) (YieldsList-at (search rules) second) (search rules) (search rules))
+    let first = YieldsList-from_copied {s = c.copied.result}
+    (YieldsList-from_slice c.args.self.front.now (search rules)) in
+    let second = YieldsList-from_copied {s = c.copied-2.result}
+    (YieldsList-from_slice c.args.self.back.now (search rules)) in
+    came_as_it_is xs drains (YieldsList-from_chain {s = c.chain.result}
+    (YieldsList-at (search rules) first) (YieldsList-at (search rules) second) (search rules)
+    (search rules))
 
 pub returns-clause-may : goal.returns-clause-may
 returns-clause-may g c =
-    let first = YieldsList-from_copied {s = c.copied.result} (YieldsList-from_slice c.args.self.front.now (search rules)) in
-    let second = YieldsList-from_copied {s = c.copied-2.result} (YieldsList-from_slice c.args.self.back.now (search rules)) in
-    stands_in (YieldsList-from_chain {s = c.chain.result} (YieldsList-at (search rules) first) (YieldsList-at (search rules) second) (search rules) (search rules))
+    let first = YieldsList-from_copied {s = c.copied.result}
+    (YieldsList-from_slice c.args.self.front.now (search rules)) in
+    let second = YieldsList-from_copied {s = c.copied-2.result}
+    (YieldsList-from_slice c.args.self.back.now (search rules)) in
+    stands_in (YieldsList-from_chain {s = c.chain.result} (YieldsList-at (search rules) first)
+    (YieldsList-at (search rules) second) (search rules) (search rules))

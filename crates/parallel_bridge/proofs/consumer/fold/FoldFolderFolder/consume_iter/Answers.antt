@@ -4,6 +4,16 @@ use Rattle.parallel_bridge.proofs.consumer.fold.FoldFolderFolder.consume_iter.Go
 
 pub returns-clause-gives : goal.returns-clause-gives
 returns-clause-gives g c =
-    let step = λ (a : g.row.U.Denot) (x : g.row.X.Denot) (b : g.row.U.Denot). g.F.Fn.post c.args.self.fold_op.now (a, (x, tt)) b in
-    let w = c.fold_from-value.ensures in
-    (w.0, w.1, λ more out h. (h.0, chain_append step c.args.self.item w.0 more c.fold_from-value.result h.0 w.2 h.1, h.2))
+    let step =
+    λ (a : g.row.U.Denot) (x : g.row.X.Denot) (b : g.row.U.Denot). g.F.Fn.post
+    c.args.self.fold_op.now (a, (x, tt)) b in
+    let w = c.fold_from-value.ensures in (
+      w.0,
+      w.1,
+      λ more out h. (
+        h.0,
+        chain_append step c.args.self.item w.0 more
+            c.fold_from-value.result h.0 w.2 h.1,
+        h.2,
+      ),
+    )

@@ -9,7 +9,9 @@ returns-clause-gives g c =
     let answers = c.in_ok-answers.answers in
     let w = c.in_ok-answers.ensures.gives in
     let handed = c.in_ok-base.ensures.gives in
-    let same = came_as_it_is handed.0 handed.1 (vec_yields answers.items c.into_iter.result c.into_iter.result refl c.into_iter.ensures.rest (c.into_iter.ensures.len ∙ answers.ok.0)) in (
+    let same = came_as_it_is handed.0 handed.1
+    (vec_yields answers.items c.into_iter.result c.into_iter.result refl
+    c.into_iter.ensures.rest (c.into_iter.ensures.len ∙ answers.ok.0)) in (
       w.0,
       w.1,
       λ more out h. (

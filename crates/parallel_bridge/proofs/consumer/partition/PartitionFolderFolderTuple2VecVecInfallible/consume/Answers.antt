@@ -7,8 +7,16 @@ use Rattle.parallel_bridge.proofs.consumer.partition.PartitionFolderFolderTuple2
 pub returns-clause-gives : goal.returns-clause-gives
 returns-clause-gives g c xs (Ok r) part =
     let self = c.args.self in
-    let allowed = λ (x : g.row.X.Denot) (p : g.row.K.Denot × Option g.row.U.Denot). g.F.Fn.post self.map_op.now (x, tt) p in
+    let allowed =
+    λ (x : g.row.X.Denot) (p : g.row.K.Denot × Option g.row.U.Denot). g.F.Fn.post
+    self.map_op.now (x, tt) p in
     let one = c.map_op-answer.result in
-    part_append allowed self.values.items c.in_ok-values.values.items r.0.items self.keys.items c.in_ok-values.keys.items r.1.items (c.args.item ∷ []) xs
-    (values_of (one ∷ []), keys_of (one ∷ []), c.in_ok-values.ensures.values, c.in_ok-values.ensures.keys, (one ∷ [], (c.map_op-answer.ensures, tt), refl, refl)) part
+    part_append allowed self.values.items c.in_ok-values.values.items r.0.items self.keys.items
+    c.in_ok-values.keys.items r.1.items (c.args.item ∷ []) xs (
+      values_of (one ∷ []),
+      keys_of (one ∷ []),
+      c.in_ok-values.ensures.values,
+      c.in_ok-values.ensures.keys,
+      (one ∷ [], (c.map_op-answer.ensures, tt), refl, refl),
+    ) part
 returns-clause-gives g c xs (Err e) part = part

@@ -6,6 +6,12 @@ use Rattle.parallel_bridge.proofs.consumer.partition.PartitionFolderFolderTuple2
 pub returns-clause-gives : goal.returns-clause-gives
 returns-clause-gives g c =
     let self = c.args.self in
-    let allowed = λ (x : g.row.X.Denot) (p : g.row.K.Denot × Option g.row.U.Denot). g.F.Fn.post self.map_op.now (x, tt) p in
-    let w = c.in_ok-values.ensures.gives in
-    (w.0, w.1, λ more out h. part_only allowed self.values.items c.in_ok-values.values.items self.keys.items c.in_ok-values.keys.items w.0 more out w.2 h)
+    let allowed =
+    λ (x : g.row.X.Denot) (p : g.row.K.Denot × Option g.row.U.Denot). g.F.Fn.post
+    self.map_op.now (x, tt) p in
+    let w = c.in_ok-values.ensures.gives in (
+      w.0,
+      w.1,
+      λ more out h. part_only allowed self.values.items c.in_ok-values.values.items
+          self.keys.items c.in_ok-values.keys.items w.0 more out w.2 h,
+    )

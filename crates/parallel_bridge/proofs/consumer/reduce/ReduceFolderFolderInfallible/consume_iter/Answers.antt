@@ -4,6 +4,12 @@ use Rattle.parallel_bridge.proofs.consumer.reduce.ReduceFolderFolderInfallible.c
 
 pub returns-clause-gives : goal.returns-clause-gives
 returns-clause-gives g c =
-    let step = λ (a : g.row.T.Denot) (x : g.row.T.Denot) (b : g.row.T.Denot). g.G.Fn.post c.args.self.reduce_op.now (a, (x, tt)) b in
-    let w = c.fold_from-value.ensures in
-    (w.0, w.1, λ more out h. chain_only step c.args.self.item w.0 more c.fold_from-value.result out w.2 h)
+    let step =
+    λ (a : g.row.T.Denot) (x : g.row.T.Denot) (b : g.row.T.Denot). g.G.Fn.post
+    c.args.self.reduce_op.now (a, (x, tt)) b in
+    let w = c.fold_from-value.ensures in (
+      w.0,
+      w.1,
+      λ more out h. chain_only step c.args.self.item w.0 more c.fold_from-value.result out
+          w.2 h,
+    )

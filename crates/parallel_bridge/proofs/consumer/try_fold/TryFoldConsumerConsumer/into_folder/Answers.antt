@@ -3,4 +3,8 @@ use Rattle.std.proofs.Common.{◌∷◌, []}
 use Rattle.parallel_bridge.proofs.consumer.try_fold.TryFoldConsumerConsumer.into_folder.Goals as goal
 
 pub returns-clause-gives : goal.returns-clause-gives
-returns-clause-gives g c xs out (v, chain, gives) = (v, (c.identity.result, c.identity.ensures, chain), c.in_ok-base.ensures.gives (v ∷ []) out gives)
+returns-clause-gives g c xs out (v, chain, gives) = (
+  v,
+  (c.identity.result, c.identity.ensures, chain),
+  c.in_ok-base.ensures.gives (v ∷ []) out gives,
+)

@@ -12,5 +12,7 @@ use Rattle.parallel_bridge.proofs.window.cells.Cells.TheLaw.Statement.{statement
 
 pub shares : (R : RattleType) (L : Laws R) → statement R L
 shares R L =
-    of_Lends (cells.struct R) (cells.the_codes R.Denot R.coded (marker.the_row RawPtr).coded) (cells.the_heap R) (cells.the_lent R) (λ d p. nothing_shr_laws)
-    (copy_shared (marker.the_field RawPtr) (field_copy (marker.the_type RawPtr) tt), tt) (λ M 𝓤 𝓛 d p. Lends-nothing 𝓛 (cells.the_heap R d) (cells.the_row R).lives)
+    of_Lends (cells.struct R) (cells.the_codes R.Denot R.coded (marker.the_row RawPtr).coded)
+    (cells.the_heap R) (cells.the_lent R) (λ d p. nothing_shr_laws)
+    (copy_shared (marker.the_field RawPtr) (field_copy (marker.the_type RawPtr) tt), tt)
+    (λ M 𝓤 𝓛 d p. Lends-nothing 𝓛 (cells.the_heap R d) (cells.the_row R).lives)

@@ -56,12 +56,16 @@ module _ (E : El) where
   ended = F.ended E.row
 
   abbrev stayed : Stays ended.signature.params ended.kept
-  stayed = (stay_dropped (plain (λ _. Places E)) no, (stay_dropped (plain (λ _. Start E)) no, (stay_dropped (plain (λ _. usize)) yes, tt)))
+  stayed = (
+    stay_dropped (plain (λ _. Places E)) no,
+    (stay_dropped (plain (λ _. Start E)) no, (stay_dropped (plain (λ _. usize)) yes, tt)),
+  )
 
   abbrev Three : RattleType
   Three = Tuple (Places E ∷ Start E ∷ Places E ∷ [])
 
-  module _ {M : Type 1} {𝓤 : Ura M} (𝓛 : Logic 𝓤) (at_mem : Memory → SProp 𝓤) (run : Routine → Fun 𝓤) (𝓣 : Tables 𝓤 𝓛.H) where
+  module _ {M : Type 1} {𝓤 : Ura M} (𝓛 : Logic 𝓤) (at_mem : Memory → SProp 𝓤)
+      (run : Routine → Fun 𝓤) (𝓣 : Tables 𝓤 𝓛.H) where
     open 𝓛 use {H}
 
     abbrev held : Clauses 𝓤 ended
@@ -71,55 +75,100 @@ module _ (E : El) where
     Bound = (walk_of 𝓛 ended stayed held).Ghost
 
     abbrev Goes : Bound → Type 1
-    Goes y = ent 𝓤 ((walk_of 𝓛 ended stayed held).pre y) (WpFn 𝓤 H 𝓣.C 𝓣.Λ here ((walk_of 𝓛 ended stayed held).args y) ((walk_of 𝓛 ended stayed held).post y))
+    Goes y = ent 𝓤 ((walk_of 𝓛 ended stayed held).pre y)
+        (WpFn 𝓤 H 𝓣.C 𝓣.Λ here ((walk_of 𝓛 ended stayed held).args y)
+        ((walk_of 𝓛 ended stayed held).post y))
 
     walk : (z : Bound) → Goes z
     walk z =
         let κ = z.0.0.0 in let q = z.0.1.0 in let vss = z.0.4 in
         let Post : Val → SProp 𝓤 = (walk_of 𝓛 ended stayed held).post z in
         let Run : List Val → SProp 𝓤 = λ ws. WpFn 𝓤 H 𝓣.C 𝓣.Λ here ws Post in
-        let d : (Places E).Denot = z.0.3.0 in let base : (Start E).Denot = z.0.3.1.0 in let i : ℕ = z.0.3.1.1.0 in
+        let d : (Places E).Denot = z.0.3.0 in
+        let base : (Start E).Denot = z.0.3.1.0 in
+        let i : ℕ = z.0.3.1.1.0 in
         let cs : List (Place E) = d.slots in let s = sz E in
         let Asked : Type 0 = (base.ptr ≡ d.at) × (i ≤ length cs) in
-        qed 𝓛 (((‵ (flft κ q) ⊛ ‵ ftrue) ⊛ ‵ (owns (types_at ended.signature.params z.0.0) z.0.3 vss)) ∷ (raw (fact 𝓤 (κ ⊑ E.row.lives)) ⊛ raw (fact 𝓤 Asked)) ∷ []) ∵
+        qed 𝓛 (((‵ (flft κ q) ⊛ ‵ ftrue) ⊛ ‵ (owns
+        (types_at ended.signature.params z.0.0) z.0.3 vss)) ∷ (raw
+        (fact 𝓤 (κ ⊑ E.row.lives)) ⊛ raw (fact 𝓤 Asked)) ∷ []) ∵
         move ! (1 ∷ []) $ split ! $ drop ! $ heard ! Asked (λ asked.
-        split ! $ split ! $ move ! (2 ∷ []) $ fsplit ! $ fsplit ! $ mark_had ! E vss.0 (λ e₀. move ! (1 ∷ []) $ fsplit ! $ start_had ! base.ptr vss.1.0 (λ e₁. fsplit ! $ fsplit ! $ feq_l ! (λ e₂. flt_l ! (λ fits.
+        split ! $ split ! $ move ! (2 ∷ []) $ fsplit ! $ fsplit ! $
+        mark_had ! E vss.0 (λ e₀. move ! (1 ∷ []) $ fsplit ! $
+        start_had ! base.ptr vss.1.0 (λ e₁. fsplit ! $ fsplit ! $
+        feq_l ! (λ e₂. flt_l ! (λ fits.
         keep ! (1 ∷ 2 ∷ []) $
         -- [the places; T's token]
         let us : List Val = mark ∷ word base.ptr ∷ vint w64 i ∷ [] in
-        suffices ! (Run us) (subst (λ (ws : List Val). ent 𝓤 (Run us) (Run ws)) (sym (λ j. e₀ j ++ (e₁ j ++ (e₂ j ++ [])))) (id⊢ 𝓤 (Run us))) $
-        enter ! 𝓣.C 𝓣.Λ here us Post $ alloc_all ! (λ l. pass_all ! refl ((tt, (tt, tt)), (word-Good [] base.ptr, ((tt, record { fits = fits }), tt))) $
+        suffices ! (Run us) (subst (λ (ws : List Val). ent 𝓤 (Run us) (Run ws))
+        (sym (λ j. e₀ j ++ (e₁ j ++ (e₂ j ++ [])))) (id⊢ 𝓤 (Run us))) $
+        enter ! 𝓣.C 𝓣.Λ here us Post $ alloc_all !
+        (λ l. pass_all ! refl (
+          (tt, (tt, tt)),
+          (word-Good [] base.ptr, ((tt, record { fits = fits }), tt)),
+        ) $
         let En : Env 𝓤 H = env here.locals l in
-        in_a_block ! d.at (λ p. cells_own (R E) p cs) (id⊢ 𝓤 (never 𝓤)) (λ b o e. fsplit ! $ flt_l ! (λ small.
-        let far : i * s < 2 ^ 64 = omega (arith, times_below i (length cs) s (2 ^ 63) asked.1 small) in
+        in_a_block ! d.at (λ p. cells_own (R E) p cs) (id⊢ 𝓤 (never 𝓤))
+        (λ b o e. fsplit ! $ flt_l ! (λ small.
+        let far : i * s < 2 ^ 64 =
+        omega (arith, times_below i (length cs) s (2 ^ 63) asked.1 small) in
         let p : Ptr = block_ptr b (i * s + o) in
         let front : (Places E).Denot = record { mark = record {}; at = d.at; slots = take i cs } in
         let rest : (Start E).Denot = record { ptr = p } in
         let back : (Places E).Denot = record { mark = record {}; at = p; slots = from i cs } in
         let out : Val = triple mark (word p) mark in
         let typed : Good (layout (Three)) out = (tt, ((tt, tt), ((tt, tt), ((tt, tt), tt)))) in
-        take_at ! 2 $ rewrite ! 0 (λ (c : Ptr). ‵ (fat full_share (layout (Start E)) (l 2) 0 (word c))) (asked.0 ∙ e) refl $ give_at ! 2 $ first ! $ blocks ! $
-        sets ! (of_opd ! (get_in ! (fld ! refl (stop !)) (sub ! 0 refl (whole !)))) refl (tt, tt) $ sets ! (of_opd ! (get ! refl)) refl (tt, record { fits = fits }) $
-        sets ! (is ! (bin ! (get ! refl) (size_word !) (record { fits = subst (λ (k : ℕ). k < 2 ^ 64) (sym (uncapped i s far)) far })) (ap (vint w64) (uncapped i s far))) refl (tt, record { fits = far }) $
-        sets_last ! (bin ! (get ! refl) (get ! refl) tt) refl (tt, tt) $ exec ! 𝓣.C 𝓣.Λ En (after 1 here.body) (at_ret En Post) $
-        sets ! (of_opd ! (get ! refl)) refl (tt, tt) $ sets ! (agg ! (and_then ! (get ! refl) (no_more !))) refl (word-Good [] p) $
-        sets ! (agg ! (no_more !)) refl (tt, tt) $ sets ! (agg ! (and_then ! (get ! refl) (no_more !))) refl (tt, (tt, tt)) $
-        sets ! (agg ! (no_more !)) refl (tt, tt) $ sets ! (agg ! (and_then ! (get ! refl) (no_more !))) refl (tt, (tt, tt)) $
-        sets ! (of_opd ! (get ! refl)) refl (tt, (tt, tt)) $ sets ! (of_opd ! (get ! refl)) refl (word-Good [] p) $ sets ! (of_opd ! (get ! refl)) refl (tt, (tt, tt)) $
-        sets ! (agg ! (and_then ! (get ! refl) (and_then ! (get ! refl) (and_then ! (get ! refl) (no_more !))))) refl typed $
-        use1 𝓛 (‵ (slots (R E) b o front.slots) ⊛ ‵ (slots (R E) b (i * s + o) back.slots)) (cut_at E 𝓛 b o cs i asked.1) $ split ! $
-        flt_i ! (length front.slots * s) (2 ^ 63) (times_below (length front.slots) (length cs) s (2 ^ 63) (omega (arith, length-take i cs)) small) $ fjoin ! $
-        rewrite ! 0 (λ (c : Ptr). ‵ (cells_own (R E) c front.slots)) (sym e) refl $ use0 𝓛 (‵ ((Mark E).own_val (tt, tt) (mark ∷ []))) (mark_from E 𝓛) $ fjoin ! $ move ! (1 ∷ []) $
-        flt_i ! (length back.slots * s) (2 ^ 63) (times_below (length back.slots) (length cs) s (2 ^ 63) (omega (arith, length-drop i cs)) small) $ fjoin ! $
-        use0 𝓛 (‵ ((Mark E).own_val (tt, tt) (mark ∷ []))) (mark_from E 𝓛) $ fjoin ! $ start_made ! p $ move ! (2 ∷ 0 ∷ 1 ∷ []) $
-        use3 𝓛 (‵ (Three.own_val (front, rest, back) (out ∷ []))) (triple_made 𝓛 (Places E) (Start E) (Places E) front rest back mark (word p) mark) $
+        take_at ! 2 $ rewrite ! 0 (λ (c : Ptr). ‵ (fat full_share (layout (Start E)) (l 2) 0
+        (word c))) (asked.0 ∙ e) refl $ give_at ! 2 $ first ! $ blocks ! $
+        sets ! (of_opd ! (get_in ! (fld ! refl (stop !)) (sub ! 0 refl (whole !)))) refl (tt, tt) $
+        sets ! (of_opd ! (get ! refl)) refl (tt, record { fits = fits }) $
+        sets ! (is ! (bin ! (get ! refl) (size_word !)
+        (record { fits = subst (λ (k : ℕ). k < 2 ^ 64) (sym (uncapped i s far)) far }))
+        (ap (vint w64) (uncapped i s far))) refl (tt, record { fits = far }) $
+        sets_last ! (bin ! (get ! refl) (get ! refl) tt) refl (tt, tt) $
+        exec ! 𝓣.C 𝓣.Λ En (after 1 here.body) (at_ret En Post) $
+        sets ! (of_opd ! (get ! refl)) refl (tt, tt) $
+        sets ! (agg ! (and_then ! (get ! refl) (no_more !))) refl (word-Good [] p) $
+        sets ! (agg ! (no_more !)) refl (tt, tt) $
+        sets ! (agg ! (and_then ! (get ! refl) (no_more !))) refl (tt, (tt, tt)) $
+        sets ! (agg ! (no_more !)) refl (tt, tt) $
+        sets ! (agg ! (and_then ! (get ! refl) (no_more !))) refl (tt, (tt, tt)) $
+        sets ! (of_opd ! (get ! refl)) refl (tt, (tt, tt)) $
+        sets ! (of_opd ! (get ! refl)) refl (word-Good [] p) $
+        sets ! (of_opd ! (get ! refl)) refl (tt, (tt, tt)) $
+        sets ! (agg ! (and_then ! (get ! refl)
+        (and_then ! (get ! refl) (and_then ! (get ! refl) (no_more !))))) refl typed $
+        use1 𝓛 (‵ (slots (R E) b o front.slots) ⊛ ‵ (slots (R E) b (i * s + o) back.slots))
+        (cut_at E 𝓛 b o cs i asked.1) $ split ! $
+        flt_i ! (length front.slots * s) (2 ^ 63)
+        (times_below (length front.slots) (length cs) s (2 ^ 63)
+        (omega (arith, length-take i cs)) small) $ fjoin ! $
+        rewrite ! 0 (λ (c : Ptr). ‵ (cells_own (R E) c front.slots)) (sym e) refl $
+        use0 𝓛 (‵ ((Mark E).own_val (tt, tt) (mark ∷ []))) (mark_from E 𝓛) $ fjoin ! $
+        move ! (1 ∷ []) $
+        flt_i ! (length back.slots * s) (2 ^ 63)
+        (times_below (length back.slots) (length cs) s (2 ^ 63)
+        (omega (arith, length-drop i cs)) small) $ fjoin ! $
+        use0 𝓛 (‵ ((Mark E).own_val (tt, tt) (mark ∷ []))) (mark_from E 𝓛) $ fjoin ! $
+        start_made ! p $ move ! (2 ∷ 0 ∷ 1 ∷ []) $
+        use3 𝓛 (‵ (Three.own_val (front, rest, back) (out ∷ [])))
+        (triple_made 𝓛 (Places E) (Start E) (Places E) front rest back mark (word p) mark) $
         returns ! (look_at ! 0 refl) $ free_all ! refl $
-        suffices ! _ (ends_at 𝓛 ended stayed held z out (front, rest, back) (tt, (tt, (tt, tt))) (tt, (tt, (tt, tt)))) $
+        suffices ! _ (ends_at 𝓛 ended stayed held z out (front, rest, back) (tt, (tt, (tt, tt)))
+        (tt, (tt, (tt, tt)))) $
         says ! (refl, refl, ap (λ (c : Ptr). shifted (R E) c i) (sym e), refl, refl) $
-        nothing ! $ nothing ! $ nothing ! $ fjoin3 ! $ nothing ! $ fjoin ! $ move ! (2 ∷ []) $ nothing ! $ move ! (1 ∷ 0 ∷ []) $ join ! $ keep ! (0 ∷ 1 ∷ 2 ∷ []) $ done !))))))))
+        nothing ! $ nothing ! $ nothing ! $ fjoin3 ! $ nothing ! $ fjoin ! $ move ! (2 ∷ []) $
+        nothing ! $ move ! (1 ∷ 0 ∷ []) $ join ! $ keep ! (0 ∷ 1 ∷ 2 ∷ []) $ done !))))))))
 
     meets : Meets 𝓛 ended.signature (WpFn 𝓤 H 𝓣.C 𝓣.Λ here) (closing 𝓛 ended held)
-    meets = walk_Meets 𝓛 ended stayed (Goes-blank 𝓛 1 (plain (λ _. Places E)) no (λ κs x f. tt), (Goes-dropped 𝓛 1 (plain (λ _. Start E)) no (λ κs x f. refl), (Goes-dropped 𝓛 1 (plain (λ _. usize)) yes (λ κs x f. refl), tt)))
+    meets =
+        walk_Meets 𝓛 ended stayed (
+          Goes-blank 𝓛 1 (plain (λ _. Places E)) no (λ κs x f. tt),
+          (
+            Goes-dropped 𝓛 1 (plain (λ _. Start E)) no (λ κs x f. refl),
+            (Goes-dropped 𝓛 1 (plain (λ _. usize)) yes (λ κs x f. refl), tt),
+          ),
+        )
         held (WpFn 𝓤 H 𝓣.C 𝓣.Λ here) (WpFn-mono 𝓤 H 𝓛.laws 𝓣 here) walk
 
 pub split_spec : {M : Type 1} → stated.statement M
@@ -127,4 +176,6 @@ unfolding tables_of
 split_spec 𝓤 𝓛 𝓜 𝓡 wired X L =
     let E : El = record { row = X; laws = L } in
     let 𝓣 : Tables 𝓤 𝓛.H = tables_of 𝓤 𝓛.H 𝓜 (tables 𝓤 𝓛.H 𝓜 𝓡 𝓡.env) in
-    entered 𝓤 𝓛.H (triple_of 𝓛 (ended E).signature (F.spec X 𝓛 𝓜.mem 𝓡.returns)) 𝓣.C 𝓣.Λ (#self (args E)) (here E) (code.unfolded 𝓤 𝓛.H 𝓜 𝓡 wired (X, tt)) (meets E 𝓛 𝓜.mem 𝓡.returns 𝓣)
+    entered 𝓤 𝓛.H (triple_of 𝓛 (ended E).signature (F.spec X 𝓛 𝓜.mem 𝓡.returns)) 𝓣.C 𝓣.Λ
+    (#self (args E)) (here E) (code.unfolded 𝓤 𝓛.H 𝓜 𝓡 wired (X, tt))
+    (meets E 𝓛 𝓜.mem 𝓡.returns 𝓣)

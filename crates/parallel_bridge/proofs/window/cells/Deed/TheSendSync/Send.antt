@@ -4,5 +4,6 @@ use Rattle.core.specs.declared.alloc.Allocator.{Ghosts}
 use Rattle.parallel_bridge.proofs.Crosses.{deed_send}
 use Rattle.parallel_bridge.specs.contracts.window.cells.Deed.{the_row}
 
-pub send : (R A : RattleType) (g : Ghosts A.Denot) → IsSend A → Frees g g.dealloc_token → IsSend (the_row R A g)
+pub send : (R A : RattleType) (g : Ghosts A.Denot) → IsSend A → Frees g g.dealloc_token
+    → IsSend (the_row R A g)
 send R A g s = deed_send R A g

@@ -7,22 +7,50 @@ use Rattle.parallel_bridge.proofs.window.home.Home.over.Goals as goal
 
 pub invariant_of-window : goal.invariant_of-window
 invariant_of-window g c =
-    let v = c.args.vec in let row = c.open-all.ensures.row in let all = c.open-all.result.1 in let e = c.split-cells.ensures in let n = c.len-len.result in
+    let v = c.args.vec in
+    let row = c.open-all.ensures.row in
+    let all = c.open-all.result.1 in
+    let e = c.split-cells.ensures in
+    let n = c.len-len.result in
     let counted : n ≡ length v.items = c.len-len.ensures ∙ v.ok.0 in
-    let cut = opened_rows all.at c.open-all.result.0.ptr all.slots v.cap c.args.room n v.items (row.1 ∙ sym row.0) row.2 counted (subst (λ k. k ≤ c.args.room) (sym counted) c.requires.fits.0) c.requires.fits.1 in
-    subst (λ p. IsRow p c.open-all.result.0.ptr c.split-cells.result.0.slots c.args.room 0 n) (sym e.0) (subst (λ cs. IsRow all.at c.open-all.result.0.ptr cs c.args.room 0 n) (sym e.1) cut.1.0)
+    let cut = opened_rows all.at c.open-all.result.0.ptr all.slots v.cap c.args.room n v.items
+    (row.1 ∙ sym row.0) row.2 counted
+    (subst (λ k. k ≤ c.args.room) (sym counted) c.requires.fits.0) c.requires.fits.1 in
+    subst (λ p. IsRow p c.open-all.result.0.ptr c.split-cells.result.0.slots c.args.room 0 n)
+    (sym e.0) (subst (λ cs. IsRow all.at c.open-all.result.0.ptr cs c.args.room 0 n)
+    (sym e.1) cut.1.0)
 
 pub invariant_of-home : goal.invariant_of-home
 invariant_of-home g c =
-    let v = c.args.vec in let row = c.open-all.ensures.row in let all = c.open-all.result.1 in let e = c.split-cells.ensures in let n = c.len-len.result in
+    let v = c.args.vec in
+    let row = c.open-all.ensures.row in
+    let all = c.open-all.result.1 in
+    let e = c.split-cells.ensures in
+    let n = c.len-len.result in
     let counted : n ≡ length v.items = c.len-len.ensures ∙ v.ok.0 in
-    let cut = opened_rows all.at c.open-all.result.0.ptr all.slots v.cap c.args.room n v.items (row.1 ∙ sym row.0) row.2 counted (subst (λ k. k ≤ c.args.room) (sym counted) c.requires.fits.0) c.requires.fits.1 in
-    let deed = c.open-all.ensures.deed in let left = c.open-all.ensures.left in let cap = c.capacity-capacity.ensures in
-    ((e.3, e.4 ∙ cut.2 ∙ ap (λ k. replicate (k - c.args.room) None) (sym cap)), deed.0 ∙ sym row.0, deed.1 ∙ sym cap, deed.2 ∙ sym left.2, left.1, subst (λ k. k < 2 ^ 63) (sym cap) v.small)
+    let cut = opened_rows all.at c.open-all.result.0.ptr all.slots v.cap c.args.room n v.items
+    (row.1 ∙ sym row.0) row.2 counted
+    (subst (λ k. k ≤ c.args.room) (sym counted) c.requires.fits.0) c.requires.fits.1 in
+    let deed = c.open-all.ensures.deed in
+    let left = c.open-all.ensures.left in
+    let cap = c.capacity-capacity.ensures in (
+      (e.3, e.4 ∙ cut.2 ∙ ap (λ k. replicate (k - c.args.room) None) (sym cap)),
+      deed.0 ∙ sym row.0,
+      deed.1 ∙ sym cap,
+      deed.2 ∙ sym left.2,
+      left.1,
+      subst (λ k. k < 2 ^ 63) (sym cap) v.small,
+    )
 
 pub returns-clause-window : goal.returns-clause-window
 returns-clause-window g c =
-    let v = c.args.vec in let row = c.open-all.ensures.row in let all = c.open-all.result.1 in let e = c.split-cells.ensures in let n = c.len-len.result in
+    let v = c.args.vec in
+    let row = c.open-all.ensures.row in
+    let all = c.open-all.result.1 in
+    let e = c.split-cells.ensures in
+    let n = c.len-len.result in
     let counted : n ≡ length v.items = c.len-len.ensures ∙ v.ok.0 in
-    let cut = opened_rows all.at c.open-all.result.0.ptr all.slots v.cap c.args.room n v.items (row.1 ∙ sym row.0) row.2 counted (subst (λ k. k ≤ c.args.room) (sym counted) c.requires.fits.0) c.requires.fits.1 in
+    let cut = opened_rows all.at c.open-all.result.0.ptr all.slots v.cap c.args.room n v.items
+    (row.1 ∙ sym row.0) row.2 counted
+    (subst (λ k. k ≤ c.args.room) (sym counted) c.requires.fits.0) c.requires.fits.1 in
     (ap (part c.open-all.result.0.ptr c.args.room 0) (ap values e.1 ∙ cut.1.1), refl)

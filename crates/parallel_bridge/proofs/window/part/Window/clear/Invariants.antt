@@ -3,4 +3,5 @@ use Rattle.std.proofs.Common.{◌≡◌, ◌+◌, length}
 use Rattle.parallel_bridge.proofs.window.part.Window.clear.Given as goal
 
 abbrev pub invariant-loop-item : goal.invariant-loop-item
-invariant-loop-item g l = (l.self.start ≡ l.fn.self.start) × (l.self.room ≡ l.fn.self.room) × (l._item + length l.self.items ≡ l._item-end)
+invariant-loop-item g l = (l.self.start ≡ l.fn.self.start) × (l.self.room ≡ l.fn.self.room)
+    × (l._item + length l.self.items ≡ l._item-end)

@@ -9,25 +9,63 @@ use Rattle.parallel_bridge.proofs.window.part.Window.join.Goals as goal
 
 pub join-requires : goal.join-requires
 join-requires g c =
-    let w = c.self.inside in let v = c.into_parts-more_room.result in let R = param 0 g.row.T in let is = c.into_parts-more_room.ensures in
-    let long = row_length w.cells.at w.base.ptr w.cells.slots w.room w.before w.len c.self.invariant in let more = row_length v.4.at v.0.ptr v.4.slots v.1 v.2 v.3 is.row in
-    let follows : v.0.ptr ≡ shifted R w.base.ptr w.room = subst (λ a. a.start ≡ shifted R w.base.ptr w.room) is.view (subst (λ a. c.args.right.start ≡ shifted R a.start a.room) (sym c.self.view_is) c.requires.follows) in
-    let fits : FitsInBlock R (w.room + v.1) = subst (λ a. FitsInBlock R (w.room + a.room)) is.view (subst (λ a. FitsInBlock R (a.room + c.args.right.room)) (sym c.self.view_is) c.requires.fits) in
-    (is.row.0 ∙ follows ∙ (λ i. shifted R (sym c.self.invariant.0 i) (sym long i)), subst (λ n. FitsInBlock R n) (λ i. sym long i + sym more i) fits)
+    let w = c.self.inside in
+    let v = c.into_parts-more_room.result in
+    let R = param 0 g.row.T in
+    let is = c.into_parts-more_room.ensures in
+    let long =
+    row_length w.cells.at w.base.ptr w.cells.slots w.room w.before w.len c.self.invariant in
+    let more = row_length v.4.at v.0.ptr v.4.slots v.1 v.2 v.3 is.row in
+    let follows : v.0.ptr ≡ shifted R w.base.ptr w.room = subst
+    (λ a. a.start ≡ shifted R w.base.ptr w.room) is.view
+    (subst (λ a. c.args.right.start ≡ shifted R a.start a.room)
+    (sym c.self.view_is) c.requires.follows) in
+    let fits : FitsInBlock R (w.room + v.1) = subst (λ a. FitsInBlock R (w.room + a.room)) is.view
+    (subst (λ a. FitsInBlock R (a.room + c.args.right.room))
+    (sym c.self.view_is) c.requires.fits) in (
+      is.row.0 ∙ follows ∙ (λ i. shifted R (sym c.self.invariant.0 i) (sym long i)),
+      subst (λ n. FitsInBlock R n) (λ i. sym long i + sym more i) fits,
+    )
 
 pub invariant_of-result : goal.invariant_of-result
 invariant_of-result g c =
-    let w = c.self.inside in let v = c.into_parts-more_room.result in let is = c.into_parts-more_room.ensures in
-    let adjoins = subst (λ a. Adjoins (part w.base.ptr w.room w.before (values w.cells.slots)) a) is.view (subst (λ a. Adjoins a c.args.right) (sym c.self.view_is) c.requires.adjoins) in
-    let beside : ((w.before + w.len ≡ w.room) × (v.2 ≡ 0)) ⊎ (v.3 ≡ 0) = elim adjoins [ inl h ↦ inl (ap (λ n. w.before + n) c.self.invariant.1 ∙ h.0, h.1) | inr h ↦ inr (is.row.1 ∙ ap length h) ] in
-    let two = two_rows w.cells.at w.base.ptr w.cells.slots w.room w.before w.len c.self.invariant is.row beside in
+    let w = c.self.inside in
+    let v = c.into_parts-more_room.result in
+    let is = c.into_parts-more_room.ensures in
+    let adjoins =
+    subst (λ a. Adjoins (part w.base.ptr w.room w.before (values w.cells.slots)) a) is.view
+    (subst (λ a. Adjoins a c.args.right) (sym c.self.view_is) c.requires.adjoins) in
+    let beside : ((w.before + w.len ≡ w.room) × (v.2 ≡ 0)) ⊎ (v.3 ≡ 0) =
+    elim adjoins [
+      | inl h ↦ inl (ap (λ n. w.before + n) c.self.invariant.1 ∙ h.0, h.1)
+      | inr h ↦
+          inr (is.row.1 ∙ ap length h)
+    ] in
+    let two =
+    two_rows w.cells.at w.base.ptr w.cells.slots w.room w.before w.len c.self.invariant is.row
+    beside in
     let e = c.join.ensures in
-    subst (λ p. IsRow p w.base.ptr c.join.result.slots (w.room + v.1) w.before (w.len + v.3)) (sym e.0) (subst (λ cs. IsRow w.cells.at w.base.ptr cs (w.room + v.1) w.before (w.len + v.3)) (sym e.1) two.0)
+    subst (λ p. IsRow p w.base.ptr c.join.result.slots (w.room + v.1) w.before (w.len + v.3))
+    (sym e.0) (subst (λ cs. IsRow w.cells.at w.base.ptr cs (w.room + v.1) w.before
+    (w.len + v.3)) (sym e.1) two.0)
 
 pub returns : goal.returns
 returns g c =
-    let w = c.self.inside in let v = c.into_parts-more_room.result in let is = c.into_parts-more_room.ensures in
-    let adjoins = subst (λ a. Adjoins (part w.base.ptr w.room w.before (values w.cells.slots)) a) is.view (subst (λ a. Adjoins a c.args.right) (sym c.self.view_is) c.requires.adjoins) in
-    let beside : ((w.before + w.len ≡ w.room) × (v.2 ≡ 0)) ⊎ (v.3 ≡ 0) = elim adjoins [ inl h ↦ inl (ap (λ n. w.before + n) c.self.invariant.1 ∙ h.0, h.1) | inr h ↦ inr (is.row.1 ∙ ap length h) ] in
-    let two = two_rows w.cells.at w.base.ptr w.cells.slots w.room w.before w.len c.self.invariant is.row beside in
-    ap (part w.base.ptr (w.room + v.1) w.before) (ap values c.join.ensures.1 ∙ two.1) ∙ (λ i. part (c.self.view_is i).start ((c.self.view_is i).room + (sym is.view i).room) (c.self.view_is i).before ((c.self.view_is i).items ++ (sym is.view i).items))
+    let w = c.self.inside in
+    let v = c.into_parts-more_room.result in
+    let is = c.into_parts-more_room.ensures in
+    let adjoins =
+    subst (λ a. Adjoins (part w.base.ptr w.room w.before (values w.cells.slots)) a) is.view
+    (subst (λ a. Adjoins a c.args.right) (sym c.self.view_is) c.requires.adjoins) in
+    let beside : ((w.before + w.len ≡ w.room) × (v.2 ≡ 0)) ⊎ (v.3 ≡ 0) =
+    elim adjoins [
+      | inl h ↦ inl (ap (λ n. w.before + n) c.self.invariant.1 ∙ h.0, h.1)
+      | inr h ↦
+          inr (is.row.1 ∙ ap length h)
+    ] in
+    let two =
+    two_rows w.cells.at w.base.ptr w.cells.slots w.room w.before w.len c.self.invariant is.row
+    beside in
+    ap (part w.base.ptr (w.room + v.1) w.before) (ap values c.join.ensures.1 ∙ two.1)
+    ∙ (λ i. part (c.self.view_is i).start ((c.self.view_is i).room + (sym is.view i).room)
+    (c.self.view_is i).before ((c.self.view_is i).items ++ (sym is.view i).items))

@@ -9,58 +9,95 @@ use Rattle.parallel_bridge.proofs.window.part.Window.split.Goals.{then-len-index
 
 pub split-front-requires : goal.split-front-requires
 split-front-requires g c =
-    let inv = c.self.invariant in let w = c.self.inside in let none = ap (λ v. v.before) c.self.view_is ∙ c.requires.0 in let le = subst (λ v. c.args.index ≤ v.room) (sym c.self.view_is) c.requires.1 in
-    (sym inv.0, in_row w.cells.at w.base.ptr w.cells.slots w.room w.before w.len inv c.args.index none le)
+    let inv = c.self.invariant in
+    let w = c.self.inside in
+    let none = ap (λ v. v.before) c.self.view_is ∙ c.requires.0 in
+    let le = subst (λ v. c.args.index ≤ v.room) (sym c.self.view_is) c.requires.1 in (
+      sym inv.0,
+      in_row w.cells.at w.base.ptr w.cells.slots w.room w.before w.len inv c.args.index
+          none le,
+    )
 
 pub invariant_of-left : goal.invariant_of-left
 invariant_of-left g c =
-    let inv = c.self.invariant in let w = c.self.inside in let none = ap (λ v. v.before) c.self.view_is ∙ c.requires.0 in let le = subst (λ v. c.args.index ≤ v.room) (sym c.self.view_is) c.requires.1 in
+    let inv = c.self.invariant in
+    let w = c.self.inside in
+    let none = ap (λ v. v.before) c.self.view_is ∙ c.requires.0 in
+    let le = subst (λ v. c.args.index ≤ v.room) (sym c.self.view_is) c.requires.1 in
     let m = c.if-len-index.filled in let i = c.args.index in
     let is : (m ≤ i) × (m ≤ w.len) × ((m ≡ w.len) ⊎ (m ≡ i)) =
     elim c.if-len-index.branch [
-      | then-len-index t ↦ let lt = t.if-len-index.true in let same = t.filled-is in (omega arith, omega arith, inl same)
-      | else-len-index t ↦ let ge = t.if-len-index.false in let same = t.filled-is in (omega arith, omega arith, inr same)
+      | then-len-index t ↦ let lt =
+          t.if-len-index.true in let same = t.filled-is in (omega arith, omega arith, inl same)
+      | else-len-index t ↦ let ge =
+          t.if-len-index.false in let same = t.filled-is in (omega arith, omega arith, inr same)
     ] in
     let e = c.split-front.ensures in
-    subst (λ p. IsRow p w.base.ptr c.split-front.result.0.slots i 0 m) (sym e.0) (subst (λ cs. IsRow w.cells.at w.base.ptr cs i 0 m) (sym e.1) (front_row w.cells.at w.base.ptr w.cells.slots w.room w.before w.len inv i none le m is).0)
+    subst (λ p. IsRow p w.base.ptr c.split-front.result.0.slots i 0 m) (sym e.0)
+    (subst (λ cs. IsRow w.cells.at w.base.ptr cs i 0 m) (sym e.1)
+    (front_row w.cells.at w.base.ptr w.cells.slots w.room w.before w.len inv i none le m is).0)
 
 pub invariant_of-right : goal.invariant_of-right
 invariant_of-right g c =
-    let inv = c.self.invariant in let w = c.self.inside in let none = ap (λ v. v.before) c.self.view_is ∙ c.requires.0 in let le = subst (λ v. c.args.index ≤ v.room) (sym c.self.view_is) c.requires.1 in
+    let inv = c.self.invariant in
+    let w = c.self.inside in
+    let none = ap (λ v. v.before) c.self.view_is ∙ c.requires.0 in
+    let le = subst (λ v. c.args.index ≤ v.room) (sym c.self.view_is) c.requires.1 in
     let m = c.if-len-index.filled in let i = c.args.index in
     let is : (m ≤ i) × (m ≤ w.len) × ((m ≡ w.len) ⊎ (m ≡ i)) =
     elim c.if-len-index.branch [
-      | then-len-index t ↦ let lt = t.if-len-index.true in let same = t.filled-is in (omega arith, omega arith, inl same)
-      | else-len-index t ↦ let ge = t.if-len-index.false in let same = t.filled-is in (omega arith, omega arith, inr same)
+      | then-len-index t ↦ let lt =
+          t.if-len-index.true in let same = t.filled-is in (omega arith, omega arith, inl same)
+      | else-len-index t ↦ let ge =
+          t.if-len-index.false in let same = t.filled-is in (omega arith, omega arith, inr same)
     ] in
     let e = c.split-front.ensures in
     let p = c.split-front.result.2.at in let q = c.split-front.result.1.ptr in
-    subst (λ cs. IsRow p q cs (w.room - i) 0 (w.len - m)) (sym e.4) (back_rows w.cells.at w.base.ptr w.cells.slots w.room w.before w.len inv i none le m p q e.3 is).0
+    subst (λ cs. IsRow p q cs (w.room - i) 0 (w.len - m)) (sym e.4)
+    (back_rows w.cells.at w.base.ptr w.cells.slots w.room w.before w.len inv i none le m p q e.3
+    is).0
 
 pub returns-clause-left : goal.returns-clause-left
 returns-clause-left g c =
-    let inv = c.self.invariant in let w = c.self.inside in let none = ap (λ v. v.before) c.self.view_is ∙ c.requires.0 in let le = subst (λ v. c.args.index ≤ v.room) (sym c.self.view_is) c.requires.1 in
+    let inv = c.self.invariant in
+    let w = c.self.inside in
+    let none = ap (λ v. v.before) c.self.view_is ∙ c.requires.0 in
+    let le = subst (λ v. c.args.index ≤ v.room) (sym c.self.view_is) c.requires.1 in
     let m = c.if-len-index.filled in let i = c.args.index in
     let is : (m ≤ i) × (m ≤ w.len) × ((m ≡ w.len) ⊎ (m ≡ i)) =
     elim c.if-len-index.branch [
-      | then-len-index t ↦ let lt = t.if-len-index.true in let same = t.filled-is in (omega arith, omega arith, inl same)
-      | else-len-index t ↦ let ge = t.if-len-index.false in let same = t.filled-is in (omega arith, omega arith, inr same)
+      | then-len-index t ↦ let lt =
+          t.if-len-index.true in let same = t.filled-is in (omega arith, omega arith, inl same)
+      | else-len-index t ↦ let ge =
+          t.if-len-index.false in let same = t.filled-is in (omega arith, omega arith, inr same)
     ] in
     let e = c.split-front.ensures in
-    let front = front_row w.cells.at w.base.ptr w.cells.slots w.room w.before w.len inv i none le m is in
-    ap (part w.base.ptr i 0) (ap values e.1 ∙ front.1) ∙ ap (λ v. part v.start i 0 (take i v.items)) c.self.view_is
+    let front =
+    front_row w.cells.at w.base.ptr w.cells.slots w.room w.before w.len inv i none le m is in
+    ap (part w.base.ptr i 0) (ap values e.1 ∙ front.1)
+    ∙ ap (λ v. part v.start i 0 (take i v.items)) c.self.view_is
 
 pub returns-clause-right : goal.returns-clause-right
 returns-clause-right g c =
-    let inv = c.self.invariant in let w = c.self.inside in let none = ap (λ v. v.before) c.self.view_is ∙ c.requires.0 in let le = subst (λ v. c.args.index ≤ v.room) (sym c.self.view_is) c.requires.1 in
+    let inv = c.self.invariant in
+    let w = c.self.inside in
+    let none = ap (λ v. v.before) c.self.view_is ∙ c.requires.0 in
+    let le = subst (λ v. c.args.index ≤ v.room) (sym c.self.view_is) c.requires.1 in
     let m = c.if-len-index.filled in let i = c.args.index in
     let is : (m ≤ i) × (m ≤ w.len) × ((m ≡ w.len) ⊎ (m ≡ i)) =
     elim c.if-len-index.branch [
-      | then-len-index t ↦ let lt = t.if-len-index.true in let same = t.filled-is in (omega arith, omega arith, inl same)
-      | else-len-index t ↦ let ge = t.if-len-index.false in let same = t.filled-is in (omega arith, omega arith, inr same)
+      | then-len-index t ↦ let lt =
+          t.if-len-index.true in let same = t.filled-is in (omega arith, omega arith, inl same)
+      | else-len-index t ↦ let ge =
+          t.if-len-index.false in let same = t.filled-is in (omega arith, omega arith, inr same)
     ] in
     let e = c.split-front.ensures in
     let p = c.split-front.result.2.at in let q = c.split-front.result.1.ptr in
-    let back = back_rows w.cells.at w.base.ptr w.cells.slots w.room w.before w.len inv i none le m p q e.3 is in
-    (λ j. part (e.2 j) (w.room - i) 0 ((ap values e.4 ∙ back.1) j)) ∙ (λ j. part (shifted (param 0 g.row.T) (inv.0 j) i) (w.room - i) 0 (drop i (values w.cells.slots)))
-    ∙ ap (λ v. part (shifted (param 0 g.row.T) v.start i) (v.room - i) 0 (drop i v.items)) c.self.view_is
+    let back =
+    back_rows w.cells.at w.base.ptr w.cells.slots w.room w.before w.len inv i none le m p q e.3
+    is in
+    (λ j. part (e.2 j) (w.room - i) 0 ((ap values e.4 ∙ back.1) j))
+    ∙ (λ j. part (shifted (param 0 g.row.T) (inv.0 j) i) (w.room - i) 0
+    (drop i (values w.cells.slots)))
+    ∙ ap (λ v. part (shifted (param 0 g.row.T) v.start i) (v.room - i) 0 (drop i v.items))
+    c.self.view_is

@@ -4,4 +4,8 @@ use Rattle.parallel_pool.proofs.CountSteps.{gives}
 use Rattle.parallel_pool.proofs.latch.count_latch.CountLatch.give.Goals as goal
 
 pub fetch_sub-left-requires : goal.fetch_sub-left-requires
-fetch_sub-left-requires c = (c.requires.belongs.0, omega (arith, c.args.self.now.one_word), gives _ _ _ _ c.requires.unspent)
+fetch_sub-left-requires c = (
+  c.requires.belongs.0,
+  omega (arith, c.args.self.now.one_word),
+  gives _ _ _ _ c.requires.unspent,
+)

@@ -10,5 +10,6 @@ push_as-requires-clause-pushes g c = pushes _ _ _
 
 pub returns : goal.returns
 returns g c = told c.push_as.result c.push_as.ensures.rule
-    (λ _ h. subst (λ v. HasPushed v c.args.job (worker_view c.push_as.new.self)) c.self.view_is (h.0 c.args.job refl))
+    (λ _ h. subst (λ v. HasPushed v c.args.job (worker_view c.push_as.new.self)) c.self.view_is
+    (h.0 c.args.job refl))
     (λ _ h. (h.0, h.1 ∙ c.self.view_is))

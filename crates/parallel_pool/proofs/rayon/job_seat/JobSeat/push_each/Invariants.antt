@@ -4,4 +4,5 @@ use Rattle.parallel_pool.proofs.rayon.job_seat.JobSeat.push_each.Given as goal
 
 abbrev pub invariant-loop-worker : goal.invariant-loop-worker
 invariant-loop-worker g l =
-    (done : List _) × (l.fn.jobs.items ≡ done ++ l.jobs.items) × (length done ≡ l.worker) × (length l.self.broadcasts ≡ length l.fn.self.broadcasts) × PushesFrom 0 done l.fn.self l.self
+    (done : List _) × (l.fn.jobs.items ≡ done ++ l.jobs.items) × (length done ≡ l.worker)
+    × (length l.self.broadcasts ≡ length l.fn.self.broadcasts) × PushesFrom 0 done l.fn.self l.self

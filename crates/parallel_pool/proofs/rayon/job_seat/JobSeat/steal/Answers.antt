@@ -10,6 +10,11 @@ use Rattle.parallel_pool.proofs.rayon.job_seat.JobSeat.steal.Goals as goal
 
 pub returns : goal.returns
 returns g c =
-    let long : length c.self.inside.deques.items ≡ length c.args.self.now.deques = ap (λ (s : SeatView _). length s.deques) c.self.view_is in
-    let read = get_or_read_under c.self.inside.deques.items c.args.worker _ _ newcomer c.index_mut.ensures.value (omega (arith, c.requires, long, c.self.inside.deques.ok.0)) c.self.inside.deques.ok.0 in
-    after_take (Deque c.args.worker) (λ job v w. HasTaken TakeFirst g.U.Purpose.called v job w) _ _ _ _ _ c.self.view_is read c.take.ensures
+    let long : length c.self.inside.deques.items ≡ length c.args.self.now.deques =
+    ap (λ (s : SeatView _). length s.deques) c.self.view_is in
+    let read =
+    get_or_read_under c.self.inside.deques.items c.args.worker _ _ newcomer
+    c.index_mut.ensures.value (omega (arith, c.requires, long, c.self.inside.deques.ok.0))
+    c.self.inside.deques.ok.0 in
+    after_take (Deque c.args.worker) (λ job v w. HasTaken TakeFirst g.U.Purpose.called v job w) _ _
+    _ _ _ c.self.view_is read c.take.ensures

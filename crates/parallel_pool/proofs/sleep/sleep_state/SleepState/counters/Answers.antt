@@ -4,4 +4,10 @@ use Rattle.parallel_pool.proofs.Standings.{blocked_inactive}
 use Rattle.parallel_pool.proofs.sleep.sleep_state.SleepState.counters.Goals as goal
 
 pub returns-clause-at_most : goal.returns-clause-at_most
-returns-clause-at_most c = omega (arith, blocked_inactive c.self.inside.standings.items, c.self.invariant.0, c.self.invariant.1)
+returns-clause-at_most c =
+    omega (
+      arith,
+      blocked_inactive c.self.inside.standings.items,
+      c.self.invariant.0,
+      c.self.invariant.1,
+    )

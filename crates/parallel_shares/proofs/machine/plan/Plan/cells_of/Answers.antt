@@ -1,4 +1,5 @@
--- The first unit begins before the cells end, so its cells do not run past the end of the last one's.
+-- The first unit begins before the cells end, so its cells do not run past the end of the last
+-- one's.
 use Rattle.std.proofs.Common.{◌≡◌, ap, sym, arith}
 use Rattle.std.proofs.lemmas.Nat.{mul-le}
 use Rattle.parallel_shares.specs.Sizes.{Sizes}
@@ -8,4 +9,8 @@ pub returns-clause-in_order : goal.returns-clause-in_order
 returns-clause-in_order c h =
     let p = c.self.inside in
     let e : c.args.self.now.units ≡ p.units = ap (λ (s : Sizes). s.units) (sym c.self.view_is) in
-    omega (arith, c.self.invariant.units_begin c.args.start (omega arith), mul-le c.args.start p.unit c.args.stop p.unit h (omega arith))
+    omega (
+      arith,
+      c.self.invariant.units_begin c.args.start (omega arith),
+      mul-le c.args.start p.unit c.args.stop p.unit h (omega arith),
+    )

@@ -1,4 +1,5 @@
--- The words and the places are those of the opening, which belongs to the plan and shows who holds each unit at first.
+-- The words and the places are those of the opening, which belongs to the plan and shows who holds
+-- each unit at first.
 use Rattle.std.proofs.Common.{rules, ◌≡◌, map, sym, subst}
 use Rattle.parallel_shares.specs.Cut.{BalancedCut}
 use Rattle.parallel_shares.specs.Words.{range_of}
@@ -18,15 +19,20 @@ is_opening c = search rules
 
 pub returns-clause-belongs : goal.returns-clause-belongs
 returns-clause-belongs c =
-    subst (λ m. IsStateOf c.args.plan.now m) (sym (is_opening c)) (opening_is_state c.args.plan.now c.opening_words.ensures.sound)
+    subst (λ m. IsStateOf c.args.plan.now m) (sym (is_opening c))
+    (opening_is_state c.args.plan.now c.opening_words.ensures.sound)
 
 pub returns-clause-balanced : goal.returns-clause-balanced
 returns-clause-balanced c =
     let plan = c.args.plan.now in
-    subst (λ m. BalancedCut plan.units (map range_of m.words)) (sym (is_opening c)) (opening_balanced plan c.opening_words.ensures.sound)
+    subst (λ m. BalancedCut plan.units (map range_of m.words)) (sym (is_opening c))
+    (opening_balanced plan c.opening_words.ensures.sound)
 
 pub returns-clause-shows : goal.returns-clause-shows
 returns-clause-shows c =
     let plan = c.args.plan.now in
-    let sound = c.opening_words.ensures.sound in
-    (first plan sound, first_is_opening plan sound, subst (λ m. Shows plan m (first plan sound)) (sym (is_opening c)) (opening_shows plan sound))
+    let sound = c.opening_words.ensures.sound in (
+      first plan sound,
+      first_is_opening plan sound,
+      subst (λ m. Shows plan m (first plan sound)) (sym (is_opening c)) (opening_shows plan sound),
+    )

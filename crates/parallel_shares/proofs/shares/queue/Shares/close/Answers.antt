@@ -12,8 +12,10 @@ returns-clause-partition c =
     let at = last.1.1 in
     let are = last.2 in
     let k = subst (λ z. Kept z s) c.args.self.key last.1.0 in
-    subst (λ ws. IsPartition c.args.self.plan ws c.args.seats.items) (are ∙ sym c.final_words-words.ensures)
-    (partition c.args.self c.args.seats.items c.requires s k c.gather-all.result.id c.gather-all.result.me.0 at c.gather-all.ensures.view)
+    subst (λ ws. IsPartition c.args.self.plan ws c.args.seats.items)
+    (are ∙ sym c.final_words-words.ensures)
+    (partition c.args.self c.args.seats.items c.requires s k c.gather-all.result.id
+    c.gather-all.result.me.0 at c.gather-all.ensures.view)
 
 pub returns-clause-empty : goal.returns-clause-empty
 returns-clause-empty c done =
@@ -23,7 +25,8 @@ returns-clause-empty c done =
     let are = last.2 in
     let k = subst (λ z. Kept z s) c.args.self.key last.1.0 in
     subst AllEmpty (are ∙ sym c.final_words-words.ensures)
-    (empty c.args.self c.args.seats.items c.requires s k c.gather-all.result.id c.gather-all.result.me.0 at c.gather-all.ensures.view done)
+    (empty c.args.self c.args.seats.items c.requires s k c.gather-all.result.id
+    c.gather-all.result.me.0 at c.gather-all.ensures.view done)
 
 pub returns-clause-each_once : goal.returns-clause-each_once
 returns-clause-each_once c done =
@@ -32,7 +35,8 @@ returns-clause-each_once c done =
     let at = last.1.1 in
     let are = last.2 in
     let k = subst (λ z. Kept z s) c.args.self.key last.1.0 in
-    each_once c.args.self c.args.seats.items c.requires s k c.gather-all.result.id c.gather-all.result.me.0 at c.gather-all.ensures.view done
+    each_once c.args.self c.args.seats.items c.requires s k c.gather-all.result.id
+    c.gather-all.result.me.0 at c.gather-all.ensures.view done
 
 pub returns-clause-opening : goal.returns-clause-opening
 returns-clause-opening c none_of =
@@ -42,4 +46,5 @@ returns-clause-opening c none_of =
     let are = last.2 in
     let k = subst (λ z. Kept z s) c.args.self.key last.1.0 in
     c.final_words-words.ensures ∙ sym are
-    ∙ opening_stands c.args.self c.args.seats.items c.requires s k c.gather-all.result.id c.gather-all.result.me.0 at c.gather-all.ensures.view none_of
+    ∙ opening_stands c.args.self c.args.seats.items c.requires s k c.gather-all.result.id
+    c.gather-all.result.me.0 at c.gather-all.ensures.view none_of

@@ -19,15 +19,20 @@ split_seat-seat-requires c =
     let view = ap (λ m. m.0) c.loop-index.invariant.view in (
       c.loop-index.invariant.table,
       omega (arith, shares.words, some_shares shares.plan shares.sound),
-      rw (shares.key, view) (splits shares.plan shares.sound c.loop-index.first.id c.loop-index.index),
+      rw (shares.key, view) (splits shares.plan shares.sound c.loop-index.first.id
+          c.loop-index.index),
     )
 
 pub seated-requires : goal.seated-requires
 seated-requires c =
     let shares = c.args.self.now in
     let view = ap (λ m. m.0) c.loop-index.invariant.view in
-    let more : c.loop-index.index < shares.plan.workers = omega (arith, c.workers-workers.ensures) in
-    (shares.plan, c.split_seat-seat.ensures.4 ∙ ap (λ v. (dealt v, [])) view ∙ ap (λ v. (v, [])) (first_dealt shares.plan c.loop-index.index more))
+    let more : c.loop-index.index < shares.plan.workers =
+    omega (arith, c.workers-workers.ensures) in (
+      shares.plan,
+      c.split_seat-seat.ensures.4 ∙ ap (λ v. (dealt v, [])) view
+          ∙ ap (λ v. (v, [])) (first_dealt shares.plan c.loop-index.index more),
+    )
 
 pub loop-index-preserved : goal.loop-index-preserved
 loop-index-preserved c =
@@ -39,12 +44,18 @@ loop-index-preserved c =
     let x = c.seated.result in
     let made = c.seated.ensures in
     let split = c.split_seat-seat.ensures in
-    let table : x.seat.table_id ≡ shares.table.shared.table_id = ap (λ s. s.table_id) made.0 ∙ split.3 ∙ i.table in
-    let own : c.split_seat-seat.result.me ≡ (fresh_view shares.plan (index ∷ []), []) = split.4 ∙ ap (λ v. (dealt v, [])) view ∙ ap (λ v. (v, [])) (first_dealt shares.plan index more) in
+    let table : x.seat.table_id ≡ shares.table.shared.table_id = ap (λ s. s.table_id) made.0
+    ∙ split.3 ∙ i.table in
+    let own : c.split_seat-seat.result.me ≡ (fresh_view shares.plan (index ∷ []), []) = split.4
+    ∙ ap (λ v. (dealt v, [])) view ∙ ap (λ v. (v, [])) (first_dealt shares.plan index more) in
     let me : x.seat.me ≡ (fresh_view shares.plan (index ∷ []), []) = ap (λ s. s.me) made.0 ∙ own in
-    let left : c.split_seat-seat.new.seat.me ≡ (undealt shares.plan (index + 1), []) = split.2 ∙ ap (λ m. (dealt_from m.0, m.1)) i.view ∙ ap (λ v. (v, [])) (rest_dealt shares.plan index more) in
+    let left : c.split_seat-seat.new.seat.me ≡ (undealt shares.plan (index + 1), []) = split.2
+    ∙ ap (λ m. (dealt_from m.0, m.1)) i.view
+    ∙ ap (λ v. (v, [])) (rest_dealt shares.plan index more) in
     record {
       table = split.0 ∙ i.table;
       view = left;
-      seats = dealt_more shares index c.loop-index.seats.items c.push.new.self.items x i.seats (is_seat shares x index table made.1 more me made.2 made.3) made.1 (is_fresh shares x index table made.1 more me made.2 made.3) c.in_ok-push.ensures.items;
+      seats = dealt_more shares index c.loop-index.seats.items c.push.new.self.items x i.seats
+          (is_seat shares x index table made.1 more me made.2 made.3) made.1
+          (is_fresh shares x index table made.1 more me made.2 made.3) c.in_ok-push.ensures.items;
     }

@@ -15,7 +15,8 @@ loop-share-preserved c =
     let first = known c.args.seat.now in
     let seat = known c.loop-share.seat in
     let i = c.loop-share.invariant in
-    let exists : n < shares_of plan = omega (arith, c.loop-share-test.true, c.shares-share-end.ensures.shares) in
+    let exists : n < shares_of plan =
+    omega (arith, c.loop-share-test.true, c.shares-share-end.ensures.shares) in
     let fits : n < length seat.words = omega (arith, i.seat.words, exists) in
     let counts : n < length seat.loads = omega (arith, i.seat.loads, exists) in
     elim c.if-share-own.branch [
@@ -27,9 +28,16 @@ loop-share-preserved c =
             seat = now.ensures.seat;
             same = (now.ensures.same.0 ∙ i.same.0, now.ensures.same.1 ∙ i.same.1);
             emptied = now.ensures.emptied ∙ i.emptied;
-            only = subst (OnlyLooks first) (sym now.ensures.view) (only_more plan own n first seat now.result apart fits counts i.only);
-            looks = subst (λ v. LooksRound plan own (n + 1) first v) (sym now.ensures.view) (looks_more plan own n first seat now.result apart fits counts now.ensures.within now.ensures.splits i.looks);
-            best = subst (λ v. IsBest plan own (n + 1) v (Some (record { share = n; word = now.result }))) (sym now.ensures.view) (better plan own n first seat now.result apart fits counts c.loop-share.best (rw w.if-is_better.true at w.is_better.ensures) i.best);
+            only = subst (OnlyLooks first) (sym now.ensures.view)
+                (only_more plan own n first seat now.result apart fits counts i.only);
+            looks = subst (λ v. LooksRound plan own (n + 1) first v) (sym now.ensures.view)
+                (looks_more plan own n first seat now.result apart fits counts now.ensures.within
+                now.ensures.splits i.looks);
+            best =
+                subst (λ v. IsBest plan own (n + 1) v
+                (Some (record { share = n; word = now.result }))) (sym now.ensures.view)
+                (better plan own n first seat now.result apart fits counts c.loop-share.best
+                (rw w.if-is_better.true at w.is_better.ensures) i.best);
           })
       | then-share-own+else-is_better w ↦
           let apart : n ≢ own = λ is. w.if-share-own.true (is ∙ sym c.share_of-own.ensures) in
@@ -39,9 +47,14 @@ loop-share-preserved c =
             seat = now.ensures.seat;
             same = (now.ensures.same.0 ∙ i.same.0, now.ensures.same.1 ∙ i.same.1);
             emptied = now.ensures.emptied ∙ i.emptied;
-            only = subst (OnlyLooks first) (sym now.ensures.view) (only_more plan own n first seat now.result apart fits counts i.only);
-            looks = subst (λ v. LooksRound plan own (n + 1) first v) (sym now.ensures.view) (looks_more plan own n first seat now.result apart fits counts now.ensures.within now.ensures.splits i.looks);
-            best = subst (λ v. IsBest plan own (n + 1) v c.loop-share.best) (sym now.ensures.view) (no_better plan own n first seat now.result apart fits counts c.loop-share.best (rw w.if-is_better.false at w.is_better.ensures) i.best);
+            only = subst (OnlyLooks first) (sym now.ensures.view)
+                (only_more plan own n first seat now.result apart fits counts i.only);
+            looks = subst (λ v. LooksRound plan own (n + 1) first v) (sym now.ensures.view)
+                (looks_more plan own n first seat now.result apart fits counts now.ensures.within
+                now.ensures.splits i.looks);
+            best = subst (λ v. IsBest plan own (n + 1) v c.loop-share.best) (sym now.ensures.view)
+                (no_better plan own n first seat now.result apart fits counts c.loop-share.best
+                (rw w.if-is_better.false at w.is_better.ensures) i.best);
           })
       | else-share-own w ↦
           let is : n ≡ own = omega (arith, w.if-share-own.false, c.share_of-own.ensures) in

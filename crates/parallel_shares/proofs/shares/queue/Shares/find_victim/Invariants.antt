@@ -10,6 +10,7 @@ invariant-loop-share l = record {
   same : IsSameSeat l.fn.seat l.seat;
   emptied : has_emptied l.seat ≡ has_emptied l.fn.seat;
   only : OnlyLooks (known l.fn.seat) (known l.seat);
-  looks : LooksRound l.self.plan (own_share l.self l.fn.seat) l.share (known l.fn.seat) (known l.seat);
+  looks : LooksRound l.self.plan (own_share l.self l.fn.seat) l.share (known l.fn.seat)
+      (known l.seat);
   best : IsBest l.self.plan (own_share l.self l.fn.seat) l.share (known l.seat) l.best;
 }

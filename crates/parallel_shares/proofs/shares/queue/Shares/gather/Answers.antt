@@ -23,12 +23,15 @@ join_seat-requires c =
     let shares = c.args.self.now in
     let x = c.in-Some-pop.field-0 in
     let i = c.loop-seat.invariant in
-    let last = the_last (IsSeatOf shares) c.pop-in-loop-seat.new.self.items c.loop-seat.seats.items x c.in-Some-pop.ensures.items i.each in (
+    let last =
+    the_last (IsSeatOf shares) c.pop-in-loop-seat.new.self.items c.loop-seat.seats.items x
+    c.in-Some-pop.ensures.items i.each in (
       i.table,
       last.table,
       x.no_slots,
       omega (arith, shares.words, some_shares shares.plan shares.sound),
-      rw shares.key (joins shares.plan shares.sound c.loop-seat.all.id x.seat.id c.loop-seat.all.me.0 x.seat.me.0),
+      rw shares.key (joins shares.plan shares.sound c.loop-seat.all.id x.seat.id
+          c.loop-seat.all.me.0 x.seat.me.0),
     )
 
 pub loop-seat-preserved : goal.loop-seat-preserved
@@ -42,5 +45,7 @@ loop-seat-preserved c =
     record {
       table = c.join_seat.ensures.0 ∙ i.table;
       each = each_left (IsSeatOf shares) left old x cut i.each;
-      has = subst (λ v. Gathering v left c.args.seats.items) (sym (ap (λ m. m.0) c.join_seat.ensures.2)) (gathers_more c.loop-seat.all.me.0 old left c.args.seats.items x i.has cut);
+      has = subst (λ v. Gathering v left c.args.seats.items)
+          (sym (ap (λ m. m.0) c.join_seat.ensures.2))
+          (gathers_more c.loop-seat.all.me.0 old left c.args.seats.items x i.has cut);
     }

@@ -9,5 +9,6 @@ load-requires c =
     let seat = c.args.seat.now in (
       c.requires.belongs.table,
       omega (arith, shares.words, c.requires.exists),
-      rw shares.key (looks_at shares.plan shares.sound shares.table.shared.table_id.slots seat.seat.id c.args.share seat.index seat.seat.me c.requires.belongs.plan seat.owns),
+      rw shares.key (looks_at shares.plan shares.sound shares.table.shared.table_id.slots
+          seat.seat.id c.args.share seat.index seat.seat.me c.requires.belongs.plan seat.owns),
     )

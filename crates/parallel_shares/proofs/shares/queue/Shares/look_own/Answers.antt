@@ -11,5 +11,7 @@ load-word-requires c =
     let exists = share_exists shares.plan seat.index c.requires.index in (
       c.requires.table,
       omega (arith, shares.words, c.share_of-share.ensures, exists),
-      rw shares.key (looks_own shares.plan shares.sound shares.table.shared.table_id.slots seat.seat.id c.share_of-share.result seat.index seat.seat.me c.requires.plan seat.owns c.share_of-share.ensures),
+      rw shares.key (looks_own shares.plan shares.sound shares.table.shared.table_id.slots
+          seat.seat.id c.share_of-share.result seat.index seat.seat.me c.requires.plan seat.owns
+          c.share_of-share.ensures),
     )

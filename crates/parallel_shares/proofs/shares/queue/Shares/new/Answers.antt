@@ -11,16 +11,28 @@ use Rattle.parallel_shares.proofs.shares.queue.Shares.new.Goals as goal
 pub of_words-requires : goal.of_words-requires
 of_words-requires c =
     let plan = c.new-plan.result in
-    subst (λ ws. Kept plan (opening ws [] (undealt plan 0))) (sym (c.deref.ensures.value ∙ c.in_ok-words.ensures.words)) (opens plan c.new-plan.ensures.sound)
+    subst (λ ws. Kept plan (opening ws [] (undealt plan 0)))
+    (sym (c.deref.ensures.value ∙ c.in_ok-words.ensures.words))
+    (opens plan c.new-plan.ensures.sound)
 
 -- there is a word for each share
 words_count : (c : In_ok-table) → length c.in_ok-words.words.items ≡ shares_of c.new-plan.result
 words_count c =
-    let plan = c.new-plan.result in ap length c.in_ok-words.ensures.words ∙ length_opening plan (shares_of plan)
+    let plan = c.new-plan.result in
+    ap length c.in_ok-words.ensures.words ∙ length_opening plan (shares_of plan)
 
 pub over-shares-requires-clause-words : goal.over-shares-requires-clause-words
-over-shares-requires-clause-words c = c.in_ok-table.ensures.0 ∙ ap length c.deref.ensures.value ∙ words_count c
+over-shares-requires-clause-words c = c.in_ok-table.ensures.0 ∙ ap length c.deref.ensures.value
+    ∙ words_count c
 
 pub over-shares-requires-clause-room : goal.over-shares-requires-clause-room
-over-shares-requires-clause-room c =
-    (omega (arith, c.in_ok-last.ensures.len), omega (arith, c.in_ok-last.ensures.capacity, c.len.ensures, words_count c, c.in_ok-words.words.ok.0))
+over-shares-requires-clause-room c = (
+  omega (arith, c.in_ok-last.ensures.len),
+  omega (
+    arith,
+    c.in_ok-last.ensures.capacity,
+    c.len.ensures,
+    words_count c,
+    c.in_ok-words.words.ok.0,
+  ),
+)

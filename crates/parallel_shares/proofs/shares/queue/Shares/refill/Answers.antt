@@ -17,8 +17,13 @@ store-requires c =
     let transit : seat.transit ≡ Some units = sym c.in_transit.ensures ∙ c.in-Some.is in
     let carried = subst (Carries plan seat.own_empty) transit asks.carries in
     let own : share_of plan seat.index ≡ seat.index = ap (λ b. cond b 0 seat.index) carried.3 in
-    let exists : seat.index < shares_of plan = subst (λ n. n < shares_of plan) own (share_exists plan seat.index asks.index) in (
+    let exists : seat.index < shares_of plan =
+    subst (λ n. n < shares_of plan) own (share_exists plan seat.index asks.index) in (
       asks.table,
       omega (arith, shares.words, c.share_of-share.ensures, own, exists),
-      rw shares.key (puts_down plan shares.sound shares.table.shared.table_id.slots seat.seat.id c.share_of-share.result seat.index units c.pack-word.result seat.seat.me seat.owns (seat.empties ∙ ap (λ b. cond b (seat.index ∷ []) []) carried.2) (seat.carries ∙ ap ranges_of transit) carried.3 carried.0 carried.1 exists (c.share_of-share.ensures ∙ own) c.pack-word.ensures),
+      rw shares.key (puts_down plan shares.sound shares.table.shared.table_id.slots seat.seat.id
+          c.share_of-share.result seat.index units c.pack-word.result seat.seat.me seat.owns
+          (seat.empties ∙ ap (λ b. cond b (seat.index ∷ []) []) carried.2)
+          (seat.carries ∙ ap ranges_of transit) carried.3 carried.0 carried.1 exists
+          (c.share_of-share.ensures ∙ own) c.pack-word.ensures),
     )

@@ -13,7 +13,13 @@ loop-init g c = record {
   goes_on = (tt, tt);
   seat = c.requires.belongs;
   index = refl;
-  chain = ([], sym (append-nil (claims_of c.args.seat.now)), All-nil (IsFront (plan_of c.args.self.now)), way_begins _ _ c.args.len c.args.state.now c.new-results.result.items c.new-results.ensures.items);
+  chain = (
+    [],
+    sym (append-nil (claims_of c.args.seat.now)),
+    All-nil (IsFront (plan_of c.args.self.now)),
+    way_begins _ _ c.args.len c.args.state.now c.new-results.result.items
+        c.new-results.ensures.items,
+  );
 }
 
 pub loop-preserved : goal.loop-preserved
@@ -29,14 +35,20 @@ loop-preserved g c =
       index = c.claim.ensures.index ∙ i.index;
       chain = (
         gained ++ claim ∷ [],
-        answer.0 ∙ ap (λ xs. xs ++ claim ∷ []) i.chain.1 ∙ append_assoc (claims_of c.args.seat.now) gained (claim ∷ []),
-        All-append front gained (claim ∷ []) i.chain.2 (All-cons front claim [] answer.2 (All-nil front)),
-        rw (cells_push gained claim) (c.in_ok-opened.ensures.chain c.args.state.now (all_cells gained) i.chain.3),
+        answer.0 ∙ ap (λ xs. xs ++ claim ∷ []) i.chain.1
+            ∙ append_assoc (claims_of c.args.seat.now) gained (claim ∷ []),
+        All-append front gained (claim ∷ []) i.chain.2
+            (All-cons front claim [] answer.2 (All-nil front)),
+        rw (cells_push gained claim) (c.in_ok-opened.ensures.chain c.args.state.now
+            (all_cells gained) i.chain.3),
       );
     }
 
 pub returns-in_default-clause-chain : goal.returns-in_default-clause-chain
 returns-in_default-clause-chain g c =
     let chain = c.loop.invariant.chain in
-    let ends = way_ends _ _ c.args.len c.args.state.now (all_cells chain.0) c.loop.opened c.loop.results.items c.loop.state chain.3 c.finish_open.new.state c.finish_open.new.results.items c.in_ok-finish_open.ensures.closes in
+    let ends = way_ends _ _ c.args.len c.args.state.now
+    (all_cells chain.0) c.loop.opened c.loop.results.items c.loop.state chain.3
+    c.finish_open.new.state c.finish_open.new.results.items c.in_ok-finish_open.ensures.closes
+    in
     (chain.0, ends.0, c.in_default.ensures.answer.0 ∙ chain.1, chain.2, ends.1, ends.2)

@@ -9,8 +9,12 @@ use Rattle.parallel_shares.proofs.shares.queue.Shares.run.Given as goal
 
 abbrev pub invariant-loop : goal.invariant-loop
 invariant-loop g l = record {
-  goes_on : (goal.iterator-loop g).can_next l.iterator' × (goal.iterator-loop g).is_finite l.iterator';
+  goes_on : (goal.iterator-loop g).can_next l.iterator'
+      × (goal.iterator-loop g).is_finite l.iterator';
   seat : IsSeatOf l.self l.seat;
   index : index_of l.seat ≡ index_of l.fn.seat;
-  chain : (gained : List (Range ℕ)) × (claims_of l.seat ≡ claims_of l.fn.seat ++ gained) × All (IsFront (plan_of l.self)) gained × Underway (Fills (goal.L-post g l.fill)) (Gives (goal.N-post g l.finish)) l.len l.fn.state (all_cells gained) l.opened l.results.items l.state;
+  chain : (gained : List (Range ℕ)) × (claims_of l.seat ≡ claims_of l.fn.seat ++ gained)
+      × All (IsFront (plan_of l.self)) gained
+      × Underway (Fills (goal.L-post g l.fill)) (Gives (goal.N-post g l.finish)) l.len l.fn.state
+      (all_cells gained) l.opened l.results.items l.state;
 }

@@ -11,5 +11,8 @@ compare_exchange-found-requires c =
     let asks = c.requires.belongs in (
       asks.table,
       omega (arith, shares.words, c.requires.exists),
-      rw shares.key (takes_back shares.plan shares.sound shares.table.shared.table_id.slots seat.seat.id c.args.victim.share seat.index c.args.victim.word c.pack-next.result seat.seat.me seat.owns (seat.carries ∙ ap ranges_of c.requires.empty_handed) c.requires.exists c.requires.within c.requires.pays (omega (arith, c.pack-next.ensures))),
+      rw shares.key (takes_back shares.plan shares.sound shares.table.shared.table_id.slots
+          seat.seat.id c.args.victim.share seat.index c.args.victim.word c.pack-next.result
+          seat.seat.me seat.owns (seat.carries ∙ ap ranges_of c.requires.empty_handed)
+          c.requires.exists c.requires.within c.requires.pays (omega (arith, c.pack-next.ensures))),
     )

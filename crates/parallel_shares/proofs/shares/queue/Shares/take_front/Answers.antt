@@ -10,8 +10,11 @@ compare_exchange-requires c =
     let shares = c.args.self.now in
     let seat = c.args.seat.now in
     let asks = c.requires.seat in
-    let exists : c.share_of-share.result < shares_of shares.plan = omega (arith, c.share_of-share.ensures, share_exists shares.plan seat.index asks.index) in (
+    let exists : c.share_of-share.result < shares_of shares.plan =
+    omega (arith, c.share_of-share.ensures, share_exists shares.plan seat.index asks.index) in (
       asks.table,
       omega (arith, shares.words, exists),
-      rw shares.key (takes_front shares.plan shares.sound shares.table.shared.table_id.slots seat.seat.id c.share_of-share.result seat.index c.args.word c.args.next seat.seat.me asks.plan seat.owns exists c.requires.within c.requires.some c.requires.front),
+      rw shares.key (takes_front shares.plan shares.sound shares.table.shared.table_id.slots
+          seat.seat.id c.share_of-share.result seat.index c.args.word c.args.next seat.seat.me
+          asks.plan seat.owns exists c.requires.within c.requires.some c.requires.front),
     )

@@ -3,4 +3,14 @@ use Rattle.std.proofs.Common.{rules}
 use Rattle.commonware_parallel.proofs.batches.dispatched.fn.batches_through.body.Goals as goal
 
 pub returns : goal.returns
-returns g c = record { answers = (c.in_ok-batches.batches, c.in_ok-batches.ensures.batch, search rules, c.in_ok-batches.ensures.place, search rules); fault = tt }
+returns g c =
+    record {
+      answers = (
+        c.in_ok-batches.batches,
+        c.in_ok-batches.ensures.batch,
+        search rules,
+        c.in_ok-batches.ensures.place,
+        search rules,
+      );
+      fault = tt;
+    }
