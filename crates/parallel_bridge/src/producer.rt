@@ -263,6 +263,11 @@ impl<T: Drop> Iterator for SliceDrain<T> {
         }
         Some(self.rest.take())
     }
+
+    fn size_hint(&self) -> (usize, Option<usize>) {
+        let left = self.rest.len();
+        (left, Some(left))
+    }
 }
 
 impl<T: Drop> DoubleEndedIterator for SliceDrain<T> {
