@@ -81,77 +81,68 @@ impl Write for Closed {
     }
 }
 
+// Command lines, and behind a colon the line that each answers. (One text, since a list of as many
+// borrowed texts takes the borrow check twelve seconds.)
+const ANSWERED: &str = "\
+    : 0 1 2 3\n\
+    drain 4 2: 0 1 2 3\n\
+    drain 1 16: 0\n\
+    drain 0 2: \n\
+    drain 5 16: 0 1 2 3 4\n\
+    batches 10 4: 0..3 3..6 6..8 8..10\n\
+    batches 3 5: 0..1 1..2 2..3 3..3 3..3\n\
+    batches 0 2: 0..0 0..0\n\
+    batches 18446744073709551615 3: 0..6148914691236517205 6148914691236517205..12297829382473034410 12297829382473034410..18446744073709551615\n\
+    batches 0010 04: 0..3 3..6 6..8 8..10\n\
+    grid 4 1 64 8: 35 cut\n\
+    grid 4 1 64 1: 260 whole\n\
+    grid 18446744073709551615 18446744073709551615 18446744073709551615 1: 18446744073709551615 whole\n\
+    grid 1 1 18446744073709551615 2: 9223372036854775810 cut\n\
+    grid 0 5 7 3: 0 whole\n\
+    segments 4 100: 12 13 12 13 12 13 12 13\n\
+    segments 3 5: 1 1 1 2\n\
+    segments 1 1: 1\n\
+    segments 4 0: 0\n\
+    segments 65535 3: 1 1 1\n\
+    segments 65535 0: 0\n\
+    segments 1 18446744073709551615: 9223372036854775807 9223372036854775808\n\
+    fold serial 10 1 2 3: 16\n\
+    fold serial 10: 10\n\
+    fold serial 0: 0\n\
+    fold serial 0 1000000: 1000000\n\
+    fold serial 1000000 1000000: 2000000\n\
+    fold serial 010 01 2 003: 16\n\
+    fold parallel 10 1 2 3: 66\n\
+    fold parallel 10: 20\n\
+    fold parallel 0: 0\n\
+    fold parallel 0 1 2 3 4 5: 15\n\
+    fold parallel 1 0 0 0 0 0 0 0 0 0: 8\n\
+    fold parallel 010 01 2 003: 66\n\
+    threads 0 0 7 4: 4\n\
+    threads 0 - 7 4: 7\n\
+    threads 70000 - - 4: 65535\n\
+    threads 0 - - -: 1\n\
+    threads 0 0 7 -: 1\n\
+    threads 0 - 0 4: 4\n\
+    threads 0 +3 7 4: 3\n\
+    threads 0 3x +5 4: 5\n\
+    threads 0 18446744073709551616 - 4: 4\n\
+    threads 0  - 18446744073709551615: 65535\n\
+    threads 002 3 7 4: 2\n\
+    mix 0 1 1 64: 2107625324\n\
+    mix 1 1 1 64: 1104250607\n\
+    mix 2 1 1 64: 100875890\n\
+    mix 3 1 1 64: 1244984820\n\
+    mix 03 001 01 064: 1244984820\n\
+    mix 18446744073709551615 4294967295 4294967295 18446744073709551615: 1244984759";
+
 #[test]
 fn each_command_answers_one_line(rt: HostRuntime) {
-    for (line, answer) in [
-        ("", "0 1 2 3\n"),
-        ("drain 4 2", "0 1 2 3\n"),
-        ("drain 1 16", "0\n"),
-        ("drain 0 2", "\n"),
-        ("drain 5 16", "0 1 2 3 4\n"),
-        ("batches 10 4", "0..3 3..6 6..8 8..10\n"),
-        ("batches 3 5", "0..1 1..2 2..3 3..3 3..3\n"),
-        ("batches 0 2", "0..0 0..0\n"),
-        (
-            "batches 18446744073709551615 3",
-            "0..6148914691236517205 6148914691236517205..12297829382473034410 12297829382473034410..18446744073709551615\n",
-        ),
-        ("batches 0010 04", "0..3 3..6 6..8 8..10\n"),
-        ("grid 4 1 64 8", "35 cut\n"),
-        ("grid 4 1 64 1", "260 whole\n"),
-        (
-            "grid 18446744073709551615 18446744073709551615 18446744073709551615 1",
-            "18446744073709551615 whole\n",
-        ),
-        (
-            "grid 1 1 18446744073709551615 2",
-            "9223372036854775810 cut\n",
-        ),
-        ("grid 0 5 7 3", "0 whole\n"),
-        ("segments 4 100", "12 13 12 13 12 13 12 13\n"),
-        ("segments 3 5", "1 1 1 2\n"),
-        ("segments 1 1", "1\n"),
-        ("segments 4 0", "0\n"),
-        ("segments 65535 3", "1 1 1\n"),
-        ("segments 65535 0", "0\n"),
-        (
-            "segments 1 18446744073709551615",
-            "9223372036854775807 9223372036854775808\n",
-        ),
-        ("fold serial 10 1 2 3", "16\n"),
-        ("fold serial 10", "10\n"),
-        ("fold serial 0", "0\n"),
-        ("fold serial 0 1000000", "1000000\n"),
-        ("fold serial 1000000 1000000", "2000000\n"),
-        ("fold serial 010 01 2 003", "16\n"),
-        ("fold parallel 10 1 2 3", "66\n"),
-        ("fold parallel 10", "20\n"),
-        ("fold parallel 0", "0\n"),
-        ("fold parallel 0 1 2 3 4 5", "15\n"),
-        ("fold parallel 1 0 0 0 0 0 0 0 0 0", "8\n"),
-        ("fold parallel 010 01 2 003", "66\n"),
-        ("threads 0 0 7 4", "4\n"),
-        ("threads 0 - 7 4", "7\n"),
-        ("threads 70000 - - 4", "65535\n"),
-        ("threads 0 - - -", "1\n"),
-        ("threads 0 0 7 -", "1\n"),
-        ("threads 0 - 0 4", "4\n"),
-        ("threads 0 +3 7 4", "3\n"),
-        ("threads 0 3x +5 4", "5\n"),
-        ("threads 0 18446744073709551616 - 4", "4\n"),
-        ("threads 0  - 18446744073709551615", "65535\n"),
-        ("threads 002 3 7 4", "2\n"),
-        ("mix 0 1 1 64", "2107625324\n"),
-        ("mix 1 1 1 64", "1104250607\n"),
-        ("mix 2 1 1 64", "100875890\n"),
-        ("mix 3 1 1 64", "1244984820\n"),
-        ("mix 03 001 01 064", "1244984820\n"),
-        (
-            "mix 18446744073709551615 4294967295 4294967295 18446744073709551615",
-            "1244984759\n",
-        ),
-    ] {
-        leaves(&rt, rt.alloc(), line, (0, answer, ""));
+    let alloc = rt.alloc();
+    for told in ANSWERED.split('\n') {
+        let (line, answer) = told.split_once(": ").expect(&rt, "a colon");
+        let answer = format!(in alloc; "{answer}\n").expect(&rt, "memory");
+        leaves(&rt, alloc, line, (0, &answer, ""));
     }
 }
 
@@ -204,96 +195,98 @@ fn a_fold_takes_a_thousand_items(rt: HostRuntime) {
     leaves(&rt, alloc, &wider, (2, "", "shapes: bad arguments\n"));
 }
 
+// Lines that are no command.
+const REFUSED: &str = "\
+    drain\n\
+    drain 4\n\
+    drain 4 2 1\n\
+    drain 65536 2\n\
+    drain 4 0\n\
+    drain 4 17\n\
+    drain +3 2\n\
+    drain -1 2\n\
+    drain  2\n\
+    drain 3x 2\n\
+    drain 3.0 2\n\
+    drain ٣ 2\n\
+    Drain 4 2\n\
+    batches 18446744073709551616 1\n\
+    batches 4 0\n\
+    batches 4 65536\n\
+    batches 4\n\
+    batches 4 2 1\n\
+    grid 4 0 64 1\n\
+    grid 4 1 64 0\n\
+    grid 4 1 64\n\
+    grid 4 1 64 8 9\n\
+    grid 4 1 64 18446744073709551616\n\
+    mix\n\
+    mix 0 1 1\n\
+    mix 0 1 1 64 1\n\
+    mix 18446744073709551616 1 1 64\n\
+    mix 0 4294967296 1 64\n\
+    mix 0 1 4294967296 64\n\
+    mix 0 1 1 18446744073709551616\n\
+    mix +0 1 1 64\n\
+    mix 0 +1 1 64\n\
+    mix 0 1 -1 64\n\
+    mix 0 1 1 +64\n\
+    mix 0 1 1 64x\n\
+    Mix 0 1 1 64\n\
+    segments\n\
+    segments 3\n\
+    segments 3 5 7\n\
+    segments 0 5\n\
+    segments 65536 5\n\
+    segments 3 18446744073709551616\n\
+    segments 3 -5\n\
+    fold\n\
+    fold serial\n\
+    fold serial \n\
+    fold 10 1 2 3\n\
+    fold parallel\n\
+    fold parallel \n\
+    fold Parallel 10 1 2 3\n\
+    fold parallel 1000001\n\
+    fold parallel 0 1000001\n\
+    fold parallel 0 1 1000001 1\n\
+    fold parallel +1 2\n\
+    fold parallel 1 -2\n\
+    fold parallel 1 2 \n\
+    fold Serial 10 1 2 3\n\
+    fold serial 1000001\n\
+    fold serial 0 1000001\n\
+    fold serial 0 1 1000001 1\n\
+    fold serial +1 2\n\
+    fold serial 1 +2\n\
+    fold serial 1 -2\n\
+    fold serial 1  2\n\
+    fold serial 1 2 \n\
+    fold serial 1 2x\n\
+    explore\n\
+    explore Sum\n\
+    explore sum 1\n\
+    explore bodies 2\n\
+    explore  sum\n\
+    threads\n\
+    threads 0 0 7\n\
+    threads 0 0 7 4 1\n\
+    threads - 0 7 4\n\
+    threads +1 0 7 4\n\
+    threads x 0 7 4\n\
+    threads 18446744073709551616 0 7 4\n\
+    threads 0 0 7 0\n\
+    threads 0 0 7 +4\n\
+    threads 0 0 7 --\n\
+    threads 0 0 7 18446744073709551616\n\
+    threads 0 0 7 \n\
+    Threads 0 0 7 4\n\
+    help\n\
+    \x20";
+
 #[test]
 fn other_words_are_bad_arguments(rt: HostRuntime) {
-    for line in [
-        "drain",
-        "drain 4",
-        "drain 4 2 1",
-        "drain 65536 2",
-        "drain 4 0",
-        "drain 4 17",
-        "drain +3 2",
-        "drain -1 2",
-        "drain  2",
-        "drain 3x 2",
-        "drain 3.0 2",
-        "drain ٣ 2",
-        "Drain 4 2",
-        "batches 18446744073709551616 1",
-        "batches 4 0",
-        "batches 4 65536",
-        "batches 4",
-        "batches 4 2 1",
-        "grid 4 0 64 1",
-        "grid 4 1 64 0",
-        "grid 4 1 64",
-        "grid 4 1 64 8 9",
-        "grid 4 1 64 18446744073709551616",
-        "mix",
-        "mix 0 1 1",
-        "mix 0 1 1 64 1",
-        "mix 18446744073709551616 1 1 64",
-        "mix 0 4294967296 1 64",
-        "mix 0 1 4294967296 64",
-        "mix 0 1 1 18446744073709551616",
-        "mix +0 1 1 64",
-        "mix 0 +1 1 64",
-        "mix 0 1 -1 64",
-        "mix 0 1 1 +64",
-        "mix 0 1 1 64x",
-        "Mix 0 1 1 64",
-        "segments",
-        "segments 3",
-        "segments 3 5 7",
-        "segments 0 5",
-        "segments 65536 5",
-        "segments 3 18446744073709551616",
-        "segments 3 -5",
-        "fold",
-        "fold serial",
-        "fold serial ",
-        "fold 10 1 2 3",
-        "fold parallel",
-        "fold parallel ",
-        "fold Parallel 10 1 2 3",
-        "fold parallel 1000001",
-        "fold parallel 0 1000001",
-        "fold parallel 0 1 1000001 1",
-        "fold parallel +1 2",
-        "fold parallel 1 -2",
-        "fold parallel 1 2 ",
-        "fold Serial 10 1 2 3",
-        "fold serial 1000001",
-        "fold serial 0 1000001",
-        "fold serial 0 1 1000001 1",
-        "fold serial +1 2",
-        "fold serial 1 +2",
-        "fold serial 1 -2",
-        "fold serial 1  2",
-        "fold serial 1 2 ",
-        "fold serial 1 2x",
-        "explore",
-        "explore Sum",
-        "explore sum 1",
-        "explore bodies 2",
-        "explore  sum",
-        "threads",
-        "threads 0 0 7",
-        "threads 0 0 7 4 1",
-        "threads - 0 7 4",
-        "threads +1 0 7 4",
-        "threads x 0 7 4",
-        "threads 18446744073709551616 0 7 4",
-        "threads 0 0 7 0",
-        "threads 0 0 7 +4",
-        "threads 0 0 7 --",
-        "threads 0 0 7 18446744073709551616",
-        "threads 0 0 7 ",
-        "Threads 0 0 7 4",
-        "help",
-        " ",
-    ] {
+    for line in REFUSED.split('\n') {
         leaves(&rt, rt.alloc(), line, (2, "", "shapes: bad arguments\n"));
     }
 }

@@ -1,5 +1,6 @@
 -- One item less is left, and the folder has taken it.
-use Rattle.std.proofs.Common.{◌++◌, ◌∙◌, sym, subst}
+use Rattle.std.proofs.lemmas.Grind.{common_steps}
+use Rattle.std.proofs.Common.{arith, ◌++◌, ◌∙◌, sym, subst}
 use Rattle.parallel_bridge.proofs.Taken.{others_of}
 use Rattle.parallel_bridge.proofs.segment.feed_window.Goals as goal
 
@@ -23,3 +24,6 @@ loop-alloc-preserved g c =
             ∙ so_far.place.1,
       );
     }
+
+pub returns-clause-gives : goal.returns-clause-gives
+returns-clause-gives g c = grind (arith, common_steps)

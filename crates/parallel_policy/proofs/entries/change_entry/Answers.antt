@@ -19,3 +19,6 @@ returns-clause-changed g c = (
   search rules,
   search rules,
 )
+
+pub returns-clause-others : goal.returns-clause-others
+returns-clause-others g c = search rules

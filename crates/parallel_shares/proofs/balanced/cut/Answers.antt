@@ -1,5 +1,5 @@
 -- The range that is pushed is the next of the cut.
-use Rattle.std.proofs.Common.{arith, ◌≡◌, ℕ, ◌+◌, ◌<◌, ◌≤◌, refl}
+use Rattle.std.proofs.Common.{arith, rules, ◌≡◌, ℕ, ◌+◌, ◌<◌, ◌≤◌, refl}
 use Rattle.std.proofs.lemmas.Grind.{common_steps}
 use Rattle.std.specs.declared.ops.Range.{Range}
 use Rattle.parallel_shares.proofs.CutSteps.{IsCutSoFar-more}
@@ -17,3 +17,6 @@ loop-index-preserved c =
     rw c.in_ok-push.ensures.items
     (IsCutSoFar-more shorter longer index c.from.result c.loop-index.ranges.items r
     c.loop-index.invariant one none refl)
+
+pub returns-clause-balanced : goal.returns-clause-balanced
+returns-clause-balanced c = search rules

@@ -1,5 +1,5 @@
 -- The outcomes of the halves go along the shape, and of two errors the left one stands.
-use Rattle.std.proofs.Common.{◌/◌, arith, refl}
+use Rattle.std.proofs.Common.{rules, ◌/◌, arith, refl}
 use Rattle.parallel_bridge.proofs.Halves.{driven_node}
 use Rattle.parallel_bridge.proofs.bridge.HandingTask.split.Goals as goal
 
@@ -34,3 +34,9 @@ returns-clause-node g c depth a b all above left right together =
           a.0 b.0 all.0 left.0 right.0 together.0,
       together.1 self.parts (parts.rests a.1 b.1 left.1 right.1),
     )
+
+pub returns-clause-left : goal.returns-clause-left
+returns-clause-left g c = search rules
+
+pub returns-clause-right : goal.returns-clause-right
+returns-clause-right g c = search rules

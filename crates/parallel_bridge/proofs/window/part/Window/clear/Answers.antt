@@ -1,5 +1,5 @@
 -- No item is left, and so all places are room.
-use Rattle.std.proofs.Common.{◌≡◌, length, sym, ap, subst, arith}
+use Rattle.std.proofs.Common.{rules, ◌≡◌, length, sym, ap, subst, arith}
 use Rattle.parallel_bridge.specs.Windows.{IsRow}
 use Rattle.parallel_bridge.proofs.Runs.{rewound_row}
 use Rattle.parallel_bridge.proofs.window.part.Window.clear.Goals as goal
@@ -14,3 +14,6 @@ invariant_of-self g c =
     subst (λ n. IsRow w.cells.at w.base.ptr w.cells.slots w.room 0 n) (sym none)
     (rewound_row w.cells.at w.base.ptr w.cells.slots w.room w.before w.len c.self-2.invariant
     none).0
+
+pub loop-item-init : goal.loop-item-init
+loop-item-init g c = search rules

@@ -1,4 +1,5 @@
 -- The count goes down by the share, and what it found tells the answer.
+use Rattle.std.proofs.lemmas.Grind.{common_steps}
 use Rattle.std.proofs.Common.{arith}
 use Rattle.parallel_pool.proofs.CountSteps.{gives}
 use Rattle.parallel_pool.proofs.latch.count_latch.CountLatch.give.Goals as goal
@@ -9,3 +10,6 @@ fetch_sub-left-requires c = (
   omega (arith, c.args.self.now.one_word),
   gives _ _ _ _ c.requires.unspent,
 )
+
+pub returns-then-is_last-clause-last : goal.returns-then-is_last-clause-last
+returns-then-is_last-clause-last c = grind (arith, common_steps)

@@ -1,5 +1,5 @@
 -- A job that was found is one more call.
-use Rattle.std.proofs.Common.{arith, ◌≡◌, ◌+◌, refl}
+use Rattle.std.proofs.Common.{rules, arith, ◌≡◌, ◌+◌, refl}
 use Rattle.parallel_pool.specs.WorkerThread.{calls_of}
 use Rattle.parallel_pool.proofs.WorkerCalls.{calls_more}
 use Rattle.parallel_pool.proofs.rayon.staff.ThreadPool+Staff+T.yield_now.Goals as goal
@@ -11,3 +11,9 @@ returns-in-Some-clause-executed g c =
 pub returns-in-Some-clause-once : goal.returns-in-Some-clause-once
 returns-in-Some-clause-once g c =
     λ _. (c.in-Some.job, c.in-Some.ensures, calls_more _ _ _ c.in-Some.ensures)
+
+pub returns-in-Some-clause-none : goal.returns-in-Some-clause-none
+returns-in-Some-clause-none g c = search rules
+
+pub returns-in-None-clause-none : goal.returns-in-None-clause-none
+returns-in-None-clause-none g c = search rules

@@ -1,5 +1,5 @@
 -- Each turn passes over the seat's own share, or loads another one and keeps the better.
-use Rattle.std.proofs.Common.{◌≡◌, ◌≢◌, ◌+◌, ◌<◌, ◌∙◌, length, Some, subst, sym, arith}
+use Rattle.std.proofs.Common.{rules, ◌≡◌, ◌≢◌, ◌+◌, ◌<◌, ◌∙◌, length, Some, subst, sym, arith}
 use Rattle.parallel_shares.specs.Sizes.{shares_of, share_of}
 use Rattle.parallel_shares.specs.Seats.{known}
 use Rattle.parallel_shares.specs.Steals.{OnlyLooks, LooksRound, IsBest}
@@ -68,3 +68,6 @@ loop-share-preserved c =
             best = best_passes_own plan own n first seat is c.loop-share.best i.best;
           })
     ]
+
+pub loop-share-init : goal.loop-share-init
+loop-share-init c = search rules

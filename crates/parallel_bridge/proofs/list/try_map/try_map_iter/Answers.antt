@@ -1,0 +1,6 @@
+-- Told, so that a body which breaks these is refused with no further search.
+use Rattle.std.proofs.Common.{rules}
+use Rattle.parallel_bridge.proofs.list.try_map.try_map_iter.Goals as goal
+
+pub returns-in-Some : goal.returns-in-Some
+returns-in-Some g c = search rules
