@@ -1,0 +1,6 @@
+-- Told, so that a body which breaks these is refused with no further search.
+use Rattle.std.proofs.Common.{rules}
+use Rattle.commonware_parallel.proofs.rayon_strategy.Rayon.new.Goals as goal
+
+pub returns-clause-threads : goal.returns-clause-threads
+returns-clause-threads g c = search rules
