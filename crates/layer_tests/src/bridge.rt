@@ -1,5 +1,8 @@
-// Consumers and producers at concrete types.
+// Consumers, producers and sources at concrete types.
 mod windows;
+
+ghost use Rattle.std.specs.Prelude.{◌+◌};
+ghost use Rattle.std.specs.Iterator.{at_most};
 
 use crate::same::same;
 use parallel_bridge::bridge::bridge;
@@ -10,6 +13,7 @@ use parallel_bridge::consumer::try_reduce::TryReduceFolder;
 use parallel_bridge::consumer::while_some::{WhileSomeConsumer, WhileSomeFolder};
 use parallel_bridge::plumbing::Folder;
 use parallel_bridge::producer::{Copies, DrainProducer, Indices, Producer};
+use parallel_bridge::source::Source;
 use parallel_fault::Fault;
 use std::alloc::Global;
 use std::num::NonZeroUsize;
@@ -137,6 +141,7 @@ fn a_drain_gives_its_items_from_both_ends(rt: HostRuntime) {
     same(&rt, drain.next(), Some(1));
     same(&rt, drain.next_back(), Some(3));
     same(&rt, drain.len(), 1);
+    same(&rt, drain.size_hint(), (1, Some(1)));
     same(&rt, drain.next(), Some(2));
     same(&rt, drain.next(), None);
 }
@@ -160,4 +165,38 @@ fn indices_and_copies_are_split_in_front_and_rest(rt: HostRuntime) {
     same(&rt, rest.slice, [5, 6].as_slice());
     let last = Producer::into_items(rest).last();
     same(&rt, last, Some(6));
+}
+
+// The numbers below `left`, from the greatest on, which are said to be `said` at least.
+#[derive(Drop)]
+struct Overstated {
+    left: u8,
+    said: usize,
+}
+
+impl Iterator for Overstated {
+    type Item = u8;
+
+    ghost remaining = { λ s. at_most (s.left + s.said) };
+
+    fn next(&mut self) -> Option<u8> {
+        self.left = self.left.checked_sub(1)?;
+        Some(self.left)
+    }
+
+    fn size_hint(&self) -> (usize, Option<usize>) {
+        (self.said, None)
+    }
+}
+
+#[test]
+fn items_are_gathered_where_too_many_are_said_to_come(rt: HostRuntime) {
+    let alloc = rt.alloc();
+    for said in [2, 3, 4, 4_096, usize::MAX / 8, usize::MAX] {
+        let parts = Overstated { left: 3, said }
+            .into_parts(alloc)
+            .expect(&rt, "memory");
+        let items = parts.into_vec().ok().expect(&rt, "a vector");
+        same(&rt, items.as_slice(), [2, 1, 0].as_slice());
+    }
 }
