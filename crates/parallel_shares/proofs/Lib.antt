@@ -18,6 +18,7 @@ pub mod Sharings
 pub mod Dealt
 pub mod Gatherings
 pub mod Closings
+pub mod Looks
 pub mod Victims
 pub mod Stretching
 pub mod Filling

@@ -93,6 +93,19 @@ abbrev pub LoadsOwn : ℕ → Seat → Seat → Type 0
 LoadsOwn word before after =
     has_emptied after ≡ (has_emptied before || eqb (start_of word) (end_of word))
 
+-- no other share than the seat's own was loaded: the words that were loaded last there, and how
+-- often each was loaded, are as before
+abbrev pub OthersStay : Shares → Seat → Seat → Type 0
+OthersStay shares before after =
+    (share : ℕ) → share ≢ own_share shares before
+    → (loaded_at (known after) share ≡ loaded_at (known before) share)
+    × (loads_at (known after) share ≡ loads_at (known before) share)
+
+-- no share was loaded less often than before
+abbrev pub LoadsGrow : Seat → Seat → Type 0
+LoadsGrow before after =
+    (share : ℕ) → loads_at (known before) share ≤ loads_at (known after) share
+
 -- an exchange met the word that was loaded and claimed its front, or it met another word and
 -- claimed nothing
 abbrev pub MeetsFront : ℕ → View → ℕ → View → Type 0

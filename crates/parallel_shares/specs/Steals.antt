@@ -12,7 +12,7 @@ use Rattle.parallel_shares.specs.Words.{IsWithin, IsEmptyWord}
 use Rattle.parallel_shares.specs.Sizes.{Sizes, shares_of, share_of}
 use Rattle.parallel_shares.specs.Answers.{cells_in, Pays, claim_cells}
 use Rattle.parallel_shares.specs.Sharing.{SomeSplitPays, loaded_at, loads_at, back_half, took_back, missed}
-use Rattle.parallel_shares.specs.Seats.{plan_of, own_share, known, index_of, transit_of, has_emptied, claims_of, AreSomeCells, Steps}
+use Rattle.parallel_shares.specs.Seats.{plan_of, own_share, own_word, own_loads, known, index_of, transit_of, has_emptied, claims_of, AreSomeCells, IsSeatOf, LoadsGrow, Steps}
 
 -- a plan of whole rows never splits a word, nor does a plan in which no opening word's split pays
 abbrev pub NeverSplits : Sizes → Type 0
@@ -100,18 +100,29 @@ TriesSteal sizes before Nothing after =
 TriesSteal sizes before (Claimed cells) after = ⊥
 TriesSteal sizes before Empty after = ⊥
 
--- the seat has seen its own word empty, has nothing in transit, and looked round after it and found
--- no split that pays
-abbrev pub FoundNothing : Sizes → Seat → Type 0
-FoundNothing sizes seat =
-    (has_emptied seat ≡ true) × (transit_of seat ≡ None)
-    × NonePays sizes (share_of sizes (index_of seat)) (shares_of sizes) (known seat)
+-- after it was the seat `first`, the seat loaded its own word again and saw it empty, with nothing
+-- in transit: it was `seen` then. Behind that it loaded each other share once, and no split of the
+-- words that it met there pays
+pub record FoundNothing (shares : Shares) (first seat : Seat) : Type 0 where
+  pub seen : Seat
+  pub belongs : IsSeatOf shares seen
+  pub number : index_of seen ≡ index_of seat
+  pub before : LoadsGrow first seen
+  pub again : own_loads shares first < own_loads shares seen
+  pub empty : IsEmptyWord (own_word shares seen)
+  pub empty_handed : transit_of seen ≡ None
+  pub looks : LoadsOthers shares seen seat
+  pub none_pays : NonePays (plan_of shares) (own_share shares seat) (shares_of (plan_of shares))
+      (known seat)
+  pub emptied : has_emptied seat ≡ true
+  pub transit : transit_of seat ≡ None
 
 -- what a claim gained: the front of some word that was not empty; or nothing, where there was
 -- nothing to be found
-abbrev pub GainsClaim : Sizes → Seat → Option (Range ℕ) → Seat → Type 0
-GainsClaim sizes before (Some cells) after =
-    (claims_of after ≡ claims_of before ++ cells ∷ []) × AreSomeCells sizes cells
-    × ((word : ℕ) × (¬ IsEmptyWord word) × IsWithin sizes.units word
-    × (cells ≡ claim_cells sizes word))
-GainsClaim sizes before None after = (claims_of after ≡ claims_of before) × FoundNothing sizes after
+abbrev pub GainsClaim : Shares → Seat → Option (Range ℕ) → Seat → Type 0
+GainsClaim shares before (Some cells) after =
+    (claims_of after ≡ claims_of before ++ cells ∷ []) × AreSomeCells (plan_of shares) cells
+    × ((word : ℕ) × (¬ IsEmptyWord word) × IsWithin (plan_of shares).units word
+    × (cells ≡ claim_cells (plan_of shares) word))
+GainsClaim shares before None after =
+    (claims_of after ≡ claims_of before) × FoundNothing shares before after

@@ -50,6 +50,15 @@ CutsCells len cells ss = (cut_cells len ss ≡ cells) × AreApart len ss
 abbrev pub Cutting : List (Range ℕ) → ℕ → List Stretch → Type 0
 Cutting claims len ss = CutsCells len (all_cells claims) ss
 
+-- columns of a row, at least one, whose cells are all below a number, on rows of so many cells
+abbrev pub IsPartOfRow : ℕ → ℕ → ℕ → Range ℕ → Type 0
+IsPartOfRow cells len row columns = (columns.start < columns.end) × (columns.end ≤ len)
+    × (row * len + columns.end ≤ cells)
+
+-- a row that has cells below a number
+abbrev pub StartsBelow : ℕ → ℕ → ℕ → Type 0
+StartsBelow cells len row = row * len < cells
+
 -- ---- a cutting on its way, with a stretch that is open
 
 -- the open stretch, ended

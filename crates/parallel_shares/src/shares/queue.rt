@@ -36,7 +36,7 @@ impl Shares {
     ghost use Rattle.parallel_shares.specs.Gathered.{HasAll};
     ghost use Rattle.parallel_shares.specs.Sharing.{undealt, loaded_at, loads_at, looked_own};
     ghost use Rattle.parallel_shares.specs.Seats.{plan_of, known, has_emptied, own_share, own_word, own_loads};
-    ghost use Rattle.parallel_shares.specs.Seats.{IsSeatOf, AreSeatsOf, AreFresh, IsSameSeat, TriesClaim, LoadsOwn};
+    ghost use Rattle.parallel_shares.specs.Seats.{IsSeatOf, AreSeatsOf, AreFresh, IsSameSeat, OthersStay, TriesClaim, LoadsOwn};
     ghost use Rattle.parallel_shares.specs.Seats.{MeetsFront, IsPartition, AllDone, AllEmpty, EachCellOnce};
 
     /// Shares out `rows` rows of `len` cells each, where a tile costs `tile_cost` cells and there
@@ -142,12 +142,14 @@ impl Shares {
     /// `TriesClaim` says what the answer tells of the word that was loaded. `Claimed` has the cells
     /// that the seat's claims gained, and the exchange met the word that was loaded. `Lost` comes
     /// only where it met another word. `Empty` comes only where the loaded word was empty, and the
-    /// seat's `own_empty` holds from then on. No memory is taken, and nothing is waited for.
+    /// seat's `own_empty` holds from then on. No other share is loaded (`OthersStay`). No memory is
+    /// taken, and nothing is waited for.
     pub fn try_claim(&self, seat: &mut Seat) -> Tried
         requires { IsSeatOf self.now seat.old }
         ensures seat { IsSeatOf self.now seat.new }
         ensures same { IsSameSeat seat.old seat.new }
         ensures one_load { own_loads self.now seat.new ≡ own_loads self.now seat.old + 1 }
+        ensures others { OthersStay self.now seat.old seat.new }
         ensures within { IsWithin (plan_of self.now).units (own_word self.now seat.new) }
         ensures answer { TriesClaim (plan_of self.now)
             (own_word self.now seat.new) seat.old result seat.new }

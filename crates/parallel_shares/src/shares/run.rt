@@ -1,9 +1,10 @@
 //! A worker's run over its share: it claims until nothing is left that pays, and fills and finishes
 //! the stretches of its claims.
-ghost use Rattle.std.specs.Prelude.{◌≡◌, ◌≢◌, ◌++◌, ◌<◌, ◌-◌, ◌*◌, ◌+◌, ℕ, List, All, None, Some, IfOk, IfErr};
+ghost use Rattle.std.specs.Prelude.{◌≡◌, ◌≢◌, ◌++◌, ◌<◌, ◌-◌, ◌*◌, ◌+◌, ℕ, List, All, None, Some, IfOk, IfErr, IfSome};
+ghost use Rattle.std.specs.Borrow.{MutBor};
 ghost use Rattle.std.specs.declared.ops.Range.{Range};
 ghost use Rattle.parallel_shares.specs.declared.shares.stretch.Stretch.{Stretch};
-ghost use Rattle.parallel_shares.specs.Stretches.{Cutting, IsPiece, piece_cells, range_cells};
+ghost use Rattle.parallel_shares.specs.Stretches.{Cutting, IsPartOfRow, IsPiece, StartsBelow, piece_cells, range_cells};
 ghost use Rattle.parallel_shares.specs.Fillings.{Fills, Gives, Finished, Closes, Underway};
 
 use super::queue::Shares;
@@ -25,7 +26,8 @@ impl Shares {
     /// The claims that the seat gained are fronts of words (`IsFront`), and are cut into stretches
     /// as `Cutting` says. Each stretch is filled by calls of `fill` with its row and neighbouring
     /// columns, and then `finish` answers its result; all calls are lent one state, which begins as
-    /// the one handed in (`Finished`). The seat ends as after a `claim` that answers `None`. The
+    /// the one handed in (`Finished`). `fill` is asked for columns of cells that are there alone,
+    /// at least one, and `finish` for rows that have such cells. The seat ends as after a `claim` that answers `None`. The
     /// one refusal is `Fault::Memory`, where the list of results could not grow: the seat is still
     /// one of these shares, its claims have grown by what was claimed, and some of that has no
     /// result. `rt` is the right to go on trying.
@@ -41,12 +43,15 @@ impl Shares {
     ) -> Result<Vec<R>, Fault>
         requires belongs { IsSeatOf self.now seat.old }
         requires some_cells { len ≢ 0 }
-        requires fill_accepts { L.IsAlwaysCallable fill.now }
-        requires finish_accepts { N.IsAlwaysCallable finish.now }
+        requires fill_accepts { (state : MutBor T) (row : ℕ) (columns : Range ℕ)
+            → IsPartOfRow (plan_of self.now).cells len row columns
+            → L.pre fill.now state row columns }
+        requires finish_accepts { (state : MutBor T) (row : ℕ)
+            → StartsBelow (plan_of self.now).cells len row → N.pre finish.now state row }
         ensures seat { IsSeatOf self.now seat.new }
         ensures index { index_of seat.new ≡ index_of seat.old }
         ensures transit { transit_of seat.new ≡ None }
-        ensures done { IfOk result (λ _. FoundNothing (plan_of self.now) seat.new) }
+        ensures done { IfOk result (λ _. FoundNothing self.now seat.old seat.new) }
         ensures chain { IfOk result (λ results. (gained : List (Range ℕ)) × (cut : List Stretch)
             × (claims_of seat.new ≡ claims_of seat.old ++ gained)
             × All (IsFront (plan_of self.now)) gained
@@ -78,8 +83,14 @@ fn fill_claim<T, R: Drop, L: Fn(&mut T, usize, Range<usize>), N: Fn(&mut T, usiz
     finish: &N,
 ) -> Result<Option<Piece>, Fault>
     requires some_cells { len ≢ 0 }
-    requires fill_accepts { L.IsAlwaysCallable fill.now }
-    requires finish_accepts { N.IsAlwaysCallable finish.now }
+    requires fill_accepts { (state : MutBor T) (row : ℕ) (columns : Range ℕ)
+        → IsPartOfRow claim.end len row columns → L.pre fill.now state row columns }
+    requires finish_accepts { (state : MutBor T) (row : ℕ) → StartsBelow claim.end len row
+        → N.pre finish.now state row }
+    requires open_accepts { IfSome opened (λ piece. (state : MutBor T)
+        → N.pre finish.now state piece.row) }
+    ensures open_accepts { IfOk result (λ next. IfSome next (λ piece. (state : MutBor T)
+        → N.pre finish.now state piece.row)) }
     ensures chain { IfOk result (λ next. (first : T) (cells : List ℕ)
         → Underway (Fills (L.post fill.now))
         (Gives (N.post finish.now)) len first cells opened results.old.items state.old
@@ -107,8 +118,11 @@ fn fill_piece<T, R: Drop, L: Fn(&mut T, usize, Range<usize>), N: Fn(&mut T, usiz
     fill: &L,
     finish: &N,
 ) -> Result<Piece, Fault>
-    requires fill_accepts { L.IsAlwaysCallable fill.now }
-    requires finish_accepts { N.IsAlwaysCallable finish.now }
+    requires fill_accepts { (state : MutBor T) → L.pre fill.now state piece.row
+        (record { start = piece.start; end = piece.end }) }
+    requires open_accepts { IfSome opened (λ before. (state : MutBor T)
+        → N.pre finish.now state before.row) }
+    ensures row { IfOk result (λ next. next.row ≡ piece.row) }
     ensures chain { IfOk result (λ next. (len : ℕ) (first : T) (cells : List ℕ) → IsPiece len piece
         → Underway (Fills (L.post fill.now))
         (Gives (N.post finish.now)) len first cells opened results.old.items state.old
@@ -132,7 +146,7 @@ fn finish_open<T, R: Drop, N: Fn(&mut T, usize) -> R>(
     state: &mut T,
     finish: &N,
 ) -> Result<(), Fault>
-    requires { N.IsAlwaysCallable finish.now }
+    requires { IfSome opened (λ piece. (state : MutBor T) → N.pre finish.now state piece.row) }
     ensures closes { IfOk result (λ _. Closes
         (Gives (N.post finish.now)) opened state.old results.old.items state.new
         results.new.items) }

@@ -71,6 +71,7 @@ impl Shares {
         ensures claims { claims_of seat.new ≡ claims_of seat.old }
         ensures stored { IfSome (transit_of seat.old)
             (λ units. own_word self.now seat.new ≡ packed units.start units.end) }
+        ensures loads { (known seat.new).loads ≡ (known seat.old).loads }
         ensures steps { Steps 0 1 seat.old seat.new }
     {
         let Some(units) = seat.in_transit() else {

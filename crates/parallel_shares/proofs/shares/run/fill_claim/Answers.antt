@@ -8,8 +8,27 @@ pub loop-at-init : goal.loop-at-init
 loop-at-init g c = record {
   begun = omega arith;
   within = omega arith;
+  accepts = c.requires.open_accepts;
   chain = λ first cells way. rw (claim_none cells c.args.claim.start) way;
 }
+
+pub fill_piece-requires : goal.fill_piece-requires
+fill_piece-requires g c =
+    let piece = c.front-piece in
+    record {
+      fill_accepts = λ state. c.requires.fill_accepts state piece.result.row _ (
+        piece.ensures.piece.0,
+        piece.ensures.piece.1,
+        omega (
+          arith,
+          piece.ensures.start,
+          piece.ensures.within,
+          piece.ensures.piece.0,
+          c.loop-at-test.true,
+        ),
+      );
+      open_accepts = c.loop-at.invariant.accepts;
+    }
 
 pub loop-at-preserved : goal.loop-at-preserved
 loop-at-preserved g c =
@@ -21,6 +40,8 @@ loop-at-preserved g c =
     record {
       begun = omega (arith, i.begun);
       within = omega (arith, i.begun, i.within, piece.ensures.within, c.loop-at-test.true);
+      accepts = λ state. rw c.in_ok-fill_piece.ensures.row (c.requires.finish_accepts state
+          piece.result.row (omega (arith, piece.ensures.start, c.loop-at-test.true, piece.ensures.piece.0)));
       chain = λ first cells way.
           rw (← claim_more len cells start at piece.result i.begun piece.ensures.start)
           (c.in_ok-fill_piece.ensures.chain len first

@@ -1,5 +1,7 @@
--- The cells of the claim so far were filled behind those from before.
-use Rattle.std.proofs.Common.{ℕ, List, ◌++◌, ◌-◌, ◌≤◌}
+-- The cells of the claim so far were filled behind those from before, and the open row may be
+-- finished.
+use Rattle.std.proofs.Common.{ℕ, List, ◌++◌, ◌-◌, ◌≤◌, IfSome}
+use Rattle.std.specs.Borrow.{MutBor}
 use Rattle.std.specs.List.{range_with_len}
 use Rattle.parallel_shares.specs.Fillings.{Fills, Gives, Underway}
 use Rattle.parallel_shares.proofs.shares.run.fill_claim.Given as goal
@@ -8,6 +10,8 @@ abbrev pub invariant-loop-at : goal.invariant-loop-at
 invariant-loop-at g l = record {
   begun : l.claim.start ≤ l.at;
   within : l.at - l.claim.start ≤ l.claim.end - l.claim.start;
+  accepts : IfSome l.opened
+      (λ piece. (state : MutBor g.row.T.Denot) → goal.N-pre g l.finish state piece.row);
   chain : (first : g.row.T.Denot) (cells : List ℕ)
       → Underway (Fills (goal.L-post g l.fill))
       (Gives (goal.N-post g l.finish)) l.len first cells l.fn.opened l.fn.results.items l.fn.state

@@ -15,3 +15,12 @@ returns-clause-chain g c len first cells is way =
     c.args.piece c.finish_open.new.state c.fill-2.new.arg2 c.finish_open.new.results.items
     c.in_default.ensures is c.in_ok-finish_open.ensures.closes
     (_, _, refl, c.fill-2.ensures, refl)
+
+pub fill-requires : goal.fill-requires
+fill-requires g c = c.requires.fill_accepts _
+
+pub finish_open-requires : goal.finish_open-requires
+finish_open-requires g c = c.requires.open_accepts
+
+pub fill-requires-2 : goal.fill-requires-2
+fill-requires-2 g c = c.requires.fill_accepts _

@@ -9,3 +9,6 @@ returns-in_ok-push-clause-closes g c =
       (_, _, refl, c.finish.ensures, refl),
       c.in_ok-push.ensures.items,
     )
+
+pub finish-requires : goal.finish-requires
+finish-requires g c = let asks = rw c.in-Some.is at c.requires in asks _

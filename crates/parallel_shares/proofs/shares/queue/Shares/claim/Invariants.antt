@@ -1,6 +1,6 @@
--- So far the seat has claimed nothing.
+-- So far the seat has claimed nothing, and no share was loaded less often.
 use Rattle.std.proofs.Common.{◌≡◌}
-use Rattle.parallel_shares.specs.Seats.{IsSeatOf, index_of, claims_of}
+use Rattle.parallel_shares.specs.Seats.{IsSeatOf, LoadsGrow, index_of, claims_of}
 use Rattle.parallel_shares.proofs.shares.queue.Shares.claim.Given as goal
 
 abbrev pub invariant-loop : goal.invariant-loop
@@ -10,4 +10,5 @@ invariant-loop g l = record {
   seat : IsSeatOf l.self l.seat;
   index : index_of l.seat ≡ index_of l.fn.seat;
   claims : claims_of l.seat ≡ claims_of l.fn.seat;
+  loads : LoadsGrow l.fn.seat l.seat;
 }

@@ -1,0 +1,73 @@
+-- How often shares were loaded: never less often, whatever the seat tries.
+use Rattle.std.proofs.Common.{◌≡◌, ◌+◌, ◌<◌, ◌≤◌, inl, inr, ap, arith}
+use Rattle.std.proofs.lemmas.Bool.{cases_eq, cases_lt}
+use Rattle.parallel_shares.specs.declared.shares.queue.Shares.{Shares}
+use Rattle.parallel_shares.specs.declared.shares.seat.Seat.{Seat}
+use Rattle.parallel_shares.specs.Sizes.{shares_of, share_of}
+use Rattle.parallel_shares.specs.Sharing.{loads_at}
+use Rattle.parallel_shares.specs.Seats.{plan_of, known, index_of, own_share, own_loads, OthersStay, LoadsGrow}
+use Rattle.parallel_shares.specs.Steals.{LoadsOthers, FoundNothing}
+
+pub grows_from : (a b c : Seat) → LoadsGrow a b → LoadsGrow b c → LoadsGrow a c
+grows_from a b c first then share = omega (arith, first share, then share)
+
+module _ (shares : Shares) (before after : Seat) where
+  -- a try to claim loads the seat's own share alone
+  pub tries_grow : own_loads shares after ≡ own_loads shares before + 1
+      → index_of after ≡ index_of before → OthersStay shares before after → LoadsGrow before after
+  tries_grow once same others share =
+      elim (cases_eq share (own_share shares before)) as
+      (λ _. loads_at (known before) share ≤ loads_at (known after) share) [
+        | inl own ↦
+            let there = ap (λ i. loads_at (known after) (share_of (plan_of shares) i)) same in
+            rw own (omega (arith, once, there))
+        | inr apart ↦ omega (arith, (others share apart).1)
+      ]
+
+  -- a try to steal loads each other share
+  pub steals_grow : LoadsOthers shares before after → LoadsGrow before after
+  steals_grow looks share = elim (cases_eq share (own_share shares before)) [
+    | inl own ↦ omega (arith, (looks.others share (inl own)).0)
+    | inr apart ↦ elim (cases_lt share (shares_of (plan_of shares))) [
+      | inl below ↦ omega (arith, looks.once share below apart)
+      | inr past ↦ omega (arith, (looks.others share (inr past)).0)
+    ]
+  ]
+
+-- one load more of its own share than a seat of the same number had, which had no fewer than at
+-- first
+pub again_since : (shares : Shares) (first mid last : Seat) → LoadsGrow first mid
+    → index_of mid ≡ index_of first → own_loads shares last ≡ own_loads shares mid + 1
+    → own_loads shares first < own_loads shares last
+again_since shares first mid last grows same once =
+    omega (
+      arith,
+      once,
+      grows (own_share shares first),
+      ap (λ i. loads_at (known mid) (share_of (plan_of shares) i)) same,
+    )
+
+-- what was found after a seat was also found after what it was before
+pub found_since : (shares : Shares) (first mid last : Seat) → index_of mid ≡ index_of first
+    → LoadsGrow first mid → FoundNothing shares mid last → FoundNothing shares first last
+found_since shares first mid last same grows found =
+    let own : own_share shares mid ≡ own_share shares first =
+    ap (share_of (plan_of shares)) same in
+    record {
+      seen = found.seen;
+      belongs = found.belongs;
+      number = found.number;
+      before = grows_from first mid found.seen grows found.before;
+      again = omega (
+        arith,
+        found.again,
+        grows (own_share shares first),
+        ap (loads_at (known mid)) own,
+      );
+      empty = found.empty;
+      empty_handed = found.empty_handed;
+      looks = found.looks;
+      none_pays = found.none_pays;
+      emptied = found.emptied;
+      transit = found.transit;
+    }
