@@ -19,3 +19,4 @@ pub mod JobSeat
 pub mod JobQueues
 pub mod BuildErrors
 pub mod WorkerThread
+pub mod Rows

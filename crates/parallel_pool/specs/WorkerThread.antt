@@ -1,5 +1,5 @@
 -- What a worker knows, and what it does when it calls or pushes a job.
-use Rattle.std.specs.Prelude.{◌≡◌, ℕ, ◌+◌, ◌⊎◌, Bool, true, false, List, [], ◌∷◌}
+use Rattle.std.specs.Prelude.{◌≡◌, ℕ, ◌+◌, ◌⊎◌, Bool, true, false, List, [], ◌∷◌, length}
 use Rattle.parallel_pool.specs.declared.rayon.job_history.Deed.TheVariants.{TakeFirst, TakeLast}
 use Rattle.parallel_pool.specs.declared.rayon.job_history.Event.{Event}
 use Rattle.parallel_pool.specs.declared.rayon.job_history.JobView.{JobView}
@@ -68,3 +68,9 @@ module _ {T : Type 0} where
   abbrev pub PushesOwn : WorkerView T → T → WorkerView T → Type 0
   PushesOwn old job new = (view : JobView T) × HasPushed old.own job view
       × (new ≡ with_own view old)
+
+-- the first worker of a pool of so many threads, by its index and its pool's label
+pub record IsFirstWorker {T : Type 0} (tag count : ℕ) (worker : WorkerView T) : Type 0 where
+  pub index : worker.index ≡ 0
+  pub label : worker.label ≡ tag
+  pub threads : length worker.jobs.broadcasts ≡ count

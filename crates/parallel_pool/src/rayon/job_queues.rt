@@ -125,7 +125,8 @@ impl<T: Drop> JobQueues<T> {
         Ok((queues, owned))
     }
 
-    /// A seat for one thread, which has seen nothing yet.
+    /// A seat for one thread, which has seen nothing yet. No pool stands over the queues, so
+    /// nothing is counted and nobody woken.
     pub fn seat(&self, alloc: Global) -> Result<JobSeat<T>, Fault>
         ensures seat { IfOk result (λ seat. IsFreshSeat (workers_of self.now) seat) }
         ensures fault { IfErr result (λ refusal. refusal ≡ Fault.Memory) }
@@ -137,6 +138,7 @@ impl<T: Drop> JobQueues<T> {
             injected,
             broadcasts,
             deques,
+            registry: None,
         })
     }
 }

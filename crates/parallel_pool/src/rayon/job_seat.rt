@@ -3,11 +3,13 @@ use crate::rayon::inlet_port::InletPort;
 use crate::rayon::job_history::{Purpose, ToCall, ToKeep};
 use crate::rayon::owned_job::OwnedJob;
 use crate::rayon::queue::Queue;
+use crate::rayon::registry::Registry;
 use crate::rayon::thief_port::ThiefPort;
 use parallel_fault::Fault;
+use std::alloc::Global;
 use std::collections::VecDeque;
 use std::marker::Model;
-use std::sync::Wait;
+use std::sync::{Arc, Wait};
 
 /// One thread's views of a pool's queues: what it has seen pushed and taken there, and what it
 /// pushed and took itself.
@@ -16,11 +18,17 @@ use std::sync::Wait;
 /// says of one queue that its history, as far as this seat had seen it, goes on and ends with the
 /// call; in that history each job that was taken was pushed, under the same number, and none was
 /// taken twice.
+///
+/// A seat of a pool's queues counts: a job that is pushed by it has come to the pool, whose workers
+/// don't end before it was called or taken by a seat, and wakes a worker as `ThreadPool::spawn`
+/// does. A job that is taken by it has left the pool, and whoever took it calls it or doesn't.
 #[derive(Drop)]
 pub struct JobSeat<T: Drop = OwnedJob> {
     pub(crate) injected: InletPort<T>,
     pub(crate) broadcasts: Vec<InletPort<T>>,
     pub(crate) deques: Vec<ThiefPort<T>>,
+    // What the pool's threads share, where a pool stands over the queues.
+    pub(crate) registry: Option<Arc<Registry, Global>>,
 }
 
 impl<T: Drop> Model for JobSeat<T> {
@@ -43,8 +51,44 @@ impl<T: Drop> JobSeat<T> {
     ghost use Rattle.parallel_pool.specs.declared.rayon.queue.Queue.TheVariants.{Injected, Broadcast, Deque};
 
     /// Pushes a job to a queue. `Fault::Memory`, with the same job, where there is no memory for
-    /// it.
+    /// it, and then it doesn't count as come.
     pub fn push<R: Wait>(&mut self, rt: &R, queue: Queue, job: T) -> Result<(), (Fault, T)>
+        requires { IsInlet queue self.old }
+        ensures { MatchResult result (λ _. Does queue (λ v w. HasPushed v job w) self.old self.new)
+            (λ refused. (refused ≡ (Fault.Memory, job)) × (self.new ≡ self.old)) }
+    {
+        let queue_was_empty = !self.has_injected();
+        let pushed = self.bring(rt, queue, job);
+        if pushed.is_ok() {
+            self.wake_for(rt, queue, queue_was_empty);
+        }
+        pushed
+    }
+
+    /// Pushes job 0 to the broadcast queue of worker 0, job 1 to that of worker 1, and so on.
+    ///
+    /// `Fault::Memory`, with the jobs that weren't pushed, in order, where there is no memory for
+    /// one of them; those before it stay pushed, and those that come back don't count as come.
+    pub fn push_each<R: Wait>(
+        &mut self,
+        rt: &R,
+        jobs: VecDeque<T>,
+    ) -> Result<(), (Fault, VecDeque<T>)>
+        requires { length jobs.items ≤ length self.old.broadcasts }
+        ensures { MatchResult result (λ _. PushesFrom 0 jobs.items self.old self.new)
+            (λ refused. (refused.0 ≡ Fault.Memory)
+            × PushesSome jobs.items refused.1.items self.old self.new) }
+    {
+        let workers = jobs.len();
+        let pushed = self.bring_each(rt, jobs);
+        for worker in 0..workers {
+            self.wake_for(rt, Queue::Broadcast(worker), false);
+        }
+        pushed
+    }
+
+    /// Pushes a job to a queue, as `push` does, and wakes nobody.
+    pub(crate) fn bring<R: Wait>(&mut self, rt: &R, queue: Queue, job: T) -> Result<(), (Fault, T)>
         requires { IsInlet queue self.old }
         ensures { MatchResult result (λ _. Does queue (λ v w. HasPushed v job w) self.old self.new)
             (λ refused. (refused ≡ (Fault.Memory, job)) × (self.new ≡ self.old)) }
@@ -60,11 +104,8 @@ impl<T: Drop> JobSeat<T> {
         }
     }
 
-    /// Pushes job 0 to the broadcast queue of worker 0, job 1 to that of worker 1, and so on.
-    ///
-    /// `Fault::Memory`, with the jobs that weren't pushed, in order, where there is no memory for
-    /// one of them; those before it stay pushed.
-    pub fn push_each<R: Wait>(
+    /// Pushes a job to each worker's broadcast queue, as `push_each` does, and wakes nobody.
+    pub(crate) fn bring_each<R: Wait>(
         &mut self,
         rt: &R,
         mut jobs: VecDeque<T>,
@@ -86,8 +127,37 @@ impl<T: Drop> JobSeat<T> {
         Ok(())
     }
 
-    // Pushes a job to the injected ones.
+    // Pushes a job to the injected ones. It counts as come before a worker can call it.
     fn inject<R: Wait>(&mut self, rt: &R, job: T) -> Result<(), T>
+        ensures { MatchResult result (λ _. Does Injected
+            (λ v w. HasPushed v job w) self.old self.new)
+            (λ back. (back ≡ job) × (self.new ≡ self.old)) }
+    {
+        self.job_comes();
+        let pushed = self.put_injected(rt, job);
+        if pushed.is_err() {
+            self.one_less();
+        }
+        pushed
+    }
+
+    // Pushes a job to a worker's broadcast queue. It counts as come before the worker can call it.
+    fn push_for<R: Wait>(&mut self, rt: &R, worker: usize, job: T) -> Result<(), T>
+        requires { worker < length self.old.broadcasts }
+        ensures { MatchResult result (λ _. Does (Broadcast worker)
+            (λ v w. HasPushed v job w) self.old self.new)
+            (λ back. (back ≡ job) × (self.new ≡ self.old)) }
+    {
+        self.job_comes();
+        let pushed = self.put_for(rt, worker, job);
+        if pushed.is_err() {
+            self.one_less();
+        }
+        pushed
+    }
+
+    // Pushes a job to the injected ones, uncounted.
+    fn put_injected<R: Wait>(&mut self, rt: &R, job: T) -> Result<(), T>
         ensures { MatchResult result (λ _. Does Injected
             (λ v w. HasPushed v job w) self.old self.new)
             (λ back. (back ≡ job) × (self.new ≡ self.old)) }
@@ -95,14 +165,50 @@ impl<T: Drop> JobSeat<T> {
         self.injected.push(rt, job)
     }
 
-    // Pushes a job to a worker's broadcast queue.
-    fn push_for<R: Wait>(&mut self, rt: &R, worker: usize, job: T) -> Result<(), T>
+    // Pushes a job to a worker's broadcast queue, uncounted.
+    fn put_for<R: Wait>(&mut self, rt: &R, worker: usize, job: T) -> Result<(), T>
         requires { worker < length self.old.broadcasts }
         ensures { MatchResult result (λ _. Does (Broadcast worker)
             (λ v w. HasPushed v job w) self.old self.new)
             (λ back. (back ≡ job) × (self.new ≡ self.old)) }
     {
         self.broadcasts[worker].push(rt, job)
+    }
+
+    // A job is about to come to the pool.
+    fn job_comes(&self) {
+        if let Some(registry) = &self.registry {
+            registry.job_comes();
+        }
+    }
+
+    // A job has left the pool, or didn't come after all.
+    fn one_less(&self) {
+        if let Some(registry) = &self.registry {
+            registry.one_less();
+        }
+    }
+
+    // Wakes who is to call a job that was pushed to this queue, where they sleep.
+    fn wake_for<R: Wait>(&self, rt: &R, queue: Queue, queue_was_empty: bool) {
+        let Some(registry) = &self.registry else {
+            return;
+        };
+        match queue {
+            Queue::Broadcast(worker) => registry.sleep.notify_worker_latch_is_set(rt, worker),
+            Queue::Injected | Queue::Deque(_) => {
+                registry.sleep.new_injected_jobs(rt, 1, queue_was_empty);
+            }
+        }
+    }
+
+    /// The same seat, whose jobs this pool counts.
+    pub(crate) fn counted_by(self, registry: Arc<Registry, Global>) -> JobSeat<T>
+        ensures { result ≡ self }
+    {
+        let mut seat = self;
+        seat.registry = Some(registry);
+        seat
     }
 
     /// How many workers the pool has: so many broadcast queues, and so many deques.
@@ -139,16 +245,21 @@ impl<T: Drop> JobSeat<T> {
         !self.injected.is_empty()
     }
 
-    /// Takes the first job of a queue, where there is one.
+    /// Takes the first job of a queue, where there is one. It has left the pool then.
     pub fn take<R: Wait>(&mut self, rt: &R, queue: Queue) -> Option<T>
         requires { IsQueueOf queue self.old }
         ensures { MatchOption result (self.new ≡ self.old)
             (λ job. Does queue (λ v w. HasTaken TakeFirst false v job w) self.old self.new) }
     {
-        self.take_as::<ToKeep, R>(rt, queue)
+        let taken = self.take_as::<ToKeep, R>(rt, queue);
+        if taken.is_some() {
+            self.one_less();
+        }
+        taken
     }
 
-    /// Takes the first job of a queue, where there is one, to call it at once.
+    /// Takes the first job of a queue, where there is one, to call it at once. It counts until it
+    /// was called to its end (`WorkerThread::call`).
     pub(crate) fn take_to_call<R: Wait>(&mut self, rt: &R, queue: Queue) -> Option<T>
         requires { IsQueueOf queue self.old }
         ensures { MatchOption result (self.new ≡ self.old)

@@ -56,17 +56,14 @@ impl<T: Drop> Staff<T> {
     fn inject<R: Wait>(&self, rt: &R, job: T) -> Result<(), (Fault, T)>
         ensures { IfErr result (λ refused. refused ≡ (Fault.Memory, job)) }
     {
-        self.registry().job_comes();
         let mut seat = self.seat.lock(rt);
         let queue_was_empty = !seat.has_injected();
-        let pushed = seat.push(rt, Queue::Injected, job);
+        let pushed = seat.bring(rt, Queue::Injected, job);
         drop(seat);
         if pushed.is_ok() {
             self.registry()
                 .sleep
                 .new_injected_jobs(rt, 1, queue_was_empty);
-        } else {
-            self.registry().one_less();
         }
         pushed
     }
@@ -77,17 +74,7 @@ impl<T: Drop> Staff<T> {
             × ((done : _) × (jobs.items ≡ done ++ refused.1.items))) }
     {
         let workers = jobs.len();
-        for _ in 0..workers {
-            self.registry().job_comes();
-        }
-        let pushed = self.push_each(rt, jobs);
-        let refused = match &pushed {
-            Ok(()) => 0,
-            Err((_, jobs)) => jobs.len(),
-        };
-        for _ in 0..refused {
-            self.registry().one_less();
-        }
+        let pushed = self.bring_each(rt, jobs);
         for worker_index in 0..workers {
             self.registry()
                 .sleep
@@ -97,7 +84,7 @@ impl<T: Drop> Staff<T> {
     }
 
     // The seat is one of the pool's queues, so there is one for each job.
-    fn push_each<R: Wait>(&self, rt: &R, jobs: VecDeque<T>) -> Result<(), (Fault, VecDeque<T>)>
+    fn bring_each<R: Wait>(&self, rt: &R, jobs: VecDeque<T>) -> Result<(), (Fault, VecDeque<T>)>
         ensures { IfErr result (λ refused. (refused.0 ≡ Fault.Memory)
             × ((done : _) × (jobs.items ≡ done ++ refused.1.items))) }
     {
@@ -105,7 +92,7 @@ impl<T: Drop> Staff<T> {
         if seat.workers() < jobs.len() {
             return Err((Fault::Memory, jobs));
         }
-        seat.push_each(rt, jobs)
+        seat.bring_each(rt, jobs)
     }
 
     // Lets the workers go, and waits until each that was started has come to its end.

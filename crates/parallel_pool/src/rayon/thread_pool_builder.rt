@@ -1,14 +1,16 @@
 // Building a pool.
-ghost use Rattle.std.specs.Prelude.{◌≡◌, ◌≢◌, ◌≤◌, ℕ, IfOk, IfSome, MatchOption, None, Some, true, false};
+ghost use Rattle.std.specs.Prelude.{◌≡◌, ◌≢◌, ◌≤◌, ℕ, IfOk, IfSome, IsTrue, MatchOption, None, Some, true, false};
 ghost use Rattle.std.specs.NonZero.{non_zero_usize_get};
 ghost use Rattle.parallel_pool.specs.PlannedThreads.{IsPlanned};
 ghost use Rattle.parallel_pool.specs.ThreadPool.{thread_count, label_of};
+ghost use Rattle.parallel_pool.specs.WorkerThread.{IsFirstWorker};
 
 use crate::rayon::build_error::ThreadPoolBuildError;
 use crate::rayon::environment::Environment;
 use crate::rayon::handlers::{Names, StartHandler};
 use crate::rayon::job_deque::JobDeque;
 use crate::rayon::job_queues::JobQueues;
+use crate::rayon::job_seat::JobSeat;
 use crate::rayon::owned_job::{Execute, OwnedJob};
 use crate::rayon::pool_plan::PoolPlan;
 use crate::rayon::registry::{Hold, Registry};
@@ -137,8 +139,8 @@ impl ThreadPoolBuilder {
         set
     }
 
-    /// Builds the pool and starts its workers, for boxed jobs. With `use_current_thread` the second
-    /// part is worker 0.
+    /// Builds the pool and starts its workers, for boxed jobs. The second part is worker 0, under
+    /// `use_current_thread` and not else.
     ///
     /// `ThreadPoolBuildError::Memory` where memory was refused, or a name; `Spawn` where the start
     /// of a thread was. No worker is left running then: those that were started have ended.
@@ -149,6 +151,10 @@ impl ThreadPoolBuilder {
     ) -> Result<(ThreadPool<Staff>, Option<WorkerThread>), ThreadPoolBuildError>
         ensures count { IfOk result (λ built. IsPlanned self.plan (thread_count built.0)) }
         ensures label { IfOk result (λ built. label_of built.0 ≡ self.plan.label) }
+        ensures current { IfOk result (λ built. MatchOption built.1
+            (self.plan.use_current_thread ≡ false)
+            (λ worker. (self.plan.use_current_thread ≡ true)
+            × IsFirstWorker self.plan.label (thread_count built.0) worker)) }
     {
         self.build_for::<R, OwnedJob>(rt, alloc)
     }
@@ -161,11 +167,15 @@ impl ThreadPoolBuilder {
     ) -> Result<(ThreadPool<Staff<T>>, Option<WorkerThread<T>>), ThreadPoolBuildError>
         ensures count { IfOk result (λ built. IsPlanned self.plan (thread_count built.0)) }
         ensures label { IfOk result (λ built. label_of built.0 ≡ self.plan.label) }
+        ensures current { IfOk result (λ built. MatchOption built.1
+            (self.plan.use_current_thread ≡ false)
+            (λ worker. (self.plan.use_current_thread ≡ true)
+            × IsFirstWorker self.plan.label (thread_count built.0) worker)) }
     {
         let ThreadPoolBuilder { plan, names, start } = self;
         let num_threads = plan.planned_threads();
         let (staff, mut workers) = staff(alloc, num_threads, plan.label)?;
-        let current = current(&plan, &mut workers);
+        let current = current(&plan, num_threads, &mut workers)?;
         let named = named(alloc, &plan, names, start, workers)?;
         let staff = started(rt, alloc, &plan, staff, named)?;
         Ok((ThreadPool::over(num_threads, plan.label, staff), current))
@@ -213,7 +223,7 @@ fn staff<T: Execute>(
     let (registry, rests) = of_memory(Registry::new(alloc, num_threads))?;
     let registry = Arc::new(alloc, registry)?;
     let workers = workers(alloc, label, &queues, &registry, deques, rests)?;
-    let seat = of_memory(queues.seat(alloc))?;
+    let seat = seat(alloc, &queues, &registry)?;
     Ok((Staff::new(seat, Hold::new(registry)), workers))
 }
 
@@ -223,6 +233,16 @@ fn of_memory<T>(made: Result<T, Fault>) -> Result<T, ThreadPoolBuildError> {
         Ok(made) => Ok(made),
         Err(_) => Err(ThreadPoolBuildError::Memory),
     }
+}
+
+// A seat of the queues, whose jobs the pool counts.
+fn seat<T: Execute>(
+    alloc: Global,
+    queues: &JobQueues<T>,
+    registry: &Arc<Registry, Global>,
+) -> Result<JobSeat<T>, ThreadPoolBuildError> {
+    let seat = of_memory(queues.seat(alloc))?;
+    Ok(seat.counted_by(Arc::try_clone(registry)?))
 }
 
 // The workers, each over its own deque.
@@ -236,7 +256,7 @@ fn workers<T: Execute>(
 ) -> Result<Vec<WorkerThread<T>>, ThreadPoolBuildError> {
     let mut all = Vec::new(alloc);
     for (own, rest) in deques.into_iter().zip(rests) {
-        let jobs = of_memory(queues.seat(alloc))?;
+        let jobs = seat(alloc, queues, registry)?;
         let registry = Arc::try_clone(registry)?;
         all.push(WorkerThread {
             index: all.len(),
@@ -250,16 +270,39 @@ fn workers<T: Execute>(
     Ok(all)
 }
 
-// The worker of the thread that builds the pool, taken out of the list.
+// The worker of the thread that builds the pool, taken out of the list, whose first one it is.
 fn current<T: Execute>(
     plan: &PoolPlan,
+    num_threads: NonZeroUsize,
     workers: &mut Vec<WorkerThread<T>>,
-) -> Option<WorkerThread<T>> {
-    if plan.use_current_thread && !workers.is_empty() {
-        Some(workers.remove(0))
-    } else {
-        None
+) -> Result<Option<WorkerThread<T>>, ThreadPoolBuildError>
+    ensures { IfOk result (λ current. MatchOption current
+        (plan.now.use_current_thread ≡ false)
+        (λ worker. (plan.now.use_current_thread ≡ true)
+        × IsFirstWorker plan.now.label (non_zero_usize_get num_threads) worker)) }
+{
+    if !plan.use_current_thread {
+        return Ok(None);
     }
+    if workers.is_empty() {
+        return Err(ThreadPoolBuildError::Memory);
+    }
+    let worker = workers.remove(0);
+    if is_first(&worker, plan.label, num_threads) {
+        Ok(Some(worker))
+    } else {
+        Err(ThreadPoolBuildError::Memory)
+    }
+}
+
+// Whether a worker is the first of a pool of this label and of so many threads. The first that was
+// made always is.
+fn is_first<T: Execute>(worker: &WorkerThread<T>, label: u64, num_threads: NonZeroUsize) -> bool
+    ensures { IsTrue result
+        → IsFirstWorker label (non_zero_usize_get num_threads) worker.now }
+{
+    let context = worker.context();
+    worker.index() == 0 && worker.label() == label && context.num_threads() == num_threads.get()
 }
 
 // The workers that are to be started, each with its name and what it calls first.

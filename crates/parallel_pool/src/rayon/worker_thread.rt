@@ -39,9 +39,12 @@ impl<T: Drop> Model for WorkerThread<T> {
 
 impl<T: Drop> WorkerThread<T> {
     ghost use Rattle.std.specs.Prelude.{◌≡◌, length, MatchOption, MatchResult};
+    ghost use Rattle.std.specs.Borrow.{Lends, sem};
     ghost use Rattle.parallel_pool.specs.Broadcast.{context};
     ghost use Rattle.parallel_pool.specs.JobHistory.{HasPushed};
-    ghost use Rattle.parallel_pool.specs.WorkerThread.{CallsOne, PushesOwn};
+    ghost use Rattle.parallel_pool.specs.Rows.{seat_row};
+    ghost use Rattle.parallel_pool.specs.WorkerThread.{CallsOne, PushesOwn, with_jobs};
+    ghost use Rattle.parallel_pool.specs.contracts.rayon.worker_thread.WorkerThread.{the_row};
 
     /// The worker's index in its pool.
     pub fn index(&self) -> usize
@@ -67,8 +70,13 @@ impl<T: Drop> WorkerThread<T> {
         }
     }
 
-    /// Its seat of the pool's queues.
-    pub fn jobs(&mut self) -> &mut JobSeat<T> {
+    /// Its seat of the pool's queues. Whatever is pushed and taken by it, the worker keeps its
+    /// index, its label and its own deque.
+    pub fn jobs(&mut self) -> &mut JobSeat<T>
+        ensures seat { result.now ≡ self.old.jobs }
+        ensures* stays { sem 𝓛 (Lends (the_row T.row) (seat_row T.row) self.entry result
+            (λ seat. with_jobs seat self.old)) }
+    {
         &mut self.jobs
     }
 

@@ -5,7 +5,7 @@ use Rattle.parallel_pool.specs.JobHistory.{newcomer, HasPushed}
 use Rattle.parallel_pool.specs.JobSeat.{SeatView}
 use Rattle.parallel_pool.specs.declared.rayon.queue.Queue.TheVariants.{Broadcast}
 use Rattle.parallel_pool.proofs.JobSeats.{after_push}
-use Rattle.parallel_pool.proofs.rayon.job_seat.JobSeat.push_for.Goals as goal
+use Rattle.parallel_pool.proofs.rayon.job_seat.JobSeat.put_for.Goals as goal
 
 pub returns : goal.returns
 returns g c =

@@ -1,6 +1,6 @@
 -- Told, so that a body which breaks these is refused with no further search.
 use Rattle.std.proofs.Common.{rules}
-use Rattle.parallel_pool.proofs.rayon.job_seat.JobSeat.push.Goals as goal
+use Rattle.parallel_pool.proofs.rayon.job_seat.JobSeat.bring.Goals as goal
 
 pub returns-in-Ok : goal.returns-in-Ok
 returns-in-Ok g c = search rules

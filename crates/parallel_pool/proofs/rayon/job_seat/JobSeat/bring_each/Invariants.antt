@@ -1,6 +1,6 @@
 use Rattle.std.proofs.Common.{◌≡◌, List, ◌++◌, length}
 use Rattle.parallel_pool.specs.JobSeat.{PushesFrom}
-use Rattle.parallel_pool.proofs.rayon.job_seat.JobSeat.push_each.Given as goal
+use Rattle.parallel_pool.proofs.rayon.job_seat.JobSeat.bring_each.Given as goal
 
 abbrev pub invariant-loop-worker : goal.invariant-loop-worker
 invariant-loop-worker g l =
