@@ -1,5 +1,5 @@
 -- What goes along the shape of a list is a reduction of neighbouring segments.
-use Rattle.std.proofs.Common.{ℕ, zero, suc, List, [], refl, subst}
+use Rattle.std.proofs.Common.{ℕ, List, [], refl, subst}
 use Rattle.parallel_bridge.specs.declared.path.Path.{Path}
 use Rattle.parallel_bridge.specs.declared.path.Path.TheVariants.{Serial, Parallel}
 use Rattle.parallel_bridge.specs.Lists.{FoldSegment, Brackets, of_segment, of_parts, Bracketing}

@@ -26,3 +26,10 @@ pub mod Runs
 pub mod Writes
 pub mod TryWrites
 pub mod Taken
+pub mod Neighbours
+mod ViewPlaces
+mod GateSteps
+mod GateEnds
+pub mod Halts
+pub mod Unhalting
+mod HaltsOnward

@@ -1,6 +1,6 @@
 -- What goes along the shape of a list comes from neighbouring segments, also where segments may
 -- fail or have a state.
-use Rattle.std.proofs.Common.{ℕ, zero, suc, List, [], ◌++◌, Result, Ok, Err, refl, sym, subst, inl, inr}
+use Rattle.std.proofs.Common.{ℕ, List, [], ◌++◌, Result, Ok, Err, refl, sym, subst, inl, inr}
 use Rattle.parallel_bridge.specs.declared.path.Path.{Path}
 use Rattle.parallel_bridge.specs.declared.path.Path.TheVariants.{Serial, Parallel}
 use Rattle.parallel_bridge.specs.Lists.{Brackets, of_segment, of_parts}

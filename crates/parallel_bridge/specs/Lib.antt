@@ -6,9 +6,13 @@ pub mod States
 pub mod Tries
 pub mod Parts
 pub mod Onto
+pub mod Pairs
 pub mod Producers
 pub mod Sources
 pub mod Ways
 pub mod Places
 pub mod Windows
 pub mod Fills
+pub mod GateRule
+pub mod Gates
+pub mod Halting

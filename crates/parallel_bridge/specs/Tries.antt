@@ -1,5 +1,5 @@
 -- Maps and folds whose steps may fail.
-use Rattle.std.specs.Prelude.{◌≡◌, ℕ, zero, suc, List, [], ◌∷◌, ◌++◌, Result, Ok, Err, Option, Some, None, ◌⊎◌, Bool, true, false}
+use Rattle.std.specs.Prelude.{◌≡◌, ℕ, List, [], ◌∷◌, ◌++◌, Result, Ok, Err, Option, Some, None, ◌⊎◌, Bool, true, false}
 use Rattle.parallel_bridge.specs.declared.path.Path.{Path}
 use Rattle.parallel_bridge.specs.declared.path.Path.TheVariants.{Serial, Parallel}
 use Rattle.std.specs.List.{AllZip}

@@ -8,16 +8,17 @@ ghost use Rattle.parallel_bridge.specs.Sources.{Driven, GivesSome, Suits};
 ghost use Rattle.parallel_bridge.specs.Tries.{TryAlongCut};
 
 use crate::drive::{Task, drive};
+use crate::parts::Parts;
 use crate::plumbing::{Consumer, Folder, Reducer};
-use crate::producer::Producer;
-use crate::segment::{ProducerSegment, Segment, WindowSegment};
-use crate::window::home::Home;
+use crate::segment::Segment;
 use parallel_fault::{Fault, Trouble};
 use std::alloc::Global;
 use std::convert::Infallible;
 use std::marker::PhantomData;
 use std::num::NonZeroUsize;
 use std::thread::Threads;
+
+pub mod gated;
 
 /// How many times over a list may be halved for that many threads: the binary digits of the number.
 pub fn depth_of(threads: NonZeroUsize) -> usize
@@ -31,7 +32,7 @@ pub fn depth_of(threads: NonZeroUsize) -> usize
 /// Hands a list to the consumer, split along its shape for that many threads, of which the caller's
 /// is one. Where several segments fail, the leftmost one's error is answered; a refusal of memory
 /// may stand in its place.
-pub fn bridge<Rt: Threads + Sync, P: Producer, C: Consumer<P::Item> + Send>(
+pub fn bridge<Rt: Threads + Sync, P: Parts, C: Consumer<P::Item> + Send>(
     rt: &Rt,
     alloc: Global,
     threads: NonZeroUsize,
@@ -50,42 +51,14 @@ pub fn bridge<Rt: Threads + Sync, P: Producer, C: Consumer<P::Item> + Send>(
         → length (leaf_lengths (Shape (cutdepth (non_zero_usize_get threads)) xs)) ≤ length xs }
 {
     let depth = depth_of(threads);
-    let parts = match parts.into_vec() {
-        Ok(items) => return bridge_owned(rt, alloc, depth, threads.get(), items, consumer),
-        Err(parts) => parts,
-    };
+    let (segment, home) = parts.into_segment();
     let handing = Handing {
-        parts: ProducerSegment { parts },
+        parts: segment,
         consumer,
         items: PhantomData,
     };
-    let (answer, _) = drive(rt, alloc, depth, threads.get(), handing);
-    answer
-}
-
-// The same for owned items, each of which is taken from where it lies.
-fn bridge_owned<Rt: Threads + Sync, T: Send + Drop, C: Consumer<T> + Send>(
-    rt: &Rt,
-    alloc: Global,
-    depth: usize,
-    threads: usize,
-    items: Vec<T>,
-    consumer: C,
-) -> Result<C::Result, Trouble<C::Error>>
-    requires ready { C.ready consumer }
-    requires fits { C.fits consumer (length items.items) }
-    requires items { (x : T) → Contains items.items x → C.takes consumer x }
-    ensures along { Driven (λ v xs. xs ≡ v.items) items (C.leaf_gives consumer)
-        (C.node_gives consumer) depth result }
-{
-    let (window, home) = Home::adopt(items);
-    let handing = Handing {
-        parts: WindowSegment { window },
-        consumer,
-        items: PhantomData,
-    };
-    let (answer, rest) = drive(rt, alloc, depth, threads, handing);
-    home.free(rest);
+    let (answer, rest) = drive(rt, alloc, depth, threads.get(), handing);
+    P::put_away(home, rest);
     answer
 }
 

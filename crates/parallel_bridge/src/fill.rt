@@ -9,24 +9,25 @@ ghost use Rattle.parallel_bridge.specs.Windows.{Follows};
 
 use crate::drive::{Task, drive};
 use crate::fill::writer::Writer;
-use crate::producer::Producer;
-use crate::segment::{ProducerSegment, Segment, WindowSegment};
-use crate::window::home::Home;
+use crate::parts::Parts;
+use crate::segment::Segment;
 use crate::window::part::Window;
 use parallel_fault::Trouble;
 use std::alloc::Global;
 use std::marker::PhantomData;
 use std::thread::Threads;
 
+pub mod gated;
 pub mod map;
 pub mod map_init;
 pub mod try_map;
+pub mod watched;
 pub mod writer;
 
 /// Writes the answers for the items of a list into the room for them, where the segments of the
 /// list's shape, halved at most `depth` times over, are answered side by side. Where several
 /// segments fail, the leftmost one's error is answered; a refusal of memory may stand in its place.
-pub fn fill<Rt: Threads + Sync, P: Producer, W: Writer<P::Item> + Sync>(
+pub fn fill<Rt: Threads + Sync, P: Parts, W: Writer<P::Item> + Sync>(
     rt: &Rt,
     alloc: Global,
     depth: usize,
@@ -44,49 +45,15 @@ where
     ensures { Filled P.gives parts (Answered (W.so_far writer.now) (W.fails writer.now)) depth room
         result.0 result.1 }
 {
-    let parts = match parts.into_vec() {
-        Ok(items) => return fill_owned(rt, alloc, depth, threads, items, writer, room),
-        Err(parts) => parts,
-    };
+    let (segment, home) = parts.into_segment();
     let filling = Filling {
-        parts: ProducerSegment { parts },
-        writer,
-        room,
-        items: PhantomData,
-    };
-    let (room, done, _) = drive(rt, alloc, depth, threads, filling);
-    (room, done)
-}
-
-// The same for owned items, each of which is taken from where it lies.
-fn fill_owned<Rt: Threads + Sync, T: Send + Drop, W: Writer<T> + Sync>(
-    rt: &Rt,
-    alloc: Global,
-    depth: usize,
-    threads: usize,
-    items: Vec<T>,
-    writer: &W,
-    room: Window<W::Answer>,
-) -> (Window<W::Answer>, Result<(), Trouble<W::Error>>)
-where
-    W::Answer: Send,
-    W::Error: Send,
-    W::State: Send,
-    requires ready { W.ready writer.now }
-    requires fits { Fillable W.Answer.row (λ v. length v.items) (λ v x. Contains v.items x)
-        (W.takes writer.now) items room }
-    ensures { Filled (λ v xs. xs ≡ v.items) items (Answered (W.so_far writer.now)
-        (W.fails writer.now)) depth room result.0 result.1 }
-{
-    let (window, home) = Home::adopt(items);
-    let filling = Filling {
-        parts: WindowSegment { window },
+        parts: segment,
         writer,
         room,
         items: PhantomData,
     };
     let (room, done, rest) = drive(rt, alloc, depth, threads, filling);
-    home.free(rest);
+    P::put_away(home, rest);
     (room, done)
 }
 
@@ -189,8 +156,8 @@ where
     }
 }
 
-// Two neighbours as one, and the left one's trouble first.
-fn put_together<T: Drop, E: Drop>(
+/// Two neighbours as one, and the left one's trouble first.
+pub(crate) fn put_together<T: Drop, E: Drop>(
     left: (Window<T>, Result<(), Trouble<E>>),
     right: (Window<T>, Result<(), Trouble<E>>),
 ) -> (Window<T>, Result<(), Trouble<E>>)

@@ -1,5 +1,5 @@
 //! Lists that may be split: slices, copies of their items, indices, and owned items.
-ghost use Rattle.std.specs.Prelude.{◌≡◌, ◌++◌, ◌-◌, ◌+◌, ◌<◌, ◌≤◌, ℕ, List, drop, length, map, take, IfErr, IfOk, ◌⊎◌};
+ghost use Rattle.std.specs.Prelude.{◌≡◌, ◌++◌, ◌-◌, ◌+◌, ◌<◌, ◌≤◌, ℕ, List, drop, length, map, take, IfOk, ◌⊎◌};
 ghost use Rattle.std.specs.Borrow.{Bor};
 ghost use Rattle.std.specs.Iterator.{Drains, HoldsAlong, IsFinite, YieldsFirst, YieldsLast, item_count};
 ghost use Rattle.std.specs.List.{All, Contains, range_with_len};
@@ -61,17 +61,6 @@ pub trait Producer: Send + Sized + Drop {
         ensures gives { (xs : List Self.Item) → Drains Self.Iter.next_gives result xs
             → gives self xs }
         ensures may { HoldsAlong Self.Iter.next_gives result (All (may self)) };
-
-    /// The items as an owned list, where they are one already, or else the producer as it was. An
-    /// owned list is cut where it lies, without a copy.
-    fn into_vec(self) -> Result<Vec<Self::Item>, Self>
-        ensures counted { IfOk result (λ vec. length vec.items ≡ count self) }
-        ensures gives { IfOk result (λ vec. gives self vec.items) }
-        ensures may { IfOk result (λ vec. (x : Self.Item) → Contains vec.items x → may self x) }
-        ensures same { IfErr result (λ list. list ≡ self) }
-    {
-        Err(self)
-    }
 }
 
 impl<'a, T: Sync> Producer for &'a [T] {
@@ -200,6 +189,13 @@ impl<T: Drop> DrainProducer<T> {
         }
     }
 
+    /// The items as a vector. Nothing is copied.
+    pub fn into_vec(self) -> Vec<T>
+        ensures { result.items ≡ drain_items self }
+    {
+        self.items.into_vec()
+    }
+
     /// An iterator over the items, from both ends.
     pub fn drain(self) -> SliceDrain<T>
         ensures { drain_rest result ≡ drain_items self }
@@ -235,10 +231,6 @@ impl<T: Send + Drop> Producer for DrainProducer<T> {
 
     fn into_items(self) -> SliceDrain<T> {
         self.drain()
-    }
-
-    fn into_vec(self) -> Result<Vec<T>, Self> {
-        Ok(self.items.into_vec())
     }
 }
 

@@ -6,10 +6,15 @@ ghost use Rattle.std.specs.Vec.Ownership.{FitsInBlock};
 ghost use Rattle.parallel_fault.specs.Trouble.{IsMemoryOnErr};
 ghost use Rattle.parallel_fault.specs.declared.fault.Fault.TheVariants.{Memory};
 ghost use Rattle.parallel_bridge.specs.Fills.{Answered, IsFull, IsRoom, SamePlaces, kept};
+ghost use Rattle.parallel_bridge.specs.Gates.{IsWatching, MayTell, SameWatch, known};
+ghost use Rattle.parallel_bridge.specs.Halting.{TellsAs, halting};
 ghost use Rattle.parallel_bridge.specs.Sources.{GivesSome};
 ghost use Rattle.parallel_bridge.specs.Windows.{Follows};
 
+use crate::fill::watched::{write_iter_watched, write_window_watched};
 use crate::fill::writer::{Writer, write_iter, write_window};
+use crate::gate::GateWatch;
+use crate::halt::Halt;
 use crate::plumbing::Folder;
 use crate::producer::Producer;
 use crate::window::part::Window;
@@ -102,6 +107,30 @@ pub trait Segment<Item: Send + Drop>: Send + Sized + Drop {
         ensures gives { GivesSome gives self (λ xs.
             Answered (W.so_far writer.now) (W.fails writer.now) xs (kept result.0 room.new.items)) }
         ensures rest { leaves self result.1 };
+
+    /// The same under the eye of a gate: it looks before the first item and after each, and where
+    /// it is stopped, drops the items that are left. It tells the gate of its own error at once.
+    fn write_watched<'g, W: Writer<Item>>(
+        self,
+        writer: &W,
+        room: &mut Window<W::Answer>,
+        watch: &mut GateWatch<'g>,
+    ) -> (Result<(), Halt<W::Error>>, Self::Rest)
+        requires sound { sound self }
+        requires ready { W.ready writer.now }
+        requires items { (x : Item) → may self x → W.takes writer.now x }
+        requires room { IsRoom room.old }
+        requires enough { room.old.room ≡ count self }
+        requires watch { MayTell watch.old }
+        ensures place { SamePlaces room.old room.new }
+        ensures full { IfOk result.0 (λ _. IsFull room.new) }
+        ensures gives { GivesSome gives self (λ xs. halting
+            (Answered (W.so_far writer.now) (W.fails writer.now)) xs
+            (kept result.0 room.new.items)) }
+        ensures rest { leaves self result.1 }
+        ensures same { SameWatch watch.old watch.new }
+        ensures watching { IsWatching watch.new }
+        ensures told { TellsAs watch.old.start (known watch.new.seat) result.0 };
 }
 
 /// What a producer gives. Nothing is left of it.
@@ -159,6 +188,19 @@ impl<P: Producer> Segment<P::Item> for ProducerSegment<P> {
     ) -> (Result<(), W::Error>, ()) {
         let _len = self.parts.len();
         (write_iter(writer, self.parts.into_items(), room), ())
+    }
+
+    fn write_watched<'g, W: Writer<P::Item>>(
+        self,
+        writer: &W,
+        room: &mut Window<W::Answer>,
+        watch: &mut GateWatch<'g>,
+    ) -> (Result<(), Halt<W::Error>>, ()) {
+        let _len = self.parts.len();
+        (
+            write_iter_watched(writer, self.parts.into_items(), room, watch),
+            (),
+        )
     }
 }
 
@@ -226,6 +268,18 @@ impl<T: Send + Drop> Segment<T> for WindowSegment<T> {
     ) -> (Result<(), W::Error>, Window<T>) {
         let mut window = self.window;
         let written = write_window(writer, &mut window, room);
+        window.clear();
+        (written, window)
+    }
+
+    fn write_watched<'g, W: Writer<T>>(
+        self,
+        writer: &W,
+        room: &mut Window<W::Answer>,
+        watch: &mut GateWatch<'g>,
+    ) -> (Result<(), Halt<W::Error>>, Window<T>) {
+        let mut window = self.window;
+        let written = write_window_watched(writer, &mut window, room, watch);
         window.clear();
         (written, window)
     }

@@ -5,7 +5,10 @@ ghost use Rattle.std.specs.List.{All, Contains};
 ghost use Rattle.parallel_fault.specs.Trouble.{IsMemoryOnErr};
 ghost use Rattle.parallel_bridge.specs.Sources.{MayCome};
 
+use crate::pairs::{PairDrain, Pairs};
+use crate::parts::{Parts, ProducerParts};
 use crate::producer::{DrainProducer, Producer};
+use crate::segment::Segment;
 use parallel_fault::Fault;
 use std::alloc::{AllocError, Global};
 
@@ -19,7 +22,7 @@ pub trait Source<M>: Sized {
     type Item: Send + Drop;
 
     /// The list, split among threads.
-    type Parts: Producer<Item = Self::Item>;
+    type Parts: Parts<Item = Self::Item, Segment: Segment<Self::Item>>;
 
     /// What goes over the items as they come.
     type Iter: Iterator<Item = Self::Item>;
@@ -62,13 +65,16 @@ pub struct ByParts;
 /// The kind of a source that is a vector.
 pub struct ByVec;
 
+/// The kind of a source that is an owned list, taken two neighbours at a time.
+pub struct ByPairs;
+
 /// The kind of a source that is an iterator.
 pub struct ByIter;
 
 impl<P: Producer> Source<ByParts> for P {
     type Item = P::Item;
 
-    type Parts = P;
+    type Parts = ProducerParts<P>;
 
     type Iter = P::Iter;
 
@@ -82,8 +88,8 @@ impl<P: Producer> Source<ByParts> for P {
         <P as Producer>::into_items(self)
     }
 
-    fn into_parts(self, _alloc: Global) -> Result<P, Fault> {
-        Ok(self)
+    fn into_parts(self, _alloc: Global) -> Result<ProducerParts<P>, Fault> {
+        Ok(ProducerParts { list: self })
     }
 }
 
@@ -106,6 +112,30 @@ impl<T: Send + Drop> Source<ByVec> for Vec<T> {
 
     fn into_parts(self, _alloc: Global) -> Result<DrainProducer<T>, Fault> {
         Ok(DrainProducer::from_vec(self))
+    }
+}
+
+impl<T: Send + Drop> Source<ByPairs> for Pairs<T> {
+    ghost use Rattle.parallel_bridge.specs.Pairs.{pair_items};
+
+    type Item = (T, T);
+
+    type Parts = Pairs<T>;
+
+    type Iter = PairDrain<T>;
+
+    ghost can = { λ _. Unit {0} };
+
+    ghost gives = { λ source xs. xs ≡ pair_items source };
+
+    ghost may = { λ source x. Contains (pair_items source) x };
+
+    fn into_items(self) -> PairDrain<T> {
+        Parts::into_items(self)
+    }
+
+    fn into_parts(self, _alloc: Global) -> Result<Pairs<T>, Fault> {
+        Ok(self)
     }
 }
 

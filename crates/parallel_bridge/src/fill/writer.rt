@@ -82,8 +82,8 @@ where
     Ok(())
 }
 
-// Drops the items that are left of an iterator.
-fn pass_over<I: Iterator>(iter: I)
+/// Drops the items that are left of an iterator.
+pub(crate) fn pass_over<I: Iterator>(iter: I)
 where
     I::Item: Drop,
     requires can { I.can_next iter }

@@ -11,8 +11,8 @@ ghost use Rattle.parallel_bridge.specs.Ways.{FoldedAs};
 use crate::bridge::{bridge, unfailing};
 use crate::consumer::fold::{FoldConsumer, fold_from};
 use crate::consumer::reduce::ReduceConsumer;
+use crate::parts::Parts;
 use crate::path::Path;
-use crate::producer::Producer;
 use parallel_fault::Fault;
 use std::alloc::Global;
 use std::num::NonZeroUsize;
@@ -39,7 +39,7 @@ pub fn fold_iter<I: Iterator, R: Drop, ID: Fn() -> R, F: Fn(R, I::Item) -> R>(
 /// of its own and reduced behind a further identity, and neighbours reduced left before right.
 pub fn fold_parallel<
     Rt: Threads + Sync,
-    P: Producer,
+    P: Parts,
     R: Send + Drop,
     ID: Fn() -> R + Send + Sync,
     F: Fn(R, P::Item) -> R + Send + Sync,
@@ -78,7 +78,7 @@ pub fn fold_parallel<
 /// list's shape.
 pub fn fold_by<
     Rt: Threads + Sync,
-    P: Producer,
+    P: Parts,
     R: Send + Drop,
     ID: Fn() -> R + Send + Sync,
     F: Fn(R, P::Item) -> R + Send + Sync,

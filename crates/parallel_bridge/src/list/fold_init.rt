@@ -11,8 +11,8 @@ ghost use Rattle.parallel_bridge.specs.Ways.{FoldedInitAs};
 use crate::bridge::{bridge, unfailing};
 use crate::consumer::fold_init::{FoldInitConsumer, fold_init_from};
 use crate::consumer::reduce::ReduceConsumer;
+use crate::parts::Parts;
 use crate::path::Path;
-use crate::producer::Producer;
 use parallel_fault::Fault;
 use std::alloc::Global;
 use std::num::NonZeroUsize;
@@ -47,7 +47,7 @@ pub fn fold_init_iter<
 /// right.
 pub fn fold_init_parallel<
     Rt: Threads + Sync,
-    P: Producer,
+    P: Parts,
     S: Send + Drop,
     R: Send + Drop,
     N: Fn() -> S + Send + Sync,
@@ -93,7 +93,7 @@ pub fn fold_init_parallel<
 /// state, in parallel along the list's shape.
 pub fn fold_init_by<
     Rt: Threads + Sync,
-    P: Producer,
+    P: Parts,
     S: Send + Drop,
     R: Send + Drop,
     N: Fn() -> S + Send + Sync,

@@ -9,8 +9,8 @@ ghost use Rattle.parallel_bridge.specs.Sources.{GivesSome};
 use crate::bridge::{depth_of, unfailing};
 use crate::fill::fill;
 use crate::fill::map::MapWriter;
+use crate::parts::Parts;
 use crate::path::Path;
-use crate::producer::Producer;
 use crate::window::home::Home;
 use parallel_fault::Fault;
 use std::alloc::Global;
@@ -43,7 +43,7 @@ pub fn map_iter<I: Iterator, T: Drop, F: Fn(I::Item) -> T>(
 /// once, before any segment starts, and each answer is written where it stays.
 pub fn map_parallel<
     Rt: Threads + Sync,
-    P: Producer,
+    P: Parts,
     T: Send + Drop,
     F: Fn(P::Item) -> T + Send + Sync,
 >(rt: &Rt, alloc: Global, threads: NonZeroUsize, parts: P, map_op: &F) -> Result<Vec<T>, Fault>
@@ -68,7 +68,7 @@ pub fn map_parallel<
 
 /// The answers of `map_op` for the items of a list, in their order: serially as they come, in
 /// parallel side by side.
-pub fn map_by<Rt: Threads + Sync, P: Producer, T: Send + Drop, F: Fn(P::Item) -> T + Send + Sync>(
+pub fn map_by<Rt: Threads + Sync, P: Parts, T: Send + Drop, F: Fn(P::Item) -> T + Send + Sync>(
     rt: &Rt,
     alloc: Global,
     threads: NonZeroUsize,

@@ -14,8 +14,8 @@ use crate::bridge::{depth_of, unfailing};
 use crate::consumer::map_init::map_init_from;
 use crate::fill::fill;
 use crate::fill::map_init::MapInitWriter;
+use crate::parts::Parts;
 use crate::path::Path;
-use crate::producer::Producer;
 use crate::window::home::Home;
 use parallel_fault::Fault;
 use std::alloc::Global;
@@ -50,7 +50,7 @@ pub fn map_init_iter<I: Iterator, S: Drop, T: Drop, N: Fn() -> S, F: Fn(&mut S, 
 /// starts, and each answer is written where it stays.
 pub fn map_init_parallel<
     Rt: Threads + Sync,
-    P: Producer,
+    P: Parts,
     S: Send + Drop,
     T: Send + Drop,
     N: Fn() -> S + Send + Sync,
@@ -89,7 +89,7 @@ pub fn map_init_parallel<
 /// one state, in parallel side by side and with a state for each segment.
 pub fn map_init_by<
     Rt: Threads + Sync,
-    P: Producer,
+    P: Parts,
     S: Send + Drop,
     T: Send + Drop,
     N: Fn() -> S + Send + Sync,

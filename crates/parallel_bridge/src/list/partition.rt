@@ -8,8 +8,8 @@ ghost use Rattle.parallel_bridge.specs.Sources.{GivesSome};
 
 use crate::bridge::{bridge, unfailing};
 use crate::consumer::partition::{PartitionConsumer, partition_onto};
+use crate::parts::Parts;
 use crate::path::Path;
-use crate::producer::Producer;
 use parallel_fault::Fault;
 use std::alloc::Global;
 use std::num::NonZeroUsize;
@@ -37,7 +37,7 @@ pub fn partition_iter<I: Iterator, K: Drop, U: Drop, F: Fn(I::Item) -> (K, Optio
 /// shape for that many threads are answered side by side.
 pub fn partition_parallel<
     Rt: Threads + Sync,
-    P: Producer,
+    P: Parts,
     K: Send + Drop,
     U: Send + Drop,
     F: Fn(P::Item) -> (K, Option<U>) + Send + Sync,
@@ -60,7 +60,7 @@ pub fn partition_parallel<
 /// parallel side by side.
 pub fn partition_by<
     Rt: Threads + Sync,
-    P: Producer,
+    P: Parts,
     K: Send + Drop,
     U: Send + Drop,
     F: Fn(P::Item) -> (K, Option<U>) + Send + Sync,

@@ -8,11 +8,14 @@ ghost use Rattle.parallel_bridge.specs.Sources.{GivesSome};
 ghost use Rattle.parallel_bridge.specs.Tries.{TryAlong, TryFoldSegment};
 ghost use Rattle.parallel_bridge.specs.Ways.{TryFoldedAs};
 
-use crate::bridge::bridge;
-use crate::consumer::try_fold::{TryFoldConsumer, try_fold_onward};
-use crate::consumer::try_reduce::TryReduceConsumer;
+use crate::bridge::depth_of;
+use crate::bridge::gated::fold_gated;
+use crate::consumer::try_fold::try_fold_onward;
+use crate::gate::watch::seats_for;
+use crate::gate::{Gate, GateWatch};
+use crate::halt::{unhalt, unhalt_lost};
+use crate::parts::Parts;
 use crate::path::Path;
-use crate::producer::Producer;
 use parallel_fault::Trouble;
 use std::alloc::Global;
 use std::num::NonZeroUsize;
@@ -42,10 +45,11 @@ where
 
 /// The items of a list folded along its shape for that many threads: each segment from an identity
 /// of its own, up to its own first error, and reduced behind a further identity; neighbours are
-/// reduced left before right, and of several errors the leftmost is answered.
+/// reduced left before right, and of several errors the leftmost is answered. A segment stops at
+/// that of a segment to its left, too: then the closures aren't called for its other items.
 pub fn try_fold_parallel<
     Rt: Threads + Sync,
-    P: Producer,
+    P: Parts,
     R: Send + Drop,
     E: Send + Drop,
     ID: Fn() -> R + Send + Sync,
@@ -68,23 +72,38 @@ pub fn try_fold_parallel<
         (λ a b c. G.post reduce_op.now a b c)
         (Shape (cutdepth (non_zero_usize_get threads)) xs) out)) }
 {
-    let base = TryReduceConsumer {
-        identity,
-        reduce_op,
+    let (gate, seat) = Gate::open(alloc, seats_for(parts.len()))?;
+    let watch = GateWatch {
+        gate: &gate,
+        seat,
+        start: 0,
     };
-    let folding = TryFoldConsumer {
-        base,
+    let depth = depth_of(threads);
+    let (done, seat) = fold_gated(
+        rt,
+        alloc,
+        depth,
+        threads.get(),
+        parts,
         identity,
         fold_op,
-    };
-    bridge(rt, alloc, threads, parts, folding)
+        reduce_op,
+        watch,
+    );
+    match seat {
+        Some(seat) => {
+            gate.close_joined(seat);
+            unhalt(done)
+        }
+        None => unhalt_lost(done),
+    }
 }
 
 /// The items of a list folded up to the first step that fails: serially as they come and in one
 /// segment, in parallel along the list's shape.
 pub fn try_fold_by<
     Rt: Threads + Sync,
-    P: Producer,
+    P: Parts,
     R: Send + Drop,
     E: Send + Drop,
     ID: Fn() -> R + Send + Sync,

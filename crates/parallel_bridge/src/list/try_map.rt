@@ -8,10 +8,13 @@ ghost use Rattle.parallel_bridge.specs.Tries.{TryMapOf};
 
 use crate::bridge::depth_of;
 use crate::consumer::try_map::try_map_onward;
-use crate::fill::fill;
+use crate::fill::gated::fill_gated;
 use crate::fill::try_map::TryMapWriter;
+use crate::gate::watch::seats_for;
+use crate::gate::{Gate, GateWatch};
+use crate::halt::unhalt;
+use crate::parts::Parts;
 use crate::path::Path;
-use crate::producer::Producer;
 use crate::window::home::Home;
 use parallel_fault::Trouble;
 use std::alloc::Global;
@@ -45,11 +48,12 @@ where
 
 /// The values that `map_op` answers for the items of a list, in their order, where the segments of
 /// the list's shape for that many threads are answered side by side; or the error of the first item
-/// that fails, whichever segment ends first. A segment stops at its own first error. Memory for the
-/// values is reserved once, before any segment starts, and each value is written where it stays.
+/// that fails, whichever segment ends first. A segment stops at its own first error, and at that of
+/// a segment to its left: then the closure isn't called for its other items. Memory for the values
+/// is reserved once, before any segment starts, and each value is written where it stays.
 pub fn try_map_parallel<
     Rt: Threads + Sync,
-    P: Producer,
+    P: Parts,
     T: Send + Drop,
     E: Send + Drop,
     F: Fn(P::Item) -> Result<T, E> + Send + Sync,
@@ -59,11 +63,27 @@ pub fn try_map_parallel<
         (λ xs. TryMapOf (F.post map_op.now) xs (listed out))) }
 {
     let len = parts.len();
+    let (gate, seat) = Gate::open(alloc, seats_for(len))?;
     let (room, home) = Home::reserve(alloc, len)?;
     let writer = TryMapWriter { map_op };
     let depth = depth_of(threads);
-    let (values, done) = fill(rt, alloc, depth, threads.get(), parts, &writer, room);
-    match done {
+    let watch = GateWatch {
+        gate: &gate,
+        seat,
+        start: 0,
+    };
+    let (values, done, seat) = fill_gated(
+        rt,
+        alloc,
+        depth,
+        threads.get(),
+        parts,
+        &writer,
+        room,
+        watch,
+    );
+    gate.close_joined(seat);
+    match unhalt(done) {
         Ok(()) => Ok(values.into_vec(home)),
         Err(trouble) => {
             home.free(values);
@@ -76,7 +96,7 @@ pub fn try_map_parallel<
 /// side.
 pub fn try_map_by<
     Rt: Threads + Sync,
-    P: Producer,
+    P: Parts,
     T: Send + Drop,
     E: Send + Drop,
     F: Fn(P::Item) -> Result<T, E> + Send + Sync,

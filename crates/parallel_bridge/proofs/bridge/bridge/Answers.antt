@@ -10,10 +10,3 @@ returns-clause-by_threads g c xs =
 
 pub returns-clause-by_items : goal.returns-clause-by_items
 returns-clause-by_items g c xs some = shape_by_items (cutdepth c.args.threads.value) xs some
-
-pub returns-in-Ok-clause-by_threads : goal.returns-in-Ok-clause-by_threads
-returns-in-Ok-clause-by_threads g c xs =
-    shape_by_threads c.args.threads.value xs (omega arith) (omega arith)
-
-pub returns-in-Ok-clause-by_items : goal.returns-in-Ok-clause-by_items
-returns-in-Ok-clause-by_items g c xs some = shape_by_items (cutdepth c.args.threads.value) xs some

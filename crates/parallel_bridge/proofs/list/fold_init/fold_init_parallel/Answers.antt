@@ -22,7 +22,7 @@ returns-clause-along g c =
     λ (a : g.row.R.Denot) (b : g.row.R.Denot) (r : g.row.R.Denot). g.G.Fn.post
     c.args.reduce_op.now (a, (b, tt)) r in
     let k = cutdepth c.args.threads.value in
-    let gives = g.P.Producer.gives in
+    let gives = g.P.Parts.gives in
     driven c.bridge.result c.unfailing.result
     (λ o. GivesSome gives c.args.parts
     (λ xs. TryAlongCut {E = Infallible}

@@ -14,7 +14,7 @@ returns-in-Ok-clause-maps g c =
     let allowed =
     λ (x : g.row.P-Item.Denot) (y : g.row.T.Denot). g.F.Fn.post c.args.map_op.now (x, tt) y in
     let leaf = Answered {S = Unit {0}} {E = Infallible} (λ l s ys. MapOf allowed l ys) (λ l e. ⊥) in
-    let gives = g.P.Producer.gives in
+    let gives = g.P.Parts.gives in
     let depth = c.depth_of-depth.result in
     let answers = c.fill-answers.result.0 in
     let w : GivesSome gives c.args.parts

@@ -23,7 +23,7 @@ returns-in-Ok-clause-along g c =
     g.row.P-Item.Denot) (zs : List g.row.T.Denot) → StatesFrom step s more zs
     → StateSegment init step (l ++ more) (ys ++ zs) in
     let leaf = Answered {E = Infallible} so_far (λ l e. ⊥) in
-    let gives = g.P.Producer.gives in
+    let gives = g.P.Parts.gives in
     let depth = c.depth_of-depth.result in
     let answers = c.fill-answers.result.0 in
     let w : GivesSome gives c.args.parts

@@ -16,7 +16,7 @@ returns-clause-parts g c =
     λ (x : g.row.P-Item.Denot) (p : g.row.K.Denot × Option g.row.U.Denot). g.F.Fn.post
     c.args.map_op.now (x, tt) p in
     let k = cutdepth c.args.threads.value in
-    let gives = g.P.Producer.gives in
+    let gives = g.P.Parts.gives in
     driven c.bridge.result c.unfailing.result
     (λ out. GivesSome gives c.args.parts
     (λ xs. TryAlongCut {R = Vec g.row.U.Denot Global × Vec g.row.K.Denot Global} {E = Infallible}

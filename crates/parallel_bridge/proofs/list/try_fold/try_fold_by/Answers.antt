@@ -60,7 +60,7 @@ returns-in-Parallel g c =
     λ (a : g.row.R.Denot) (b : g.row.R.Denot) (r : g.row.R.Denot). g.G.Fn.post
     c.args.reduce_op.now (a, (b, tt)) r in
     let k = cutdepth c.args.threads.value in
-    let gives = g.P.Producer.gives in
+    let gives = g.P.Parts.gives in
     record {
       folds = unless_weaker c.try_fold_parallel.result
           (λ out. GivesSome gives c.args.parts

@@ -1,15 +1,49 @@
--- The outcome of each segment is reduced behind an identity, unless it is an error.
-use Rattle.std.proofs.Common.{Result, ◌∷◌, []}
-use Rattle.parallel_bridge.specs.Onto.{ReducesTo}
-use Rattle.parallel_bridge.specs.Shapes.{Shape, cutdepth}
+-- The outcome of each segment is reduced behind an identity, unless it is an error, and no stop
+-- stands.
+use Rattle.std.proofs.Common.{Result, subst, sym, ap, ◌∙◌, arith}
+use Rattle.parallel_bridge.specs.Gates.{stands_for}
+use Rattle.parallel_bridge.specs.Halting.{KeptEnds}
+use Rattle.parallel_bridge.specs.Outcomes.{UnlessRefused}
+use Rattle.parallel_bridge.specs.Shapes.{Shape}
 use Rattle.parallel_bridge.specs.Sources.{GivesSome}
-use Rattle.parallel_bridge.specs.Tries.{TryAlong, TryAlongCut, OnlyOk, TryFoldSegment}
-use Rattle.parallel_bridge.proofs.Drivers.{try_fold_driven}
-use Rattle.parallel_bridge.proofs.Outcomes.{unless_weaker}
+use Rattle.parallel_bridge.specs.Tries.{OnlyOk, TryAlong, TryFoldSegment, TryReducedSegment}
+use Rattle.parallel_bridge.proofs.Halts.{fresh_watch, never_stopped}
+use Rattle.parallel_bridge.proofs.Unhalting.{driven_lost, driven_unhalted, ok_meets}
 use Rattle.parallel_bridge.proofs.list.try_fold.try_fold_parallel.Goals as goal
 
-pub returns : goal.returns
-returns g c =
+pub fold_gated-done-requires-clause-watch : goal.fold_gated-done-requires-clause-watch
+fold_gated-done-requires-clause-watch g c κs within =
+    let opened = c.in_ok-gate.ensures in
+    let counted = c.len.ensures.counted in
+    let enough = c.seats_for.ensures in
+    fresh_watch c.in_ok-gate.gate c.in_ok-gate.seat _ (g.P.Parts.count c.args.parts)
+    opened.belongs opened.fresh (omega (arith, enough))
+    (omega (arith, enough, counted)) (omega (arith, counted))
+
+pub close_joined-requires-clause-belongs : goal.close_joined-requires-clause-belongs
+close_joined-requires-clause-belongs g c =
+    (subst (λ s. KeptEnds c.in_ok-gate.gate 0 (g.P.Parts.count c.args.parts)
+    (stands_for c.in_ok-gate.seat) s c.fold_gated-done.result.0) c.in-Some.is
+    c.fold_gated-done.ensures.ends).0
+
+pub close_joined-requires-clause-all : goal.close_joined-requires-clause-all
+close_joined-requires-clause-all g c =
+    (subst (λ s. KeptEnds c.in_ok-gate.gate 0 (g.P.Parts.count c.args.parts)
+    (stands_for c.in_ok-gate.seat) s c.fold_gated-done.result.0) c.in-Some.is
+    c.fold_gated-done.ensures.ends).1.0
+    ∙ ap (λ v. v.seats) c.in_ok-gate.ensures.fresh ∙ sym c.in_ok-gate.ensures.seats
+
+pub unhalt-requires : goal.unhalt-requires
+unhalt-requires g c =
+    let count = g.P.Parts.count c.args.parts in
+    never_stopped count (stands_for c.in_ok-gate.seat) c.close_joined.result
+    c.in-Some.seat.seat.me.0 c.fold_gated-done.result.0 (omega (arith, c.len.ensures.counted))
+    (subst (λ s. KeptEnds c.in_ok-gate.gate 0 count (stands_for c.in_ok-gate.seat) s
+    c.fold_gated-done.result.0) c.in-Some.is c.fold_gated-done.ensures.ends).1
+    c.close_joined.ensures.stopped
+
+pub returns-in-Some : goal.returns-in-Some
+returns-in-Some g c =
     let identity = λ (e : g.row.R.Denot). g.ID.Fn.post c.args.identity.now tt e in
     let step =
     λ (a : g.row.R.Denot) (x : g.row.P-Item.Denot)
@@ -17,22 +51,31 @@ returns g c =
     let reduce =
     λ (a : g.row.R.Denot) (b : g.row.R.Denot) (r : g.row.R.Denot). g.G.Fn.post
     c.args.reduce_op.now (a, (b, tt)) r in
-    let k = cutdepth c.args.threads.value in
-    let gives = g.P.Producer.gives in
+    let gives = g.P.Parts.gives in
     record {
-      along = unless_weaker c.bridge.result
-          (λ out. GivesSome gives c.args.parts
-          (λ xs. TryAlongCut (λ l o. (v : Result g.row.R.Denot g.row.E.Denot)
-          × TryFoldSegment identity step l v
-          × TryFoldSegment identity (ReducesTo reduce) (v ∷ []) o)
-          (λ a b o. OnlyOk (λ v. reduce a b v) o) (Shape k xs) out))
-          (λ out. GivesSome gives c.args.parts
-          (λ xs. TryAlong identity step reduce (Shape k xs) out))
-          (λ out h. (
-            h.0,
-            h.1,
-            try_fold_driven identity (TryFoldSegment identity step) reduce
-                (Shape k h.0) out h.2,
-          ))
-          c.bridge.ensures.along;
+      along = subst (λ k. UnlessRefused c.unhalt.result (λ out. GivesSome gives c.args.parts
+          (λ xs. TryAlong identity step reduce (Shape k xs) out))) c.depth_of-depth.ensures.digits
+          (driven_unhalted (TryReducedSegment identity (TryFoldSegment identity step) reduce)
+          (λ a b. OnlyOk (reduce a b)) (λ a b. OnlyOk (reduce a b)) (ok_meets reduce)
+          gives c.args.parts c.depth_of-depth.result c.fold_gated-done.result.0 c.unhalt.result
+          c.fold_gated-done.ensures.along c.unhalt.ensures);
+    }
+
+pub returns-in-None : goal.returns-in-None
+returns-in-None g c =
+    let identity = λ (e : g.row.R.Denot). g.ID.Fn.post c.args.identity.now tt e in
+    let step =
+    λ (a : g.row.R.Denot) (x : g.row.P-Item.Denot)
+    (o : Result g.row.R.Denot g.row.E.Denot). g.F.Fn.post c.args.fold_op.now (a, (x, tt)) o in
+    let reduce =
+    λ (a : g.row.R.Denot) (b : g.row.R.Denot) (r : g.row.R.Denot). g.G.Fn.post
+    c.args.reduce_op.now (a, (b, tt)) r in
+    let gives = g.P.Parts.gives in
+    record {
+      along = subst (λ k. UnlessRefused c.unhalt_lost.result (λ out. GivesSome gives c.args.parts
+          (λ xs. TryAlong identity step reduce (Shape k xs) out))) c.depth_of-depth.ensures.digits
+          (driven_lost (TryReducedSegment identity (TryFoldSegment identity step) reduce)
+          (λ a b. OnlyOk (reduce a b)) (λ a b. OnlyOk (reduce a b)) (ok_meets reduce)
+          gives c.args.parts c.depth_of-depth.result c.fold_gated-done.result.0
+          c.unhalt_lost.result c.fold_gated-done.ensures.along c.unhalt_lost.ensures);
     }

@@ -1,11 +1,39 @@
--- What was written into the segments' rooms, side by side, or the leftmost error.
-use Rattle.std.proofs.Common.{Result, Ok, subst, sym}
+-- What was written into the segments' rooms, side by side, or the leftmost error, which is no stop.
+use Rattle.std.proofs.Common.{Result, Ok, ◌≡◌, ◌++◌, List, subst, sym, ap, ◌∙◌, arith}
 use Rattle.parallel_bridge.specs.Fills.{Answered, OneAfterAnother, written}
+use Rattle.parallel_bridge.specs.Gates.{stands_for}
 use Rattle.parallel_bridge.specs.Shapes.{Shape}
 use Rattle.parallel_bridge.specs.Sources.{Driven, GivesSome}
 use Rattle.parallel_bridge.specs.Tries.{EachOk, FirstErr, TryAlongCut, TryMapOf}
+use Rattle.parallel_bridge.proofs.Halts.{fresh_watch, never_stopped}
 use Rattle.parallel_bridge.proofs.TryWrites.{tried_error, tried_shape}
+use Rattle.parallel_bridge.proofs.Unhalting.{driven_unhalted, ok_meets, written_not_stopped, written_unhalted}
 use Rattle.parallel_bridge.proofs.list.try_map.try_map_parallel.Goals as goal
+
+pub fill_gated-values-requires-clause-watch : goal.fill_gated-values-requires-clause-watch
+fill_gated-values-requires-clause-watch g c κs within =
+    let opened = c.in_ok-gate.ensures in
+    let counted = c.len-len.ensures.counted in
+    let enough = c.seats_for.ensures in
+    fresh_watch c.in_ok-gate.gate c.in_ok-gate.seat _ (g.P.Parts.count c.args.parts)
+    opened.belongs opened.fresh (omega (arith, enough))
+    (omega (arith, enough, counted)) (omega (arith, counted))
+
+pub close_joined-requires-clause-all : goal.close_joined-requires-clause-all
+close_joined-requires-clause-all g c =
+    c.fill_gated-values.ensures.ends.0 ∙ ap (λ v. v.seats) c.in_ok-gate.ensures.fresh
+    ∙ sym c.in_ok-gate.ensures.seats
+
+pub unhalt-requires : goal.unhalt-requires
+unhalt-requires g c =
+    let values = c.fill_gated-values.result.0 in
+    let done = c.fill_gated-values.result.1 in
+    let count = g.P.Parts.count c.args.parts in
+    written_not_stopped values done
+    (never_stopped count (stands_for c.in_ok-gate.seat) c.close_joined.result
+    c.fill_gated-values.result.2.seat.me.0 (written values done)
+    (omega (arith, c.len-len.ensures.counted)) c.fill_gated-values.ensures.ends
+    c.close_joined.ensures.stopped)
 
 pub returns-in-Ok : goal.returns-in-Ok
 returns-in-Ok g c =
@@ -13,13 +41,20 @@ returns-in-Ok g c =
     λ (x : g.row.P-Item.Denot) (o : Result g.row.T.Denot g.row.E.Denot). g.F.Fn.post
     c.args.map_op.now (x, tt) o in
     let leaf = Answered {S = Unit {0}} (λ l s ys. EachOk allowed l ys) (FirstErr allowed) in
-    let gives = g.P.Producer.gives in
+    let gives = g.P.Parts.gives in
     let depth = c.depth_of-depth.result in
-    let values = c.fill-values.result.0 in
+    let values = c.fill_gated-values.result.0 in
+    let done = c.fill_gated-values.result.1 in
+    let after = c.unhalt.result in
+    let all : Driven gives c.args.parts leaf OneAfterAnother depth (written values after) =
+    driven_unhalted leaf OneAfterAnother OneAfterAnother
+    (ok_meets (λ (a b l : List g.row.T.Denot). l ≡ a ++ b))
+    gives c.args.parts depth (written values done) (written values after)
+    c.fill_gated-values.ensures.filled.2 (written_unhalted values done after c.unhalt.ensures) in
     let w : GivesSome gives c.args.parts
     (λ xs. TryAlongCut leaf OneAfterAnother (Shape depth xs) (Ok values.items)) =
     subst (λ d. Driven gives c.args.parts leaf OneAfterAnother depth (written values d)) c.in-Ok.is
-    c.fill-values.ensures.2 in
+    all in
     record {
       maps = (
         w.0,
@@ -35,11 +70,18 @@ returns-in-Err g c =
     λ (x : g.row.P-Item.Denot) (o : Result g.row.T.Denot g.row.E.Denot). g.F.Fn.post
     c.args.map_op.now (x, tt) o in
     let leaf = Answered {S = Unit {0}} (λ l s ys. EachOk allowed l ys) (FirstErr allowed) in
-    let gives = g.P.Producer.gives in
+    let gives = g.P.Parts.gives in
     let depth = c.depth_of-depth.result in
-    let values = c.fill-values.result.0 in
+    let values = c.fill_gated-values.result.0 in
+    let done = c.fill_gated-values.result.1 in
+    let after = c.unhalt.result in
+    let all : Driven gives c.args.parts leaf OneAfterAnother depth (written values after) =
+    driven_unhalted leaf OneAfterAnother OneAfterAnother
+    (ok_meets (λ (a b l : List g.row.T.Denot). l ≡ a ++ b))
+    gives c.args.parts depth (written values done) (written values after)
+    c.fill_gated-values.ensures.filled.2 (written_unhalted values done after c.unhalt.ensures) in
     record {
       maps = tried_error allowed gives c.args.parts depth c.in-Err.trouble
           (subst (λ d. Driven gives c.args.parts leaf OneAfterAnother depth (written values d))
-          c.in-Err.is c.fill-values.ensures.2);
+          c.in-Err.is all);
     }

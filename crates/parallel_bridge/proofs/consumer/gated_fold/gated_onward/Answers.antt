@@ -1,0 +1,34 @@
+-- One turn is one step more, or the end stands.
+use Rattle.std.proofs.Common.{rules, ◌∷◌, [], ◌∙◌, arith, refl}
+use Rattle.parallel_bridge.proofs.HaltsOnward.{halts_onward, halts_rests}
+use Rattle.parallel_bridge.proofs.consumer.gated_fold.gated_onward.Goals as goal
+
+pub loop-item-init : goal.loop-item-init
+loop-item-init g c =
+    record {
+      accepts = search rules;
+      reached = halts_rests (λ a x o. goal.F-post g c.args.fold_op.now a x o) c.args.control;
+      watching = c.requires.watching;
+      stands = c.requires.stands;
+      same = (refl, refl, refl);
+      told = c.requires.told;
+    }
+
+pub loop-item-preserved : goal.loop-item-preserved
+loop-item-preserved g c =
+    let i = c.loop-item.invariant in
+    record {
+      accepts = search rules;
+      reached =
+          halts_onward (λ a x o. goal.F-post g c.args.fold_op.now a x o) c.args.control
+          c.loop-item.control c.gated_step-control.result c.loop-item.yielded
+          (c.in-Some.item ∷ []) i.reached c.gated_step-control.ensures.onward;
+      watching = c.gated_step-control.ensures.watching;
+      stands = omega (arith, c.gated_step-control.ensures.same.2, i.stands);
+      same = (
+        c.gated_step-control.ensures.same.0 ∙ i.same.0,
+        c.gated_step-control.ensures.same.1 ∙ i.same.1,
+        c.gated_step-control.ensures.same.2 ∙ i.same.2,
+      );
+      told = search rules;
+    }

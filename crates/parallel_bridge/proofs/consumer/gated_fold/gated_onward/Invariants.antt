@@ -1,0 +1,16 @@
+-- what is folded so far is reached from the start over the items that came
+use Rattle.std.proofs.Common.{◌<◌}
+use Rattle.parallel_bridge.specs.Gates.{IsWatching, SameWatch, known, stands_for}
+use Rattle.parallel_bridge.specs.Halting.{HaltsOnward, TellsAs}
+use Rattle.parallel_bridge.proofs.consumer.gated_fold.gated_onward.Given as goal
+
+abbrev pub invariant-loop-item : goal.invariant-loop-item
+invariant-loop-item g l = record {
+  accepts : goal.F-IsAlwaysCallable g l.fold_op;
+  reached : HaltsOnward (λ a x o. goal.F-post g l.fold_op a x o) l.initial.control l.yielded
+      l.control;
+  watching : IsWatching l.watch;
+  stands : 0 < stands_for l.watch.seat;
+  same : SameWatch l.initial.watch l.watch;
+  told : TellsAs l.watch.start (known l.watch.seat) l.control;
+}

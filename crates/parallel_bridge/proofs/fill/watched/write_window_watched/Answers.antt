@@ -1,0 +1,10 @@
+-- The next item stands in the list.
+use Rattle.parallel_bridge.proofs.Taken.{between}
+use Rattle.parallel_bridge.proofs.fill.watched.write_window_watched.Goals as goal
+
+pub answer-requires : goal.answer-requires
+answer-requires g c =
+    let so_far = c.loop-watch.invariant in
+    c.requires.items c.take-item.result
+    (between c.args.items.now.items so_far.taken.0 c.loop-watch.items.items
+    c.take-item.new.self.items c.take-item.result so_far.taken.1 c.take-item.ensures.items)

@@ -1,0 +1,17 @@
+-- the one seat, and those that are left
+use Rattle.std.proofs.Common.{All, Contains, length}
+use Rattle.parallel_bridge.specs.declared.gate.seat.GateSeat.{GateSeat}
+use Rattle.parallel_bridge.specs.Gates.{IsSeatOf, known}
+use Rattle.parallel_bridge.proofs.GateEnds.{Gathering}
+use Rattle.parallel_bridge.proofs.gate.Gate.gather.Given as goal
+
+abbrev pub invariant-loop-seat : goal.invariant-loop-seat
+invariant-loop-seat l = record {
+  belongs : IsSeatOf l.self l.all;
+  each : All (IsSeatOf l.self) l.seats.items;
+  within : (seat : GateSeat) → Contains l.seats.items seat → Contains l.fn.seats.items seat;
+  has : Gathering (known l.all) l.seats.items l.fn.seats.items;
+}
+
+abbrev pub decreases-loop-seat : goal.decreases-loop-seat
+decreases-loop-seat l = length l.seats.items

@@ -1,0 +1,21 @@
+-- what the folder may answer behind the pairs that are left, the first one may answer behind all
+use Rattle.std.proofs.Common.{List, Result, ◌++◌, length}
+use Rattle.std.specs.List.{Contains}
+use Rattle.parallel_bridge.specs.Fills.{SamePlaces}
+use Rattle.parallel_bridge.specs.Pairs.{pairs_of}
+use Rattle.parallel_bridge.proofs.pairs.feed_pairs.Given as goal
+
+abbrev pub invariant-loop-alloc : goal.invariant-loop-alloc
+invariant-loop-alloc g l = record {
+  ready : g.F.Folder.ready l.folder;
+  takes : (x : g.row.T.Denot × g.row.T.Denot) → Contains (pairs_of l.window.items) x
+      → g.F.Folder.takes l.folder x;
+  gives : (more : List (g.row.T.Denot × g.row.T.Denot))
+      (out : Result g.row.R.Denot g.row.E.Denot)
+      → g.F.Folder.gives l.folder (pairs_of l.window.items ++ more) out
+      → g.F.Folder.gives l.initial.folder (pairs_of l.initial.window.items ++ more) out;
+  place : SamePlaces l.initial.window l.window;
+}
+
+abbrev pub decreases-loop-alloc : goal.decreases-loop-alloc
+decreases-loop-alloc g l = length l.window.items

@@ -1,0 +1,301 @@
+//! Neighbouring pairs of an owned list, which is cut where it lies.
+ghost use Rattle.std.specs.Prelude.{◌≡◌, ◌++◌, ◌+◌, ◌<◌, ◌/◌, ◌∷◌, [], IfErr, IfOk, List, Result, length};
+ghost use Rattle.std.specs.Iterator.{YieldsFirst, item_count};
+ghost use Rattle.std.specs.List.{Contains};
+ghost use Rattle.std.specs.Vec.Ownership.{FitsInBlock};
+ghost use Rattle.parallel_fault.specs.Trouble.{IsMemoryOnErr};
+ghost use Rattle.parallel_bridge.specs.Fills.{Answered, IsFull, IsRoom, SamePlaces, kept};
+ghost use Rattle.parallel_bridge.specs.Gates.{IsWatching, MayTell, SameWatch, known};
+ghost use Rattle.parallel_bridge.specs.Halting.{TellsAs, halting};
+ghost use Rattle.parallel_bridge.specs.Pairs.{odd_of, pair_items, pair_rest, pairs_of};
+ghost use Rattle.parallel_bridge.specs.Windows.{Follows, IsSite};
+
+use crate::fill::writer::Writer;
+use crate::gate::GateWatch;
+use crate::halt::Halt;
+use crate::parts::Parts;
+use crate::plumbing::Folder;
+use crate::segment::Segment;
+use crate::window::block::Block;
+use crate::window::home::Home;
+use crate::window::part::Window;
+use parallel_fault::Fault;
+use std::alloc::Global;
+
+/// The items of an owned list, two neighbours at a time. It is cut where it lies: a cut of the
+/// pairs is a cut of the list at twice the index, and no item is moved before its pair is handed
+/// over.
+#[derive(Drop)]
+pub struct Pairs<T> {
+    items: Vec<T>,
+}
+
+impl<T: Drop> Pairs<T> {
+    /// The pairs of a list, and its last item where it has an odd number of them. Nothing is
+    /// copied, and it takes no memory.
+    pub fn new(items: Vec<T>) -> (Pairs<T>, Option<T>)
+        ensures pairs { pair_items result.0 ≡ pairs_of items.items }
+        ensures odd { result.1 ≡ odd_of items.items }
+    {
+        let mut items = items;
+        let odd = if items.len() % 2 == 1 {
+            items.pop()
+        } else {
+            None
+        };
+        (Pairs { items }, odd)
+    }
+}
+
+impl<T: Send + Drop> Parts for Pairs<T> {
+    type Item = (T, T);
+
+    type Iter = PairDrain<T>;
+
+    type Segment = PairSegment<T>;
+
+    type Home = Home<T, Global>;
+
+    ghost gives = { λ s xs. xs ≡ pair_items s };
+
+    ghost may = { λ s x. Contains (pair_items s) x };
+
+    ghost count = { λ s. length s.items.items / 2 };
+
+    ghost keeps = { λ home rest. (rest.start ≡ home.start) × (rest.room ≡ home.room)
+        × IsSite T.row home };
+
+    fn len(&self) -> usize {
+        self.items.len() / 2
+    }
+
+    fn into_items(self) -> PairDrain<T> {
+        PairDrain {
+            rest: Block::from_vec(self.items),
+        }
+    }
+
+    fn into_segment(self) -> (PairSegment<T>, Home<T, Global>) {
+        let (window, home) = Home::adopt(self.items);
+        (PairSegment { window }, home)
+    }
+
+    fn put_away(home: Home<T, Global>, rest: Window<T>) {
+        home.free(rest);
+    }
+}
+
+/// Owned items, two neighbours at a time, where they lie. Their places are left.
+#[derive(Drop)]
+pub struct PairSegment<T: Drop> {
+    /// The items, one in each place.
+    pub window: Window<T>,
+}
+
+impl<T: Send + Drop> Segment<(T, T)> for PairSegment<T> {
+    type Rest = Window<T>;
+
+    ghost sound = { λ s. IsFull s.window × FitsInBlock T.row s.window.room };
+
+    ghost gives = { λ s xs. xs ≡ pairs_of s.window.items };
+
+    ghost may = { λ s x. Contains (pairs_of s.window.items) x };
+
+    ghost count = { λ s. length s.window.items / 2 };
+
+    ghost leaves = { λ s rest. SamePlaces s.window rest × (rest.items ≡ []) };
+
+    ghost meets = { λ s a b. (a.start ≡ s.window.start) × Follows T.row a b
+        × (a.room + b.room ≡ s.window.room) × (a.items ≡ []) × (b.items ≡ [])
+        × FitsInBlock T.row s.window.room };
+
+    fn len(&self) -> usize {
+        self.window.len() / 2
+    }
+
+    fn split_at(self, _alloc: Global, index: usize) -> Result<(Self, Self), (Window<T>, Fault)> {
+        let _len = self.window.len();
+        let (front, back) = self.window.split(2 * index);
+        Ok((PairSegment { window: front }, PairSegment { window: back }))
+    }
+
+    fn join(left: Window<T>, right: Window<T>) -> Window<T> {
+        left.join(right)
+    }
+
+    fn leave(self) -> Window<T> {
+        let mut window = self.window;
+        window.clear();
+        window
+    }
+
+    fn feed<R: Drop, E: Drop, F: Folder<(T, T), R, E>>(
+        self,
+        alloc: Global,
+        folder: F,
+    ) -> (Result<F, Fault>, Window<T>) {
+        let mut window = self.window;
+        let fed = feed_pairs(alloc, &mut window, folder);
+        window.clear();
+        (fed, window)
+    }
+
+    fn write<W: Writer<(T, T)>>(
+        self,
+        writer: &W,
+        room: &mut Window<W::Answer>,
+    ) -> (Result<(), W::Error>, Window<T>) {
+        let mut window = self.window;
+        let written = write_pairs(writer, &mut window, room);
+        window.clear();
+        (written, window)
+    }
+
+    fn write_watched<'g, W: Writer<(T, T)>>(
+        self,
+        writer: &W,
+        room: &mut Window<W::Answer>,
+        watch: &mut GateWatch<'g>,
+    ) -> (Result<(), Halt<W::Error>>, Window<T>) {
+        let mut window = self.window;
+        let written = write_pairs_watched(writer, &mut window, room, watch);
+        window.clear();
+        (written, window)
+    }
+}
+
+// Moves the first two items out.
+fn take_pair<T>(window: &mut Window<T>) -> (T, T)
+    requires { 1 < length window.old.items }
+    ensures items { pairs_of window.old.items ≡ result ∷ pairs_of window.new.items }
+    ensures fewer { length window.old.items ≡ length window.new.items + 2 }
+    ensures place { SamePlaces window.old window.new }
+{
+    let left = window.take();
+    let right = window.take();
+    (left, right)
+}
+
+// Hands a window's pairs to a folder, in order, each taken from its places, up to a refusal.
+fn feed_pairs<T: Drop, R: Drop, E: Drop, F: Folder<(T, T), R, E>>(
+    alloc: Global,
+    window: &mut Window<T>,
+    folder: F,
+) -> Result<F, Fault>
+    requires ready { F.ready folder }
+    requires items { (x : T × T) → Contains (pairs_of window.old.items) x → F.takes folder x }
+    ensures ready { IfOk result (λ f. F.ready f) }
+    ensures gives { IfOk result (λ f. (more : List (T × T)) (out : Result R E) → F.gives f more out
+        → F.gives folder (pairs_of window.old.items ++ more) out) }
+    ensures fault { IsMemoryOnErr result }
+    ensures place { SamePlaces window.old window.new }
+{
+    let mut folder = folder;
+    while window.len() > 1 {
+        let pair = take_pair(window);
+        folder = folder.consume(alloc, pair)?;
+    }
+    Ok(folder)
+}
+
+// Writes the answers for a window's pairs, each taken from its places, up to the first pair that
+// fails, whose error it answers. There is a place for each answer. It takes no memory.
+fn write_pairs<T: Drop, W: Writer<(T, T)>>(
+    writer: &W,
+    items: &mut Window<T>,
+    room: &mut Window<W::Answer>,
+) -> Result<(), W::Error>
+    requires ready { W.ready writer.now }
+    requires items { (x : T × T) → Contains (pairs_of items.old.items) x → W.takes writer.now x }
+    requires room { IsRoom room.old }
+    requires enough { length (pairs_of items.old.items) ≡ room.old.room }
+    ensures place { SamePlaces room.old room.new }
+    ensures full { IfOk result (λ _. IsFull room.new) }
+    ensures gives { Answered (W.so_far writer.now) (W.fails writer.now) (pairs_of items.old.items)
+        (kept result room.new.items) }
+    ensures left { SamePlaces items.old items.new }
+{
+    let mut state = writer.begin();
+    while items.len() > 1 {
+        let pair = take_pair(items);
+        let answer = writer.answer(&mut state, pair)?;
+        room.put(answer);
+    }
+    Ok(())
+}
+
+// The same under the eye of a gate: it looks before the first pair and after each, and tells the
+// gate of its own error at once.
+fn write_pairs_watched<'g, T: Drop, W: Writer<(T, T)>>(
+    writer: &W,
+    items: &mut Window<T>,
+    room: &mut Window<W::Answer>,
+    watch: &mut GateWatch<'g>,
+) -> Result<(), Halt<W::Error>>
+    requires ready { W.ready writer.now }
+    requires items { (x : T × T) → Contains (pairs_of items.old.items) x → W.takes writer.now x }
+    requires room { IsRoom room.old }
+    requires enough { length (pairs_of items.old.items) ≡ room.old.room }
+    requires watch { MayTell watch.old }
+    ensures place { SamePlaces room.old room.new }
+    ensures full { IfOk result (λ _. IsFull room.new) }
+    ensures gives { halting (Answered (W.so_far writer.now) (W.fails writer.now))
+        (pairs_of items.old.items) (kept result room.new.items) }
+    ensures left { SamePlaces items.old items.new }
+    ensures same { SameWatch watch.old watch.new }
+    ensures watching { IsWatching watch.new }
+    ensures told { TellsAs watch.old.start (known watch.new.seat) result }
+{
+    let mut state = writer.begin();
+    while items.len() > 1 {
+        if watch.stopped() {
+            return Err(Halt::Stopped);
+        }
+        let pair = take_pair(items);
+        match writer.answer(&mut state, pair) {
+            Ok(answer) => room.put(answer),
+            Err(error) => {
+                watch.failed();
+                return Err(Halt::Failed(error));
+            }
+        }
+    }
+    if watch.stopped() {
+        return Err(Halt::Stopped);
+    }
+    Ok(())
+}
+
+/// Gives owned items from the front, two neighbours at a time, each one once.
+#[derive(Drop)]
+pub struct PairDrain<T> {
+    rest: Block<T>,
+}
+
+impl<T: Drop> Iterator for PairDrain<T> {
+    type Item = (T, T);
+
+    ghost next_gives = { YieldsFirst pair_rest };
+
+    ghost remaining = { item_count pair_rest };
+
+    fn next(&mut self) -> Option<(T, T)> {
+        if self.rest.len() < 2 {
+            return None;
+        }
+        let first = self.rest.take();
+        let second = self.rest.take();
+        Some((first, second))
+    }
+
+    fn size_hint(&self) -> (usize, Option<usize>) {
+        let left = self.rest.len() / 2;
+        (left, Some(left))
+    }
+}
+
+impl<T: Drop> ExactSizeIterator for PairDrain<T> {
+    fn len(&self) -> usize {
+        self.rest.len() / 2
+    }
+}
