@@ -3,6 +3,7 @@ use Rattle.std.proofs.Common.{◌≡◌, ◌≢◌, ℕ, zero, suc, ◌+◌, ◌
 use Rattle.std.specs.declared.ops.Range.{Range}
 use Rattle.parallel_shares.specs.declared.shares.stretch.Stretch.{Stretch}
 use Rattle.parallel_shares.specs.Fillings.{Filled, no_fill, last_fill, Finished}
+use Rattle.commonware_parallel.specs.Chains.{WholeRows}
 use Rattle.commonware_parallel.specs.Rectangles.{whole_row, whole_rows}
 
 -- a number that is not 0
@@ -23,7 +24,7 @@ module _ {T R : Type 0} (fill : T → ℕ → Range ℕ → T → Type 0)
       (v, one, finished_append v u t xs ys rs qs rest h)
 
   -- one whole row more
-  pub row_more : (len : ℕ) (first s u t : T) (row : ℕ) (before after : List R) (r : R) → len ≢ 0
+  row_more : (len : ℕ) (first s u t : T) (row : ℕ) (before after : List R) (r : R) → len ≢ 0
       → Finished fill finish first (whole_rows len row) before s
       → fill s row (record { start = 0; end = len }) u → finish u row r t → after ≡ before ++ r ∷ []
       → Finished fill finish first (whole_rows len (row + 1)) after t
@@ -32,3 +33,13 @@ module _ {T R : Type 0} (fill : T → ℕ → Range ℕ → T → Type 0)
       last_fill s s u 0 0 len (no_fill s s 0 0 refl refl) (some len wide) fills in
       rw (add-one row, more) (finished_append first s t (whole_rows len row)
       (whole_row len row ∷ []) before (r ∷ []) done (t, (u, filled, gives), refl))
+
+  -- rows that were filled by one call each were filled, and finished
+  pub rows_finished : (len : ℕ) (s t : T) (rows : ℕ) (results : List R) → len ≢ 0
+      → WholeRows fill finish len s rows results t
+      → Finished fill finish s (whole_rows len rows) results t
+  rows_finished len s t zero results wide (same, none) = rw none same
+  rows_finished len s t (suc row) results wide (u, v, before, r, first, fills, gives, more) =
+      subst (λ n. Finished fill finish s (whole_rows len n) results t) (add-one row)
+      (row_more len s u v t row before results r wide
+      (rows_finished len s u row before wide first) fills gives more)

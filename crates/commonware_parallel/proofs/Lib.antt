@@ -1,6 +1,7 @@
 pub mod Settled
 pub mod Picks
 pub mod Hashes
+pub mod Merkles
 pub mod Searches
 pub mod Finishing
 pub mod Rectangles

@@ -112,6 +112,13 @@ starts_behind rows row len h =
           ap (λ r. r * len) (omega (arith, h, m)) in omega (arith, e)
     ]
 
+-- a row that starts before the end of the rows is one of them
+pub row_there : (rows row len : ℕ) → row * len < rows * len → row < rows
+row_there rows row len h = elim (cases_lt row rows) as (λ _. row < rows) [
+  | inl l ↦ l
+  | inr m ↦ absurd (omega (arith, h, starts_behind rows row len m))
+]
+
 -- where no cell is at or behind the rows, no stretch is
 within_rows : (rows len : ℕ) (cut : List Stretch) → All (IsStretch len) cut
     → ((k : ℕ) → rows * len ≤ k → times k (cut_cells len cut) ≡ 0)

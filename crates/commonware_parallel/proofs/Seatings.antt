@@ -80,7 +80,7 @@ module _ {T R : Type 0} (init : T → Type 0) (shares : Shares) (len : ℕ)
   pub record Came (seat : Seat) (w : Worked R) : Type 0 where
     pub belongs : IsSeatOf shares (seat_of w)
     pub number : index_of (seat_of w) ≡ index_of seat
-    pub done : IfOk w.results (λ _. FoundNothing (plan_of shares) (seat_of w))
+    pub done : IfOk w.results (λ _. FoundNothing shares seat (seat_of w))
 
   came : (s : T) (xs : List Seat) (ws : List (Worked R))
       → StatesFrom (WorksFrom shares len fill finish) s xs ws → AllZip Came xs ws
@@ -125,8 +125,8 @@ module _ {T R : Type 0} (init : T → Type 0) (shares : Shares) (len : ℕ)
   done_at [] (w ∷ ws) rs z all i d h = absurd z
   done_at (x ∷ xs) (w ∷ ws) rs z (v, more, ok, others, joined) zero d h =
       let found =
-      subst (λ r. IfOk r (λ _. FoundNothing (plan_of shares) (seat_of w))) ok z.0.done in
-      (found.0, found.1)
+      subst (λ r. IfOk r (λ _. FoundNothing shares x (seat_of w))) ok z.0.done in
+      (found.emptied, found.transit)
   done_at (x ∷ xs) (w ∷ ws) rs z (v, more, ok, others, joined) (suc i) d h =
       done_at xs ws more z.1 others i d (omega (arith, h))
 

@@ -1,9 +1,8 @@
 -- results of stretches that fall into chains, each from a fresh state
-use Rattle.std.specs.Prelude.{◌≡◌, ℕ, List, [], ◌++◌}
+use Rattle.std.specs.Prelude.{◌≡◌, ℕ, zero, suc, List, [], ◌∷◌, ◌++◌}
 use Rattle.std.specs.declared.ops.Range.{Range}
 use Rattle.parallel_shares.specs.declared.shares.stretch.Stretch.{Stretch}
 use Rattle.parallel_shares.specs.Fillings.{Finished}
-use Rattle.commonware_parallel.specs.Rectangles.{whole_rows}
 
 -- stretches and results fall into the same chains; each chain begins with a fresh state, which goes
 -- from stretch to stretch
@@ -15,8 +14,19 @@ pub data Chains {T R : Type 0} (init : T → Type 0) (fill : T → ℕ → Range
       → Finished fill finish s xs rs t → Chains init fill finish more rest
       → Chains init fill finish all results
 
--- the results are those of all rows, whole and in order, by one chain from a fresh state
+-- the rows below a number one after another, with a state that goes from s to t: each is filled by
+-- one call, of all of its columns, and then finished
+abbrev pub WholeRows : {T R : Type 0} → (T → ℕ → Range ℕ → T → Type 0) → (T → ℕ → R → T → Type 0)
+    → ℕ → T → ℕ → List R → T → Type 0
+WholeRows fill finish len s zero results t = (s ≡ t) × (results ≡ [])
+WholeRows {T = T} {R = R} fill finish len s (suc row) results t =
+    (u v : T) × (before : List R) × (r : R) × WholeRows fill finish len s row before u
+    × fill u row (record { start = 0; end = len }) v × finish v row r t
+    × (results ≡ before ++ r ∷ [])
+
+-- the results are those of all rows, whole and in order, by one chain from a fresh state, with one
+-- fill for each row
 abbrev pub OneChain : {T R : Type 0} → (T → Type 0) → (T → ℕ → Range ℕ → T → Type 0)
     → (T → ℕ → R → T → Type 0) → ℕ → ℕ → List R → Type 0
 OneChain {T = T} init fill finish rows len results = (s t : T) × init s
-    × Finished fill finish s (whole_rows len rows) results t
+    × WholeRows fill finish len s rows results t

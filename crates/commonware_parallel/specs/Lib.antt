@@ -4,6 +4,7 @@ pub mod Calls
 pub mod Explorers
 pub mod Exploring
 pub mod Measures
+pub mod Merkle
 pub mod Mixes
 pub mod Rayon
 pub mod Chains

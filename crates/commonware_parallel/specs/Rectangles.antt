@@ -1,5 +1,6 @@
 -- stretches that cut a rectangle of rows and columns
-use Rattle.std.specs.Prelude.{◌≡◌, ℕ, zero, suc, ◌<◌, List, [], ◌∷◌, ◌++◌, All, cond, eqb}
+use Rattle.std.specs.Prelude.{◌≡◌, ℕ, zero, suc, ◌<◌, ◌≤◌, List, [], ◌∷◌, ◌++◌, All, cond, eqb}
+use Rattle.std.specs.declared.ops.Range.{Range}
 use Rattle.parallel_shares.specs.declared.shares.stretch.Stretch.{Stretch}
 use Rattle.parallel_shares.specs.Holders.{inside}
 use Rattle.parallel_shares.specs.Stretches.{IsStretch}
@@ -14,6 +15,10 @@ has_cell row column s = cond (eqb s.row row) (inside column s.columns.start s.co
 pub record CutsRectangle (rows len : ℕ) (cut : List Stretch) : Type 0 where
   pub within : All (λ s. (s.row < rows) × IsStretch len s) cut
   pub once : (row column : ℕ) → row < rows → column < len → total (has_cell row column) cut ≡ 1
+
+-- a row of the grid, and columns of it, at least one
+abbrev pub IsInGrid : ℕ → ℕ → ℕ → Range ℕ → Type 0
+IsInGrid rows len row columns = (row < rows) × (columns.start < columns.end) × (columns.end ≤ len)
 
 -- the stretch has all columns of its row
 abbrev pub IsWholeRow : ℕ → Stretch → Type 0

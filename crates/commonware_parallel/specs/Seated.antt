@@ -30,7 +30,7 @@ pub record WorksFrom {T R : Type 0} (shares : Shares) (len : ℕ)
   pub belongs : IsSeatOf shares (seat_of worked)
   pub number : index_of (seat_of worked) ≡ index_of seat
   pub fresh : claims_of seat ≡ []
-  pub done : IfOk worked.results (λ _. FoundNothing (plan_of shares) (seat_of worked))
+  pub done : IfOk worked.results (λ _. FoundNothing shares seat (seat_of worked))
   pub chain : IfOk worked.results (λ results. (gained : List (Range ℕ)) × (cut : List Stretch)
       × (claims_of (seat_of worked) ≡ claims_of seat ++ gained)
       × All (IsFront (plan_of shares)) gained

@@ -113,12 +113,14 @@ impl<'scope, S: Strategy, P: Place> Batches<'scope, S, P> {
     }
 
     /// The answers of `map_op` for the items that `prepare` makes of the ranges, in the items'
-    /// order (`MapOf`). A whole batch is mapped on the caller's thread. Any other goes through the
-    /// batch's strategy, with the batch's place.
+    /// order (`MapOf`). A whole batch is mapped on the caller's thread, and any other is handed to
+    /// the batch's strategy with the batch's place. By which of the two it went no clause says:
+    /// tests see it by the threads that the closure is called on.
     ///
     /// # Errors
     ///
-    /// The refusal that `prepare` answers, and `map_op` isn't called then; or `Fault::Memory`.
+    /// The refusal that `prepare` answers, and `map_op` isn't called then; or `Fault::Memory` of
+    /// the map's own, behind items that were prepared.
     pub fn map_collect_vec<
         Rt: Threads + Wait + Sync,
         T: Send + Drop,
@@ -133,7 +135,8 @@ impl<'scope, S: Strategy, P: Place> Batches<'scope, S, P> {
         ensures maps { IfOk result (λ answers. (items : Vec T Global)
             × FnOnceReturnsAt G.FnOnce prepare (ranges_of self.entry) (Ok items)
             × MapOf (F.post map_op) items.items answers.items) }
-        ensures fault { IfErr result (λ fault. (fault ≡ Memory)
+        ensures fault { IfErr result (λ fault. ((fault ≡ Memory) × (items : Vec T Global)
+            × FnOnceReturnsAt G.FnOnce prepare (ranges_of self.entry) (Ok items))
             ⊎ FnOnceReturnsAt G.FnOnce prepare (ranges_of self.entry) (Err fault)) }
     {
         let is_whole = self.is_whole();
@@ -148,7 +151,8 @@ impl<'scope, S: Strategy, P: Place> Batches<'scope, S, P> {
     /// # Errors
     ///
     /// `Trouble::Closure` with that error. `Trouble::Fault` with the refusal that `prepare`
-    /// answers, and `map_op` isn't called then; or with `Fault::Memory`.
+    /// answers, and `map_op` isn't called then; or with `Fault::Memory` of the map's own, behind
+    /// items that were prepared.
     pub fn try_map_collect_vec<
         Rt: Threads + Wait + Sync,
         T: Send + Drop,
@@ -165,7 +169,8 @@ impl<'scope, S: Strategy, P: Place> Batches<'scope, S, P> {
             (λ out. (items : Vec T Global)
             × FnOnceReturnsAt G.FnOnce prepare (ranges_of self.entry) (Ok items)
             × TryMapOf (F.post map_op) items.items (listed out))
-            (λ fault. (fault ≡ Memory)
+            (λ fault. ((fault ≡ Memory) × (items : Vec T Global)
+            × FnOnceReturnsAt G.FnOnce prepare (ranges_of self.entry) (Ok items))
             ⊎ FnOnceReturnsAt G.FnOnce prepare (ranges_of self.entry) (Err fault)) }
     {
         let is_whole = self.is_whole();

@@ -36,7 +36,7 @@ use parallel_bridge::list::map_init::map_init_by;
 use parallel_bridge::list::partition::partition_by;
 use parallel_bridge::list::try_fold::{try_fold_by, try_fold_iter};
 use parallel_bridge::list::try_map::try_map_by;
-use parallel_bridge::{Path, Producer};
+use parallel_bridge::{Parts, Path};
 use parallel_fault::{Fault, Trouble};
 use parallel_policy::Place;
 use std::alloc::Global;
@@ -45,7 +45,7 @@ use std::sync::Wait;
 use std::thread::Threads;
 
 /// The choice between a serial and a parallel body over a list.
-pub fn body_over<Q: Producer>(parts: &Q) -> Call
+pub fn body_over<Q: Parts>(parts: &Q) -> Call
     ensures counted { (xs : List Q.Item) → Q.gives parts.now xs → result ≡ body_call (length xs) }
     ensures kind { result.kind ≡ Body }
     ensures parts { result.parts ≡ 1 }
@@ -54,7 +54,7 @@ pub fn body_over<Q: Producer>(parts: &Q) -> Call
 }
 
 /// The same for items that each stand for the work of `multiplier`.
-pub fn multiplied_body_over<Q: Producer>(parts: &Q, multiplier: usize) -> Call
+pub fn multiplied_body_over<Q: Parts>(parts: &Q, multiplier: usize) -> Call
     ensures counted { (xs : List Q.Item) → Q.gives parts.now xs
         → result ≡ multiplied_call (length xs) multiplier }
     ensures kind { result.kind ≡ Body }
@@ -122,7 +122,7 @@ pub fn map_through<
     S: Strategy,
     Rt: Threads + Wait + Sync,
     P: Place,
-    Q: Producer,
+    Q: Parts,
     T: Send + Drop,
     F: Fn(Q::Item) -> T + Send + Sync,
 >(
@@ -158,7 +158,7 @@ pub fn try_map_through<
     S: Strategy,
     Rt: Threads + Wait + Sync,
     P: Place,
-    Q: Producer,
+    Q: Parts,
     T: Send + Drop,
     E: Send + Drop,
     F: Fn(Q::Item) -> Result<T, E> + Send + Sync,
@@ -192,7 +192,7 @@ pub fn partition_through<
     S: Strategy,
     Rt: Threads + Wait + Sync,
     P: Place,
-    Q: Producer,
+    Q: Parts,
     K: Send + Drop,
     U: Send + Drop,
     F: Fn(Q::Item) -> (K, Option<U>) + Send + Sync,
@@ -229,7 +229,7 @@ pub fn map_init_through<
     S: Strategy,
     Rt: Threads + Wait + Sync,
     P: Place,
-    Q: Producer,
+    Q: Parts,
     V: Send + Drop,
     T: Send + Drop,
     N: Fn() -> V + Send + Sync,
@@ -273,7 +273,7 @@ pub fn fold_through<
     S: Strategy,
     Rt: Threads + Wait + Sync,
     P: Place,
-    Q: Producer,
+    Q: Parts,
     R: Send + Drop,
     ID: Fn() -> R + Send + Sync,
     F: Fn(R, Q::Item) -> R + Send + Sync,
@@ -323,7 +323,7 @@ pub fn fold_init_through<
     S: Strategy,
     Rt: Threads + Wait + Sync,
     P: Place,
-    Q: Producer,
+    Q: Parts,
     V: Send + Drop,
     R: Send + Drop,
     N: Fn() -> V + Send + Sync,
@@ -379,7 +379,7 @@ pub fn try_fold_through<
     S: Strategy,
     Rt: Threads + Wait + Sync,
     P: Place,
-    Q: Producer,
+    Q: Parts,
     R: Send + Drop,
     E: Send + Drop,
     ID: Fn() -> R + Send + Sync,
@@ -452,7 +452,7 @@ where
 // theorem yet").
 fn try_map_here<
     Rt: Threads + Sync,
-    P: Producer,
+    P: Parts,
     T: Send + Drop,
     E: Send + Drop,
     F: Fn(P::Item) -> Result<T, E> + Send + Sync,
@@ -473,7 +473,7 @@ fn try_map_here<
 
 fn partition_here<
     Rt: Threads + Sync,
-    P: Producer,
+    P: Parts,
     K: Send + Drop,
     U: Send + Drop,
     F: Fn(P::Item) -> (K, Option<U>) + Send + Sync,
@@ -495,7 +495,7 @@ fn partition_here<
 
 fn try_fold_here<
     Rt: Threads + Sync,
-    P: Producer,
+    P: Parts,
     R: Send + Drop,
     E: Send + Drop,
     ID: Fn() -> R + Send + Sync,

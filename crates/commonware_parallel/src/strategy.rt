@@ -62,6 +62,11 @@ use std::thread::Threads;
 /// sees through its ghost members, and so learns from a clause `along` in which segments a call
 /// went.
 ///
+/// A clause `asked` says that the strategy may take some path for a call of that length and that
+/// work. It binds where `takes` goes by them, as an explorer's does. A `Rayon` takes by the kind of
+/// the call alone, so at a `Rayon` it holds of any call and says nothing: what its policy is asked,
+/// and told, is shown by tests.
+///
 /// Every call takes the runtime, then the allocator, then the place of the call. A list call takes
 /// a source: a slice, a vector, indices, a list of the user's own, or any iterator that ends. Its
 /// list is one that the source gives (`Source::gives`). A list that is one already is neither
@@ -622,7 +627,8 @@ pub trait Strategy: Clone + Send + Sync + Debug + 'static {
     /// identity of its own, and the segments' values reduced, left before right (`TryBracketing`).
     ///
     /// A segment ends at its own first error, and of several the leftmost is answered, whichever
-    /// segment ended first. The forms of the segments are those of `fold` (`TryFoldedAs`).
+    /// segment ended first. Where a segment has failed, the closures may go uncalled for the items
+    /// to the right of it. The forms of the segments are those of `fold` (`TryFoldedAs`).
     ///
     /// # Errors
     ///
@@ -673,7 +679,8 @@ pub trait Strategy: Clone + Send + Sync + Debug + 'static {
 
     /// The values that `map_op` answers for the items, in the items' order, or the error of the
     /// first item that fails, whichever part of the list ended first (`TryMapOf`). The closure has
-    /// to accept each item that may come of the source, and no other value.
+    /// to accept each item that may come of the source, and no other value. Behind an item that
+    /// fails it may go uncalled.
     ///
     /// # Errors
     ///

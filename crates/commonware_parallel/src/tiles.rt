@@ -1,12 +1,14 @@
 //! Tiles: a grid's cells, filled by stretches of rows.
-ghost use Rattle.std.specs.Prelude.{◌≡◌, ◌≢◌, ◌*◌, ◌+◌, ◌-◌, ◌≤◌, ◌<◌, ◌^◌, ◌⊎◌, ℕ, List, All, [], IfOk, IsFalse, IsTrue, not, true, MatchResult};
+ghost use Rattle.std.specs.Prelude.{◌≡◌, ◌≢◌, ◌*◌, ◌+◌, ◌-◌, ◌≤◌, ◌<◌, ◌^◌, ◌⊎◌, ◌↔◌, ℕ, List, All, [], IfOk, IsFalse, IsTrue, not, true, MatchResult};
+ghost use Rattle.std.specs.Borrow.{MutBor};
 ghost use Rattle.std.specs.Int.NonZero.{non_zero_usize_get};
+ghost use Rattle.std.specs.declared.ops.Range.{Range};
 ghost use Rattle.parallel_fault.specs.Trouble.{IsMemoryOnErr};
 ghost use Rattle.parallel_shares.specs.declared.shares.stretch.Stretch.{Stretch};
 ghost use Rattle.parallel_shares.specs.Fillings.{Fills, Gives};
 ghost use Rattle.parallel_shares.specs.Grid.{Fits};
 ghost use Rattle.commonware_parallel.specs.Chains.{Chains, OneChain};
-ghost use Rattle.commonware_parallel.specs.Rectangles.{CutsRectangle, IsWholeRow};
+ghost use Rattle.commonware_parallel.specs.Rectangles.{CutsRectangle, IsInGrid, IsWholeRow};
 
 mod dispatched;
 mod rows;
@@ -109,7 +111,7 @@ impl<'scope, S: Strategy, P: Place> Tiles<'scope, S, P> {
 
     // Whether the tiles are planned for the caller's thread alone.
     fn is_serial(&self) -> bool
-        ensures { IsFalse result → workers_of self.now ≢ 1 }
+        ensures { IsTrue result ↔ workers_of self.now ≡ 1 }
     {
         self.workers.get() == 1
     }
@@ -120,8 +122,9 @@ impl<'scope, S: Strategy, P: Place> Tiles<'scope, S, P> {
     /// The stretches cut the grid (`CutsRectangle`): each cell is in just one. Where rows aren't
     /// cut each is a whole row. Stretches and results fall into chains (`Chains`), each from a
     /// state that `init` makes and that goes from stretch to stretch; their order is open. A serial
-    /// plan has one chain, over the rows in order. A grid of no cells has no results, and `init`
-    /// isn't called.
+    /// plan has one chain, over the rows in order, and fills each row by one call (`OneChain`). A
+    /// grid of no cells has no results, and `init` isn't called. `fill` is asked for rows of the
+    /// grid and columns within it, at least one (`IsInGrid`), and `finish` for rows of the grid.
     ///
     /// # Errors
     ///
@@ -135,8 +138,11 @@ impl<'scope, S: Strategy, P: Place> Tiles<'scope, S, P> {
         F: Fn(&mut T, usize) -> R + Send + Sync + Drop,
     >(self, rt: &Rt, alloc: Global, init: N, fill: L, finish: F) -> Result<Vec<R>, Fault>
         requires init_accepts { N.IsAlwaysCallable init }
-        requires fill_accepts { L.IsAlwaysCallable fill }
-        requires finish_accepts { F.IsAlwaysCallable finish }
+        requires fill_accepts { (state : MutBor T) (row : ℕ) (columns : Range ℕ)
+            → IsInGrid (rows_of self) (columns_of self) row columns
+            → L.pre fill state row columns }
+        requires finish_accepts { (state : MutBor T) (row : ℕ) → row < rows_of self
+            → F.pre finish state row }
         ensures fills { IfOk result (λ results. (cut : List Stretch)
             × CutsRectangle (rows_of self.entry) (columns_of self.entry) cut
             × (keeps_rows self.entry ≡ true → All (IsWholeRow (columns_of self.entry)) cut)

@@ -1,15 +1,16 @@
 //! A serial plan: each row whole, one after another.
-ghost use Rattle.std.specs.Prelude.{◌≡◌, ◌≢◌, IfOk};
+ghost use Rattle.std.specs.Prelude.{◌≡◌, ◌<◌, ℕ, IfOk};
+ghost use Rattle.std.specs.Borrow.{MutBor};
 ghost use Rattle.parallel_fault.specs.Trouble.{IsMemoryOnErr};
-ghost use Rattle.parallel_shares.specs.Fillings.{Fills, Finished, Gives};
-ghost use Rattle.commonware_parallel.specs.Rectangles.{whole_rows};
+ghost use Rattle.parallel_shares.specs.Fillings.{Fills, Gives};
+ghost use Rattle.commonware_parallel.specs.Chains.{WholeRows};
 
 use parallel_fault::Fault;
 use std::alloc::Global;
 use std::ops::Range;
 
-/// The results of all rows of `len` columns, each filled in one piece, with one state that goes
-/// from row to row.
+/// The results of all rows of `len` columns, each filled by one call, with one state that goes from
+/// row to row.
 pub(super) fn fill_rows<T, R: Drop, L: Fn(&mut T, usize, Range<usize>), F: Fn(&mut T, usize) -> R>(
     alloc: Global,
     rows: usize,
@@ -18,11 +19,12 @@ pub(super) fn fill_rows<T, R: Drop, L: Fn(&mut T, usize, Range<usize>), F: Fn(&m
     fill: &L,
     finish: &F,
 ) -> Result<Vec<R>, Fault>
-    requires some_columns { len ≢ 0 }
-    requires fill_accepts { L.IsAlwaysCallable fill.now }
-    requires finish_accepts { F.IsAlwaysCallable finish.now }
-    ensures chain { IfOk result (λ results. Finished (Fills (L.post fill.now))
-        (Gives (F.post finish.now)) state.old (whole_rows len rows) results.items state.new) }
+    requires fill_accepts { (lent : MutBor T) (row : ℕ) → row < rows
+        → L.pre fill.now lent row (record { start = 0; end = len }) }
+    requires finish_accepts { (lent : MutBor T) (row : ℕ) → row < rows
+        → F.pre finish.now lent row }
+    ensures chain { IfOk result (λ results. WholeRows (Fills (L.post fill.now))
+        (Gives (F.post finish.now)) len state.old rows results.items state.new) }
     ensures fault { IsMemoryOnErr result }
 {
     let mut results = Vec::with_capacity(alloc, rows)?;

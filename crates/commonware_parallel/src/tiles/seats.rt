@@ -1,12 +1,15 @@
 //! A shared plan: a seat for each worker, which claims cells until nothing is left that pays.
-ghost use Rattle.std.specs.Prelude.{◌≡◌, ◌≢◌, ◌++◌, List, All, IfOk, Ok, map, true};
+ghost use Rattle.std.specs.Prelude.{◌≡◌, ◌≢◌, ◌++◌, ℕ, List, All, IfOk, Ok, map, true};
+ghost use Rattle.std.specs.Borrow.{MutBor};
 ghost use Rattle.std.specs.declared.alloc.Global.{Global};
+ghost use Rattle.std.specs.declared.ops.Range.{Range};
 ghost use Rattle.std.specs.declared.vec.Vec.{Vec};
 ghost use Rattle.parallel_fault.specs.Trouble.{IsMemoryOnErr};
 ghost use Rattle.parallel_shares.specs.declared.shares.stretch.Stretch.{Stretch};
 ghost use Rattle.parallel_shares.specs.Fillings.{Fills, Gives};
 ghost use Rattle.parallel_shares.specs.Seats.{AreFresh, AreSeatsOf, plan_of};
 ghost use Rattle.parallel_shares.specs.Sizes.{Work, sizes_of};
+ghost use Rattle.parallel_shares.specs.Stretches.{IsPartOfRow, StartsBelow};
 ghost use Rattle.parallel_bridge.specs.States.{Stateful};
 ghost use Rattle.commonware_parallel.specs.Chains.{Chains};
 ghost use Rattle.commonware_parallel.specs.Rectangles.{CutsRectangle, IsWholeRow};
@@ -56,8 +59,10 @@ pub(super) fn fill_shared<
     requires seats { AreSeatsOf shares seats.items }
     requires fresh { AreFresh seats.items }
     requires init_accepts { N.IsAlwaysCallable init }
-    requires fill_accepts { L.IsAlwaysCallable fill.now }
-    requires finish_accepts { F.IsAlwaysCallable finish.now }
+    requires fill_accepts { (lent : MutBor T) (row : ℕ) (columns : Range ℕ)
+        → IsPartOfRow (plan_of shares).cells len row columns → L.pre fill.now lent row columns }
+    requires finish_accepts { (lent : MutBor T) (row : ℕ)
+        → StartsBelow (plan_of shares).cells len row → F.pre finish.now lent row }
     ensures fills { IfOk result (λ results. (work : Work) → work.len ≡ len
         → plan_of shares ≡ sizes_of work → (cut : List Stretch) × CutsRectangle work.rows len cut
         × (work.whole ≡ true → All (IsWholeRow len) cut)
@@ -98,16 +103,22 @@ fn work_all<
     requires some_columns { len ≢ 0 }
     requires seats { All (IsReady shares.now) seats.items }
     requires init_accepts { N.IsAlwaysCallable init }
-    requires fill_accepts { L.IsAlwaysCallable fill.now }
-    requires finish_accepts { F.IsAlwaysCallable finish.now }
+    requires fill_accepts { (lent : MutBor T) (row : ℕ) (columns : Range ℕ)
+        → IsPartOfRow (plan_of shares.now).cells len row columns → L.pre fill.now lent row columns }
+    requires finish_accepts { (lent : MutBor T) (row : ℕ)
+        → StartsBelow (plan_of shares.now).cells len row → F.pre finish.now lent row }
     ensures stateful { IfOk result (λ worked. Stateful (N.post init)
         (WorksFrom shares.now len (Fills (L.post fill.now)) (Gives (F.post finish.now)))
         seats.items worked.items) }
     ensures fault { IsMemoryOnErr result }
 {
     let run = move |state: &mut T, seat: Seat| -> Worked<R>
-        requires { IsReady shares.now seat × (len ≢ 0) × L.IsAlwaysCallable fill.now
-            × F.IsAlwaysCallable finish.now }
+        requires { IsReady shares.now seat × (len ≢ 0)
+            × ((lent : MutBor T) (row : ℕ) (columns : Range ℕ)
+            → IsPartOfRow (plan_of shares.now).cells len row columns
+            → L.pre fill.now lent row columns)
+            × ((lent : MutBor T) (row : ℕ) → StartsBelow (plan_of shares.now).cells len row
+            → F.pre finish.now lent row) }
         ensures { WorksFrom shares.entry.now len (Fills (L.post fill.entry.now))
             (Gives (F.post finish.entry.now)) state.old seat result state.new }
     { work(rt, alloc, shares, seat, len, state, fill, finish) };
@@ -128,8 +139,10 @@ fn work<Rt: Wait, T, R: Drop, L: Fn(&mut T, usize, Range<usize>), F: Fn(&mut T, 
 ) -> Worked<R>
     requires ready { IsReady shares.now seat }
     requires some_columns { len ≢ 0 }
-    requires fill_accepts { L.IsAlwaysCallable fill.now }
-    requires finish_accepts { F.IsAlwaysCallable finish.now }
+    requires fill_accepts { (lent : MutBor T) (row : ℕ) (columns : Range ℕ)
+        → IsPartOfRow (plan_of shares.now).cells len row columns → L.pre fill.now lent row columns }
+    requires finish_accepts { (lent : MutBor T) (row : ℕ)
+        → StartsBelow (plan_of shares.now).cells len row → F.pre finish.now lent row }
     ensures { WorksFrom shares.now len (Fills (L.post fill.now)) (Gives (F.post finish.now))
         state.old seat result state.new }
 {

@@ -18,7 +18,7 @@ returns-clause-answers g c =
     λ (a : g.row.R.Denot) (b : g.row.R.Denot) (r : g.row.R.Denot). g.G.Fn.post
     c.args.reduce_op.now (a, (b, tt)) r in
     let w = c.in_ok-answer.ensures.answers in
-    at_threads g.Q.Producer.gives c.args.parts
+    at_threads g.Q.Parts.gives c.args.parts
     (g.S.Strategy.takes c.args.strategy.now (g.P.Place.site_of c.args.site) c.args.call)
     (λ depth path xs. FoldedInitAs init identity step reduce depth path xs c.in_ok-answer.answer) _
     _ c.thread_number-threads.ensures.number w.0 w.1 (search rules)

@@ -14,7 +14,7 @@ returns g c =
     λ (a : g.row.R.Denot) (b : g.row.R.Denot) (r : g.row.R.Denot). g.G.Fn.post
     c.args.reduce_op.now (a, (b, tt)) r in
     record {
-      answers = outcome_at_threads g.Q.Producer.gives c.args.parts
+      answers = outcome_at_threads g.Q.Parts.gives c.args.parts
           (g.S.Strategy.takes c.args.strategy.now (g.P.Place.site_of c.args.site) c.args.call)
           (λ depth path xs out. TryFoldedAs identity step reduce depth path xs out) _ _
           c.thread_number-threads.ensures.number c.dispatch_fallible.result _

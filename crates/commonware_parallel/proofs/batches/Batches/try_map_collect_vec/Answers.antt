@@ -15,4 +15,8 @@ returns g c = unless_faulty c.try_map_prepared.result _ _ _
       (c.as_slice.result, c.in_ok-items.ensures, c.as_slice.ensures.value),
       maps,
     ))
-    (λ fault is. inl is) c.try_map_prepared.ensures
+    (λ fault is. inl (
+      is,
+      c.in_ok-items.items,
+      (c.as_slice.result, c.in_ok-items.ensures, c.as_slice.ensures.value),
+    )) c.try_map_prepared.ensures

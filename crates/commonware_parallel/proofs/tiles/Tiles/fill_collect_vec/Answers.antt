@@ -1,9 +1,9 @@
 -- No cell, all rows by one chain, or what the seats have together.
-use Rattle.std.proofs.Common.{rules, ◌≡◌, inl, inr, [], refl}
+use Rattle.std.proofs.Common.{rules, ◌≡◌, ◌∙◌, inl, inr, false, [], refl, sym, true≢false}
 use Rattle.std.specs.Int.NonZero.{non_zero_usize_get}
 use Rattle.std.proofs.lemmas.List.Elements.{All-nil}
 use Rattle.commonware_parallel.specs.Rectangles.{IsWholeRow, whole_rows}
-use Rattle.commonware_parallel.proofs.Finishing.{some}
+use Rattle.commonware_parallel.proofs.Finishing.{some, rows_finished}
 use Rattle.commonware_parallel.proofs.Seatings.{chains_of_none, chains_of_one}
 use Rattle.commonware_parallel.proofs.Wholes.{no_rectangle, whole_rectangle, rows_are_whole}
 use Rattle.commonware_parallel.proofs.tiles.Tiles.fill_collect_vec.Goals as goal
@@ -30,7 +30,8 @@ returns-then-is_serial-clause-fills g c =
       (λ _. rows_are_whole self.len self.rows),
       chains_of_one _ _ _ c.init-state.result _
           (whole_rows self.len self.rows) c.in_ok-whole.whole.items c.init-state.ensures
-          c.in_ok-whole.ensures.chain,
+          (rows_finished _ _ self.len c.init-state.result _ self.rows c.in_ok-whole.whole.items
+          (c.is_empty.ensures.some_columns (search rules)) c.in_ok-whole.ensures.chain),
     )
 
 pub returns-then-is_serial-clause-serial : goal.returns-then-is_serial-clause-serial
@@ -58,7 +59,9 @@ returns-clause-fills g c =
     c.in_ok-shares.ensures.sizes
 
 pub returns-clause-serial : goal.returns-clause-serial
-returns-clause-serial g c one r l = absurd (c.is_serial.ensures (search rules) one)
+returns-clause-serial g c one r l =
+    let serial = c.is_serial.ensures.1 one in
+    let not : c.is_serial.result ≡ false = search rules in absurd (true≢false (sym serial ∙ not))
 
 pub returns-clause-empty : goal.returns-clause-empty
 returns-clause-empty g c none =

@@ -1,0 +1,12 @@
+-- A root of the level is one of the leaves.
+use Rattle.std.proofs.Common.{Option, length}
+use Rattle.commonware_parallel.specs.Merkle.{MerkleRoot}
+use Rattle.commonware_parallel.proofs.merkle.plain.plain_root.Given as goal
+
+abbrev pub invariant-loop-alloc : goal.invariant-loop-alloc
+invariant-loop-alloc g l = (root : Option g.row.T.Denot)
+    → MerkleRoot (λ a b n. g.F.Fn.post l.combine (a, (b, tt)) n) l.level.items root
+    → MerkleRoot (λ a b n. g.F.Fn.post l.combine (a, (b, tt)) n) l.fn.leaves.items root
+
+abbrev pub decreases-loop-alloc : goal.decreases-loop-alloc
+decreases-loop-alloc g l = length l.level.items

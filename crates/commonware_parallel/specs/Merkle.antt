@@ -1,0 +1,23 @@
+-- The root of a tree over leaves, level by level. The closure that combines two neighbours enters
+-- by the relation of the two to the nodes that it may answer.
+use Rattle.std.specs.Prelude.{◌≡◌, List, [], ◌∷◌, Option, Some, None}
+
+-- the next level: neighbours combined in pairs, left before right, an odd last one unchanged
+abbrev pub NextLevel : {T : Type 0} → (T → T → T → Type 0) → List T → List T → Type 0
+NextLevel combine [] nodes = nodes ≡ []
+NextLevel combine (x ∷ []) nodes = nodes ≡ x ∷ []
+NextLevel combine (x ∷ (y ∷ xs)) [] = ⊥
+NextLevel combine (x ∷ (y ∷ xs)) (node ∷ nodes) = combine x y node × NextLevel combine xs nodes
+
+-- none is None, one is itself, else the root of the next level
+pub data MerkleRoot {T : Type 0} (combine : T → T → T → Type 0) : List T → Option T → Type 0 where
+  of_none : MerkleRoot combine [] None
+  of_one : {x : T} → MerkleRoot combine (x ∷ []) (Some x)
+  of_level : {x y : T} {xs nodes : List T} {root : Option T}
+      → NextLevel combine (x ∷ (y ∷ xs)) nodes → MerkleRoot combine nodes root
+      → MerkleRoot combine (x ∷ (y ∷ xs)) root
+
+-- of two nodes there is one answer at most
+abbrev pub IsDetermined : {T : Type 0} → (T → T → T → Type 0) → Type 0
+IsDetermined {T = T} combine = (x y one other : T) → combine x y one → combine x y other
+    → one ≡ other

@@ -1,0 +1,87 @@
+//! The root of a Merkle tree: neighbours combined level by level, through any strategy.
+//!
+//! An odd last node goes up unchanged, one leaf is its own root, and no leaf gives None
+//! (`MerkleRoot`).
+ghost use Rattle.std.specs.Prelude.{◌≡◌, IfOk};
+ghost use Rattle.parallel_fault.specs.Trouble.{IsMemoryOnErr};
+ghost use Rattle.commonware_parallel.specs.Merkle.{MerkleRoot, NextLevel};
+
+mod law;
+mod plain;
+
+use crate::strategy::Strategy;
+pub use law::root_law;
+use parallel_bridge::Pairs;
+use parallel_fault::Fault;
+use parallel_policy::Place;
+pub use plain::plain_root;
+use std::alloc::Global;
+use std::sync::Wait;
+use std::thread::Threads;
+
+/// The root of the leaves (`MerkleRoot`), through a strategy: each level is one map over the
+/// neighbours of the level below, which a policy knows by their number.
+///
+/// # Errors
+///
+/// `Fault::Memory` alone; the leaves are then gone.
+pub fn root<
+    Rt: Threads + Wait + Sync,
+    P: Place,
+    S: Strategy,
+    T: Send + Drop,
+    F: Fn(T, T) -> T + Send + Sync + Drop,
+>(
+    rt: &Rt,
+    alloc: Global,
+    strategy: &S,
+    site: P,
+    leaves: Vec<T>,
+    combine: F,
+) -> Result<Option<T>, Fault>
+    requires accepts { F.IsAlwaysCallable combine }
+    ensures root { IfOk result (MerkleRoot (λ a b c. F.post combine a b c) leaves.items) }
+    ensures fault { IsMemoryOnErr result }
+{
+    let mut level = leaves;
+    'levels: while level.len() > 1 {
+        level = next_level(rt, alloc, strategy, site, level, &combine)?;
+    }
+    Ok(level.pop())
+}
+
+// The next level: the answers for the pairs, and behind them an odd last node, for which a map's
+// answers mostly have a place to spare.
+fn next_level<
+    Rt: Threads + Wait + Sync,
+    P: Place,
+    S: Strategy,
+    T: Send + Drop,
+    F: Fn(T, T) -> T + Send + Sync,
+>(
+    rt: &Rt,
+    alloc: Global,
+    strategy: &S,
+    site: P,
+    level: Vec<T>,
+    combine: &F,
+) -> Result<Vec<T>, Fault>
+    requires accepts { F.IsAlwaysCallable combine.now }
+    ensures next { IfOk result (λ nodes. NextLevel (λ a b c. F.post combine.now a b c)
+        level.items nodes.items) }
+    ensures fault { IsMemoryOnErr result }
+{
+    let (pairs, odd) = Pairs::new(level);
+    let node = |pair: (T, T)| -> T
+        requires { F.IsAlwaysCallable combine.now }
+        ensures { F.post combine.entry.now pair.0 pair.1 result }
+    {
+        let (left, right) = pair;
+        combine(left, right)
+    };
+    let mut nodes = strategy.map_collect_vec(rt, alloc, site, pairs, node)?;
+    if let Some(last) = odd {
+        nodes.push(last)?;
+    }
+    Ok(nodes)
+}
