@@ -1,6 +1,7 @@
 // The same cases by a strategy, over any source of the items.
-use crate::work::{heavy, light, rising, try_light};
+use crate::work::{heavy, light, rising, try_heavy, try_light};
 use commonware_parallel::{Fault, Site, Source, Strategy, Trouble};
+use parallel_bridge::{Parts, Segment};
 use std::alloc::Global;
 use std::cmp::Ordering;
 use std::sync::Wait;
@@ -15,12 +16,12 @@ pub const SITE: Site = Site {
 
 /// What the light function makes of each item.
 #[inline(never)]
-pub fn map_light<Rt: Threads + Wait + Sync, S: Strategy, M, I: Source<M, Item = u64>>(
-    rt: &Rt,
-    alloc: Global,
-    strategy: &S,
-    source: I,
-) -> Result<Vec<u64>, Fault>
+pub fn map_light<
+    Rt: Threads + Wait + Sync,
+    S: Strategy,
+    M,
+    I: Source<M, Item = u64, Parts: Parts<Segment: Segment<u64>>>,
+>(rt: &Rt, alloc: Global, strategy: &S, source: I) -> Result<Vec<u64>, Fault>
     requires { I.can source }
 {
     strategy.map_collect_vec(rt, alloc, SITE, source, |item: u64| light(item))
@@ -28,12 +29,12 @@ pub fn map_light<Rt: Threads + Wait + Sync, S: Strategy, M, I: Source<M, Item = 
 
 /// What the heavy function makes of each item.
 #[inline(never)]
-pub fn map_heavy<Rt: Threads + Wait + Sync, S: Strategy, M, I: Source<M, Item = u64>>(
-    rt: &Rt,
-    alloc: Global,
-    strategy: &S,
-    source: I,
-) -> Result<Vec<u64>, Fault>
+pub fn map_heavy<
+    Rt: Threads + Wait + Sync,
+    S: Strategy,
+    M,
+    I: Source<M, Item = u64, Parts: Parts<Segment: Segment<u64>>>,
+>(rt: &Rt, alloc: Global, strategy: &S, source: I) -> Result<Vec<u64>, Fault>
     requires { I.can source }
 {
     strategy.map_collect_vec(rt, alloc, SITE, source, |item: u64| heavy(item))
@@ -41,12 +42,12 @@ pub fn map_heavy<Rt: Threads + Wait + Sync, S: Strategy, M, I: Source<M, Item = 
 
 /// What the function of rising work makes of each item.
 #[inline(never)]
-pub fn map_rising<Rt: Threads + Wait + Sync, S: Strategy, M, I: Source<M, Item = u64>>(
-    rt: &Rt,
-    alloc: Global,
-    strategy: &S,
-    source: I,
-) -> Result<Vec<u64>, Fault>
+pub fn map_rising<
+    Rt: Threads + Wait + Sync,
+    S: Strategy,
+    M,
+    I: Source<M, Item = u64, Parts: Parts<Segment: Segment<u64>>>,
+>(rt: &Rt, alloc: Global, strategy: &S, source: I) -> Result<Vec<u64>, Fault>
     requires { I.can source }
 {
     strategy.map_collect_vec(rt, alloc, SITE, source, |item: u64| rising(item))
@@ -54,12 +55,12 @@ pub fn map_rising<Rt: Threads + Wait + Sync, S: Strategy, M, I: Source<M, Item =
 
 /// The sum of the items.
 #[inline(never)]
-pub fn fold_light<Rt: Threads + Wait + Sync, S: Strategy, M, I: Source<M, Item = u64>>(
-    rt: &Rt,
-    alloc: Global,
-    strategy: &S,
-    source: I,
-) -> Result<u64, Fault>
+pub fn fold_light<
+    Rt: Threads + Wait + Sync,
+    S: Strategy,
+    M,
+    I: Source<M, Item = u64, Parts: Parts<Segment: Segment<u64>>>,
+>(rt: &Rt, alloc: Global, strategy: &S, source: I) -> Result<u64, Fault>
     requires { I.can source }
 {
     let add = |left: u64, right: u64| left.wrapping_add(right);
@@ -68,12 +69,12 @@ pub fn fold_light<Rt: Threads + Wait + Sync, S: Strategy, M, I: Source<M, Item =
 
 /// The sum of what the heavy function makes of each item.
 #[inline(never)]
-pub fn fold_heavy<Rt: Threads + Wait + Sync, S: Strategy, M, I: Source<M, Item = u64>>(
-    rt: &Rt,
-    alloc: Global,
-    strategy: &S,
-    source: I,
-) -> Result<u64, Fault>
+pub fn fold_heavy<
+    Rt: Threads + Wait + Sync,
+    S: Strategy,
+    M,
+    I: Source<M, Item = u64, Parts: Parts<Segment: Segment<u64>>>,
+>(rt: &Rt, alloc: Global, strategy: &S, source: I) -> Result<u64, Fault>
     requires { I.can source }
 {
     let op = |total: u64, item: u64| total.wrapping_add(heavy(item));
@@ -83,12 +84,12 @@ pub fn fold_heavy<Rt: Threads + Wait + Sync, S: Strategy, M, I: Source<M, Item =
 
 /// The sum of what the function of rising work makes of each item.
 #[inline(never)]
-pub fn fold_rising<Rt: Threads + Wait + Sync, S: Strategy, M, I: Source<M, Item = u64>>(
-    rt: &Rt,
-    alloc: Global,
-    strategy: &S,
-    source: I,
-) -> Result<u64, Fault>
+pub fn fold_rising<
+    Rt: Threads + Wait + Sync,
+    S: Strategy,
+    M,
+    I: Source<M, Item = u64, Parts: Parts<Segment: Segment<u64>>>,
+>(rt: &Rt, alloc: Global, strategy: &S, source: I) -> Result<u64, Fault>
     requires { I.can source }
 {
     let op = |total: u64, item: u64| total.wrapping_add(rising(item));
@@ -98,12 +99,12 @@ pub fn fold_rising<Rt: Threads + Wait + Sync, S: Strategy, M, I: Source<M, Item 
 
 /// What the light function makes of each item, by a closure that may fail.
 #[inline(never)]
-pub fn try_map_light<Rt: Threads + Wait + Sync, S: Strategy, M, I: Source<M, Item = u64>>(
-    rt: &Rt,
-    alloc: Global,
-    strategy: &S,
-    source: I,
-) -> Result<Vec<u64>, Fault>
+pub fn try_map_light<
+    Rt: Threads + Wait + Sync,
+    S: Strategy,
+    M,
+    I: Source<M, Item = u64, Parts: Parts<Segment: Segment<u64>>>,
+>(rt: &Rt, alloc: Global, strategy: &S, source: I) -> Result<Vec<u64>, Fault>
     requires { I.can source }
 {
     let op = |item: u64| try_light(item);
@@ -114,14 +115,32 @@ pub fn try_map_light<Rt: Threads + Wait + Sync, S: Strategy, M, I: Source<M, Ite
     }
 }
 
+/// What the heavy function makes of each item, or the item at which it fails.
+#[inline(never)]
+pub fn try_map_early<
+    Rt: Threads + Wait + Sync,
+    S: Strategy,
+    M,
+    I: Source<M, Item = u64, Parts: Parts<Segment: Segment<u64>>>,
+>(rt: &Rt, alloc: Global, strategy: &S, source: I) -> Result<Result<Vec<u64>, u64>, Fault>
+    requires { I.can source }
+{
+    let op = |item: u64| try_heavy(item);
+    match strategy.try_map_collect_vec(rt, alloc, SITE, source, op) {
+        Ok(answers) => Ok(Ok(answers)),
+        Err(Trouble::Closure(failing)) => Ok(Err(failing)),
+        Err(Trouble::Fault(fault)) => Err(fault),
+    }
+}
+
 /// The sum of the items, with a state at hand that counts them.
 #[inline(never)]
-pub fn fold_init<Rt: Threads + Wait + Sync, S: Strategy, M, I: Source<M, Item = u64>>(
-    rt: &Rt,
-    alloc: Global,
-    strategy: &S,
-    source: I,
-) -> Result<u64, Fault>
+pub fn fold_init<
+    Rt: Threads + Wait + Sync,
+    S: Strategy,
+    M,
+    I: Source<M, Item = u64, Parts: Parts<Segment: Segment<u64>>>,
+>(rt: &Rt, alloc: Global, strategy: &S, source: I) -> Result<u64, Fault>
     requires { I.can source }
 {
     let count_and_add = |total: u64, count: &mut u64, item: u64| -> u64 {
@@ -143,12 +162,12 @@ pub fn fold_init<Rt: Threads + Wait + Sync, S: Strategy, M, I: Source<M, Item = 
 
 /// What the light function makes of the even items, and the odd items, in order.
 #[inline(never)]
-pub fn partition<Rt: Threads + Wait + Sync, S: Strategy, M, I: Source<M, Item = u64>>(
-    rt: &Rt,
-    alloc: Global,
-    strategy: &S,
-    source: I,
-) -> Result<(Vec<u64>, Vec<u64>), Fault>
+pub fn partition<
+    Rt: Threads + Wait + Sync,
+    S: Strategy,
+    M,
+    I: Source<M, Item = u64, Parts: Parts<Segment: Segment<u64>>>,
+>(rt: &Rt, alloc: Global, strategy: &S, source: I) -> Result<(Vec<u64>, Vec<u64>), Fault>
     requires { I.can source }
 {
     let op = |item: u64| -> (u64, Option<u64>) {
@@ -163,12 +182,12 @@ pub fn partition<Rt: Threads + Wait + Sync, S: Strategy, M, I: Source<M, Item = 
 
 /// The items in rising order.
 #[inline(never)]
-pub fn sort<Rt: Threads + Wait + Sync, S: Strategy, M, I: Source<M, Item = u64>>(
-    rt: &Rt,
-    alloc: Global,
-    strategy: &S,
-    source: I,
-) -> Result<Vec<u64>, Fault>
+pub fn sort<
+    Rt: Threads + Wait + Sync,
+    S: Strategy,
+    M,
+    I: Source<M, Item = u64, Parts: Parts<Segment: Segment<u64>>>,
+>(rt: &Rt, alloc: Global, strategy: &S, source: I) -> Result<Vec<u64>, Fault>
     requires { I.can source }
 {
     let mut sorted: Vec<u64> = source.into_items().collect(alloc)?;

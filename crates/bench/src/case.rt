@@ -7,10 +7,12 @@ pub enum Case {
     Items(ItemCase),
     /// Tiles over its items as the cells of a grid.
     Tiles(TileCase),
+    /// The root of a tree over its items as the leaves.
+    Trees(TreeCase),
 }
 
 /// What is done with the items of a list, with a light or a heavy function of an item, or with one
-/// whose work rises along the list.
+/// whose work rises along the list; or with a heavy one that fails early in the list.
 #[derive(Clone, Copy, Debug, PartialEq, Eq, Hash)]
 pub enum ItemCase {
     MapLight,
@@ -20,6 +22,7 @@ pub enum ItemCase {
     FoldHeavy,
     FoldRising,
     TryMapLight,
+    TryMapEarly,
     FoldInit,
     Partition,
     Sort,
@@ -36,8 +39,15 @@ pub enum TileCase {
     Uneven,
 }
 
+/// What a node of a tree costs: a few nanoseconds, or about a microsecond.
+#[derive(Clone, Copy, Debug, PartialEq, Eq, Hash)]
+pub enum TreeCase {
+    Light,
+    Heavy,
+}
+
 /// Every case, in the order in which the names are printed.
-pub const CASES: [Case; 15] = [
+pub const CASES: [Case; 18] = [
     Case::Items(ItemCase::MapLight),
     Case::Items(ItemCase::MapHeavy),
     Case::Items(ItemCase::MapRising),
@@ -45,6 +55,7 @@ pub const CASES: [Case; 15] = [
     Case::Items(ItemCase::FoldHeavy),
     Case::Items(ItemCase::FoldRising),
     Case::Items(ItemCase::TryMapLight),
+    Case::Items(ItemCase::TryMapEarly),
     Case::Items(ItemCase::FoldInit),
     Case::Items(ItemCase::Partition),
     Case::Items(ItemCase::Sort),
@@ -53,6 +64,8 @@ pub const CASES: [Case; 15] = [
     Case::Tiles(TileCase::CutLight),
     Case::Tiles(TileCase::CutHeavy),
     Case::Tiles(TileCase::Uneven),
+    Case::Trees(TreeCase::Light),
+    Case::Trees(TreeCase::Heavy),
 ];
 
 impl Case {
@@ -61,14 +74,18 @@ impl Case {
         match self {
             Case::Items(case) => case.name(),
             Case::Tiles(case) => case.name(),
+            Case::Trees(case) => case.name(),
         }
     }
 
     /// The case of that name, if there is one.
     pub fn named(name: &str) -> Option<Case> {
-        match ItemCase::named(name) {
-            Some(case) => Some(Case::Items(case)),
-            None => TileCase::named(name).map(Case::Tiles),
+        if let Some(case) = ItemCase::named(name) {
+            return Some(Case::Items(case));
+        }
+        match TileCase::named(name) {
+            Some(case) => Some(Case::Tiles(case)),
+            None => TreeCase::named(name).map(Case::Trees),
         }
     }
 
@@ -80,9 +97,14 @@ impl Case {
         )
     }
 
-    /// Whether the case is one of tiles, which is given the slice alone.
-    pub fn is_tiles(self) -> bool {
-        matches!(self, Case::Tiles(_))
+    /// Whether the case is given the slice alone, as one of tiles or of trees.
+    pub fn takes_slice(self) -> bool {
+        matches!(self, Case::Tiles(_) | Case::Trees(_))
+    }
+
+    /// Whether the item at a tenth of the list is the one that fails.
+    pub fn fails_early(self) -> bool {
+        matches!(self, Case::Items(ItemCase::TryMapEarly))
     }
 }
 
@@ -96,6 +118,7 @@ impl ItemCase {
             ItemCase::FoldHeavy => "fold-heavy",
             ItemCase::FoldRising => "fold-rising",
             ItemCase::TryMapLight => "try-map-light",
+            ItemCase::TryMapEarly => "try-map-early",
             ItemCase::FoldInit => "fold-init",
             ItemCase::Partition => "partition",
             ItemCase::Sort => "sort",
@@ -111,6 +134,7 @@ impl ItemCase {
             "fold-heavy" => Some(ItemCase::FoldHeavy),
             "fold-rising" => Some(ItemCase::FoldRising),
             "try-map-light" => Some(ItemCase::TryMapLight),
+            "try-map-early" => Some(ItemCase::TryMapEarly),
             "fold-init" => Some(ItemCase::FoldInit),
             "partition" => Some(ItemCase::Partition),
             "sort" => Some(ItemCase::Sort),
@@ -137,6 +161,23 @@ impl TileCase {
             "tiles-cut-light" => Some(TileCase::CutLight),
             "tiles-cut-heavy" => Some(TileCase::CutHeavy),
             "tiles-uneven" => Some(TileCase::Uneven),
+            _ => None,
+        }
+    }
+}
+
+impl TreeCase {
+    fn name(self) -> &'static str {
+        match self {
+            TreeCase::Light => "merkle-light",
+            TreeCase::Heavy => "merkle-heavy",
+        }
+    }
+
+    fn named(name: &str) -> Option<TreeCase> {
+        match name {
+            "merkle-light" => Some(TreeCase::Light),
+            "merkle-heavy" => Some(TreeCase::Heavy),
             _ => None,
         }
     }

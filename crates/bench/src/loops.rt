@@ -1,6 +1,6 @@
 // The plain loops that the calls stand for, each over the same slice. A loop that gathers as many
 // answers as there are items is a chain, which is its faster form.
-use crate::work::{heavy, light, rising, try_light};
+use crate::work::{heavy, light, rising, try_heavy, try_light};
 use commonware_parallel::Fault;
 use std::alloc::{AllocError, Global};
 
@@ -60,6 +60,19 @@ pub fn try_map_light(alloc: Global, items: &[u64]) -> Result<Vec<u64>, Fault> {
         answers.push(try_light(*item)?)?;
     }
     Ok(answers)
+}
+
+/// What the heavy function makes of each item, or the first item at which it fails.
+#[inline(never)]
+pub fn try_map_early(alloc: Global, items: &[u64]) -> Result<Result<Vec<u64>, u64>, Fault> {
+    let mut answers = Vec::with_capacity(alloc, items.len())?;
+    for item in items {
+        match try_heavy(*item) {
+            Ok(answer) => answers.push(answer)?,
+            Err(failing) => return Ok(Err(failing)),
+        }
+    }
+    Ok(Ok(answers))
 }
 
 /// What the light function makes of the even items, and the odd items, in order.

@@ -16,6 +16,7 @@ mod request;
 mod soak;
 mod tiles;
 mod times;
+mod trees;
 mod ways;
 mod work;
 

@@ -1,8 +1,9 @@
 // The ways in which a case is run.
 use crate::case::{Case, ItemCase};
 use crate::tiles::Tiling;
-use crate::{calls, loops, tiles};
+use crate::{calls, loops, tiles, trees};
 use commonware_parallel::{Clock, Copies, Fault, Rayon, Sequential, Source, Strategy};
+use parallel_bridge::{Parts, Segment};
 use std::alloc::Global;
 use std::sync::Wait;
 use std::thread::Threads;
@@ -81,6 +82,15 @@ pub enum Answer {
     Parts(Vec<u64>, Vec<u64>),
 }
 
+impl From<Result<Vec<u64>, u64>> for Answer {
+    fn from(outcome: Result<Vec<u64>, u64>) -> Answer {
+        match outcome {
+            Ok(answers) => Answer::Numbers(answers),
+            Err(failing) => Answer::Number(failing),
+        }
+    }
+}
+
 impl Answer {
     /// A number by which two answers are told apart.
     pub fn checksum(&self) -> u64 {
@@ -124,6 +134,7 @@ fn by_loop(alloc: Global, case: Case, items: &[u64]) -> Result<Answer, Fault> {
     match case {
         Case::Items(case) => items_by_loop(alloc, case, items),
         Case::Tiles(case) => Ok(Answer::Number(Tiling::of(case, items.len()).sum(items))),
+        Case::Trees(case) => Ok(Answer::Number(trees::root_by_loop(alloc, case, items)?)),
     }
 }
 
@@ -137,6 +148,7 @@ fn items_by_loop(alloc: Global, case: ItemCase, items: &[u64]) -> Result<Answer,
         ItemCase::FoldHeavy => Ok(Answer::Number(loops::fold_heavy(items))),
         ItemCase::FoldRising => Ok(Answer::Number(loops::fold_rising(items))),
         ItemCase::TryMapLight => Ok(Answer::Numbers(loops::try_map_light(alloc, items)?)),
+        ItemCase::TryMapEarly => Ok(Answer::from(loops::try_map_early(alloc, items)?)),
         ItemCase::FoldInit => Ok(Answer::Number(loops::fold_light(items))),
         ItemCase::Partition => {
             let (values, keys) = loops::partition(alloc, items)?;
@@ -162,6 +174,10 @@ fn by_strategy<Rt: Threads + Wait + Sync, S: Strategy>(
             let total = tiles::sum_of_tiles(rt, alloc, strategy, tiling, items)?;
             Ok(Answer::Number(total))
         }
+        Case::Trees(case) => {
+            let root = trees::root_by_strategy(rt, alloc, strategy, case, input.as_slice())?;
+            Ok(Answer::Number(root))
+        }
     }
 }
 
@@ -181,13 +197,12 @@ fn items_by_strategy<Rt: Threads + Wait + Sync, S: Strategy>(
 }
 
 /// The answer of a call over items by a strategy over a source.
-fn by_source<Rt: Threads + Wait + Sync, S: Strategy, M, I: Source<M, Item = u64>>(
-    rt: &Rt,
-    alloc: Global,
-    strategy: &S,
-    case: ItemCase,
-    source: I,
-) -> Result<Answer, Fault>
+fn by_source<
+    Rt: Threads + Wait + Sync,
+    S: Strategy,
+    M,
+    I: Source<M, Item = u64, Parts: Parts<Segment: Segment<u64>>>,
+>(rt: &Rt, alloc: Global, strategy: &S, case: ItemCase, source: I) -> Result<Answer, Fault>
     requires { I.can source }
 {
     match case {
@@ -199,6 +214,9 @@ fn by_source<Rt: Threads + Wait + Sync, S: Strategy, M, I: Source<M, Item = u64>
         ItemCase::FoldRising => calls::fold_rising(rt, alloc, strategy, source).map(Answer::Number),
         ItemCase::TryMapLight => calls::try_map_light(rt, alloc, strategy, source).map(
             Answer::Numbers,
+        ),
+        ItemCase::TryMapEarly => calls::try_map_early(rt, alloc, strategy, source).map(
+            Answer::from,
         ),
         ItemCase::FoldInit => calls::fold_init(rt, alloc, strategy, source).map(Answer::Number),
         ItemCase::Partition => {

@@ -27,6 +27,30 @@ pub fn heavy(item: u64) -> u64 {
     stirred(item, STIRS)
 }
 
+/// What the nodes of a tree are taken modulo.
+const MODULUS: u64 = 1_000_003;
+
+/// The node above two neighbours of a tree, in a few nanoseconds.
+pub fn combined(left: u64, right: u64) -> u64 {
+    (2 * (left % MODULUS) + 3 * (right % MODULUS)) % MODULUS
+}
+
+/// The node above two neighbours of a tree, in about a microsecond.
+pub fn combined_heavily(left: u64, right: u64) -> u64 {
+    heavy(combined(left, right))
+}
+
+/// The one item that `try_heavy` fails at.
+pub const FAILING: u64 = u64::MAX;
+
+/// The heavy function as one that fails at one item, by that item.
+pub fn try_heavy(item: u64) -> Result<u64, u64> {
+    if item == FAILING {
+        return Err(item);
+    }
+    Ok(heavy(item))
+}
+
 /// A function that takes as many stirs as its item is great.
 pub fn rising(item: u64) -> u64 {
     stirred(item, item)
@@ -49,12 +73,17 @@ pub fn stir(state: u64) -> u64 {
 }
 
 /// The items that a case is timed over, `len` of them: the numbers from 0 on where the work is to
-/// rise, and a shuffled list elsewhere.
+/// rise, and a shuffled list elsewhere, with the item that fails at a tenth of it where one is to.
 pub fn items_of(alloc: Global, case: Case, len: usize) -> Result<Vec<u64>, AllocError> {
     let factor = if case.is_rising() { 1 } else { FACTOR };
     let mut items = Vec::with_capacity(alloc, len)?;
     for index in 0..len as u64 {
         items.push(index.wrapping_mul(factor))?;
+    }
+    if case.fails_early()
+        && let Some(failing) = items.get_mut(len / 10)
+    {
+        *failing = FAILING;
     }
     Ok(items)
 }

@@ -2,6 +2,7 @@ mod Alongs
 mod Ascending
 mod Drains
 mod Requests
+mod Roots
 mod Searches
 mod Spaced
 mod Sums

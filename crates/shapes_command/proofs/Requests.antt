@@ -2,7 +2,7 @@
 use Rattle.std.proofs.Common.{◌≡◌, ◌≤◌, ◌⊎◌, ℕ, List, String, Global, Option, None, Some, MatchOption, inl, inr, sym, subst}
 use Rattle.std.specs.Option.{option_or}
 use Rattle.shapes_command.specs.declared.request.Request.{Request}
-use Rattle.shapes_command.specs.declared.request.Request.TheVariants.{Drain, Batches, Grid, Segments, Fold, FoldParallel, Threads, Mix, ExploreSum}
+use Rattle.shapes_command.specs.declared.request.Request.TheVariants.{Drain, Batches, Grid, Segments, Fold, FoldParallel, Threads, Mix, ExploreSum, Root}
 use Rattle.shapes_command.specs.Request.{Says, AreItems, IsInRange}
 
 pub in_range : (words : List (String Global)) (request : Request) → Says words request
@@ -21,7 +21,8 @@ in_range words (Fold identity items) (inr (inr (inl (inr (inl (line, same, rest)
 in_range words (Fold identity items) (inr (inr (inl (inr (inr none))))) = absurd none
 in_range words (Fold identity items) (inr (inr (inr (inl none)))) = absurd none
 in_range words (Fold identity items) (inr (inr (inr (inr (inl none))))) = absurd none
-in_range words (Fold identity items) (inr (inr (inr (inr (inr none))))) = absurd none
+in_range words (Fold identity items) (inr (inr (inr (inr (inr (inl none)))))) = absurd none
+in_range words (Fold identity items) (inr (inr (inr (inr (inr (inr none)))))) = absurd none
 in_range words (FoldParallel identity items) (inl (_, none)) = absurd none
 in_range words (FoldParallel identity items) (inr (inl (inl none))) = absurd none
 in_range words (FoldParallel identity items) (inr (inl (inr (inl none)))) = absurd none
@@ -32,10 +33,23 @@ in_range words (FoldParallel identity items) (inr (inr (inl (inr (inr none))))) 
 in_range words (FoldParallel identity items) (inr (inr (inr (inl none)))) = absurd none
 in_range words (FoldParallel identity items) (inr (inr (inr (inr (inl (line, same, rest)))))) =
     (subst (λ (n : ℕ). n ≤ 1000000) (sym same) line.3.1, subst AreItems (sym rest) line.4)
-in_range words (FoldParallel identity items) (inr (inr (inr (inr (inr none))))) = absurd none
+in_range words (FoldParallel identity items) (inr (inr (inr (inr (inr (inl none)))))) = absurd none
+in_range words (FoldParallel identity items) (inr (inr (inr (inr (inr (inr none)))))) = absurd none
 in_range words (Threads _ _ _ _) says = tt
 in_range words (Mix _ _ _ _) says = tt
 in_range words ExploreSum says = tt
+in_range words (Root items) (inl (_, none)) = absurd none
+in_range words (Root items) (inr (inl (inl none))) = absurd none
+in_range words (Root items) (inr (inl (inr (inl none)))) = absurd none
+in_range words (Root items) (inr (inl (inr (inr none)))) = absurd none
+in_range words (Root items) (inr (inr (inl (inl none)))) = absurd none
+in_range words (Root items) (inr (inr (inl (inr (inl none))))) = absurd none
+in_range words (Root items) (inr (inr (inl (inr (inr none))))) = absurd none
+in_range words (Root items) (inr (inr (inr (inl none)))) = absurd none
+in_range words (Root items) (inr (inr (inr (inr (inl none))))) = absurd none
+in_range words (Root items) (inr (inr (inr (inr (inr (inl none)))))) = absurd none
+in_range words (Root items) (inr (inr (inr (inr (inr (inr (line, rest))))))) =
+    subst AreItems (sym rest) line.2
 
 neither : {A B : Type 0} → ¬ A → ¬ B → ¬ (A ⊎ B)
 neither first second (inl a) = first a

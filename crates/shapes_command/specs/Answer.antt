@@ -1,5 +1,5 @@
 -- The text that answers a request.
-use Rattle.std.specs.Prelude.{◌≡◌, ◌+◌, ℕ, List, [], ◌∷◌, ◌++◌, map, length, codes, if◌then◌else◌, String, ◌<◌, min, Option, None, MatchOption}
+use Rattle.std.specs.Prelude.{◌≡◌, ◌+◌, ◌*◌, ◌%◌, ℕ, List, [], ◌∷◌, ◌++◌, map, length, codes, if◌then◌else◌, String, ◌<◌, min, Option, None, Some, MatchOption}
 use Rattle.std.specs.Borrow.{Bor}
 use Rattle.std.specs.Fmt.{decimal}
 use Rattle.std.specs.List.{join_with_byte, range_with_len, sum_by}
@@ -13,6 +13,7 @@ use Rattle.parallel_shares.specs.Grid.{critical_cost, stays_whole}
 use Rattle.parallel_bridge.specs.Shapes.{Cut, cutdepth, Shape, leaf_lengths, Along}
 use Rattle.parallel_pool.specs.PlannedThreads.{Writes, by_texts, number_or}
 use Rattle.parallel_policy.specs.declared.site.Site.{Site}
+use Rattle.commonware_parallel.specs.Merkle.{MerkleRoot}
 use Rattle.commonware_parallel.specs.Mixes.{mix_of}
 use Rattle.commonware_parallel.specs.declared.mocks.explore_error.ExploreError.{ExploreError}
 use Rattle.commonware_parallel.specs.declared.mocks.explore_error.ExploreError.TheVariants.{Differs, Build}
@@ -20,7 +21,7 @@ use Rattle.commonware_parallel.specs.declared.mocks.rule.Rule.TheVariants.{Paral
 use Rattle.shapes_command.specs.Line.{as_line}
 use Rattle.shapes_command.specs.Request.{number_of, Says}
 use Rattle.shapes_command.specs.declared.request.Request.{Request}
-use Rattle.shapes_command.specs.declared.request.Request.TheVariants.{Drain, Batches, Grid as OfGrid, Segments, Fold, FoldParallel, Threads, Mix, ExploreSum}
+use Rattle.shapes_command.specs.declared.request.Request.TheVariants.{Drain, Batches, Grid as OfGrid, Segments, Fold, FoldParallel, Threads, Mix, ExploreSum, Root}
 
 -- the texts, with spaces between them
 abbrev pub spaced : List (List ℕ) → List ℕ
@@ -63,10 +64,23 @@ IsMixedOf seed line column len hash =
     (site : Site) × (site.file.now ≡ codes "a") × (site.line ≡ line) × (site.column ≡ column)
     × (hash ≡ mix_of seed site len)
 
+-- the node above two neighbours of a tree
+abbrev pub combined : ℕ → ℕ → ℕ
+combined a b = (2 * (a % 1000003) + 3 * (b % 1000003)) % 1000003
+
+-- the root of the tree over the items
+abbrev pub IsRootOf : List (String Global) → Option ℕ → Type 0
+IsRootOf items root = MerkleRoot (λ a b c. c ≡ combined a b) (map number_of items) root
+
+-- a root, or nothing where there is none
+abbrev pub root_text : Option ℕ → List ℕ
+root_text None = []
+root_text (Some root) = decimal root
+
 -- the rows below a number; balanced ranges, as many as are asked for; the cost of a grid; the
 -- lengths of the segments of any list of that length; the sum of the items from the identity, and
 -- along their shape for two threads; for how many threads a pool is planned; the hash; the sum of
--- the numbers below 100
+-- the numbers below 100; the root over the items
 abbrev pub Answers : Request → List ℕ → Type 0
 Answers (Drain rows workers) text = text ≡ spaced (map decimal (range_with_len 0 rows))
 Answers (Batches len count) text = (ranges : List (Range ℕ)) × BalancedCut len ranges
@@ -84,6 +98,7 @@ Answers (Threads set num_threads num_cpus machine) text = (planned : ℕ)
 Answers (Mix seed line column len) text = (hash : ℕ) × IsMixedOf seed line column len hash
     × (text ≡ decimal hash)
 Answers ExploreSum text = text ≡ decimal 4950
+Answers (Root items) text = (root : Option ℕ) × IsRootOf items.now root × (text ≡ root_text root)
 
 -- a search that told of a difference ended at the parallel rule
 abbrev pub EndsAtParallel : ExploreError → Type 0

@@ -5,7 +5,7 @@ use Rattle.std.specs.Str.Parse.{digits_value}
 use Rattle.std.specs.declared.alloc.Global.{Global}
 use Rattle.shapes_command.specs.Number.{IsNumberUpTo, IsCountUpTo, IsCountOrNone, CountsOrNone, IsTextOrNone}
 use Rattle.shapes_command.specs.declared.request.Request.{Request}
-use Rattle.shapes_command.specs.declared.request.Request.TheVariants.{Drain, Batches, Grid, Segments, Fold, FoldParallel, Threads, Mix, ExploreSum}
+use Rattle.shapes_command.specs.declared.request.Request.TheVariants.{Drain, Batches, Grid, Segments, Fold, FoldParallel, Threads, Mix, ExploreSum, Root}
 
 -- the text of the word at a place, which is empty past the last word
 abbrev pub word : List (String Global) → ℕ → List ℕ
@@ -69,11 +69,11 @@ SaysSegments words _ = ⊥
 abbrev pub number_of : String Global → ℕ
 number_of word = digits_value 10 (string_bytes word)
 
--- the word writes a number that a fold takes
+-- the word writes a number that a fold or a tree takes
 abbrev pub IsItem : String Global → Type 0
 IsItem item = IsNumberUpTo 1000000 (string_bytes item)
 
--- the words write numbers that a fold takes, and not too many
+-- the words write numbers that a fold or a tree takes, and not too many
 abbrev pub AreItems : List (String Global) → Type 0
 AreItems items = (length items ≤ 1000) × All IsItem items
 
@@ -130,6 +130,15 @@ abbrev pub SaysExploreSum : List (String Global) → Request → Type 0
 SaysExploreSum words ExploreSum = IsExploreLine (codes "sum") words
 SaysExploreSum words _ = ⊥
 
+-- `root ITEM..`, each in its range
+abbrev pub IsRootLine : List (String Global) → Type 0
+IsRootLine words = (1 ≤ length words) × (word words 0 ≡ codes "root") × AreItems (drop 1 words)
+
+-- the request of such a line
+abbrev pub SaysRoot : List (String Global) → Request → Type 0
+SaysRoot words (Root items) = IsRootLine words × (items.now ≡ drop 1 words)
+SaysRoot words _ = ⊥
+
 -- `explore bodies`, which has no answer: the search ends at a difference
 abbrev pub IsBodiesLine : List (String Global) → Type 0
 IsBodiesLine words = IsExploreLine (codes "bodies") words
@@ -157,15 +166,23 @@ abbrev pub SaysList : List (String Global) → Request → Type 0
 SaysList words request = SaysSegments words request
     ⊎ (SaysFold words request ⊎ SaysThreads words request)
 
+-- one of the lines that a search answers
+abbrev pub IsSearchLine : List (String Global) → Type 0
+IsSearchLine words = IsExploreLine (codes "sum") words ⊎ IsRootLine words
+
+-- the request of such a line
+abbrev pub SaysSearch : List (String Global) → Request → Type 0
+SaysSearch words request = SaysExploreSum words request ⊎ SaysRoot words request
+
 -- one of the lines about explorers
 abbrev pub IsExplorerLine : List (String Global) → Type 0
 IsExplorerLine words = IsMixLine words
-    ⊎ (IsFoldLine (codes "parallel") words ⊎ IsExploreLine (codes "sum") words)
+    ⊎ (IsFoldLine (codes "parallel") words ⊎ IsSearchLine words)
 
 -- the request of such a line
 abbrev pub SaysExplorer : List (String Global) → Request → Type 0
 SaysExplorer words request = SaysMix words request
-    ⊎ (SaysFoldParallel words request ⊎ SaysExploreSum words request)
+    ⊎ (SaysFoldParallel words request ⊎ SaysSearch words request)
 
 -- one of the lines about calls: about lists, or about explorers
 abbrev pub IsCallLine : List (String Global) → Type 0
@@ -199,4 +216,5 @@ Says words request = ((length words ≡ 0) × IsUnasked request) ⊎ SaysInWords
 abbrev pub IsInRange : Request → Type 0
 IsInRange (Fold identity items) = (identity ≤ 1000000) × AreItems items.now
 IsInRange (FoldParallel identity items) = (identity ≤ 1000000) × AreItems items.now
+IsInRange (Root items) = AreItems items.now
 IsInRange _ = Unit {0}

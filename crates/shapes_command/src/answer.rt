@@ -2,12 +2,13 @@
 ghost use Rattle.std.specs.Prelude.{◌≡◌, ◌++◌, ℕ, List, IfOk, IfErr, map, string_bytes};
 ghost use Rattle.std.specs.Fmt.{decimal};
 ghost use Rattle.std.specs.NonZero.{non_zero_usize_get};
-ghost use Rattle.shapes_command.specs.Answer.{Answers, spaced, range_text, grid_text, IsPlannedFor, IsMixedOf};
+ghost use Rattle.shapes_command.specs.Answer.{Answers, spaced, range_text, grid_text, IsPlannedFor, IsMixedOf, root_text};
 ghost use Rattle.shapes_command.specs.Line.{as_line};
 ghost use Rattle.shapes_command.specs.Request.{IsInRange};
 
 use crate::drain::drained_rows;
 use crate::request::Request;
+use crate::root::explored_root;
 use crate::search::explored_sum;
 use crate::sum::{parallel_sum, serial_sum};
 use commonware_parallel::mocks::mix;
@@ -83,6 +84,7 @@ fn push_answer<R: Threads + Wait + Sync>(
             len,
         } => push_mix(line, seed, row, column, len),
         Request::ExploreSum => push_number(line, explored_sum(rt, alloc)?),
+        Request::Root { items } => push_root(line, explored_root(rt, alloc, items)?),
     }
 }
 
@@ -94,6 +96,18 @@ fn push_number(line: &mut String, number: usize) -> Result<(), Fault>
 {
     write!(line, "{number}")?;
     Ok(())
+}
+
+// The root of a tree, or nothing where there is none.
+fn push_root(line: &mut String, root: Option<usize>) -> Result<(), Fault>
+    ensures text { IfOk result (λ _. string_bytes line.new ≡ string_bytes line.old ++ root_text
+        root) }
+    ensures fault { IfErr result (λ refusal. refusal ≡ Fault.Memory) }
+{
+    match root {
+        Some(root) => push_number(line, root),
+        None => Ok(()),
+    }
 }
 
 // For how many threads a pool is planned.

@@ -11,6 +11,7 @@ mod answer;
 pub mod drain;
 mod number;
 pub mod request;
+mod root;
 mod search;
 mod sum;
 mod write;

@@ -5,6 +5,7 @@ ghost use Rattle.shapes_command.specs.Request.{IsRequestLine, Says, IsUnasked, I
 ghost use Rattle.shapes_command.specs.Request.{IsDrainLine, SaysDrain, IsBatchesLine, SaysBatches, IsGridLine, SaysGrid};
 ghost use Rattle.shapes_command.specs.Request.{IsSegmentsLine, SaysSegments, AreItems, IsFoldLine, SaysFold, IsThreadsLine, SaysThreads};
 ghost use Rattle.shapes_command.specs.Request.{IsMixLine, SaysMix, SaysFoldParallel, IsExplorerLine, SaysExplorer, IsCallLine, SaysCall};
+ghost use Rattle.shapes_command.specs.Request.{IsRootLine, SaysRoot, IsSearchLine, SaysSearch};
 
 use crate::number::{
     count, count_or_none, number, number_of_32_bits, number_of_64_bits, text_or_none,
@@ -24,10 +25,10 @@ pub const MOST_RANGES: usize = 65_535;
 /// The most threads that `segments` takes.
 pub const MOST_THREADS: usize = 65_535;
 
-/// The most items that `fold` takes.
+/// The most items that `fold` and `root` take.
 pub const MOST_ITEMS: usize = 1_000;
 
-/// The greatest number that `fold` takes, as its identity or an item.
+/// The greatest number that `fold` takes, as its identity or an item, and `root` as an item.
 pub const MOST_NUMBER: usize = 1_000_000;
 
 /// A command with its arguments.
@@ -101,6 +102,11 @@ pub enum Request<'a> {
     },
     /// `explore sum`: the sum of the numbers below 100, by each rule of a search.
     ExploreSum,
+    /// `root ITEM..`: the root of a tree over the items, by each rule of a search.
+    Root {
+        /// The words of the items: at most 1000, and each a number that is at most 1000000.
+        items: &'a [String],
+    },
 }
 
 /// The request that the words say, and None where they say none.
@@ -147,7 +153,14 @@ fn about_lists(words: &[String]) -> Option<Request<'_>>
 fn about_explorers(words: &[String]) -> Option<Request<'_>>
     ensures { MatchOption result (¬ (IsExplorerLine words.now)) (SaysExplorer words.now) }
 {
-    mix(words).or(fold_parallel(words)).or(explore_sum(words))
+    mix(words).or(fold_parallel(words)).or(searches(words))
+}
+
+// The request of a line that a search answers.
+fn searches(words: &[String]) -> Option<Request<'_>>
+    ensures { MatchOption result (¬ (IsSearchLine words.now)) (SaysSearch words.now) }
+{
+    explore_sum(words).or(root(words))
 }
 
 // What the program does without words: `drain 4 2`.
@@ -294,6 +307,18 @@ fn explore_sum(words: &[String]) -> Option<Request<'_>>
     }
 }
 
+// The request of a line `root ITEM..`.
+fn root(words: &[String]) -> Option<Request<'_>>
+    ensures { MatchOption result (¬ (IsRootLine words.now)) (SaysRoot words.now) }
+{
+    match words {
+        [name, items @ ..] if name.as_str() == "root" && are_items(items) => {
+            Some(Request::Root { items })
+        }
+        _ => None,
+    }
+}
+
 /// Whether the words are `explore bodies`.
 pub fn is_bodies(words: &[String]) -> bool
     ensures { IsTrue result ↔ IsBodiesLine words.now }
@@ -314,7 +339,8 @@ fn explore_bodies(words: &[String]) -> Option<()>
     }
 }
 
-// Whether the words are items of a fold: not too many, and each a number that is not too great.
+// Whether the words are items of a fold or a tree: not too many, and each a number that is not too
+// great.
 fn are_items(words: &[String]) -> bool
     ensures { IsTrue result ↔ AreItems words.now }
 {

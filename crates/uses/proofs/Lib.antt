@@ -1,7 +1,14 @@
+pub mod Astray
+pub mod Building
+pub mod Climbs
 pub mod Counts
+pub mod Levels
 pub mod LongestWords
 pub mod Repeats
 pub mod Reversed
+pub mod Roots
 pub mod Searched
+pub mod Siblings
 pub mod Tiles
+pub mod Trees
 pub mod Verdicts

@@ -7,6 +7,7 @@ pub mod explored;
 pub mod folds;
 pub mod long_lists;
 pub mod maps;
+pub mod merkle;
 pub mod one_place;
 pub mod own_lists;
 pub mod runs;

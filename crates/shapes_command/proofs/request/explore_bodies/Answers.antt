@@ -1,4 +1,4 @@
-use Rattle.std.proofs.Common.{◌≡◌, List, ℕ, arith, codes}
+use Rattle.std.proofs.Common.{arith, codes}
 use Rattle.shapes_command.proofs.Words.{has_form, is_text}
 use Rattle.shapes_command.proofs.request.explore_bodies.Goals as goal
 

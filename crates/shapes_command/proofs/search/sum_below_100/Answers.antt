@@ -1,5 +1,5 @@
 -- A step adds the number, and a reduction adds two sums.
-use Rattle.std.proofs.Common.{rules, ◌≡◌, ◌+◌, ◌%◌, ◌^◌, ◌∙◌, ℕ, List, arith, refl, sum_by}
+use Rattle.std.proofs.Common.{rules, ◌≡◌, ◌%◌, ◌^◌, ◌∙◌, ℕ, arith, refl, sum_by}
 use Rattle.std.specs.List.{range_with_len}
 use Rattle.std.proofs.lemmas.Result.{IfOk-weaker}
 use Rattle.parallel_bridge.proofs.WrappingSums.{sum_of_list}

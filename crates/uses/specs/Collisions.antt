@@ -1,0 +1,22 @@
+-- Two different inputs with one digest.
+use Rattle.std.specs.Prelude.{◌≡◌, ◌≢◌, ℕ, ◌%◌, ◌==◌, cond, List}
+use Rattle.uses.specs.declared.merkle.collision.Children.{Children}
+use Rattle.uses.specs.declared.merkle.collision.Collision.{Collision}
+use Rattle.uses.specs.declared.merkle.collision.Collision.TheVariants.{Leaves, Nodes}
+use Rattle.uses.specs.Merkle.{leaf_digest, node_digest}
+
+-- a node at an index and its sibling, left before right
+abbrev pub children_of : ℕ → List ℕ → List ℕ → Children
+children_of index own sibling = cond (index % 2 == 1) (record { left = sibling; right = own })
+    (record { left = own; right = sibling })
+
+-- two pairs of nodes that differ, and have one digest above them
+abbrev pub NodesCollide : Children → Children → Type 0
+NodesCollide one other =
+    (one ≢ other) × (node_digest one.left one.right ≡ node_digest other.left other.right)
+
+-- two leaves that differ, and have one digest; or two pairs of nodes
+abbrev pub IsCollision : Collision → Type 0
+IsCollision (Leaves one other) =
+    (one.now ≢ other.now) × (leaf_digest one.now ≡ leaf_digest other.now)
+IsCollision (Nodes one other) = NodesCollide one other

@@ -1,0 +1,85 @@
+// Roots and trees of leaves, through a strategy.
+ghost use Rattle.std.specs.Prelude.{◌≡◌, ◌*◌, ◌<◌, IfOk, IfErr, length};
+ghost use Rattle.parallel_fault.specs.declared.fault.Fault.TheVariants.{Memory};
+ghost use Rattle.uses.specs.Merkle.{leaf_digest, leaf_digests, merkle_root, next_level, node_at, node_digest};
+
+use crate::merkle::digest::{Digest, leaf_digest, node_digest};
+use commonware_parallel::{Copies, Fault, Indices, Place, Strategy, merkle};
+use std::alloc::Global;
+use std::sync::Wait;
+use std::thread::Threads;
+
+/// The root of the leaves, in which no level but the one below the next is kept; None where there
+/// is no leaf.
+///
+/// # Errors
+///
+/// `Fault::Memory` alone.
+pub fn root<Rt: Threads + Wait + Sync, P: Place, S: Strategy>(
+    rt: &Rt,
+    alloc: Global,
+    strategy: &S,
+    site: P,
+    leaves: &[&[u8]],
+) -> Result<Option<Digest>, Fault>
+    ensures root { IfOk result (λ root. root ≡ merkle_root node_digest (leaf_digests leaves.now)) }
+    ensures fault { IfErr result (λ fault. fault ≡ Memory) }
+{
+    let digests = leaf_digests(rt, alloc, strategy, site, leaves)?;
+    let node = |left: Digest, right: Digest| -> Digest
+        ensures { result ≡ node_digest left right }
+    { node_digest(&left, &right) };
+    merkle::root(rt, alloc, strategy, site, digests, node)
+}
+
+/// The digests of the leaves, in their order.
+pub(crate) fn leaf_digests<Rt: Threads + Wait + Sync, P: Place, S: Strategy>(
+    rt: &Rt,
+    alloc: Global,
+    strategy: &S,
+    site: P,
+    leaves: &[&[u8]],
+) -> Result<Vec<Digest>, Fault>
+    ensures digests { IfOk result (λ digests. digests.items ≡ leaf_digests leaves.now) }
+    ensures fault { IfErr result (λ fault. fault ≡ Memory) }
+{
+    let digest = |leaf: &[u8]| -> Digest
+        ensures { result ≡ leaf_digest leaf.now }
+    { leaf_digest(leaf) };
+    strategy.map_collect_vec(rt, alloc, site, Copies { slice: leaves }, digest)
+}
+
+/// The next level of a tree, which a policy knows by its length.
+pub(crate) fn next_level<Rt: Threads + Wait + Sync, P: Place, S: Strategy>(
+    rt: &Rt,
+    alloc: Global,
+    strategy: &S,
+    site: P,
+    below: &[Digest],
+) -> Result<Vec<Digest>, Fault>
+    ensures next { IfOk result (λ level. level.items ≡ next_level node_digest below.now) }
+    ensures fault { IfErr result (λ fault. fault ≡ Memory) }
+{
+    let places = Indices {
+        start: 0,
+        end: below.len().div_ceil(2),
+    };
+    let node = |place: usize| -> Digest
+        requires { 2 * place < length below.now }
+        ensures { result ≡ node_at (next_level node_digest below.entry.now) place }
+    { node_above(below, place) };
+    strategy.map_collect_vec(rt, alloc, site, places, node)
+}
+
+// The node above the two at twice the place; an odd last node is the one above itself.
+fn node_above(below: &[Digest], place: usize) -> Digest
+    requires { 2 * place < length below.now }
+    ensures { result ≡ node_at (next_level node_digest below.now) place }
+{
+    let left = 2 * place;
+    if left + 1 < below.len() {
+        node_digest(&below[left], &below[left + 1])
+    } else {
+        below[left]
+    }
+}
