@@ -1,4 +1,5 @@
 // Consumers, producers and sources at concrete types.
+mod gates;
 mod windows;
 
 ghost use Rattle.std.specs.Prelude.{◌+◌};
@@ -196,7 +197,7 @@ fn items_are_gathered_where_too_many_are_said_to_come(rt: HostRuntime) {
         let parts = Overstated { left: 3, said }
             .into_parts(alloc)
             .expect(&rt, "memory");
-        let items = parts.into_vec().ok().expect(&rt, "a vector");
+        let items = parts.into_vec();
         same(&rt, items.as_slice(), [2, 1, 0].as_slice());
     }
 }

@@ -188,6 +188,43 @@ fn the_last_claim_of_the_greatest_queue_is_its_last_row(rt: HostRuntime) {
 }
 
 #[test]
+fn untouched_shares_have_the_words_of_the_opening(rt: HostRuntime) {
+    let (shares, seats) = opened(
+        &rt,
+        Shares::new(
+            rt.alloc(),
+            65_537,
+            281_470_681_808_895,
+            number(&rt, 1),
+            number(&rt, 1),
+            true,
+        ),
+    );
+    closes(&rt, shares, seats, &[32_769]);
+    let (shares, seats) = opened(
+        &rt,
+        Shares::new(rt.alloc(), 1, 4, number(&rt, 2), number(&rt, 2), false),
+    );
+    closes(&rt, shares, seats, &[2, 131_076]);
+}
+
+#[test]
+fn the_machine_opens_with_the_same_words(rt: HostRuntime) {
+    let greatest = Plan::new(
+        65_537,
+        281_470_681_808_895,
+        number(&rt, 1),
+        number(&rt, 1),
+        true,
+    );
+    let state = State::new(rt.alloc(), &greatest).expect(&rt, "memory");
+    same(&rt, state.words(), [32_769].as_slice());
+    let small = Plan::new(1, 4, number(&rt, 2), number(&rt, 2), false);
+    let state = State::new(rt.alloc(), &small).expect(&rt, "memory");
+    same(&rt, state.words(), [2, 131_076].as_slice());
+}
+
+#[test]
 fn the_greatest_cut_plan_opens_with_two_halves(rt: HostRuntime) {
     let (shares, seats) = opened(
         &rt,

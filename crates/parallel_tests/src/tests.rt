@@ -1,6 +1,10 @@
 // The tests that cross crates, at concrete types. Expected values stand in the tests.
 mod batches;
+mod blocks;
+mod clocks;
 mod commands;
+mod ends;
+mod errors;
 mod explorers;
 mod folds;
 mod known;
@@ -12,9 +16,11 @@ mod one_place;
 mod plans;
 mod policies;
 mod printed;
+mod roots;
 mod runs;
 mod same;
 mod shares;
+mod spans;
 mod spawns;
 mod states;
 mod steps;

@@ -5,7 +5,10 @@ use crate::same::{row, same};
 use parallel_bridge::list::map::map_parallel;
 use parallel_bridge::list::try_fold::try_fold_parallel;
 use parallel_bridge::list::try_map::try_map_parallel;
-use parallel_bridge::producer::{Copies, DrainProducer, Indices, Producer};
+use parallel_bridge::pairs::Pairs;
+use parallel_bridge::parts::ProducerParts;
+use parallel_bridge::producer::{DrainProducer, Indices, Producer};
+use parallel_bridge::source::Source;
 use parallel_fault::Trouble;
 use std::alloc::Global;
 use std::process::Abort;
@@ -15,18 +18,18 @@ use std::thread::Threads;
 
 // Counts those that were made and those that were let go.
 #[derive(Drop)]
-struct Counts {
+pub(crate) struct Counts {
     made: AtomicU64,
     gone: AtomicU64,
 }
 
-struct Counted<'a> {
+pub(crate) struct Counted<'a> {
     counts: &'a Counts,
-    place: usize,
+    pub(crate) place: usize,
 }
 
 impl<'a> Counted<'a> {
-    fn new(counts: &'a Counts, place: usize) -> Self {
+    pub(crate) fn new(counts: &'a Counts, place: usize) -> Self {
         counts.made.fetch_add(1, Ordering::SeqCst);
         Counted { counts, place }
     }
@@ -40,7 +43,7 @@ impl Drop for Counted<'_> {
 }
 
 // As many counted items as memory is given for, of those that are asked for.
-fn counted_items<'a>(alloc: Global, counts: &'a Counts, len: usize) -> Vec<Counted<'a>> {
+pub(crate) fn counted_items<'a>(alloc: Global, counts: &'a Counts, len: usize) -> Vec<Counted<'a>> {
     let mut items = Vec::new(alloc);
     for _place in 0..len {
         let place = items.len();
@@ -49,7 +52,7 @@ fn counted_items<'a>(alloc: Global, counts: &'a Counts, len: usize) -> Vec<Count
     items
 }
 
-fn no_counts() -> Counts {
+pub(crate) fn no_counts() -> Counts {
     Counts {
         made: AtomicU64::new(0),
         gone: AtomicU64::new(0),
@@ -57,7 +60,7 @@ fn no_counts() -> Counts {
 }
 
 // Whether all but so many of those that were made were let go.
-fn all_gone_but(counts: &Counts, left: usize) -> bool {
+pub(crate) fn all_gone_but(counts: &Counts, left: usize) -> bool {
     let gone = counts.gone.load(Ordering::SeqCst);
     gone.wrapping_add(left as u64) == counts.made.load(Ordering::SeqCst)
 }
@@ -183,34 +186,66 @@ fn each_folded_item_is_dropped_once_before_and_behind_one_that_fails(rt: HostRun
     }
 }
 
+// Maps the neighbouring pairs of that many counted items on that many threads. Memory may be
+// refused.
+fn pair_counted<R: Threads + Sync + Abort>(rt: &R, alloc: Global, threads: usize, len: usize) {
+    let counts = no_counts();
+    let items = counted_items(alloc, &counts, len);
+    let count = items.len();
+    let (pairs, odd) = Pairs::new(items);
+    let last = if count % 2 == 1 {
+        Some(count.wrapping_sub(1))
+    } else {
+        None
+    };
+    same(rt, odd.as_ref().map(|item| item.place), last);
+    let places = |pair: (Counted<'_>, Counted<'_>)| (pair.0.place, pair.1.place);
+    if let Ok(answers) = map_parallel(rt, alloc, number(rt, threads), pairs, &places) {
+        same(rt, answers.len(), count / 2);
+        for place in 0..count / 2 {
+            let front = place.wrapping_mul(2);
+            let expected = Some((front, front.wrapping_add(1)));
+            same(rt, answers.get(place).copied(), expected);
+        }
+    }
+    assert!(rt; all_gone_but(&counts, count % 2));
+    drop(odd);
+    assert!(rt; all_gone_but(&counts, 0));
+}
+
 #[test]
-fn an_owned_list_is_handed_over_and_no_other(rt: HostRuntime) {
+fn neighbouring_pairs_are_each_handed_over_once(rt: HostRuntime) {
+    for threads in 1..9 {
+        for len in 0..10 {
+            pair_counted(&rt, rt.alloc(), threads, len);
+        }
+        pair_counted(&rt, rt.alloc(), threads, 1_001);
+    }
+}
+
+#[test]
+fn pairs_come_serially_too_and_say_how_many_are_left(rt: HostRuntime) {
     let alloc = rt.alloc();
-    let owned = DrainProducer::from_vec(vec![in alloc; 1u8, 2, 3].expect(&rt, "memory"));
-    match owned.into_vec() {
-        Ok(items) => same(&rt, items.as_slice(), [1, 2, 3].as_slice()),
-        Err(_list) => assert!(rt; false),
-    }
-    match (Indices { start: 2, end: 5 }).into_vec() {
-        Ok(_items) => assert!(rt; false),
-        Err(list) => same(&rt, list, Indices { start: 2, end: 5 }),
-    }
-    match (Copies {
-        slice: [7u8, 8].as_slice(),
-    })
-    .into_vec()
-    {
-        Ok(_items) => assert!(rt; false),
-        Err(list) => same(&rt, list.slice, [7u8, 8].as_slice()),
-    }
+    let items = vec![in alloc; 1u8, 2, 3, 4, 5].expect(&rt, "memory");
+    let (pairs, odd) = Pairs::new(items);
+    same(&rt, odd, Some(5));
+    let mut drain = Source::into_items(pairs);
+    same(&rt, drain.size_hint(), (2, Some(2)));
+    same(&rt, drain.next(), Some((1, 2)));
+    same(&rt, drain.size_hint(), (1, Some(1)));
+    same(&rt, drain.next(), Some((3, 4)));
+    same(&rt, drain.next(), None);
+    same(&rt, drain.next(), None);
 }
 
 #[test]
 fn values_of_size_zero_are_mapped_in_order(rt: HostRuntime) {
     let alloc = rt.alloc();
-    let all = Indices {
-        start: 0,
-        end: 5000,
+    let all = ProducerParts {
+        list: Indices {
+            start: 0,
+            end: 5000,
+        },
     };
     let nothing = map_parallel(&rt, alloc, number(&rt, 4), all, &|_place: usize| ()).expect(
         &rt, "memory",

@@ -44,12 +44,12 @@ impl Bell {
 }
 
 // A word that is zero.
-fn word(rt: &impl Abort, alloc: Global) -> Arc<AtomicU64> {
+pub(crate) fn word(rt: &impl Abort, alloc: Global) -> Arc<AtomicU64> {
     Arc::new(alloc, AtomicU64::new(0)).expect(rt, "memory")
 }
 
 // A job that raises a word by one.
-fn raises(rt: &impl Abort, alloc: Global, word: &Arc<AtomicU64>) -> OwnedJob {
+pub(crate) fn raises(rt: &impl Abort, alloc: Global, word: &Arc<AtomicU64>) -> OwnedJob {
     let theirs = Arc::try_clone(word).expect(rt, "a handle");
     let body = Box::new(alloc, move |_: usize| {
         theirs.fetch_add(1, Ordering::SeqCst);
@@ -355,4 +355,29 @@ fn a_pool_calls_jobs_of_ones_own_type(rt: HostRuntime) {
     assert!(rt; pool.spawn(&rt, other).is_ok());
     pool.close(&rt);
     assert!(rt; raised.load(Ordering::SeqCst) == 7);
+}
+
+// A job that takes a while and then raises a word by one.
+fn raises_late(rt: &impl Abort, alloc: Global, word: &Arc<AtomicU64>) -> OwnedJob {
+    let theirs = Arc::try_clone(word).expect(rt, "a handle");
+    let body = Box::new(alloc, move |_: usize| {
+        for _ in 0..100_000u32 {
+            thread::yield_now();
+        }
+        theirs.fetch_add(1, Ordering::SeqCst);
+    });
+    OwnedJob::new(body.expect(rt, "memory"))
+}
+
+#[test]
+fn a_pool_that_is_closed_has_called_each_job_to_its_end(rt: HostRuntime) {
+    let called = word(&rt, rt.alloc());
+    let builder = ThreadPoolBuilder::new().num_threads(2);
+    let (pool, _none) = builder.build(&rt, rt.alloc()).expect(&rt, "a pool");
+    for _ in 0..4 {
+        let job = raises_late(&rt, rt.alloc(), &called);
+        assert!(rt; pool.spawn(&rt, job).is_ok());
+    }
+    pool.close(&rt);
+    same(&rt, called.load(Ordering::SeqCst), 4);
 }

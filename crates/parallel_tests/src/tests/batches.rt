@@ -1,7 +1,7 @@
 // Batches: in which ranges their indices go.
 use crate::tests::same::{answers, lists, row, same};
-use crate::tests::strategies::{SITE, number, pool};
-use commonware_parallel::{Batches, Fault, Sequential, Strategy, Trouble};
+use crate::tests::strategies::{SITE, Stopped, number, pool};
+use commonware_parallel::{Batches, Fault, Rayon, Sequential, Strategy, Trouble};
 use known_answers::beyond::ranges_at_pool;
 use std::alloc::Global;
 use std::num::NonZeroUsize;
@@ -133,6 +133,7 @@ fn an_input_that_is_not_split_runs_whole_and_once(rt: HostRuntime) {
     let eight = number(&rt, 8);
     let one_thread = pool(&rt, alloc, 1, 1);
     let four_threads = pool(&rt, alloc, 4, 4);
+    let learning = Rayon::new(&rt, alloc, number(&rt, 4), Stopped).expect(&rt, "memory");
     for len in [0, 1, 7, 8, 15] {
         answers(
             &rt,
@@ -150,6 +151,12 @@ fn an_input_that_is_not_split_runs_whole_and_once(rt: HostRuntime) {
             &rt,
             ("four", len),
             whole_and_calls(&rt, alloc, &four_threads, len, eight),
+            (true, 1),
+        );
+        answers(
+            &rt,
+            ("policy", len),
+            whole_and_calls(&rt, alloc, &learning, len, eight),
             (true, 1),
         );
     }

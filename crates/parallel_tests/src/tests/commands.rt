@@ -134,7 +134,14 @@ const ANSWERED: &str = "\
     mix 2 1 1 64: 100875890\n\
     mix 3 1 1 64: 1244984820\n\
     mix 03 001 01 064: 1244984820\n\
-    mix 18446744073709551615 4294967295 4294967295 18446744073709551615: 1244984759";
+    mix 18446744073709551615 4294967295 4294967295 18446744073709551615: 1244984759\n\
+    root: \n\
+    root 9: 9\n\
+    root 1 2 3: 25\n\
+    root 1 2 3 4 5: 155\n\
+    root 1 2 3 4 5 6 7: 371\n\
+    root 1000000: 1000000\n\
+    root 01 02 003: 25";
 
 #[test]
 fn each_command_answers_one_line(rt: HostRuntime) {
@@ -177,22 +184,32 @@ fn the_widest_commands_answer(rt: HostRuntime) {
     row(&rt, 3, lengths, 65_536);
 }
 
-// The line of a fold of so many items, each the greatest number, from the greatest identity.
-fn widest_fold(alloc: Global, items: usize) -> Result<String, AllocError> {
-    let mut line = String::from_str(alloc, "fold serial 1000000")?;
+// The line of so many items behind these words, each the greatest number.
+fn widest(alloc: Global, words: &str, items: usize) -> Result<String, AllocError> {
+    let mut line = String::from_str(alloc, words)?;
     for _ in 0..items {
         line.push_str(" 1000000")?;
     }
     Ok(line)
 }
 
+// These words take a thousand items behind them and no more.
+fn takes_a_thousand<R: Threads + Wait + Abort + Sync>(
+    rt: &R,
+    alloc: Global,
+    words: &str,
+    answer: &str,
+) {
+    let most = widest(alloc, words, 1_000).expect(rt, "memory");
+    leaves(rt, alloc, &most, (0, answer, ""));
+    let more = widest(alloc, words, 1_001).expect(rt, "memory");
+    leaves(rt, alloc, &more, (2, "", "shapes: bad arguments\n"));
+}
+
 #[test]
-fn a_fold_takes_a_thousand_items(rt: HostRuntime) {
-    let alloc = rt.alloc();
-    let widest = widest_fold(alloc, 1_000).expect(&rt, "memory");
-    leaves(&rt, alloc, &widest, (0, "1001000000\n", ""));
-    let wider = widest_fold(alloc, 1_001).expect(&rt, "memory");
-    leaves(&rt, alloc, &wider, (2, "", "shapes: bad arguments\n"));
+fn a_fold_and_a_root_take_a_thousand_items(rt: HostRuntime) {
+    takes_a_thousand(&rt, rt.alloc(), "fold serial 1000000", "1001000000\n");
+    takes_a_thousand(&rt, rt.alloc(), "root", "890209\n");
 }
 
 // Lines that are no command.
@@ -268,6 +285,13 @@ const REFUSED: &str = "\
     explore sum 1\n\
     explore bodies 2\n\
     explore  sum\n\
+    root 1000001\n\
+    root 1 2 1000001\n\
+    root 1 two\n\
+    root +1\n\
+    root \n\
+    root 1 2 \n\
+    Root 1\n\
     threads\n\
     threads 0 0 7\n\
     threads 0 0 7 4 1\n\
@@ -378,6 +402,7 @@ fn a_refused_growth_leaves_no_answer(rt: HostRuntime) -> Result<(), Fail> {
         ("fold parallel 10 1 2 3", "66\n"),
         ("threads 0 - 7 4", "7\n"),
         ("mix 0 1 1 64", "2107625324\n"),
+        ("root 1 2 3", "25\n"),
     ];
     for (line, answer) in lines {
         // The words and the writers have their memory before the command runs.

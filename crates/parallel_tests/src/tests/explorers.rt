@@ -1,9 +1,10 @@
 // Explorers: what they pick, and what the search through the rules answers.
 ghost use Rattle.parallel_shares.specs.Grid.{Fits};
 
-use crate::tests::same::{answers, same};
+use crate::tests::same::{answers, lists, same};
 use crate::tests::steps::{add, ascending, count, ten, zero};
 use crate::tests::strategies::{SITE, Stopped, number, pool};
+use crate::tests::threads::Meeting;
 use commonware_parallel::mocks::{
     ExploreError, Explorer, Rule, TASKS, WORKERS, explore, inline, mix, pick, pooled,
 };
@@ -127,6 +128,53 @@ fn a_seed_picks_the_number_of_workers_of_tiles(rt: HostRuntime) {
     }
 }
 
+#[test]
+fn a_seed_picks_apart_by_place_and_by_length(rt: HostRuntime) {
+    let alloc = rt.alloc();
+    let lower = Site { line: 2, ..PLACE };
+    let further = Site { column: 2, ..PLACE };
+    for (seed, calls) in [
+        (
+            0,
+            [
+                (PLACE, 64, "serial", 5),
+                (lower, 64, "serial", 7),
+                (further, 64, "parallel", 4),
+                (PLACE, 65, "parallel", 6),
+            ],
+        ),
+        (
+            1,
+            [
+                (PLACE, 64, "parallel", 8),
+                (lower, 64, "serial", 1),
+                (further, 64, "serial", 7),
+                (PLACE, 65, "serial", 1),
+            ],
+        ),
+        (
+            2,
+            [
+                (PLACE, 64, "serial", 3),
+                (lower, 64, "parallel", 4),
+                (further, 64, "parallel", 2),
+                (PLACE, 65, "parallel", 4),
+            ],
+        ),
+    ] {
+        let explorer = by_seed(&rt, alloc, seed);
+        for (site, len, body, count) in calls {
+            let told = explorer.run(&rt, alloc, site, len, || "serial", || "parallel");
+            answers(&rt, (seed, len), told.map(Some), Some(body));
+            let one = number(&rt, 1);
+            let ranges = explorer.run_batches(&rt, alloc, site, len, one, 1, |batches| {
+                batches.ranges().len()
+            });
+            answers(&rt, (seed, len), ranges.map(Some), Some(count));
+        }
+    }
+}
+
 // How many cells tiles of 9 rows of 100 fill, through an explorer.
 fn cells_filled<Rt: Threads + Wait + Sync>(
     rt: &Rt,
@@ -215,6 +263,37 @@ fn an_explorer_keeps_the_numbers_and_asks_no_policy(rt: HostRuntime) {
     same(&rt, alone.planning().get(), 4);
 }
 
+// The numbers of ranges and of workers that such an explorer takes for 64 indices, and for a grid
+// of 64 rows.
+fn ranges_and_workers<Rt: Threads + Wait + Abort>(
+    rt: &Rt,
+    alloc: Global,
+    explorer: &Explorer,
+) -> Result<(usize, usize), Fault> {
+    let ranges = explorer.run_batches(rt, alloc, SITE, 64, number(rt, 1), 1, |batches| {
+        batches.ranges().len()
+    })?;
+    let grids = [Grid {
+        rows: 64,
+        tile_cost: number(rt, 1),
+    }];
+    assert!(rt; Grid::fits(&grids, 64));
+    let workers = explorer.run_tiles(rt, alloc, SITE, 64, &grids, 1, |tiles| {
+        tiles.workers().get()
+    })?;
+    Ok((ranges, workers))
+}
+
+// Whether each part of a join saw the other one.
+fn parts_of_a_join<Rt: Threads + Wait + Sync>(
+    rt: &Rt,
+    alloc: Global,
+    explorer: &Explorer,
+) -> Result<(bool, bool), Fault> {
+    let met = Meeting::new();
+    explorer.join(rt, alloc, SITE, || met.meet(true), || met.meet(false))
+}
+
 #[test]
 fn an_explorer_planned_for_one_runs_bodies_serially(rt: HostRuntime) {
     let alloc = rt.alloc();
@@ -228,12 +307,23 @@ fn an_explorer_planned_for_one_runs_bodies_serially(rt: HostRuntime) {
         explorer.run(&rt, alloc, SITE, 64, || "serial", || "parallel"),
         "serial",
     );
-    let whole = explorer
-        .run_batches(&rt, alloc, SITE, 64, number(&rt, 1), 1, |batches| {
-            batches.is_whole()
-        })
-        .expect(&rt, "memory");
-    assert!(rt; whole);
+    answers(&rt, 2, ranges_and_workers(&rt, alloc, &explorer), (1, 1));
+    let states = explorer.map_init_collect_vec(&rt, alloc, SITE, 0..3u32, zero, count);
+    lists(&rt, 3, states, &[1, 2, 3]);
+    // A join goes by the rule alone, and so does a job (`an_explorer_spawns_by_its_rule`).
+    let joined = parts_of_a_join(&rt, alloc, &explorer);
+    answers(&rt, 4, joined, (true, true));
+}
+
+#[test]
+fn the_parallel_rule_takes_as_many_parts_as_are_planned(rt: HostRuntime) {
+    let alloc = rt.alloc();
+    for (threads, planned) in [(2, 3), (4, 8), (1, 5)] {
+        let strategy = pool(&rt, alloc, threads, planned);
+        let explorer = Explorer::parallel(&strategy).expect(&rt, "memory");
+        let taken = ranges_and_workers(&rt, alloc, &explorer);
+        answers(&rt, threads, taken, (planned, planned));
+    }
 }
 
 // The fold of the items by addition, from 10.

@@ -5,6 +5,7 @@ use crate::tests::strategies::{SITE, number, pool};
 use commonware_parallel::bridge::bridge::depth_of;
 use commonware_parallel::bridge::list::fold::{fold_iter, fold_parallel};
 use commonware_parallel::bridge::list::map::{map_iter, map_parallel};
+use commonware_parallel::bridge::parts::ProducerParts;
 use commonware_parallel::rayon::install;
 use commonware_parallel::{Call, Copies, Kind, Path, Pick, Sequential, Strategy, ThreadPool};
 use parallel_policy::Place;
@@ -72,8 +73,10 @@ fn lists_are_driven_without_a_strategy(rt: HostRuntime) {
     )
     .expect(&rt, "memory");
     row(&rt, 1, halves.as_slice(), [5, 10, 15].as_slice());
-    let tens = Copies {
-        slice: [10, 20, 30].as_slice(),
+    let tens = ProducerParts {
+        list: Copies {
+            slice: [10, 20, 30].as_slice(),
+        },
     };
     lists(
         &rt,
@@ -83,8 +86,10 @@ fn lists_are_driven_without_a_strategy(rt: HostRuntime) {
     );
 
     same(&rt, fold_iter(1..4u32, &ten, &add), 16);
-    let few = Copies {
-        slice: [1, 2, 3].as_slice(),
+    let few = ProducerParts {
+        list: Copies {
+            slice: [1, 2, 3].as_slice(),
+        },
     };
     answers(
         &rt,

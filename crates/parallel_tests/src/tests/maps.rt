@@ -1,7 +1,7 @@
 // Maps through each strategy.
 use crate::tests::same::{lists, row, same};
 use crate::tests::strategies::{SITE, number, pool};
-use commonware_parallel::{Fault, Sequential, Strategy};
+use commonware_parallel::{Fault, Pairs, Sequential, Strategy};
 use std::alloc::Global;
 use std::process::Abort;
 use std::sync::Wait;
@@ -48,6 +48,54 @@ fn squares_come_in_order(rt: HostRuntime) {
             &SQUARES,
         );
     }
+}
+
+// A value that is neither copied nor cloned.
+#[derive(Drop)]
+struct Held {
+    value: u64,
+}
+
+// Two neighbours as one value, the left one in front.
+fn side_by_side<Rt: Threads + Wait + Sync, S: Strategy>(
+    rt: &Rt,
+    alloc: Global,
+    strategy: &S,
+    len: u64,
+) -> Result<(Vec<u64>, Option<u64>), Fault> {
+    let mut level = Vec::new(alloc);
+    for value in 0..len {
+        level.push(Held { value })?;
+    }
+    let (pairs, odd) = Pairs::new(level);
+    let sums = strategy.map_collect_vec(rt, alloc, SITE, pairs, |pair: (Held, Held)| {
+        pair.0.value.wrapping_mul(10).wrapping_add(pair.1.value)
+    })?;
+    Ok((sums, odd.map(|held: Held| held.value)))
+}
+
+#[test]
+fn neighbouring_pairs_come_in_order_and_the_odd_item_apart(rt: HostRuntime) {
+    let expected = [1, 23, 45, 67];
+    for threads in 1..9usize {
+        let strategy = pool(&rt, rt.alloc(), threads, threads);
+        for len in 0..10u64 {
+            let (sums, odd) = side_by_side(&rt, rt.alloc(), &strategy, len).expect(&rt, "memory");
+            same(&rt, sums.as_slice(), &expected[..(len / 2) as usize]);
+            same(
+                &rt,
+                odd,
+                if len % 2 == 1 {
+                    Some(len.wrapping_sub(1))
+                } else {
+                    None
+                },
+            );
+        }
+    }
+    let (sums, odd) = side_by_side(&rt, rt.alloc(), &Sequential, 9).expect(&rt, "memory");
+    same(&rt, sums.as_slice(), expected.as_slice());
+    same(&rt, odd, Some(8));
 }
 
 #[test]

@@ -1,45 +1,15 @@
 // What a policy learns, through the calls of a pool.
-use crate::tests::same::{answers, lists, same};
+use crate::tests::clocks::{Stepping, learning};
+use crate::tests::same::{answers, lists, row, same};
 use crate::tests::steps::{add, ascending, count, ten, zero};
 use crate::tests::strategies::{SITE, Stopped, number};
-use commonware_parallel::{Clock, Fault, Rayon, Sequential, Site, Strategy};
+use commonware_parallel::{Fault, Rayon, Sequential, Site, Strategy, Trouble};
 use std::alloc::Global;
-use std::process::Abort;
-use std::sync::atomic::{AtomicU64, Ordering};
-use std::sync::{Arc, Wait};
+use std::num::NonZeroUsize;
+use std::sync::Wait;
 use std::thread::Threads;
 use uses::batches::batch_ranges;
 use uses::runs::one_of;
-
-// A clock that goes on by `step` at each reading, or back where `step` is near 2 to the power of
-// 64.
-#[derive(Clone, Debug, Drop)]
-struct Stepping {
-    reading: Arc<AtomicU64, Global>,
-    step: u64,
-}
-
-impl Stepping {
-    fn new(rt: &impl Abort, alloc: Global, step: u64) -> Stepping {
-        let start = AtomicU64::new(1_000_000_000_000);
-        Stepping {
-            reading: Arc::new(alloc, start).expect(rt, "memory for a clock"),
-            step,
-        }
-    }
-}
-
-impl Clock for Stepping {
-    fn now(&self) -> u64 {
-        self.reading.fetch_add(self.step, Ordering::SeqCst)
-    }
-}
-
-// A pool of four threads with a fresh policy, and a clock that steps so far.
-fn learning<Rt: Threads + Abort>(rt: &Rt, alloc: Global, step: u64) -> Rayon<Stepping> {
-    let clock = Stepping::new(rt, alloc, step);
-    Rayon::new(rt, alloc, number(rt, 4), clock).expect(rt, "memory for a pool")
-}
 
 // Which of two bodies a call over 64 items takes.
 fn which<Rt: Wait, S: Strategy>(
@@ -61,7 +31,7 @@ fn a_fresh_policy_runs_in_parallel(rt: HostRuntime) {
 #[test]
 fn a_short_parallel_run_is_followed_by_serial_ones(rt: HostRuntime) {
     let alloc = rt.alloc();
-    let strategy = learning(&rt, alloc, 100_000);
+    let strategy = learning(&rt, alloc, Stepping::new(&rt, alloc, 100_000));
     answers(&rt, 1, which(&rt, alloc, &strategy), "parallel");
     answers(&rt, 2, which(&rt, alloc, &strategy), "serial");
     answers(&rt, 3, which(&rt, alloc, &strategy), "serial");
@@ -70,7 +40,7 @@ fn a_short_parallel_run_is_followed_by_serial_ones(rt: HostRuntime) {
 #[test]
 fn a_clock_that_goes_back_counts_as_no_time(rt: HostRuntime) {
     let alloc = rt.alloc();
-    let strategy = learning(&rt, alloc, u64::MAX - 99_999);
+    let strategy = learning(&rt, alloc, Stepping::new(&rt, alloc, u64::MAX - 99_999));
     answers(&rt, 1, which(&rt, alloc, &strategy), "parallel");
     answers(&rt, 2, which(&rt, alloc, &strategy), "serial");
 }
@@ -78,7 +48,7 @@ fn a_clock_that_goes_back_counts_as_no_time(rt: HostRuntime) {
 #[test]
 fn a_clone_has_the_same_policy(rt: HostRuntime) {
     let alloc = rt.alloc();
-    let strategy = learning(&rt, alloc, 100_000);
+    let strategy = learning(&rt, alloc, Stepping::new(&rt, alloc, 100_000));
     let clone = strategy.clone().expect(&rt, "memory");
     answers(&rt, 1, which(&rt, alloc, &strategy), "parallel");
     answers(&rt, 2, which(&rt, alloc, &clone), "serial");
@@ -103,7 +73,7 @@ fn sum_from_ten<Rt: Threads + Wait + Sync, S: Strategy>(
 #[test]
 fn folds_ask_the_policy_by_their_site(rt: HostRuntime) {
     let alloc = rt.alloc();
-    let strategy = learning(&rt, alloc, 100_000);
+    let strategy = learning(&rt, alloc, Stepping::new(&rt, alloc, 100_000));
     let other = Site { column: 2, ..SITE };
     answers(&rt, 1, sum_from_ten(&rt, alloc, &strategy, SITE), 66);
     answers(&rt, 2, sum_from_ten(&rt, alloc, &strategy, SITE), 16);
@@ -114,7 +84,7 @@ fn folds_ask_the_policy_by_their_site(rt: HostRuntime) {
 #[test]
 fn batches_ask_the_policy(rt: HostRuntime) {
     let alloc = rt.alloc();
-    let strategy = learning(&rt, alloc, 100_000);
+    let strategy = learning(&rt, alloc, Stepping::new(&rt, alloc, 100_000));
     let one = number(&rt, 1);
     let four = [0..4, 4..8, 8..12, 12..16];
     lists(
@@ -139,10 +109,49 @@ fn batches_ask_the_policy(rt: HostRuntime) {
     );
 }
 
+// The number of ranges of a batch of 16 indices, or of the same batch as its closure's error.
+fn ranges_or_error<Rt: Wait, S: Strategy>(
+    rt: &Rt,
+    alloc: Global,
+    strategy: &S,
+    fails: bool,
+) -> Result<usize, Trouble<usize>> {
+    let one = NonZeroUsize::MIN;
+    strategy.try_run_batches(rt, alloc, SITE, 16, one, 1, |batches| {
+        let count = batches.ranges().len();
+        if fails { Err(count) } else { Ok(count) }
+    })
+}
+
+#[test]
+fn a_batch_that_fails_is_not_recorded(rt: HostRuntime) {
+    let alloc = rt.alloc();
+    let strategy = learning(&rt, alloc, Stepping::new(&rt, alloc, 100_000));
+    for (at, fails, count) in [
+        (1, true, 4),
+        (2, true, 4),
+        (3, false, 4),
+        (4, false, 1),
+        (5, true, 1),
+    ] {
+        let wanted = if fails {
+            Err(Trouble::Closure(count))
+        } else {
+            Ok(count)
+        };
+        row(
+            &rt,
+            at,
+            ranges_or_error(&rt, alloc, &strategy, fails),
+            wanted,
+        );
+    }
+}
+
 #[test]
 fn a_run_of_the_whole_budget_stays_parallel(rt: HostRuntime) {
     let alloc = rt.alloc();
-    let strategy = learning(&rt, alloc, 2_500_000);
+    let strategy = learning(&rt, alloc, Stepping::new(&rt, alloc, 2_500_000));
     answers(&rt, 1, which(&rt, alloc, &strategy), "parallel");
     answers(&rt, 2, which(&rt, alloc, &strategy), "parallel");
 }
@@ -150,7 +159,7 @@ fn a_run_of_the_whole_budget_stays_parallel(rt: HostRuntime) {
 #[test]
 fn a_policy_learns_apart_by_length(rt: HostRuntime) {
     let alloc = rt.alloc();
-    let strategy = learning(&rt, alloc, 100_000);
+    let strategy = learning(&rt, alloc, Stepping::new(&rt, alloc, 100_000));
     let take = |len: usize| one_of(&rt, alloc, &strategy, SITE, len, "serial", "parallel");
     answers(&rt, 1, take(64), "parallel");
     answers(&rt, 2, take(1000), "parallel");
@@ -180,7 +189,7 @@ fn states_of_three<Rt: Threads + Wait + Sync, S: Strategy>(
 #[test]
 fn a_policy_learns_apart_by_multiplier(rt: HostRuntime) {
     let alloc = rt.alloc();
-    let strategy = learning(&rt, alloc, 100_000);
+    let strategy = learning(&rt, alloc, Stepping::new(&rt, alloc, 100_000));
     lists(
         &rt,
         1,
@@ -210,7 +219,7 @@ fn a_policy_learns_apart_by_multiplier(rt: HostRuntime) {
 #[test]
 fn a_sort_tells_the_policy_its_time(rt: HostRuntime) {
     let alloc = rt.alloc();
-    let strategy = learning(&rt, alloc, 100_000);
+    let strategy = learning(&rt, alloc, Stepping::new(&rt, alloc, 100_000));
     let mut numbers = [3u32, 1, 2];
     strategy
         .sort_by(&rt, alloc, SITE, &mut numbers, ascending)

@@ -1,6 +1,7 @@
 // Spawned jobs: where they run, what they answer, and what a policy learns of them.
 ghost use Rattle.std.specs.Prelude.{◌≡◌, ⊤};
 
+use crate::tests::clocks::learning;
 use crate::tests::same::{answers, row, same};
 use crate::tests::strategies::{SITE, Stopped, number, pool};
 use commonware_parallel::mocks::{Explorer, inline, pending};
@@ -98,11 +99,6 @@ impl Clock for Scripted {
             _ => self.overhead.wrapping_add(self.time.load(Ordering::SeqCst)),
         }
     }
-}
-
-// A pool of four threads with a fresh policy, and a clock.
-fn learning<Rt: Threads + Abort>(rt: &Rt, alloc: Global, clock: Scripted) -> Rayon<Scripted> {
-    Rayon::new(rt, alloc, number(rt, 4), clock).expect(rt, "memory for a pool")
 }
 
 // Whether a job was handed off. It is waited for, and answers 7.

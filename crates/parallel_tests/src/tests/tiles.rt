@@ -1,14 +1,15 @@
 // Tiles: which cells are filled, for how many workers, and what is answered for each row.
 use crate::tests::same::{lists, row, same};
-use crate::tests::strategies::{SITE, number, pool};
-use crate::tests::threads::sees;
+use crate::tests::strategies::{SITE, Stopped, number, pool};
+use crate::tests::threads::Meeting;
+use commonware_parallel::mocks::explore;
 use commonware_parallel::shares::machine::{Event, Outcome, Plan, replay};
-use commonware_parallel::{Fault, Grid, Sequential, Site, Strategy, Tiles};
+use commonware_parallel::{Fault, Grid, Rayon, Sequential, Site, Strategy, Tiles};
 use std::alloc::Global;
 use std::ops::Range;
 use std::process::Abort;
 use std::sync::Wait;
-use std::sync::atomic::{AtomicBool, AtomicU64, Ordering};
+use std::sync::atomic::{AtomicU64, Ordering};
 use std::thread::Threads;
 use uses::tile_rows::cells_by_stretch;
 
@@ -151,12 +152,18 @@ fn results_of_nothing<Rt: Threads + Wait + Abort + Sync, S: Strategy>(
 fn a_grid_without_cells_has_no_results(rt: HostRuntime) {
     let alloc = rt.alloc();
     let four = pool(&rt, alloc, 2, 4);
+    let learning = Rayon::new(&rt, alloc, number(&rt, 4), Stopped).expect(&rt, "memory");
     let made = AtomicU64::new(0);
     for (rows, len) in [(0, 7), (7, 0), (0, 0), (0, usize::MAX)] {
         let grids = [grid(&rt, rows, 3)];
         let serial = results_of_nothing(&rt, alloc, &Sequential, len, &grids, &made);
         let shared = results_of_nothing(&rt, alloc, &four, len, &grids, &made);
-        row(&rt, (rows, len), (serial, shared), (0, 0));
+        let chosen = results_of_nothing(&rt, alloc, &learning, len, &grids, &made);
+        row(&rt, (rows, len), (serial, shared, chosen), (0, 0, 0));
+        let explored = explore(&rt, alloc, |explorer| {
+            results_of_nothing(&rt, alloc, explorer, len, &grids, &made)
+        });
+        row(&rt, (rows, len), explored.expect(&rt, "memory"), 0);
     }
     same(&rt, made.load(Ordering::SeqCst), 0);
 }
@@ -181,32 +188,14 @@ fn each_cell_is_filled_once(rt: HostRuntime) {
     }
 }
 
-// A flag for each of two rows.
-#[derive(Drop)]
-struct Flags {
-    first: AtomicBool,
-    second: AtomicBool,
-}
-
-impl Flags {
-    // Sets the row's flag, and answers whether the other row's was seen.
-    fn meet(&self, row: usize) -> bool {
-        if row == 0 {
-            sees(&self.first, &self.second)
-        } else {
-            sees(&self.second, &self.first)
-        }
-    }
-}
-
 // For each stretch, whether its row saw the other one.
 fn meetings<Rt: Threads + Wait + Sync, S: Strategy>(
     rt: &Rt,
     alloc: Global,
     tiles: Tiles<'_, S, Site>,
-    flags: &Flags,
+    flags: &Meeting,
 ) -> Result<Vec<bool>, Fault> {
-    let fill = |seen: &mut bool, row: usize, _: Range<usize>| *seen = flags.meet(row);
+    let fill = |seen: &mut bool, row: usize, _: Range<usize>| *seen = flags.meet(row == 0);
     tiles.fill_collect_vec(rt, alloc, || false, fill, |seen: &mut bool, _: usize| *seen)
 }
 
@@ -215,7 +204,7 @@ fn meet_in_tiles<Rt: Threads + Wait + Abort + Sync, S: Strategy>(
     rt: &Rt,
     alloc: Global,
     strategy: &S,
-    flags: &Flags,
+    flags: &Meeting,
 ) -> Result<Vec<bool>, Fault> {
     let grids = [grid(rt, 2, 9)];
     assert!(rt; Grid::fits(&grids, 8));
@@ -228,16 +217,43 @@ fn meet_in_tiles<Rt: Threads + Wait + Abort + Sync, S: Strategy>(
 fn two_rows_see_each_other_on_two_threads(rt: HostRuntime) {
     let alloc = rt.alloc();
     let two = pool(&rt, alloc, 2, 2);
-    let flags = Flags {
-        first: AtomicBool::new(false),
-        second: AtomicBool::new(false),
-    };
+    let flags = Meeting::new();
     lists(
         &rt,
         1,
         meet_in_tiles(&rt, alloc, &two, &flags),
         &[true, true],
     );
+}
+
+// For each stretch of one row, whether the half that it is of saw the other half.
+fn halves_meet<Rt: Threads + Wait + Abort + Sync, S: Strategy>(
+    rt: &Rt,
+    alloc: Global,
+    strategy: &S,
+    flags: &Meeting,
+) -> Result<(bool, Vec<bool>), Fault> {
+    let grids = [grid(rt, 1, 1)];
+    assert!(rt; Grid::fits(&grids, 64));
+    strategy.run_tiles(rt, alloc, SITE, 64, &grids, 1, |tiles| {
+        let is_cut = tiles.is_cut() && tiles.workers().get() == 2;
+        let fill = |seen: &mut bool, _: usize, columns: Range<usize>| {
+            *seen = flags.meet(columns.start < 32);
+        };
+        let finish = |seen: &mut bool, _: usize| *seen;
+        let seen = tiles.fill_collect_vec(rt, alloc, || false, fill, finish)?;
+        Ok((is_cut, seen))
+    })?
+}
+
+#[test]
+fn two_workers_of_one_row_see_each_other(rt: HostRuntime) {
+    let alloc = rt.alloc();
+    let two = pool(&rt, alloc, 2, 2);
+    let met = halves_meet(&rt, alloc, &two, &Meeting::new());
+    let (is_cut, seen) = met.expect(&rt, "memory");
+    assert!(rt; is_cut && seen.len() > 1);
+    assert!(rt; seen.iter().all(|seen| *seen));
 }
 
 #[test]

@@ -1,0 +1,209 @@
+// A gate of first errors: what its seats see, and that a segment right of a known error stops, with
+// each item and each value dropped once.
+ghost use Rattle.std.specs.Prelude.{◌≡◌, ◌<◌, All, IfSome};
+ghost use Rattle.parallel_bridge.specs.GateRule.{newcomer};
+ghost use Rattle.parallel_bridge.specs.Gates.{IsSeatOf, known, stands_for};
+
+use crate::bridge::number;
+use crate::bridge::windows::{Counted, all_gone_but, counted_items, no_counts};
+use crate::same::same;
+use parallel_bridge::fill::try_map::TryMapWriter;
+use parallel_bridge::gate::{Gate, GateSeat, GateWatch};
+use parallel_bridge::halt::Halt;
+use parallel_bridge::list::try_map::try_map_parallel;
+use parallel_bridge::parts::ProducerParts;
+use parallel_bridge::producer::{Copies, DrainProducer, Indices};
+use parallel_bridge::segment::{ProducerSegment, Segment};
+use parallel_bridge::window::home::Home;
+use parallel_fault::Trouble;
+use std::alloc::Global;
+use std::num::NonZeroUsize;
+use std::process::Abort;
+use std::sync::atomic::{AtomicU64, Ordering};
+use std::thread;
+use std::thread::Threads;
+
+// The last seat of a list.
+fn take_one(gate: &Gate, seats: &mut Vec<GateSeat>) -> Option<GateSeat>
+    requires belong { All (IsSeatOf gate.now) seats.old.items }
+    requires fresh { All (λ seat. known seat ≡ newcomer 1) seats.old.items }
+    ensures seat { IfSome result (λ seat. IsSeatOf gate.now seat × (known seat ≡ newcomer 1)) }
+    ensures belong { All (IsSeatOf gate.now) seats.new.items }
+    ensures fresh { All (λ seat. known seat ≡ newcomer 1) seats.new.items }
+{
+    seats.pop()
+}
+
+// What is seen of the starts 50, 10 and 5 once 10 was told.
+fn after_ten(
+    gate: &Gate,
+    first: &mut GateSeat,
+    second: &mut GateSeat,
+    third: &mut GateSeat,
+) -> [bool; 3]
+    requires belong { IsSeatOf gate.now first.old × IsSeatOf gate.now second.old
+        × IsSeatOf gate.now third.old }
+    requires stands { 0 < stands_for first.old }
+    ensures belong { IsSeatOf gate.now first.new × IsSeatOf gate.now second.new
+        × IsSeatOf gate.now third.new }
+    ensures first { stands_for first.new ≡ stands_for first.old }
+    ensures third { stands_for third.new ≡ stands_for third.old }
+{
+    gate.tell(first, 10);
+    let fifty = gate.stopped(second, 50);
+    let ten = gate.stopped(first, 10);
+    let five = gate.stopped(third, 5);
+    [fifty, ten, five]
+}
+
+// What is seen of the start 5 once 3 was told too, and of 4 once 10 was told again.
+fn after_three(
+    gate: &Gate,
+    first: &mut GateSeat,
+    second: &mut GateSeat,
+    third: &mut GateSeat,
+) -> [bool; 2]
+    requires belong { IsSeatOf gate.now first.old × IsSeatOf gate.now second.old
+        × IsSeatOf gate.now third.old }
+    requires first { 0 < stands_for first.old }
+    requires third { 0 < stands_for third.old }
+{
+    gate.tell(third, 3);
+    let five = gate.stopped(third, 5);
+    gate.tell(first, 10);
+    let four = gate.stopped(second, 4);
+    [five, four]
+}
+
+#[test]
+fn the_least_start_that_was_told_stops_greater_ones(rt: HostRuntime) {
+    let three = NonZeroUsize::MIN.saturating_add(2);
+    let (gate, mut seats) = Gate::new(rt.alloc(), three).expect(&rt, "memory");
+    let mut first = take_one(&gate, &mut seats).expect(&rt, "a seat");
+    let mut second = take_one(&gate, &mut seats).expect(&rt, "a seat");
+    let mut third = take_one(&gate, &mut seats).expect(&rt, "a seat");
+    let ten = after_ten(&gate, &mut first, &mut second, &mut third);
+    same(&rt, ten, [true, false, false]);
+    let three = after_three(&gate, &mut first, &mut second, &mut third);
+    same(&rt, three, [true, true]);
+}
+
+#[test]
+fn a_segment_right_of_a_known_error_calls_nothing(rt: HostRuntime) {
+    let alloc = rt.alloc();
+    let two = NonZeroUsize::MIN.saturating_add(1);
+    let (gate, mut seats) = Gate::new(alloc, two).expect(&rt, "memory");
+    let mut first = take_one(&gate, &mut seats).expect(&rt, "a seat");
+    let seat = take_one(&gate, &mut seats).expect(&rt, "a seat");
+    gate.tell(&mut first, 10);
+    let calls = AtomicU64::new(0);
+    let answer = |item: u8| -> Result<u8, u8> {
+        calls.fetch_add(1, Ordering::SeqCst);
+        Ok(item)
+    };
+    let numbers = [7u8; 10];
+    let (mut room, home) = Home::reserve(alloc, numbers.len()).expect(&rt, "memory");
+    let mut watch = GateWatch {
+        gate: &gate,
+        seat,
+        start: 50,
+    };
+    let segment = ProducerSegment {
+        parts: Copies { slice: &numbers },
+    };
+    let writer = TryMapWriter { map_op: &answer };
+    let (done, ()) = segment.write_watched(&writer, &mut room, &mut watch);
+    home.free(room);
+    same(&rt, done, Err(Halt::Stopped));
+    same(&rt, calls.load(Ordering::SeqCst), 0);
+}
+
+// Waits for an error that another segment makes, but not for ever.
+fn await_error(failed: &AtomicU64) {
+    for _ in 0..1_000_000 {
+        if failed.load(Ordering::SeqCst) > 0 {
+            return;
+        }
+        thread::yield_now();
+    }
+}
+
+#[test]
+fn segments_right_of_a_known_error_stop_early(rt: HostRuntime) {
+    let failed = AtomicU64::new(0);
+    let calls = AtomicU64::new(0);
+    let answer = |item: usize| -> Result<usize, usize> {
+        calls.fetch_add(1, Ordering::SeqCst);
+        if item == 0 {
+            failed.store(1, Ordering::SeqCst);
+            return Err(item);
+        }
+        await_error(&failed);
+        thread::yield_now();
+        Ok(item)
+    };
+    let parts = ProducerParts {
+        list: Indices {
+            start: 0,
+            end: 64_000,
+        },
+    };
+    // 32 threads make 64 segments of 1000 items each.
+    match try_map_parallel(&rt, rt.alloc(), number(&rt, 32), parts, &answer) {
+        Err(Trouble::Closure(item)) => same(&rt, item, 0),
+        _ => panic!(rt; "the error was lost"),
+    }
+    assert!(rt; calls.load(Ordering::SeqCst) < 16_000);
+}
+
+// Maps that many counted items on that many threads, of which the first fails and the others wait
+// for that. Memory may be refused.
+fn stop_counted<R: Threads + Sync + Abort>(rt: &R, alloc: Global, threads: usize, len: usize) {
+    let counts = no_counts();
+    let failed = AtomicU64::new(0);
+    let items = counted_items(alloc, &counts, len);
+    let answer = |item: Counted<'_>| if item.place == 0 {
+        failed.store(1, Ordering::SeqCst);
+        Err(item.place)
+    } else {
+        await_error(&failed);
+        Ok(Counted::new(&counts, item.place))
+    };
+    let parts = DrainProducer::from_vec(items);
+    match try_map_parallel(rt, alloc, number(rt, threads), parts, &answer) {
+        Ok(values) => same(rt, values.len(), 0),
+        Err(Trouble::Closure(place)) => same(rt, place, 0),
+        Err(Trouble::Fault(_fault)) => (),
+    }
+    assert!(rt; all_gone_but(&counts, 0));
+}
+
+// The same over a list whose items aren't owned: the values are counted.
+fn stop_values<R: Threads + Sync + Abort>(rt: &R, alloc: Global, threads: usize, len: usize) {
+    let counts = no_counts();
+    let failed = AtomicU64::new(0);
+    let answer = |place: usize| if place == 0 {
+        failed.store(1, Ordering::SeqCst);
+        Err(place)
+    } else {
+        await_error(&failed);
+        Ok(Counted::new(&counts, place))
+    };
+    let parts = ProducerParts {
+        list: Indices { start: 0, end: len },
+    };
+    match try_map_parallel(rt, alloc, number(rt, threads), parts, &answer) {
+        Ok(values) => same(rt, values.len(), 0),
+        Err(Trouble::Closure(place)) => same(rt, place, 0),
+        Err(Trouble::Fault(_fault)) => (),
+    }
+    assert!(rt; all_gone_but(&counts, 0));
+}
+
+#[test]
+fn each_item_and_value_of_a_stopped_segment_is_dropped_once(rt: HostRuntime) {
+    for threads in 1..9 {
+        stop_counted(&rt, rt.alloc(), threads, 300);
+        stop_values(&rt, rt.alloc(), threads, 300);
+    }
+}

@@ -1,0 +1,131 @@
+// That blocks of memory are given back: of a home by the count of a heap, and of calls by the size
+// of the process.
+use crate::tests::same::{row, same};
+use crate::tests::strategies::{SITE, pool};
+use commonware_parallel::{Fault, Strategy, Trouble};
+use linked_list_allocator::LocalHeap;
+use parallel_bridge::window::home::Home;
+use std::alloc::{AllocGlobal, Global};
+use std::fs;
+use std::process::Abort;
+use std::rt::Files;
+use std::sync::Wait;
+use std::thread::Threads;
+
+#[test]
+fn a_home_gives_its_block_back(rt: HostRuntime) {
+    let heap = LocalHeap::new(rt.alloc(), 65_536).expect(&rt, "memory for a heap");
+    let items = Vec::from_slice(&heap, &[1u64, 2, 3]).expect(&rt, "memory");
+    assert!(rt; heap.used() > 0);
+    let (window, home) = Home::adopt(items);
+    home.free(window);
+    row(&rt, "adopted", heap.used(), 0);
+    let (window, home) = Home::<u64, _>::reserve(&heap, 100).expect(&rt, "memory");
+    assert!(rt; heap.used() >= 800);
+    home.free(window);
+    row(&rt, "reserved", heap.used(), 0);
+    let items = Vec::from_slice(&heap, &[1u64, 2, 3]).expect(&rt, "memory");
+    let (window, home) = Home::adopt(items);
+    let items = window.into_vec(home);
+    same(&rt, items.as_slice(), [1, 2, 3].as_slice());
+    assert!(rt; heap.used() > 0);
+    drop(items);
+    row(&rt, "handed over", heap.used(), 0);
+}
+
+// A page of memory.
+#[derive(Clone, Copy)]
+struct Page {
+    bytes: [u64; 512],
+}
+
+// How many of them a list has.
+const PAGES: u64 = 256;
+
+// How many calls are made of each kind.
+const CALLS: u64 = 48;
+
+// How many pages of this process are in memory, by Linux's own count.
+fn resident<Rt: Files + AllocGlobal + Abort>(rt: &Rt) -> usize {
+    let counts = fs::read_to_string(rt, "/proc/self/statm").expect(rt, "the counts");
+    let resident = counts.as_str().split(' ').nth(1).expect(rt, "two counts");
+    resident.parse::<usize>().expect(rt, "a number")
+}
+
+fn pages(alloc: Global) -> Result<Vec<Page>, Fault> {
+    let mut pages = Vec::new(alloc);
+    for number in 0..PAGES {
+        pages.push(Page {
+            bytes: [number; 512],
+        })?;
+    }
+    Ok(pages)
+}
+
+// The pages as they were, or the last one's number where that one fails.
+fn last_fails(page: Page) -> Result<Page, u64> {
+    if page.bytes[511] == 255 {
+        Err(page.bytes[0])
+    } else {
+        Ok(page)
+    }
+}
+
+// A map of which the last item fails, over a list of its own.
+fn failing_map<Rt: Threads + Wait + Sync, S: Strategy>(
+    rt: &Rt,
+    alloc: Global,
+    strategy: &S,
+) -> Result<Vec<Page>, Trouble<u64>> {
+    let items = pages(alloc)?;
+    strategy.try_map_collect_vec(rt, alloc, SITE, items, last_fails)
+}
+
+// A fold likewise.
+fn failing_fold<Rt: Threads + Wait + Sync, S: Strategy>(
+    rt: &Rt,
+    alloc: Global,
+    strategy: &S,
+) -> Result<u64, Trouble<u64>> {
+    let items = pages(alloc)?;
+    let step = |sum: u64, page: Page| match last_fails(page) {
+        Ok(page) => Ok(sum.wrapping_add(page.bytes[0])),
+        Err(number) => Err(number),
+    };
+    strategy.try_fold(
+        rt,
+        alloc,
+        SITE,
+        items,
+        || 0,
+        step,
+        |a: u64, b: u64| a.wrapping_add(b),
+    )
+}
+
+// Whether the process has grown by as many blocks since it had so many pages.
+fn has_grown<Rt: Files + AllocGlobal + Abort>(rt: &Rt, before: usize) -> bool {
+    // One block for each call would be 12,288 pages.
+    resident(rt) > before.saturating_add(6_144)
+}
+
+#[test]
+fn calls_that_fail_give_their_blocks_back(rt: HostRuntime) {
+    let before = resident(&rt);
+    for call in 0..CALLS {
+        let items = pages(rt.alloc()).expect(&rt, "memory");
+        same(&rt, items.len() as u64, PAGES.max(call));
+    }
+    if has_grown(&rt, before) {
+        // `rt try` gives nothing back to the system, so that there is nothing to be seen.
+        return;
+    }
+    let two = pool(&rt, rt.alloc(), 2, 2);
+    for call in 0..CALLS {
+        let mapped = failing_map(&rt, rt.alloc(), &two);
+        assert!(rt; matches!(mapped, Err(Trouble::Closure(255))), "{call}");
+        let folded = failing_fold(&rt, rt.alloc(), &two);
+        assert!(rt; matches!(folded, Err(Trouble::Closure(255))), "{call}");
+    }
+    assert!(rt; !has_grown(&rt, before));
+}

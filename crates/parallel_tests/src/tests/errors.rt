@@ -1,0 +1,243 @@
+// Calls whose closures fail at many items, many times over: the first failing item's error is
+// answered each time, and each item and each answer is let go once.
+use crate::tests::same::row;
+use crate::tests::strategies::{SITE, Stopped, number, pool};
+use commonware_parallel::mocks::explore;
+use commonware_parallel::{Fault, Rayon, Strategy, Trouble};
+use std::alloc::Global;
+use std::process::Abort;
+use std::sync::Wait;
+use std::sync::atomic::{AtomicU64, Ordering};
+use std::thread::Threads;
+
+// Maps the numbers below 100, of which one fails and those from a further one on.
+fn fails_at<Rt: Threads + Wait + Sync, S: Strategy>(
+    rt: &Rt,
+    alloc: Global,
+    strategy: &S,
+    one: u32,
+    from: u32,
+) -> Result<Vec<u32>, Trouble<u32>> {
+    let check = |n: u32| if n == one || n >= from { Err(n) } else { Ok(n) };
+    strategy.try_map_collect_vec(rt, alloc, SITE, 0..100u32, check)
+}
+
+// In how many of so many runs another error was answered than the first one.
+fn other_errors<Rt: Threads + Wait + Sync, S: Strategy>(
+    rt: &Rt,
+    alloc: Global,
+    strategy: &S,
+    runs: u32,
+) -> u32 {
+    let mut others = 0u32;
+    for _ in 0..runs {
+        for (one, from, first) in [(57, 99, 57), (0, 0, 0), (25, 25, 25)] {
+            let answer = fails_at(rt, alloc, strategy, one, from);
+            if !matches!(answer, Err(Trouble::Closure(error)) if error == first) {
+                others = others.saturating_add(1);
+            }
+        }
+    }
+    others
+}
+
+#[test]
+fn the_first_error_is_answered_in_each_of_a_thousand_runs(rt: HostRuntime) {
+    let alloc = rt.alloc();
+    for threads in 2..9usize {
+        let strategy = pool(&rt, alloc, threads, threads);
+        row(&rt, threads, other_errors(&rt, alloc, &strategy, 100), 0);
+    }
+    let learning = Rayon::new(&rt, alloc, number(&rt, 4), Stopped).expect(&rt, "memory");
+    row(&rt, "policy", other_errors(&rt, alloc, &learning, 100), 0);
+    // By six rules.
+    let explored = explore(
+        &rt,
+        alloc,
+        |explorer| other_errors(&rt, alloc, explorer, 34),
+    );
+    row(&rt, "explorers", explored.expect(&rt, "memory"), 0);
+}
+
+// Maps the numbers below so many to 0 or 1, by a word that all calls share: how many answers come,
+// and how many of them are neither.
+fn unsteady_answers<Rt: Threads + Wait + Sync, S: Strategy>(
+    rt: &Rt,
+    alloc: Global,
+    strategy: &S,
+    count: usize,
+) -> Result<(usize, usize), Fault> {
+    let calls = AtomicU64::new(0);
+    let answers = strategy.map_collect_vec(rt, alloc, SITE, 0..count, |_: usize| {
+        calls.fetch_add(1, Ordering::SeqCst) % 2
+    })?;
+    let others = answers.iter().filter(|answer| **answer > 1).count();
+    Ok((answers.len(), others))
+}
+
+#[test]
+fn an_unsteady_closure_answers_each_item_by_each_rule(rt: HostRuntime) {
+    let alloc = rt.alloc();
+    for count in [0usize, 1, 2, 1000] {
+        let explored = explore(&rt, alloc, |explorer| {
+            unsteady_answers(&rt, alloc, explorer, count).ok()
+        });
+        row(&rt, count, explored.expect(&rt, "memory"), Some((count, 0)));
+    }
+}
+
+/// Counts those that were made and those that were let go.
+#[derive(Drop)]
+pub struct Counts {
+    made: AtomicU64,
+    gone: AtomicU64,
+}
+
+impl Counts {
+    pub fn new() -> Counts {
+        Counts {
+            made: AtomicU64::new(0),
+            gone: AtomicU64::new(0),
+        }
+    }
+
+    /// How many are there, or near 2 to the power of 64 where some were let go twice.
+    pub fn left(&self) -> u64 {
+        let gone = self.gone.load(Ordering::SeqCst);
+        self.made.load(Ordering::SeqCst).wrapping_sub(gone)
+    }
+}
+
+/// A value that is counted.
+pub struct Counted<'a> {
+    counts: &'a Counts,
+    pub place: usize,
+}
+
+impl<'a> Counted<'a> {
+    pub fn new(counts: &'a Counts, place: usize) -> Self {
+        counts.made.fetch_add(1, Ordering::SeqCst);
+        Counted { counts, place }
+    }
+}
+
+impl Drop for Counted<'_> {
+    fn drop(self) {
+        let Self { counts, place: _ } = self;
+        counts.gone.fetch_add(1, Ordering::SeqCst);
+    }
+}
+
+/// So many of them, whose places go from 0 on.
+pub fn counted_items<'a>(
+    alloc: Global,
+    counts: &'a Counts,
+    len: usize,
+) -> Result<Vec<Counted<'a>>, Fault> {
+    let mut items = Vec::new(alloc);
+    for place in 0..len {
+        items.push(Counted::new(counts, place))?;
+    }
+    Ok(items)
+}
+
+// A further value for an item, or the item's place where it is that one.
+fn another(item: &Counted<'_>, fails: usize) -> Result<usize, usize> {
+    if item.place == fails {
+        Err(item.place)
+    } else {
+        Ok(item.place)
+    }
+}
+
+// What a map of counted items answered, of which one fails, and what is left of items and answers.
+fn map_left(
+    rt: &impl Abort,
+    counts: &Counts,
+    (len, fails): (usize, usize),
+    mapped: Result<Vec<Counted<'_>>, Trouble<usize>>,
+    kept: usize,
+) {
+    match mapped {
+        Ok(values) => {
+            row(rt, (len, fails), (values.len(), fails < len), (len, false));
+            row(
+                rt,
+                (len, fails),
+                counts.left(),
+                len.saturating_add(kept) as u64,
+            );
+        }
+        Err(trouble) => row(rt, (len, fails), trouble, Trouble::Closure(fails)),
+    }
+    row(rt, (len, fails), counts.left(), kept as u64);
+}
+
+// The same of a fold that counts the items.
+fn fold_left(
+    rt: &impl Abort,
+    counts: &Counts,
+    (len, fails): (usize, usize),
+    folded: Result<usize, Trouble<usize>>,
+) {
+    match folded {
+        Ok(count) => row(rt, (len, fails), (count, fails < len), (len, false)),
+        Err(trouble) => row(rt, (len, fails), trouble, Trouble::Closure(fails)),
+    }
+    row(rt, (len, fails), counts.left(), 0);
+}
+
+fn add(left: usize, right: usize) -> usize {
+    left.wrapping_add(right)
+}
+
+// Maps and folds so many counted items of a slice, of a vector and of an iterator.
+fn all_left<Rt: Threads + Wait + Abort + Sync, S: Strategy>(
+    rt: &Rt,
+    alloc: Global,
+    strategy: &S,
+    len: usize,
+    fails: usize,
+) {
+    let counts = Counts::new();
+    let of = (len, fails);
+    let borrowed = |item: &Counted<'_>| match another(item, fails) {
+        Ok(place) => Ok(Counted::new(&counts, place)),
+        Err(place) => Err(place),
+    };
+    let map = |item: Counted<'_>| match another(&item, fails) {
+        Ok(place) => Ok(Counted::new(&counts, place)),
+        Err(place) => Err(place),
+    };
+    let step = |count: usize, item: Counted<'_>| match another(&item, fails) {
+        Ok(_) => Ok(count.wrapping_add(1)),
+        Err(place) => Err(place),
+    };
+    let items = counted_items(alloc, &counts, len).expect(rt, "memory");
+    let mapped = strategy.try_map_collect_vec(rt, alloc, SITE, items.as_slice(), borrowed);
+    map_left(rt, &counts, of, mapped, len);
+    let mapped = strategy.try_map_collect_vec(rt, alloc, SITE, items, map);
+    map_left(rt, &counts, of, mapped, 0);
+    let items = counted_items(alloc, &counts, len).expect(rt, "memory");
+    let folded = strategy.try_fold(rt, alloc, SITE, items, || 0, step, add);
+    fold_left(rt, &counts, of, folded);
+    let items = (0..len).map(|place: usize| Counted::new(&counts, place));
+    let mapped = strategy.try_map_collect_vec(rt, alloc, SITE, items, map);
+    map_left(rt, &counts, of, mapped, 0);
+    let items = (0..len).map(|place: usize| Counted::new(&counts, place));
+    let folded = strategy.try_fold(rt, alloc, SITE, items, || 0, step, add);
+    fold_left(rt, &counts, of, folded);
+}
+
+#[test]
+fn each_item_and_each_answer_is_let_go_once(rt: HostRuntime) {
+    let alloc = rt.alloc();
+    for threads in [2usize, 3, 8] {
+        let strategy = pool(&rt, alloc, threads, threads);
+        for len in [0usize, 1, 2, 100] {
+            for fails in [0, len / 2, 99, 100] {
+                all_left(&rt, alloc, &strategy, len, fails);
+            }
+        }
+    }
+}
