@@ -1,9 +1,7 @@
 #!/usr/bin/env python3
 """Draws times.svg from times.log: what calls take, as a share of the plain loop's time, by the number of items.
 
-times.log has bench's own lines, each run's behind a line with its words, as this makes it in crates/bench:
-
-    for words in "map-light 1000 4" "fold-heavy 1000 4"; do echo "bench $words"; out/bench $words; done
+times.log has bench's own lines, each run's behind a line with its words, as `measure` makes it.
 """
 import math
 import re
@@ -21,8 +19,9 @@ def read():
     found, case, items = {}, "", 0
     for line in (HERE / "times.log").read_text(encoding="utf-8").splitlines():
         if line.startswith("bench "):
-            _, case, number, _ = line.split()
-            items = int(number)
+            # (those over a vector or an iterator have a word more, and aren't drawn)
+            _, case, number, _, *over = line.split()
+            case, items = "" if over else case, int(number)
         elif at := re.match(r"(.+): best .* us, median .* us, .* and ([0-9.]+) of the loop", line):
             found.setdefault((case, at[1]), []).append((items, float(at[2])))
     return found

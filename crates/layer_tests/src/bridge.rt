@@ -7,14 +7,18 @@ ghost use Rattle.std.specs.Iterator.{at_most};
 
 use crate::same::same;
 use parallel_bridge::bridge::bridge;
-use parallel_bridge::consumer::list_vec::ListVecConsumer;
+use parallel_bridge::consumer::collect::CollectConsumer;
+use parallel_bridge::consumer::list_vec::{ListVecConsumer, ListVecFolder};
+use parallel_bridge::consumer::map::MapConsumer;
+use parallel_bridge::consumer::map_init::MapInitConsumer;
 use parallel_bridge::consumer::try_fold::TryFoldFolder;
-use parallel_bridge::consumer::try_map::TryMapFolder;
 use parallel_bridge::consumer::try_reduce::TryReduceFolder;
 use parallel_bridge::consumer::while_some::{WhileSomeConsumer, WhileSomeFolder};
+use parallel_bridge::parts::ProducerParts;
 use parallel_bridge::plumbing::Folder;
 use parallel_bridge::producer::{Copies, DrainProducer, Indices, Producer};
 use parallel_bridge::source::Source;
+use parallel_bridge::splitter::LengthSplitter;
 use parallel_fault::Fault;
 use std::alloc::Global;
 use std::num::NonZeroUsize;
@@ -77,31 +81,61 @@ fn add_checked(sum: u32, item: u32) -> Result<u32, u32> {
     check(sum.wrapping_add(item))
 }
 
+// Twice a number.
+fn twice(item: u8) -> u8 {
+    item.wrapping_mul(2)
+}
+
+// The number and those before it in its segment, added up.
+fn so_far(sum: &mut u8, item: u8) -> u8 {
+    *sum = sum.wrapping_add(item);
+    *sum
+}
+
 #[test]
-fn a_folder_of_a_fallible_map_is_full_behind_an_error(rt: HostRuntime) {
+fn consumers_that_map_hand_on_to_another(rt: HostRuntime) {
     let alloc = rt.alloc();
-    let folder = TryMapFolder {
-        values: Vec::new(alloc),
-        failed: None,
-        map_op: &check,
+    let items = [1u8, 2, 3, 4, 5];
+    let threads = number(&rt, 2);
+    let doubling = MapConsumer {
+        base: CollectConsumer,
+        map_op: &twice,
     };
-    same(&rt, fullness(alloc, folder, 4, 5), Ok([false, false, true]));
+    let parts = ProducerParts { list: Copies { slice: &items } };
+    let doubled: Vec<u8> = bridge(&rt, alloc, threads, parts, doubling).expect(&rt, "memory");
+    same(&rt, doubled.as_slice(), [2, 4, 6, 8, 10].as_slice());
+
+    let adding = MapInitConsumer {
+        base: CollectConsumer,
+        init: &|| 0u8,
+        map_op: &so_far,
+    };
+    let parts = ProducerParts { list: Copies { slice: &items } };
+    let sums: Vec<u8> = bridge(&rt, alloc, number(&rt, 1), parts, adding).expect(&rt, "memory");
+    // (for one thread the list is halved once, and the state begins anew)
+    same(&rt, sums.as_slice(), [1, 3, 3, 7, 12].as_slice());
+}
+
+#[test]
+fn a_splitter_by_length_leaves_no_part_too_short(rt: HostRuntime) {
+    let mut splitter = LengthSplitter::new(number(&rt, 4), 3);
+    same(&rt, splitter.try_split(5), false);
+    same(&rt, splitter.try_split(6), true);
+    same(&rt, splitter.try_split(6), true);
+    same(&rt, splitter.inner.splits, 1);
+    same(&rt, splitter.try_split(6), true);
+    same(&rt, splitter.try_split(6), false);
 }
 
 #[test]
 fn a_folder_of_options_is_full_behind_none(rt: HostRuntime) {
     let alloc = rt.alloc();
-    let base = TryMapFolder {
-        values: Vec::new(alloc),
-        failed: None,
-        map_op: &check,
+    let base = ListVecFolder {
+        vec: Vec::new(alloc),
     };
     let folder = WhileSomeFolder { base, full: false };
-    same(
-        &rt,
-        fullness(alloc, folder, Some(4), None),
-        Ok([false, false, true]),
-    );
+    let full = fullness::<Option<u32>, _, u32, _>(alloc, folder, Some(4), None);
+    same(&rt, full, Ok([false, false, true]));
 }
 
 #[test]

@@ -9,6 +9,5 @@ pub mod map_init;
 pub mod partition;
 pub mod reduce;
 pub mod try_fold;
-pub mod try_map;
 pub mod try_reduce;
 pub mod while_some;

@@ -29,7 +29,6 @@ pub use consumer::map_init::MapInitConsumer;
 pub use consumer::partition::PartitionConsumer;
 pub use consumer::reduce::ReduceConsumer;
 pub use consumer::try_fold::TryFoldConsumer;
-pub use consumer::try_map::TryMapConsumer;
 pub use consumer::try_reduce::TryReduceConsumer;
 pub use consumer::while_some::WhileSomeConsumer;
 pub use drive::Task;

@@ -7,7 +7,7 @@ ghost use Rattle.parallel_bridge.specs.Sources.{MayCome};
 
 use crate::pairs::{PairDrain, Pairs};
 use crate::parts::{Parts, ProducerParts};
-use crate::producer::{DrainProducer, Producer};
+use crate::producer::{DrainProducer, Producer, SliceDrain};
 use crate::segment::Segment;
 use parallel_fault::Fault;
 use std::alloc::{AllocError, Global};
@@ -98,7 +98,7 @@ impl<T: Send + Drop> Source<ByVec> for Vec<T> {
 
     type Parts = DrainProducer<T>;
 
-    type Iter = std::vec::IntoIter<T>;
+    type Iter = SliceDrain<T>;
 
     ghost can = { λ _. Unit {0} };
 
@@ -106,8 +106,8 @@ impl<T: Send + Drop> Source<ByVec> for Vec<T> {
 
     ghost may = { λ source x. Contains source.items x };
 
-    fn into_items(self) -> std::vec::IntoIter<T> {
-        self.into_iter()
+    fn into_items(self) -> SliceDrain<T> {
+        DrainProducer::from_vec(self).drain()
     }
 
     fn into_parts(self, _alloc: Global) -> Result<DrainProducer<T>, Fault> {

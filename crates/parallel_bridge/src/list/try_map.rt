@@ -1,13 +1,14 @@
 //! Maps by closures that may fail.
-ghost use Rattle.std.specs.Prelude.{Err, IfOk, List, Ok};
+ghost use Rattle.std.specs.Prelude.{◌∷◌, [], Err, IfOk, List, Ok};
 ghost use Rattle.std.specs.Iterator.{Drains, HoldsAlong, IsFinite};
 ghost use Rattle.std.specs.List.{All};
-ghost use Rattle.parallel_bridge.specs.Outcomes.{UnlessRefused, listed};
+ghost use Rattle.parallel_fault.specs.Trouble.{IsMemoryOnErr};
+ghost use Rattle.parallel_bridge.specs.Onto.{TryMapBehind};
+ghost use Rattle.parallel_bridge.specs.Outcomes.{UnlessRefused, ended, listed};
 ghost use Rattle.parallel_bridge.specs.Sources.{GivesSome};
 ghost use Rattle.parallel_bridge.specs.Tries.{TryMapOf};
 
 use crate::bridge::depth_of;
-use crate::consumer::try_map::try_map_onward;
 use crate::fill::gated::fill_gated;
 use crate::fill::try_map::TryMapWriter;
 use crate::gate::watch::seats_for;
@@ -16,7 +17,7 @@ use crate::halt::unhalt;
 use crate::parts::Parts;
 use crate::path::Path;
 use crate::window::home::Home;
-use parallel_fault::Trouble;
+use parallel_fault::{Fault, Trouble};
 use std::alloc::Global;
 use std::num::NonZeroUsize;
 use std::thread::Threads;
@@ -116,4 +117,51 @@ pub fn try_map_by<
         Path::Serial => try_map_iter(alloc, parts.into_items(), map_op),
         Path::Parallel => try_map_parallel(rt, alloc, threads, parts, map_op),
     }
+}
+
+// Puts the values of the items that come behind those that are there, in order, up to the first
+// item that fails, whose error is put down. Behind an error, also one that was there, the items
+// are passed over and the closure isn't called.
+fn try_map_onward<I: Iterator, T: Drop, E: Drop, F: Fn(I::Item) -> Result<T, E>>(
+    values: &mut Vec<T>,
+    failed: &mut Option<E>,
+    iter: I,
+    map_op: &F,
+) -> Result<(), Fault>
+where
+    I::Item: Drop,
+    requires can { I.can_next iter }
+    requires ends { IsFinite (I.remaining iter) }
+    requires accepts { HoldsAlong I.next_gives iter (All (F.pre map_op.now)) }
+    ensures gives { IfOk result (λ _. GivesSome (Drains I.next_gives) iter
+        (λ xs. TryMapBehind (F.post map_op.now) (ended values.old.items failed.old) xs
+        (ended values.new.items failed.new))) }
+    ensures fault { IsMemoryOnErr result }
+{
+    for item in iter {
+        try_map_step(values, failed, item, map_op)?;
+    }
+    Ok(())
+}
+
+// The same for one item.
+fn try_map_step<X: Drop, T: Drop, E: Drop, F: Fn(X) -> Result<T, E>>(
+    values: &mut Vec<T>,
+    failed: &mut Option<E>,
+    item: X,
+    map_op: &F,
+) -> Result<(), Fault>
+    requires { F.pre map_op.now item }
+    ensures gives { IfOk result (λ _. TryMapBehind (F.post map_op.now)
+        (ended values.old.items failed.old) (item ∷ []) (ended values.new.items failed.new)) }
+    ensures fault { IsMemoryOnErr result }
+{
+    if failed.is_some() {
+        return Ok(());
+    }
+    match map_op(item) {
+        Ok(value) => values.push(value)?,
+        Err(error) => *failed = Some(error),
+    }
+    Ok(())
 }

@@ -1,15 +1,16 @@
 -- What comes are the vector's items, in order.
-use Rattle.std.proofs.Common.{refl, ◌∙◌}
-use Rattle.parallel_bridge.proofs.Chains.{vec_yields}
+use Rattle.std.proofs.Common.{◌∙◌}
+use Rattle.std.proofs.lemmas.Iterator.Consumers.{YieldsList-from_first}
+use Rattle.parallel_bridge.specs.Producers.{drain_rest}
 use Rattle.parallel_bridge.proofs.Coming.{came_as_it_is, stands_in}
 use Rattle.parallel_bridge.proofs.source.VecSourceByVec.into_items.Goals as goal
 
 pub returns-clause-gives : goal.returns-clause-gives
 returns-clause-gives g c xs drains = came_as_it_is xs drains
-    (vec_yields c.args.self.items c.into_iter.result c.into_iter.result refl
-    c.into_iter.ensures.rest (c.into_iter.ensures.len ∙ c.args.self.ok.0))
+    (YieldsList-from_first (λ x. x) drain_rest c.args.self.items
+    (c.drain.ensures ∙ c.from_vec.ensures))
 
 pub returns-clause-may : goal.returns-clause-may
 returns-clause-may g c =
-    stands_in (vec_yields c.args.self.items c.into_iter.result c.into_iter.result refl
-    c.into_iter.ensures.rest (c.into_iter.ensures.len ∙ c.args.self.ok.0))
+    stands_in (YieldsList-from_first (λ x. x) drain_rest c.args.self.items
+    (c.drain.ensures ∙ c.from_vec.ensures))

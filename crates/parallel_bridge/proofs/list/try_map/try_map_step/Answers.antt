@@ -1,7 +1,7 @@
 -- The item fails.
 use Rattle.std.proofs.Common.{rules, Result}
 use Rattle.parallel_bridge.proofs.Turns.{first_fails}
-use Rattle.parallel_bridge.proofs.consumer.try_map.try_map_step.Goals as goal
+use Rattle.parallel_bridge.proofs.list.try_map.try_map_step.Goals as goal
 
 pub returns-in-Err-clause-gives : goal.returns-in-Err-clause-gives
 returns-in-Err-clause-gives g c = first_fails

@@ -3,7 +3,7 @@ use Rattle.std.proofs.Common.{rules, ◌∷◌, []}
 use Rattle.parallel_bridge.specs.Outcomes.{ended}
 use Rattle.parallel_bridge.proofs.Chains.{next_has}
 use Rattle.parallel_bridge.proofs.Onward.{behind_append, behind_rests}
-use Rattle.parallel_bridge.proofs.consumer.try_map.try_map_onward.Goals as goal
+use Rattle.parallel_bridge.proofs.list.try_map.try_map_onward.Goals as goal
 
 pub loop-item-init : goal.loop-item-init
 loop-item-init g c = behind_rests (λ x o. goal.F-post g c.args.map_op.now x o)
