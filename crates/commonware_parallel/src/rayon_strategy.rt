@@ -4,6 +4,8 @@ ghost use Rattle.parallel_fault.specs.Trouble.{IsMemoryOnErr};
 ghost use Rattle.parallel_policy.specs.Keys.{key_of};
 ghost use Rattle.parallel_pool.specs.ThreadPool.{thread_count};
 
+mod machine;
+
 use crate::call::{Call, Kind, Pick};
 use crate::meter::{Measured, Sample, Told};
 use crate::strategy::Strategy;

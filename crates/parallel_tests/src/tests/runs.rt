@@ -1,9 +1,13 @@
 // Runs, and the numbers of a pool.
-use crate::tests::same::{answers, row, same};
+use crate::tests::same::{answers, lists, row, same};
 use crate::tests::strategies::{SITE, Stopped, number, pool};
 use commonware_parallel::rayon::ThreadPoolBuilder;
-use commonware_parallel::{Clock, MonotonicClock, Rayon, Sequential, Strategy};
+use commonware_parallel::{
+    Clock, Copies, Fault, MonotonicClock, Rayon, Runtime, Sequential, Strategy,
+};
 use known_answers::beyond::{planned_pool, run_parallel, run_serial};
+use std::alloc::Global;
+use std::thread::available_parallelism;
 use uses::long_lists::LongLists;
 use uses::runs::{count_set, one_of};
 
@@ -139,4 +143,26 @@ fn a_pool_may_read_the_monotonic_clock(rt: HostRuntime) {
         one_of(&rt, alloc, &strategy, SITE, 64, "serial", "parallel"),
         "parallel",
     );
+}
+
+#[test]
+fn a_pool_of_the_machines_size_is_planned_for_all_of_it(rt: HostRuntime) {
+    let alloc = rt.alloc();
+    let cores = available_parallelism(&rt).expect(&rt, "cores");
+    let strategy = Rayon::of_machine(&rt, alloc, number(&rt, 77)).expect(&rt, "memory");
+    same(&rt, strategy.thread_number(), cores);
+    same(&rt, strategy.planning(), cores);
+    lists(&rt, 1, doubled(&rt, alloc, &strategy, &[3u64, 1, 4]), &[6, 2, 8]);
+}
+
+// Twice each number, by whoever has the rights that a call asks for.
+fn doubled<Rt: Runtime, S: Strategy>(
+    rt: &Rt,
+    alloc: Global,
+    strategy: &S,
+    numbers: &[u64],
+) -> Result<Vec<u64>, Fault> {
+    strategy.map_collect_vec(rt, alloc, SITE, Copies { slice: numbers }, |number: u64| {
+        number.wrapping_mul(2)
+    })
 }
