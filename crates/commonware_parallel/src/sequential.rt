@@ -130,7 +130,8 @@ impl Sequential {
         requires can { I.can_next iter }
         requires ends { IsFinite (I.remaining iter) }
         requires identity_accepts { ID.IsAlwaysCallable identity }
-        requires fold_accepts { F.IsAlwaysCallable fold_op }
+        requires fold_accepts { HoldsAlong I.next_gives iter
+            (All (λ x. (value : R) → F.pre fold_op value x)) }
         ensures { GivesSome (Drains I.next_gives) iter
             (λ xs. FoldSegment (ID.post identity) (λ a x b. F.post fold_op a x b) xs result) }
     {
@@ -154,7 +155,8 @@ impl Sequential {
         requires ends { IsFinite (I.remaining iter) }
         requires init_accepts { N.IsAlwaysCallable init }
         requires identity_accepts { ID.IsAlwaysCallable identity }
-        requires fold_accepts { F.IsAlwaysCallable fold_op }
+        requires fold_accepts { HoldsAlong I.next_gives iter
+            (All (λ x. (value : R) (state : MutBor S) → F.pre fold_op value state x)) }
         ensures { GivesSome (Drains I.next_gives) iter
             (λ xs. FoldInitSegment (N.post init) (ID.post identity)
             (FoldStep (λ a p x b q. F.post fold_op a p x b q)) xs result) }
@@ -183,7 +185,8 @@ impl Sequential {
         requires can { I.can_next iter }
         requires ends { IsFinite (I.remaining iter) }
         requires identity_accepts { ID.IsAlwaysCallable identity }
-        requires fold_accepts { F.IsAlwaysCallable fold_op }
+        requires fold_accepts { HoldsAlong I.next_gives iter
+            (All (λ x. (value : R) → F.pre fold_op value x)) }
         ensures { GivesSome (Drains I.next_gives) iter
             (λ xs. TryFoldSegment (ID.post identity) (λ a x b. F.post fold_op a x b) xs result) }
     {

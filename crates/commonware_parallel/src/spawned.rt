@@ -86,7 +86,8 @@ impl<R, S: Drop, F: Job<S, T> + Drop, T: Drop> Spawned<R, S, F, T> {
         ensures not_here { is_ready_now self.old ≡ false → result ≡ None }
         ensures same { result ≡ None → stage_of self.new ≡ stage_of self.old }
     {
-        match mem::replace(&mut self.stage, Stage::Taken) {
+        let stage = mem::replace(&mut self.stage, Stage::Taken);
+        match stage {
             Stage::Ready(answer) => Some(answer),
             other => {
                 self.stage = other;
