@@ -6,7 +6,7 @@ use parallel_pool::rayon::{
     Environment, Execute, OwnedJob, Queue, Staff, ThreadPool, ThreadPoolBuilder, WorkerThread,
     Yield,
 };
-use std::alloc::Global;
+use std::alloc::{Alloc, Global};
 use std::collections::VecDeque;
 use std::fs;
 use std::num::NonZeroUsize;
@@ -425,7 +425,7 @@ fn a_pool_that_is_closed_has_called_each_job_to_its_end(rt: HostRuntime) {
 }
 
 // A job that raises a word by one where the thread that calls it has this name.
-fn raises_named<R: Files + Abort + Copy + Send + 'static>(
+fn raises_named<R: Files + Alloc + Abort + Copy + Send + 'static>(
     rt: R,
     alloc: Global,
     word: &Arc<AtomicU64>,
