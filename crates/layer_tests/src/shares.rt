@@ -425,7 +425,7 @@ fn a_run_goes_on_in_a_row_and_over_to_the_next(rt: HostRuntime) {
     let Some(mut seat) = seats.pop() else {
         panic!(rt; "no seat")
     };
-    let mut filled = 0_usize;
+    let mut filled = (0_usize, 0_usize);
     let results = shares
         .run(
             &rt,
@@ -433,24 +433,25 @@ fn a_run_goes_on_in_a_row_and_over_to_the_next(rt: HostRuntime) {
             &mut seat,
             5,
             &mut filled,
-            &|filled: &mut usize, _row: usize, columns: Range<usize>| {
-                *filled = filled.saturating_add(columns.end.saturating_sub(columns.start));
+            &|filled: &mut (usize, usize), _row: usize, columns: Range<usize>| {
+                let cells = columns.end.saturating_sub(columns.start);
+                *filled = (filled.0.saturating_add(cells), filled.1.saturating_add(1));
             },
-            &|filled: &mut usize, row: usize| {
-                let cells = *filled;
-                *filled = 0;
-                (row, cells)
+            &|filled: &mut (usize, usize), row: usize| {
+                let (cells, calls) = *filled;
+                *filled = (0, 0);
+                (row, cells, calls)
             },
         )
         .expect(&rt, "memory");
     same(
         &rt,
         results.as_slice(),
-        [(1, 2), (2, 5), (0, 1), (1, 3)].as_slice(),
+        [(1, 2, 1), (2, 5, 3), (0, 1, 1), (1, 3, 2)].as_slice(),
     );
     same(
         &rt,
         (filled, seat.own_empty(), seat.in_transit()),
-        (0, true, None),
+        ((0, 0), true, None),
     );
 }

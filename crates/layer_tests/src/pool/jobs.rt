@@ -1,6 +1,7 @@
 // Queues of numbered jobs: which job comes next, and a refused push.
 ghost use Rattle.std.specs.Prelude.{◌≡◌, ◌<◌, length, vec_len};
 
+use crate::pool::pools::becomes;
 use crate::same::{row, same};
 use parallel_pool::rayon::{JobDeque, JobQueues, JobSeat, OwnedJob, Queue, ThreadPool};
 use std::alloc::Global;
@@ -90,4 +91,21 @@ fn a_broadcast_answers_for_each_thread(rt: HostRuntime) {
         .broadcast(&rt, rt.alloc(), &|context| context.num_threads())
         .expect(&rt, "memory");
     same(&rt, counts.as_slice(), [4, 4, 4, 4].as_slice());
+}
+
+#[test]
+fn the_calls_of_a_broadcast_see_each_other(rt: HostRuntime) {
+    let pool = ThreadPool::new(NonZeroUsize::MIN.saturating_add(2));
+    let begun = AtomicU64::new(0);
+    let seen = pool
+        .broadcast(
+            &rt,
+            rt.alloc(),
+            &|_context| {
+                begun.fetch_add(1, Ordering::SeqCst);
+                becomes(&rt, &begun, 3)
+            },
+        )
+        .expect(&rt, "memory");
+    same(&rt, seen.as_slice(), [true, true, true].as_slice());
 }

@@ -3,10 +3,12 @@ ghost use Rattle.std.specs.Prelude.{◌≡◌, All};
 ghost use Rattle.parallel_pool.specs.Latch.{IsSeatOf};
 
 use crate::pool::latches::core_latch;
+use crate::pool::pools::becomes;
 use crate::pool::threads::give_all;
 use crate::same::{row, same};
 use crossbeam_utils::sync::Parker;
 use parallel_pool::latch::{CoreLatch, CountLatch, LatchSeat, LockLatch};
+use parallel_pool::rayon::ThreadPoolBuilder;
 use parallel_pool::sleep::Sleep;
 use std::num::NonZeroUsize;
 use std::sync::atomic::{AtomicU64, Ordering};
@@ -58,20 +60,21 @@ fn a_lock_latch_is_reset_and_wakes_who_sleeps(rt: HostRuntime) {
     latch.set(&rt);
     latch.wait_and_reset(&rt);
     let passed = Arc::new(rt.alloc(), AtomicU64::new(0)).expect(&rt, "memory");
-    let (theirs, flag) = (
-        Arc::try_clone(&latch).expect(&rt, "memory"),
-        Arc::try_clone(&passed).expect(&rt, "memory"),
-    );
-    let waiter = thread::spawn(&rt, move || {
-        theirs.wait(&rt);
-        flag.store(1, Ordering::SeqCst);
-    })
-    .expect(&rt, "memory");
+    for _ in 0..2 {
+        let (theirs, count) = (
+            Arc::try_clone(&latch).expect(&rt, "memory"),
+            Arc::try_clone(&passed).expect(&rt, "memory"),
+        );
+        thread::spawn(&rt, move || {
+            theirs.wait(&rt);
+            count.fetch_add(1, Ordering::SeqCst);
+        })
+        .expect(&rt, "memory");
+    }
     let_it_sleep(&rt);
     row(&rt, "the latch was reset", passed.load(Ordering::SeqCst), 0);
     latch.set(&rt);
-    assert!(rt; is_raised(&rt, &passed));
-    waiter.join(&rt);
+    assert!(rt; becomes(&rt, &passed, 2), "both waiters are woken");
 }
 
 // An idle worker for which a job is always there, until it has tried to sleep. It answers whether
@@ -109,4 +112,62 @@ fn a_worker_asks_for_jobs_before_it_sleeps(rt: HostRuntime) {
     .expect(&rt, "memory");
     assert!(rt; is_raised(&rt, &awake));
     worker.join(&rt);
+}
+
+// An idle worker to which a job comes once it has announced itself. It answers whether it goes back
+// to announce itself again, and does so.
+fn idle_before_a_job<R: Wait>(
+    rt: &R,
+    sleep: &Sleep,
+    parker: &Parker,
+    latch: &CoreLatch,
+    mut seat: LatchSeat,
+) -> bool
+    requires { IsSeatOf latch.now seat }
+{
+    let Some(mut idle) = sleep.start_looking(rt, 0) else {
+        return false;
+    };
+    for _ in 0..33 {
+        sleep.no_work_found(rt, &mut idle, parker, latch, &mut seat, || false);
+    }
+    sleep.new_internal_jobs(rt, 1, true);
+    sleep.no_work_found(rt, &mut idle, parker, latch, &mut seat, || false);
+    let is_back = idle.rounds() == 32 && sleep.counters(rt).events() == 1;
+    sleep.no_work_found(rt, &mut idle, parker, latch, &mut seat, || false);
+    is_back && idle.recorded() == Some(2) && sleep.counters(rt).events() == 2
+}
+
+#[test]
+fn a_job_behind_its_announcement_keeps_a_worker_awake(rt: HostRuntime) {
+    let awake = Arc::new(rt.alloc(), AtomicU64::new(0)).expect(&rt, "memory");
+    let flag = Arc::try_clone(&awake).expect(&rt, "memory");
+    let (sleep, mut parkers) = Sleep::new(rt.alloc(), NonZeroUsize::MIN).expect(&rt, "memory");
+    let parker = parkers.pop().expect(&rt, "a parker");
+    let (latch, seat) = core_latch(&rt, rt.alloc());
+    let worker = thread::spawn(&rt, move || {
+        if idle_before_a_job(&rt, &sleep, &parker, &latch, seat) {
+            flag.store(1, Ordering::SeqCst);
+        }
+    })
+    .expect(&rt, "memory");
+    assert!(rt; is_raised(&rt, &awake));
+    worker.join(&rt);
+}
+
+#[test]
+fn a_pool_without_jobs_is_closed(rt: HostRuntime) {
+    let passed = Arc::new(rt.alloc(), AtomicU64::new(0)).expect(&rt, "memory");
+    let flag = Arc::try_clone(&passed).expect(&rt, "memory");
+    let (pool, _none) = ThreadPoolBuilder::new()
+        .num_threads(2)
+        .build(&rt, rt.alloc())
+        .expect(&rt, "a pool");
+    let closer = thread::spawn(&rt, move || {
+        pool.close(&rt);
+        flag.store(1, Ordering::SeqCst);
+    })
+    .expect(&rt, "memory");
+    assert!(rt; is_raised(&rt, &passed));
+    closer.join(&rt);
 }

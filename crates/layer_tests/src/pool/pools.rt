@@ -1,15 +1,17 @@
 // Pools that were built: their workers, the jobs that come to them, and their end.
 ghost use Rattle.std.specs.Prelude.{◌≡◌};
 
-use crate::same::{prints, same};
+use crate::same::{prints, row, same};
 use parallel_pool::rayon::{
     Environment, Execute, OwnedJob, Queue, Staff, ThreadPool, ThreadPoolBuilder, WorkerThread,
     Yield,
 };
-use std::alloc::Global;
+use std::alloc::{Alloc, Global};
 use std::collections::VecDeque;
+use std::fs;
 use std::num::NonZeroUsize;
 use std::process::Abort;
+use std::rt::Files;
 use std::sync::atomic::{AtomicU64, Ordering};
 use std::sync::{Arc, Wait};
 use std::thread::{self, Threads};
@@ -210,6 +212,16 @@ fn a_pool_of_unstarted_workers_installs_and_broadcasts(rt: HostRuntime) {
         .broadcast(&rt, rt.alloc(), &|context| context.index())
         .expect(&rt, "memory");
     same(&rt, answers.as_slice(), [0, 1].as_slice());
+    let called = word(&rt, rt.alloc());
+    let job = raises(&rt, rt.alloc(), &called);
+    assert!(rt; pool.spawn(&rt, job).is_ok());
+    thread::sleep(&rt, Duration::from_millis(30));
+    row(
+        &rt,
+        "no worker was started",
+        called.load(Ordering::SeqCst),
+        0,
+    );
 }
 
 #[test]
@@ -232,7 +244,37 @@ fn the_environment_says_the_number_that_is_not_set(rt: HostRuntime) {
     same(&rt, pool.current_num_threads(), 3);
 }
 
-// A pool whose workers raise a word as they start, and another once when all have ended.
+// What the worker of an index adds to a word as it starts: a byte of its own, of the first four.
+fn byte_of(index: usize) -> u64 {
+    match index {
+        0 => 1,
+        1 => 256,
+        2 => 65_536,
+        3 => 16_777_216,
+        _ => 4_294_967_296,
+    }
+}
+
+// A job that raises a word by one where its worker has started, by what that added to another.
+fn raises_behind(
+    rt: &impl Abort,
+    alloc: Global,
+    word: &Arc<AtomicU64>,
+    started: &Arc<AtomicU64>,
+) -> OwnedJob {
+    let theirs = Arc::try_clone(word).expect(rt, "a handle");
+    let begun = Arc::try_clone(started).expect(rt, "a handle");
+    let body = Box::new(alloc, move |index: usize| {
+        let bytes = begun.load(Ordering::SeqCst).checked_div(byte_of(index));
+        if matches!(bytes, Some(bytes) if bytes % 256 == 1) {
+            theirs.fetch_add(1, Ordering::SeqCst);
+        }
+    });
+    OwnedJob::new(body.expect(rt, "memory"))
+}
+
+// A pool whose workers add their bytes to a word as they start, and raise another once all have
+// ended.
 fn with_bell<R: Threads + Wait + Abort + Copy + Send + 'static>(
     rt: &R,
     alloc: Global,
@@ -244,9 +286,9 @@ fn with_bell<R: Threads + Wait + Abort + Copy + Send + 'static>(
         word: Arc::try_clone(ended).expect(rt, "a handle"),
     };
     let begun = Arc::try_clone(started).expect(rt, "a handle");
-    let handler = Box::new(alloc, move |_: usize| {
+    let handler = Box::new(alloc, move |index: usize| {
         bell.is_there();
-        begun.fetch_add(1, Ordering::SeqCst);
+        begun.fetch_add(byte_of(index), Ordering::SeqCst);
     });
     let builder = ThreadPoolBuilder::new()
         .num_threads(num_threads)
@@ -261,13 +303,13 @@ fn a_thousand_jobs_are_called_once_each_and_the_workers_end(rt: HostRuntime) {
     let called = word(&rt, rt.alloc());
     let pool = with_bell(&rt, rt.alloc(), 4, &started, &ended);
     for _ in 0..1000 {
-        let job = raises(&rt, rt.alloc(), &called);
+        let job = raises_behind(&rt, rt.alloc(), &called, &started);
         assert!(rt; pool.spawn(&rt, job).is_ok());
     }
     drop(pool);
     assert!(rt; becomes(&rt, &ended, 1), "each worker has ended");
     same(&rt, called.load(Ordering::SeqCst), 1000);
-    same(&rt, started.load(Ordering::SeqCst), 4);
+    same(&rt, started.load(Ordering::SeqCst), 16_843_009);
 }
 
 #[test]
@@ -324,9 +366,9 @@ fn each_worker_calls_the_job_that_was_broadcast_to_it(rt: HostRuntime) {
 
 // A job of a type of its own, which raises a word by so much.
 #[derive(Drop)]
-struct Raise {
-    word: Arc<AtomicU64>,
-    by: u64,
+pub(crate) struct Raise {
+    pub(crate) word: Arc<AtomicU64>,
+    pub(crate) by: u64,
 }
 
 impl Execute for Raise {
@@ -380,4 +422,41 @@ fn a_pool_that_is_closed_has_called_each_job_to_its_end(rt: HostRuntime) {
     }
     pool.close(&rt);
     same(&rt, called.load(Ordering::SeqCst), 4);
+}
+
+// A job that raises a word by one where the thread that calls it has this name.
+fn raises_named<R: Files + Alloc + Abort + Copy + Send + 'static>(
+    rt: R,
+    alloc: Global,
+    word: &Arc<AtomicU64>,
+    wanted: &'static str,
+) -> OwnedJob {
+    let theirs = Arc::try_clone(word).expect(&rt, "a handle");
+    let body = Box::new(alloc, move |_: usize| {
+        let name = fs::read_to_string(&rt, "/proc/thread-self/comm");
+        if matches!(name, Ok(name) if name.as_str() == wanted) {
+            theirs.fetch_add(1, Ordering::SeqCst);
+        }
+    });
+    OwnedJob::new(body.expect(&rt, "memory"))
+}
+
+#[test]
+fn a_workers_thread_has_its_name(rt: HostRuntime) {
+    let alloc = rt.alloc();
+    let right = word(&rt, alloc);
+    let names = Box::new(alloc, move |index: usize| {
+        String::from_str(alloc, if index == 0 { "first" } else { "second" })
+    });
+    let builder = ThreadPoolBuilder::new().num_threads(2);
+    let builder = builder.thread_name(names.expect(&rt, "memory"));
+    let (pool, _none) = builder.build(&rt, alloc).expect(&rt, "a pool");
+    let mut jobs = VecDeque::new(alloc);
+    for wanted in ["first\n", "second\n"] {
+        let job = raises_named(rt, alloc, &right, wanted);
+        jobs.push_back(job).expect(&rt, "memory");
+    }
+    assert!(rt; jobs.len() == pool.current_num_threads());
+    assert!(rt; pool.spawn_broadcast(&rt, jobs).is_ok());
+    assert!(rt; becomes(&rt, &right, 2));
 }

@@ -1,13 +1,15 @@
 // Builds and jobs that are refused: what is refused comes back, and no worker is left running.
 //
-// The four tests that take all memory first are refused wherever they are run, but where allocations
-// are checked (`no_memory`): there they end. The others are to be run with each allocation failing
-// in turn, and with each start of a thread failing in turn. A test whose own boxes are refused has
-// nothing to ask, and ends.
+// The three tests that take all memory first are refused wherever they are run, but where
+// allocations are checked (`no_memory`): there they end. The one that takes all places for a thread's
+// stack is refused there too. The others are to be run with each allocation failing in turn, and with
+// each start of a thread failing in turn: of the many jobs with the 1000th failing, which is of a
+// push to the injected jobs, and the 3000th, of a push for a worker. A test whose own boxes are
+// refused has nothing to ask, and ends.
 ghost use Rattle.std.specs.Prelude.{◌≡◌};
 
-use crate::pool::no_memory::all_memory;
-use crate::pool::pools::{Bell, becomes, word};
+use crate::pool::no_memory::{all_memory, all_places};
+use crate::pool::pools::{Bell, Raise, becomes, word};
 use crate::pool::seats::{push_by, workers};
 use crate::same::{row, same};
 use parallel_fault::Fault;
@@ -122,8 +124,8 @@ fn a_build_works_or_leaves_no_worker(rt: HostRuntime) {
     }
 }
 
-// What a machine without memory leaves free: room for so many stacks of the size below, each in a
-// place of its own, between places that stay taken.
+// What is left free of a machine without places: room for so many stacks of the size below, each in
+// a place of its own, between places that stay taken.
 fn places(alloc: Global, count: usize) -> Option<(Vec<Vec<u8>>, Vec<Vec<u8>>)> {
     let mut stacks = Vec::with_capacity(alloc, count).ok()?;
     let mut between = Vec::with_capacity(alloc, count).ok()?;
@@ -135,9 +137,12 @@ fn places(alloc: Global, count: usize) -> Option<(Vec<Vec<u8>>, Vec<Vec<u8>>)> {
 }
 
 // A stack fits in a place, and two of them don't. Neither is kept once it is given back.
-const STACK: usize = 41 << 20;
+const STACK: usize = 400 << 20;
 
-const PLACE: usize = 49 << 20;
+const PLACE: usize = 450 << 20;
+
+// What else a thread asks for fits here, and no stack does.
+const NO_PLACE: usize = 300 << 20;
 
 // So many builders of four workers, which raise a word as they start, and another once all workers
 // of a builder have ended.
@@ -161,10 +166,8 @@ fn a_build_that_is_refused_behind_its_first_threads_ends_them(rt: HostRuntime) {
     let (ended, begun) = (word(&rt, alloc), word(&rt, alloc));
     let builders = builders(alloc, 5, &begun, &ended).expect(&rt, "memory");
     let (mut stacks, _between) = places(alloc, 4).expect(&rt, "memory");
-    let room = Vec::<u8>::with_capacity(alloc, 100_000).expect(&rt, "memory");
-    let Some(held) = all_memory(alloc) else {
-        return;
-    };
+    let room = Vec::<u8>::with_capacity(alloc, NO_PLACE).expect(&rt, "memory");
+    let held = all_places(alloc).expect(&rt, "places that have an end");
     drop(room);
     let (mut wanted, mut threads) = (0u64, 0u64);
     for builder in builders {
@@ -300,6 +303,54 @@ fn a_refused_job_comes_back_and_runs_when_called(rt: HostRuntime) {
         "a job that was refused isn't waited for"
     );
     same(&rt, called.load(Ordering::SeqCst), 101);
+}
+
+// So many jobs are pushed to each queue.
+const MANY: u32 = 60_000;
+
+// Pushes many jobs to a queue, each of which raises a word by one, and answers how many came.
+fn many_come(
+    rt: &(impl Wait + Abort),
+    worker: &mut WorkerThread<Raise>,
+    queue: Queue,
+    called: &Arc<AtomicU64>,
+) -> u64 {
+    let mut came = 0u64;
+    for _ in 0..MANY {
+        let word = Arc::try_clone(called).expect(rt, "a handle");
+        if push_by(rt, worker, queue, Raise { word, by: 1 }) {
+            came = came.wrapping_add(1);
+        }
+    }
+    came
+}
+
+#[test]
+fn many_jobs_are_called_but_those_that_are_refused(rt: HostRuntime) {
+    let alloc = rt.alloc();
+    let (Ok(ended), Ok(called)) = (
+        Arc::new(alloc, AtomicU64::new(0)),
+        Arc::new(alloc, AtomicU64::new(0)),
+    ) else {
+        return;
+    };
+    let Some(builder) = with_end(alloc, &ended) else {
+        return;
+    };
+    let builder = builder.num_threads(2).use_current_thread();
+    let Ok((pool, Some(mut worker))) = builder.build_for::<HostRuntime, Raise>(&rt, alloc) else {
+        return;
+    };
+    let injected = many_come(&rt, &mut worker, Queue::Injected, &called);
+    let broadcast = many_come(&rt, &mut worker, Queue::Broadcast(1), &called);
+    drop(pool);
+    assert!(rt;
+        becomes(&rt, &ended, 1),
+        "a job that was refused isn't waited for"
+    );
+    let came = injected.wrapping_add(broadcast);
+    same(&rt, called.load(Ordering::SeqCst), came);
+    let _told = eprintln!(rt; "of {MANY} jobs to each queue {injected} and {broadcast} came");
 }
 
 // What the first so many of the four broadcast jobs add, each called once.

@@ -33,11 +33,11 @@ pub(crate) fn workers<R: Threads + Wait + Abort + Copy + Send + 'static>(
 }
 
 // Pushes a job by a worker's seat to one of the queues for that, and answers whether it came.
-pub(crate) fn push_by(
+pub(crate) fn push_by<T: Drop>(
     rt: &impl Wait,
-    worker: &mut WorkerThread,
+    worker: &mut WorkerThread<T>,
     queue: Queue,
-    job: OwnedJob,
+    job: T,
 ) -> bool {
     let seat = worker.jobs();
     match queue {
@@ -153,4 +153,21 @@ fn a_job_that_a_seat_brings_wakes_a_worker(rt: HostRuntime) {
     pool.yield_now(&rt, &mut worker);
     pool.close(&rt);
     same(&rt, called.load(Ordering::SeqCst), 4);
+}
+
+#[test]
+fn a_job_of_a_workers_own_wakes_another_and_is_counted(rt: HostRuntime) {
+    let called = word(&rt, rt.alloc());
+    let (pool, mut worker, ended) = workers(&rt, rt.alloc(), 2);
+    for spawned in 1..4u64 {
+        thread::sleep(&rt, Duration::from_millis(30));
+        let job = raises(&rt, rt.alloc(), &called);
+        assert!(rt; pool.spawn_from(&rt, &mut worker, job).is_ok());
+        assert!(rt;
+            becomes(&rt, &called, spawned),
+            "the sleeper takes it from the other's deque"
+        );
+    }
+    drop(pool);
+    assert!(rt; becomes(&rt, &ended, 1), "the other worker has ended");
 }

@@ -13,6 +13,7 @@ use std::num::NonZeroUsize;
 use std::sync::Wait;
 use std::sync::atomic::{AtomicU64, Ordering};
 use std::thread::join;
+use std::time::{Clock, Duration};
 
 #[test]
 fn a_lock_latch_ends_a_wait(rt: HostRuntime) {
@@ -78,13 +79,13 @@ fn idle_until_woken<R: Wait>(
     false
 }
 
-// Waits until a worker sleeps.
-fn await_sleeper<R: Wait>(rt: &R, sleep: &Sleep) {
-    for _ in rt.forever() {
+// Waits until a worker sleeps, for ten seconds at most.
+fn await_sleeper(rt: &(impl Wait + Clock), sleep: &Sleep) {
+    for _ in 0..10_000 {
         if sleep.counters(rt).sleeping() == 1 {
             break;
         }
-        std::thread::yield_now();
+        std::thread::sleep(rt, Duration::from_millis(1));
     }
 }
 
