@@ -1,5 +1,5 @@
 -- the ranges that a batch is run over
-use Rattle.std.specs.Prelude.{◌≡◌, ◌≤◌, ◌<◌, Bool, List, ℕ, length, All}
+use Rattle.std.specs.Prelude.{◌≡◌, ◌≤◌, ◌<◌, Bool, List, [], ◌∷◌, ℕ, length, All}
 use Rattle.std.specs.declared.ops.Range.{Range}
 use Rattle.parallel_fault.specs.declared.fault.Fault.{Fault}
 use Rattle.parallel_policy.specs.declared.Site.{Site}
@@ -26,6 +26,12 @@ strategy_of batches = batches.strategy.now
 
 abbrev pub place_of : {S P : Type 0} → Batches S P → P
 place_of batches = batches.site
+
+-- the batch of one range that has all indices below len, through the strategy and with the place
+abbrev pub IsWholeBatch : {S P : Type 0} → S → P → ℕ → Batches S P → Type 0
+IsWholeBatch strategy place len batches =
+    (ranges_of batches ≡ record { start = 0; end = len } ∷ [])
+    × (strategy_of batches ≡ strategy) × (place_of batches ≡ place)
 
 -- allowed holds of some batch: of as many ranges as the strategy may take for the call, over its
 -- inner strategy and with the call's place

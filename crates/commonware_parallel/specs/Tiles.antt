@@ -45,3 +45,8 @@ pub record IsTiling {S P : Type 0} (grids : List Grid) (len workers : ℕ)
 abbrev pub IsSerialCost : List Grid → ℕ → ℕ → Type 0
 IsSerialCost grids len cost = (index : ℕ) × IsChosenGrid grids len 1 index
     × HoldsAt (λ grid. cost ≡ critical_cost grid len 1) grids index
+
+-- tiles of the grid of least cost for one worker, through the strategy and with the place
+abbrev pub IsSerialTiling : {S P : Type 0} → S → P → List Grid → ℕ → Tiles S P → Type 0
+IsSerialTiling strategy place grids len tiles = IsTiling grids len 1 tiles
+    × (tiles_strategy tiles ≡ strategy) × (tiles_place tiles ≡ place)

@@ -7,15 +7,14 @@
 ghost use Rattle.std.specs.Prelude.{◌≡◌, ◌<◌, List, IfOk, IfErr, length};
 ghost use Rattle.std.specs.Borrow.{MutBor};
 ghost use Rattle.std.specs.Int.NonZero.{non_zero_usize_get};
-ghost use Rattle.std.specs.Iterator.{Drains, IsFinite};
 ghost use Rattle.parallel_bridge.specs.Lists.{MapOf};
 ghost use Rattle.parallel_bridge.specs.Outcomes.{UnlessRefused, listed};
 ghost use Rattle.parallel_bridge.specs.Parts.{PartitionOf};
 ghost use Rattle.parallel_bridge.specs.Shapes.{cutdepth};
 ghost use Rattle.parallel_bridge.specs.Sources.{GivesSome};
-ghost use Rattle.parallel_bridge.specs.States.{FoldStep, MapStep};
-ghost use Rattle.parallel_bridge.specs.Tries.{TryFoldSegment, TryMapOf};
-ghost use Rattle.parallel_bridge.specs.Ways.{FoldedAs, FoldedInitAs, MappedInitAs, TryFoldedAs};
+ghost use Rattle.parallel_bridge.specs.States.{MapStep};
+ghost use Rattle.parallel_bridge.specs.Tries.{TryMapOf};
+ghost use Rattle.parallel_bridge.specs.Ways.{MappedInitAs};
 ghost use Rattle.parallel_fault.specs.Trouble.{IsMemoryOnErr};
 ghost use Rattle.parallel_fault.specs.declared.fault.Fault.{Fault};
 ghost use Rattle.parallel_fault.specs.declared.fault.Fault.TheVariants.{Memory};
@@ -26,15 +25,15 @@ ghost use Rattle.commonware_parallel.specs.declared.call.Kind.TheVariants.{Body}
 ghost use Rattle.commonware_parallel.specs.declared.call.Pick.TheVariants.{By};
 ghost use Rattle.parallel_bridge.specs.declared.path.Path.{Path};
 
+mod folds;
+
 use crate::call::Call;
 use crate::dispatch::dispatch_path;
 use crate::strategy::Strategy;
-use parallel_bridge::list::fold::fold_by;
-use parallel_bridge::list::fold_init::fold_init_by;
+pub use folds::{fold_init_through, fold_through, try_fold_as_it_comes, try_fold_through};
 use parallel_bridge::list::map::map_by;
 use parallel_bridge::list::map_init::map_init_by;
 use parallel_bridge::list::partition::partition_by;
-use parallel_bridge::list::try_fold::{try_fold_by, try_fold_iter};
 use parallel_bridge::list::try_map::try_map_by;
 use parallel_bridge::{Parts, Path};
 use parallel_fault::{Fault, Trouble};
@@ -268,187 +267,9 @@ pub fn map_init_through<
     Ok(answers)
 }
 
-/// A fold.
-pub fn fold_through<
-    S: Strategy,
-    Rt: Threads + Wait + Sync,
-    P: Place,
-    Q: Parts,
-    R: Send + Drop,
-    ID: Fn() -> R + Send + Sync,
-    F: Fn(R, Q::Item) -> R + Send + Sync,
-    G: Fn(R, R) -> R + Send + Sync,
->(
-    strategy: &S,
-    rt: &Rt,
-    alloc: Global,
-    site: P,
-    call: Call,
-    parts: Q,
-    identity: &ID,
-    fold_op: &F,
-    reduce_op: &G,
-) -> Result<R, Fault>
-    requires parts { 0 < call.parts }
-    requires kind { call.kind ≡ Body }
-    requires identity_accepts { ID.IsAlwaysCallable identity.now }
-    requires fold_accepts { F.IsAlwaysCallable fold_op.now }
-    requires reduce_accepts { G.IsAlwaysCallable reduce_op.now }
-    ensures answers { IfOk result (λ r. GivesSome Q.gives parts
-        (λ xs. AtSomePath (S.takes strategy.now (P.site_of site) call)
-        (λ path. FoldedAs (ID.post identity.now) (λ a x b. F.post fold_op.now a x b)
-        (λ a b c. G.post reduce_op.now a b c) (cutdepth (S.threads strategy.now)) path xs r))) }
-    ensures fault { IsMemoryOnErr result }
-{
-    let threads = strategy.thread_number();
-    let body = move |path: Path| -> Result<R, Fault>
-        requires { ID.IsAlwaysCallable identity.now × F.IsAlwaysCallable fold_op.now
-            × G.IsAlwaysCallable reduce_op.now }
-        ensures folds { IfOk result (λ r. GivesSome Q.gives parts (λ xs. FoldedAs
-            (ID.post identity.entry.now) (λ a x b. F.post fold_op.entry.now a x b)
-            (λ a b c. G.post reduce_op.entry.now a b c)
-            (cutdepth (non_zero_usize_get threads)) path xs r)) }
-        ensures fault { IsMemoryOnErr result }
-    {
-        fold_by(
-            rt, alloc, threads, path, parts, identity, fold_op, reduce_op,
-        )
-    };
-    let answer = dispatch_call(strategy, rt, alloc, site, call, body)?;
-    Ok(answer)
-}
-
-/// A fold with a state at hand.
-pub fn fold_init_through<
-    S: Strategy,
-    Rt: Threads + Wait + Sync,
-    P: Place,
-    Q: Parts,
-    V: Send + Drop,
-    R: Send + Drop,
-    N: Fn() -> V + Send + Sync,
-    ID: Fn() -> R + Send + Sync,
-    F: Fn(R, &mut V, Q::Item) -> R + Send + Sync,
-    G: Fn(R, R) -> R + Send + Sync,
->(
-    strategy: &S,
-    rt: &Rt,
-    alloc: Global,
-    site: P,
-    call: Call,
-    parts: Q,
-    init: &N,
-    identity: &ID,
-    fold_op: &F,
-    reduce_op: &G,
-) -> Result<R, Fault>
-    requires parts { 0 < call.parts }
-    requires kind { call.kind ≡ Body }
-    requires init_accepts { N.IsAlwaysCallable init.now }
-    requires identity_accepts { ID.IsAlwaysCallable identity.now }
-    requires fold_accepts { F.IsAlwaysCallable fold_op.now }
-    requires reduce_accepts { G.IsAlwaysCallable reduce_op.now }
-    ensures answers { IfOk result (λ r. GivesSome Q.gives parts
-        (λ xs. AtSomePath (S.takes strategy.now (P.site_of site) call)
-        (λ path. FoldedInitAs (N.post init.now) (ID.post identity.now)
-        (FoldStep (λ a p x b q. F.post fold_op.now a p x b q))
-        (λ a b c. G.post reduce_op.now a b c) (cutdepth (S.threads strategy.now)) path xs r))) }
-    ensures fault { IsMemoryOnErr result }
-{
-    let threads = strategy.thread_number();
-    let body = move |path: Path| -> Result<R, Fault>
-        requires { N.IsAlwaysCallable init.now × ID.IsAlwaysCallable identity.now
-            × F.IsAlwaysCallable fold_op.now × G.IsAlwaysCallable reduce_op.now }
-        ensures folds { IfOk result (λ r. GivesSome Q.gives parts (λ xs. FoldedInitAs
-            (N.post init.entry.now) (ID.post identity.entry.now)
-            (FoldStep (λ a p x b q. F.post fold_op.entry.now a p x b q))
-            (λ a b c. G.post reduce_op.entry.now a b c)
-            (cutdepth (non_zero_usize_get threads)) path xs r)) }
-        ensures fault { IsMemoryOnErr result }
-    {
-        fold_init_by(
-            rt, alloc, threads, path, parts, init, identity, fold_op, reduce_op,
-        )
-    };
-    let answer = dispatch_call(strategy, rt, alloc, site, call, body)?;
-    Ok(answer)
-}
-
-/// A fold by steps that may fail.
-pub fn try_fold_through<
-    S: Strategy,
-    Rt: Threads + Wait + Sync,
-    P: Place,
-    Q: Parts,
-    R: Send + Drop,
-    E: Send + Drop,
-    ID: Fn() -> R + Send + Sync,
-    F: Fn(R, Q::Item) -> Result<R, E> + Send + Sync,
-    G: Fn(R, R) -> R + Send + Sync,
->(
-    strategy: &S,
-    rt: &Rt,
-    alloc: Global,
-    site: P,
-    call: Call,
-    parts: Q,
-    identity: &ID,
-    fold_op: &F,
-    reduce_op: &G,
-) -> Result<R, Trouble<E>>
-    requires parts { 0 < call.parts }
-    requires kind { call.kind ≡ Body }
-    requires identity_accepts { ID.IsAlwaysCallable identity.now }
-    requires fold_accepts { F.IsAlwaysCallable fold_op.now }
-    requires reduce_accepts { G.IsAlwaysCallable reduce_op.now }
-    ensures answers { UnlessRefused result (λ out. GivesSome Q.gives parts
-        (λ xs. AtSomePath (S.takes strategy.now (P.site_of site) call)
-        (λ path. TryFoldedAs (ID.post identity.now) (λ a x o. F.post fold_op.now a x o)
-        (λ a b c. G.post reduce_op.now a b c) (cutdepth (S.threads strategy.now))
-        path xs out))) }
-{
-    let threads = strategy.thread_number();
-    let body = move |path: Path| -> Result<R, Trouble<E>>
-        requires { ID.IsAlwaysCallable identity.now × F.IsAlwaysCallable fold_op.now
-            × G.IsAlwaysCallable reduce_op.now }
-        ensures { UnlessRefused result (λ out. GivesSome Q.gives parts (λ xs. TryFoldedAs
-            (ID.post identity.entry.now) (λ a x o. F.post fold_op.entry.now a x o)
-            (λ a b c. G.post reduce_op.entry.now a b c)
-            (cutdepth (non_zero_usize_get threads)) path xs out)) }
-    {
-        try_fold_here(
-            rt, alloc, threads, path, parts, identity, fold_op, reduce_op,
-        )
-    };
-    dispatch_fallible(strategy, rt, alloc, site, call, body)
-}
-
-/// A fold by steps that may fail over the items that an iterator gives, as they come.
-pub fn try_fold_as_it_comes<
-    I: Iterator,
-    R: Drop,
-    E: Drop,
-    ID: Fn() -> R,
-    F: Fn(R, I::Item) -> Result<R, E>,
->(iter: I, identity: &ID, fold_op: &F) -> Result<R, Trouble<E>>
-where
-    I::Item: Drop,
-    requires can { I.can_next iter }
-    requires ends { IsFinite (I.remaining iter) }
-    requires identity_accepts { ID.IsAlwaysCallable identity.now }
-    requires fold_accepts { F.IsAlwaysCallable fold_op.now }
-    ensures { UnlessRefused result (λ out. GivesSome (Drains I.next_gives) iter
-        (λ xs. TryFoldSegment (ID.post identity.now) (λ a x o. F.post fold_op.now a x o) xs out)) }
-{
-    match try_fold_iter(iter, identity, fold_op) {
-        Ok(value) => Ok(value),
-        Err(error) => Err(Trouble::Closure(error)),
-    }
-}
-
-// The next three are calls of another crate's functions, written as functions of this one: from a
-// closure the checker refuses the call itself where the answer of `map_op` or `fold_op` is made of
-// several types ("it passes code that rattle makes, as for the drop of a value, which has no
+// The next two are calls of another crate's functions, written as functions of this one: from a
+// closure the checker refuses the call itself where the answer of `map_op` is made of several
+// types ("it passes code that rattle makes, as for the drop of a value, which has no
 // theorem yet").
 fn try_map_here<
     Rt: Threads + Sync,
@@ -491,35 +312,4 @@ fn partition_here<
     ensures fault { IsMemoryOnErr result }
 {
     partition_by(rt, alloc, threads, path, parts, map_op)
-}
-
-fn try_fold_here<
-    Rt: Threads + Sync,
-    P: Parts,
-    R: Send + Drop,
-    E: Send + Drop,
-    ID: Fn() -> R + Send + Sync,
-    F: Fn(R, P::Item) -> Result<R, E> + Send + Sync,
-    G: Fn(R, R) -> R + Send + Sync,
->(
-    rt: &Rt,
-    alloc: Global,
-    threads: NonZeroUsize,
-    path: Path,
-    parts: P,
-    identity: &ID,
-    fold_op: &F,
-    reduce_op: &G,
-) -> Result<R, Trouble<E>>
-    requires identity_accepts { ID.IsAlwaysCallable identity.now }
-    requires fold_accepts { F.IsAlwaysCallable fold_op.now }
-    requires reduce_accepts { G.IsAlwaysCallable reduce_op.now }
-    ensures folds { UnlessRefused result (λ out. GivesSome P.gives parts
-        (λ xs. TryFoldedAs (ID.post identity.now) (λ a x out. F.post fold_op.now a x out)
-        (λ a b c. G.post reduce_op.now a b c)
-        (cutdepth (non_zero_usize_get threads)) path xs out)) }
-{
-    try_fold_by(
-        rt, alloc, threads, path, parts, identity, fold_op, reduce_op,
-    )
 }

@@ -14,4 +14,4 @@ pub use explorer::Explorer;
 pub use hash::mix;
 pub use pools::{inline, pending, pooled};
 pub use rule::Rule;
-pub use search::{TASKS, WORKERS, explore};
+pub use search::{TASKS, WORKERS, explore, tasks, workers};

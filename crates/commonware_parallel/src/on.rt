@@ -126,7 +126,8 @@ impl<'s, Rt: Threads + Wait + Sync, S: Strategy, P: Place> On<'s, Rt, S, P> {
     >(&self, source: I, identity: ID, fold_op: F, reduce_op: G) -> Result<R, Fault>
         requires can { I.can source }
         requires identity_accepts { ID.IsAlwaysCallable identity }
-        requires fold_accepts { F.IsAlwaysCallable fold_op }
+        requires fold_accepts { (x : I.Item) → I.may source x
+            → (value : R) → F.pre fold_op value x }
         requires reduce_accepts { G.IsAlwaysCallable reduce_op }
         ensures brackets { IfOk result (λ r. GivesSome I.gives source
             (λ xs. Bracketing (ID.post identity) (λ a x b. F.post fold_op a x b)
@@ -158,7 +159,8 @@ impl<'s, Rt: Threads + Wait + Sync, S: Strategy, P: Place> On<'s, Rt, S, P> {
         requires can { I.can source }
         requires init_accepts { N.IsAlwaysCallable init }
         requires identity_accepts { ID.IsAlwaysCallable identity }
-        requires fold_accepts { F.IsAlwaysCallable fold_op }
+        requires fold_accepts { (x : I.Item) → I.may source x
+            → (value : R) (state : MutBor V) → F.pre fold_op value state x }
         requires reduce_accepts { G.IsAlwaysCallable reduce_op }
         ensures brackets { IfOk result (λ r. GivesSome I.gives source
             (λ xs. Brackets (FoldInitSegment (N.post init) (ID.post identity)
@@ -190,7 +192,8 @@ impl<'s, Rt: Threads + Wait + Sync, S: Strategy, P: Place> On<'s, Rt, S, P> {
     >(&self, source: I, identity: ID, fold_op: F, reduce_op: G) -> Result<R, Trouble<E>>
         requires can { I.can source }
         requires identity_accepts { ID.IsAlwaysCallable identity }
-        requires fold_accepts { F.IsAlwaysCallable fold_op }
+        requires fold_accepts { (x : I.Item) → I.may source x
+            → (value : R) → F.pre fold_op value x }
         requires reduce_accepts { G.IsAlwaysCallable reduce_op }
         ensures brackets { UnlessRefused result (λ out. GivesSome I.gives source
             (λ xs. TryBracketing (ID.post identity) (λ a x b. F.post fold_op a x b)

@@ -9,9 +9,13 @@ ghost use Rattle.parallel_bridge.specs.Outcomes.{UnlessRefused, listed};
 ghost use Rattle.parallel_bridge.specs.Parts.{PartitionOf};
 ghost use Rattle.parallel_bridge.specs.States.{FoldInitSegment, FoldStep, MapStep, StateSegment};
 ghost use Rattle.parallel_bridge.specs.Tries.{TryFoldSegment, TryMapOf};
+ghost use Rattle.parallel_bridge.specs.declared.path.Path.TheVariants.{Serial};
+
+mod parts;
 
 use crate::call::{Call, Pick};
 use crate::meter::Unmeasured;
+use crate::spawned::{Job, Spawned, Stage};
 use crate::strategy::Strategy;
 use parallel_bridge::list::fold::fold_iter;
 use parallel_bridge::list::fold_init::fold_init_iter;
@@ -36,6 +40,8 @@ use std::sync::Wait;
 pub struct Sequential;
 
 impl Sequential {
+    ghost use Rattle.commonware_parallel.specs.Spawned.{BeginsAs, gives_answer};
+
     /// An answer of the serial body. The parallel one isn't called. Takes no memory.
     pub fn run<P: Place, R, A: FnOnce() -> R, B: FnOnce() -> R + Drop>(
         &self,
@@ -124,7 +130,8 @@ impl Sequential {
         requires can { I.can_next iter }
         requires ends { IsFinite (I.remaining iter) }
         requires identity_accepts { ID.IsAlwaysCallable identity }
-        requires fold_accepts { F.IsAlwaysCallable fold_op }
+        requires fold_accepts { HoldsAlong I.next_gives iter
+            (All (λ x. (value : R) → F.pre fold_op value x)) }
         ensures { GivesSome (Drains I.next_gives) iter
             (λ xs. FoldSegment (ID.post identity) (λ a x b. F.post fold_op a x b) xs result) }
     {
@@ -148,7 +155,8 @@ impl Sequential {
         requires ends { IsFinite (I.remaining iter) }
         requires init_accepts { N.IsAlwaysCallable init }
         requires identity_accepts { ID.IsAlwaysCallable identity }
-        requires fold_accepts { F.IsAlwaysCallable fold_op }
+        requires fold_accepts { HoldsAlong I.next_gives iter
+            (All (λ x. (value : R) (state : MutBor S) → F.pre fold_op value state x)) }
         ensures { GivesSome (Drains I.next_gives) iter
             (λ xs. FoldInitSegment (N.post init) (ID.post identity)
             (FoldStep (λ a p x b q. F.post fold_op a p x b q)) xs result) }
@@ -177,7 +185,8 @@ impl Sequential {
         requires can { I.can_next iter }
         requires ends { IsFinite (I.remaining iter) }
         requires identity_accepts { ID.IsAlwaysCallable identity }
-        requires fold_accepts { F.IsAlwaysCallable fold_op }
+        requires fold_accepts { HoldsAlong I.next_gives iter
+            (All (λ x. (value : R) → F.pre fold_op value x)) }
         ensures { GivesSome (Drains I.next_gives) iter
             (λ xs. TryFoldSegment (ID.post identity) (λ a x b. F.post fold_op a x b) xs result) }
     {
@@ -347,6 +356,25 @@ impl Sequential {
         ensures sorted { IsSortedByClosure C.FnMut compare items.new }
     {
         items.sort_unstable_by(compare);
+    }
+
+    /// A job, run at once on this strategy: its answer is there, so that the first poll gives it.
+    ///
+    /// `rt` is what a later poll needs, and is looked at by none before. The length tells no policy
+    /// anything. Takes no memory.
+    pub fn spawn<Rt, P: Place, F: Job<Sequential, T>, T>(
+        &self,
+        rt: Rt,
+        _site: P,
+        _len: usize,
+        job: F,
+    ) -> Spawned<Rt, Sequential, F, T>
+        requires { F.may_run job self.now }
+        ensures gives { (answer : T) → gives_answer F.may_answer result answer
+            → F.may_answer job self.now answer }
+        ensures form { BeginsAs true Serial result }
+    {
+        Spawned::at(rt, Stage::Ready(job.run_on(*self)))
     }
 }
 

@@ -1,5 +1,5 @@
 //! Jobs that go on while their caller does, and their answers.
-ghost use Rattle.std.specs.Prelude.{◌≡◌, ◌≢◌, false, true};
+ghost use Rattle.std.specs.Prelude.{◌≡◌, ◌≢◌, IfSome, IsSome, None, false, true};
 ghost use Rattle.futures.specs.Poll.{IfReady, OnPending};
 ghost use Rattle.futures.specs.Task.{Covers, Keeps};
 
@@ -71,6 +71,29 @@ impl<R, S, F: Job<S, T>, T> Spawned<R, S, F, T> {
         ensures { result ≡ is_taken self.now }
     {
         matches!(self.stage, Stage::Taken)
+    }
+}
+
+impl<R, S: Drop, F: Job<S, T> + Drop, T: Drop> Spawned<R, S, F, T> {
+    ghost use Rattle.commonware_parallel.specs.Spawned.{gives_answer, is_ready_now, is_taken, stage_of};
+
+    /// The answer, where it is here already: it is taken then, without a poll and so without the
+    /// right to wait. Where it isn't here there is none, and nothing changes.
+    pub fn take_ready(&mut self) -> Option<T>
+        ensures value { IfSome result (gives_answer F.may_answer self.old) }
+        ensures here { is_ready_now self.old ≡ true → IsSome result }
+        ensures taken { IsSome result → is_taken self.new ≡ true }
+        ensures not_here { is_ready_now self.old ≡ false → result ≡ None }
+        ensures same { result ≡ None → stage_of self.new ≡ stage_of self.old }
+    {
+        let stage = mem::replace(&mut self.stage, Stage::Taken);
+        match stage {
+            Stage::Ready(answer) => Some(answer),
+            other => {
+                self.stage = other;
+                None
+            }
+        }
     }
 }
 

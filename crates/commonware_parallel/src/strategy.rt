@@ -71,8 +71,9 @@ use std::thread::Threads;
 /// a source: a slice, a vector, indices, a list of the user's own, or any iterator that ends. Its
 /// list is one that the source gives (`Source::gives`). A list that is one already is neither
 /// gathered nor copied; an iterator's items are gathered where the strategy has to be asked by
-/// their number. A map's closure has to accept the items that may come (`Source::may`), at every
-/// state where it has one; every other closure has to accept every value of its argument types.
+/// their number. A map's closure and a fold's step have to accept the items that may come
+/// (`Source::may`), at every value so far and every state where they have one, and no other;
+/// `identity`, `init`, `reduce_op` and `compare` have to accept every value of their argument types.
 pub trait Strategy: Clone + Send + Sync + Debug + 'static {
     ghost use Rattle.commonware_parallel.specs.declared.batches.Batches.{Batches};
     ghost use Rattle.commonware_parallel.specs.declared.tiles.Tiles.{Tiles};
@@ -520,7 +521,8 @@ pub trait Strategy: Clone + Send + Sync + Debug + 'static {
     /// Serially the list is one segment and nothing is reduced. In parallel it goes along the
     /// list's shape for the pool's thread number, and each leaf is reduced behind a further
     /// identity (`FoldedAs`). `parallel_bridge::fold_law` says when every such answer is the plain
-    /// fold from the left.
+    /// fold from the left. `fold_op` has to accept each item that may come of the source, at every
+    /// value, and no other item.
     ///
     /// # Errors
     ///
@@ -546,7 +548,8 @@ pub trait Strategy: Clone + Send + Sync + Debug + 'static {
     ) -> Result<R, Fault>
         requires can { I.can source }
         requires identity_accepts { ID.IsAlwaysCallable identity }
-        requires fold_accepts { F.IsAlwaysCallable fold_op }
+        requires fold_accepts { (x : I.Item) → I.may source x
+            → (value : R) → F.pre fold_op value x }
         requires reduce_accepts { G.IsAlwaysCallable reduce_op }
         ensures brackets { IfOk result (λ r. GivesSome I.gives source
             (λ xs. Bracketing (ID.post identity) (λ a x b. F.post fold_op a x b)
@@ -569,7 +572,8 @@ pub trait Strategy: Clone + Send + Sync + Debug + 'static {
     }
 
     /// The items folded as by `fold`, with a state at hand that goes from item to item of a segment
-    /// and begins there as a value of `init` (`FoldInitSegment`).
+    /// and begins there as a value of `init` (`FoldInitSegment`). `fold_op` has to accept each item
+    /// that may come of the source, at every value and every state.
     ///
     /// # Errors
     ///
@@ -599,7 +603,8 @@ pub trait Strategy: Clone + Send + Sync + Debug + 'static {
         requires can { I.can source }
         requires init_accepts { N.IsAlwaysCallable init }
         requires identity_accepts { ID.IsAlwaysCallable identity }
-        requires fold_accepts { F.IsAlwaysCallable fold_op }
+        requires fold_accepts { (x : I.Item) → I.may source x
+            → (value : R) (state : MutBor S) → F.pre fold_op value state x }
         requires reduce_accepts { G.IsAlwaysCallable reduce_op }
         ensures brackets { IfOk result (λ r. GivesSome I.gives source
             (λ xs. Brackets (FoldInitSegment (N.post init) (ID.post identity)
@@ -628,7 +633,8 @@ pub trait Strategy: Clone + Send + Sync + Debug + 'static {
     ///
     /// A segment ends at its own first error, and of several the leftmost is answered, whichever
     /// segment ended first. Where a segment has failed, the closures may go uncalled for the items
-    /// to the right of it. The forms of the segments are those of `fold` (`TryFoldedAs`).
+    /// to the right of it. The forms of the segments are those of `fold` (`TryFoldedAs`), and so is
+    /// what `fold_op` has to accept.
     ///
     /// # Errors
     ///
@@ -656,7 +662,8 @@ pub trait Strategy: Clone + Send + Sync + Debug + 'static {
     ) -> Result<R, Trouble<E>>
         requires can { I.can source }
         requires identity_accepts { ID.IsAlwaysCallable identity }
-        requires fold_accepts { F.IsAlwaysCallable fold_op }
+        requires fold_accepts { (x : I.Item) → I.may source x
+            → (value : R) → F.pre fold_op value x }
         requires reduce_accepts { G.IsAlwaysCallable reduce_op }
         ensures brackets { UnlessRefused result (λ out. GivesSome I.gives source
             (λ xs. TryBracketing (ID.post identity) (λ a x b. F.post fold_op a x b)

@@ -72,7 +72,7 @@ impl<'scope, S: Strategy, P: Place> Tiles<'scope, S, P> {
     }
 
     // Tiles of the grid of least cost for so many workers.
-    fn for_workers(
+    pub(crate) fn for_workers(
         strategy: &'scope S,
         site: P,
         grids: &[Grid],

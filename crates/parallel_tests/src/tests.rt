@@ -19,6 +19,7 @@ mod printed;
 mod roots;
 mod runs;
 mod same;
+mod sequentials;
 mod shares;
 mod spans;
 mod spawns;

@@ -96,9 +96,10 @@ impl Explorer {
         ensures pick { result ≡ picked (plans_of self.now) (rule_of self.now) site call }
         ensures has { HasPick call result }
     {
+        let options = NonZeroUsize::MIN.saturating_add(call.options() - 1);
         let index = match call.kind {
             Kind::Body if self.parallelism.get() == 1 => 0,
-            _ => pick(self.rule, site, call.len, call.options()),
+            _ => pick(self.rule, site, call.len, options),
         };
         call.nth(index)
     }

@@ -1,6 +1,7 @@
 // The search through the rules.
 ghost use Rattle.std.specs.Prelude.{◌≡◌, IfOk, IfErr};
 ghost use Rattle.std.specs.Arc.{arc_value};
+ghost use Rattle.std.specs.Int.NonZero.{non_zero_usize_get};
 ghost use Rattle.parallel_pool.specs.ThreadPool.{thread_count};
 ghost use Rattle.commonware_parallel.specs.Exploring.{Explored, Compares, IsExplorer};
 ghost use Rattle.commonware_parallel.specs.declared.mocks.explore_error.ExploreError.TheVariants.{Build};
@@ -22,6 +23,20 @@ pub const WORKERS: usize = 4;
 /// The number that `explore` plans for.
 pub const TASKS: usize = 8;
 
+/// `WORKERS` as the number that `pooled` takes.
+pub fn workers() -> NonZeroUsize
+    ensures { non_zero_usize_get result ≡ WORKERS }
+{
+    NonZeroUsize::MIN.saturating_add(WORKERS - 1)
+}
+
+/// `TASKS` as the number that `pooled` takes.
+pub fn tasks() -> NonZeroUsize
+    ensures { non_zero_usize_get result ≡ TASKS }
+{
+    NonZeroUsize::MIN.saturating_add(TASKS - 1)
+}
+
 /// The output of a closure through a serial explorer, if its outputs through a parallel one and
 /// through the explorers of the seeds 0 to 3 are equal to it.
 ///
@@ -42,10 +57,7 @@ pub fn explore<Rt: Threads, R: PartialEq + Debug + Drop, F: FnMut(&Explorer) -> 
     ensures { Explored (λ f explorer r g. F.step f explorer r g) (λ a b. R.eq a b) run result }
 {
     let mut run = run;
-    let pool = Arc::new(
-        alloc,
-        ThreadPool::new(NonZeroUsize::MIN.saturating_add(WORKERS - 1)),
-    )?;
+    let pool = Arc::new(alloc, ThreadPool::new(workers()))?;
     let explorer = explorer_by(&pool, Rule::Serial)?;
     let serial = run(&explorer);
     compare(&mut run, &pool, Rule::Parallel, &serial)?;
@@ -64,7 +76,7 @@ fn explorer_by(pool: &Arc<ThreadPool, Global>, rule: Rule) -> Result<Explorer, E
     let pool = Arc::try_clone(pool)?;
     Ok(Explorer {
         pool,
-        parallelism: NonZeroUsize::MIN.saturating_add(TASKS - 1),
+        parallelism: tasks(),
         starts_workers: true,
         rule,
     })

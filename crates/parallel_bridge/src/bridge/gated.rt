@@ -44,7 +44,8 @@ pub fn fold_gated<
     watch: GateWatch<'g>,
 ) -> (Result<R, Trouble<Halt<E>>>, Option<GateSeat>)
     requires identity_accepts { ID.IsAlwaysCallable identity.now }
-    requires fold_accepts { F.IsAlwaysCallable fold_op.now }
+    requires fold_accepts { (x : P.Item) → P.may parts x
+        → (value : R) → F.pre fold_op.now value x }
     requires reduce_accepts { G.IsAlwaysCallable reduce_op.now }
     requires watch { MayWatch watch (P.count parts) }
     ensures along { Driven P.gives parts (halting (TryReducedSegment (ID.post identity.now)
@@ -105,8 +106,8 @@ impl<
     type Seam = (&'g Gate, &'c G);
 
     ghost able = { λ s. S.sound s.parts × ID.IsAlwaysCallable s.identity.now
-        × F.IsAlwaysCallable s.fold_op.now × G.IsAlwaysCallable s.reduce_op.now
-        × MayWatch s.watch (S.count s.parts) };
+        × ((x : X) → S.may s.parts x → (value : R) → F.pre s.fold_op.now value x)
+        × G.IsAlwaysCallable s.reduce_op.now × MayWatch s.watch (S.count s.parts) };
 
     ghost long = { λ s. 2 ≤ S.count s.parts };
 

@@ -1,6 +1,7 @@
 //! The value that the items of a segment are folded to.
 ghost use Rattle.std.specs.Prelude.{◌∷◌, ◌++◌, [], List, Result};
-ghost use Rattle.std.specs.Iterator.{Drains, IsFinite};
+ghost use Rattle.std.specs.Iterator.{Drains, HoldsAlong, IsFinite};
+ghost use Rattle.std.specs.List.{All};
 ghost use Rattle.parallel_bridge.specs.Lists.{Chain, FoldSegment};
 ghost use Rattle.parallel_bridge.specs.Sources.{GivesSome};
 
@@ -32,10 +33,9 @@ pub struct FoldFolder<'c, C, R, F> {
 
 impl<'c, X: Drop, U: Drop, R, E, C: Folder<U, R, E>, F: Fn(U, X) -> U> Folder<X, R, E>
     for FoldFolder<'c, C, U, F> {
-    ghost ready = { λ s. C.ready s.base × ((u : U) → C.takes s.base u)
-        × F.IsAlwaysCallable s.fold_op.now };
+    ghost ready = { λ s. C.ready s.base × ((u : U) → C.takes s.base u) };
 
-    ghost takes = { λ _ _. Unit {0} };
+    ghost takes = { λ s x. (value : U) → F.pre s.fold_op.now value x };
 
     ghost gives = { λ s xs out. (b : U) × Chain (λ a x b. F.post s.fold_op.now a x b) s.item xs b
         × C.gives s.base (b ∷ []) out };
@@ -85,9 +85,9 @@ impl<
     type Reducer = C::Reducer;
 
     ghost ready = { λ s. C.ready s.base × ((u : U) → C.takes s.base u)
-        × I.IsAlwaysCallable s.identity.now × F.IsAlwaysCallable s.fold_op.now };
+        × I.IsAlwaysCallable s.identity.now };
 
-    ghost takes = { λ _ _. Unit {0} };
+    ghost takes = { λ s x. (value : U) → F.pre s.fold_op.now value x };
 
     ghost fits = { λ s n. C.fits s.base n };
 
@@ -130,7 +130,8 @@ pub(crate) fn fold_from<I: Iterator, R: Drop, F: Fn(R, I::Item) -> R>(
 ) -> R
     requires can { I.can_next iter }
     requires ends { IsFinite (I.remaining iter) }
-    requires accepts { F.IsAlwaysCallable fold_op.now }
+    requires accepts { HoldsAlong I.next_gives iter
+        (All (λ x. (value : R) → F.pre fold_op.now value x)) }
     ensures { GivesSome (Drains I.next_gives) iter
         (λ xs. Chain (λ a x b. F.post fold_op.now a x b) start xs result) }
 {

@@ -1,6 +1,8 @@
 //! The value that the items of a segment are folded to with a state at hand.
 ghost use Rattle.std.specs.Prelude.{◌∷◌, ◌++◌, [], List, Result};
-ghost use Rattle.std.specs.Iterator.{Drains, IsFinite};
+ghost use Rattle.std.specs.Borrow.{MutBor};
+ghost use Rattle.std.specs.Iterator.{Drains, HoldsAlong, IsFinite};
+ghost use Rattle.std.specs.List.{All};
 ghost use Rattle.parallel_bridge.specs.Sources.{GivesSome};
 ghost use Rattle.parallel_bridge.specs.States.{FoldInitSegment, FoldStep, StateChain};
 
@@ -41,10 +43,9 @@ impl<'c, X: Drop, S: Drop, U: Drop, R, E, C: Folder<U, R, E>, F: Fn(U, &mut S, X
     R,
     E,
 > for FoldInitFolder<'c, C, S, U, F> {
-    ghost ready = { λ s. C.ready s.base × ((u : U) → C.takes s.base u)
-        × F.IsAlwaysCallable s.fold_op.now };
+    ghost ready = { λ s. C.ready s.base × ((u : U) → C.takes s.base u) };
 
-    ghost takes = { λ _ _. Unit {0} };
+    ghost takes = { λ s x. (value : U) (state : MutBor S) → F.pre s.fold_op.now value state x };
 
     ghost gives = { λ s xs out. (b : U)
         × StateChain (FoldStep (λ a p x b q. F.post s.fold_op.now a p x b q)) s.state s.item xs b
@@ -101,10 +102,9 @@ impl<
     type Reducer = C::Reducer;
 
     ghost ready = { λ s. C.ready s.base × ((u : U) → C.takes s.base u)
-        × N.IsAlwaysCallable s.init.now × I.IsAlwaysCallable s.identity.now
-        × F.IsAlwaysCallable s.fold_op.now };
+        × N.IsAlwaysCallable s.init.now × I.IsAlwaysCallable s.identity.now };
 
-    ghost takes = { λ _ _. Unit {0} };
+    ghost takes = { λ s x. (value : U) (state : MutBor S) → F.pre s.fold_op.now value state x };
 
     ghost fits = { λ s n. C.fits s.base n };
 
@@ -155,7 +155,8 @@ pub(crate) fn fold_init_from<I: Iterator, S: Drop, R: Drop, F: Fn(R, &mut S, I::
 ) -> R
     requires can { I.can_next iter }
     requires ends { IsFinite (I.remaining iter) }
-    requires accepts { F.IsAlwaysCallable fold_op.now }
+    requires accepts { HoldsAlong I.next_gives iter
+        (All (λ x. (value : R) (state : MutBor S) → F.pre fold_op.now value state x)) }
     ensures { GivesSome (Drains I.next_gives) iter (λ xs. (more : List I.Item) (r : R)
         → StateChain (FoldStep (λ a p x b q. F.post fold_op.now a p x b q)) state.new result more r
         → StateChain (FoldStep (λ a p x b q. F.post fold_op.now a p x b q)) state.old start

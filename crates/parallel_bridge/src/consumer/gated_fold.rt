@@ -1,7 +1,8 @@
 //! The value that the items of a segment are folded to by a step that may fail, under the eye of a
 //! gate.
 ghost use Rattle.std.specs.Prelude.{◌≡◌, ◌∷◌, ◌<◌, [], List, Ok, Result};
-ghost use Rattle.std.specs.Iterator.{Drains, IsFinite};
+ghost use Rattle.std.specs.Iterator.{Drains, HoldsAlong, IsFinite};
+ghost use Rattle.std.specs.List.{All};
 ghost use Rattle.parallel_bridge.specs.Sources.{GivesSome};
 ghost use Rattle.parallel_bridge.specs.Tries.{OnlyOk};
 ghost use Rattle.parallel_bridge.specs.Gates.{IsWatching, MayTell, SameWatch, known, stands_for};
@@ -63,11 +64,10 @@ impl<'c, 'g, X: Drop, T: Drop, E: Drop, F: Fn(T, X) -> Result<T, E>> Folder<
     (Result<T, Halt<E>>, GateWatch<'g>),
     Infallible,
 > for GatedFolder<'c, 'g, T, E, F> {
-    ghost ready = { λ s. F.IsAlwaysCallable s.fold_op.now × IsWatching s.watch
-        × (0 < stands_for s.watch.seat)
+    ghost ready = { λ s. IsWatching s.watch × (0 < stands_for s.watch.seat)
         × TellsAs s.watch.start (known s.watch.seat) s.control };
 
-    ghost takes = { λ _ _. Unit {0} };
+    ghost takes = { λ s x. (value : T) → F.pre s.fold_op.now value x };
 
     ghost gives = { λ s xs out. OnlyOk (λ d. HaltsOnward (λ a x o. F.post s.fold_op.now a x o)
         s.control xs d.0 × SameWatch s.watch d.1 × IsWatching d.1
@@ -132,7 +132,8 @@ where
     I::Item: Drop,
     requires can { I.can_next iter }
     requires ends { IsFinite (I.remaining iter) }
-    requires accepts { F.IsAlwaysCallable fold_op.now }
+    requires accepts { HoldsAlong I.next_gives iter
+        (All (λ x. (value : R) → F.pre fold_op.now value x)) }
     requires watching { IsWatching watch.old }
     requires stands { 0 < stands_for watch.old.seat }
     requires told { TellsAs watch.old.start (known watch.old.seat) control }
@@ -156,7 +157,7 @@ fn gated_step<'g, X: Drop, R: Drop, E: Drop, F: Fn(R, X) -> Result<R, E>>(
     fold_op: &F,
     watch: &mut GateWatch<'g>,
 ) -> Result<R, Halt<E>>
-    requires accepts { F.IsAlwaysCallable fold_op.now }
+    requires accepts { (value : R) → F.pre fold_op.now value item }
     requires watching { IsWatching watch.old }
     requires stands { 0 < stands_for watch.old.seat }
     requires told { TellsAs watch.old.start (known watch.old.seat) control }

@@ -1,6 +1,7 @@
 //! The value that the items of a segment are folded to by a step that may fail.
 ghost use Rattle.std.specs.Prelude.{◌∷◌, ◌++◌, [], Err, List, Ok, Result};
-ghost use Rattle.std.specs.Iterator.{Drains, IsFinite};
+ghost use Rattle.std.specs.Iterator.{Drains, HoldsAlong, IsFinite};
+ghost use Rattle.std.specs.List.{All};
 ghost use Rattle.parallel_bridge.specs.Onto.{TryContinues};
 ghost use Rattle.parallel_bridge.specs.Sources.{GivesSome};
 ghost use Rattle.parallel_bridge.specs.Tries.{TryFoldSegment};
@@ -42,10 +43,9 @@ impl<
     C: Folder<Result<T, E>, R, D>,
     F: Fn(T, X) -> Result<T, E>,
 > Folder<X, R, D> for TryFoldFolder<'c, C, T, E, F> {
-    ghost ready = { λ s. C.ready s.base × ((v : Result T E) → C.takes s.base v)
-        × F.IsAlwaysCallable s.fold_op.now };
+    ghost ready = { λ s. C.ready s.base × ((v : Result T E) → C.takes s.base v) };
 
-    ghost takes = { λ _ _. Unit {0} };
+    ghost takes = { λ s x. (value : T) → F.pre s.fold_op.now value x };
 
     ghost gives = { λ s xs out. (v : Result T E)
         × TryContinues (λ a x o. F.post s.fold_op.now a x o) s.control xs v
@@ -97,9 +97,9 @@ impl<
     type Reducer = C::Reducer;
 
     ghost ready = { λ s. C.ready s.base × ((v : Result T E) → C.takes s.base v)
-        × I.IsAlwaysCallable s.identity.now × F.IsAlwaysCallable s.fold_op.now };
+        × I.IsAlwaysCallable s.identity.now };
 
-    ghost takes = { λ _ _. Unit {0} };
+    ghost takes = { λ s x. (value : T) → F.pre s.fold_op.now value x };
 
     ghost fits = { λ s n. C.fits s.base n };
 
@@ -145,7 +145,8 @@ where
     I::Item: Drop,
     requires can { I.can_next iter }
     requires ends { IsFinite (I.remaining iter) }
-    requires accepts { F.IsAlwaysCallable fold_op.now }
+    requires accepts { HoldsAlong I.next_gives iter
+        (All (λ x. (value : R) → F.pre fold_op.now value x)) }
     ensures { GivesSome (Drains I.next_gives) iter
         (λ xs. TryContinues (λ a x out. F.post fold_op.now a x out) control xs result) }
 {
@@ -162,7 +163,7 @@ pub(crate) fn try_fold_step<X: Drop, R: Drop, E: Drop, F: Fn(R, X) -> Result<R, 
     item: X,
     fold_op: &F,
 ) -> Result<R, E>
-    requires { F.IsAlwaysCallable fold_op.now }
+    requires { (value : R) → F.pre fold_op.now value item }
     ensures { TryContinues (λ a x out. F.post fold_op.now a x out) control (item ∷ []) result }
 {
     match control {

@@ -1,7 +1,8 @@
 //! Folds.
 ghost use Rattle.std.specs.Prelude.{IfOk, List};
 ghost use Rattle.std.specs.Int.NonZero.{non_zero_usize_get};
-ghost use Rattle.std.specs.Iterator.{Drains, IsFinite};
+ghost use Rattle.std.specs.Iterator.{Drains, HoldsAlong, IsFinite};
+ghost use Rattle.std.specs.List.{All};
 ghost use Rattle.parallel_fault.specs.Trouble.{IsMemoryOnErr};
 ghost use Rattle.parallel_bridge.specs.Lists.{FoldSegment};
 ghost use Rattle.parallel_bridge.specs.Shapes.{Along, Shape, cutdepth};
@@ -28,7 +29,8 @@ pub fn fold_iter<I: Iterator, R: Drop, ID: Fn() -> R, F: Fn(R, I::Item) -> R>(
     requires can { I.can_next iter }
     requires ends { IsFinite (I.remaining iter) }
     requires identity_accepts { ID.IsAlwaysCallable identity.now }
-    requires fold_accepts { F.IsAlwaysCallable fold_op.now }
+    requires fold_accepts { HoldsAlong I.next_gives iter
+        (All (λ x. (value : R) → F.pre fold_op.now value x)) }
     ensures { GivesSome (Drains I.next_gives) iter
         (λ xs. FoldSegment (ID.post identity.now) (λ a x b. F.post fold_op.now a x b) xs result) }
 {
@@ -54,7 +56,8 @@ pub fn fold_parallel<
     reduce_op: &G,
 ) -> Result<R, Fault>
     requires identity_accepts { ID.IsAlwaysCallable identity.now }
-    requires fold_accepts { F.IsAlwaysCallable fold_op.now }
+    requires fold_accepts { (x : P.Item) → P.may parts x
+        → (value : R) → F.pre fold_op.now value x }
     requires reduce_accepts { G.IsAlwaysCallable reduce_op.now }
     ensures along { IfOk result (λ r. GivesSome P.gives parts
         (λ xs. Along (ID.post identity.now) (λ a x b. F.post fold_op.now a x b)
@@ -94,7 +97,8 @@ pub fn fold_by<
     reduce_op: &G,
 ) -> Result<R, Fault>
     requires identity_accepts { ID.IsAlwaysCallable identity.now }
-    requires fold_accepts { F.IsAlwaysCallable fold_op.now }
+    requires fold_accepts { (x : P.Item) → P.may parts x
+        → (value : R) → F.pre fold_op.now value x }
     requires reduce_accepts { G.IsAlwaysCallable reduce_op.now }
     ensures folds { IfOk result (λ r. GivesSome P.gives parts
         (λ xs. FoldedAs (ID.post identity.now) (λ a x b. F.post fold_op.now a x b)

@@ -1,7 +1,9 @@
 //! Folds with a state at hand.
 ghost use Rattle.std.specs.Prelude.{IfOk, List};
+ghost use Rattle.std.specs.Borrow.{MutBor};
 ghost use Rattle.std.specs.Int.NonZero.{non_zero_usize_get};
-ghost use Rattle.std.specs.Iterator.{Drains, IsFinite};
+ghost use Rattle.std.specs.Iterator.{Drains, HoldsAlong, IsFinite};
+ghost use Rattle.std.specs.List.{All};
 ghost use Rattle.parallel_fault.specs.Trouble.{IsMemoryOnErr};
 ghost use Rattle.parallel_bridge.specs.Shapes.{AlongLeaves, Shape, cutdepth};
 ghost use Rattle.parallel_bridge.specs.Sources.{GivesSome};
@@ -33,7 +35,8 @@ pub fn fold_init_iter<
     requires ends { IsFinite (I.remaining iter) }
     requires init_accepts { N.IsAlwaysCallable init.now }
     requires identity_accepts { ID.IsAlwaysCallable identity.now }
-    requires fold_accepts { F.IsAlwaysCallable fold_op.now }
+    requires fold_accepts { HoldsAlong I.next_gives iter
+        (All (λ x. (value : R) (state : MutBor S) → F.pre fold_op.now value state x)) }
     ensures { GivesSome (Drains I.next_gives) iter
         (λ xs. FoldInitSegment (N.post init.now) (ID.post identity.now)
         (FoldStep (λ a p x b q. F.post fold_op.now a p x b q)) xs result) }
@@ -66,7 +69,8 @@ pub fn fold_init_parallel<
 ) -> Result<R, Fault>
     requires init_accepts { N.IsAlwaysCallable init.now }
     requires identity_accepts { ID.IsAlwaysCallable identity.now }
-    requires fold_accepts { F.IsAlwaysCallable fold_op.now }
+    requires fold_accepts { (x : P.Item) → P.may parts x
+        → (value : R) (state : MutBor S) → F.pre fold_op.now value state x }
     requires reduce_accepts { G.IsAlwaysCallable reduce_op.now }
     ensures along { IfOk result (λ r. GivesSome P.gives parts
         (λ xs. AlongLeaves (ID.post identity.now)
@@ -113,7 +117,8 @@ pub fn fold_init_by<
 ) -> Result<R, Fault>
     requires init_accepts { N.IsAlwaysCallable init.now }
     requires identity_accepts { ID.IsAlwaysCallable identity.now }
-    requires fold_accepts { F.IsAlwaysCallable fold_op.now }
+    requires fold_accepts { (x : P.Item) → P.may parts x
+        → (value : R) (state : MutBor S) → F.pre fold_op.now value state x }
     requires reduce_accepts { G.IsAlwaysCallable reduce_op.now }
     ensures folds { IfOk result (λ r. GivesSome P.gives parts
         (λ xs. FoldedInitAs (N.post init.now) (ID.post identity.now)

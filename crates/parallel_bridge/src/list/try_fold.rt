@@ -1,7 +1,8 @@
 //! Folds by steps that may fail.
 ghost use Rattle.std.specs.Prelude.{Err, IfOk, List, Ok};
 ghost use Rattle.std.specs.Int.NonZero.{non_zero_usize_get};
-ghost use Rattle.std.specs.Iterator.{Drains, IsFinite};
+ghost use Rattle.std.specs.Iterator.{Drains, HoldsAlong, IsFinite};
+ghost use Rattle.std.specs.List.{All};
 ghost use Rattle.parallel_bridge.specs.Outcomes.{UnlessRefused};
 ghost use Rattle.parallel_bridge.specs.Shapes.{Shape, cutdepth};
 ghost use Rattle.parallel_bridge.specs.Sources.{GivesSome};
@@ -35,7 +36,8 @@ where
     requires can { I.can_next iter }
     requires ends { IsFinite (I.remaining iter) }
     requires identity_accepts { ID.IsAlwaysCallable identity.now }
-    requires fold_accepts { F.IsAlwaysCallable fold_op.now }
+    requires fold_accepts { HoldsAlong I.next_gives iter
+        (All (λ x. (value : R) → F.pre fold_op.now value x)) }
     ensures { GivesSome (Drains I.next_gives) iter
         (λ xs. TryFoldSegment (ID.post identity.now) (λ a x out. F.post fold_op.now a x out)
         xs result) }
@@ -65,7 +67,8 @@ pub fn try_fold_parallel<
     reduce_op: &G,
 ) -> Result<R, Trouble<E>>
     requires identity_accepts { ID.IsAlwaysCallable identity.now }
-    requires fold_accepts { F.IsAlwaysCallable fold_op.now }
+    requires fold_accepts { (x : P.Item) → P.may parts x
+        → (value : R) → F.pre fold_op.now value x }
     requires reduce_accepts { G.IsAlwaysCallable reduce_op.now }
     ensures along { UnlessRefused result (λ out. GivesSome P.gives parts
         (λ xs. TryAlong (ID.post identity.now) (λ a x out. F.post fold_op.now a x out)
@@ -120,7 +123,8 @@ pub fn try_fold_by<
     reduce_op: &G,
 ) -> Result<R, Trouble<E>>
     requires identity_accepts { ID.IsAlwaysCallable identity.now }
-    requires fold_accepts { F.IsAlwaysCallable fold_op.now }
+    requires fold_accepts { (x : P.Item) → P.may parts x
+        → (value : R) → F.pre fold_op.now value x }
     requires reduce_accepts { G.IsAlwaysCallable reduce_op.now }
     ensures folds { UnlessRefused result (λ out. GivesSome P.gives parts
         (λ xs. TryFoldedAs (ID.post identity.now) (λ a x out. F.post fold_op.now a x out)

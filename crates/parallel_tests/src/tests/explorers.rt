@@ -56,16 +56,17 @@ fn the_hash_is_the_same_everywhere(rt: HostRuntime) {
 
 #[test]
 fn a_rule_picks_the_first_the_last_or_by_the_hash(rt: HostRuntime) {
-    assert_eq!(rt; pick(Rule::Serial, PLACE, 64, 8), 0);
-    assert_eq!(rt; pick(Rule::Parallel, PLACE, 64, 8), 7);
+    let (two, eight) = (number(&rt, 2), number(&rt, 8));
+    assert_eq!(rt; pick(Rule::Serial, PLACE, 64, eight), 0);
+    assert_eq!(rt; pick(Rule::Parallel, PLACE, 64, eight), 7);
     for (seed, of_two, of_eight) in [(0, 0, 4), (1, 1, 7), (2, 0, 2), (3, 0, 4)] {
         assert_eq!(rt;
-            pick(Rule::Seeded(seed), PLACE, 64, 2),
+            pick(Rule::Seeded(seed), PLACE, 64, two),
             of_two,
             "seed {seed}"
         );
         assert_eq!(rt;
-            pick(Rule::Seeded(seed), PLACE, 64, 8),
+            pick(Rule::Seeded(seed), PLACE, 64, eight),
             of_eight,
             "seed {seed}"
         );

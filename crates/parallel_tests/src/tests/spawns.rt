@@ -131,9 +131,9 @@ fn a_job_runs_at_once_or_on_a_worker(rt: HostRuntime) {
 fn an_answer_is_given_once(rt: HostRuntime) {
     let alloc = rt.alloc();
     let task = MockTask::new(&rt).expect(&rt, "memory");
-    let mut ready = Sequential
-        .spawn(&rt, alloc, SITE, 1, Gives(7))
-        .expect(&rt, "memory");
+    let mut ready = Strategy::spawn(&Sequential, &rt, alloc, SITE, 1, Gives(7)).expect(
+        &rt, "memory",
+    );
     assert!(rt; ready.is_ready());
     same(&rt, task.poll(&mut ready), Poll::Ready(7));
     assert!(rt; !ready.is_ready());

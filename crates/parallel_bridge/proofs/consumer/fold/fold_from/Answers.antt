@@ -1,12 +1,16 @@
--- One turn is one step more of the chain over the items that came.
+-- The closure may be called at each item that comes, and one turn is one step more of the chain
+-- over the items that came.
 use Rattle.std.proofs.Common.{rules}
-use Rattle.parallel_bridge.proofs.Chains.{chain_push}
+use Rattle.parallel_bridge.proofs.Chains.{chain_push, next_has}
 use Rattle.parallel_bridge.proofs.consumer.fold.fold_from.Goals as goal
 
+pub fold_op-value-requires : goal.fold_op-value-requires
+fold_op-value-requires g c = next_has g.I.Iterator.next_gives
+    (λ (x : g.row.I-Item.Denot). (v : g.row.R.Denot) → goal.F-pre g c.args.fold_op.now v x)
+    c.args.iter c.loop-item.item-iterator c.next.new.self c.loop-item.yielded c.in-Some.item
+    c.requires.accepts (search rules) (search rules) _
+
 pub loop-item-preserved : goal.loop-item-preserved
-loop-item-preserved g c = record {
-  accepts = search rules;
-  reached =
-      chain_push (λ a x r. goal.F-post g c.args.fold_op.now a x r) _ c.loop-item.yielded _ _ _
-      c.loop-item.invariant.reached (search rules);
-}
+loop-item-preserved g c =
+    chain_push (λ a x r. goal.F-post g c.args.fold_op.now a x r) _ c.loop-item.yielded _ _ _
+    c.loop-item.invariant (search rules)

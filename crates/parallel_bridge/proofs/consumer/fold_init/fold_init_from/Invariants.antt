@@ -4,10 +4,7 @@ use Rattle.parallel_bridge.specs.States.{FoldStep, StateChain}
 use Rattle.parallel_bridge.proofs.consumer.fold_init.fold_init_from.Given as goal
 
 abbrev pub invariant-loop-item : goal.invariant-loop-item
-invariant-loop-item g l = record {
-  accepts : goal.F-IsAlwaysCallable g l.fold_op;
-  reached : (more : List g.row.I-Item.Denot) (b : g.row.R.Denot)
-      → StateChain (FoldStep (λ a p x r q. goal.F-post g l.fold_op a p x r q)) l.state l.value more
-      b → StateChain (FoldStep (λ a p x r q. goal.F-post g l.fold_op a p x r q)) l.initial.state
-      l.initial.value (l.yielded ++ more) b;
-}
+invariant-loop-item g l = (more : List g.row.I-Item.Denot) (b : g.row.R.Denot)
+    → StateChain (FoldStep (λ a p x r q. goal.F-post g l.fold_op a p x r q)) l.state l.value more b
+    → StateChain (FoldStep (λ a p x r q. goal.F-post g l.fold_op a p x r q)) l.initial.state
+    l.initial.value (l.yielded ++ more) b

@@ -1,12 +1,12 @@
--- One turn is one step more, or the end stands.
+-- The closure may be called at each item that comes; one turn is one step more, or the end stands.
 use Rattle.std.proofs.Common.{rules, ◌∷◌, [], ◌∙◌, arith, refl}
+use Rattle.parallel_bridge.proofs.Chains.{next_has}
 use Rattle.parallel_bridge.proofs.HaltsOnward.{halts_onward, halts_rests}
 use Rattle.parallel_bridge.proofs.consumer.gated_fold.gated_onward.Goals as goal
 
 pub loop-item-init : goal.loop-item-init
 loop-item-init g c =
     record {
-      accepts = search rules;
       reached = halts_rests (λ a x o. goal.F-post g c.args.fold_op.now a x o) c.args.control;
       watching = c.requires.watching;
       stands = c.requires.stands;
@@ -14,11 +14,16 @@ loop-item-init g c =
       told = c.requires.told;
     }
 
+pub gated_step-control-requires-clause-accepts : goal.gated_step-control-requires-clause-accepts
+gated_step-control-requires-clause-accepts g c = next_has g.I.Iterator.next_gives
+    (λ (x : g.row.I-Item.Denot). (v : g.row.R.Denot) → goal.F-pre g c.args.fold_op.now v x)
+    c.args.iter c.loop-item.item-iterator c.next.new.self c.loop-item.yielded c.in-Some.item
+    c.requires.accepts (search rules) (search rules)
+
 pub loop-item-preserved : goal.loop-item-preserved
 loop-item-preserved g c =
     let i = c.loop-item.invariant in
     record {
-      accepts = search rules;
       reached =
           halts_onward (λ a x o. goal.F-post g c.args.fold_op.now a x o) c.args.control
           c.loop-item.control c.gated_step-control.result c.loop-item.yielded

@@ -6,7 +6,6 @@ use Rattle.parallel_bridge.proofs.consumer.gated_fold.gated_onward.Given as goal
 
 abbrev pub invariant-loop-item : goal.invariant-loop-item
 invariant-loop-item g l = record {
-  accepts : goal.F-IsAlwaysCallable g l.fold_op;
   reached : HaltsOnward (λ a x o. goal.F-post g l.fold_op a x o) l.initial.control l.yielded
       l.control;
   watching : IsWatching l.watch;

@@ -1,21 +1,20 @@
--- One turn is one step more, or the error stands.
+-- The closure may be called at each item that comes; a turn is one step more, or the error stands.
 use Rattle.std.proofs.Common.{rules, ◌∷◌, []}
+use Rattle.parallel_bridge.proofs.Chains.{next_has}
 use Rattle.parallel_bridge.proofs.Onward.{try_onward, try_rests}
 use Rattle.parallel_bridge.proofs.consumer.try_fold.try_fold_onward.Goals as goal
 
 pub loop-item-init : goal.loop-item-init
-loop-item-init g c =
-    record {
-      accepts = search rules;
-      reached = try_rests
-          (λ a x o. goal.F-post g c.args.fold_op.now a x o) c.args.control;
-    }
+loop-item-init g c = try_rests (λ a x o. goal.F-post g c.args.fold_op.now a x o) c.args.control
+
+pub try_fold_step-control-requires : goal.try_fold_step-control-requires
+try_fold_step-control-requires g c = next_has g.I.Iterator.next_gives
+    (λ (x : g.row.I-Item.Denot). (v : g.row.R.Denot) → goal.F-pre g c.args.fold_op.now v x)
+    c.args.iter c.loop-item.item-iterator c.next.new.self c.loop-item.yielded c.in-Some.item
+    c.requires.accepts (search rules) (search rules)
 
 pub loop-item-preserved : goal.loop-item-preserved
-loop-item-preserved g c = record {
-  accepts = search rules;
-  reached =
-      try_onward (λ a x o. goal.F-post g c.args.fold_op.now a x o) c.args.control
-      c.loop-item.control c.try_fold_step-control.result c.loop-item.yielded
-      (c.in-Some.item ∷ []) c.loop-item.invariant.reached c.try_fold_step-control.ensures;
-}
+loop-item-preserved g c =
+    try_onward (λ a x o. goal.F-post g c.args.fold_op.now a x o) c.args.control
+    c.loop-item.control c.try_fold_step-control.result c.loop-item.yielded
+    (c.in-Some.item ∷ []) c.loop-item.invariant c.try_fold_step-control.ensures

@@ -3,8 +3,5 @@ use Rattle.parallel_bridge.specs.Onto.{TryContinues}
 use Rattle.parallel_bridge.proofs.consumer.try_fold.try_fold_onward.Given as goal
 
 abbrev pub invariant-loop-item : goal.invariant-loop-item
-invariant-loop-item g l = record {
-  accepts : goal.F-IsAlwaysCallable g l.fold_op;
-  reached : TryContinues (λ a x o. goal.F-post g l.fold_op a x o) l.initial.control l.yielded
-      l.control;
-}
+invariant-loop-item g l =
+    TryContinues (λ a x o. goal.F-post g l.fold_op a x o) l.initial.control l.yielded l.control

@@ -31,8 +31,8 @@ returns-in-Ok-control g c depth short =
     let begun = c.begin-folder.ensures in
     let last = c.in-Ok.folder in
     let ready =
-    subst (λ d. IfOk d (λ f. goal.F-IsAlwaysCallable g f.fold_op.now × IsWatching f.watch
-    × (0 < stands_for f.watch.seat) × TellsAs f.watch.start (known f.watch.seat) f.control))
+    subst (λ d. IfOk d (λ f. IsWatching f.watch × (0 < stands_for f.watch.seat)
+    × TellsAs f.watch.start (known f.watch.seat) f.control))
     c.in-Ok.is c.feed-fed.ensures.ready in
     let fed =
     subst (λ d. IfOk d (λ f. GivesSome gives self.parts (λ xs. (more : List g.row.X.Denot)
@@ -49,8 +49,8 @@ returns-in-Ok-control g c depth short =
           (o : Result g.row.R.Denot g.row.E.Denot). g.F.Fn.post last.fold_op.now (v, (x, tt)) o)
           last.control,
       (refl, refl, refl),
-      ready.1,
-      ready.3,
+      ready.0,
+      ready.2,
     )
     in
     let all : Comes step first.control first.watch fed.0 last.control last.watch =
@@ -97,8 +97,8 @@ returns-in-Err-control g c depth short =
     let begun = c.begin-folder.ensures in
     let last = c.in-Ok.folder in
     let ready =
-    subst (λ d. IfOk d (λ f. goal.F-IsAlwaysCallable g f.fold_op.now × IsWatching f.watch
-    × (0 < stands_for f.watch.seat) × TellsAs f.watch.start (known f.watch.seat) f.control))
+    subst (λ d. IfOk d (λ f. IsWatching f.watch × (0 < stands_for f.watch.seat)
+    × TellsAs f.watch.start (known f.watch.seat) f.control))
     c.in-Ok.is c.feed-fed.ensures.ready in
     let fed =
     subst (λ d. IfOk d (λ f. GivesSome gives self.parts (λ xs. (more : List g.row.X.Denot)
@@ -115,8 +115,8 @@ returns-in-Err-control g c depth short =
           (o : Result g.row.R.Denot g.row.E.Denot). g.F.Fn.post last.fold_op.now (v, (x, tt)) o)
           last.control,
       (refl, refl, refl),
-      ready.1,
-      ready.3,
+      ready.0,
+      ready.2,
     )
     in
     let all : Comes step first.control first.watch fed.0 last.control last.watch =

@@ -2,7 +2,7 @@
 use Rattle.std.proofs.Common.{rules}
 use Rattle.parallel_bridge.specs.Ways.{FoldedAs}
 use Rattle.commonware_parallel.proofs.Settled.{at_threads}
-use Rattle.commonware_parallel.proofs.list.fold_through.Goals as goal
+use Rattle.commonware_parallel.proofs.list.folds.fold_through.Goals as goal
 
 pub returns-clause-answers : goal.returns-clause-answers
 returns-clause-answers g c =

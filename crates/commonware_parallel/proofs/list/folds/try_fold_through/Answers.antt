@@ -2,7 +2,7 @@
 use Rattle.std.proofs.Common.{rules, Result}
 use Rattle.parallel_bridge.specs.Ways.{TryFoldedAs}
 use Rattle.commonware_parallel.proofs.Settled.{outcome_at_threads}
-use Rattle.commonware_parallel.proofs.list.try_fold_through.Goals as goal
+use Rattle.commonware_parallel.proofs.list.folds.try_fold_through.Goals as goal
 
 pub returns : goal.returns
 returns g c =

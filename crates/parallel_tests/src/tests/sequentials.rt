@@ -1,0 +1,87 @@
+// `Sequential`'s own functions: one range, a plan for one worker, a job that is run at once.
+ghost use Rattle.std.specs.Prelude.{◌≡◌, ⊤};
+
+use crate::tests::same::{answers, lists, same};
+use crate::tests::strategies::{SITE, number};
+use commonware_parallel::{Grid, Job, Sequential, Trouble};
+use std::ops::Range;
+
+// Answers its number.
+#[derive(Drop)]
+struct Gives(u64);
+
+impl<S: Drop> Job<S, u64> for Gives {
+    ghost may_run = { λ _ _. ⊤ };
+
+    ghost may_answer = { λ job _ answer. answer ≡ job.0 };
+
+    fn run_on(self, _strategy: S) -> u64 {
+        self.0
+    }
+}
+
+#[test]
+fn all_indices_are_one_range(rt: HostRuntime) {
+    let alloc = rt.alloc();
+    let five = number(&rt, 5);
+    for len in [0, 16] {
+        let told = Sequential.run_batches(alloc, SITE, len, five, usize::MAX, |batches| {
+            (batches.ranges() == [0..len].as_slice(), batches.site())
+        });
+        answers(&rt, len, told, (true, SITE));
+    }
+    let ends = Sequential.try_run_batches(alloc, SITE, 16, five, 1, |batches| {
+        let prepare = |ranges: &[Range<usize>]| {
+            let mut ends = Vec::new(alloc);
+            for range in ranges {
+                ends.push(range.end)?;
+            }
+            Ok(ends)
+        };
+        batches
+            .map_collect_vec(&rt, alloc, prepare, |end: usize| end / 2)
+            .map_err(|_| "memory")
+    });
+    lists(&rt, "ends", ends, &[8]);
+    let failed: Result<u64, Trouble<&str>> =
+        Sequential.try_run_batches(alloc, SITE, 16, five, 1, |_| Err("closed"));
+    same(&rt, failed, Err(Trouble::Closure("closed")));
+}
+
+#[test]
+fn tiles_are_planned_for_one_worker(rt: HostRuntime) {
+    let alloc = rt.alloc();
+    let grids = [
+        Grid {
+            rows: 2,
+            tile_cost: number(&rt, 1),
+        },
+        Grid {
+            rows: 1,
+            tile_cost: number(&rt, 9),
+        },
+    ];
+    assert!(rt; Grid::fits(&grids, 5));
+    let (plan, rows) = Sequential.run_tiles(SITE, 5, &grids, usize::MAX, |tiles| {
+        let plan = (tiles.grid(), tiles.workers().get(), tiles.is_cut());
+        let fill = |cells: &mut usize, _: usize, columns: Range<usize>| {
+            *cells = cells.saturating_add(columns.len());
+        };
+        let finish = |cells: &mut usize, row: usize| (row, *cells);
+        (
+            plan,
+            tiles.fill_collect_vec(&rt, alloc, || 0_usize, fill, finish),
+        )
+    });
+    same(&rt, plan, (0, 1, false));
+    lists(&rt, "rows", rows, &[(0, 5), (1, 10)]);
+}
+
+#[test]
+fn a_job_is_run_at_once_and_taken_without_a_wait(rt: HostRuntime) {
+    let mut spawned = Sequential.spawn((), SITE, 1, Gives(7));
+    assert!(rt; spawned.is_ready());
+    same(&rt, spawned.take_ready(), Some(7));
+    assert!(rt; !spawned.is_ready());
+    same(&rt, spawned.take_ready(), None);
+}
