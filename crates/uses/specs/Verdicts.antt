@@ -1,6 +1,8 @@
 -- What a check of many items finds.
 use Rattle.std.specs.Prelude.{◌≡◌, ℕ, ◌<◌, ◌≤◌, List, ◌∷◌, ◌++◌, All, Bool, true, false, Option, Some, None, Result, MatchResult, length, ◌+◌, ◌%◌, ◌^◌}
+use Rattle.std.specs.Borrow.{Bor}
 use Rattle.std.specs.List.{AllWithin, HoldsAt}
+use Rattle.sha2.specs.Sha256.{sha256}
 
 -- the item at the index may fail, and each item before it may pass
 abbrev pub IsFirstFailing : {X : Type 0} → (X → Bool → Type 0) → List X → ℕ → Type 0
@@ -31,3 +33,12 @@ Judges verdict xs i out = MatchResult out (λ _. HoldsAt (λ x. verdict x true) 
 abbrev pub AddsWithin : ℕ → ℕ → ℕ → Result ℕ ℕ → Type 0
 AddsWithin limit a x out =
     MatchResult out (λ b. (b ≡ (a + x) % 2 ^ 64) × (x ≤ limit)) (λ e. (e ≡ x) × (limit < x))
+
+-- the tag of a message is its digest by SHA-256
+abbrev pub HasItsTag : (Bor (List ℕ) × List ℕ) → Type 0
+HasItsTag (message, tag) = sha256 message.now ≡ tag
+
+-- the tag of the pair at the index isn't its message's digest, and that of each pair before it is
+abbrev pub IsFirstForged : List (Bor (List ℕ) × List ℕ) → ℕ → Type 0
+IsFirstForged pairs index = (index < length pairs)
+    × HoldsAt (λ pair. ¬ HasItsTag pair) pairs index × AllWithin HasItsTag pairs 0 index

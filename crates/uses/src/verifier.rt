@@ -1,11 +1,13 @@
 // Checks of many items: the first bad index, the good and the bad, a sum that stops at a limit.
-ghost use Rattle.std.specs.Prelude.{◌≡◌, ℕ, ◌≤◌, ◌<◌, ◌%◌, ◌^◌, ◌+◌, Bool, true, false, All, not, length, sum, Result, IfOk, IfErr, ⊤};
+ghost use Rattle.std.specs.Prelude.{◌≡◌, ℕ, ◌≤◌, ◌<◌, ◌%◌, ◌^◌, ◌+◌, Bool, true, false, All, not, length, sum, Result, IfOk, IfErr, IsTrue, ◌↔◌, ⊤};
 ghost use Rattle.std.specs.List.{filter};
 ghost use Rattle.parallel_fault.specs.declared.fault.Fault.TheVariants.{Memory};
 ghost use Rattle.parallel_fault.specs.Trouble.{IfClosure, IfFault};
-ghost use Rattle.uses.specs.Verdicts.{AddsWithin, IsFirstFailing, IsFirstOver, IsSortedOut, Judges};
+ghost use Rattle.uses.specs.Verdicts.{AddsWithin, HasItsTag, IsFirstFailing, IsFirstForged, IsFirstOver, IsSortedOut, Judges};
 
+use crate::merkle::Digest;
 use commonware_parallel::{Copies, Fault, Indices, Place, Strategy, Trouble};
+use sha2::{Digest as _, Sha256};
 use std::alloc::Global;
 use std::sync::Wait;
 use std::thread::Threads;
@@ -85,6 +87,30 @@ fn judge_all<
     strategy.try_map_collect_vec(rt, alloc, site, indices, verdict)
 }
 
+/// Checks pairs of a message and a tag, which is to be the message's digest by SHA-256, and answers
+/// the index of the first pair of which it isn't.
+///
+/// # Errors
+///
+/// `Trouble::Closure` with the index of a pair whose tag isn't its message's digest, before which
+/// each is. `Trouble::Fault` with `Fault::Memory` alone.
+pub fn verify_tags<Rt: Threads + Wait + Sync, P: Place, S: Strategy>(
+    rt: &Rt,
+    alloc: Global,
+    strategy: &S,
+    site: P,
+    pairs: &[(&[u8], Digest)],
+) -> Result<(), Trouble<usize>>
+    ensures each { IfOk result (λ _. All HasItsTag pairs.now) }
+    ensures first { IfErr result (λ trouble. IfClosure trouble (IsFirstForged pairs.now)) }
+    ensures fault { IfErr result (λ trouble. IfFault trouble (λ fault. fault ≡ Memory)) }
+{
+    let check = |pair: (&[u8], Digest)| -> bool
+        ensures { IsTrue result ↔ HasItsTag pair }
+    { Sha256::digest(pair.0) == pair.1 };
+    verify_all(rt, alloc, strategy, site, pairs, check)
+}
+
 /// The items that pass a check and those that fail it, both in the items' order.
 ///
 /// # Errors
@@ -156,33 +182,6 @@ pub fn sum_within<Rt: Threads + Wait + Sync, P: Place, S: Strategy>(
             Ok(total.wrapping_add(number))
         }
     };
-    add_all(rt, alloc, strategy, site, numbers, limit, step)
-}
-
-// The numbers added up by a step that stops at a number above the limit.
-fn add_all<
-    Rt: Threads + Wait + Sync,
-    P: Place,
-    S: Strategy,
-    F: Fn(u64, u64) -> Result<u64, u64> + Send + Sync + Drop,
->(
-    rt: &Rt,
-    alloc: Global,
-    strategy: &S,
-    site: P,
-    numbers: &[u64],
-    limit: u64,
-    step: F,
-) -> Result<u64, Trouble<u64>>
-    requires accepts { F.IsAlwaysCallable step }
-    requires adds { (total number : ℕ) (out : Result ℕ ℕ)
-        → F.post step total number out → AddsWithin limit total number out }
-    ensures within { IfOk result (λ _. All (λ x. x ≤ limit) numbers.now) }
-    ensures sum { IfOk result (λ total. total ≡ sum numbers.now % 2 ^ 64) }
-    ensures first { IfErr result (λ trouble. IfClosure trouble (IsFirstOver limit numbers.now)) }
-    ensures fault { IfErr result (λ trouble. IfFault trouble (λ fault. fault ≡ Memory)) }
-{
-    let _ = limit;
     strategy.try_fold(
         rt,
         alloc,

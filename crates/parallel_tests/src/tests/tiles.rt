@@ -11,7 +11,7 @@ use std::process::Abort;
 use std::sync::Wait;
 use std::sync::atomic::{AtomicU64, Ordering};
 use std::thread::Threads;
-use uses::tile_rows::cells_by_stretch;
+use uses::tile_rows::above_by_row;
 
 // What tiles answered: the grid, the workers, whether rows may be cut, and for each result its row
 // and the number of cells that were filled for it.
@@ -316,22 +316,40 @@ fn stale_steals_claims_and_refills_change_nothing(rt: HostRuntime) {
     }
 }
 
+// The cells of two matrices that are above a threshold, row by row: two short rows, and three that
+// may be cut.
+fn count_rows<Rt: Threads + Wait + Sync, S: Strategy>(
+    rt: &Rt,
+    alloc: Global,
+    strategy: &S,
+) -> Result<(Vec<usize>, Vec<usize>), Fault> {
+    let short = [9, 1, 5, 5, 6, 4, 0, 255];
+    let few = above_by_row(rt, alloc, strategy, SITE, &short, 2, 4, 4)?;
+    let mut long = [9; 2100];
+    long[0] = 4;
+    long[700] = 0;
+    long[1399] = 4;
+    let many = above_by_row(rt, alloc, strategy, SITE, &long, 3, 700, 4)?;
+    Ok((few, many))
+}
+
+fn rows_are_counted<Rt: Threads + Wait + Abort + Sync, S: Strategy>(
+    rt: &Rt,
+    alloc: Global,
+    strategy: &S,
+) {
+    let (few, many) = count_rows(rt, alloc, strategy).expect(rt, "memory");
+    row(rt, 1, few.as_slice(), &[3, 2]);
+    row(rt, 2, many.as_slice(), &[699, 698, 700]);
+}
+
 #[test]
-fn a_kernel_counts_each_cell_once(rt: HostRuntime) {
+fn a_kernel_counts_each_row(rt: HostRuntime) {
     let alloc = rt.alloc();
-    lists(
-        &rt,
-        1,
-        cells_by_stretch(&rt, alloc, &Sequential, SITE, 3, 7, number(&rt, 7)),
-        &[(0, 7), (1, 7), (2, 7)],
-    );
-    let strategy = pool(&rt, alloc, 4, 4);
-    let cut = cells_by_stretch(&rt, alloc, &strategy, SITE, 3, 1000, number(&rt, 1)).expect(
-        &rt, "memory",
-    );
-    let mut cells = 0usize;
-    for (_, width) in cut {
-        cells = cells.wrapping_add(width);
+    rows_are_counted(&rt, alloc, &Sequential);
+    for threads in [1usize, 4, 8] {
+        rows_are_counted(&rt, alloc, &pool(&rt, alloc, threads, threads));
     }
-    same(&rt, cells, 3000);
+    let explored = explore(&rt, alloc, |explorer| count_rows(&rt, alloc, explorer).is_ok());
+    same(&rt, explored, Ok(true));
 }

@@ -10,7 +10,7 @@ use std::process::Abort;
 use std::sync::Wait;
 use std::sync::atomic::{AtomicU32, Ordering};
 use std::thread::Threads;
-use uses::verifier::{sum_within, verify_all};
+use uses::verifier::{sum_within, verify_all, verify_tags};
 
 // The numbers below 100, of which 57 and 99 fail, and `more` too.
 fn map_or_fail<Rt: Threads + Wait + Sync, S: Strategy>(
@@ -234,5 +234,38 @@ fn a_verifier_finds_the_first_failing_item(rt: HostRuntime) {
     find_the_third(&rt, rt.alloc(), &Sequential);
     for threads in 1..9usize {
         find_the_third(&rt, rt.alloc(), &pool(&rt, rt.alloc(), threads, threads));
+    }
+}
+
+// SHA-256 of no bytes, and of "abc".
+const OF_NONE: [u8; 32] = [
+    227, 176, 196, 66, 152, 252, 28, 20, 154, 251, 244, 200, 153, 111, 185, 36,
+    39, 174, 65, 228, 100, 155, 147, 76, 164, 149, 153, 27, 120, 82, 184, 85,
+];
+const OF_ABC: [u8; 32] = [
+    186, 120, 22, 191, 143, 1, 207, 234, 65, 65, 64, 222, 93, 174, 34, 35,
+    176, 3, 97, 163, 150, 23, 122, 156, 180, 16, 255, 97, 242, 0, 21, 173,
+];
+
+// Three pairs whose tags are their messages' digests, and four of which the third has another's.
+fn find_the_forged<Rt: Threads + Wait + Abort + Sync, S: Strategy>(
+    rt: &Rt,
+    alloc: Global,
+    strategy: &S,
+) {
+    let none: &[u8] = &[];
+    let good = [(none, OF_NONE), (b"abc", OF_ABC), (none, OF_NONE)];
+    let checked = verify_tags(rt, alloc, strategy, SITE, &good);
+    same(rt, checked, Ok(()));
+    let forged = [(none, OF_NONE), (b"abc", OF_ABC), (b"abd", OF_ABC), (none, OF_ABC)];
+    let found = verify_tags(rt, alloc, strategy, SITE, &forged);
+    same(rt, found, Err(Trouble::Closure(2)));
+}
+
+#[test]
+fn a_verifier_finds_the_first_forged_tag(rt: HostRuntime) {
+    find_the_forged(&rt, rt.alloc(), &Sequential);
+    for threads in [1usize, 4, 8] {
+        find_the_forged(&rt, rt.alloc(), &pool(&rt, rt.alloc(), threads, threads));
     }
 }
