@@ -350,6 +350,7 @@ fn a_kernel_counts_each_row(rt: HostRuntime) {
     for threads in [1usize, 4, 8] {
         rows_are_counted(&rt, alloc, &pool(&rt, alloc, threads, threads));
     }
-    let explored = explore(&rt, alloc, |explorer| count_rows(&rt, alloc, explorer).is_ok());
-    same(&rt, explored, Ok(true));
+    let explored = explore(&rt, alloc, |explorer| count_rows(&rt, alloc, explorer).ok());
+    let (few, _) = explored.expect(&rt, "one output").expect(&rt, "memory");
+    same(&rt, few.as_slice(), [3, 2].as_slice());
 }
