@@ -1,14 +1,14 @@
 // Calls that may fail, on four threads: once the first item has failed, the segments behind it
 // stop, and most items are never asked.
 use crate::tests::strategies::{SITE, pool};
-use commonware_parallel::{Copies, Strategy, Trouble};
+use commonware_parallel::{Copies, Fault, Strategy, Trouble};
 use std::alloc::Global;
 use std::process::Abort;
 use std::sync::Wait;
 use std::sync::atomic::{AtomicU64, Ordering};
 use std::thread::{Threads, yield_now};
 
-// The items of each list: the first is 1, and fails.
+// How many items each list has.
 const LEN: usize = 100_000;
 
 // Waits until a word has come to a number, but not for ever.
@@ -74,6 +74,16 @@ impl Calls {
     }
 }
 
+// The items: the first is 1, and the others are 0.
+fn items(alloc: Global) -> Result<Vec<u8>, Fault> {
+    let mut items = Vec::with_capacity(alloc, LEN)?;
+    items.push(1)?;
+    for _ in 1..LEN {
+        items.push(0)?;
+    }
+    Ok(items)
+}
+
 // Maps over a slice, over copies of its items, and over an iterator.
 fn maps_stop<Rt: Threads + Wait + Abort + Sync, S: Strategy>(
     rt: &Rt,
@@ -118,8 +128,7 @@ fn folds_stop<Rt: Threads + Wait + Abort + Sync, S: Strategy>(
 fn what_lies_behind_the_first_error_is_mostly_not_asked(rt: HostRuntime) {
     let alloc = rt.alloc();
     let four = pool(&rt, alloc, 4, 4);
-    let mut items = [0u8; LEN];
-    items[0] = 1;
+    let items = items(alloc).expect(&rt, "memory");
     maps_stop(&rt, alloc, &four, &items);
     folds_stop(&rt, alloc, &four, &items);
 }

@@ -169,11 +169,12 @@ fn refused<Rt: Threads + Wait + Abort + Sync, S: Strategy>(
     tried: Tried,
 ) -> (u64, u64) {
     let (mut count, mut behind) = (0u64, 0u64);
-    let mut left = ROOM.saturating_sub(ITEMS);
-    while left >= 16 {
+    for step in 0..500usize {
+        let rest = ROOM.saturating_sub(ITEMS);
+        let taken = rest.saturating_sub(step.saturating_mul(16));
         let seen = Seen::new();
         let items = counted_items(alloc, &seen.counts, LEN).expect(rt, "room for the items");
-        let plug = Vec::<u8>::with_capacity(alloc, left).expect(rt, "room for the rest");
+        let plug = Vec::<u8>::with_capacity(alloc, taken).expect(rt, "room for the rest");
         let is_refused = try_one(rt, alloc, strategy, tried, &seen, items);
         drop(plug);
         if !is_refused {
@@ -181,7 +182,6 @@ fn refused<Rt: Threads + Wait + Abort + Sync, S: Strategy>(
         }
         count = count.saturating_add(1);
         behind |= 1u64.wrapping_shl(seen.calls.load(Ordering::SeqCst) as u32);
-        left = left.saturating_sub(16);
     }
     panic!(rt; "{tried:?} was refused with room for it");
 }
@@ -205,21 +205,51 @@ fn try_all<Rt: Threads + Wait + Abort + Sync, S: Strategy>(rt: &Rt, alloc: Globa
     }
 }
 
-// Tries each call with more and more memory, and stops the test where it wasn't refused behind as
-// many calls of its closure as are wanted, a bit for each number. It answers how often it was.
+// Behind how many calls of its closure a call is to be refused, a bit for each number: behind some
+// of the first ones, and behind some of the later ones. No bit where it is never.
+#[derive(Clone, Copy, Debug)]
+struct Wanted {
+    tried: Tried,
+    first: u64,
+    later: u64,
+}
+
+// Tries each call with more and more memory, and stops the test where it wasn't refused as wanted,
+// or elsewhere. It answers how often it was.
 fn refuse_all<Rt: Threads + Wait + Abort + Sync, S: Strategy>(
     rt: &Rt,
     alloc: Global,
     strategy: &S,
-    wanted: [u64; 5],
+    all: [Wanted; 5],
 ) -> u64 {
     let mut total = 0u64;
-    for (tried, behind) in ALL.into_iter().zip(wanted) {
+    for one in all {
+        let Wanted {
+            tried,
+            first,
+            later,
+        } = one;
         let (count, found) = refused(rt, alloc, strategy, tried);
-        row(rt, (tried, count), found, behind);
+        let at = (tried, count, found);
+        row(
+            rt,
+            at,
+            (found & first > 0, found & later > 0),
+            (first > 0, later > 0),
+        );
+        row(rt, at, found & !(first | later), 0);
         total = total.saturating_add(count);
     }
     total
+}
+
+// A call that is wanted to be refused so.
+fn behind(tried: Tried, first: u64, later: u64) -> Wanted {
+    Wanted {
+        tried,
+        first,
+        later,
+    }
 }
 
 #[test]
@@ -241,11 +271,24 @@ fn each_growth_is_refused_in_turn(rt: HostRuntime) {
         return;
     };
     drop(room);
-    // Of nine leaves four, two, one and one more are combined. A serial map asks for all places at
-    // once, or for four, eight and sixteen as the items come; a serial fold asks for none.
-    let root = 0b1101_0001;
-    let serial = refuse_all(&rt, alloc, &Sequential, [root, 1, 0b10_0010_0010, 0, 0]);
-    let parallel = refuse_all(&rt, alloc, &four, [root, 1, 1, 1, 1]);
+    // Of nine leaves four, two, one and one more are combined. A serial map takes its places with
+    // its first answers, or more of them as more come; a serial fold takes none.
+    let serial = [
+        behind(Tried::Root, 0b11, 0b1_1111_0000),
+        behind(Tried::Map, 0b11, 0),
+        behind(Tried::MapOfIterator, 0b10, 0b10_0010_0000),
+        behind(Tried::Fold, 0, 0),
+        behind(Tried::FoldOfIterator, 0, 0),
+    ];
+    let parallel = [
+        behind(Tried::Root, 1, 0b1101_0000),
+        behind(Tried::Map, 1, 0),
+        behind(Tried::MapOfIterator, 1, 0),
+        behind(Tried::Fold, 1, 0),
+        behind(Tried::FoldOfIterator, 1, 0),
+    ];
+    let serial = refuse_all(&rt, alloc, &Sequential, serial);
+    let parallel = refuse_all(&rt, alloc, &four, parallel);
     drop(held);
     let _told = eprintln!(rt; "{serial} serial and {parallel} parallel calls were refused");
 }

@@ -93,8 +93,20 @@ fn roots_are_those_of_another_program(rt: HostRuntime) {
     }
 }
 
-// How many of the changes of one step of a proof are accepted: another byte at either end, a step
-// taken away, and one put in.
+// A step of a proof, changed: another byte at either end, or the step taken away or put in.
+fn changed(step: Option<Digest>, change: u8, root: &Digest) -> Option<Digest> {
+    let Some(mut digest) = step else {
+        return Some(*root);
+    };
+    match change {
+        0 => digest[0] ^= 1,
+        1 => digest[31] ^= 128,
+        _ => return None,
+    }
+    Some(digest)
+}
+
+// How many of such changes of one step of a proof are accepted.
 fn changed_steps(
     alloc: Global,
     root: &Digest,
@@ -106,18 +118,9 @@ fn changed_steps(
     for at in 0..proof.len() {
         for change in 0..3u8 {
             let mut forged = Vec::from_slice(alloc, proof)?;
-            forged[at] = match (forged[at], change) {
-                (Some(mut digest), 0) => {
-                    digest[0] ^= 1;
-                    Some(digest)
-                }
-                (Some(mut digest), 1) => {
-                    digest[31] ^= 128;
-                    Some(digest)
-                }
-                (Some(_), _) => None,
-                (None, _) => Some(*root),
-            };
+            if at < forged.len() {
+                forged[at] = changed(forged[at], change, root);
+            }
             if is_member(root, count, index, leaf, &forged) {
                 accepted = accepted.saturating_add(1);
             }

@@ -191,13 +191,11 @@ fn outcome<Rt: Threads + Wait + Abort + Sync>(
     };
     let found = outcome_of(rt, alloc, &strategy, call, &mut numbers, &calls);
     drop(held);
-    let sum = numbers.iter().copied().fold(0, u32::wrapping_add);
-    row(
-        rt,
-        call,
-        (numbers.iter().max().copied(), sum),
-        (Some(999), 499_500),
-    );
+    let mut sum = 0u32;
+    for number in &numbers {
+        sum = sum.wrapping_add(*number);
+    }
+    row(rt, call, sum, 499_500);
     let then = next(rt, alloc, &clock, &strategy, Call::body(LEN));
     Some((found, calls.load(Ordering::SeqCst), then))
 }
@@ -205,10 +203,12 @@ fn outcome<Rt: Threads + Wait + Abort + Sync>(
 #[test]
 fn a_run_that_is_refused_or_fails_is_not_recorded(rt: HostRuntime) {
     let alloc = rt.alloc();
-    for (call, is_refused, calls, then) in [
+    // A closure is called so often at most: not before the items are gathered, and at most once
+    // before there are places for its answers.
+    for (call, is_refused, most, then) in [
         (Made::Gathered, true, 0, (true, true)),
-        (Made::Map, true, 0, (true, false)),
-        (Made::Tried, true, 0, (true, false)),
+        (Made::Map, true, 1, (true, false)),
+        (Made::Tried, true, 1, (true, false)),
         (Made::Sort, true, 0, (true, false)),
         (Made::FailingMap, false, 999, (true, false)),
         (Made::FailingFold, false, 999, (true, false)),
@@ -221,8 +221,9 @@ fn a_run_that_is_refused_or_fails_is_not_recorded(rt: HostRuntime) {
             _ if is_refused => Err(Trouble::Fault(Fault::Memory)),
             _ => Ok(()),
         };
-        if let Some(found) = outcome(&rt, alloc, call, is_refused) {
-            row(&rt, (call, is_refused), found, (wanted, calls, then));
+        if let Some((found, calls, next)) = outcome(&rt, alloc, call, is_refused) {
+            row(&rt, (call, is_refused), (found, next), (wanted, then));
+            assert!(rt; calls <= most, "{call:?}: {calls} calls");
         }
     }
 }
@@ -249,19 +250,18 @@ fn refused_jobs<Rt: Threads + Wait + Abort + Copy + Send + 'static>(
     strategy: &Rayon<Stepped>,
 ) -> u64 {
     let mut refused = 0u64;
-    let mut left = 4_096usize;
-    while left > 3_000 {
-        let plug = Vec::<u8>::with_capacity(alloc, left).expect(rt, "room for the rest");
+    for step in 0..60usize {
+        let taken = 4_096usize.saturating_sub(step.saturating_mul(16));
+        let plug = Vec::<u8>::with_capacity(alloc, taken).expect(rt, "room for the rest");
         match strategy.spawn(rt, alloc, SITE, 1, Gives(7)) {
             Err(Fault::Memory) => refused = refused.saturating_add(1),
             Err(fault) => {
-                row(rt, left, fault, Fault::Worker);
+                row(rt, step, fault, Fault::Worker);
                 return refused;
             }
-            Ok(_) => panic!(rt; "a job was handed off with {left} bytes taken"),
+            Ok(_) => panic!(rt; "a job was handed off with {taken} bytes taken"),
         }
         drop(plug);
-        left = left.saturating_sub(16);
     }
     panic!(rt; "no worker was refused")
 }
