@@ -134,7 +134,7 @@ pub fn counted_items<'a>(
     counts: &'a Counts,
     len: usize,
 ) -> Result<Vec<Counted<'a>>, Fault> {
-    let mut items = Vec::new(alloc);
+    let mut items = Vec::with_capacity(alloc, len)?;
     for place in 0..len {
         items.push(Counted::new(counts, place))?;
     }

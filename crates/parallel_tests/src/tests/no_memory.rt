@@ -1,0 +1,38 @@
+// A machine without memory, as a test makes it: it takes all the addresses that the process may
+// have, untouched, and then each request is refused until some of them are let go.
+//
+// It does nothing where allocations are checked, as by `rt try`: there small requests are granted
+// from a store that has no end. The tests that ask for it are for `rt test`.
+use std::alloc::Global;
+
+// Asks for blocks of a size until one is refused, and keeps them; for so many at most. Answers
+// whether one was refused.
+fn take_all(alloc: Global, size: usize, most: u32, held: &mut Vec<Vec<u8>>) -> bool {
+    for _ in 0..most {
+        let Ok(block) = Vec::with_capacity(alloc, size) else {
+            return true;
+        };
+        if held.push(block).is_err() {
+            return true;
+        }
+    }
+    false
+}
+
+/// All memory that is left, in blocks of all sizes: while they are held, each request is refused.
+/// None where memory has no end.
+pub fn all_memory(alloc: Global) -> Option<Vec<Vec<u8>>> {
+    let mut held = Vec::with_capacity(alloc, 70_000).ok()?;
+    for halvings in 0..43u32 {
+        let most = if halvings < 26 { 60_000 } else { 1000 };
+        if !take_all(alloc, (1usize << 46) >> halvings, most, &mut held) {
+            return None;
+        }
+    }
+    for sixteens in 1..70usize {
+        if !take_all(alloc, sixteens.wrapping_mul(16), 1000, &mut held) {
+            return None;
+        }
+    }
+    Some(held)
+}
