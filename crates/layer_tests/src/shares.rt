@@ -438,7 +438,7 @@ fn a_run_goes_on_in_a_row_and_over_to_the_next(rt: HostRuntime) {
                 *filled = (filled.0.saturating_add(cells), filled.1.saturating_add(1));
             },
             &|filled: &mut (usize, usize), row: usize| {
-                let (cells, calls) = *filled;
+                let (cells, calls) = (filled.0, filled.1);
                 *filled = (0, 0);
                 (row, cells, calls)
             },

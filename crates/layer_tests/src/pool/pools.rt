@@ -424,17 +424,28 @@ fn a_pool_that_is_closed_has_called_each_job_to_its_end(rt: HostRuntime) {
     same(&rt, called.load(Ordering::SeqCst), 4);
 }
 
-// A job that raises a word by one where the thread that calls it has this name.
+// What Linux writes of the thread of a worker of this index that has its name.
+fn line_of(index: usize) -> &'static str {
+    if index == 0 { "first\n" } else { "second\n" }
+}
+
+// Whether the thread that asks has the name of the worker of an index.
+fn has_name<R: Files + Alloc>(rt: &R, index: usize) -> bool {
+    match fs::read_to_string(rt, "/proc/thread-self/comm") {
+        Ok(line) => line.as_str() == line_of(index),
+        Err(_error) => false,
+    }
+}
+
+// A job that raises a word by one where its thread has the name of its worker.
 fn raises_named<R: Files + Alloc + Abort + Copy + Send + 'static>(
     rt: R,
     alloc: Global,
     word: &Arc<AtomicU64>,
-    wanted: &'static str,
 ) -> OwnedJob {
     let theirs = Arc::try_clone(word).expect(&rt, "a handle");
-    let body = Box::new(alloc, move |_: usize| {
-        let name = fs::read_to_string(&rt, "/proc/thread-self/comm");
-        if matches!(name, Ok(name) if name.as_str() == wanted) {
+    let body = Box::new(alloc, move |index: usize| {
+        if has_name(&rt, index) {
             theirs.fetch_add(1, Ordering::SeqCst);
         }
     });
@@ -452,8 +463,8 @@ fn a_workers_thread_has_its_name(rt: HostRuntime) {
     let builder = builder.thread_name(names.expect(&rt, "memory"));
     let (pool, _none) = builder.build(&rt, alloc).expect(&rt, "a pool");
     let mut jobs = VecDeque::new(alloc);
-    for wanted in ["first\n", "second\n"] {
-        let job = raises_named(rt, alloc, &right, wanted);
+    for _ in 0..2 {
+        let job = raises_named(rt, alloc, &right);
         jobs.push_back(job).expect(&rt, "memory");
     }
     assert!(rt; jobs.len() == pool.current_num_threads());

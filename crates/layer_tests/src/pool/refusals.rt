@@ -338,9 +338,10 @@ fn many_jobs_are_called_but_those_that_are_refused(rt: HostRuntime) {
         return;
     };
     let builder = builder.num_threads(2).use_current_thread();
-    let Ok((pool, Some(mut worker))) = builder.build_for::<HostRuntime, Raise>(&rt, alloc) else {
+    let Ok((pool, current)) = builder.build_for::<HostRuntime, Raise>(&rt, alloc) else {
         return;
     };
+    let mut worker = current.expect(&rt, "the current worker");
     let injected = many_come(&rt, &mut worker, Queue::Injected, &called);
     let broadcast = many_come(&rt, &mut worker, Queue::Broadcast(1), &called);
     drop(pool);
