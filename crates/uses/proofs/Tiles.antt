@@ -116,7 +116,8 @@ module _ (threshold : ℕ) (matrix : List ℕ) where
   -- no range has more of them than places
   number_small : (a b : ℕ) → a ≤ b → number_above threshold (slice_range matrix a b) ≤ b - a
   number_small a b h =
-      let parts : length (drop a matrix) ≡ length (slice_range matrix a b) + length (drop b matrix) =
+      let parts : length (drop a matrix)
+      ≡ length (slice_range matrix a b) + length (drop b matrix) =
       ap length (drop_split matrix a b h)
       ∙ length-append (slice_range matrix a b) (drop b matrix) in
       omega (
@@ -311,8 +312,8 @@ sums_done rows pairs i sums end long so_far =
     let below : row < rows = omega (arith, within, long) in
     let none : counted_in row (drop i pairs) ≡ 0 = ap (counted_in row) (drop_all i pairs end) in
     let at : get_or (map (λ row. counted_in row pairs) (range_with_len 0 rows)) row 0
-    ≡ counted_in row pairs = get_or-map-range_with_len (λ row. counted_in row pairs) 0 rows row row 0
-    below (omega arith) in
+    ≡ counted_in row pairs =
+    get_or-map-range_with_len (λ row. counted_in row pairs) 0 rows row row 0 below (omega arith) in
     omega (arith, none, at, so_far row below))
 
 -- ---- along chains of stretches
@@ -368,8 +369,9 @@ module _ (init : ℕ → Type 0) (fill : ℕ → ℕ → Range ℕ → ℕ → T
       let number : v ≡ (row_and_number threshold matrix len x).1 =
       omega (arith, so.1, is.1, small, bound) in
       let rest = along u xs rs t end.1 (All-tail (IsStretch len) x xs all) later in
-      ap (λ p. p ∷ rs) (end.0 ∙ ap (λ n. (x.row, n)) number)
-      ∙ ap (λ l. row_and_number threshold matrix len x ∷ l) rest
+      let named : r ≡ row_and_number threshold matrix len x =
+      end.0 ∙ ap (λ n. (x.row, n)) number in
+      ap (λ p. p ∷ rs) named ∙ ap (λ l. row_and_number threshold matrix len x ∷ l) rest
 
   -- and so along all chains
   along_chains : {xs : List Stretch} {rs : List (ℕ × ℕ)} → Chains init fill finish xs rs
@@ -399,17 +401,18 @@ pub counts_of_chains : (threshold : ℕ) (matrix : List ℕ) (rows len : ℕ) �
     → ((p q : MutBor ℕ) (row : ℕ) (answer : ℕ × ℕ) → finish p row answer q
     → (answer ≡ (row, p.now)) × (q.now ≡ 0))
     → CountsStretches threshold matrix rows len counts
-counts_of_chains threshold matrix rows len small init fill finish cut counts cuts chains begins adds ends = (
-  cut,
-  cuts,
-  along_chains init (Fills fill) (Gives finish) threshold matrix len small begins
-      (λ s row columns t h. sym h.4 ∙ adds h.0 h.1 row columns h.3
-      ∙ ap (λ n. (n + number_above threshold
-      (row_cells matrix len row columns.start columns.end)) % 2 ^ 64) h.2)
-      (λ s row r t h. let e = ends h.0 h.1 row r h.3 in
-      (e.0 ∙ ap (λ n. (row, n)) h.2, sym h.4 ∙ e.1))
-      chains (λ i d below. (cuts.within i d below).1),
-)
+counts_of_chains threshold matrix rows len small init fill finish cut counts cuts chains begins
+    adds ends = (
+      cut,
+      cuts,
+      along_chains init (Fills fill) (Gives finish) threshold matrix len small begins
+          (λ s row columns t h. sym h.4 ∙ adds h.0 h.1 row columns h.3
+          ∙ ap (λ n. (n + number_above threshold
+          (row_cells matrix len row columns.start columns.end)) % 2 ^ 64) h.2)
+          (λ s row r t h. let e = ends h.0 h.1 row r h.3 in
+          (e.0 ∙ ap (λ n. (row, n)) h.2, sym h.4 ∙ e.1))
+          chains (λ i d below. (cuts.within i d below).1),
+    )
 
 -- tiles of one grid have its rows
 pub only_grid : {S P : Type 0} (grid : Grid) (len workers : ℕ) (tiles : Tiles S P)

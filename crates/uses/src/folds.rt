@@ -1,6 +1,7 @@
 // Folds that are the plain fold from the left, since their closures keep the laws that `FoldLaws`
 // names.
-ghost use Rattle.std.specs.Prelude.{◌≡◌, ◌*◌, ◌+◌, ◌%◌, ◌^◌, fold, sum_by, IfOk, IfErr};
+ghost use Rattle.std.specs.Prelude.{◌≡◌, ◌*◌, ◌+◌, ◌%◌, ◌^◌, ◌<◌, All, fold, length, sum_by, IfOk, IfErr};
+ghost use Rattle.std.specs.List.{slice_index};
 ghost use Rattle.parallel_fault.specs.declared.fault.Fault.TheVariants.{Memory};
 ghost use Rattle.parallel_bridge.specs.Folds.{IsPlainFold};
 ghost use Rattle.parallel_bridge.specs.Sources.{GivesSome};
@@ -30,6 +31,37 @@ pub fn sum_of_squares<Rt: Threads + Wait + Sync, P: Place, S: Strategy>(
         || 0,
         |sum: u32, number: u32| sum.wrapping_add(number.wrapping_mul(number)),
         |left: u32, right: u32| left.wrapping_add(right),
+    )
+}
+
+/// The entries of a table at the places, added up; the sum wraps around at 2 to the power of 64.
+/// The step is asked for the places alone, each of which the table has, so it looks into the table
+/// with no test.
+pub fn sum_of_entries<Rt: Threads + Wait + Sync, P: Place, S: Strategy>(
+    rt: &Rt,
+    alloc: Global,
+    strategy: &S,
+    site: P,
+    table: &[u64],
+    places: &[usize],
+) -> Result<u64, Fault>
+    requires inside { All (λ place. place < length table.now) places.now }
+    ensures sum { IfOk result (λ sum.
+        sum ≡ sum_by (λ place. slice_index table.now place) places.now % 2 ^ 64) }
+    ensures fault { IfErr result (λ fault. fault ≡ Memory) }
+{
+    let step = |sum: u64, place: usize| -> u64
+        requires { place < length table.now }
+        ensures { result ≡ (sum + slice_index table.entry.now place) % 2 ^ 64 }
+    { sum.wrapping_add(table[place]) };
+    strategy.fold(
+        rt,
+        alloc,
+        site,
+        Copies { slice: places },
+        || 0,
+        step,
+        |left: u64, right: u64| left.wrapping_add(right),
     )
 }
 

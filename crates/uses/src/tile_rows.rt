@@ -102,11 +102,7 @@ fn count_above(cells: &[u8], threshold: u8) -> usize
 }
 
 // For each row the second numbers of those pairs added up that name it.
-fn sums_by_row(
-    alloc: Global,
-    rows: usize,
-    pairs: &[(usize, usize)],
-) -> Result<Vec<usize>, Fault>
+fn sums_by_row(alloc: Global, rows: usize, pairs: &[(usize, usize)]) -> Result<Vec<usize>, Fault>
     requires within { All (λ pair. pair.0 < rows) pairs.now }
     requires fits { (row : ℕ) → row < rows → counted_in row pairs.now < 2 ^ 64 }
     ensures sums { IfOk result

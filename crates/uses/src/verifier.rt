@@ -182,6 +182,33 @@ pub fn sum_within<Rt: Threads + Wait + Sync, P: Place, S: Strategy>(
             Ok(total.wrapping_add(number))
         }
     };
+    add_all(rt, alloc, strategy, site, numbers, limit, step)
+}
+
+// The numbers added up by a step that stops at a number above the limit.
+fn add_all<
+    Rt: Threads + Wait + Sync,
+    P: Place,
+    S: Strategy,
+    F: Fn(u64, u64) -> Result<u64, u64> + Send + Sync + Drop,
+>(
+    rt: &Rt,
+    alloc: Global,
+    strategy: &S,
+    site: P,
+    numbers: &[u64],
+    limit: u64,
+    step: F,
+) -> Result<u64, Trouble<u64>>
+    requires accepts { F.IsAlwaysCallable step }
+    requires adds { (total number : ℕ) (out : Result ℕ ℕ)
+        → F.post step total number out → AddsWithin limit total number out }
+    ensures within { IfOk result (λ _. All (λ x. x ≤ limit) numbers.now) }
+    ensures sum { IfOk result (λ total. total ≡ sum numbers.now % 2 ^ 64) }
+    ensures first { IfErr result (λ trouble. IfClosure trouble (IsFirstOver limit numbers.now)) }
+    ensures fault { IfErr result (λ trouble. IfFault trouble (λ fault. fault ≡ Memory)) }
+{
+    let _ = limit;
     strategy.try_fold(
         rt,
         alloc,

@@ -12,7 +12,7 @@ use std::num::NonZeroUsize;
 use std::process::Abort;
 use std::sync::Wait;
 use std::thread::Threads;
-use uses::folds::sum_of_squares;
+use uses::folds::{sum_of_entries, sum_of_squares};
 use uses::long_lists::{LongLists, fold_by_length};
 use uses::words::longest_word;
 
@@ -128,6 +128,8 @@ fn lawful_folds<Rt: Threads + Wait + Abort + Sync, S: Strategy>(
     let sum = sum_of_squares(rt, alloc, strategy, SITE, &numbers);
     answers(rt, of, sum, 4_294_836_239);
     answers(rt, of, sum_of_squares(rt, alloc, strategy, SITE, &[]), 0);
+    let entries = sum_of_entries(rt, alloc, strategy, SITE, &[10, 20, 30], &[2, 0, 2]);
+    answers(rt, of, entries, 70);
     let longest = longest_word(rt, alloc, strategy, SITE, &words);
     answers(rt, of, longest, Some("apple"));
     answers(rt, of, longest_word(rt, alloc, strategy, SITE, &[]), None);

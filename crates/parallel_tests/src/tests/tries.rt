@@ -239,12 +239,13 @@ fn a_verifier_finds_the_first_failing_item(rt: HostRuntime) {
 
 // SHA-256 of no bytes, and of "abc".
 const OF_NONE: [u8; 32] = [
-    227, 176, 196, 66, 152, 252, 28, 20, 154, 251, 244, 200, 153, 111, 185, 36,
-    39, 174, 65, 228, 100, 155, 147, 76, 164, 149, 153, 27, 120, 82, 184, 85,
+    227, 176, 196, 66, 152, 252, 28, 20, 154, 251, 244, 200, 153, 111, 185, 36, 39, 174, 65, 228,
+    100, 155, 147, 76, 164, 149, 153, 27, 120, 82, 184, 85,
 ];
+
 const OF_ABC: [u8; 32] = [
-    186, 120, 22, 191, 143, 1, 207, 234, 65, 65, 64, 222, 93, 174, 34, 35,
-    176, 3, 97, 163, 150, 23, 122, 156, 180, 16, 255, 97, 242, 0, 21, 173,
+    186, 120, 22, 191, 143, 1, 207, 234, 65, 65, 64, 222, 93, 174, 34, 35, 176, 3, 97, 163, 150,
+    23, 122, 156, 180, 16, 255, 97, 242, 0, 21, 173,
 ];
 
 // Three pairs whose tags are their messages' digests, and four of which the third has another's.
@@ -257,7 +258,12 @@ fn find_the_forged<Rt: Threads + Wait + Abort + Sync, S: Strategy>(
     let good = [(none, OF_NONE), (b"abc", OF_ABC), (none, OF_NONE)];
     let checked = verify_tags(rt, alloc, strategy, SITE, &good);
     same(rt, checked, Ok(()));
-    let forged = [(none, OF_NONE), (b"abc", OF_ABC), (b"abd", OF_ABC), (none, OF_ABC)];
+    let forged = [
+        (none, OF_NONE),
+        (b"abc", OF_ABC),
+        (b"abd", OF_ABC),
+        (none, OF_ABC),
+    ];
     let found = verify_tags(rt, alloc, strategy, SITE, &forged);
     same(rt, found, Err(Trouble::Closure(2)));
 }

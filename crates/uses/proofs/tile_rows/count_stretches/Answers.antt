@@ -20,7 +20,8 @@ fill_collect_vec-requires-clause-fill_accepts g c κs within = λ state row colu
 pub returns-clause-counted : goal.returns-clause-counted
 returns-clause-counted g c =
     IfOk-weaker c.fill_collect_vec.result _ _
-    (λ counts w. counts_of_chains c.args.threshold c.args.matrix.now c.args.rows c.args.len c.ranges.len.fits
+    (λ counts w. counts_of_chains c.args.threshold c.args.matrix.now c.args.rows c.args.len
+    c.ranges.len.fits
     (λ (s : ℕ). s ≡ 0)
     (λ (p : MutBor ℕ) (row : ℕ) (columns : Range ℕ) (done : Unit {0}) (q : MutBor ℕ).
     Range ℕ × (q.now ≡ (p.now + number_above c.args.threshold

@@ -10,5 +10,6 @@ returns-clause-each g c =
 
 pub returns-clause-first : goal.returns-clause-first
 returns-clause-first g c =
-    IfErr-weaker c.verify_all.result _ _ (λ trouble failing. forged_or_refused c.args.pairs.now trouble failing)
+    IfErr-weaker c.verify_all.result _ _
+    (λ trouble failing. forged_or_refused c.args.pairs.now trouble failing)
     c.verify_all.ensures.first
