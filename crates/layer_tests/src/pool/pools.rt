@@ -6,12 +6,10 @@ use parallel_pool::rayon::{
     Environment, Execute, OwnedJob, Queue, Staff, ThreadPool, ThreadPoolBuilder, WorkerThread,
     Yield,
 };
-use std::alloc::{Alloc, Global};
+use std::alloc::Global;
 use std::collections::VecDeque;
-use std::fs;
 use std::num::NonZeroUsize;
 use std::process::Abort;
-use std::rt::Files;
 use std::sync::atomic::{AtomicU64, Ordering};
 use std::sync::{Arc, Wait};
 use std::thread::{self, Threads};
@@ -422,52 +420,4 @@ fn a_pool_that_is_closed_has_called_each_job_to_its_end(rt: HostRuntime) {
     }
     pool.close(&rt);
     same(&rt, called.load(Ordering::SeqCst), 4);
-}
-
-// What Linux writes of the thread of a worker of this index that has its name.
-fn line_of(index: usize) -> &'static str {
-    if index == 0 { "first\n" } else { "second\n" }
-}
-
-// Whether the thread that asks has the name of the worker of an index.
-fn has_name<R: Files + Alloc>(rt: &R, index: usize) -> bool {
-    match fs::read_to_string(rt, "/proc/thread-self/comm") {
-        Ok(line) => line.as_str() == line_of(index),
-        Err(_error) => false,
-    }
-}
-
-// A job that raises a word by one where its thread has the name of its worker.
-fn raises_named<R: Files + Alloc + Abort + Copy + Send + 'static>(
-    rt: R,
-    alloc: Global,
-    word: &Arc<AtomicU64>,
-) -> OwnedJob {
-    let theirs = Arc::try_clone(word).expect(&rt, "a handle");
-    let body = Box::new(alloc, move |index: usize| {
-        if has_name(&rt, index) {
-            theirs.fetch_add(1, Ordering::SeqCst);
-        }
-    });
-    OwnedJob::new(body.expect(&rt, "memory"))
-}
-
-#[test]
-fn a_workers_thread_has_its_name(rt: HostRuntime) {
-    let alloc = rt.alloc();
-    let right = word(&rt, alloc);
-    let names = Box::new(alloc, move |index: usize| {
-        String::from_str(alloc, if index == 0 { "first" } else { "second" })
-    });
-    let builder = ThreadPoolBuilder::new().num_threads(2);
-    let builder = builder.thread_name(names.expect(&rt, "memory"));
-    let (pool, _none) = builder.build(&rt, alloc).expect(&rt, "a pool");
-    let mut jobs = VecDeque::new(alloc);
-    for _ in 0..2 {
-        let job = raises_named(rt, alloc, &right);
-        jobs.push_back(job).expect(&rt, "memory");
-    }
-    assert!(rt; jobs.len() == pool.current_num_threads());
-    assert!(rt; pool.spawn_broadcast(&rt, jobs).is_ok());
-    assert!(rt; becomes(&rt, &right, 2));
 }
