@@ -89,10 +89,15 @@ impl<R, S: Drop, F: Job<S, T> + Drop, T: Drop> Spawned<R, S, F, T> {
         let stage = mem::replace(&mut self.stage, Stage::Taken);
         match stage {
             Stage::Ready(answer) => Some(answer),
-            other => {
-                self.stage = other;
+            Stage::Waiting(worker, ending) => {
+                self.stage = Stage::Waiting(worker, ending);
                 None
             }
+            Stage::Unstarted => {
+                self.stage = Stage::Unstarted;
+                None
+            }
+            Stage::Taken => None,
         }
     }
 }

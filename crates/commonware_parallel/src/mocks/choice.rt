@@ -13,9 +13,10 @@ pub fn pick(rule: Rule, site: Site, len: usize, options: NonZeroUsize) -> usize
     ensures pick { result ≡ pick_of rule site len (non_zero_usize_get options) }
     ensures below { result < non_zero_usize_get options }
 {
+    let count = options.get();
     match rule {
         Rule::Serial => 0,
-        Rule::Parallel => options.get() - 1,
-        Rule::Seeded(seed) => (mix(seed, site, len) % options.get() as u64) as usize,
+        Rule::Parallel => count - 1,
+        Rule::Seeded(seed) => (mix(seed, site, len) % count as u64) as usize,
     }
 }
