@@ -43,8 +43,14 @@ fn all_indices_are_one_range(rt: HostRuntime) {
             .map_err(|_| "memory")
     });
     lists(&rt, "ends", ends, &[8]);
-    let failed: Result<u64, Trouble<&str>> =
-        Sequential.try_run_batches(alloc, SITE, 16, five, 1, |_| Err("closed"));
+    let failed: Result<u64, Trouble<&str>> = Sequential.try_run_batches(
+        alloc,
+        SITE,
+        16,
+        five,
+        1,
+        |_| Err("closed"),
+    );
     same(&rt, failed, Err(Trouble::Closure("closed")));
 }
 
