@@ -36,8 +36,8 @@ impl Calls {
         }
     }
 
-    // The item 1 fails once three further items were asked. Each other item waits for that, and then
-    // takes some microseconds more.
+    // The item 1 fails once three further items were asked. Each other item waits for that, and
+    // then takes some microseconds more.
     fn ask(&self, item: u8) -> Result<u64, u64> {
         let call = self.count.fetch_add(1, Ordering::SeqCst);
         if item == 1 {

@@ -1,5 +1,5 @@
-// Growths that are refused, each in its turn: the answer is the right one or want of memory, and each
-// item and each value is let go once.
+// Growths that are refused, each in its turn: the answer is the right one or want of memory, and
+// each item and each value is let go once.
 //
 // All memory is taken first but for a room, of which each further try of a call is left 16 bytes
 // more, so that the first request is refused, then the second, and so on. Where memory has no end

@@ -183,6 +183,8 @@ fn outcome<Rt: Threads + Wait + Abort + Sync>(
         *place = number;
         number = number.wrapping_add(1);
     }
+    // (not one run, which a sort turns without memory)
+    numbers.swap(500, 501);
     let calls = AtomicU64::new(0);
     let held = if is_refused {
         Some(all_memory(alloc)?)
