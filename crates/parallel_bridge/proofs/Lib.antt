@@ -34,3 +34,4 @@ pub mod Halts
 pub mod Unhalting
 mod HaltsOnward
 pub mod Zips
+pub mod Serials

@@ -17,3 +17,4 @@ pub mod GateRule
 pub mod Gates
 pub mod Halting
 pub mod Zips
+pub mod Serials
