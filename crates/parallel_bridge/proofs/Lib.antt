@@ -33,3 +33,4 @@ mod GateEnds
 pub mod Halts
 pub mod Unhalting
 mod HaltsOnward
+pub mod Zips

@@ -4,6 +4,7 @@
 pub mod bridge;
 pub mod consumer;
 pub mod drive;
+pub mod enumerated;
 pub mod fill;
 pub mod gate;
 pub mod halt;
@@ -19,6 +20,7 @@ pub mod segments;
 pub mod source;
 pub mod splitter;
 pub mod window;
+pub mod zipped;
 
 pub use consumer::collect::{CollectConsumer, CollectReducer};
 pub use consumer::fold::FoldConsumer;
@@ -33,6 +35,7 @@ pub use consumer::try_map::TryMapConsumer;
 pub use consumer::try_reduce::TryReduceConsumer;
 pub use consumer::while_some::WhileSomeConsumer;
 pub use drive::Task;
+pub use enumerated::Enumerated;
 pub use fill::map::MapWriter;
 pub use fill::map_init::MapInitWriter;
 pub use fill::try_map::TryMapWriter;
@@ -51,3 +54,4 @@ pub use splitter::{LengthSplitter, Splitter};
 pub use window::block::Block;
 pub use window::home::Home;
 pub use window::part::Window;
+pub use zipped::Zipped;
