@@ -65,7 +65,9 @@ impl Producer for Refusing {
 }
 
 // The indices below 8, where the part from `start` up to `end` can't be split.
-fn eight(start: usize, end: usize) -> ProducerParts<Refusing> {
+fn eight(start: usize, end: usize) -> ProducerParts<Refusing>
+    ensures { result.list.list.end - result.list.list.start ≡ 8 }
+{
     ProducerParts {
         list: Refusing {
             list: Indices { start: 0, end: 8 },
