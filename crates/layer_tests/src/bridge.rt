@@ -1,5 +1,6 @@
 // Consumers, producers and sources at concrete types.
 mod gates;
+mod refusals;
 mod windows;
 
 ghost use Rattle.std.specs.Prelude.{◌+◌};

@@ -33,3 +33,5 @@ mod GateEnds
 pub mod Halts
 pub mod Unhalting
 mod HaltsOnward
+pub mod Zips
+pub mod Serials

@@ -16,3 +16,5 @@ pub mod Fills
 pub mod GateRule
 pub mod Gates
 pub mod Halting
+pub mod Zips
+pub mod Serials

@@ -4,6 +4,7 @@
 pub mod bridge;
 pub mod consumer;
 pub mod drive;
+pub mod enumerated;
 pub mod fill;
 pub mod gate;
 pub mod halt;
@@ -19,6 +20,7 @@ pub mod segments;
 pub mod source;
 pub mod splitter;
 pub mod window;
+pub mod zipped;
 
 pub use consumer::collect::{CollectConsumer, CollectReducer};
 pub use consumer::fold::FoldConsumer;
@@ -32,6 +34,7 @@ pub use consumer::try_fold::TryFoldConsumer;
 pub use consumer::try_reduce::TryReduceConsumer;
 pub use consumer::while_some::WhileSomeConsumer;
 pub use drive::Task;
+pub use enumerated::Enumerated;
 pub use fill::map::MapWriter;
 pub use fill::map_init::MapInitWriter;
 pub use fill::try_map::TryMapWriter;
@@ -50,3 +53,4 @@ pub use splitter::{LengthSplitter, Splitter};
 pub use window::block::Block;
 pub use window::home::Home;
 pub use window::part::Window;
+pub use zipped::Zipped;

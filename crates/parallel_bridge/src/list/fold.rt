@@ -5,6 +5,7 @@ ghost use Rattle.std.specs.Iterator.{Drains, HoldsAlong, IsFinite};
 ghost use Rattle.std.specs.List.{All};
 ghost use Rattle.parallel_fault.specs.Trouble.{IsMemoryOnErr};
 ghost use Rattle.parallel_bridge.specs.Lists.{FoldSegment};
+ghost use Rattle.parallel_bridge.specs.Serials.{AnsweredSerially};
 ghost use Rattle.parallel_bridge.specs.Shapes.{Along, Shape, cutdepth};
 ghost use Rattle.parallel_bridge.specs.Sources.{GivesSome};
 ghost use Rattle.parallel_bridge.specs.Ways.{FoldedAs};
@@ -103,6 +104,7 @@ pub fn fold_by<
     ensures folds { IfOk result (λ r. GivesSome P.gives parts
         (λ xs. FoldedAs (ID.post identity.now) (λ a x b. F.post fold_op.now a x b)
         (λ a b c. G.post reduce_op.now a b c) (cutdepth (non_zero_usize_get threads)) path xs r)) }
+    ensures serial { AnsweredSerially path result }
     ensures fault { IsMemoryOnErr result }
 {
     match path {

@@ -5,6 +5,7 @@ ghost use Rattle.std.specs.Int.NonZero.{non_zero_usize_get};
 ghost use Rattle.std.specs.Iterator.{Drains, HoldsAlong, IsFinite};
 ghost use Rattle.std.specs.List.{All};
 ghost use Rattle.parallel_fault.specs.Trouble.{IsMemoryOnErr};
+ghost use Rattle.parallel_bridge.specs.Serials.{AnsweredSerially};
 ghost use Rattle.parallel_bridge.specs.Shapes.{AlongLeaves, Shape, cutdepth};
 ghost use Rattle.parallel_bridge.specs.Sources.{GivesSome};
 ghost use Rattle.parallel_bridge.specs.States.{FoldInitSegment, FoldStep};
@@ -124,6 +125,7 @@ pub fn fold_init_by<
         (λ xs. FoldedInitAs (N.post init.now) (ID.post identity.now)
         (FoldStep (λ a p x b q. F.post fold_op.now a p x b q))
         (λ a b c. G.post reduce_op.now a b c) (cutdepth (non_zero_usize_get threads)) path xs r)) }
+    ensures serial { AnsweredSerially path result }
     ensures fault { IsMemoryOnErr result }
 {
     match path {

@@ -4,6 +4,7 @@ ghost use Rattle.std.specs.Int.NonZero.{non_zero_usize_get};
 ghost use Rattle.std.specs.Iterator.{Drains, HoldsAlong, IsFinite};
 ghost use Rattle.std.specs.List.{All};
 ghost use Rattle.parallel_bridge.specs.Outcomes.{UnlessRefused};
+ghost use Rattle.parallel_bridge.specs.Serials.{UnrefusedSerially};
 ghost use Rattle.parallel_bridge.specs.Shapes.{Shape, cutdepth};
 ghost use Rattle.parallel_bridge.specs.Sources.{GivesSome};
 ghost use Rattle.parallel_bridge.specs.Tries.{TryAlong, TryFoldSegment};
@@ -130,6 +131,7 @@ pub fn try_fold_by<
         (λ xs. TryFoldedAs (ID.post identity.now) (λ a x out. F.post fold_op.now a x out)
         (λ a b c. G.post reduce_op.now a b c)
         (cutdepth (non_zero_usize_get threads)) path xs out)) }
+    ensures serial { UnrefusedSerially path result }
 {
     match path {
         Path::Serial => match try_fold_iter(parts.into_items(), identity, fold_op) {

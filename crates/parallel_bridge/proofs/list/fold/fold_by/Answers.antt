@@ -1,6 +1,8 @@
 -- One segment serially, the list's shape in parallel; either way a reduction of neighbours.
 use Rattle.std.proofs.Common.{rules}
+use Rattle.parallel_fault.specs.declared.fault.Fault.{Fault}
 use Rattle.parallel_bridge.specs.Shapes.{cutdepth}
+use Rattle.parallel_bridge.proofs.Serials.{answered_else, answered_serially}
 use Rattle.parallel_bridge.proofs.Paths.{folded_serially, folded_along}
 use Rattle.parallel_bridge.proofs.list.fold.fold_by.Goals as goal
 
@@ -36,3 +38,9 @@ returns-in_ok-answer-in-Parallel-clause-folds g c =
           (cutdepth c.args.threads.value) w.0 c.in_ok-answer-in-Parallel.answer c.args.path
           (search rules) w.2,
     )
+
+pub returns-in-Serial-clause-serial : goal.returns-in-Serial-clause-serial
+returns-in-Serial-clause-serial g c = answered_serially Fault (search rules) c.fold_iter.result
+
+pub returns-in_ok-answer-in-Parallel-clause-serial : goal.returns-in_ok-answer-in-Parallel-clause-serial
+returns-in_ok-answer-in-Parallel-clause-serial g c = answered_else (search rules) _

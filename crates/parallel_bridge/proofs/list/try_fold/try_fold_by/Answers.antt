@@ -5,6 +5,7 @@ use Rattle.parallel_bridge.specs.Sources.{GivesSome}
 use Rattle.parallel_bridge.specs.Tries.{TryAlong, TryFoldSegment}
 use Rattle.parallel_bridge.specs.Ways.{TryFoldedAs}
 use Rattle.parallel_bridge.proofs.Outcomes.{unless_weaker}
+use Rattle.parallel_bridge.proofs.Serials.{error_serially, unrefused_else, value_serially}
 use Rattle.parallel_bridge.proofs.Paths.{try_folded_serially, try_folded_along}
 use Rattle.parallel_bridge.proofs.list.try_fold.try_fold_by.Goals as goal
 
@@ -27,6 +28,7 @@ returns-in-Ok g c =
         try_folded_serially identity step reduce (cutdepth c.args.threads.value) w.0
             (Ok c.in-Ok.value) c.args.path (search rules) h,
       );
+      serial = value_serially g.row.E.Denot (search rules) c.in-Ok.value;
     }
 
 pub returns-in-Err : goal.returns-in-Err
@@ -48,6 +50,7 @@ returns-in-Err g c =
         try_folded_serially identity step reduce (cutdepth c.args.threads.value) w.0
             (Err c.in-Err.error) c.args.path (search rules) h,
       );
+      serial = error_serially g.row.R.Denot (search rules) c.in-Err.error;
     }
 
 pub returns-in-Parallel : goal.returns-in-Parallel
@@ -74,4 +77,5 @@ returns-in-Parallel g c =
                 (search rules) h.2,
           ))
           c.try_fold_parallel.ensures.along;
+      serial = unrefused_else (search rules) c.try_fold_parallel.result;
     }

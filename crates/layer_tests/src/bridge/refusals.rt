@@ -1,0 +1,158 @@
+// Where one part of a list can't be split and an item of another fails, the leftmost of the two
+// troubles is answered.
+ghost use Rattle.std.specs.Prelude.{◌≡◌, ◌-◌, ◌<◌, ◌≤◌};
+ghost use Rattle.std.specs.List.{range_with_len};
+
+use crate::bridge::number;
+use crate::same::row;
+use parallel_bridge::bridge::bridge;
+use parallel_bridge::consumer::try_map::TryMapConsumer;
+use parallel_bridge::fill::fill;
+use parallel_bridge::fill::try_map::TryMapWriter;
+use parallel_bridge::list::try_fold::try_fold_parallel;
+use parallel_bridge::list::try_map::try_map_parallel;
+use parallel_bridge::parts::ProducerParts;
+use parallel_bridge::producer::{Indices, Producer};
+use parallel_bridge::window::home::Home;
+use parallel_fault::{Fault, Trouble};
+use std::alloc::Global;
+use std::num::NonZeroUsize;
+use std::ops::Range;
+use std::process::Abort;
+use std::thread::Threads;
+
+// Indices of which one part can't be split.
+#[derive(Clone, Copy, Debug)]
+struct Refusing {
+    list: Indices,
+    refused: Indices,
+}
+
+impl Producer for Refusing {
+    type Item = usize;
+
+    type Iter = Range<usize>;
+
+    ghost gives = { λ s xs. xs ≡ range_with_len s.list.start (s.list.end - s.list.start) };
+
+    ghost may = { λ s x. (s.list.start ≤ x) × (x < s.list.end) };
+
+    ghost count = { λ s. s.list.end - s.list.start };
+
+    fn len(&self) -> usize {
+        self.list.len()
+    }
+
+    fn split_at(self, alloc: Global, index: usize) -> Result<(Self, Self), Fault> {
+        if self.list == self.refused {
+            return Err(Fault::Memory);
+        }
+        let (front, back) = self.list.split_at(alloc, index)?;
+        let front = Refusing {
+            list: front,
+            refused: self.refused,
+        };
+        let back = Refusing {
+            list: back,
+            refused: self.refused,
+        };
+        Ok((front, back))
+    }
+
+    fn into_items(self) -> Range<usize> {
+        self.list.into_items()
+    }
+}
+
+// The indices below 8, where the part from `start` up to `end` can't be split.
+fn eight(start: usize, end: usize) -> ProducerParts<Refusing>
+    ensures { result.list.list.end - result.list.list.start ≡ 8 }
+{
+    ProducerParts {
+        list: Refusing {
+            list: Indices { start: 0, end: 8 },
+            refused: Indices { start, end },
+        },
+    }
+}
+
+// Each part that can't be split with an item that fails, and the item whose error is answered, if
+// it is no refusal.
+const ROWS: [(usize, usize, usize, Option<usize>); 8] = [
+    (4, 8, 0, Some(0)),
+    (4, 8, 3, Some(3)),
+    (4, 6, 3, Some(3)),
+    (6, 8, 1, Some(1)),
+    (0, 4, 4, None),
+    (2, 4, 5, None),
+    (0, 2, 7, None),
+    (0, 8, 0, None),
+];
+
+// The item that failed, or that none did.
+fn blamed<R: Drop>(answer: Result<R, Trouble<usize>>) -> Result<(), Option<usize>> {
+    match answer {
+        Ok(_) => Ok(()),
+        Err(Trouble::Closure(item)) => Err(Some(item)),
+        Err(Trouble::Fault(_)) => Err(None),
+    }
+}
+
+// The item, or the item as an error where it is the bad one.
+fn check(item: usize, bad: usize) -> Result<usize, usize> {
+    if item == bad { Err(item) } else { Ok(item) }
+}
+
+// What the answers for eight items, halved three times over, come to when they are written.
+fn filled<Rt: Threads + Sync>(
+    rt: &Rt,
+    alloc: Global,
+    threads: usize,
+    parts: ProducerParts<Refusing>,
+    bad: usize,
+) -> Result<(), Trouble<usize>>
+    requires { parts.list.list.end - parts.list.list.start ≡ 8 }
+{
+    let answer = |item: usize| check(item, bad);
+    let (room, home) = Home::reserve(alloc, 8)?;
+    let writer = TryMapWriter { map_op: &answer };
+    let (room, done) = fill(rt, alloc, 3, threads, parts, &writer, room);
+    home.free(room);
+    done
+}
+
+#[test]
+fn the_leftmost_trouble_is_answered_on_each_number_of_threads(rt: HostRuntime) {
+    let alloc = rt.alloc();
+    for (start, end, bad, wanted) in ROWS {
+        for threads in [1, 2, 4] {
+            let done = filled(&rt, alloc, threads, eight(start, end), bad);
+            row(&rt, (start, end, bad, threads), blamed(done), Err(wanted));
+        }
+    }
+}
+
+#[test]
+fn the_leftmost_trouble_is_answered_by_each_call(rt: HostRuntime) {
+    let alloc = rt.alloc();
+    let four = number(&rt, 4);
+    for (start, end, bad, wanted) in ROWS {
+        let answer = |item: usize| check(item, bad);
+        let consumer = TryMapConsumer { map_op: &answer };
+        let done = bridge(&rt, alloc, four, eight(start, end), consumer);
+        row(&rt, ("bridge", start, end, bad), blamed(done), Err(wanted));
+        let done = try_map_parallel(&rt, alloc, four, eight(start, end), &answer);
+        row(&rt, ("map", start, end, bad), blamed(done), Err(wanted));
+        let step = |_: usize, item: usize| check(item, bad);
+        let done = try_fold_parallel(
+            &rt,
+            alloc,
+            four,
+            eight(start, end),
+            &|| 0,
+            &step,
+            &|_: usize, right: usize| right,
+        );
+        row(&rt, ("fold", start, end, bad), blamed(done), Err(wanted));
+    }
+}
