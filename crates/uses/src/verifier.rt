@@ -106,7 +106,7 @@ pub fn verify_tags<Rt: Threads + Wait + Sync, P: Place, S: Strategy>(
     ensures fault { IfErr result (λ trouble. IfFault trouble (λ fault. fault ≡ Memory)) }
 {
     let check = |pair: (&[u8], Digest)| -> bool
-        ensures { IsTrue result ↔ HasItsTag pair }
+        ensures { IsTrue result ↔ HasItsTag pair.entry }
     { Sha256::digest(pair.0) == pair.1 };
     verify_all(rt, alloc, strategy, site, pairs, check)
 }
