@@ -27,7 +27,9 @@ pub use call::{Call, Kind, Pick};
 pub use meter::{Measured, Meter, Unmeasured};
 pub use on::On;
 pub use parallel_bridge as bridge;
-pub use parallel_bridge::{Copies, Indices, Pairs, Parts, Path, Producer, Source, gate};
+pub use parallel_bridge::{
+    Copies, Enumerated, Indices, Pairs, Parts, Path, Producer, Source, Zipped, gate,
+};
 pub use parallel_fault::{Fault, Trouble};
 pub use parallel_policy as policy;
 pub use parallel_policy::{Clock, MonotonicClock, Place, Policy, Site};
