@@ -1,6 +1,7 @@
 // Consumers, producers and sources at concrete types.
 mod gates;
 mod refusals;
+mod sources;
 mod windows;
 
 ghost use Rattle.std.specs.Prelude.{◌+◌};
@@ -102,7 +103,9 @@ fn consumers_that_map_hand_on_to_another(rt: HostRuntime) {
         base: CollectConsumer,
         map_op: &twice,
     };
-    let parts = ProducerParts { list: Copies { slice: &items } };
+    let parts = ProducerParts {
+        list: Copies { slice: &items },
+    };
     let doubled: Vec<u8> = bridge(&rt, alloc, threads, parts, doubling).expect(&rt, "memory");
     same(&rt, doubled.as_slice(), [2, 4, 6, 8, 10].as_slice());
 
@@ -111,7 +114,9 @@ fn consumers_that_map_hand_on_to_another(rt: HostRuntime) {
         init: &|| 0u8,
         map_op: &so_far,
     };
-    let parts = ProducerParts { list: Copies { slice: &items } };
+    let parts = ProducerParts {
+        list: Copies { slice: &items },
+    };
     let sums: Vec<u8> = bridge(&rt, alloc, number(&rt, 1), parts, adding).expect(&rt, "memory");
     // (for one thread the list is halved once, and the state begins anew)
     same(&rt, sums.as_slice(), [1, 3, 3, 7, 12].as_slice());

@@ -6,7 +6,8 @@ ghost use Rattle.std.specs.List.{range_with_len};
 use crate::bridge::number;
 use crate::same::row;
 use parallel_bridge::bridge::bridge;
-use parallel_bridge::consumer::try_map::TryMapConsumer;
+use parallel_bridge::consumer::try_fold::TryFoldConsumer;
+use parallel_bridge::consumer::try_reduce::TryReduceConsumer;
 use parallel_bridge::fill::fill;
 use parallel_bridge::fill::try_map::TryMapWriter;
 use parallel_bridge::list::try_fold::try_fold_parallel;
@@ -138,21 +139,23 @@ fn the_leftmost_trouble_is_answered_by_each_call(rt: HostRuntime) {
     let four = number(&rt, 4);
     for (start, end, bad, wanted) in ROWS {
         let answer = |item: usize| check(item, bad);
-        let consumer = TryMapConsumer { map_op: &answer };
-        let done = bridge(&rt, alloc, four, eight(start, end), consumer);
-        row(&rt, ("bridge", start, end, bad), blamed(done), Err(wanted));
         let done = try_map_parallel(&rt, alloc, four, eight(start, end), &answer);
         row(&rt, ("map", start, end, bad), blamed(done), Err(wanted));
+        let none = || 0_usize;
         let step = |_: usize, item: usize| check(item, bad);
-        let done = try_fold_parallel(
-            &rt,
-            alloc,
-            four,
-            eight(start, end),
-            &|| 0,
-            &step,
-            &|_: usize, right: usize| right,
-        );
+        let last = |_: usize, right: usize| right;
+        let base = TryReduceConsumer {
+            identity: &none,
+            reduce_op: &last,
+        };
+        let consumer = TryFoldConsumer {
+            base,
+            identity: &none,
+            fold_op: &step,
+        };
+        let done = bridge(&rt, alloc, four, eight(start, end), consumer);
+        row(&rt, ("bridge", start, end, bad), blamed(done), Err(wanted));
+        let done = try_fold_parallel(&rt, alloc, four, eight(start, end), &none, &step, &last);
         row(&rt, ("fold", start, end, bad), blamed(done), Err(wanted));
     }
 }
