@@ -181,7 +181,8 @@ fn refused<Rt: Threads + Wait + Abort + Sync, S: Strategy>(
             return (count, behind);
         }
         count = count.saturating_add(1);
-        behind |= 1u64.wrapping_shl(seen.calls.load(Ordering::SeqCst) as u32);
+        let calls = u32::try_from(seen.calls.load(Ordering::SeqCst)).unwrap_or(63);
+        behind |= 1u64.wrapping_shl(calls);
     }
     panic!(rt; "{tried:?} was refused with room for it");
 }
