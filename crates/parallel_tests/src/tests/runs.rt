@@ -152,7 +152,12 @@ fn a_pool_of_the_machines_size_is_planned_for_all_of_it(rt: HostRuntime) {
     let strategy = Rayon::of_machine(&rt, alloc, number(&rt, 77)).expect(&rt, "memory");
     same(&rt, strategy.thread_number(), cores);
     same(&rt, strategy.planning(), cores);
-    lists(&rt, 1, doubled(&rt, alloc, &strategy, &[3u64, 1, 4]), &[6, 2, 8]);
+    lists(
+        &rt,
+        1,
+        doubled(&rt, alloc, &strategy, &[3u64, 1, 4]),
+        &[6, 2, 8],
+    );
 }
 
 // Twice each number, by whoever has the rights that a call asks for.
