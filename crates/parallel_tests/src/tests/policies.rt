@@ -57,6 +57,9 @@ fn a_clone_has_the_same_policy(rt: HostRuntime) {
     let planned = strategy.with_parallelism(number(&rt, 8));
     answers(&rt, 4, which(&rt, alloc, &planned), "parallel");
     answers(&rt, 5, which(&rt, alloc, &planned), "serial");
+    let two = planned.with_parallelism(number(&rt, 2));
+    answers(&rt, 6, which(&rt, alloc, &two), "parallel");
+    answers(&rt, 7, which(&rt, alloc, &two), "serial");
 }
 
 // The numbers' sum from 10, by which the body can be told: each segment adds 10 twice.
