@@ -86,7 +86,7 @@ fn interval(winner_time: u64, loser_time: u64) -> u32
 }
 
 // How often the interval is doubled. Both ends, which are what most choices come to, are found by
-// divisions by constants, since one by a time would be the slowest step of a choice.
+// divisions by constants, which are cheaper than one by a time.
 fn doublings(winner_time: u64, loser_time: u64) -> u32
     ensures value { result ≡ doublings_of winner_time loser_time }
     ensures most { result ≤ 5 }

@@ -42,7 +42,7 @@ impl Key {
 /// but the name of the file have one hash, and `==` tells them apart.
 impl Hash for Key {
     ghost use Rattle.std.specs.Hash as fed;
-    ghost use Rattle.std.specs.Cmp.Rules.{comparing, hashing};
+    ghost use Rattle.std.specs.Cmp.Rules.{hashing};
     ghost use Rattle.std.proofs.Common.{rules};
     ghost use Rattle.parallel_policy.specs.Keys.{key_number};
 
