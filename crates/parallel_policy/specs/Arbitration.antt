@@ -20,10 +20,14 @@ contest_of preferred loser winner_time loser_time probe =
       probe = probe;
     }
 
--- how many choices lie between two probes: 100, doubled for each time over that the loser is
+-- how often the interval between two probes is doubled: once for each time over that the loser is
 -- slower, five times at most
+abbrev pub doublings_of : ℕ → ℕ → ℕ
+doublings_of winner_time loser_time = min (loser_time / max winner_time 1 - 1) 5
+
+-- how many choices lie between two probes: 100, so often doubled
 abbrev pub interval_of : ℕ → ℕ → ℕ
-interval_of winner_time loser_time = 100 * 2 ^ min (loser_time / max winner_time 1 - 1) 5
+interval_of winner_time loser_time = 100 * 2 ^ doublings_of winner_time loser_time
 
 -- a count that goes up by one and stops at the greatest u32
 abbrev pub counted : ℕ → ℕ

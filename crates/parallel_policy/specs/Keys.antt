@@ -1,5 +1,5 @@
 -- by what the policy tells calls apart
-use Rattle.std.specs.Prelude.{ℕ, ◌-◌, Bool, nat_eq, ◌==◌, ◌&&◌}
+use Rattle.std.specs.Prelude.{ℕ, ◌+◌, ◌-◌, ◌*◌, ◌^◌, Bool, nat_eq, ◌==◌, ◌&&◌, bit_xor}
 use Rattle.std.specs.Int.{w64, leading_zeros}
 use Rattle.std.specs.Cmp.Lexicographic.{pointwise}
 use Rattle.parallel_policy.specs.declared.key.Key.{Key}
@@ -26,3 +26,9 @@ same_key a b = pointwise nat_eq a.file.now b.file.now
     && ((a.line == b.line) && ((a.column == b.column)
     && ((a.len_bucket == b.len_bucket)
     && ((a.work_bucket == b.work_bucket) && (a.parallelism == b.parallelism)))))
+
+-- the numbers of a key in one, by which it is hashed: the line and the column below, and above them
+-- the number of threads, with the two buckets in its upper digits; the file isn't in it
+abbrev pub key_number : Key → ℕ
+key_number k = k.line + k.column * 2 ^ 32
+    + bit_xor k.parallelism ((k.len_bucket * 2 ^ 8 + k.work_bucket) * 2 ^ 48) * 2 ^ 64

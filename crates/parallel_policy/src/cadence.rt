@@ -1,6 +1,6 @@
 // How often a path is measured, and how often the other one is probed.
 ghost use Rattle.std.specs.Prelude.{◌≡◌, ℕ, ◌≤◌};
-ghost use Rattle.parallel_policy.specs.Arbitration.{contest_of, interval_of, arbitrated, count_after, IsCount};
+ghost use Rattle.parallel_policy.specs.Arbitration.{contest_of, doublings_of, interval_of, arbitrated, count_after, IsCount};
 
 use std::marker::Model;
 
@@ -82,7 +82,22 @@ fn interval(winner_time: u64, loser_time: u64) -> u32
     ensures value { result ≡ interval_of winner_time loser_time }
     ensures most { result ≤ 3200 }
 {
-    let slowdown = loser_time / winner_time.max(1);
-    let shift = slowdown.saturating_sub(1).min(MAX_RESAMPLE_SHIFT) as u32;
-    RESAMPLE_INTERVAL << shift
+    RESAMPLE_INTERVAL << doublings(winner_time, loser_time)
+}
+
+// How often the interval is doubled. Both ends, which are what most choices come to, are found by
+// divisions by constants, which are cheaper than one by a time.
+fn doublings(winner_time: u64, loser_time: u64) -> u32
+    ensures value { result ≡ doublings_of winner_time loser_time }
+    ensures most { result ≤ 5 }
+{
+    let winner = winner_time.max(1);
+    if loser_time / 2 < winner {
+        return 0;
+    }
+    if loser_time / (MAX_RESAMPLE_SHIFT + 1) >= winner {
+        return MAX_RESAMPLE_SHIFT as u32;
+    }
+    let slowdown = loser_time / winner;
+    slowdown.saturating_sub(1).min(MAX_RESAMPLE_SHIFT) as u32
 }

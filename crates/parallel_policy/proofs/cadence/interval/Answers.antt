@@ -5,6 +5,5 @@ use Rattle.parallel_policy.proofs.cadence.interval.Goals as goal
 
 pub returns-clause-most : goal.returns-clause-most
 returns-clause-most c =
-    let below : c.min-shift.result ≤ 5 = omega arith in
-    let small : 2 ^ c.min-shift.result ≤ 2 ^ 5 = pow_mono below in
+    let small : 2 ^ c.doublings.result ≤ 2 ^ 5 = pow_mono c.doublings.ensures.most in
     omega arith
