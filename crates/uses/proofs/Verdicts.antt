@@ -5,7 +5,7 @@ use Rattle.std.specs.Prelude.{MatchResult, IfOk, IsTrue}
 use Rattle.std.proofs.Common.{◌↔◌}
 use Rattle.std.specs.Borrow.{Bor}
 use Rattle.std.proofs.Common.{Vec, Global}
-use Rattle.std.specs.List.{All, AllZip, HoldsAt, filter, range_with_len}
+use Rattle.std.specs.List.{All, AllZip, HoldsAt, filter, range_with_len, zip}
 use Rattle.std.proofs.lemmas.List.Elements.{All-nil, All-cons, All-append}
 use Rattle.std.proofs.lemmas.List.Sums.{sum_by-cons, sum_by-append}
 use Rattle.std.proofs.Common.{append_assoc}
@@ -19,7 +19,10 @@ use Rattle.parallel_bridge.specs.Parts.{PartitionOf, values_of, keys_of}
 use Rattle.parallel_bridge.specs.Tries.{TryMapOf, TryBracketing, TryChain, TryBrackets, of_try_segment, of_values, of_left_error, of_right_error, TryFoldSegment}
 use Rattle.parallel_bridge.proofs.OverLists.{fact_of_list}
 use Rattle.parallel_bridge.proofs.FirstFailing.{FailsFirst, first_failing}
-use Rattle.uses.specs.Verdicts.{HasItsTag, IsFirstFailing, IsFirstForged, IsFirstOver, IsSortedOut, Judges, AddsWithin}
+use Rattle.parallel_bridge.specs.Zips.{NumbersOf, PairsOf}
+use Rattle.parallel_bridge.proofs.FirstNumbered.{first_of_numbered}
+use Rattle.parallel_bridge.proofs.OverViews.{zip_of_lists}
+use Rattle.uses.specs.Verdicts.{HasItsTag, IsFirstFailing, IsFirstForged, IsFirstOver, IsSortedOut, Judges, JudgesTag, AddsWithin}
 
 module _ {X : Type 0} (verdict : X → Bool → Type 0) (allowed : X → (X × Option X) → Type 0)
     (calls : (x : X) (p : X × Option X) → allowed x p → IsSortedOut verdict x p) where
@@ -241,27 +244,15 @@ summed xs limit identity step reduce (Err (Closure e)) gave zeros steps joins =
     (checked_brackets limit identity step reduce zeros (λ a x b k. steps a x (Ok b) k)
     (λ a x e' k. steps a x (Err e') k) joins gave.2)
 
--- a verdict on a pair of a message and a tag
-abbrev pub TagVerdict : (Bor (List ℕ) × List ℕ) → Bool → Type 0
-TagVerdict pair verdict = IsTrue verdict ↔ HasItsTag pair
-
--- pairs that all pass have their tags
-pub all_tagged : (pairs : List (Bor (List ℕ) × List ℕ)) → All (λ pair. TagVerdict pair true) pairs
-    → All HasItsTag pairs
-all_tagged pairs all = λ i d below. (all i d below).0 refl
-
--- the first pair that fails is the first one whose tag isn't its message's
-pub first_forged : (pairs : List (Bor (List ℕ) × List ℕ)) (index : ℕ)
-    → IsFirstFailing TagVerdict pairs index → IsFirstForged pairs index
-first_forged pairs index (below, fails, before) = (
-  below,
-  λ d has. false≢true ((fails d).1 has),
-  λ k d low high. (before k d low high).0 refl,
-)
-
--- the same of a call that may be refused
-pub forged_or_refused : (pairs : List (Bor (List ℕ) × List ℕ)) (trouble : Trouble ℕ)
-    → IfClosure trouble (IsFirstFailing TagVerdict pairs)
-    → IfClosure trouble (IsFirstForged pairs)
-forged_or_refused pairs (Closure index) failing = first_forged pairs index failing
-forged_or_refused pairs (OfFault fault) failing = tt
+-- what a verifier of tags answers
+pub tagged : (messages : List (Bor (List ℕ))) (tags : List (List ℕ))
+    (result : Result (Vec ⊤ Global) (Trouble ℕ)) → UnlessRefused result
+    (λ out. (zs : List (ℕ × (Bor (List ℕ) × List ℕ)))
+    × NumbersOf (PairsOf (λ xs. xs ≡ messages) (λ ys. ys ≡ tags)) 0 zs
+    × TryMapOf JudgesTag zs (listed out))
+    → MatchResult result (λ _. All HasItsTag (zip messages tags))
+    (λ trouble. IfClosure trouble (IsFirstForged (zip messages tags)))
+tagged messages tags result gave = first_of_numbered JudgesTag HasItsTag
+    (λ pair. ¬ HasItsTag pair) (λ p y k. k) (λ p e k. k)
+    (PairsOf (λ xs. xs ≡ messages) (λ ys. ys ≡ tags)) (zip messages tags) result gave
+    (zip_of_lists messages tags)

@@ -1,8 +1,9 @@
 -- What a check of many items finds.
-use Rattle.std.specs.Prelude.{◌≡◌, ℕ, ◌<◌, ◌≤◌, List, ◌∷◌, ◌++◌, All, Bool, true, false, Option, Some, None, Result, MatchResult, length, ◌+◌, ◌%◌, ◌^◌}
+use Rattle.std.specs.Prelude.{◌≡◌, ℕ, ◌<◌, ◌≤◌, List, ◌∷◌, ◌++◌, All, Bool, true, false, Option, Some, None, Result, MatchResult, length, ◌+◌, ◌%◌, ◌^◌, ⊤}
 use Rattle.std.specs.Borrow.{Bor}
 use Rattle.std.specs.List.{AllWithin, HoldsAt}
 use Rattle.sha2.specs.Sha256.{sha256}
+use Rattle.parallel_bridge.specs.Firsts.{FailsFirstAt}
 
 -- the item at the index may fail, and each item before it may pass
 abbrev pub IsFirstFailing : {X : Type 0} → (X → Bool → Type 0) → List X → ℕ → Type 0
@@ -38,7 +39,12 @@ AddsWithin limit a x out =
 abbrev pub HasItsTag : (Bor (List ℕ) × List ℕ) → Type 0
 HasItsTag (message, tag) = sha256 message.now ≡ tag
 
+-- an answer where the pair's tag is its message's, and an error, which is the pair's index, where it
+-- isn't
+abbrev pub JudgesTag : (ℕ × (Bor (List ℕ) × List ℕ)) → Result ⊤ ℕ → Type 0
+JudgesTag item out =
+    MatchResult out (λ _. HasItsTag item.1) (λ e. (e ≡ item.0) × (¬ HasItsTag item.1))
+
 -- the tag of the pair at the index isn't its message's digest, and that of each pair before it is
 abbrev pub IsFirstForged : List (Bor (List ℕ) × List ℕ) → ℕ → Type 0
-IsFirstForged pairs index = (index < length pairs)
-    × HoldsAt (λ pair. ¬ HasItsTag pair) pairs index × AllWithin HasItsTag pairs 0 index
+IsFirstForged pairs index = FailsFirstAt HasItsTag (λ pair. ¬ HasItsTag pair) pairs index

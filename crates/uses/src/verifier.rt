@@ -1,12 +1,12 @@
 // Checks of many items: the first bad index, the good and the bad, a sum that stops at a limit.
-ghost use Rattle.std.specs.Prelude.{◌≡◌, ℕ, ◌≤◌, ◌<◌, ◌%◌, ◌^◌, ◌+◌, Bool, true, false, All, not, length, sum, Result, IfOk, IfErr, IsTrue, ◌↔◌, ⊤};
-ghost use Rattle.std.specs.List.{filter};
+ghost use Rattle.std.specs.Prelude.{◌≡◌, ℕ, ◌≤◌, ◌<◌, ◌%◌, ◌^◌, ◌+◌, Bool, true, false, All, not, length, sum, Result, IfOk, IfErr, ⊤};
+ghost use Rattle.std.specs.List.{filter, zip};
 ghost use Rattle.parallel_fault.specs.declared.fault.Fault.TheVariants.{Memory};
 ghost use Rattle.parallel_fault.specs.Trouble.{IfClosure, IfFault};
-ghost use Rattle.uses.specs.Verdicts.{AddsWithin, HasItsTag, IsFirstFailing, IsFirstForged, IsFirstOver, IsSortedOut, Judges};
+ghost use Rattle.uses.specs.Verdicts.{AddsWithin, HasItsTag, IsFirstFailing, IsFirstForged, IsFirstOver, IsSortedOut, Judges, JudgesTag};
 
 use crate::merkle::Digest;
-use commonware_parallel::{Copies, Fault, Indices, Place, Strategy, Trouble};
+use commonware_parallel::{Copies, Enumerated, Fault, Indices, Place, Strategy, Trouble, Zipped};
 use sha2::{Digest as _, Sha256};
 use std::alloc::Global;
 use std::sync::Wait;
@@ -87,28 +87,39 @@ fn judge_all<
     strategy.try_map_collect_vec(rt, alloc, site, indices, verdict)
 }
 
-/// Checks pairs of a message and a tag, which is to be the message's digest by SHA-256, and answers
-/// the index of the first pair of which it isn't.
+/// Checks messages against their tags, each of which is to be its message's digest by SHA-256, and
+/// answers the index of the first one of which it isn't.
 ///
 /// # Errors
 ///
-/// `Trouble::Closure` with the index of a pair whose tag isn't its message's digest, before which
-/// each is. `Trouble::Fault` with `Fault::Memory` alone.
+/// `Trouble::Closure` with the index of a message whose tag isn't its digest, before which each is.
+/// `Trouble::Fault` with `Fault::Memory` alone.
 pub fn verify_tags<Rt: Threads + Wait + Sync, P: Place, S: Strategy>(
     rt: &Rt,
     alloc: Global,
     strategy: &S,
     site: P,
-    pairs: &[(&[u8], Digest)],
-) -> Result<(), Trouble<usize>>
-    ensures each { IfOk result (λ _. All HasItsTag pairs.now) }
-    ensures first { IfErr result (λ trouble. IfClosure trouble (IsFirstForged pairs.now)) }
+    messages: &[&[u8]],
+    tags: &[Digest],
+) -> Result<Vec<()>, Trouble<usize>>
+    requires { length messages.now ≡ length tags.now }
+    ensures each { IfOk result (λ _. All HasItsTag (zip messages.now tags.now)) }
+    ensures first { IfErr result
+        (λ trouble. IfClosure trouble (IsFirstForged (zip messages.now tags.now))) }
     ensures fault { IfErr result (λ trouble. IfFault trouble (λ fault. fault ≡ Memory)) }
 {
-    let check = |pair: (&[u8], Digest)| -> bool
-        ensures { IsTrue result ↔ HasItsTag pair.entry }
-    { Sha256::digest(pair.0) == pair.1 };
-    verify_all(rt, alloc, strategy, site, pairs, check)
+    let pairs = Zipped::new(Copies { slice: messages }, Copies { slice: tags });
+    let check = |item: (usize, (&[u8], Digest))| -> Result<(), usize>
+        ensures { JudgesTag item.entry result }
+    {
+        let (index, (message, tag)) = item;
+        if Sha256::digest(message) == tag {
+            Ok(())
+        } else {
+            Err(index)
+        }
+    };
+    strategy.try_map_collect_vec(rt, alloc, site, Enumerated::new(pairs), check)
 }
 
 /// The items that pass a check and those that fail it, both in the items' order.

@@ -248,24 +248,31 @@ const OF_ABC: [u8; 32] = [
     23, 122, 156, 180, 16, 255, 97, 242, 0, 21, 173,
 ];
 
-// Three pairs whose tags are their messages' digests, and four of which the third has another's.
+// Three messages with their digests as tags, and four of which the third has another's.
 fn find_the_forged<Rt: Threads + Wait + Abort + Sync, S: Strategy>(
     rt: &Rt,
     alloc: Global,
     strategy: &S,
 ) {
     let none: &[u8] = &[];
-    let good = [(none, OF_NONE), (b"abc", OF_ABC), (none, OF_NONE)];
-    let checked = verify_tags(rt, alloc, strategy, SITE, &good);
-    same(rt, checked, Ok(()));
-    let forged = [
-        (none, OF_NONE),
-        (b"abc", OF_ABC),
-        (b"abd", OF_ABC),
-        (none, OF_ABC),
-    ];
-    let found = verify_tags(rt, alloc, strategy, SITE, &forged);
-    same(rt, found, Err(Trouble::Closure(2)));
+    let checked = verify_tags(
+        rt,
+        alloc,
+        strategy,
+        SITE,
+        &[none, b"abc", none],
+        &[OF_NONE, OF_ABC, OF_NONE],
+    );
+    same(rt, checked.map(|_| ()), Ok(()));
+    let found = verify_tags(
+        rt,
+        alloc,
+        strategy,
+        SITE,
+        &[none, b"abc", b"abd", none],
+        &[OF_NONE, OF_ABC, OF_ABC, OF_ABC],
+    );
+    same(rt, found.map(|_| ()), Err(Trouble::Closure(2)));
 }
 
 #[test]
