@@ -35,3 +35,4 @@ pub mod Unhalting
 mod HaltsOnward
 pub mod Zips
 pub mod Serials
+pub mod Pieces
