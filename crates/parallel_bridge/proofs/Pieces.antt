@@ -1,5 +1,5 @@
--- A list in pieces: how many there are, a cut between two of them, and what comes of std's iterator.
-use Rattle.std.proofs.Common.{◌≡◌, ℕ, zero, suc, min, ◌≤◌, ◌<◌, ◌+◌, ◌-◌, ◌*◌, List, [], ◌∷◌, ◌++◌, Option, Some, None, length, map, take, drop, refl, sym, ap, subst, ◌∙◌, arith, inl, inr, suc-mul, mul-le-mul_right, add-mul, length-take, length-drop, take-take, drop-drop, take_all}
+-- A list in pieces: how many there are, a cut between two of them, and what std's iterator gives.
+use Rattle.std.proofs.Common.{◌≡◌, ℕ, zero, suc, min, ◌≤◌, ◌<◌, ◌+◌, ◌-◌, ◌*◌, List, ◌∷◌, ◌++◌, length, map, take, drop, refl, sym, ap, subst, ◌∙◌, arith, inl, inr, suc-mul, mul-le-mul_right, add-mul, length-take, length-drop, take-take, drop-drop, take_all}
 use Rattle.std.proofs.Math.Nat.{zero-add, zero-mul}
 use Rattle.std.proofs.Math.Seq.{take-append_seam, drop-append_seam}
 use Rattle.std.proofs.lemmas.Bool.{cases_lt}
@@ -156,7 +156,8 @@ module _ {A : Type 0} where
     chunk_of_front p h = subst (λ l. Contains l p) chunks_cut
         (Contains-append_left (chunks_of size (take m xs)) (chunks_of size (drop m xs)) p h)
 
-    pub chunk_of_back : (p : List A) → Contains (chunks_of size (take (length xs - m) (drop m xs))) p
+    pub chunk_of_back : (p : List A)
+        → Contains (chunks_of size (take (length xs - m) (drop m xs))) p
         → Contains (chunks_of size xs) p
     chunk_of_back p h = subst (λ l. Contains l p) chunks_cut
         (Contains-append_right (chunks_of size (take m xs)) (chunks_of size (drop m xs)) p
@@ -172,7 +173,8 @@ module _ {A : Type 0} where
     λ x j step.
         let split = sym rest ∙ step.1.0 in
         let long : length x.now ≡ min size (length xs) =
-        step.1.1 ∙ ap (λ k. min k (length (chunks_rest s))) same ∙ ap (λ l. min size (length l)) rest in
+        step.1.1 ∙ ap (λ k. min k (length (chunks_rest s))) same
+        ∙ ap (λ l. min size (length l)) rest in
         let front : take (length x.now) xs ≡ x.now =
         ap (take (length x.now)) split ∙ take-append_seam x.now (chunks_rest j) in
         let back : drop (length x.now) xs ≡ chunks_rest j =

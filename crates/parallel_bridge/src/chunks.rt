@@ -1,6 +1,5 @@
 //! A slice in neighbouring pieces of one length.
 ghost use Rattle.std.specs.Prelude.{◌≡◌, ◌*◌, ◌<◌, length, map, min};
-ghost use Rattle.std.specs.Borrow.{Bor};
 ghost use Rattle.std.specs.Int.{div_ceil};
 ghost use Rattle.std.specs.Int.NonZero.{non_zero_usize_get};
 ghost use Rattle.std.specs.List.{Contains};
@@ -53,7 +52,8 @@ impl<'a, T: Sync> Producer for Chunks<'a, T> {
     }
 
     fn into_items(self) -> std::slice::Chunks<'a, T> {
-        self.slice.chunks(self.size.get())
+        let size = self.size.get();
+        self.slice.chunks(size)
     }
 }
 
