@@ -36,3 +36,4 @@ mod HaltsOnward
 pub mod Zips
 pub mod Serials
 pub mod Pieces
+pub mod OverViews

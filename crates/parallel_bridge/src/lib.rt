@@ -55,4 +55,4 @@ pub use splitter::{LengthSplitter, Splitter};
 pub use window::block::Block;
 pub use window::home::Home;
 pub use window::part::Window;
-pub use zipped::Zipped;
+pub use zipped::{Zipped, ZippedIter};
