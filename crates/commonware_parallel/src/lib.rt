@@ -28,7 +28,7 @@ pub use meter::{Measured, Meter, Unmeasured};
 pub use on::On;
 pub use parallel_bridge as bridge;
 pub use parallel_bridge::{
-    Copies, Enumerated, Indices, Pairs, Parts, Path, Producer, Source, Zipped, gate,
+    Chunks, Copies, Enumerated, Indices, Pairs, Parts, Path, Producer, Source, Zipped, gate,
 };
 pub use parallel_fault::{Fault, Trouble};
 pub use parallel_policy as policy;

@@ -35,3 +35,5 @@ pub mod Unhalting
 mod HaltsOnward
 pub mod Zips
 pub mod Serials
+pub mod Pieces
+pub mod OverViews

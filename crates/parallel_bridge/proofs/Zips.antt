@@ -1,50 +1,102 @@
 -- Two lists pair by pair, and a list with its indices: a cut of them, and what may come of a part.
-use Rattle.std.proofs.Common.{◌≡◌, ℕ, zero, suc, ◌≤◌, ◌+◌, List, [], ◌∷◌, ◌++◌, length, take, drop, map, refl, ap, subst, ◌∙◌, arith}
-use Rattle.std.specs.Borrow.{Bor}
-use Rattle.std.specs.List.{Contains, enumerate_from, range_with_len, zip}
-use Rattle.std.proofs.lemmas.List.{map-append}
-use Rattle.std.proofs.lemmas.List.Elements.{Contains-append_left, Contains-append_right}
-use Rattle.parallel_bridge.specs.Zips.{both, numbered}
+use Rattle.std.proofs.Common.{◌≡◌, ℕ, suc, ◌≤◌, ◌<◌, ◌+◌, ◌-◌, min, List, [], ◌∷◌, ◌++◌, Option, length, map, refl, sym, ap, subst, ◌∙◌, arith}
+use Rattle.std.specs.Iterator.{Drains, HoldsAlong, Yields}
+use Rattle.std.specs.List.{All, AllByRecursion, enumerate_from, range_with_len, zip}
+use Rattle.std.proofs.lemmas.List.Elements.{All-from_recursion, recursion_from_All}
+use Rattle.std.proofs.lemmas.Iterator.{YieldsList}
+use Rattle.std.proofs.lemmas.Slice.Zip.{length-zip}
+use Rattle.std.specs.declared.ops.Range.{Range}
+use Rattle.parallel_bridge.proofs.Coming.{came_as_it_is, each_that_comes}
+use Rattle.parallel_bridge.proofs.Ranges.{indices_between}
+use Rattle.parallel_bridge.specs.Zips.{NumbersOf, PairsOf, zipped_steps}
+use Rattle.parallel_bridge.specs.declared.zipped.ZippedIter.{ZippedIter}
 
 module _ {A B : Type 0} where
-  -- a cut of two lists at one index cuts their pairs there
-  pub zip_cut : (i : ℕ) (xs : List A) (ys : List B) → i ≤ length xs → i ≤ length ys
-      → zip (take i xs) (take i ys) ++ zip (drop i xs) (drop i ys) ≡ zip xs ys
-  zip_cut zero xs ys first second = refl
-  zip_cut (suc i) [] ys first second = absurd (omega (arith, first))
-  zip_cut (suc i) (x ∷ xs) [] first second = absurd (omega (arith, second))
-  zip_cut (suc i) (x ∷ xs) (y ∷ ys) first second =
-      ap (λ l. (x, y) ∷ l) (zip_cut i xs ys (omega (arith, first)) (omega (arith, second)))
+  -- two lists behind two others that are as long
+  pub zip_append : (xs more : List A) (ys others : List B) → length xs ≡ length ys
+      → zip (xs ++ more) (ys ++ others) ≡ zip xs ys ++ zip more others
+  zip_append [] more [] others same = refl
+  zip_append [] more (y ∷ ys) others same = absurd (omega (arith, same))
+  zip_append (x ∷ xs) more [] others same = absurd (omega (arith, same))
+  zip_append (x ∷ xs) more (y ∷ ys) others same =
+      ap (λ l. (x, y) ∷ l) (zip_append xs more ys others (omega (arith, same)))
 
-  -- what comes of the front and of the back, one after another
-  pub zip_joined : (i : ℕ) (xs : List A) (ys : List B) → i ≤ length xs → i ≤ length ys
-      → (front back : List (Bor A × Bor B)) → map both front ≡ zip (take i xs) (take i ys)
-      → map both back ≡ zip (drop i xs) (drop i ys) → map both (front ++ back) ≡ zip xs ys
-  zip_joined i xs ys first second front back one two =
-      map-append both front back ∙ ap (λ l. l ++ map both back) one
-      ∙ ap (λ l. zip (take i xs) (take i ys) ++ l) two ∙ zip_cut i xs ys first second
+  -- so many pairs as each list has items
+  pub pairs_long : (n m : ℕ) (P : List A → Type 0) (Q : List B → Type 0) (zs : List (A × B))
+      → PairsOf P Q zs → ((xs : List A) → P xs → length xs ≡ n)
+      → ((ys : List B) → Q ys → length ys ≡ m) → length zs ≡ min n m
+  pairs_long n m P Q zs (xs, ys, one, two, same) first second =
+      let seen = ap length same in
+      let long = length-zip xs ys in
+      let left = first xs one in
+      let right = second ys two in
+      omega (arith, seen, long, left, right)
 
-  -- the pairs of either part are pairs of the whole
-  pub pair_of_front : (i : ℕ) (xs : List A) (ys : List B) (p : A × B) → i ≤ length xs
-      → i ≤ length ys → Contains (zip (take i xs) (take i ys)) p → Contains (zip xs ys) p
-  pair_of_front i xs ys p first second within =
-      subst (λ l. Contains l p) (zip_cut i xs ys first second)
-      (Contains-append_left (zip (take i xs) (take i ys)) (zip (drop i xs) (drop i ys)) p within)
+  -- the pairs of two fronts, and behind them those of the rests
+  module _ (n : ℕ) (P P' P'' : List A → Type 0) (Q Q' Q'' : List B → Type 0)
+      (left : (xs more : List A) → P' xs → P'' more → P (xs ++ more))
+      (right : (ys others : List B) → Q' ys → Q'' others → Q (ys ++ others))
+      (first : (xs : List A) → P' xs → length xs ≡ n)
+      (second : (ys : List B) → Q' ys → length ys ≡ n) where
+    pub pairs_joined : (front back : List (A × B)) → PairsOf P' Q' front → PairsOf P'' Q'' back
+        → PairsOf P Q (front ++ back)
+    pairs_joined front back (xs, ys, one, two, same) (more, others, three, four, rest) = (
+      xs ++ more,
+      ys ++ others,
+      left xs more one three,
+      right ys others two four,
+      ap (λ l. l ++ back) same ∙ ap (λ l. zip xs ys ++ l) rest
+          ∙ sym (zip_append xs more ys others (first xs one ∙ sym (second ys two))),
+    )
 
-  pub pair_of_back : (i : ℕ) (xs : List A) (ys : List B) (p : A × B) → i ≤ length xs
-      → i ≤ length ys → Contains (zip (drop i xs) (drop i ys)) p → Contains (zip xs ys) p
-  pair_of_back i xs ys p first second within =
-      subst (λ l. Contains l p) (zip_cut i xs ys first second)
-      (Contains-append_right (zip (take i xs) (take i ys)) (zip (drop i xs) (drop i ys)) p within)
-
-  -- a list of pairs may be lent
-  pub some_pairs : (ps : List (A × B)) → (zs : List (Bor A × Bor B)) × (map both zs ≡ ps)
-  some_pairs [] = ([], refl)
-  some_pairs (p ∷ ps) =
-      let rest = some_pairs ps in (
-        (record { ref_ptr = (0, 0); now = p.0 }, record { ref_ptr = (0, 0); now = p.1 }) ∷ rest.0,
-        ap (λ l. p ∷ l) rest.1,
+module _ {S T A B : Type 0} (steps : S → Option A → S → Type 0)
+    (others : T → Option B → T → Type 0) where
+  -- a run over both sides goes through each of them
+  pub both_drained : (zs : List (A × B)) (s : ZippedIter S T)
+      → Drains (zipped_steps steps others) s zs
+      → PairsOf (Drains steps s.left) (Drains others s.right) zs
+  both_drained [] s (u, (t, same, (xs, ys, one, two, none))) = (
+    xs,
+    ys,
+    subst (λ k. Drains steps k.left xs) (sym same) one,
+    subst (λ k. Drains others k.right ys) (sym same) two,
+    sym none,
+  )
+  both_drained (z ∷ zs) s (u, (t, (j, step, run), ends)) =
+      let (xs, ys, one, two, same) = both_drained zs j (u, (t, run, ends)) in (
+        z.0 ∷ xs,
+        z.1 ∷ ys,
+        (one.0, (one.1.0, (j.left, step.0, one.1.1), one.1.2)),
+        (two.0, (two.1.0, (j.right, step.1, two.1.1), two.1.2)),
+        ap (λ l. z ∷ l) same,
       )
+
+  left_run : (zs : List (A × B)) (s t : ZippedIter S T) → Yields (zipped_steps steps others) s zs t
+      → Yields steps s.left (map (λ z. z.0) zs) t.left
+  left_run [] s t same = ap (λ k. k.left) same
+  left_run (z ∷ zs) s t (j, step, run) = (j.left, step.0, left_run zs j t run)
+
+  right_run : (zs : List (A × B)) (s t : ZippedIter S T) → Yields (zipped_steps steps others) s zs t
+      → Yields others s.right (map (λ z. z.1) zs) t.right
+  right_run [] s t same = ap (λ k. k.right) same
+  right_run (z ∷ zs) s t (j, step, run) = (j.right, step.1, right_run zs j t run)
+
+  module _ (P : A → Type 0) (Q : B → Type 0) where
+    of_both : (zs : List (A × B)) → AllByRecursion P (map (λ z. z.0) zs)
+        → AllByRecursion Q (map (λ z. z.1) zs) → AllByRecursion (λ z. P z.0 × Q z.1) zs
+    of_both [] one two = tt
+    of_both (z ∷ zs) one two = ((one.0, two.0), of_both zs one.1 two.1)
+
+    -- what is true of each item of either side is true of both in a pair
+    pub both_along : (s : ZippedIter S T) → HoldsAlong steps s.left (All P)
+        → HoldsAlong others s.right (All Q)
+        → HoldsAlong (zipped_steps steps others) s (All (λ z. P z.0 × Q z.1))
+    both_along s one two zs t run = All-from_recursion (λ z. P z.0 × Q z.1) zs
+        (of_both zs
+        (recursion_from_All P (map (λ z. z.0) zs)
+        (one (map (λ z. z.0) zs) t.left (left_run zs s t run)))
+        (recursion_from_All Q (map (λ z. z.1) zs)
+        (two (map (λ z. z.1) zs) t.right (right_run zs s t run))))
 
 module _ {A : Type 0} where
   -- each item with its index is the pair of both
@@ -53,45 +105,74 @@ module _ {A : Type 0} where
   zip_numbers n [] = refl
   zip_numbers n (x ∷ xs) = ap (λ l. (n, x) ∷ l) (zip_numbers (n + 1) xs)
 
+  -- indices and items that were gone through side by side
+  pub numbered_both : (start n : ℕ) (xs : List ℕ) (ys : List A) (zs : List (ℕ × A))
+      → xs ≡ range_with_len start n → length ys ≡ n → zs ≡ zip xs ys
+      → zs ≡ enumerate_from start ys
+  numbered_both start n xs ys zs indices long same = same ∙ ap (λ l. zip l ys) indices
+      ∙ ap (λ k. zip (range_with_len start k) ys) (sym long) ∙ zip_numbers start ys
+
   -- there are as many as items
   pub length_numbered : (n : ℕ) (xs : List A) → length (enumerate_from n xs) ≡ length xs
   length_numbered n [] = refl
   length_numbered n (x ∷ xs) = ap suc (length_numbered (n + 1) xs)
 
-  -- the items behind the first ones have the indices behind theirs
-  pub numbered_cut : (i n : ℕ) (xs : List A) → i ≤ length xs
-      → enumerate_from n (take i xs) ++ enumerate_from (n + i) (drop i xs) ≡ enumerate_from n xs
-  numbered_cut zero n xs within = ap (λ m. enumerate_from m xs) (omega arith)
-  numbered_cut (suc i) n [] within = absurd (omega (arith, within))
-  numbered_cut (suc i) n (x ∷ xs) within =
-      let there : n + suc i ≡ n + 1 + i = omega arith in
-      ap (λ m. enumerate_from n (x ∷ take i xs) ++ enumerate_from m (drop i xs)) there
-      ∙ ap (λ l. (n, x) ∷ l) (numbered_cut i (n + 1) xs (omega (arith, within)))
+  -- items behind others have the indices behind theirs
+  pub numbers_append : (n : ℕ) (xs more : List A)
+      → enumerate_from n xs ++ enumerate_from (n + length xs) more ≡ enumerate_from n (xs ++ more)
+  numbers_append n [] more =
+      let here : n + 0 ≡ n = omega arith in ap (λ m. enumerate_from m more) here
+  numbers_append n (x ∷ xs) more =
+      let there : n + suc (length xs) ≡ n + 1 + length xs = omega arith in
+      ap (λ m. enumerate_from n (x ∷ xs) ++ enumerate_from m more) there
+      ∙ ap (λ l. (n, x) ∷ l) (numbers_append (n + 1) xs more)
 
-  -- what comes of the front and of the back, one after another
-  pub numbered_joined : (i n : ℕ) (xs : List A) → i ≤ length xs → (front back : List (ℕ × Bor A))
-      → map numbered front ≡ enumerate_from n (take i xs)
-      → map numbered back ≡ enumerate_from (n + i) (drop i xs)
-      → map numbered (front ++ back) ≡ enumerate_from n xs
-  numbered_joined i n xs within front back one two =
-      map-append numbered front back ∙ ap (λ l. l ++ map numbered back) one
-      ∙ ap (λ l. enumerate_from n (take i xs) ++ l) two ∙ numbered_cut i n xs within
+  -- a front with its indices, and behind it the rest with those behind the front's
+  pub numbers_joined : (n i : ℕ) (P P' P'' : List A → Type 0)
+      → ((xs more : List A) → P' xs → P'' more → P (xs ++ more))
+      → ((xs : List A) → P' xs → length xs ≡ i) → (front back : List (ℕ × A))
+      → NumbersOf P' n front → NumbersOf P'' (n + i) back → NumbersOf P n (front ++ back)
+  numbers_joined n i P P' P'' joined long front back (xs, one, same) (more, two, rest) = (
+    xs ++ more,
+    joined xs more one two,
+    ap (λ l. l ++ back) same ∙ ap (λ l. enumerate_from n xs ++ l) rest
+        ∙ ap (λ k. enumerate_from n xs ++ enumerate_from (n + k) more) (sym (long xs one))
+        ∙ numbers_append n xs more,
+  )
 
-  -- what stands in either part stands in the whole
-  pub number_of_front : (i n : ℕ) (xs : List A) (p : ℕ × A) → i ≤ length xs
-      → Contains (enumerate_from n (take i xs)) p → Contains (enumerate_from n xs) p
-  number_of_front i n xs p within h = subst (λ l. Contains l p) (numbered_cut i n xs within)
-      (Contains-append_left (enumerate_from n (take i xs)) (enumerate_from (n + i) (drop i xs)) p h)
+  -- so many as the list has items
+  pub numbers_long : (n m : ℕ) (P : List A → Type 0) (zs : List (ℕ × A)) → NumbersOf P n zs
+      → ((xs : List A) → P xs → length xs ≡ m) → length zs ≡ m
+  numbers_long n m P zs (xs, one, same) long =
+      ap length same ∙ length_numbered n xs ∙ long xs one
 
-  pub number_of_back : (i n : ℕ) (xs : List A) (p : ℕ × A) → i ≤ length xs
-      → Contains (enumerate_from (n + i) (drop i xs)) p → Contains (enumerate_from n xs) p
-  number_of_back i n xs p within h = subst (λ l. Contains l p) (numbered_cut i n xs within)
-      (Contains-append_right (enumerate_from n (take i xs)) (enumerate_from (n + i) (drop i xs)) p
-      h)
+-- indices and what comes of another iterator, side by side
+module _ {T A : Type 0} {steps : Range ℕ → Option ℕ → Range ℕ → Type 0}
+    (others : T → Option A → T → Type 0) (start n : ℕ) (numbers : Range ℕ) (items : T)
+    (road : YieldsList steps (λ x. x) numbers (range_with_len start n)) where
+  -- what is gone through is a list of the items with their indices
+  pub numbers_came : (P : List A → Type 0) → ((ys : List A) → Drains others items ys → P ys)
+      → ((ys : List A) → P ys → length ys ≡ n) → (zs : List (ℕ × A))
+      → Drains (zipped_steps steps others) (record { left = numbers; right = items }) zs
+      → NumbersOf P start zs
+  numbers_came P given long zs drains =
+      let (xs, ys, one, two, same) =
+      both_drained steps others zs (record { left = numbers; right = items }) drains in (
+        ys,
+        given ys two,
+        numbered_both start n xs ys zs (came_as_it_is xs one road) (long ys (given ys two)) same,
+      )
 
-  -- a list of items with indices may be lent
-  pub some_numbered : (ps : List (ℕ × A)) → (zs : List (ℕ × Bor A)) × (map numbered zs ≡ ps)
-  some_numbered [] = ([], refl)
-  some_numbered (p ∷ ps) =
-      let rest = some_numbered ps in
-      ((p.0, record { ref_ptr = (0, 0); now = p.1 }) ∷ rest.0, ap (λ l. p ∷ l) rest.1)
+  -- each index is one of the list's, and the item one that may come
+  pub numbers_along : (Q : A → Type 0) (count : ℕ) → n ≡ count → HoldsAlong others items (All Q)
+      → HoldsAlong (zipped_steps steps others) (record { left = numbers; right = items })
+      (All (λ z. ((start ≤ z.0) × (z.0 < start + count)) × Q z.1))
+  numbers_along Q count counted each =
+      let within = λ (k m : ℕ). All (λ i. (start ≤ i) × (i < k)) (range_with_len start m) in
+      let end : start + n ≡ start + count = ap (λ k. start + k) counted in
+      let long : start + n - start ≡ n = omega arith in
+      both_along steps others (λ (i : ℕ). (start ≤ i) × (i < start + count)) Q
+      (record { left = numbers; right = items })
+      (each_that_comes (λ (i : ℕ). (start ≤ i) × (i < start + count)) road
+      (subst (λ k. within k n) end (subst (within (start + n)) long
+      (indices_between start (start + n))))) each

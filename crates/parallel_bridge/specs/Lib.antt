@@ -18,3 +18,4 @@ pub mod Gates
 pub mod Halting
 pub mod Zips
 pub mod Serials
+pub mod Chunks

@@ -1,65 +1,70 @@
-//! A slice, each item with its index.
-ghost use Rattle.std.specs.Prelude.{◌≡◌, ◌+◌, ◌<◌, ◌^◌, map, length};
-ghost use Rattle.std.specs.List.{Contains, enumerate_from};
+//! A list, each item with its index.
+ghost use Rattle.std.specs.Prelude.{◌≡◌, ◌+◌, ◌<◌, ◌≤◌, ◌^◌};
 
 use crate::producer::Producer;
+use crate::zipped::ZippedIter;
 use parallel_fault::Fault;
 use std::alloc::Global;
-use std::iter::Zip;
 use std::ops::Range;
-use std::slice::Iter;
 
-/// The items of a slice, each with its index. A part of it knows where it starts in the whole.
+/// The items of a list, each with its index. A part of it knows where it starts in the whole.
 #[derive(Drop)]
-pub struct Enumerated<'a, T> {
-    slice: &'a [T],
-    start: usize,
-    ghost fits: { start + length slice.now < 2 ^ 64 },
+pub struct Enumerated<P: Producer> {
+    /// The items.
+    pub list: P,
+    /// The index of the first item.
+    pub start: usize,
+    ghost fits: { start + P.count list < 2 ^ 64 },
 }
 
-impl<'a, T> Enumerated<'a, T> {
-    ghost use Rattle.parallel_bridge.specs.Zips.{numbered_items};
-
-    /// The items of a slice with their indices, from 0 on.
-    pub fn new(slice: &'a [T]) -> Enumerated<'a, T>
-        ensures { numbered_items result ≡ enumerate_from 0 slice.now }
+impl<P: Producer> Enumerated<P> {
+    /// The items of a list with their indices, from 0 on.
+    pub fn new(list: P) -> Enumerated<P>
+        ensures list { result.list ≡ list }
+        ensures start { result.start ≡ 0 }
     {
-        let _len = slice.len();
-        Enumerated { slice, start: 0 }
+        let _len = list.len();
+        Enumerated { list, start: 0 }
     }
 }
 
-impl<'a, T: Sync> Producer for Enumerated<'a, T> {
-    ghost use Rattle.parallel_bridge.specs.Zips.{numbered, numbered_count, numbered_items};
+impl<P: Producer> Producer for Enumerated<P> {
+    ghost use Rattle.parallel_bridge.specs.Zips.{NumbersOf};
 
-    type Item = (usize, &'a T);
+    type Item = (usize, P::Item);
 
-    type Iter = Zip<Range<usize>, Iter<'a, T>>;
+    type Iter = ZippedIter<Range<usize>, P::Iter>;
 
-    ghost gives = { λ s zs. map numbered zs ≡ numbered_items s };
+    ghost gives = { λ s zs. NumbersOf (P.gives s.list) s.start zs };
 
-    ghost may = { λ s z. Contains (numbered_items s) (numbered z) };
+    ghost may = { λ s z. ((s.start ≤ z.0) × (z.0 < s.start + P.count s.list))
+        × P.may s.list z.1 };
 
-    ghost count = { λ s. numbered_count s };
+    ghost count = { λ s. P.count s.list };
 
     fn len(&self) -> usize {
-        self.slice.len()
+        self.list.len()
     }
 
-    fn split_at(self, _alloc: Global, index: usize) -> Result<(Self, Self), Fault> {
+    fn split_at(self, alloc: Global, index: usize) -> Result<(Self, Self), Fault> {
+        let (front, back) = self.list.split_at(alloc, index)?;
+        let middle = self.start + index;
         let front = Enumerated {
-            slice: &self.slice[..index],
+            list: front,
             start: self.start,
         };
         let back = Enumerated {
-            slice: &self.slice[index..],
-            start: self.start + index,
+            list: back,
+            start: middle,
         };
         Ok((front, back))
     }
 
-    fn into_items(self) -> Zip<Range<usize>, Iter<'a, T>> {
-        let end = self.start + self.slice.len();
-        (self.start..end).zip(self.slice)
+    fn into_items(self) -> ZippedIter<Range<usize>, P::Iter> {
+        let end = self.start + self.list.len();
+        ZippedIter {
+            left: self.start..end,
+            right: self.list.into_items(),
+        }
     }
 }

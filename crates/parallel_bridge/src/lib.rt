@@ -2,6 +2,7 @@
 #![tactic(auto)]
 
 pub mod bridge;
+pub mod chunks;
 pub mod consumer;
 pub mod drive;
 pub mod enumerated;
@@ -22,6 +23,7 @@ pub mod splitter;
 pub mod window;
 pub mod zipped;
 
+pub use chunks::Chunks;
 pub use consumer::collect::{CollectConsumer, CollectReducer};
 pub use consumer::fold::FoldConsumer;
 pub use consumer::fold_init::FoldInitConsumer;
@@ -53,4 +55,4 @@ pub use splitter::{LengthSplitter, Splitter};
 pub use window::block::Block;
 pub use window::home::Home;
 pub use window::part::Window;
-pub use zipped::Zipped;
+pub use zipped::{Zipped, ZippedIter};

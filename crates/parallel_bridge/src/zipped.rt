@@ -1,52 +1,126 @@
-//! Two slices, pair by pair.
-ghost use Rattle.std.specs.Prelude.{◌≡◌, map, min, length};
-ghost use Rattle.std.specs.List.{Contains, zip};
-ghost use Rattle.parallel_bridge.specs.Zips.{both};
+//! Two lists of one length, pair by pair.
+ghost use Rattle.std.specs.Prelude.{◌≡◌, List};
+ghost use Rattle.std.specs.Iterator.{IsFinite, YieldsThen};
 
 use crate::producer::Producer;
 use parallel_fault::Fault;
 use std::alloc::Global;
-use std::iter::Zip;
-use std::slice::Iter;
 
-/// The items of two slices, pair by pair. It is cut to the shorter one: the items of a longer slice
-/// that have no neighbour are in no pair.
-#[derive(Clone, Copy, Debug)]
-pub struct Zipped<'a, S, T> {
+/// Two lists of one length, pair by pair: the first items of both, then the second ones, and so on.
+#[derive(Drop)]
+pub struct Zipped<L: Producer, R: Producer> {
     /// What comes first in the pairs.
-    pub left: &'a [S],
+    pub left: L,
     /// What comes second.
-    pub right: &'a [T],
+    pub right: R,
+    ghost same: { L.count left ≡ R.count right },
 }
 
-impl<'a, S: Sync, T: Sync> Producer for Zipped<'a, S, T> {
-    type Item = (&'a S, &'a T);
+impl<L: Producer, R: Producer> Zipped<L, R> {
+    /// The pairs of two lists of one length.
+    pub fn new(left: L, right: R) -> Zipped<L, R>
+        requires { L.count left ≡ R.count right }
+        ensures left { result.left ≡ left }
+        ensures right { result.right ≡ right }
+    {
+        Zipped { left, right }
+    }
+}
 
-    type Iter = Zip<Iter<'a, S>, Iter<'a, T>>;
+impl<L: Producer, R: Producer> Producer for Zipped<L, R> {
+    ghost use Rattle.parallel_bridge.specs.Zips.{PairsOf};
 
-    ghost gives = { λ s zs. map both zs ≡ zip s.left.now s.right.now };
+    type Item = (L::Item, R::Item);
 
-    ghost may = { λ s z. Contains (zip s.left.now s.right.now) (both z) };
+    type Iter = ZippedIter<L::Iter, R::Iter>;
 
-    ghost count = { λ s. min (length s.left.now) (length s.right.now) };
+    ghost gives = { λ s zs. PairsOf (L.gives s.left) (R.gives s.right) zs };
+
+    ghost may = { λ s z. L.may s.left z.0 × R.may s.right z.1 };
+
+    ghost count = { λ s. L.count s.left };
 
     fn len(&self) -> usize {
         self.left.len().min(self.right.len())
     }
 
-    fn split_at(self, _alloc: Global, index: usize) -> Result<(Self, Self), Fault> {
+    fn split_at(self, alloc: Global, index: usize) -> Result<(Self, Self), Fault> {
+        let (left_front, left_back) = self.left.split_at(alloc, index)?;
+        let (right_front, right_back) = self.right.split_at(alloc, index)?;
         let front = Zipped {
-            left: &self.left[..index],
-            right: &self.right[..index],
+            left: left_front,
+            right: right_front,
         };
         let back = Zipped {
-            left: &self.left[index..],
-            right: &self.right[index..],
+            left: left_back,
+            right: right_back,
         };
         Ok((front, back))
     }
 
-    fn into_items(self) -> Zip<Iter<'a, S>, Iter<'a, T>> {
-        self.left.iter().zip(self.right)
+    fn into_items(self) -> ZippedIter<L::Iter, R::Iter> {
+        ZippedIter {
+            left: self.left.into_items(),
+            right: self.right.into_items(),
+        }
     }
+}
+
+/// The items of two iterators, pair by pair. Where one of them ends, what the other one still gives
+/// is passed over, so that both have ended.
+#[derive(Drop)]
+pub struct ZippedIter<A, B> {
+    /// What comes first in the pairs.
+    pub left: A,
+    /// What comes second.
+    pub right: B,
+}
+
+impl<A: Iterator, B: Iterator> Iterator for ZippedIter<A, B>
+where
+    A::Item: Drop,
+    B::Item: Drop,
+{
+    ghost use Rattle.parallel_bridge.specs.Zips.{zipped_steps};
+
+    type Item = (A::Item, B::Item);
+
+    ghost can_next = { λ s. A.can_next s.left × B.can_next s.right
+        × IsFinite (A.remaining s.left) × IsFinite (B.remaining s.right) };
+
+    ghost next_gives = { zipped_steps A.next_gives B.next_gives };
+
+    ghost remaining = { λ s. A.remaining s.left };
+
+    fn next(&mut self) -> Option<(A::Item, B::Item)> {
+        match self.left.next() {
+            Some(left) => match self.right.next() {
+                Some(right) => Some((left, right)),
+                None => {
+                    pass_over(&mut self.left);
+                    None
+                }
+            },
+            None => {
+                pass_over(&mut self.right);
+                None
+            }
+        }
+    }
+
+    fn size_hint(&self) -> (usize, Option<usize>) {
+        self.left.size_hint()
+    }
+}
+
+// Passes over what an iterator still gives.
+fn pass_over<I: Iterator>(iter: &mut I)
+where
+    I::Item: Drop,
+    requires can { I.can_next iter.old }
+    requires ends { IsFinite (I.remaining iter.old) }
+    ensures all { (xs : List I.Item) × YieldsThen I.next_gives iter.old xs None iter.new }
+    ensures ended { IsFinite (I.remaining iter.new) }
+{
+    while let Some(_item) = iter.next() {}
 }

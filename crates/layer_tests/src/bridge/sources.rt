@@ -1,27 +1,81 @@
-// Slices pair by pair, and with their indices: what comes of them, whole and cut.
+// Pieces of slices, lists pair by pair, and items with their indices: what comes, whole and cut.
 use crate::bridge::number;
-use crate::same::row;
+use crate::same::{row, same};
+use parallel_bridge::chunks::Chunks;
 use parallel_bridge::enumerated::Enumerated;
 use parallel_bridge::list::map::map_parallel;
 use parallel_bridge::parts::ProducerParts;
+use parallel_bridge::producer::{Copies, Indices, Producer};
 use parallel_bridge::zipped::Zipped;
 
+// A piece's first item, and how many it has.
+fn first_and_len(piece: &[u8]) -> (u8, usize) {
+    match piece.first() {
+        Some(first) => (*first, piece.len()),
+        None => (0, 0),
+    }
+}
+
 #[test]
-fn slices_come_pair_by_pair_up_to_the_shorter_ones_end(rt: HostRuntime) {
+fn a_slice_comes_in_pieces_the_last_one_short(rt: HostRuntime) {
     let alloc = rt.alloc();
-    let left = [1u32, 2, 3, 4, 5, 6, 7];
+    let items = [1u8, 2, 3, 4, 5, 6, 7, 8, 9, 10, 11];
+    for threads in [1, 2, 4] {
+        let list = Chunks {
+            slice: &items,
+            size: number(&rt, 3),
+        };
+        let seen = map_parallel(
+            &rt,
+            alloc,
+            number(&rt, threads),
+            ProducerParts { list },
+            &first_and_len,
+        )
+        .expect(&rt, "memory");
+        let wanted = [(1, 3), (4, 3), (7, 3), (10, 2)];
+        row(&rt, threads, seen.as_slice(), wanted.as_slice());
+    }
+}
+
+#[test]
+fn pieces_are_counted_and_cut_behind_whole_ones(rt: HostRuntime) {
+    let alloc = rt.alloc();
+    let items = [1u8, 2, 3, 4, 5, 6, 7];
+    let pieces = Chunks {
+        slice: &items,
+        size: number(&rt, 3),
+    };
+    same(&rt, pieces.len(), 3);
+    let (front, rest) = pieces.split_at(alloc, 2).expect(&rt, "memory");
+    same(&rt, front.slice, [1, 2, 3, 4, 5, 6].as_slice());
+    same(&rt, rest.slice, [7].as_slice());
+    let (all, none) = rest.split_at(alloc, 1).expect(&rt, "memory");
+    same(&rt, all.slice, [7].as_slice());
+    same(&rt, none.len(), 0);
+    let whole = Chunks {
+        slice: &items,
+        size: number(&rt, usize::MAX),
+    };
+    same(&rt, whole.len(), 1);
+    let (front, rest) = whole.split_at(alloc, 1).expect(&rt, "memory");
+    same(&rt, front.len(), 1);
+    same(&rt, rest.slice, [].as_slice());
+}
+
+#[test]
+fn lists_come_pair_by_pair(rt: HostRuntime) {
+    let alloc = rt.alloc();
+    let left = [1u32, 2, 3, 4, 5];
     let right = [10u32, 20, 30, 40, 50];
     for threads in [1, 2, 4] {
-        let list = Zipped {
-            left: &left,
-            right: &right,
-        };
+        let list = Zipped::new(left.as_slice(), Copies { slice: &right });
         let sums = map_parallel(
             &rt,
             alloc,
             number(&rt, threads),
             ProducerParts { list },
-            &|pair: (&u32, &u32)| pair.0.wrapping_add(*pair.1),
+            &|pair: (&u32, u32)| pair.0.wrapping_add(pair.1),
         )
         .expect(&rt, "memory");
         row(
@@ -34,17 +88,29 @@ fn slices_come_pair_by_pair_up_to_the_shorter_ones_end(rt: HostRuntime) {
 }
 
 #[test]
-fn items_come_with_their_indices_in_the_whole_slice(rt: HostRuntime) {
+fn pairs_end_with_the_lists(rt: HostRuntime) {
+    let left = [1u8, 2];
+    let pairs = Zipped::new(Copies { slice: &left }, Indices { start: 7, end: 9 });
+    same(&rt, pairs.len(), 2);
+    let mut items = Producer::into_items(pairs);
+    same(&rt, items.size_hint(), (2, Some(2)));
+    same(&rt, items.next(), Some((1, 7)));
+    same(&rt, items.next(), Some((2, 8)));
+    same(&rt, items.next(), None);
+}
+
+#[test]
+fn items_come_with_their_indices_in_the_whole_list(rt: HostRuntime) {
     let alloc = rt.alloc();
     let letters = [b'a', b'b', b'c', b'd', b'e'];
     for threads in [1, 2, 4] {
-        let list = Enumerated::new(&letters);
+        let list = Enumerated::new(Copies { slice: &letters });
         let seen = map_parallel(
             &rt,
             alloc,
             number(&rt, threads),
             ProducerParts { list },
-            &|item: (usize, &u8)| (item.0, *item.1),
+            &|item: (usize, u8)| item,
         )
         .expect(&rt, "memory");
         let wanted = [(0, b'a'), (1, b'b'), (2, b'c'), (3, b'd'), (4, b'e')];

@@ -1,26 +1,22 @@
--- What comes are the indices with borrows of the slice's items.
-use Rattle.std.proofs.Common.{◌+◌, length, rules, subst, arith}
-use Rattle.std.proofs.lemmas.Iterator.{YieldsList, YieldsList-from_range, YieldsList-from_slice, YieldsList-from_zip}
-use Rattle.parallel_bridge.proofs.Coming.{came, stands_in}
-use Rattle.parallel_bridge.proofs.Zips.{zip_numbers}
+-- The list is gone through, and with it the indices from the start on.
+use Rattle.std.proofs.Common.{◌+◌, refl, arith}
+use Rattle.std.proofs.lemmas.Iterator.{YieldsList-from_range}
+use Rattle.parallel_bridge.proofs.Zips.{numbers_along, numbers_came}
 use Rattle.parallel_bridge.proofs.enumerated.EnumeratedProducer.into_items.Goals as goal
 
 pub returns-clause-gives : goal.returns-clause-gives
-returns-clause-gives g c zs drains =
-    let self = c.args.self in
-    came zs drains
-    (subst (YieldsList _ (λ p. (p.0, p.1.now)) c.zip.result) (zip_numbers self.start self.slice.now)
-    (YieldsList-from_zip {s = c.zip.result}
-    (YieldsList-from_range self.start (self.start + length self.slice.now)
-    (length self.slice.now) (search rules) (omega arith))
-    (YieldsList-from_slice self.slice.now (search rules))))
+returns-clause-gives g c =
+    let start = c.args.self.start in
+    let n = c.len.result in
+    numbers_came g.P.Iter.Iterator.next_gives start n _ c.into_items.result
+    (YieldsList-from_range start (start + n) n refl (omega arith))
+    (g.P.Producer.gives c.args.self.list) c.into_items.ensures.gives c.len.ensures.each
 
 pub returns-clause-may : goal.returns-clause-may
 returns-clause-may g c =
-    let self = c.args.self in
-    stands_in
-    (subst (YieldsList _ (λ p. (p.0, p.1.now)) c.zip.result) (zip_numbers self.start self.slice.now)
-    (YieldsList-from_zip {s = c.zip.result}
-    (YieldsList-from_range self.start (self.start + length self.slice.now)
-    (length self.slice.now) (search rules) (omega arith))
-    (YieldsList-from_slice self.slice.now (search rules))))
+    let start = c.args.self.start in
+    let n = c.len.result in
+    numbers_along g.P.Iter.Iterator.next_gives start n _ c.into_items.result
+    (YieldsList-from_range start (start + n) n refl (omega arith))
+    (g.P.Producer.may c.args.self.list) (g.P.Producer.count c.args.self.list)
+    c.len.ensures.counted c.into_items.ensures.may

@@ -1,13 +1,9 @@
--- As many as the slice has items.
-use Rattle.std.proofs.Common.{length, ap, arith}
-use Rattle.std.proofs.lemmas.List.{length-map}
-use Rattle.parallel_bridge.specs.Zips.{numbered}
-use Rattle.parallel_bridge.proofs.Zips.{length_numbered}
+-- As many as the list has items.
+use Rattle.parallel_bridge.proofs.Zips.{numbers_long}
 use Rattle.parallel_bridge.proofs.enumerated.EnumeratedProducer.len.Goals as goal
 
 pub returns-clause-each : goal.returns-clause-each
-returns-clause-each g c zs given =
-    let seen = ap length given in
-    let mapped = length-map zs numbered in
-    let numbers = length_numbered c.args.self.now.start c.args.self.now.slice.now in
-    omega (arith, seen, mapped, numbers)
+returns-clause-each g c zs numbers =
+    let self = c.args.self.now in
+    numbers_long self.start c.len.result (g.P.Producer.gives self.list) zs numbers
+    c.len.ensures.each

@@ -1,15 +1,11 @@
--- As many pairs as the shorter slice has items.
-use Rattle.std.proofs.Common.{length, ap, arith}
-use Rattle.std.proofs.lemmas.List.{length-map}
-use Rattle.std.proofs.lemmas.Slice.Zip.{length-zip}
-use Rattle.parallel_bridge.specs.Zips.{both}
+-- As many pairs as either side has items.
+use Rattle.std.proofs.Common.{◌∙◌, sym}
+use Rattle.parallel_bridge.proofs.Zips.{pairs_long}
 use Rattle.parallel_bridge.proofs.zipped.ZippedProducer.len.Goals as goal
 
 pub returns-clause-each : goal.returns-clause-each
-returns-clause-each g c zs given =
+returns-clause-each g c zs pairs =
     let self = c.args.self.now in
-    let seen = ap length given in
-    let mapped = length-map zs both in
-    let pairs = length-zip self.left.now self.right.now in
-    let counted = c.min.ensures in
-    omega (arith, seen, mapped, pairs, counted)
+    pairs_long c.len.result c.len-2.result (g.L.Producer.gives self.left)
+    (g.R.Producer.gives self.right) zs pairs c.len.ensures.each c.len-2.ensures.each
+    ∙ sym c.min.ensures

@@ -1,0 +1,142 @@
+-- What the clause of a list call says of lists of which the items show values: of borrows, of pairs
+-- and of items with indices.
+use Rattle.std.proofs.Common.{◌≡◌, ◌+◌, ℕ, List, [], ◌∷◌, Result, Ok, Err, Vec, Global, refl, ap, subst, ◌∙◌, map, map-id}
+use Rattle.std.specs.Prelude.{IfOk}
+use Rattle.std.specs.Borrow.{Bor}
+use Rattle.std.specs.List.{enumerate_from, zip}
+use Rattle.std.proofs.lemmas.List.{map-append}
+use Rattle.std.proofs.lemmas.Result.{IfOk-weaker}
+use Rattle.parallel_fault.specs.declared.fault.Trouble.{Trouble}
+use Rattle.parallel_fault.specs.declared.fault.Trouble.TheVariants.{Closure}
+use Rattle.parallel_fault.specs.declared.fault.Trouble.TheVariants.{Fault as OfFault}
+use Rattle.parallel_bridge.specs.Lists.{MapOf}
+use Rattle.parallel_bridge.specs.Outcomes.{UnlessRefused, listed}
+use Rattle.parallel_bridge.specs.Tries.{TryMapOf}
+use Rattle.parallel_bridge.specs.Zips.{NumbersOf, PairsOf, both, numbered}
+
+module _ {X A : Type 0} (view : X → A) where
+  -- a map of items is one of what they show
+  pub map_shown : {Y : Type 0} (allowed : X → Y → Type 0) (plain : A → Y → Type 0)
+      → ((x : X) (y : Y) → allowed x y → plain (view x) y) → (xs : List X) (ys : List Y)
+      → MapOf allowed xs ys → MapOf plain (map view xs) ys
+  map_shown allowed plain one [] [] h = tt
+  map_shown allowed plain one [] (y ∷ ys) h = absurd h
+  map_shown allowed plain one (x ∷ xs) [] h = absurd h
+  map_shown allowed plain one (x ∷ xs) (y ∷ ys) h =
+      (one x y h.0, map_shown allowed plain one xs ys h.1)
+
+  -- and so is one that may fail
+  pub try_map_shown : {Y E : Type 0} (allowed : X → Result Y E → Type 0)
+      (plain : A → Result Y E → Type 0)
+      → ((x : X) (r : Result Y E) → allowed x r → plain (view x) r) → (xs : List X)
+      (out : Result (List Y) E) → TryMapOf allowed xs out → TryMapOf plain (map view xs) out
+  try_map_shown allowed plain one xs (Ok ys) h =
+      map_shown (λ x y. allowed x (Ok y)) (λ a y. plain a (Ok y)) (λ x y k. one x (Ok y) k) xs ys h
+  try_map_shown allowed plain one xs (Err e) (before, x, after, ys, split, each, fails) = (
+    map view before,
+    view x,
+    map view after,
+    ys,
+    ap (map view) split ∙ map-append view before (x ∷ after),
+    map_shown (λ x y. allowed x (Ok y)) (λ a y. plain a (Ok y)) (λ x y k. one x (Ok y) k) before ys
+        each,
+    one x (Err e) fails,
+  )
+
+  functional : {Y : Type 0} (allowed : X → Y → Type 0) (f : A → Y)
+      → ((x : X) (y : Y) → allowed x y → y ≡ f (view x)) → (xs : List X) (ys : List Y)
+      → MapOf allowed xs ys → ys ≡ map f (map view xs)
+  functional allowed f one [] [] h = refl
+  functional allowed f one [] (y ∷ ys) h = absurd h
+  functional allowed f one (x ∷ xs) [] h = absurd h
+  functional allowed f one (x ∷ xs) (y ∷ ys) h =
+      ap (λ v. v ∷ ys) (one x y h.0) ∙ ap (λ l. f (view x) ∷ l) (functional allowed f one xs ys h.1)
+
+  -- a map by a function of what items show, over a source all of whose lists show one list
+  pub map_of_shown : {B E : Type 0} (gives : List X → Type 0) (all : List A)
+      (allowed : X → B → Type 0) (f : A → B) (result : Result (Vec B Global) E)
+      → IfOk result (λ ys. (xs : List X) × gives xs × MapOf allowed xs ys.items)
+      → ((xs : List X) → gives xs → map view xs ≡ all)
+      → ((x : X) (y : B) → allowed x y → y ≡ f (view x)) → IfOk result (λ ys. ys.items ≡ map f all)
+  map_of_shown gives all allowed f result gave shown one =
+      IfOk-weaker result _ (λ ys. ys.items ≡ map f all)
+      (λ ys h. functional allowed f one h.0 ys.items h.2 ∙ ap (map f) (shown h.0 h.1)) gave
+
+  -- a map that may fail, over such a source
+  pub try_map_of_shown : {B E : Type 0} (gives : List X → Type 0) (all : List A)
+      (allowed : X → Result B E → Type 0) (plain : A → Result B E → Type 0)
+      (result : Result (Vec B Global) (Trouble E)) → UnlessRefused result
+      (λ out. (xs : List X) × gives xs × TryMapOf allowed xs (listed out))
+      → ((xs : List X) → gives xs → map view xs ≡ all)
+      → ((x : X) (r : Result B E) → allowed x r → plain (view x) r)
+      → UnlessRefused result (λ out. TryMapOf plain all (listed out))
+  try_map_of_shown gives all allowed plain (Ok ys) gave shown one =
+      subst (λ l. TryMapOf plain l (Ok ys.items)) (shown gave.0 gave.1)
+      (try_map_shown allowed plain one gave.0 (Ok ys.items) gave.2)
+  try_map_of_shown gives all allowed plain (Err (Closure e)) gave shown one =
+      subst (λ l. TryMapOf plain l (Err e)) (shown gave.0 gave.1)
+      (try_map_shown allowed plain one gave.0 (Err e) gave.2)
+  try_map_of_shown gives all allowed plain (Err (OfFault f)) gave shown one = gave
+
+module _ {X Y A B : Type 0} (v : X → A) (w : Y → B) where
+  shown_zip : (xs : List X) (ys : List Y)
+      → map (λ (z : X × Y). (v z.0, w z.1)) (zip xs ys) ≡ zip (map v xs) (map w ys)
+  shown_zip [] ys = refl
+  shown_zip (x ∷ xs) [] = refl
+  shown_zip (x ∷ xs) (y ∷ ys) = ap (λ l. (v x, w y) ∷ l) (shown_zip xs ys)
+
+  -- the pairs of two sides, of each of which all lists show one list
+  pub pairs_shown : (left : List A) (right : List B) (P : List X → Type 0) (Q : List Y → Type 0)
+      → ((xs : List X) → P xs → map v xs ≡ left) → ((ys : List Y) → Q ys → map w ys ≡ right)
+      → (zs : List (X × Y)) → PairsOf P Q zs
+      → map (λ (z : X × Y). (v z.0, w z.1)) zs ≡ zip left right
+  pairs_shown left right P Q first second zs (xs, ys, one, two, same) =
+      ap (map (λ (z : X × Y). (v z.0, w z.1))) same ∙ shown_zip xs ys
+      ∙ ap (λ l. zip l (map w ys)) (first xs one) ∙ ap (zip left) (second ys two)
+
+module _ {A B : Type 0} (left : List A) (right : List B) where
+  -- the pairs of two slices
+  pub zip_of_slices : (zs : List (Bor A × Bor B))
+      → PairsOf (λ xs. map (λ (x : Bor A). x.now) xs ≡ left)
+      (λ ys. map (λ (y : Bor B). y.now) ys ≡ right) zs → map both zs ≡ zip left right
+  zip_of_slices = pairs_shown (λ x. x.now) (λ y. y.now) left right
+      (λ xs. map (λ (x : Bor A). x.now) xs ≡ left) (λ ys. map (λ (y : Bor B). y.now) ys ≡ right)
+      (λ xs h. h) (λ ys h. h)
+
+  -- those of two lists that come as they are, as of two `Copies`
+  pub zip_of_lists : (zs : List (A × B)) → PairsOf (λ xs. xs ≡ left) (λ ys. ys ≡ right) zs
+      → zs ≡ zip left right
+  zip_of_lists zs (xs, ys, one, two, same) =
+      same ∙ ap (λ l. zip l ys) one ∙ ap (zip left) two
+
+  -- those of a slice and of a list that comes as it is
+  pub zip_of_slice_and_list : (zs : List (Bor A × B))
+      → PairsOf (λ xs. map (λ (x : Bor A). x.now) xs ≡ left) (λ ys. ys ≡ right) zs
+      → map (λ (z : Bor A × B). (z.0.now, z.1)) zs ≡ zip left right
+  zip_of_slice_and_list = pairs_shown (λ x. x.now) (λ y. y) left right
+      (λ xs. map (λ (x : Bor A). x.now) xs ≡ left) (λ ys. ys ≡ right) (λ xs h. h)
+      (λ ys h. map-id ys ∙ h)
+
+  pub zip_of_list_and_slice : (zs : List (A × Bor B))
+      → PairsOf (λ xs. xs ≡ left) (λ ys. map (λ (y : Bor B). y.now) ys ≡ right) zs
+      → map (λ (z : A × Bor B). (z.0, z.1.now)) zs ≡ zip left right
+  zip_of_list_and_slice = pairs_shown (λ x. x) (λ y. y.now) left right (λ xs. xs ≡ left)
+      (λ ys. map (λ (y : Bor B). y.now) ys ≡ right) (λ xs h. map-id xs ∙ h) (λ ys h. h)
+
+module _ {A : Type 0} where
+  shown_numbers : (n : ℕ) (xs : List (Bor A))
+      → map numbered (enumerate_from n xs) ≡ enumerate_from n (map (λ (x : Bor A). x.now) xs)
+  shown_numbers n [] = refl
+  shown_numbers n (x ∷ xs) = ap (λ l. (n, x.now) ∷ l) (shown_numbers (n + 1) xs)
+
+  -- the items of a slice with their indices
+  pub numbers_of_slice : (n : ℕ) (all : List A) (zs : List (ℕ × Bor A))
+      → NumbersOf (λ xs. map (λ (x : Bor A). x.now) xs ≡ all) n zs
+      → map numbered zs ≡ enumerate_from n all
+  numbers_of_slice n all zs (xs, one, same) =
+      ap (map numbered) same ∙ shown_numbers n xs ∙ ap (enumerate_from n) one
+
+  -- those of a list that comes as it is
+  pub numbers_of_list : (n : ℕ) (all : List A) (zs : List (ℕ × A))
+      → NumbersOf (λ xs. xs ≡ all) n zs → zs ≡ enumerate_from n all
+  numbers_of_list n all zs (xs, one, same) = same ∙ ap (enumerate_from n) one

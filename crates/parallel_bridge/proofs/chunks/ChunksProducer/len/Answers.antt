@@ -1,0 +1,16 @@
+-- As many as the slice has pieces.
+use Rattle.std.proofs.Common.{length, sym, ap, ◌∙◌}
+use Rattle.std.specs.Int.{div_ceil}
+use Rattle.std.specs.Int.NonZero.{non_zero_usize_get}
+use Rattle.std.proofs.lemmas.List.{length-map}
+use Rattle.parallel_bridge.proofs.Pieces.{length_pieces}
+use Rattle.parallel_bridge.proofs.chunks.ChunksProducer.len.Goals as goal
+
+pub returns-clause-each : goal.returns-clause-each
+returns-clause-each g c xs given =
+    let self = c.args.self.now in
+    let size = non_zero_usize_get self.size in
+    let items = self.slice.now in
+    sym (length-map xs (λ x. x.now)) ∙ ap length given
+    ∙ length_pieces (div_ceil (length items) size) size items
+    ∙ ap (div_ceil (length items)) (sym c.get.ensures.value) ∙ sym c.div_ceil.ensures
