@@ -37,3 +37,4 @@ pub mod Zips
 pub mod Serials
 pub mod Pieces
 pub mod OverViews
+pub mod FirstNumbered

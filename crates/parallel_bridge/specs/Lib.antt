@@ -19,3 +19,4 @@ pub mod Halting
 pub mod Zips
 pub mod Serials
 pub mod Chunks
+pub mod Firsts
