@@ -37,4 +37,3 @@ pub mod Zips
 pub mod Serials
 pub mod Pieces
 pub mod OverViews
-pub mod FirstNumbered

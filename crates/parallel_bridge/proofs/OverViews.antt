@@ -1,9 +1,9 @@
--- What the clause of a list call says of lists of which the items show values: of borrows, of pairs
--- and of items with indices.
-use Rattle.std.proofs.Common.{◌≡◌, ◌+◌, ℕ, List, [], ◌∷◌, Result, Ok, Err, Vec, Global, refl, ap, subst, ◌∙◌, map, map-id}
+-- What the clause of a list call says of lists of which the items show values: of borrows, and of
+-- pairs.
+use Rattle.std.proofs.Common.{◌≡◌, List, [], ◌∷◌, Result, Ok, Err, Vec, Global, refl, ap, subst, ◌∙◌, map, map-id}
 use Rattle.std.specs.Prelude.{IfOk}
 use Rattle.std.specs.Borrow.{Bor}
-use Rattle.std.specs.List.{enumerate_from, zip}
+use Rattle.std.specs.List.{zip}
 use Rattle.std.proofs.lemmas.List.{map-append}
 use Rattle.std.proofs.lemmas.Result.{IfOk-weaker}
 use Rattle.parallel_fault.specs.declared.fault.Trouble.{Trouble}
@@ -12,7 +12,7 @@ use Rattle.parallel_fault.specs.declared.fault.Trouble.TheVariants.{Fault as OfF
 use Rattle.parallel_bridge.specs.Lists.{MapOf}
 use Rattle.parallel_bridge.specs.Outcomes.{UnlessRefused, listed}
 use Rattle.parallel_bridge.specs.Tries.{TryMapOf}
-use Rattle.parallel_bridge.specs.Zips.{NumbersOf, PairsOf, both, numbered}
+use Rattle.parallel_bridge.specs.Zips.{PairsOf, both}
 
 module _ {X A : Type 0} (view : X → A) where
   -- a map of items is one of what they show
@@ -122,21 +122,3 @@ module _ {A B : Type 0} (left : List A) (right : List B) where
       → map (λ (z : A × Bor B). (z.0, z.1.now)) zs ≡ zip left right
   zip_of_list_and_slice = pairs_shown (λ x. x) (λ y. y.now) left right (λ xs. xs ≡ left)
       (λ ys. map (λ (y : Bor B). y.now) ys ≡ right) (λ xs h. map-id xs ∙ h) (λ ys h. h)
-
-module _ {A : Type 0} where
-  shown_numbers : (n : ℕ) (xs : List (Bor A))
-      → map numbered (enumerate_from n xs) ≡ enumerate_from n (map (λ (x : Bor A). x.now) xs)
-  shown_numbers n [] = refl
-  shown_numbers n (x ∷ xs) = ap (λ l. (n, x.now) ∷ l) (shown_numbers (n + 1) xs)
-
-  -- the items of a slice with their indices
-  pub numbers_of_slice : (n : ℕ) (all : List A) (zs : List (ℕ × Bor A))
-      → NumbersOf (λ xs. map (λ (x : Bor A). x.now) xs ≡ all) n zs
-      → map numbered zs ≡ enumerate_from n all
-  numbers_of_slice n all zs (xs, one, same) =
-      ap (map numbered) same ∙ shown_numbers n xs ∙ ap (enumerate_from n) one
-
-  -- those of a list that comes as it is
-  pub numbers_of_list : (n : ℕ) (all : List A) (zs : List (ℕ × A))
-      → NumbersOf (λ xs. xs ≡ all) n zs → zs ≡ enumerate_from n all
-  numbers_of_list n all zs (xs, one, same) = same ∙ ap (enumerate_from n) one

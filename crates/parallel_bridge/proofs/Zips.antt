@@ -3,12 +3,8 @@ use Rattle.std.proofs.Common.{◌≡◌, ℕ, suc, ◌≤◌, ◌<◌, ◌+◌, 
 use Rattle.std.specs.Iterator.{Drains, HoldsAlong, Yields}
 use Rattle.std.specs.List.{All, AllByRecursion, enumerate_from, range_with_len, zip}
 use Rattle.std.proofs.lemmas.List.Elements.{All-from_recursion, recursion_from_All}
-use Rattle.std.proofs.lemmas.Iterator.{YieldsList}
 use Rattle.std.proofs.lemmas.Slice.Zip.{length-zip}
-use Rattle.std.specs.declared.ops.Range.{Range}
-use Rattle.parallel_bridge.proofs.Coming.{came_as_it_is, each_that_comes}
-use Rattle.parallel_bridge.proofs.Ranges.{indices_between}
-use Rattle.parallel_bridge.specs.Zips.{NumbersOf, PairsOf, zipped_steps}
+use Rattle.parallel_bridge.specs.Zips.{PairsOf, zipped_steps}
 use Rattle.parallel_bridge.specs.declared.zipped.ZippedIter.{ZippedIter}
 
 module _ {A B : Type 0} where
@@ -111,68 +107,3 @@ module _ {A : Type 0} where
       → zs ≡ enumerate_from start ys
   numbered_both start n xs ys zs indices long same = same ∙ ap (λ l. zip l ys) indices
       ∙ ap (λ k. zip (range_with_len start k) ys) (sym long) ∙ zip_numbers start ys
-
-  -- there are as many as items
-  pub length_numbered : (n : ℕ) (xs : List A) → length (enumerate_from n xs) ≡ length xs
-  length_numbered n [] = refl
-  length_numbered n (x ∷ xs) = ap suc (length_numbered (n + 1) xs)
-
-  -- items behind others have the indices behind theirs
-  pub numbers_append : (n : ℕ) (xs more : List A)
-      → enumerate_from n xs ++ enumerate_from (n + length xs) more ≡ enumerate_from n (xs ++ more)
-  numbers_append n [] more =
-      let here : n + 0 ≡ n = omega arith in ap (λ m. enumerate_from m more) here
-  numbers_append n (x ∷ xs) more =
-      let there : n + suc (length xs) ≡ n + 1 + length xs = omega arith in
-      ap (λ m. enumerate_from n (x ∷ xs) ++ enumerate_from m more) there
-      ∙ ap (λ l. (n, x) ∷ l) (numbers_append (n + 1) xs more)
-
-  -- a front with its indices, and behind it the rest with those behind the front's
-  pub numbers_joined : (n i : ℕ) (P P' P'' : List A → Type 0)
-      → ((xs more : List A) → P' xs → P'' more → P (xs ++ more))
-      → ((xs : List A) → P' xs → length xs ≡ i) → (front back : List (ℕ × A))
-      → NumbersOf P' n front → NumbersOf P'' (n + i) back → NumbersOf P n (front ++ back)
-  numbers_joined n i P P' P'' joined long front back (xs, one, same) (more, two, rest) = (
-    xs ++ more,
-    joined xs more one two,
-    ap (λ l. l ++ back) same ∙ ap (λ l. enumerate_from n xs ++ l) rest
-        ∙ ap (λ k. enumerate_from n xs ++ enumerate_from (n + k) more) (sym (long xs one))
-        ∙ numbers_append n xs more,
-  )
-
-  -- so many as the list has items
-  pub numbers_long : (n m : ℕ) (P : List A → Type 0) (zs : List (ℕ × A)) → NumbersOf P n zs
-      → ((xs : List A) → P xs → length xs ≡ m) → length zs ≡ m
-  numbers_long n m P zs (xs, one, same) long =
-      ap length same ∙ length_numbered n xs ∙ long xs one
-
--- indices and what comes of another iterator, side by side
-module _ {T A : Type 0} {steps : Range ℕ → Option ℕ → Range ℕ → Type 0}
-    (others : T → Option A → T → Type 0) (start n : ℕ) (numbers : Range ℕ) (items : T)
-    (road : YieldsList steps (λ x. x) numbers (range_with_len start n)) where
-  -- what is gone through is a list of the items with their indices
-  pub numbers_came : (P : List A → Type 0) → ((ys : List A) → Drains others items ys → P ys)
-      → ((ys : List A) → P ys → length ys ≡ n) → (zs : List (ℕ × A))
-      → Drains (zipped_steps steps others) (record { left = numbers; right = items }) zs
-      → NumbersOf P start zs
-  numbers_came P given long zs drains =
-      let (xs, ys, one, two, same) =
-      both_drained steps others zs (record { left = numbers; right = items }) drains in (
-        ys,
-        given ys two,
-        numbered_both start n xs ys zs (came_as_it_is xs one road) (long ys (given ys two)) same,
-      )
-
-  -- each index is one of the list's, and the item one that may come
-  pub numbers_along : (Q : A → Type 0) (count : ℕ) → n ≡ count → HoldsAlong others items (All Q)
-      → HoldsAlong (zipped_steps steps others) (record { left = numbers; right = items })
-      (All (λ z. ((start ≤ z.0) × (z.0 < start + count)) × Q z.1))
-  numbers_along Q count counted each =
-      let within = λ (k m : ℕ). All (λ i. (start ≤ i) × (i < k)) (range_with_len start m) in
-      let end : start + n ≡ start + count = ap (λ k. start + k) counted in
-      let long : start + n - start ≡ n = omega arith in
-      both_along steps others (λ (i : ℕ). (start ≤ i) × (i < start + count)) Q
-      (record { left = numbers; right = items })
-      (each_that_comes (λ (i : ℕ). (start ≤ i) × (i < start + count)) road
-      (subst (λ k. within k n) end (subst (within (start + n)) long
-      (indices_between start (start + n))))) each

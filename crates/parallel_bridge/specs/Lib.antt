@@ -19,4 +19,3 @@ pub mod Halting
 pub mod Zips
 pub mod Serials
 pub mod Chunks
-pub mod Firsts

@@ -1,18 +1,14 @@
 -- What comes of two lists pair by pair, and of a list with its indices.
-use Rattle.std.specs.Prelude.{◌≡◌, ℕ, List, [], Option, Some, MatchOption}
+use Rattle.std.specs.Prelude.{◌≡◌, List, [], Option, Some, MatchOption}
 use Rattle.std.specs.Borrow.{Bor}
 use Rattle.std.specs.Iterator.{Drains}
-use Rattle.std.specs.List.{enumerate_from, zip}
+use Rattle.std.specs.List.{zip}
 use Rattle.parallel_bridge.specs.declared.zipped.ZippedIter.{ZippedIter}
 
 -- the pairs of a list that the first gives and one that the second gives
 abbrev pub PairsOf : {A B : Type 0} → (List A → Type 0) → (List B → Type 0) → List (A × B) → Type 0
 PairsOf {A = A} {B = B} first second zs = (xs : List A) × (ys : List B) × first xs × second ys
     × (zs ≡ zip xs ys)
-
--- the items of a list that may come, with their indices from a start on
-abbrev pub NumbersOf : {A : Type 0} → (List A → Type 0) → ℕ → List (ℕ × A) → Type 0
-NumbersOf {A = A} gives start zs = (xs : List A) × gives xs × (zs ≡ enumerate_from start xs)
 
 -- a call gave an item of each side; or one side had none left, and the other was gone through
 abbrev pub zipped_steps : {S T A B : Type 0} → (S → Option A → S → Type 0)
@@ -25,7 +21,3 @@ zipped_steps {A = A} {B = B} steps others s r t = MatchOption r
 -- the two values that a pair lends
 abbrev pub both : {A B : Type 0} → Bor A × Bor B → A × B
 both z = (z.0.now, z.1.now)
-
--- the index, and the value that is lent with it
-abbrev pub numbered : {A : Type 0} → ℕ × Bor A → ℕ × A
-numbered z = (z.0, z.1.now)

@@ -1,70 +1,64 @@
 //! A list, each item with its index.
-ghost use Rattle.std.specs.Prelude.{◌≡◌, ◌+◌, ◌<◌, ◌≤◌, ◌^◌};
+ghost use Rattle.std.specs.Prelude.{◌≡◌, ◌-◌, ◌<◌, ◌≤◌, min};
+ghost use Rattle.std.specs.List.{range_with_len};
 
-use crate::producer::Producer;
-use crate::zipped::ZippedIter;
+use crate::producer::{Indices, Producer};
+use crate::zipped::{Zipped, ZippedIter};
 use parallel_fault::Fault;
 use std::alloc::Global;
 use std::ops::Range;
 
-/// The items of a list, each with its index. A part of it knows where it starts in the whole.
+/// The items of a list, each with its index: the pairs of the indices and the list. A part of it
+/// has the indices of its items in the whole.
 #[derive(Drop)]
-pub struct Enumerated<P: Producer> {
-    /// The items.
-    pub list: P,
-    /// The index of the first item.
-    pub start: usize,
-    ghost fits: { start + P.count list < 2 ^ 64 },
+pub struct Enumerated<P> {
+    /// The pairs of indices and items.
+    pub pairs: Zipped<Indices, P>,
 }
 
 impl<P: Producer> Enumerated<P> {
     /// The items of a list with their indices, from 0 on.
     pub fn new(list: P) -> Enumerated<P>
-        ensures list { result.list ≡ list }
-        ensures start { result.start ≡ 0 }
+        ensures list { result.pairs.right ≡ list }
+        ensures start { result.pairs.left.start ≡ 0 }
+        ensures end { result.pairs.left.end ≡ P.count list }
     {
-        let _len = list.len();
-        Enumerated { list, start: 0 }
+        let indices = Indices {
+            start: 0,
+            end: list.len(),
+        };
+        Enumerated {
+            pairs: Zipped::new(indices, list),
+        }
     }
 }
 
 impl<P: Producer> Producer for Enumerated<P> {
-    ghost use Rattle.parallel_bridge.specs.Zips.{NumbersOf};
+    ghost use Rattle.parallel_bridge.specs.Zips.{PairsOf};
 
     type Item = (usize, P::Item);
 
     type Iter = ZippedIter<Range<usize>, P::Iter>;
 
-    ghost gives = { λ s zs. NumbersOf (P.gives s.list) s.start zs };
+    ghost gives = { λ s zs. PairsOf
+        (λ is. is ≡ range_with_len s.pairs.left.start (s.pairs.left.end - s.pairs.left.start))
+        (P.gives s.pairs.right) zs };
 
-    ghost may = { λ s z. ((s.start ≤ z.0) × (z.0 < s.start + P.count s.list))
-        × P.may s.list z.1 };
+    ghost may = { λ s z. ((s.pairs.left.start ≤ z.0) × (z.0 < s.pairs.left.end))
+        × P.may s.pairs.right z.1 };
 
-    ghost count = { λ s. P.count s.list };
+    ghost count = { λ s. min (s.pairs.left.end - s.pairs.left.start) (P.count s.pairs.right) };
 
     fn len(&self) -> usize {
-        self.list.len()
+        self.pairs.len()
     }
 
     fn split_at(self, alloc: Global, index: usize) -> Result<(Self, Self), Fault> {
-        let (front, back) = self.list.split_at(alloc, index)?;
-        let middle = self.start + index;
-        let front = Enumerated {
-            list: front,
-            start: self.start,
-        };
-        let back = Enumerated {
-            list: back,
-            start: middle,
-        };
-        Ok((front, back))
+        let (front, back) = self.pairs.split_at(alloc, index)?;
+        Ok((Enumerated { pairs: front }, Enumerated { pairs: back }))
     }
 
     fn into_items(self) -> ZippedIter<Range<usize>, P::Iter> {
-        let end = self.start + self.list.len();
-        ZippedIter {
-            left: self.start..end,
-            right: self.list.into_items(),
-        }
+        self.pairs.into_items()
     }
 }

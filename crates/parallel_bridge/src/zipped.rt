@@ -1,25 +1,24 @@
-//! Two lists of one length, pair by pair.
-ghost use Rattle.std.specs.Prelude.{◌≡◌, List};
+//! Two lists, pair by pair.
+ghost use Rattle.std.specs.Prelude.{◌≡◌, List, min};
 ghost use Rattle.std.specs.Iterator.{IsFinite, YieldsThen};
 
 use crate::producer::Producer;
 use parallel_fault::Fault;
 use std::alloc::Global;
 
-/// Two lists of one length, pair by pair: the first items of both, then the second ones, and so on.
+/// Two lists, pair by pair: the first items of both, then the second ones, and so on. It is cut to
+/// the shorter one: the items of a longer list that have no neighbour are in no pair.
 #[derive(Drop)]
-pub struct Zipped<L: Producer, R: Producer> {
+pub struct Zipped<L, R> {
     /// What comes first in the pairs.
     pub left: L,
     /// What comes second.
     pub right: R,
-    ghost same: { L.count left ≡ R.count right },
 }
 
-impl<L: Producer, R: Producer> Zipped<L, R> {
-    /// The pairs of two lists of one length.
+impl<L, R> Zipped<L, R> {
+    /// The pairs of two lists.
     pub fn new(left: L, right: R) -> Zipped<L, R>
-        requires { L.count left ≡ R.count right }
         ensures left { result.left ≡ left }
         ensures right { result.right ≡ right }
     {
@@ -38,7 +37,7 @@ impl<L: Producer, R: Producer> Producer for Zipped<L, R> {
 
     ghost may = { λ s z. L.may s.left z.0 × R.may s.right z.1 };
 
-    ghost count = { λ s. L.count s.left };
+    ghost count = { λ s. min (L.count s.left) (R.count s.right) };
 
     fn len(&self) -> usize {
         self.left.len().min(self.right.len())

@@ -1,9 +1,8 @@
-// Tiles: a kernel over the stretches of a matrix, whose counts are added up row by row.
-ghost use Rattle.std.specs.Prelude.{◌≡◌, ℕ, ◌+◌, ◌*◌, ◌<◌, ◌≤◌, ◌%◌, ◌^◌, All, IfOk, length, map};
-ghost use Rattle.std.specs.List.{range_with_len};
+// Tiles: a kernel over the rows of a matrix, which a strategy cuts as it likes.
+ghost use Rattle.std.specs.Prelude.{◌≡◌, ◌≢◌, ◌+◌, ◌*◌, ◌≤◌, ◌%◌, ◌^◌, IfOk, length};
 ghost use Rattle.parallel_fault.specs.Trouble.{IsMemoryOnErr};
 ghost use Rattle.commonware_parallel.specs.Tiles.{columns_of, rows_of};
-ghost use Rattle.uses.specs.Tiles.{CountsStretches, counted_in, number_above, numbers_by_row, row_cells};
+ghost use Rattle.uses.specs.Tiles.{number_above, numbers_by_row, row_cells};
 
 use commonware_parallel::{Fault, Grid, Place, Strategy, Tiles};
 use std::alloc::Global;
@@ -39,23 +38,42 @@ pub fn above_by_row<Rt: Threads + Wait + Sync, P: Place, S: Strategy>(
         (λ counts. counts.items ≡ numbers_by_row threshold matrix.now rows len) }
     ensures fault { IsMemoryOnErr result }
 {
+    if len == 0 {
+        return count_nothing(alloc, matrix, rows, len, threshold);
+    }
     let tile_cost = NonZeroUsize::MIN.saturating_add(TILE_COST - 1);
     let grids = [Grid { rows, tile_cost }];
-    let kernel = |tiles: Tiles<'_, S, P>| -> Result<Vec<(usize, usize)>, Fault>
-        requires { (rows_of tiles ≡ rows) × (columns_of tiles ≡ len)
+    let kernel = |tiles: Tiles<'_, S, P>| -> Result<Vec<usize>, Fault>
+        requires { (rows_of tiles ≡ rows) × (columns_of tiles ≡ len) × (len ≢ 0)
             × (rows * len ≡ length matrix.now) }
         ensures counted { IfOk result
-            (λ counts. CountsStretches threshold matrix.entry.now rows len counts.items) }
+            (λ counts. counts.items ≡ numbers_by_row threshold matrix.entry.now rows len) }
         ensures fault { IsMemoryOnErr result }
-    { count_stretches(rt, alloc, tiles, matrix, rows, len, threshold) };
-    let stretches = strategy.run_tiles(rt, alloc, site, len, &grids, 1, kernel)?;
-    let stretches = stretches?;
-    sums_by_row(alloc, rows, &stretches)
+    { count_rows(rt, alloc, tiles, matrix, rows, len, threshold) };
+    let counts = strategy.run_tiles(rt, alloc, site, len, &grids, 1, kernel)?;
+    counts
 }
 
-// The row of each stretch of the tiles, with the number of its cells that are above the threshold,
-// by a count that begins at 0 at each stretch.
-fn count_stretches<Rt: Threads + Wait + Sync, P: Place, S: Strategy>(
+// The counts of rows of no columns.
+fn count_nothing(
+    alloc: Global,
+    matrix: &[u8],
+    rows: usize,
+    len: usize,
+    threshold: u8,
+) -> Result<Vec<usize>, Fault>
+    requires none { len ≡ 0 }
+    ensures counted { IfOk result
+        (λ counts. counts.items ≡ numbers_by_row threshold matrix.now rows len) }
+    ensures fault { IsMemoryOnErr result }
+{
+    let _ = (matrix, len, threshold);
+    let counts = vec![in alloc; 0; rows]?;
+    Ok(counts)
+}
+
+// The counts of the rows, each by stretches whose counts begin at 0 and are added up.
+fn count_rows<Rt: Threads + Wait + Sync, P: Place, S: Strategy>(
     rt: &Rt,
     alloc: Global,
     tiles: Tiles<'_, S, P>,
@@ -63,12 +81,13 @@ fn count_stretches<Rt: Threads + Wait + Sync, P: Place, S: Strategy>(
     rows: usize,
     len: usize,
     threshold: u8,
-) -> Result<Vec<(usize, usize)>, Fault>
+) -> Result<Vec<usize>, Fault>
     requires there { rows_of tiles ≡ rows }
     requires columns { columns_of tiles ≡ len }
+    requires some { len ≢ 0 }
     requires whole { rows * len ≡ length matrix.now }
     ensures counted { IfOk result
-        (λ counts. CountsStretches threshold matrix.now rows len counts.items) }
+        (λ counts. counts.items ≡ numbers_by_row threshold matrix.now rows len) }
     ensures fault { IsMemoryOnErr result }
 {
     let init = || -> usize
@@ -84,14 +103,17 @@ fn count_stretches<Rt: Threads + Wait + Sync, P: Place, S: Strategy>(
         let cells = &matrix[first + columns.start..first + columns.end];
         *count = count.wrapping_add(count_above(cells, threshold));
     };
-    let finish = |count: &mut usize, row: usize| -> (usize, usize)
-        ensures { (result ≡ (row, count.old)) × (count.new ≡ 0) }
+    let finish = |count: &mut usize, _row: usize| -> usize
+        ensures { (result ≡ count.old) × (count.new ≡ 0) }
     {
         let cells = *count;
         *count = 0;
-        (row, cells)
+        cells
     };
-    tiles.fill_collect_vec(rt, alloc, init, fill, finish)
+    let merge = |left: usize, right: usize| -> usize
+        ensures { result ≡ (left + right) % 2 ^ 64 }
+    { left.wrapping_add(right) };
+    tiles.fill_merge_collect_vec(rt, alloc, init, fill, finish, merge)
 }
 
 // How many cells are above the threshold.
@@ -99,19 +121,4 @@ fn count_above(cells: &[u8], threshold: u8) -> usize
     ensures { result ≡ number_above threshold cells.now }
 {
     cells.iter().filter(|cell| **cell > threshold).count()
-}
-
-// For each row the second numbers of those pairs added up that name it.
-fn sums_by_row(alloc: Global, rows: usize, pairs: &[(usize, usize)]) -> Result<Vec<usize>, Fault>
-    requires within { All (λ pair. pair.0 < rows) pairs.now }
-    requires fits { (row : ℕ) → row < rows → counted_in row pairs.now < 2 ^ 64 }
-    ensures sums { IfOk result
-        (λ sums. sums.items ≡ map (λ row. counted_in row pairs.now) (range_with_len 0 rows)) }
-    ensures fault { IsMemoryOnErr result }
-{
-    let mut sums = vec![in alloc; 0; rows]?;
-    for pair in pairs {
-        sums[pair.0] += pair.1;
-    }
-    Ok(sums)
 }

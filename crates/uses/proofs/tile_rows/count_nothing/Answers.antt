@@ -1,0 +1,11 @@
+-- A row of no columns counts nothing.
+use Rattle.std.proofs.Common.{◌≡◌, rules, sym, subst, ◌∙◌}
+use Rattle.uses.specs.Tiles.{numbers_by_row}
+use Rattle.uses.proofs.Tiles.{no_columns}
+use Rattle.uses.proofs.tile_rows.count_nothing.Goals as goal
+
+pub returns-clause-counted : goal.returns-clause-counted
+returns-clause-counted c =
+    subst (λ n. c.in_ok-counts.counts.items
+    ≡ numbers_by_row c.args.threshold c.args.matrix.now c.args.rows n) (sym c.requires)
+    (c.in_ok-counts.ensures ∙ no_columns c.args.threshold c.args.matrix.now c.args.rows)
