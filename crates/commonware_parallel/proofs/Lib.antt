@@ -8,3 +8,7 @@ pub mod Rectangles
 pub mod Wholes
 pub mod Seen
 pub mod Seatings
+pub mod Tagged
+pub mod Ordered
+pub mod RowMerges
+pub mod RowLaws

@@ -4,8 +4,10 @@ pub mod Calls
 pub mod Explorers
 pub mod Exploring
 pub mod Measures
+pub mod MergedRows
 pub mod Merkle
 pub mod Mixes
+pub mod Noting
 pub mod Rayon
 pub mod Chains
 pub mod Rectangles

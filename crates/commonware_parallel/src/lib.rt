@@ -41,4 +41,4 @@ pub use runtime::Runtime;
 pub use sequential::Sequential;
 pub use spawned::{Closure, Job, Spawned};
 pub use strategy::Strategy;
-pub use tiles::Tiles;
+pub use tiles::{Tiles, merge_law};

@@ -1,5 +1,5 @@
 //! Tiles: a grid's cells, filled by stretches of rows.
-ghost use Rattle.std.specs.Prelude.{◌≡◌, ◌≢◌, ◌*◌, ◌+◌, ◌-◌, ◌≤◌, ◌<◌, ◌^◌, ◌⊎◌, ◌↔◌, ℕ, List, All, [], IfOk, IsFalse, IsTrue, not, true, MatchResult};
+ghost use Rattle.std.specs.Prelude.{◌≡◌, ◌≢◌, ◌*◌, ◌+◌, ◌-◌, ◌≤◌, ◌<◌, ◌^◌, ◌⊎◌, ◌↔◌, ℕ, List, All, [], IfOk, IsFalse, IsTrue, not, true, MatchResult, length};
 ghost use Rattle.std.specs.Borrow.{MutBor};
 ghost use Rattle.std.specs.Int.NonZero.{non_zero_usize_get};
 ghost use Rattle.std.specs.declared.ops.Range.{Range};
@@ -8,14 +8,19 @@ ghost use Rattle.parallel_shares.specs.declared.shares.stretch.Stretch.{Stretch}
 ghost use Rattle.parallel_shares.specs.Fillings.{Fills, Gives};
 ghost use Rattle.parallel_shares.specs.Grid.{Fits};
 ghost use Rattle.commonware_parallel.specs.Chains.{Chains, OneChain};
+ghost use Rattle.commonware_parallel.specs.MergedRows.{FillsRows};
 ghost use Rattle.commonware_parallel.specs.Rectangles.{CutsRectangle, IsInGrid, IsWholeRow};
 
 mod dispatched;
+mod law;
+mod merged;
 mod rows;
 mod seats;
 
 use crate::strategy::Strategy;
 pub(crate) use dispatched::tiles_through;
+pub use law::merge_law;
+use merged::{fill_parts, merge_sorted};
 use parallel_fault::Fault;
 use parallel_policy::Place;
 use parallel_shares::{Grid, Shares};
@@ -185,5 +190,53 @@ impl<'scope, S: Strategy, P: Place> Tiles<'scope, S, P> {
             &finish,
         )?;
         Ok(results)
+    }
+
+    /// A value for each row of the grid, in the rows' order: stretches are filled and finished as
+    /// by `fill_collect_vec`, and then the results of each row's stretches are merged from left to
+    /// right.
+    ///
+    /// How the stretches cut the grid, and their chains, are as there. A row of one stretch has its
+    /// result. Else `merge` is given what came so far of the row and the result of the next
+    /// columns, in this order (`FillsRows`), by the caller's thread, after all cells are filled.
+    /// Where rows aren't cut it isn't called. Where `merge` makes of the values of neighbouring
+    /// columns the value of both, each row has one value, however it was cut (`merge_law`). A grid
+    /// of no cells has no values, and no closure is called.
+    ///
+    /// # Errors
+    ///
+    /// `Fault::Memory` alone. Any number of the closures may have been called then.
+    pub fn fill_merge_collect_vec<
+        Rt: Threads + Wait + Sync,
+        T: Send + Drop,
+        R: Send + Drop,
+        N: Fn() -> T + Send + Sync + Drop,
+        L: Fn(&mut T, usize, Range<usize>) + Send + Sync + Drop,
+        F: Fn(&mut T, usize) -> R + Send + Sync + Drop,
+        M: Fn(R, R) -> R + Send + Sync + Drop,
+    >(self, rt: &Rt, alloc: Global, init: N, fill: L, finish: F, merge: M) -> Result<Vec<R>, Fault>
+        requires init_accepts { N.IsAlwaysCallable init }
+        requires fill_accepts { (state : MutBor T) (row : ℕ) (columns : Range ℕ)
+            → IsInGrid (rows_of self) (columns_of self) row columns
+            → L.pre fill state row columns }
+        requires finish_accepts { (state : MutBor T) (row : ℕ) → row < rows_of self
+            → F.pre finish state row }
+        requires merge_accepts { M.IsAlwaysCallable merge }
+        ensures merges { columns_of self.entry ≢ 0 → IfOk result (λ values. FillsRows (N.post init)
+            (Fills (L.post fill)) (Gives (F.post finish)) (λ a b c. M.post merge a b c)
+            (rows_of self.entry) (columns_of self.entry) (keeps_rows self.entry) values.items) }
+        ensures count { columns_of self.entry ≢ 0
+            → IfOk result (λ values. length values.items ≡ rows_of self.entry) }
+        ensures empty { (rows_of self.entry ≡ 0) ⊎ (columns_of self.entry ≡ 0)
+            → MatchResult result (λ values. values.items ≡ []) (λ _. ⊥) }
+        ensures fault { IsMemoryOnErr result }
+    {
+        if self.is_empty() {
+            return Ok(Vec::new(alloc));
+        }
+        let (rows, len) = (self.rows, self.len);
+        let parts = fill_parts(self, rt, alloc, init, fill, finish)?;
+        let values = merge_sorted(alloc, rows, len, parts, &merge)?;
+        Ok(values)
     }
 }

@@ -36,6 +36,29 @@ impl Explorer {
     ghost use Rattle.commonware_parallel.specs.Rayon.{planning_of, threads_of, starts_of};
     ghost use Rattle.commonware_parallel.specs.declared.mocks.rule.Rule.TheVariants.{Parallel, Seeded};
 
+    /// Over the strategy's pool and planned as it is, by the rule.
+    ///
+    /// # Errors
+    ///
+    /// `Fault::Memory` where the pool's handle was refused memory.
+    pub fn by_rule<C>(strategy: &Rayon<C>, rule: Rule) -> Result<Explorer, Fault>
+        ensures planning { IfOk result (λ explorer. plans_of explorer ≡ planning_of strategy.now) }
+        ensures threads { IfOk result (λ explorer. pool_threads explorer ≡ threads_of
+            strategy.now) }
+        ensures starts { IfOk result (λ explorer. explorer_starts explorer ≡ starts_of
+            strategy.now) }
+        ensures rule { IfOk result (λ explorer. rule_of explorer ≡ rule) }
+        ensures fault { IsMemoryOnErr result }
+    {
+        let pool = Arc::try_clone(&strategy.pool)?;
+        Ok(Explorer {
+            pool,
+            parallelism: strategy.parallelism,
+            starts_workers: strategy.starts_workers,
+            rule,
+        })
+    }
+
     /// Over the strategy's pool and planned as it is, the parallel way of every call.
     ///
     /// # Errors
@@ -50,13 +73,7 @@ impl Explorer {
         ensures rule { IfOk result (λ explorer. rule_of explorer ≡ Parallel) }
         ensures fault { IsMemoryOnErr result }
     {
-        let pool = Arc::try_clone(&strategy.pool)?;
-        Ok(Explorer {
-            pool,
-            parallelism: strategy.parallelism,
-            starts_workers: strategy.starts_workers,
-            rule: Rule::Parallel,
-        })
+        Explorer::by_rule(strategy, Rule::Parallel)
     }
 
     /// Over the strategy's pool and planned as it is, a way of each call by a hash of the seed, the
@@ -74,13 +91,7 @@ impl Explorer {
         ensures rule { IfOk result (λ explorer. rule_of explorer ≡ Seeded seed) }
         ensures fault { IsMemoryOnErr result }
     {
-        let pool = Arc::try_clone(&strategy.pool)?;
-        Ok(Explorer {
-            pool,
-            parallelism: strategy.parallelism,
-            starts_workers: strategy.starts_workers,
-            rule: Rule::Seeded(seed),
-        })
+        Explorer::by_rule(strategy, Rule::Seeded(seed))
     }
 
     /// By what it picks.

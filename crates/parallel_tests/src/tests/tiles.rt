@@ -352,3 +352,90 @@ fn a_kernel_counts_each_row(rt: HostRuntime) {
     let alike = explored.expect(&rt, "one answer").expect(&rt, "memory");
     rows_are_counted(&rt, alike);
 }
+
+// Columns of a row from the first one up to the second, with how many of their cells are above 4.
+type Span = (usize, usize, usize);
+
+// The span with the next columns of its row behind it.
+fn widened(span: Option<Span>, cells: &[u8], columns: Range<usize>) -> Span {
+    let (first, _, so_far) = span.unwrap_or((columns.start, columns.start, 0));
+    let above = cells.iter().filter(|cell| **cell > 4).count();
+    (first, columns.end, so_far.saturating_add(above))
+}
+
+// Whether rows may be cut, and each row's stretches as one span. Two that were merged in the wrong
+// order, or with others between them, count no cell.
+fn spans_by_row<Rt: Threads + Wait + Abort + Sync, S: Strategy>(
+    rt: &Rt,
+    alloc: Global,
+    strategy: &S,
+    matrix: &[u8],
+    rows: usize,
+    len: usize,
+) -> Result<(bool, Vec<Span>), Fault> {
+    let grids = [grid(rt, rows, 64)];
+    assert!(rt; Grid::fits(&grids, len));
+    strategy.run_tiles(rt, alloc, SITE, len, &grids, 1, |tiles| {
+        let cut = tiles.is_cut();
+        let fill = |span: &mut Option<Span>, row: usize, columns: Range<usize>| {
+            let first = row.saturating_mul(len);
+            let place = first.saturating_add(columns.start)..first.saturating_add(columns.end);
+            let cells = matrix.get(place).unwrap_or(&[]);
+            *span = Some(widened(*span, cells, columns));
+        };
+        let finish = |span: &mut Option<Span>, _: usize| span.take().unwrap_or((0, 0, 0));
+        let merge = |left: Span, right: Span| {
+            if left.1 != right.0 {
+                return (0, 0, 0);
+            }
+            (left.0, right.1, left.2.saturating_add(right.2))
+        };
+        let spans = tiles.fill_merge_collect_vec(rt, alloc, || None, fill, finish, merge)?;
+        Ok((cut, spans))
+    })?
+}
+
+// The long matrix of `count_rows` as two rows, which four workers cut.
+fn long_spans<Rt: Threads + Wait + Abort + Sync, S: Strategy>(
+    rt: &Rt,
+    alloc: Global,
+    strategy: &S,
+) -> Result<(bool, Vec<Span>), Fault> {
+    let mut long = [9; 2100];
+    long[0] = 4;
+    long[700] = 0;
+    long[1399] = 4;
+    spans_by_row(rt, alloc, strategy, &long, 2, 1050)
+}
+
+fn spans_are_counted(rt: &impl Abort, spans: &[Span]) {
+    row(rt, 2, spans, &[(0, 1050, 1048), (0, 1050, 1049)]);
+}
+
+#[test]
+fn rows_are_merged_from_left_to_right(rt: HostRuntime) {
+    let alloc = rt.alloc();
+    let short = [9, 1, 5, 5, 6, 4, 0, 255];
+    let few = spans_by_row(&rt, alloc, &Sequential, &short, 2, 4).expect(&rt, "memory");
+    same(&rt, few.1.as_slice(), [(0, 4, 3), (0, 4, 2)].as_slice());
+    let serial = long_spans(&rt, alloc, &Sequential).expect(&rt, "memory");
+    spans_are_counted(&rt, serial.1.as_slice());
+    let four = pool(&rt, alloc, 4, 4);
+    let parallel = long_spans(&rt, alloc, &four).expect(&rt, "memory");
+    same(&rt, parallel.0, true);
+    spans_are_counted(&rt, parallel.1.as_slice());
+    let explored = explore(&rt, alloc, |explorer| {
+        long_spans(&rt, alloc, explorer).map(|told| told.1).ok()
+    });
+    let alike = explored.expect(&rt, "one answer").expect(&rt, "memory");
+    spans_are_counted(&rt, alike.as_slice());
+}
+
+#[test]
+fn a_grid_without_cells_has_no_values(rt: HostRuntime) {
+    let alloc = rt.alloc();
+    for (rows, len) in [(0_usize, 4_usize), (3, 0)] {
+        let none = spans_by_row(&rt, alloc, &Sequential, &[], rows, len).expect(&rt, "memory");
+        row(&rt, rows, none.1.len(), 0);
+    }
+}

@@ -1,0 +1,37 @@
+-- No cell, or the rows' stretches and what they are together.
+use Rattle.std.proofs.Common.{rules, inl, inr, [], refl, sym, subst}
+use Rattle.std.proofs.lemmas.List.Elements.{All-nil}
+use Rattle.std.proofs.lemmas.List.Sorted.{IsPermutation-refl}
+use Rattle.commonware_parallel.specs.Chains.{no_chain}
+use Rattle.commonware_parallel.specs.MergedRows.{RowValues}
+use Rattle.commonware_parallel.specs.Rectangles.{IsWholeRow}
+use Rattle.commonware_parallel.proofs.RowMerges.{as_many_values}
+use Rattle.commonware_parallel.proofs.Wholes.{no_rectangle}
+use Rattle.commonware_parallel.proofs.tiles.Tiles.fill_merge_collect_vec.Goals as goal
+
+pub returns-then-is_empty-clause-merges : goal.returns-then-is_empty-clause-merges
+returns-then-is_empty-clause-merges g c wide =
+    let self = c.args.self in
+    elim (c.is_empty.ensures.empty (search rules)) [
+      | inl none ↦ (
+        [],
+        (no_rectangle self.rows self.len (inl none), (λ _. All-nil (IsWholeRow self.len)), no_chain),
+        (
+          [],
+          IsPermutation-refl [],
+          subst (λ rows. RowValues (λ a b d. g.M.Fn.post c.args.merge (a, (b, tt)) d) self.len rows
+              [] c.new.result.items) (sym none) (refl, c.new.ensures.items),
+        ),
+      )
+      | inr none ↦ absurd (wide none)
+    ]
+
+pub returns-clause-merges : goal.returns-clause-merges
+returns-clause-merges g c wide =
+    (c.in_ok-parts.parts.items, c.in_ok-parts.ensures.fills, c.in_ok-values.ensures.merges)
+
+pub returns-clause-count : goal.returns-clause-count
+returns-clause-count g c wide =
+    let ordered = c.in_ok-values.ensures.merges in
+    as_many_values (λ a b d. g.M.Fn.post c.args.merge (a, (b, tt)) d) c.args.self.len
+    c.args.self.rows ordered.0 c.in_ok-values.values.items ordered.2
