@@ -1,10 +1,11 @@
 -- the numbers of a strategy over a pool, and the picks that it takes
-use Rattle.std.specs.Prelude.{◌≡◌, ◌≢◌, ℕ, ◌<◌, ◌≤◌, Bool, true, false, ◌⊎◌}
+use Rattle.std.specs.Prelude.{◌≡◌, ◌≢◌, ℕ, ◌<◌, ◌≤◌, Bool, true, false, ◌⊎◌, Option}
 use Rattle.std.specs.Int.NonZero.{non_zero_usize_get}
 use Rattle.std.specs.Option.{is_some}
 use Rattle.std.specs.Arc.{arc_value}
 use Rattle.parallel_fault.specs.declared.fault.Fault.{Fault}
 use Rattle.parallel_fault.specs.declared.fault.Fault.TheVariants.{Memory}
+use Rattle.parallel_policy.specs.declared.policy.Policy.{Policy}
 use Rattle.parallel_pool.specs.ThreadPool.{thread_count}
 use Rattle.commonware_parallel.specs.declared.call.Call.{Call}
 use Rattle.commonware_parallel.specs.declared.call.Kind.TheVariants.{Join, Spawn}
@@ -24,9 +25,13 @@ threads_of strategy = thread_count (arc_value strategy.pool)
 abbrev pub starts_of : {C : Type 0} → Rayon C → Bool
 starts_of strategy = strategy.starts_workers
 
+-- the policy that chooses between serial and parallel, if one does
+abbrev pub policy_of : {C : Type 0} → Rayon C → Option Policy
+policy_of strategy = strategy.policy
+
 -- whether a policy chooses between serial and parallel
 abbrev pub chooses_of : {C : Type 0} → Rayon C → Bool
-chooses_of strategy = is_some strategy.policy
+chooses_of strategy = is_some (policy_of strategy)
 
 -- planned for one, the first pick; planned for more, the last one, or the first or the last where a
 -- policy chooses

@@ -1,4 +1,5 @@
-ghost use Rattle.std.specs.Prelude.{◌≡◌, ◌≢◌, ℕ, ◌<◌, ◌≤◌, Bool, true, false, ◌-◌, ◌⊎◌, min, nat_eq, IsSome, IfOk, IfErr};
+ghost use Rattle.std.specs.Prelude.{◌≡◌, ◌≢◌, ℕ, ◌<◌, ◌≤◌, Bool, true, false, ◌-◌, ◌⊎◌, min, nat_eq, Some, IsSome, is_some, IfOk, IfErr};
+ghost use Rattle.std.specs.Option.{option_copied};
 ghost use Rattle.std.specs.Int.NonZero.{non_zero_usize_get};
 ghost use Rattle.parallel_fault.specs.Trouble.{IsMemoryOnErr};
 ghost use Rattle.parallel_policy.specs.Keys.{key_of};
@@ -95,7 +96,7 @@ impl<C: Clock> Rayon<C> {
 }
 
 impl<C> Rayon<C> {
-    ghost use Rattle.commonware_parallel.specs.Rayon.{planning_of, threads_of, chooses_of, starts_of, RayonTakes};
+    ghost use Rattle.commonware_parallel.specs.Rayon.{planning_of, threads_of, chooses_of, starts_of, policy_of, RayonTakes};
     ghost use Rattle.commonware_parallel.specs.Calls.{HasPick, first_pick, last_pick, options_of};
     ghost use Rattle.commonware_parallel.specs.declared.call.Kind.TheVariants.{Join, Spawn};
 
@@ -110,6 +111,30 @@ impl<C> Rayon<C> {
         let mut planned = self;
         planned.parallelism = parallelism;
         planned
+    }
+
+    /// The same strategy, whose picks this policy chooses, in the place of the one that it has.
+    ///
+    /// A policy's clones are one table. So strategies that are given clones of one policy learn
+    /// from each other's calls, and the caller's own clone shows what they learnt.
+    pub fn with_policy(self, policy: Policy) -> Rayon<C>
+        ensures policy { policy_of result ≡ Some policy }
+        ensures chooses { chooses_of result ≡ true }
+        ensures planning { planning_of result ≡ planning_of self }
+        ensures threads { threads_of result ≡ threads_of self }
+        ensures starts { starts_of result ≡ starts_of self }
+    {
+        let mut chosen = self;
+        chosen.policy = Some(policy);
+        chosen
+    }
+
+    /// The policy that chooses the picks, if one does (`policy_of`).
+    pub fn policy(&self) -> Option<&Policy>
+        ensures policy { option_copied result ≡ policy_of self.now }
+        ensures some { is_some result ≡ chooses_of self.now }
+    {
+        self.policy.as_ref()
     }
 
     /// The same strategy, which starts no worker for a job: where it hands a job off the job is
