@@ -66,7 +66,7 @@ fn pieces_are_counted_and_cut_behind_whole_ones(rt: HostRuntime) {
 #[test]
 fn lists_come_pair_by_pair(rt: HostRuntime) {
     let alloc = rt.alloc();
-    let left = [1u32, 2, 3, 4, 5];
+    let left = [1u32, 2, 3, 4, 5, 6, 7];
     let right = [10u32, 20, 30, 40, 50];
     for threads in [1, 2, 4] {
         let list = Zipped::new(left.as_slice(), Copies { slice: &right });
