@@ -1,17 +1,18 @@
 -- The first item that fails, of a map over items with their indices whose closure answers the index
 -- of an item that fails.
-use Rattle.std.proofs.Common.{◌≡◌, ℕ, ◌+◌, List, [], ◌∷◌, ◌++◌, Result, Ok, Err, Vec, Global, length, ap, subst, arith}
+use Rattle.std.proofs.Common.{◌≡◌, ℕ, ◌+◌, ◌-◌, List, [], ◌∷◌, ◌++◌, Result, Ok, Err, Vec, Global, length, refl, ap, subst, arith}
 use Rattle.std.specs.Prelude.{MatchResult}
-use Rattle.std.specs.List.{All, enumerate_from}
+use Rattle.std.specs.List.{All, enumerate_from, range_with_len}
 use Rattle.std.proofs.lemmas.List.Elements.{All-nil, All-cons}
 use Rattle.parallel_fault.specs.declared.fault.Trouble.{Trouble}
 use Rattle.parallel_fault.specs.declared.fault.Trouble.TheVariants.{Closure}
 use Rattle.parallel_fault.specs.declared.fault.Trouble.TheVariants.{Fault as OfFault}
 use Rattle.parallel_fault.specs.Trouble.{IfClosure}
-use Rattle.parallel_bridge.specs.Firsts.{FailsFirstAt}
 use Rattle.parallel_bridge.specs.Outcomes.{UnlessRefused, listed}
 use Rattle.parallel_bridge.specs.Tries.{TryMapOf, EachOk, FirstErr}
-use Rattle.parallel_bridge.specs.Zips.{NumbersOf}
+use Rattle.parallel_bridge.specs.Zips.{PairsOf}
+use Rattle.parallel_bridge.proofs.Zips.{numbered_both}
+use Rattle.uses.specs.Firsts.{FailsFirstAt}
 
 module _ {X Y : Type 0} (allowed : ℕ × X → Result Y ℕ → Type 0) (passes fails : X → Type 0)
     (good : (p : ℕ × X) (y : Y) → allowed p (Ok y) → passes p.1)
@@ -32,7 +33,7 @@ module _ {X Y : Type 0} (allowed : ℕ × X → Result Y ℕ → Type 0) (passes
   first_from n (x ∷ xs) [] p after ys split each =
       let same : (n, x) ≡ p = cc in
       let at = ap (λ (q : ℕ × X). q.0) same in
-      ([], xs, ap (λ (q : ℕ × X). q.1 ∷ xs) same, All-nil passes, omega (arith, at))
+      ([], xs, ap (λ (q : ℕ × X). q.1 ∷ xs) {y = p} same, All-nil passes, omega (arith, at))
   first_from n (x ∷ xs) (b ∷ before) p after [] split each = absurd each
   first_from n (x ∷ xs) (b ∷ before) p after (y ∷ ys) split each =
       let same : b ≡ (n, x) = cc in
@@ -46,20 +47,31 @@ module _ {X Y : Type 0} (allowed : ℕ × X → Result Y ℕ → Type 0) (passes
       )
 
   -- what came of such a map over a list, where nothing else may come: each item passes, or the
-  -- error is the index of the first one that fails
-  pub first_of_numbered : (gives : List X → Type 0) (list : List X)
-      (result : Result (Vec Y Global) (Trouble ℕ)) → UnlessRefused result
-      (λ out. (zs : List (ℕ × X)) × NumbersOf gives 0 zs × TryMapOf allowed zs (listed out))
-      → ((xs : List X) → gives xs → xs ≡ list)
-      → MatchResult result (λ _. All passes list)
-      (λ trouble. IfClosure trouble (FailsFirstAt passes fails list))
-  first_of_numbered gives list (Ok ys) (zs, (xs, one, same), h) only =
+  -- error is the index of the first one that fails; what the call was handed is named twice, as it
+  -- was made and as the caller has it
+  pub first_of_numbered : {P : Type 0} (gives : P → List X → Type 0) (made list : P)
+      (start end n : ℕ) → made ≡ list → start ≡ 0 → end ≡ n → (all : List X)
+      → ((xs : List X) → gives list xs → xs ≡ all) → length all ≡ n
+      → (result : Result (Vec Y Global) (Trouble ℕ)) → UnlessRefused result
+      (λ out. (zs : List (ℕ × X)) × PairsOf (λ is. is ≡ range_with_len start (end - start))
+      (gives made) zs × TryMapOf allowed zs (listed out))
+      → MatchResult result (λ _. All passes all)
+      (λ trouble. IfClosure trouble (FailsFirstAt passes fails all))
+  first_of_numbered gives made list start end n refl refl refl all only long (Ok ys)
+      (zs, (is, xs, indices, one, same), h) =
+      let counted : length xs ≡ n - 0 = omega (arith, ap length (only xs one), long) in
+      let numbers = numbered_both 0 (n - 0) is xs zs indices counted same in
       subst (All passes) (only xs one)
-      (all_pass 0 xs ys.items (subst (λ l. EachOk allowed l ys.items) same h))
-  first_of_numbered gives list (Err (OfFault f)) gave only = tt
-  first_of_numbered gives list (Err (Closure e)) (zs, (xs, one, same), h) only =
-      let (before, p, after, ys, split, each, failing) = subst (λ l. FirstErr allowed l e) same h in
-      let (front, rest, cut, all, at) = first_from 0 xs before p after ys split each in
-      let (is, fails-there) = bad p e failing in
+      (all_pass 0 xs ys.items (subst (λ l. EachOk allowed l ys.items) numbers h))
+  first_of_numbered gives made list start end n refl refl refl all only long (Err (OfFault f)) gave =
+      tt
+  first_of_numbered gives made list start end n refl refl refl all only long (Err (Closure e))
+      (zs, (is, xs, indices, one, same), h) =
+      let counted : length xs ≡ n - 0 = omega (arith, ap length (only xs one), long) in
+      let numbers = numbered_both 0 (n - 0) is xs zs indices counted same in
+      let (before, p, after, ys, split, each, failing) =
+      subst (λ l. FirstErr allowed l e) numbers h in
+      let (front, rest, cut, passed, at) = first_from 0 xs before p after ys split each in
+      let (here, fails-there) = bad p e failing in
       subst (λ l. FailsFirstAt passes fails l e) (only xs one)
-      (front, p.1, rest, cut, all, fails-there, omega (arith, is, at))
+      (front, p.1, rest, cut, passed, fails-there, omega (arith, here, at))

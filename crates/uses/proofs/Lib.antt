@@ -12,3 +12,5 @@ pub mod Siblings
 pub mod Tiles
 pub mod Trees
 pub mod Verdicts
+mod FirstNumbered
+mod RowKernels

@@ -17,7 +17,7 @@ use Rattle.commonware_parallel.specs.declared.tiles.Tiles.{Tiles}
 use Rattle.commonware_parallel.specs.MergedRows.{FillsRows}
 use Rattle.commonware_parallel.specs.Rectangles.{IsInGrid}
 use Rattle.commonware_parallel.specs.Tiles.{IsTiling, grid_of, rows_of}
-use Rattle.commonware_parallel.proofs.RowKernels.{rows_of_kernel}
+use Rattle.uses.proofs.RowKernels.{rows_of_kernel}
 use Rattle.uses.specs.Tiles.{number_above, row_cells, numbers_by_row}
 
 module _ (threshold : ℕ) (matrix : List ℕ) where

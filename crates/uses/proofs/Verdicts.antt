@@ -19,8 +19,11 @@ use Rattle.parallel_bridge.specs.Parts.{PartitionOf, values_of, keys_of}
 use Rattle.parallel_bridge.specs.Tries.{TryMapOf, TryBracketing, TryChain, TryBrackets, of_try_segment, of_values, of_left_error, of_right_error, TryFoldSegment}
 use Rattle.parallel_bridge.proofs.OverLists.{fact_of_list}
 use Rattle.parallel_bridge.proofs.FirstFailing.{FailsFirst, first_failing}
-use Rattle.parallel_bridge.specs.Zips.{NumbersOf, PairsOf}
-use Rattle.parallel_bridge.proofs.FirstNumbered.{first_of_numbered}
+use Rattle.parallel_bridge.specs.Zips.{PairsOf}
+use Rattle.parallel_bridge.specs.declared.producer.Copies.{Copies}
+use Rattle.parallel_bridge.specs.declared.zipped.Zipped.{Zipped}
+use Rattle.std.proofs.lemmas.Slice.Zip.{length-zip}
+use Rattle.uses.proofs.FirstNumbered.{first_of_numbered}
 use Rattle.parallel_bridge.proofs.OverViews.{zip_of_lists}
 use Rattle.uses.specs.Verdicts.{HasItsTag, IsFirstFailing, IsFirstForged, IsFirstOver, IsSortedOut, Judges, JudgesTag, AddsWithin}
 
@@ -245,14 +248,22 @@ summed xs limit identity step reduce (Err (Closure e)) gave zeros steps joins =
     (λ a x e' k. steps a x (Err e') k) joins gave.2)
 
 -- what a verifier of tags answers
-pub tagged : (messages : List (Bor (List ℕ))) (tags : List (List ℕ))
-    (result : Result (Vec ⊤ Global) (Trouble ℕ)) → UnlessRefused result
+pub tagged : (messages : List (Bor (List ℕ))) (tags : List (List ℕ)) (n : ℕ)
+    (made : Zipped (Copies (Bor (List ℕ))) (Copies (List ℕ)))
+    (left : Copies (Bor (List ℕ))) (right : Copies (List ℕ)) (start end : ℕ)
+    → made ≡ record { left = left; right = right } → left.slice.now ≡ messages
+    → right.slice.now ≡ tags → start ≡ 0 → end ≡ n → length messages ≡ length tags
+    → length messages ≡ n → (result : Result (Vec ⊤ Global) (Trouble ℕ)) → UnlessRefused result
     (λ out. (zs : List (ℕ × (Bor (List ℕ) × List ℕ)))
-    × NumbersOf (PairsOf (λ xs. xs ≡ messages) (λ ys. ys ≡ tags)) 0 zs
+    × PairsOf (λ is. is ≡ range_with_len start (end - start))
+    (PairsOf (λ xs. xs ≡ made.left.slice.now) (λ ys. ys ≡ made.right.slice.now)) zs
     × TryMapOf JudgesTag zs (listed out))
     → MatchResult result (λ _. All HasItsTag (zip messages tags))
     (λ trouble. IfClosure trouble (IsFirstForged (zip messages tags)))
-tagged messages tags result gave = first_of_numbered JudgesTag HasItsTag
-    (λ pair. ¬ HasItsTag pair) (λ p y k. k) (λ p e k. k)
-    (PairsOf (λ xs. xs ≡ messages) (λ ys. ys ≡ tags)) (zip messages tags) result gave
-    (zip_of_lists messages tags)
+tagged messages tags n made left right start end is refl refl zero whole same long result gave =
+    let count = length-zip messages tags in
+    first_of_numbered JudgesTag HasItsTag (λ pair. ¬ HasItsTag pair) (λ p y k. k) (λ p e k. k)
+    (λ (p : Zipped (Copies (Bor (List ℕ))) (Copies (List ℕ))).
+    PairsOf (λ xs. xs ≡ p.left.slice.now) (λ ys. ys ≡ p.right.slice.now))
+    made (record { left = left; right = right }) start end n is zero whole (zip messages tags)
+    (zip_of_lists messages tags) (omega (arith, count, same, long)) result gave

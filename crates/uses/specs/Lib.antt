@@ -6,3 +6,4 @@ pub mod Repeats
 pub mod Tiles
 pub mod Verdicts
 pub mod Words
+pub mod Firsts

@@ -3,7 +3,7 @@ use Rattle.std.specs.Prelude.{◌≡◌, ℕ, ◌<◌, ◌≤◌, List, ◌∷�
 use Rattle.std.specs.Borrow.{Bor}
 use Rattle.std.specs.List.{AllWithin, HoldsAt}
 use Rattle.sha2.specs.Sha256.{sha256}
-use Rattle.parallel_bridge.specs.Firsts.{FailsFirstAt}
+use Rattle.uses.specs.Firsts.{FailsFirstAt}
 
 -- the item at the index may fail, and each item before it may pass
 abbrev pub IsFirstFailing : {X : Type 0} → (X → Bool → Type 0) → List X → ℕ → Type 0

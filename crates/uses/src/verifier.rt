@@ -108,7 +108,10 @@ pub fn verify_tags<Rt: Threads + Wait + Sync, P: Place, S: Strategy>(
         (λ trouble. IfClosure trouble (IsFirstForged (zip messages.now tags.now))) }
     ensures fault { IfErr result (λ trouble. IfFault trouble (λ fault. fault ≡ Memory)) }
 {
-    let pairs = Zipped::new(Copies { slice: messages }, Copies { slice: tags });
+    let pairs = Zipped {
+        left: Copies { slice: messages },
+        right: Copies { slice: tags },
+    };
     let check = |item: (usize, (&[u8], Digest))| -> Result<(), usize>
         ensures { JudgesTag item.entry result }
     {
