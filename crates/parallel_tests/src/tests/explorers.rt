@@ -1,10 +1,9 @@
 // Explorers: what they pick, and what the search through the rules answers.
 ghost use Rattle.parallel_shares.specs.Grid.{Fits};
 
-use crate::tests::same::{answers, lists, same};
+use crate::tests::same::{answers, same};
 use crate::tests::steps::{add, ascending, count, ten, zero};
 use crate::tests::strategies::{SITE, Stopped, number, pool};
-use crate::tests::threads::Meeting;
 use commonware_parallel::mocks::{
     ExploreError, Explorer, Rule, TASKS, WORKERS, explore, inline, mix, pick, pooled,
 };
@@ -17,8 +16,8 @@ use std::sync::atomic::{AtomicU64, Ordering};
 use std::thread::Threads;
 use uses::explored::{explore_from_ten, explore_from_zero};
 
-// The first place of a file whose name is one byte.
-const PLACE: Site = Site {
+/// The first place of a file whose name is one byte.
+pub const PLACE: Site = Site {
     file: "a",
     line: 1,
     column: 1,
@@ -262,69 +261,6 @@ fn an_explorer_keeps_the_numbers_and_asks_no_policy(rt: HostRuntime) {
     let alone = inline(&rt, alloc, number(&rt, 4), Stopped).expect(&rt, "memory");
     same(&rt, alone.thread_number().get(), 1);
     same(&rt, alone.planning().get(), 4);
-}
-
-// The numbers of ranges and of workers that such an explorer takes for 64 indices, and for a grid
-// of 64 rows.
-fn ranges_and_workers<Rt: Threads + Wait + Abort>(
-    rt: &Rt,
-    alloc: Global,
-    explorer: &Explorer,
-) -> Result<(usize, usize), Fault> {
-    let ranges = explorer.run_batches(rt, alloc, SITE, 64, number(rt, 1), 1, |batches| {
-        batches.ranges().len()
-    })?;
-    let grids = [Grid {
-        rows: 64,
-        tile_cost: number(rt, 1),
-    }];
-    assert!(rt; Grid::fits(&grids, 64));
-    let workers = explorer.run_tiles(rt, alloc, SITE, 64, &grids, 1, |tiles| {
-        tiles.workers().get()
-    })?;
-    Ok((ranges, workers))
-}
-
-// Whether each part of a join saw the other one.
-fn parts_of_a_join<Rt: Threads + Wait + Sync>(
-    rt: &Rt,
-    alloc: Global,
-    explorer: &Explorer,
-) -> Result<(bool, bool), Fault> {
-    let met = Meeting::new();
-    explorer.join(rt, alloc, SITE, || met.meet(true), || met.meet(false))
-}
-
-#[test]
-fn an_explorer_planned_for_one_runs_bodies_serially(rt: HostRuntime) {
-    let alloc = rt.alloc();
-    let strategy = pooled(&rt, alloc, number(&rt, 2), number(&rt, 1), Stopped).expect(
-        &rt, "memory",
-    );
-    let explorer = Explorer::parallel(&strategy).expect(&rt, "memory");
-    answers(
-        &rt,
-        1,
-        explorer.run(&rt, alloc, SITE, 64, || "serial", || "parallel"),
-        "serial",
-    );
-    answers(&rt, 2, ranges_and_workers(&rt, alloc, &explorer), (1, 1));
-    let states = explorer.map_init_collect_vec(&rt, alloc, SITE, 0..3u32, zero, count);
-    lists(&rt, 3, states, &[1, 2, 3]);
-    // A join goes by the rule alone, and so does a job (`an_explorer_spawns_by_its_rule`).
-    let joined = parts_of_a_join(&rt, alloc, &explorer);
-    answers(&rt, 4, joined, (true, true));
-}
-
-#[test]
-fn the_parallel_rule_takes_as_many_parts_as_are_planned(rt: HostRuntime) {
-    let alloc = rt.alloc();
-    for (threads, planned) in [(2, 3), (4, 8), (1, 5)] {
-        let strategy = pool(&rt, alloc, threads, planned);
-        let explorer = Explorer::parallel(&strategy).expect(&rt, "memory");
-        let taken = ranges_and_workers(&rt, alloc, &explorer);
-        answers(&rt, threads, taken, (planned, planned));
-    }
 }
 
 // The fold of the items by addition, from 10.

@@ -1,8 +1,8 @@
 // A machine without memory, as a test makes it: it takes all the addresses that the process may
 // have, untouched, and then each request is refused until some of them are let go.
 //
-// It does nothing where allocations are checked, as by `rt try`: there small requests are granted
-// from a store that has no end. The tests that ask for it are for `rt test`.
+// Where allocations are checked, as by `rt try`, small requests are granted from a store without
+// end: there is no such machine then, but one that has no place for large blocks.
 use std::alloc::Global;
 
 // Asks for blocks of a size until one is refused, and keeps them; for so many at most. Answers
@@ -17,6 +17,18 @@ fn take_all(alloc: Global, size: usize, most: u32, held: &mut Vec<Vec<u8>>) -> b
         }
     }
     false
+}
+
+/// All places for blocks of 1 MiB and more: while they are held, each request of so much is
+/// refused. None where such places have no end.
+pub fn all_places(alloc: Global) -> Option<Vec<Vec<u8>>> {
+    let mut held = Vec::with_capacity(alloc, 70_000).ok()?;
+    for halvings in 0..27u32 {
+        if !take_all(alloc, (1usize << 46) >> halvings, 60_000, &mut held) {
+            return None;
+        }
+    }
+    Some(held)
 }
 
 /// All memory that is left, in blocks of all sizes: while they are held, each request is refused.

@@ -1,7 +1,8 @@
-// `Sequential`'s own functions: one range, a plan for one worker, a job that is run at once.
+// `Sequential`'s own functions: one range, a plan for one worker, a job that is run at once, maps.
 ghost use Rattle.std.specs.Prelude.{◌≡◌, ⊤};
 
 use crate::tests::same::{answers, lists, same};
+use crate::tests::steps::{add, count, zero};
 use crate::tests::strategies::{SITE, number};
 use commonware_parallel::{Grid, Job, Sequential, Trouble};
 use std::ops::Range;
@@ -90,4 +91,25 @@ fn a_job_is_run_at_once_and_taken_without_a_wait(rt: HostRuntime) {
     same(&rt, spawned.take_ready(), Some(7));
     assert!(rt; !spawned.is_ready());
     same(&rt, spawned.take_ready(), None);
+}
+
+// Twice a number.
+fn twice(number: u32) -> u32 {
+    add(number, number)
+}
+
+#[test]
+fn maps_come_in_order_with_one_state(rt: HostRuntime) {
+    let alloc = rt.alloc();
+    let mapped = Sequential.map_collect_vec(alloc, SITE, 0..4u32, twice);
+    lists(&rt, "map", mapped, &[0, 2, 4, 6]);
+    let mapped = Sequential.map_collect_vec_with_multiplier(alloc, SITE, 0..4u32, 9, twice);
+    lists(&rt, "multiplied map", mapped, &[0, 2, 4, 6]);
+    let counted = Sequential.map_init_collect_vec(alloc, SITE, 0..3u32, zero, count);
+    lists(&rt, "map with a state", counted, &[1, 2, 3]);
+    let numbers = 0..3u32;
+    let counted = Sequential.map_init_collect_vec_with_multiplier(
+        alloc, SITE, numbers, 9, zero, count,
+    );
+    lists(&rt, "multiplied map with a state", counted, &[1, 2, 3]);
 }

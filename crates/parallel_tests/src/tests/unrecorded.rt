@@ -1,108 +1,59 @@
 // What a policy keeps of a call that is refused or fails, through a pool: that it was asked, where
-// it was, and no time. The clock is set to go on by a second at each reading before such a call, so
-// that a time of it would turn what the policy prefers.
-ghost use Rattle.std.specs.Prelude.{◌≡◌, ◌<◌, ⊤};
+// it was, and no time. The clock goes on by a second at each reading, so that a time of such a call
+// would be seen in the estimates.
+ghost use Rattle.std.specs.Prelude.{◌≡◌, ⊤};
 
-use crate::tests::clocks::learning;
-use crate::tests::no_memory::all_memory;
+use crate::tests::clocks::{Stepping, learning};
+use crate::tests::entries::{Times, times};
+use crate::tests::no_memory::{all_memory, all_places};
 use crate::tests::same::{answers, row};
 use crate::tests::steps::descending;
 use crate::tests::strategies::SITE;
-use commonware_parallel::{Call, Clock, Copies, Fault, Job, Path, Pick, Rayon, Strategy, Trouble};
+use commonware_parallel::policy::{Key, RunExecution, SpawnExecution, SpawnSample};
+use commonware_parallel::{Fault, Indices, Job, Policy, Rayon, Strategy, Trouble};
 use std::alloc::Global;
 use std::process::Abort;
+use std::sync::Wait;
 use std::sync::atomic::{AtomicU64, Ordering};
-use std::sync::{Arc, Wait};
 use std::thread::Threads;
-use uses::runs::one_of;
 
-// How many items each call has, so that all have one key.
-const LEN: usize = 1_000;
+// How many items each call has: as `u32`s they take 2 MiB.
+const LEN: usize = 524_288;
 
 const SECOND: u64 = 1_000_000_000;
 
-// A clock that goes on by its step at each reading, and counts the readings.
-#[derive(Clone, Debug, Drop)]
-struct Stepped {
-    reading: Arc<AtomicU64, Global>,
-    step: Arc<AtomicU64, Global>,
-    count: Arc<AtomicU64, Global>,
-}
+const SERIAL: RunExecution = RunExecution::Serial;
 
-impl Stepped {
-    fn new(rt: &impl Abort, alloc: Global, step: u64) -> Stepped {
-        Stepped {
-            reading: Arc::new(alloc, AtomicU64::new(0)).expect(rt, "memory"),
-            step: Arc::new(alloc, AtomicU64::new(step)).expect(rt, "memory"),
-            count: Arc::new(alloc, AtomicU64::new(0)).expect(rt, "memory"),
-        }
+// What is known before each call.
+const KNOWN: Times = Some((Some(100_000), Some(95_000)));
+
+// A policy that knows a parallel run of 100000 nanoseconds and a serial one of 95000, and has then
+// made nine choices for four threads.
+fn after_nine_choices<Rt: Wait + Abort>(rt: &Rt, alloc: Global) -> Policy {
+    let policy = Policy::new(alloc).expect(rt, "memory for a policy");
+    let key = Key::new(SITE, LEN, LEN, 4);
+    for (execution, time) in [(RunExecution::Parallel, 100_000), (SERIAL, 95_000)] {
+        answers(
+            rt,
+            "record",
+            policy.record_run(rt, key, execution, time),
+            (),
+        );
     }
-
-    fn goes_by(&self, step: u64) {
-        self.step.store(step, Ordering::SeqCst);
+    for choice in 1..10u32 {
+        answers(rt, choice, policy.choose_run(rt, key, 4), (SERIAL, false));
     }
-
-    fn readings(&self) -> u64 {
-        self.count.load(Ordering::SeqCst)
-    }
+    policy
 }
 
-impl Clock for Stepped {
-    fn now(&self) -> u64 {
-        self.count.fetch_add(1, Ordering::SeqCst);
-        let step = self.step.load(Ordering::SeqCst);
-        self.reading.fetch_add(step, Ordering::SeqCst)
-    }
+// A pool of four threads for which that policy chooses.
+fn by_policy<Rt: Threads + Abort>(rt: &Rt, alloc: Global, policy: &Policy) -> Rayon<Stepping> {
+    let strategy = learning(rt, alloc, Stepping::new(rt, alloc, SECOND));
+    strategy.with_policy(policy.clone().expect(rt, "a handle"))
 }
 
-// Takes one of two bodies, which has to be that one.
-fn takes<Rt: Wait + Abort>(
-    rt: &Rt,
-    alloc: Global,
-    strategy: &Rayon<Stepped>,
-    wanted: &'static str,
-) {
-    let taken = one_of(rt, alloc, strategy, SITE, LEN, "serial", "parallel");
-    answers(rt, 0, taken, wanted);
-}
-
-// A pool of four threads that has measured a parallel run of 100000 nanoseconds and a serial one of
-// 95000, and has then made nine choices. Its clock goes on by a second from now on.
-fn after_nine_choices<Rt: Threads + Wait + Abort>(
-    rt: &Rt,
-    alloc: Global,
-) -> (Stepped, Rayon<Stepped>) {
-    let clock = Stepped::new(rt, alloc, 100_000);
-    let strategy = learning(rt, alloc, clock.clone().expect(rt, "a handle"));
-    takes(rt, alloc, &strategy, "parallel");
-    clock.goes_by(95_000);
-    for _ in 0..10u32 {
-        takes(rt, alloc, &strategy, "serial");
-    }
-    row(rt, "measured runs", clock.readings(), 4);
-    clock.goes_by(SECOND);
-    (clock, strategy)
-}
-
-// What the policy chooses next: whether serially, and whether the run is to be measured. Such a run
-// is given up.
-fn next<Rt: Threads + Wait + Abort>(
-    rt: &Rt,
-    alloc: Global,
-    clock: &Stepped,
-    strategy: &Rayon<Stepped>,
-    call: Call,
-) -> (bool, bool)
-    requires { 0 < call.parts }
-{
-    let before = clock.readings();
-    let chosen = strategy.choose(rt, alloc, SITE, call);
-    let (pick, _meter) = chosen.expect(rt, "a choice");
-    (pick == Pick::By(Path::Serial), clock.readings() > before)
-}
-
-// The calls, each over 1000 numbers: a map that gathers them first, a map and a fallible map that
-// don't, a sort, and a fallible map and a fallible fold that fail at the last number but one.
+// The calls: a map that gathers its items first, a map and a fallible map that don't, a sort, and a
+// fallible map and a fallible fold that fail at the third number.
 #[derive(Clone, Copy, Debug, PartialEq, Eq)]
 enum Made {
     Gathered,
@@ -132,102 +83,123 @@ fn outcome_of<Rt: Threads + Wait + Sync, S: Strategy>(
     numbers: &mut [u32],
     calls: &AtomicU64,
 ) -> Result<(), Trouble<u32>> {
-    let failing = match call {
-        Made::FailingMap | Made::FailingFold => 998,
-        _ => 1_000,
-    };
+    let failing = if call == Made::Tried { u32::MAX } else { 2 };
+    let indices = Indices { start: 0, end: LEN };
     let map = |number: u32| {
         calls.fetch_add(1, Ordering::SeqCst);
         number
     };
-    let try_map = |number: u32| check(calls, number, failing);
     match call {
         Made::Gathered => {
-            let items = numbers.iter().copied();
-            strategy.map_collect_vec(rt, alloc, SITE, items, map)?;
+            strategy.map_collect_vec(rt, alloc, SITE, 0..LEN as u32, map)?;
         }
         Made::Map => {
-            let slice: &[u32] = numbers;
-            strategy.map_collect_vec(rt, alloc, SITE, Copies { slice }, map)?;
+            let map = |index: usize| map(index as u32);
+            strategy.map_collect_vec(rt, alloc, SITE, indices, map)?;
         }
         Made::Tried | Made::FailingMap => {
-            let slice: &[u32] = numbers;
-            strategy.try_map_collect_vec(rt, alloc, SITE, Copies { slice }, try_map)?;
+            let map = |index: usize| check(calls, index as u32, failing);
+            strategy.try_map_collect_vec(rt, alloc, SITE, indices, map)?;
         }
         Made::Sort => strategy.sort_by(rt, alloc, SITE, numbers, descending)?,
         Made::FailingFold => {
-            let slice: &[u32] = numbers;
-            let step = |last: u32, number: u32| match check(calls, number, failing) {
+            let step = |last: u32, index: usize| match check(calls, index as u32, failing) {
                 Ok(passed) => Ok(passed.max(last)),
                 Err(failed) => Err(failed),
             };
             let both = |left: u32, right: u32| left.max(right);
-            strategy.try_fold(rt, alloc, SITE, Copies { slice }, || 0, step, both)?;
+            strategy.try_fold(rt, alloc, SITE, indices, || 0, step, both)?;
         }
     }
     Ok(())
 }
 
-// The outcome of such a call as the next choice, without memory or with it, how often its
-// closure was called, and what the policy then chooses.
+// The numbers of a sort, from 0 on and not in one run, which a sort turns without memory; none for
+// the other calls.
+fn numbers_of(alloc: Global, call: Made) -> Result<Vec<u32>, Fault> {
+    if call != Made::Sort {
+        return Ok(Vec::new(alloc));
+    }
+    let mut numbers = Vec::with_capacity(alloc, LEN)?;
+    for number in 0..LEN as u32 {
+        numbers.push(number ^ 1)?;
+    }
+    Ok(numbers)
+}
+
+// The sum of numbers, wrapping.
+fn sum_of(numbers: &[u32]) -> u32 {
+    let mut sum = 0u32;
+    for number in numbers {
+        sum = sum.wrapping_add(*number);
+    }
+    sum
+}
+
+// The outcome of such a call as the tenth choice of a policy, where large blocks are refused or
+// aren't, how often its closure was called, what the policy knows then, and what it chooses next.
 fn outcome<Rt: Threads + Wait + Abort + Sync>(
     rt: &Rt,
     alloc: Global,
     call: Made,
     is_refused: bool,
-) -> Option<(Result<(), Trouble<u32>>, u64, (bool, bool))> {
-    let (clock, strategy) = after_nine_choices(rt, alloc);
-    let mut numbers = [0u32; LEN];
-    let mut number = 0u32;
-    for place in &mut numbers {
-        *place = number;
-        number = number.wrapping_add(1);
-    }
-    // (not one run, which a sort turns without memory)
-    numbers.swap(500, 501);
+) -> (Result<(), Trouble<u32>>, u64, Times, (RunExecution, bool)) {
+    let policy = after_nine_choices(rt, alloc);
+    let strategy = by_policy(rt, alloc, &policy);
+    let mut numbers = numbers_of(alloc, call).expect(rt, "memory for numbers");
+    let sum = sum_of(&numbers);
     let calls = AtomicU64::new(0);
     let held = if is_refused {
-        Some(all_memory(alloc)?)
+        Some(all_places(alloc).expect(rt, "places that have an end"))
     } else {
         None
     };
     let found = outcome_of(rt, alloc, &strategy, call, &mut numbers, &calls);
     drop(held);
-    let mut sum = 0u32;
-    for number in &numbers {
-        sum = sum.wrapping_add(*number);
-    }
-    row(rt, call, sum, 499_500);
-    let then = next(rt, alloc, &clock, &strategy, Call::body(LEN));
-    Some((found, calls.load(Ordering::SeqCst), then))
+    row(rt, call, sum_of(&numbers), sum);
+    let known = times(rt, &policy, SITE, LEN, LEN);
+    let next = policy.choose_run(rt, Key::new(SITE, LEN, LEN, 4), 4);
+    let next = next.expect(rt, "an entry");
+    (found, calls.load(Ordering::SeqCst), known, next)
 }
 
 #[test]
-fn a_run_that_is_refused_or_fails_is_not_recorded(rt: HostRuntime) {
-    let alloc = rt.alloc();
-    // A closure is called so often at most: not before the items are gathered, and at most once
-    // before there are places for its answers.
-    for (call, is_refused, most, then) in [
-        (Made::Gathered, true, 0, (true, true)),
-        (Made::Map, true, 1, (true, false)),
-        (Made::Tried, true, 1, (true, false)),
-        (Made::Sort, true, 0, (true, false)),
-        (Made::FailingMap, false, 999, (true, false)),
-        (Made::FailingFold, false, 999, (true, false)),
-        // What answers is recorded, and the next run is parallel.
-        (Made::Map, false, 1_000, (false, false)),
-        (Made::Sort, false, 0, (false, false)),
+fn a_run_that_is_refused_is_not_recorded(rt: HostRuntime) {
+    let mut refused = 0u32;
+    // What gathers its items is refused before the policy is asked, and before any item is mapped.
+    for (call, next) in [
+        (Made::Gathered, (SERIAL, true)),
+        (Made::Map, (SERIAL, false)),
+        (Made::Tried, (SERIAL, false)),
+        (Made::Sort, (SERIAL, false)),
     ] {
-        let wanted = match call {
-            Made::FailingMap | Made::FailingFold => Err(Trouble::Closure(998)),
-            _ if is_refused => Err(Trouble::Fault(Fault::Memory)),
-            _ => Ok(()),
-        };
-        if let Some((found, calls, next)) = outcome(&rt, alloc, call, is_refused) {
-            row(&rt, (call, is_refused), (found, next), (wanted, then));
-            assert!(rt; calls <= most, "{call:?}: {calls} calls");
+        let (found, calls, known, then) = outcome(&rt, rt.alloc(), call, true);
+        row(&rt, call, (known, then), (KNOWN, next));
+        if found == Err(Trouble::Fault(Fault::Memory)) {
+            refused = refused.saturating_add(1);
         }
+        assert!(rt; call != Made::Gathered || calls == 0, "{calls} calls");
     }
+    row(&rt, "refused", refused, 4);
+}
+
+#[test]
+fn a_run_that_fails_is_not_recorded(rt: HostRuntime) {
+    for call in [Made::FailingMap, Made::FailingFold] {
+        let (found, calls, known, then) = outcome(&rt, rt.alloc(), call, false);
+        row(&rt, call, (found, calls), (Err(Trouble::Closure(2)), 3));
+        row(&rt, call, (known, then), (KNOWN, (SERIAL, false)));
+    }
+    // What answers is recorded: a second moves the estimate, and the next run is parallel.
+    let (found, _, known, then) = outcome(&rt, rt.alloc(), Made::Sort, false);
+    row(&rt, "sort", found, Ok(()));
+    let moved = Some((Some(100_000), Some(200_076_000)));
+    row(
+        &rt,
+        "sort",
+        (known, then),
+        (moved, (RunExecution::Parallel, false)),
+    );
 }
 
 // Answers its number.
@@ -249,7 +221,7 @@ impl<S: Drop> Job<S, u64> for Gives {
 fn refused_jobs<Rt: Threads + Wait + Abort + Copy + Send + 'static>(
     rt: &Rt,
     alloc: Global,
-    strategy: &Rayon<Stepped>,
+    strategy: &Rayon<Stepping>,
 ) -> u64 {
     let mut refused = 0u64;
     for step in 0..60usize {
@@ -268,18 +240,22 @@ fn refused_jobs<Rt: Threads + Wait + Abort + Copy + Send + 'static>(
     panic!(rt; "no worker was refused")
 }
 
+// What a policy's samples of a key's jobs, of their hand-offs and of inline runs say.
+fn job_times<Rt: Wait>(rt: &Rt, policy: &Policy, key: Key) -> Option<[Option<u64>; 3]> {
+    let entry = policy.spawn_entry(rt, key)?;
+    let job = entry.estimate(SpawnSample::Job);
+    let overhead = entry.estimate(SpawnSample::Overhead);
+    Some([job, overhead, entry.estimate(SpawnSample::InlineRun)])
+}
+
 #[test]
 fn a_spawn_that_is_refused_is_not_recorded(rt: HostRuntime) {
     let alloc = rt.alloc();
-    let clock = Stepped::new(&rt, alloc, SECOND);
-    let strategy = learning(&rt, alloc, clock.clone().expect(&rt, "a handle"));
-    let call = Call::spawn(1);
-    row(
-        &rt,
-        1,
-        next(&rt, alloc, &clock, &strategy, call),
-        (false, true),
-    );
+    let policy = Policy::new(alloc).expect(&rt, "memory");
+    let strategy = by_policy(&rt, alloc, &policy);
+    let key = Key::new(SITE, 1, 1, 4);
+    let first = (SpawnExecution::Offload, true);
+    answers(&rt, 1, policy.choose_spawn(&rt, key, 1_000_000), first);
     let room = Vec::<u8>::with_capacity(alloc, 4_096).expect(&rt, "memory");
     if let Some(held) = all_memory(alloc) {
         drop(room);
@@ -287,17 +263,12 @@ fn a_spawn_that_is_refused_is_not_recorded(rt: HostRuntime) {
         drop(held);
         assert!(rt; refused > 0);
     }
-    // What knows no time of a job or of its hand-off measures each.
     row(
         &rt,
         2,
-        next(&rt, alloc, &clock, &strategy, call),
-        (false, true),
+        job_times(&rt, &policy, key),
+        Some([None, None, None]),
     );
-    row(
-        &rt,
-        3,
-        next(&rt, alloc, &clock, &strategy, call),
-        (false, true),
-    );
+    assert!(rt; policy.run_entry(&rt, key).is_none());
+    answers(&rt, 3, policy.choose_spawn(&rt, key, 1_000_000), first);
 }

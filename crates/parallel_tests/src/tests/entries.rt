@@ -1,0 +1,459 @@
+// What a policy has of the calls of strategies that it was handed to: at which keys there are
+// entries, and the times that they keep. The clocks go on by 100000 nanoseconds at each reading, so
+// each measured run takes as long.
+ghost use Rattle.std.specs.Prelude.{◌≡◌, ⊤};
+
+use crate::tests::clocks::{Stepping, learning};
+use crate::tests::same::{answers, row};
+use crate::tests::steps::{add, add_counted, ascending, count, descending, zero};
+use crate::tests::strategies::{SITE, number};
+use commonware_parallel::policy::{Key, RunExecution};
+use commonware_parallel::{Batches, Fault, Grid, Job, Policy, Rayon, Site, Strategy, Trouble};
+use std::alloc::Global;
+use std::num::NonZeroUsize;
+use std::ops::Range;
+use std::process::Abort;
+use std::sync::Wait;
+use std::thread::Threads;
+use uses::runs::one_of;
+
+/// The times of runs in parallel and of serial ones, where there is an entry.
+pub type Times = Option<(Option<u64>, Option<u64>)>;
+
+/// What a policy keeps of a place, for a length and a work, planned for four threads.
+pub fn times<Rt: Wait>(rt: &Rt, policy: &Policy, site: Site, len: usize, work: usize) -> Times {
+    let entry = policy.run_entry(rt, Key::new(site, len, work, 4))?;
+    let parallel = entry.estimate(RunExecution::Parallel);
+    Some((parallel, entry.estimate(RunExecution::Serial)))
+}
+
+// One measured run in parallel, and an entry without a time.
+const ONCE: Times = Some((Some(100_000), None));
+
+const UNTIMED: Times = Some((None, None));
+
+fn fresh(rt: &impl Abort, alloc: Global) -> Policy {
+    Policy::new(alloc).expect(rt, "memory for a policy")
+}
+
+// A pool of four threads for which that policy chooses.
+fn by_policy<Rt: Threads + Abort>(rt: &Rt, alloc: Global, policy: &Policy) -> Rayon<Stepping> {
+    let strategy = learning(rt, alloc, Stepping::new(rt, alloc, 100_000));
+    strategy.with_policy(policy.clone().expect(rt, "a handle"))
+}
+
+// A place for each call.
+fn at(column: u32) -> Site {
+    Site { column, ..SITE }
+}
+
+fn checked(number: u32) -> Result<u32, u8> {
+    Ok(number)
+}
+
+fn add_checked(sum: u32, number: u32) -> Result<u32, u8> {
+    Ok(add(sum, number))
+}
+
+fn keyed(number: u32) -> (u32, Option<u32>) {
+    (number, Some(number))
+}
+
+// Each kind of map of 16 numbers, at the places 1 to 6; those at 2 and 5 stand for twice the work.
+fn maps<Rt: Threads + Wait + Sync, S: Strategy>(
+    rt: &Rt,
+    alloc: Global,
+    strategy: &S,
+) -> Result<(), Trouble<u8>> {
+    let same = |number: u32| number;
+    strategy.map_collect_vec(rt, alloc, at(1), 0..16u32, same)?;
+    strategy.map_collect_vec_with_multiplier(rt, alloc, at(2), 0..16u32, 2, same)?;
+    strategy.try_map_collect_vec(rt, alloc, at(3), 0..16u32, checked)?;
+    strategy.map_init_collect_vec(rt, alloc, at(4), 0..16u32, zero, count)?;
+    let numbers = 0..16u32;
+    strategy.map_init_collect_vec_with_multiplier(rt, alloc, at(5), numbers, 2, zero, count)?;
+    strategy.map_partition_collect_vec(rt, alloc, at(6), 0..16u32, keyed)?;
+    Ok(())
+}
+
+// Each kind of fold of 16 numbers and both sorts, at the places 7 to 11.
+fn folds_and_sorts<Rt: Threads + Wait + Sync, S: Strategy>(
+    rt: &Rt,
+    alloc: Global,
+    strategy: &S,
+) -> Result<(), Trouble<u8>> {
+    strategy.fold(rt, alloc, at(7), 0..16u32, zero, add, add)?;
+    strategy.fold_init(rt, alloc, at(8), 0..16u32, zero, zero, add_counted, add)?;
+    strategy.try_fold(rt, alloc, at(9), 0..16u32, zero, add_checked, add)?;
+    let mut numbers = [2u32, 1, 4, 3, 6, 5, 8, 7, 10, 9, 12, 11, 14, 13, 16, 15];
+    strategy.sort_by(rt, alloc, at(10), &mut numbers, ascending)?;
+    strategy.sort_unstable_by(rt, alloc, at(11), &mut numbers, descending)?;
+    Ok(())
+}
+
+// Runs, a batch of 16 and tiles of a row of 16, at the places 12 to 15. The row takes 17 for one
+// worker, and stands for four times the work.
+fn bodies<Rt: Wait + Abort, S: Strategy>(
+    rt: &Rt,
+    alloc: Global,
+    strategy: &S,
+) -> Result<(), Trouble<u8>> {
+    one_of(rt, alloc, strategy, at(12), 16, 1u8, 2)?;
+    strategy.try_run(rt, alloc, at(13), 16, || checked(1), || checked(2))?;
+    let least = NonZeroUsize::MIN;
+    strategy.run_batches(
+        rt,
+        alloc,
+        at(14),
+        16,
+        least,
+        1,
+        |batches| batches.is_whole(),
+    )?;
+    let grids = [Grid {
+        rows: 1,
+        tile_cost: least,
+    }];
+    assert!(rt; Grid::fits(&grids, 16));
+    strategy.run_tiles(rt, alloc, at(15), 16, &grids, 4, |tiles| tiles.grid())?;
+    Ok(())
+}
+
+// The work of the call at each place.
+fn work_at(place: u32) -> usize {
+    match place {
+        2 | 5 => 32,
+        15 => 68,
+        _ => 16,
+    }
+}
+
+#[test]
+fn each_operation_is_recorded_at_its_place(rt: HostRuntime) {
+    let alloc = rt.alloc();
+    let policy = fresh(&rt, alloc);
+    let strategy = by_policy(&rt, alloc, &policy);
+    row(&rt, "maps", maps(&rt, alloc, &strategy), Ok(()));
+    row(&rt, "folds", folds_and_sorts(&rt, alloc, &strategy), Ok(()));
+    row(&rt, "bodies", bodies(&rt, alloc, &strategy), Ok(()));
+    for place in 1..16u32 {
+        let kept = times(&rt, &policy, at(place), 16, work_at(place));
+        row(&rt, place, kept, ONCE);
+    }
+    for place in [2, 5, 15] {
+        let kept = times(&rt, &policy, at(place), 16, 16);
+        row(&rt, (place, "without its multiplier"), kept, None);
+    }
+    row(&rt, 0, times(&rt, &policy, at(0), 16, 16), None);
+}
+
+// Answers its number.
+#[derive(Drop)]
+struct Gives(u64);
+
+impl<S: Drop> Job<S, u64> for Gives {
+    ghost may_run = { λ _ _. ⊤ };
+
+    ghost may_answer = { λ job _ answer. answer ≡ job.0 };
+
+    fn run_on(self, _strategy: S) -> u64 {
+        self.0
+    }
+}
+
+// Whether a policy has an entry of jobs or of runs at a place, for one item.
+fn has_job_or_run<Rt: Wait>(rt: &Rt, policy: &Policy, site: Site) -> (bool, bool) {
+    let key = Key::new(site, 1, 1, 4);
+    let has_job = policy.spawn_entry(rt, key).is_some();
+    (has_job, policy.run_entry(rt, key).is_some())
+}
+
+// A join, and a job that is waited for by nobody.
+fn joins_and_spawns<Rt: Threads + Wait + Copy + Send + Sync + 'static, S: Strategy>(
+    rt: &Rt,
+    alloc: Global,
+    strategy: &S,
+) -> Result<(), Fault> {
+    strategy.join(rt, alloc, at(1), || 1u8, || 2u8)?;
+    strategy.spawn(rt, alloc, at(2), 1, Gives(7))?;
+    Ok(())
+}
+
+#[test]
+fn a_join_has_no_entry_and_a_job_none_of_a_run(rt: HostRuntime) {
+    let alloc = rt.alloc();
+    let policy = fresh(&rt, alloc);
+    let strategy = by_policy(&rt, alloc, &policy);
+    answers(&rt, 1, joins_and_spawns(&rt, alloc, &strategy), ());
+    row(&rt, "join", times(&rt, &policy, at(1), 2, 2), None);
+    let of_join = has_job_or_run(&rt, &policy, at(1));
+    row(&rt, "join", of_join, (false, false));
+    row(
+        &rt,
+        "job",
+        has_job_or_run(&rt, &policy, at(2)),
+        (true, false),
+    );
+    // One thread leaves nothing to choose.
+    let one = Rayon::new(&rt, alloc, number(&rt, 1), Stepping::new(&rt, alloc, 1));
+    let one = one.expect(&rt, "memory").with_parallelism(number(&rt, 4));
+    let policy = fresh(&rt, alloc);
+    let one = one.with_policy(policy.clone().expect(&rt, "a handle"));
+    answers(&rt, 2, joins_and_spawns(&rt, alloc, &one), ());
+    row(
+        &rt,
+        "one",
+        has_job_or_run(&rt, &policy, at(2)),
+        (false, false),
+    );
+}
+
+#[test]
+fn what_has_no_policy_leaves_no_entry(rt: HostRuntime) {
+    let alloc = rt.alloc();
+    let policy = fresh(&rt, alloc);
+    let strategy = by_policy(&rt, alloc, &policy);
+    assert!(rt; strategy.policy().is_some());
+    let fixed = strategy.without_policy().expect(&rt, "memory");
+    assert!(rt; fixed.policy().is_none());
+    row(&rt, 1, maps(&rt, alloc, &fixed), Ok(()));
+    row(&rt, 2, folds_and_sorts(&rt, alloc, &fixed), Ok(()));
+    row(&rt, 3, bodies(&rt, alloc, &fixed), Ok(()));
+    // Planned for one, a call has nothing to choose either.
+    let one = strategy.with_parallelism(number(&rt, 1));
+    row(&rt, 4, bodies(&rt, alloc, &one), Ok(()));
+    for place in 1..16u32 {
+        row(
+            &rt,
+            place,
+            times(&rt, &policy, at(place), 16, work_at(place)),
+            None,
+        );
+        let alone = policy.run_entry(&rt, Key::new(at(place), 16, work_at(place), 1));
+        assert!(rt; alone.is_none());
+    }
+}
+
+#[test]
+fn strategies_over_one_policy_learn_from_each_other(rt: HostRuntime) {
+    let alloc = rt.alloc();
+    let policy = fresh(&rt, alloc);
+    let first = by_policy(&rt, alloc, &policy);
+    let second = by_policy(&rt, alloc, &policy);
+    let other = learning(&rt, alloc, Stepping::new(&rt, alloc, 100_000));
+    answers(
+        &rt,
+        1,
+        one_of(&rt, alloc, &first, SITE, 16, "serial", "parallel"),
+        "parallel",
+    );
+    row(&rt, 1, times(&rt, &policy, SITE, 16, 16), ONCE);
+    answers(
+        &rt,
+        2,
+        one_of(&rt, alloc, &second, SITE, 16, "serial", "parallel"),
+        "serial",
+    );
+    let both = Some((Some(100_000), Some(100_000)));
+    row(&rt, 2, times(&rt, &policy, SITE, 16, 16), both);
+    answers(
+        &rt,
+        3,
+        one_of(&rt, alloc, &first, SITE, 16, "serial", "parallel"),
+        "serial",
+    );
+    // A strategy with a policy of its own has learnt nothing, and tells them nothing.
+    let own = other.policy().expect(&rt, "a policy");
+    row(&rt, 3, times(&rt, own, SITE, 16, 16), None);
+    answers(
+        &rt,
+        4,
+        one_of(&rt, alloc, &other, SITE, 16, "serial", "parallel"),
+        "parallel",
+    );
+    row(&rt, 4, times(&rt, own, SITE, 16, 16), ONCE);
+    row(&rt, 5, times(&rt, &policy, SITE, 16, 16), both);
+}
+
+// Maps so many numbers, of which each stands for so much work.
+fn mapped<Rt: Threads + Wait + Sync, S: Strategy>(
+    rt: &Rt,
+    alloc: Global,
+    strategy: &S,
+    len: u32,
+    multiplier: usize,
+) -> Result<usize, Fault> {
+    let same = |number: u32| number;
+    let numbers = 0..len;
+    let mapped = strategy.map_collect_vec_with_multiplier(
+        rt, alloc, SITE, numbers, multiplier, same,
+    )?;
+    Ok(mapped.len())
+}
+
+#[test]
+fn an_entry_is_of_the_digits_of_length_and_work(rt: HostRuntime) {
+    let alloc = rt.alloc();
+    let policy = fresh(&rt, alloc);
+    let strategy = by_policy(&rt, alloc, &policy);
+    let both = Some((Some(100_000), Some(100_000)));
+    for (len, multiplier, kept) in [
+        (1, 1, ONCE),
+        (2, 1, ONCE),
+        (3, 1, both),
+        (16, 1, ONCE),
+        (16, 2, ONCE),
+        (16, 3, both),
+    ] {
+        let of = (len, multiplier);
+        answers(
+            &rt,
+            of,
+            mapped(&rt, alloc, &strategy, len, multiplier),
+            len as usize,
+        );
+        let work = (len as usize).saturating_mul(multiplier);
+        row(&rt, of, times(&rt, &policy, SITE, len as usize, work), kept);
+    }
+}
+
+// Which of a batch's closures fails: the one that maps what was prepared, or the batch's own.
+#[derive(Clone, Copy, Debug, PartialEq, Eq)]
+enum Failing {
+    Neither,
+    Map,
+    Batch,
+}
+
+// The lengths of the ranges.
+fn lengths_of(alloc: Global, ranges: &[Range<usize>]) -> Result<Vec<usize>, Fault> {
+    let mut lengths = Vec::new(alloc);
+    for range in ranges {
+        lengths.push(range.end.saturating_sub(range.start))?;
+    }
+    Ok(lengths)
+}
+
+fn sum_of(lengths: &[usize]) -> usize {
+    let mut sum = 0usize;
+    for length in lengths {
+        sum = sum.wrapping_add(*length);
+    }
+    sum
+}
+
+// How many indices a batch of 16 has, counted by a map of its ranges, and the number of ranges.
+fn counted<Rt: Threads + Wait + Sync, S: Strategy>(
+    rt: &Rt,
+    alloc: Global,
+    strategy: &S,
+    site: Site,
+    failing: Failing,
+) -> Result<(usize, usize), Trouble<Trouble<u8>>> {
+    let least = NonZeroUsize::MIN;
+    let run = |batches: Batches<'_, S, Site>| -> Result<(usize, usize), Trouble<u8>> {
+        let prepare = |ranges: &[Range<usize>]| lengths_of(alloc, ranges);
+        let check = |length: usize| {
+            if failing == Failing::Map {
+                Err(1u8)
+            } else {
+                Ok(length)
+            }
+        };
+        let lengths = batches.try_map_collect_vec(rt, alloc, prepare, check)?;
+        if failing == Failing::Batch {
+            return Err(Trouble::Closure(2));
+        }
+        Ok((sum_of(&lengths), lengths.len()))
+    };
+    strategy.try_run_batches(rt, alloc, site, 16, least, usize::MAX, run)
+}
+
+#[test]
+fn a_batch_is_recorded_once_and_only_where_it_answers(rt: HostRuntime) {
+    let alloc = rt.alloc();
+    let policy = fresh(&rt, alloc);
+    let strategy = by_policy(&rt, alloc, &policy);
+    for (place, failing, wanted, kept) in [
+        (
+            1,
+            Failing::Map,
+            Err(Trouble::Closure(Trouble::Closure(1))),
+            UNTIMED,
+        ),
+        (
+            2,
+            Failing::Batch,
+            Err(Trouble::Closure(Trouble::Closure(2))),
+            UNTIMED,
+        ),
+        (3, Failing::Neither, Ok((16, 4)), ONCE),
+    ] {
+        let counted = counted(&rt, alloc, &strategy, at(place), failing);
+        row(&rt, failing, counted, wanted);
+        row(
+            &rt,
+            failing,
+            times(&rt, &policy, at(place), 16, usize::MAX),
+            kept,
+        );
+        // The map of its four ranges, at the same place, asks no policy.
+        row(
+            &rt,
+            (failing, "map"),
+            times(&rt, &policy, at(place), 4, 4),
+            None,
+        );
+    }
+}
+
+// Whether a batch is whole.
+fn is_whole<Rt: Wait, S: Strategy>(
+    rt: &Rt,
+    alloc: Global,
+    strategy: &S,
+    len: usize,
+    minimum: NonZeroUsize,
+) -> Result<bool, Fault> {
+    strategy.run_batches(
+        rt,
+        alloc,
+        SITE,
+        len,
+        minimum,
+        1,
+        |batches| batches.is_whole(),
+    )
+}
+
+#[test]
+fn a_batch_that_is_too_short_to_be_cut_has_no_entry(rt: HostRuntime) {
+    let alloc = rt.alloc();
+    let policy = fresh(&rt, alloc);
+    let strategy = by_policy(&rt, alloc, &policy);
+    let eight = number(&rt, 8);
+    for len in [0usize, 1, 7, 8, 15] {
+        answers(&rt, len, is_whole(&rt, alloc, &strategy, len, eight), true);
+        row(&rt, len, times(&rt, &policy, SITE, len, len), None);
+    }
+    let most = is_whole(&rt, alloc, &strategy, usize::MAX, NonZeroUsize::MAX);
+    answers(&rt, "most", most, true);
+    row(
+        &rt,
+        "most",
+        times(&rt, &policy, SITE, usize::MAX, usize::MAX),
+        None,
+    );
+    // One that may be cut is whole where its policy chooses the serial way.
+    let key = Key::new(SITE, 16, 16, 4);
+    for (execution, time) in [
+        (RunExecution::Parallel, 100_000),
+        (RunExecution::Serial, 95_000),
+    ] {
+        let recorded = policy.record_run(&rt, key, execution, time);
+        answers(&rt, "recorded", recorded, ());
+    }
+    answers(&rt, 16, is_whole(&rt, alloc, &strategy, 16, eight), true);
+    let kept = Some((Some(100_000), Some(95_000)));
+    row(&rt, 16, times(&rt, &policy, SITE, 16, 16), kept);
+}

@@ -1,0 +1,261 @@
+// The ways that explorers take: by the serial and the parallel rule, and by seeds.
+ghost use Rattle.std.specs.Prelude.{◌<◌};
+
+use crate::tests::explorers::PLACE;
+use crate::tests::same::{answers, row, same};
+use crate::tests::steps::{add, count, zero};
+use crate::tests::strategies::{SITE, number, pool};
+use crate::tests::threads::Meeting;
+use commonware_parallel::mocks::{Explorer, TASKS, explore};
+use commonware_parallel::{Call, Fault, Grid, Path, Pick, Strategy, Trouble};
+use std::alloc::Global;
+use std::process::Abort;
+use std::sync::Wait;
+use std::thread::Threads;
+
+// The ways that an explorer takes: how many ranges of 64 indices and how many workers of a grid of
+// 64 rows, which of two bodies, whether a map of four items is cut, and whether it picks the
+// parallel way of a join and the hand-off of a job.
+#[derive(Clone, Copy, Debug, PartialEq, Eq)]
+struct Ways {
+    ranges: usize,
+    workers: usize,
+    body: &'static str,
+    is_cut: bool,
+    joins: bool,
+    hands_off: bool,
+}
+
+// What each call goes by where nothing is parallel, but for a join and a job.
+fn serial_ways(aside: bool) -> Ways {
+    Ways {
+        ranges: 1,
+        workers: 1,
+        body: "serial",
+        is_cut: false,
+        joins: aside,
+        hands_off: aside,
+    }
+}
+
+// The most parallel ways, planned for so many.
+fn parallel_ways(planned: usize) -> Ways {
+    Ways {
+        ranges: planned,
+        workers: planned,
+        body: "parallel",
+        is_cut: true,
+        joins: true,
+        hands_off: true,
+    }
+}
+
+// The last of the counts that a map of four items makes in its states: 4 in one segment.
+fn last_count<Rt: Threads + Wait + Sync>(
+    rt: &Rt,
+    alloc: Global,
+    explorer: &Explorer,
+) -> Result<Option<u32>, Fault> {
+    let counts = explorer.map_init_collect_vec(rt, alloc, PLACE, 0..4u32, zero, count)?;
+    Ok(counts.last().copied())
+}
+
+// Whether the explorer picks the last way of such a call.
+fn picks_last<Rt: Wait>(
+    rt: &Rt,
+    alloc: Global,
+    explorer: &Explorer,
+    call: Call,
+) -> Result<bool, Fault>
+    requires { 0 < call.parts }
+{
+    let (pick, _unmeasured) = explorer.choose(rt, alloc, PLACE, call)?;
+    Ok(pick == Pick::By(Path::Parallel))
+}
+
+// Makes one call of each kind, but for a join and a job, whose picks alone are looked at.
+fn ways_of<Rt: Threads + Wait + Sync + Abort>(
+    rt: &Rt,
+    alloc: Global,
+    explorer: &Explorer,
+) -> Result<Ways, Fault> {
+    let least = number(rt, 1);
+    let ranges = explorer.run_batches(rt, alloc, PLACE, 64, least, 1, |batches| {
+        batches.ranges().len()
+    })?;
+    let grids = [Grid {
+        rows: 64,
+        tile_cost: least,
+    }];
+    assert!(rt; Grid::fits(&grids, 64));
+    let workers = explorer.run_tiles(rt, alloc, PLACE, 64, &grids, 1, |tiles| {
+        tiles.workers().get()
+    })?;
+    let body = explorer.run(rt, alloc, PLACE, 64, || "serial", || "parallel")?;
+    let is_cut = last_count(rt, alloc, explorer)? != Some(4);
+    let joins = picks_last(rt, alloc, explorer, Call::join())?;
+    let hands_off = picks_last(rt, alloc, explorer, Call::spawn(1))?;
+    Ok(Ways {
+        ranges,
+        workers,
+        body,
+        is_cut,
+        joins,
+        hands_off,
+    })
+}
+
+// Whether each part of a join saw the other one.
+fn parts_of_a_join<Rt: Threads + Wait + Sync>(
+    rt: &Rt,
+    alloc: Global,
+    explorer: &Explorer,
+) -> Result<(bool, bool), Fault> {
+    let met = Meeting::new();
+    explorer.join(rt, alloc, SITE, || met.meet(true), || met.meet(false))
+}
+
+#[test]
+fn the_parallel_rule_takes_the_most_parallel_ways(rt: HostRuntime) {
+    let alloc = rt.alloc();
+    // Planned for one, a join is parallel all the same, and a job is handed off.
+    for (threads, planned, wanted) in [
+        (2, 3, parallel_ways(3)),
+        (4, 8, parallel_ways(8)),
+        (2, 1, serial_ways(true)),
+    ] {
+        let strategy = pool(&rt, alloc, threads, planned);
+        let explorer = Explorer::parallel(&strategy).expect(&rt, "memory");
+        let of = (threads, planned);
+        answers(&rt, of, ways_of(&rt, alloc, &explorer), wanted);
+        answers(
+            &rt,
+            of,
+            parts_of_a_join(&rt, alloc, &explorer),
+            (true, true),
+        );
+    }
+}
+
+#[test]
+fn a_search_takes_the_serial_ways_and_then_the_parallel_ones(rt: HostRuntime) {
+    let alloc = rt.alloc();
+    let mut taken = Vec::with_capacity(alloc, 6).expect(&rt, "memory");
+    let is_kept = explore(&rt, alloc, |explorer| {
+        let ways = ways_of(&rt, alloc, explorer).expect(&rt, "memory");
+        taken.push(ways).is_ok()
+    });
+    assert!(rt; is_kept.expect(&rt, "one output"));
+    let first = taken.first().copied();
+    row(&rt, "serial", first, Some(serial_ways(false)));
+    let second = taken.get(1).copied();
+    row(&rt, "parallel", second, Some(parallel_ways(TASKS)));
+    same(&rt, taken.len(), 6);
+}
+
+// One bit for each way that was seen of each call.
+#[derive(Clone, Copy, Debug, PartialEq, Eq)]
+struct Seen {
+    ranges: u32,
+    workers: u32,
+    others: u32,
+}
+
+fn bit(place: usize) -> u32 {
+    1u32.wrapping_shl(place as u32)
+}
+
+fn add_seen(seen: &mut Seen, ways: Ways) {
+    seen.ranges |= bit(ways.ranges);
+    seen.workers |= bit(ways.workers);
+    let last = [
+        ways.body == "parallel",
+        ways.is_cut,
+        ways.joins,
+        ways.hands_off,
+    ];
+    for (place, is_last) in last.into_iter().enumerate() {
+        let way = if is_last { 1 } else { 0 };
+        seen.others |= bit(place.wrapping_mul(2).wrapping_add(way));
+    }
+}
+
+#[test]
+fn a_seed_repeats_its_ways_and_seeds_take_each_of_them(rt: HostRuntime) {
+    let alloc = rt.alloc();
+    let strategy = pool(&rt, alloc, 2, 8);
+    let mut seen = Seen {
+        ranges: 0,
+        workers: 0,
+        others: 0,
+    };
+    for seed in 0..256u64 {
+        let explorer = Explorer::seeded(&strategy, seed).expect(&rt, "memory");
+        let first = ways_of(&rt, alloc, &explorer).expect(&rt, "memory");
+        answers(&rt, seed, ways_of(&rt, alloc, &explorer), first);
+        add_seen(&mut seen, first);
+    }
+    // One to eight ranges, as many workers, and both ways of each other call.
+    let wanted = Seen {
+        ranges: 510,
+        workers: 510,
+        others: 255,
+    };
+    same(&rt, seen, wanted);
+}
+
+// Whether each kind of map of the numbers below 100 answers in their order, and a fallible one the
+// number that fails.
+fn maps_in_order<Rt: Threads + Wait + Sync>(
+    rt: &Rt,
+    alloc: Global,
+    explorer: &Explorer,
+) -> Result<[bool; 4], Trouble<u32>> {
+    let next = |number: u32| -> Result<u32, u32> { Ok(add(number, 1)) };
+    let shifted = explorer.try_map_collect_vec(rt, alloc, SITE, 0..100u32, next)?;
+    let one = |number: u32| if number == 57 {
+        Err(number)
+    } else {
+        Ok(number)
+    };
+    let failed = explorer.try_map_collect_vec(rt, alloc, SITE, 0..100u32, one);
+    let twice = |seen: &mut u32, number: u32| {
+        *seen = number;
+        add(number, number)
+    };
+    let doubled = explorer.map_init_collect_vec(rt, alloc, SITE, 0..100u32, zero, twice)?;
+    let third = |_: &mut u32, number: u32| add(number, 3);
+    let numbers = 0..100u32;
+    let weighted = explorer.map_init_collect_vec_with_multiplier(
+        rt, alloc, SITE, numbers, 4, zero, third,
+    )?;
+    Ok([
+        counts_by(&shifted, 1, 1),
+        failed == Err(Trouble::Closure(57)),
+        counts_by(&doubled, 0, 2),
+        counts_by(&weighted, 3, 1),
+    ])
+}
+
+// Whether a list of a hundred numbers goes on from the first by equal steps.
+fn counts_by(list: &[u32], first: u32, step: u32) -> bool {
+    let mut wanted = first;
+    for number in list {
+        if *number != wanted {
+            return false;
+        }
+        wanted = add(wanted, step);
+    }
+    list.len() == 100
+}
+
+#[test]
+fn each_map_keeps_its_order_by_each_rule(rt: HostRuntime) {
+    let alloc = rt.alloc();
+    let mapped = explore(
+        &rt,
+        alloc,
+        |explorer| maps_in_order(&rt, alloc, explorer).ok(),
+    );
+    answers(&rt, 1, mapped, Some([true; 4]));
+}
