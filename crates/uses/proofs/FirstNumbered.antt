@@ -1,6 +1,6 @@
 -- The first item that fails, of a map over items with their indices whose closure answers the index
 -- of an item that fails.
-use Rattle.std.proofs.Common.{◌≡◌, ℕ, ◌+◌, ◌-◌, List, [], ◌∷◌, ◌++◌, Result, Ok, Err, Vec, Global, length, refl, ap, subst, arith}
+use Rattle.std.proofs.Common.{◌≡◌, ℕ, ◌+◌, ◌-◌, List, [], ◌∷◌, ◌++◌, Result, Ok, Err, Vec, Global, length, ap, subst, ◌∙◌, arith}
 use Rattle.std.specs.Prelude.{MatchResult}
 use Rattle.std.specs.List.{All, enumerate_from, range_with_len}
 use Rattle.std.proofs.lemmas.List.Elements.{All-nil, All-cons}
@@ -32,7 +32,7 @@ module _ {X Y : Type 0} (allowed : ℕ × X → Result Y ℕ → Type 0) (passes
   first_from n [] (b ∷ before) p after ys split each = absurd cc
   first_from n (x ∷ xs) [] p after ys split each =
       let same : (n, x) ≡ p = cc in
-      let at = ap (λ (q : ℕ × X). q.0) same in
+      let at = ap (λ (q : ℕ × X). q.0) {y = p} same in
       ([], xs, ap (λ (q : ℕ × X). q.1 ∷ xs) {y = p} same, All-nil passes, omega (arith, at))
   first_from n (x ∷ xs) (b ∷ before) p after [] split each = absurd each
   first_from n (x ∷ xs) (b ∷ before) p after (y ∷ ys) split each =
@@ -57,21 +57,27 @@ module _ {X Y : Type 0} (allowed : ℕ × X → Result Y ℕ → Type 0) (passes
       (gives made) zs × TryMapOf allowed zs (listed out))
       → MatchResult result (λ _. All passes all)
       (λ trouble. IfClosure trouble (FailsFirstAt passes fails all))
-  first_of_numbered gives made list start end n refl refl refl all only long (Ok ys)
-      (zs, (is, xs, indices, one, same), h) =
-      let counted : length xs ≡ n - 0 = omega (arith, ap length (only xs one), long) in
-      let numbers = numbered_both 0 (n - 0) is xs zs indices counted same in
-      subst (All passes) (only xs one)
+  first_of_numbered gives made list start end n is zero whole all only long (Ok ys)
+      (zs, (indices, xs, counting, one, same), h) =
+      let came : xs ≡ all = only xs (subst (λ p. gives p xs) is one) in
+      let counted : length xs ≡ n - 0 = omega (arith, ap length came, long) in
+      let from-zero : indices ≡ range_with_len 0 (n - 0) =
+      counting ∙ ap (λ k. range_with_len k (end - k)) zero ∙ ap (λ e. range_with_len 0 (e - 0)) whole in
+      let numbers = numbered_both 0 (n - 0) indices xs zs from-zero counted same in
+      subst (All passes) came
       (all_pass 0 xs ys.items (subst (λ l. EachOk allowed l ys.items) numbers h))
-  first_of_numbered gives made list start end n refl refl refl all only long (Err (OfFault f)) gave =
+  first_of_numbered gives made list start end n is zero whole all only long (Err (OfFault f)) gave =
       tt
-  first_of_numbered gives made list start end n refl refl refl all only long (Err (Closure e))
-      (zs, (is, xs, indices, one, same), h) =
-      let counted : length xs ≡ n - 0 = omega (arith, ap length (only xs one), long) in
-      let numbers = numbered_both 0 (n - 0) is xs zs indices counted same in
+  first_of_numbered gives made list start end n is zero whole all only long (Err (Closure e))
+      (zs, (indices, xs, counting, one, same), h) =
+      let came : xs ≡ all = only xs (subst (λ p. gives p xs) is one) in
+      let counted : length xs ≡ n - 0 = omega (arith, ap length came, long) in
+      let from-zero : indices ≡ range_with_len 0 (n - 0) =
+      counting ∙ ap (λ k. range_with_len k (end - k)) zero ∙ ap (λ e. range_with_len 0 (e - 0)) whole in
+      let numbers = numbered_both 0 (n - 0) indices xs zs from-zero counted same in
       let (before, p, after, ys, split, each, failing) =
       subst (λ l. FirstErr allowed l e) numbers h in
       let (front, rest, cut, passed, at) = first_from 0 xs before p after ys split each in
       let (here, fails-there) = bad p e failing in
-      subst (λ l. FailsFirstAt passes fails l e) (only xs one)
+      subst (λ l. FailsFirstAt passes fails l e) came
       (front, p.1, rest, cut, passed, fails-there, omega (arith, here, at))

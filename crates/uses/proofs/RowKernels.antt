@@ -61,15 +61,15 @@ module _ {T R : Type 0} (init : T → Type 0) (fill : T → ℕ → Range ℕ �
   both (x ∷ xs) more [] rest one two = absurd one
   both (x ∷ xs) more (r ∷ rs) rest one two = (one.0, both xs more rs rest one.1 two)
 
-  chained : {xs : List Stretch} {rs : List R} → Chains init fill finish xs rs
-      → All (Within rows len) xs → AllZip Values xs rs
+  chained : {cut : List Stretch} {results : List R} → Chains init fill finish cut results
+      → All (Within rows len) cut → AllZip Values cut results
   chained no_chain all = tt
-  chained {all-xs} {all-rs} (more_chains s t xs more rs rest split joined begun done later) all =
+  chained {cut} {results} (more_chains s t xs more rs rest split joined begun done later) all =
       let stretches = subst (All (Within rows len)) split all in
       let here =
       along s xs rs t (begins s begun) (All-front (Within rows len) xs more stretches) done in
       let there = chained later (All-back (Within rows len) xs more stretches) in
-      subst (AllZip Values all-xs) (sym joined)
+      subst (AllZip Values cut) (sym joined)
       (subst (λ l. AllZip Values l (rs ++ rest)) (sym split) (both xs more rs rest here there))
 
   each : (parts : List (Stretch × R)) → AllZip Values (stretches_in parts) (results_in parts)
@@ -104,11 +104,15 @@ pub rows_of_kernel : {T R E : Type 0} (init : T → Type 0)
     values.items)
     → IfOk result (λ values. values.items ≡ map (λ row. value row 0 len) (range_with_len 0 rows))
 rows_of_kernel init fill finish merge rows len whole value so_far begins adds ends respects there
-    columns refl refl result gave = IfOk-weaker result _ _
+    columns here across result gave = IfOk-weaker result _ _
     (λ values made. values_of_rows init (Fills fill) (Gives finish) rows len value so_far begins
     (λ row a columns s t low some so h. subst (so_far row a columns.end) h.4
     (adds row a columns h.0 h.1 low some (subst (so_far row a columns.start) (sym h.2) so) h.3))
     (λ row a b s t r there some within so h.
     let end = ends row a b h.0 h.1 r there some within (subst (so_far row a b) (sym h.2) so) h.3 in
     (end.0, λ next c. subst (so_far next c c) h.4 (end.1 next c)))
-    merge whole values.items respects made) gave
+    merge whole values.items respects made)
+    (subst (λ m. IfOk result (λ values. FillsRows init (Fills fill) (Gives finish) merge rows m whole
+    values.items)) across
+    (subst (λ n. IfOk result (λ values. FillsRows init (Fills fill) (Gives finish) merge n columns
+    whole values.items)) here gave))

@@ -111,11 +111,11 @@ module _ (threshold : ℕ) (matrix : List ℕ) (len : ℕ) where
 pub no_columns : (threshold : ℕ) (matrix : List ℕ) (rows : ℕ)
     → replicate rows 0 ≡ numbers_by_row threshold matrix rows 0
 no_columns threshold matrix rows =
-    let numbers = λ row. number threshold matrix 0 row 0 0 in
+    let numbers : ℕ → ℕ = λ (row : ℕ). number threshold matrix 0 row 0 0 in
     same_number_lists (replicate rows 0) (numbers_by_row threshold matrix rows 0)
-    (length-replicate rows 0 ∙ sym (length-map-range_with_len numbers 0 rows))
+    (length-replicate {A = ℕ} rows 0 ∙ sym (length-map-range_with_len numbers 0 rows))
     (λ i within.
-    let below : i < rows = omega (arith, within, length-replicate rows 0) in
+    let below : i < rows = omega (arith, within, length-replicate {A = ℕ} rows 0) in
     get_or-replicate rows i 0 0 below ∙ sym (no_number threshold matrix 0 i 0)
     ∙ sym (get_or-map-range_with_len numbers 0 rows i i 0 below (omega arith)))
 

@@ -1,15 +1,14 @@
 -- What the calls whose closures may fail, and partitions, say of checks.
 use Rattle.std.proofs.Common.{◌≡◌, ℕ, ◌+◌, ◌-◌, ◌<◌, ◌≤◌, ◌%◌, ◌^◌, List, [], ◌∷◌, ◌++◌, Option, Some, None, Result, Ok, Err, Bool, true, false, not, length}
 use Rattle.std.proofs.Common.{refl, sym, ◌∙◌, ap, subst, arith, sum, inl, inr}
-use Rattle.std.specs.Prelude.{MatchResult, IfOk, IsTrue}
-use Rattle.std.proofs.Common.{◌↔◌}
+use Rattle.std.specs.Prelude.{MatchResult, IfOk, ⊤, min}
 use Rattle.std.specs.Borrow.{Bor}
 use Rattle.std.proofs.Common.{Vec, Global}
 use Rattle.std.specs.List.{All, AllZip, HoldsAt, filter, range_with_len, zip}
 use Rattle.std.proofs.lemmas.List.Elements.{All-nil, All-cons, All-append}
 use Rattle.std.proofs.lemmas.List.Sums.{sum_by-cons, sum_by-append}
 use Rattle.std.proofs.Common.{append_assoc}
-use Rattle.std.proofs.lemmas.Bool.{cond-true, cond-false, false≢true}
+use Rattle.std.proofs.lemmas.Bool.{cond-true, cond-false}
 use Rattle.parallel_fault.specs.declared.fault.Trouble.{Trouble}
 use Rattle.parallel_fault.specs.declared.fault.Trouble.TheVariants.{Closure}
 use Rattle.parallel_fault.specs.declared.fault.Trouble.TheVariants.{Fault as OfFault}
@@ -248,22 +247,21 @@ summed xs limit identity step reduce (Err (Closure e)) gave zeros steps joins =
     (λ a x e' k. steps a x (Err e') k) joins gave.2)
 
 -- what a verifier of tags answers
-pub tagged : (messages : List (Bor (List ℕ))) (tags : List (List ℕ)) (n : ℕ)
-    (made : Zipped (Copies (Bor (List ℕ))) (Copies (List ℕ)))
-    (left : Copies (Bor (List ℕ))) (right : Copies (List ℕ)) (start end : ℕ)
-    → made ≡ record { left = left; right = right } → left.slice.now ≡ messages
-    → right.slice.now ≡ tags → start ≡ 0 → end ≡ n → length messages ≡ length tags
-    → length messages ≡ n → (result : Result (Vec ⊤ Global) (Trouble ℕ)) → UnlessRefused result
+pub tagged : (messages : Bor (List (Bor (List ℕ)))) (tags : Bor (List (List ℕ)))
+    (made : Zipped (Copies (Bor (List ℕ))) (Copies (List ℕ))) (start end : ℕ)
+    → made ≡ record { left = record { slice = messages }; right = record { slice = tags } }
+    → start ≡ 0 → end ≡ min (length messages.now) (length tags.now)
+    → (result : Result (Vec ⊤ Global) (Trouble ℕ)) → UnlessRefused result
     (λ out. (zs : List (ℕ × (Bor (List ℕ) × List ℕ)))
     × PairsOf (λ is. is ≡ range_with_len start (end - start))
     (PairsOf (λ xs. xs ≡ made.left.slice.now) (λ ys. ys ≡ made.right.slice.now)) zs
     × TryMapOf JudgesTag zs (listed out))
-    → MatchResult result (λ _. All HasItsTag (zip messages tags))
-    (λ trouble. IfClosure trouble (IsFirstForged (zip messages tags)))
-tagged messages tags n made left right start end is refl refl zero whole same long result gave =
-    let count = length-zip messages tags in
+    → MatchResult result (λ _. All HasItsTag (zip messages.now tags.now))
+    (λ trouble. IfClosure trouble (IsFirstForged (zip messages.now tags.now)))
+tagged messages tags made start end is zero whole result gave =
     first_of_numbered JudgesTag HasItsTag (λ pair. ¬ HasItsTag pair) (λ p y k. k) (λ p e k. k)
     (λ (p : Zipped (Copies (Bor (List ℕ))) (Copies (List ℕ))).
     PairsOf (λ xs. xs ≡ p.left.slice.now) (λ ys. ys ≡ p.right.slice.now))
-    made (record { left = left; right = right }) start end n is zero whole (zip messages tags)
-    (zip_of_lists messages tags) (omega (arith, count, same, long)) result gave
+    made (record { left = record { slice = messages }; right = record { slice = tags } }) start end
+    (min (length messages.now) (length tags.now)) is zero whole (zip messages.now tags.now)
+    (zip_of_lists messages.now tags.now) (length-zip messages.now tags.now) result gave

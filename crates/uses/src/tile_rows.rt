@@ -67,7 +67,9 @@ fn count_nothing(
         (λ counts. counts.items ≡ numbers_by_row threshold matrix.now rows len) }
     ensures fault { IsMemoryOnErr result }
 {
-    let _ = (matrix, len, threshold);
+    let _ = matrix;
+    let _ = len;
+    let _ = threshold;
     let counts = vec![in alloc; 0; rows]?;
     Ok(counts)
 }

@@ -7,5 +7,6 @@ use Rattle.uses.proofs.tile_rows.count_nothing.Goals as goal
 pub returns-clause-counted : goal.returns-clause-counted
 returns-clause-counted c =
     subst (λ n. c.in_ok-counts.counts.items
-    ≡ numbers_by_row c.args.threshold c.args.matrix.now c.args.rows n) (sym c.requires)
-    (c.in_ok-counts.ensures ∙ no_columns c.args.threshold c.args.matrix.now c.args.rows)
+    ≡ numbers_by_row c.args.threshold c.args.matrix.now c.args.rows n) (sym c.requires.none)
+    (c.in_ok-counts.ensures.items_if_clones_equal (λ y k. k)
+    ∙ no_columns c.args.threshold c.args.matrix.now c.args.rows)

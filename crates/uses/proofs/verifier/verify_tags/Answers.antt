@@ -5,10 +5,12 @@ use Rattle.uses.proofs.verifier.verify_tags.Goals as goal
 
 pub returns-clause-each : goal.returns-clause-each
 returns-clause-each g c = if_ok _ _ c.try_map_collect_vec.result
-    (tagged c.args.messages.now c.args.tags.now c.try_map_collect_vec.result
-    c.try_map_collect_vec.ensures.answers)
+    (tagged c.args.messages c.args.tags c.new.result.pairs.right c.new.result.pairs.left.start
+    c.new.result.pairs.left.end c.new.ensures.list c.new.ensures.start c.new.ensures.end
+    c.try_map_collect_vec.result c.try_map_collect_vec.ensures.answers)
 
 pub returns-clause-first : goal.returns-clause-first
 returns-clause-first g c = if_err _ _ c.try_map_collect_vec.result
-    (tagged c.args.messages.now c.args.tags.now c.try_map_collect_vec.result
-    c.try_map_collect_vec.ensures.answers)
+    (tagged c.args.messages c.args.tags c.new.result.pairs.right c.new.result.pairs.left.start
+    c.new.result.pairs.left.end c.new.ensures.list c.new.ensures.start c.new.ensures.end
+    c.try_map_collect_vec.result c.try_map_collect_vec.ensures.answers)
