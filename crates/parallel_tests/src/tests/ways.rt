@@ -162,7 +162,7 @@ struct Seen {
 }
 
 fn bit(place: usize) -> u32 {
-    1u32.wrapping_shl(place as u32)
+    1u32.wrapping_shl((place % 32) as u32)
 }
 
 fn add_seen(seen: &mut Seen, ways: Ways) {
