@@ -39,28 +39,20 @@ fn a_slice_comes_in_pieces_the_last_one_short(rt: HostRuntime) {
 }
 
 #[test]
-fn pieces_are_counted_and_cut_behind_whole_ones(rt: HostRuntime) {
-    let alloc = rt.alloc();
+fn pieces_are_counted(rt: HostRuntime) {
     let items = [1u8, 2, 3, 4, 5, 6, 7];
-    let pieces = Chunks {
-        slice: &items,
+    for (size, count) in [(1, 7), (3, 3), (7, 1), (usize::MAX, 1)] {
+        let pieces = Chunks {
+            slice: &items,
+            size: number(&rt, size),
+        };
+        row(&rt, size, pieces.len(), count);
+    }
+    let none = Chunks {
+        slice: &items[..0],
         size: number(&rt, 3),
     };
-    same(&rt, pieces.len(), 3);
-    let (front, rest) = pieces.split_at(alloc, 2).expect(&rt, "memory");
-    same(&rt, front.slice, [1, 2, 3, 4, 5, 6].as_slice());
-    same(&rt, rest.slice, [7].as_slice());
-    let (all, none) = rest.split_at(alloc, 1).expect(&rt, "memory");
-    same(&rt, all.slice, [7].as_slice());
     same(&rt, none.len(), 0);
-    let whole = Chunks {
-        slice: &items,
-        size: number(&rt, usize::MAX),
-    };
-    same(&rt, whole.len(), 1);
-    let (front, rest) = whole.split_at(alloc, 1).expect(&rt, "memory");
-    same(&rt, front.len(), 1);
-    same(&rt, rest.slice, [].as_slice());
 }
 
 #[test]
