@@ -214,16 +214,15 @@ fn a_policy_measures_what_passes_in_the_body(rt: HostRuntime) {
     same(&rt, estimates, Some([Some(70_000), Some(30_000)]));
 }
 
-// One run over ten items, by a clock that goes on by so much at each reading. It answers 7, or
-// fails by 57 where it is of `fails`.
+// One run over ten items, by a clock that goes on by 1000 at each reading. It answers 7, or fails
+// by 57 where it is of `fails`.
 fn run_of_ten<Rt: Wait>(
     rt: &Rt,
     policy: &Policy,
     ticks: &AtomicU64,
-    by: u64,
     fails: &[RunExecution],
 ) -> Result<u8, Trouble<u8>> {
-    let now = || ticks.fetch_add(by, Ordering::SeqCst);
+    let now = || ticks.fetch_add(1_000, Ordering::SeqCst);
     policy.try_run(
         rt,
         SITE,
@@ -246,17 +245,16 @@ fn success_is_recorded_and_errors_are_not(rt: HostRuntime) {
     let policy = Policy::new(rt.alloc()).expect(&rt, "memory");
     let key = Key::new(SITE, 10, 10, 4);
     let ticks = AtomicU64::new(0);
-    let failed = run_of_ten(&rt, &policy, &ticks, 1_000, &[P, S]);
+    let failed = run_of_ten(&rt, &policy, &ticks, &[P, S]);
     same(&rt, failed, Err(Trouble::Closure(57)));
     same(&rt, estimates_of(&rt, &policy, key), Some([None, None]));
-    same(&rt, run_of_ten(&rt, &policy, &ticks, 1_000, &[]), Ok(7));
-    // One serial run of 2000 is recorded. Then the parallel ones fail, of which one is measured.
+    same(&rt, run_of_ten(&rt, &policy, &ticks, &[]), Ok(7));
     for _ in 0..20 {
-        let answer = run_of_ten(&rt, &policy, &ticks, 2_000, &[P]);
+        let answer = run_of_ten(&rt, &policy, &ticks, &[P]);
         assert!(rt; matches!(answer, Ok(7) | Err(Trouble::Closure(57))));
     }
     let estimates = estimates_of(&rt, &policy, key);
-    same(&rt, estimates, Some([Some(1_000), Some(2_000)]));
+    same(&rt, estimates, Some([Some(1_000), Some(1_000)]));
 }
 
 // A body that asks the same policy would wait forever if the policy's lock were held.
