@@ -35,15 +35,20 @@ AIMS = [
     ("a heavy map over a slice", PARALLEL, [("map-heavy", 1000, "", 0.36), ("map-heavy", 100_000, "", 0.28)]),
     ("rising heavy work", PARALLEL, [("map-rising", 20_000, "", 0.357), ("fold-rising", 20_000, "", 0.357)]),
     ("a partition", PARALLEL, [("partition", 1_000_000, "", 0.45)]),
-    ("the same", LEARNT, [("partition", 1_000_000, "", 1.1)]),
+    ("the same", LEARNT, [("partition", 1_000_000, "", 0.45)]),
     ("a sort", PARALLEL, [("sort", 1_000_000, "", 0.65)]),
     ("heavy tiles, whole rows and cut rows", PARALLEL, [("tiles-rows-heavy", 1_000_000, "", 0.28), ("tiles-cut-heavy", 1_000_000, "", 0.28)]),
     ("uneven tiles", PARALLEL, [("tiles-uneven", 1_000_000, "", 0.35)]),
+    ("bytes of 2000 rows of 2000, counted by row", SEQUENTIAL, [("rows-above", 4_000_000, "", 1.1)]),
+    ("the same", LEARNT, [("rows-above", 4_000_000, "", 0.6)]),
+    ("messages checked against tags by SHA-256", PARALLEL, [("tags", 100_000, "", 0.30)]),
+    ("the same", LEARNT, [("tags", 100_000, "", 0.30)]),
     ("light tiles of cut rows", PARALLEL, [("tiles-cut-light", 1_000_000, "", 0.8)]),
     ("light tiles, whole rows and cut rows", LEARNT, [("tiles-rows-light", 1_000_000, "", 1.2), ("tiles-cut-light", 1_000_000, "", 1.2)]),
 ]
 NAMES = {SEQUENTIAL: "`Sequential`", PARALLEL: "no policy", LEARNT: "its policy"}
 OVER = {"": "slice", "vec": "vector", "iter": "plain iterator", "fresh": "slice, fresh memory"}
+OWN = {"rows-above": "tiles of bytes", "tags": "`Zipped` slices"}
 WAYS = [SEQUENTIAL, PARALLEL, LEARNT]
 LINE = re.compile(r"(.+): best ([0-9.]+) us, median [0-9.]+ us, ([0-9.]+) and ([0-9.]+) of the loop")
 
@@ -87,7 +92,7 @@ def main():
     print("| Case | Items | Over | Loop, best | `Sequential` | `Rayon`, no policy | `Rayon` with its policy | Rust crate | rayon |")
     print("|---|---|---|---|---|---|---|---|---|")
     for (case, items, kind), ways in rows():
-        over = "tiles" if case.startswith("tiles") else OVER[kind]
+        over = OWN.get(case, "tiles" if case.startswith("tiles") else OVER[kind])
         cells = [f"{share(ways[way][1])} / {share(ways[way][2])}" for way in WAYS]
         others = OTHERS.get((case, items), ("", "")) if not kind else ("", "")
         print("| " + " | ".join([f"`{case}`", f"{items:,}", over, time(ways["loop"][0]), *cells, *others]) + " |")

@@ -9,6 +9,8 @@ pub enum Case {
     Tiles(TileCase),
     /// The root of a tree over its items as the leaves.
     Trees(TreeCase),
+    /// A caller over what is made of its items.
+    Callers(CallerCase),
 }
 
 /// What is done with the items of a list, with a light or a heavy function of an item, or with one
@@ -46,8 +48,15 @@ pub enum TreeCase {
     Heavy,
 }
 
+/// What a caller does: counts bytes by row, or checks tags.
+#[derive(Clone, Copy, Debug, PartialEq, Eq, Hash)]
+pub enum CallerCase {
+    RowsAbove,
+    Tags,
+}
+
 /// Every case, in the order in which the names are printed.
-pub const CASES: [Case; 18] = [
+pub const CASES: [Case; 20] = [
     Case::Items(ItemCase::MapLight),
     Case::Items(ItemCase::MapHeavy),
     Case::Items(ItemCase::MapRising),
@@ -66,6 +75,8 @@ pub const CASES: [Case; 18] = [
     Case::Tiles(TileCase::Uneven),
     Case::Trees(TreeCase::Light),
     Case::Trees(TreeCase::Heavy),
+    Case::Callers(CallerCase::RowsAbove),
+    Case::Callers(CallerCase::Tags),
 ];
 
 impl Case {
@@ -75,6 +86,7 @@ impl Case {
             Case::Items(case) => case.name(),
             Case::Tiles(case) => case.name(),
             Case::Trees(case) => case.name(),
+            Case::Callers(case) => case.name(),
         }
     }
 
@@ -83,9 +95,12 @@ impl Case {
         if let Some(case) = ItemCase::named(name) {
             return Some(Case::Items(case));
         }
-        match TileCase::named(name) {
-            Some(case) => Some(Case::Tiles(case)),
-            None => TreeCase::named(name).map(Case::Trees),
+        if let Some(case) = TileCase::named(name) {
+            return Some(Case::Tiles(case));
+        }
+        match TreeCase::named(name) {
+            Some(case) => Some(Case::Trees(case)),
+            None => CallerCase::named(name).map(Case::Callers),
         }
     }
 
@@ -97,9 +112,9 @@ impl Case {
         )
     }
 
-    /// Whether the case is given the slice alone, as one of tiles or of trees.
+    /// Whether the case goes by no source of the items: one of tiles, of trees or of callers.
     pub fn takes_slice(self) -> bool {
-        matches!(self, Case::Tiles(_) | Case::Trees(_))
+        !matches!(self, Case::Items(_))
     }
 
     /// Whether the item at a tenth of the list is the one that fails.
@@ -178,6 +193,23 @@ impl TreeCase {
         match name {
             "merkle-light" => Some(TreeCase::Light),
             "merkle-heavy" => Some(TreeCase::Heavy),
+            _ => None,
+        }
+    }
+}
+
+impl CallerCase {
+    fn name(self) -> &'static str {
+        match self {
+            CallerCase::RowsAbove => "rows-above",
+            CallerCase::Tags => "tags",
+        }
+    }
+
+    fn named(name: &str) -> Option<CallerCase> {
+        match name {
+            "rows-above" => Some(CallerCase::RowsAbove),
+            "tags" => Some(CallerCase::Tags),
             _ => None,
         }
     }

@@ -1,7 +1,9 @@
-// Times folds, maps and tiles through a plain loop and through each strategy, the choices of a
-// policy and the jobs of a pool; empties random plans of shares, and brings jobs to pools.
+// Times folds, maps, tiles, trees and callers through a plain loop and through each strategy, the
+// choices of a policy and the jobs of a pool; empties random plans of shares, and brings jobs to
+// pools.
 #![tactic(auto)]
 
+mod callers;
 mod calls;
 mod case;
 mod choosing;

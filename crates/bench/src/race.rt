@@ -182,7 +182,7 @@ fn checksum_by<Rt: Threads + Wait + Sync, C: Clock>(
     way: Way,
 ) -> Result<u64> {
     let items = items_of(alloc, trial.case, trial.len)?;
-    let input = Input::of(alloc, trial.form, items.as_slice())?;
+    let input = Input::of(alloc, trial.case, trial.form, items.as_slice())?;
     let answer = by_way(rt, alloc, strategies, way, trial.case, input)?;
     Ok(answer.checksum())
 }
@@ -220,7 +220,7 @@ fn warm_up<Rt: Threads + Wait + Sync, C: Clock>(
         if clock.now().saturating_sub(start) > WARM_UP_TIME {
             return Ok(());
         }
-        let input = Input::of(alloc, trial.form, items)?;
+        let input = Input::of(alloc, trial.case, trial.form, items)?;
         let _ = by_way(rt, alloc, strategies, Way::Policy, trial.case, input)?;
     }
     Ok(())
@@ -250,13 +250,13 @@ fn run_round<Rt: Threads + Wait + Sync, C: Clock>(
     let mut checksums = Lap::default();
     let work = |way: Way, input: Input<'_>| by_way(rt, alloc, strategies, way, trial.case, input);
     for way in order {
-        let before = work(way, Input::of(alloc, trial.form, items)?)?;
+        let before = work(way, Input::of(alloc, trial.case, trial.form, items)?)?;
         if trial.is_fresh {
             kept.push(before)?;
         } else {
             drop(before);
         }
-        let input = Input::of(alloc, trial.form, items)?;
+        let input = Input::of(alloc, trial.case, trial.form, items)?;
         let start = clock.now();
         let answer = work(way, input);
         let end = clock.now();

@@ -1,7 +1,8 @@
 // The ways in which a case is run.
-use crate::case::{Case, ItemCase};
+use crate::callers::{Digest, Message, matrix_of, messages_of, tags_of};
+use crate::case::{CallerCase, Case, ItemCase};
 use crate::tiles::Tiling;
-use crate::{calls, loops, tiles, trees};
+use crate::{callers, calls, loops, tiles, trees};
 use commonware_parallel::{Clock, Copies, Fault, Rayon, Sequential, Source, Strategy};
 use parallel_bridge::{Parts, Segment};
 use std::alloc::Global;
@@ -41,15 +42,28 @@ pub enum Input<'a> {
     Iterator(&'a [u64]),
     /// A list to take.
     Owned(Vec<u64>),
+    /// The bytes of a matrix.
+    Matrix(Vec<u8>),
+    /// Messages with their tags.
+    Tagged(Vec<Message>, Vec<Digest>),
 }
 
 impl<'a> Input<'a> {
-    /// The items in a form: copied where the call takes its list.
-    pub fn of(alloc: Global, form: Form, items: &'a [u64]) -> Result<Self, Fault> {
-        match form {
-            Form::Slice => Ok(Input::Slice(items)),
-            Form::Iterator => Ok(Input::Iterator(items)),
-            Form::Owned => Ok(Input::Owned(items.iter().copied().collect(alloc)?)),
+    /// The items in a form: copied where the call takes its list. For a caller what it is called
+    /// over is made of them.
+    pub fn of(alloc: Global, case: Case, form: Form, items: &'a [u64]) -> Result<Self, Fault> {
+        match case {
+            Case::Callers(CallerCase::RowsAbove) => Ok(Input::Matrix(matrix_of(alloc, items)?)),
+            Case::Callers(CallerCase::Tags) => {
+                let messages = messages_of(alloc, items)?;
+                let tags = tags_of(alloc, messages.as_slice())?;
+                Ok(Input::Tagged(messages, tags))
+            }
+            Case::Items(_) | Case::Tiles(_) | Case::Trees(_) => match form {
+                Form::Slice => Ok(Input::Slice(items)),
+                Form::Iterator => Ok(Input::Iterator(items)),
+                Form::Owned => Ok(Input::Owned(items.iter().copied().collect(alloc)?)),
+            },
         }
     }
 
@@ -58,6 +72,7 @@ impl<'a> Input<'a> {
             Input::Slice(items) => items,
             Input::Iterator(items) => items,
             Input::Owned(items) => items.as_slice(),
+            Input::Matrix(_) | Input::Tagged(_, _) => &[],
         }
     }
 }
@@ -80,6 +95,8 @@ pub enum Answer {
     Number(u64),
     /// The values and the keys that a partition answers.
     Parts(Vec<u64>, Vec<u64>),
+    /// How many there are of each row.
+    Counts(Vec<usize>),
 }
 
 impl From<Result<Vec<u64>, u64>> for Answer {
@@ -100,6 +117,7 @@ impl Answer {
             Answer::Parts(values, keys) => {
                 checksum_of(values.as_slice()).rotate_left(1) ^ checksum_of(keys.as_slice())
             }
+            Answer::Counts(counts) => checksum_of_counts(counts.as_slice()),
         }
     }
 }
@@ -108,6 +126,14 @@ fn checksum_of(numbers: &[u64]) -> u64 {
     let mut sum = 0u64;
     for number in numbers {
         sum = sum.rotate_left(1) ^ *number;
+    }
+    sum
+}
+
+fn checksum_of_counts(counts: &[usize]) -> u64 {
+    let mut sum = 0u64;
+    for count in counts {
+        sum = sum.rotate_left(1) ^ *count as u64;
     }
     sum
 }
@@ -122,7 +148,7 @@ pub fn by_way<Rt: Threads + Wait + Sync, C: Clock>(
     input: Input<'_>,
 ) -> Result<Answer, Fault> {
     match way {
-        Way::Loop => by_loop(alloc, case, input.as_slice()),
+        Way::Loop => by_loop(alloc, case, &input),
         Way::Sequential => by_strategy(rt, alloc, &Sequential, case, input),
         Way::Rayon => by_strategy(rt, alloc, strategies.parallel, case, input),
         Way::Policy => by_strategy(rt, alloc, strategies.learning, case, input),
@@ -130,11 +156,27 @@ pub fn by_way<Rt: Threads + Wait + Sync, C: Clock>(
 }
 
 /// The case's answer by a plain loop.
-fn by_loop(alloc: Global, case: Case, items: &[u64]) -> Result<Answer, Fault> {
+fn by_loop(alloc: Global, case: Case, input: &Input<'_>) -> Result<Answer, Fault> {
+    let items = input.as_slice();
     match case {
         Case::Items(case) => items_by_loop(alloc, case, items),
         Case::Tiles(case) => Ok(Answer::Number(Tiling::of(case, items.len()).sum(items))),
         Case::Trees(case) => Ok(Answer::Number(trees::root_by_loop(alloc, case, items)?)),
+        Case::Callers(_) => caller_by_loop(alloc, input),
+    }
+}
+
+/// What a caller answers, by a plain loop.
+fn caller_by_loop(alloc: Global, input: &Input<'_>) -> Result<Answer, Fault> {
+    match input {
+        Input::Tagged(messages, tags) => {
+            let passed = callers::first_forged_by_loop(messages.as_slice(), tags.as_slice());
+            Ok(Answer::Number(passed as u64))
+        }
+        Input::Matrix(matrix) => {
+            Ok(Answer::Counts(callers::rows_above_by_loop(alloc, matrix.as_slice())?))
+        }
+        Input::Slice(_) | Input::Iterator(_) | Input::Owned(_) => Ok(Answer::Number(0)),
     }
 }
 
@@ -178,6 +220,28 @@ fn by_strategy<Rt: Threads + Wait + Sync, S: Strategy>(
             let root = trees::root_by_strategy(rt, alloc, strategy, case, input.as_slice())?;
             Ok(Answer::Number(root))
         }
+        Case::Callers(_) => caller_by_strategy(rt, alloc, strategy, &input),
+    }
+}
+
+/// What a caller answers, by a strategy.
+fn caller_by_strategy<Rt: Threads + Wait + Sync, S: Strategy>(
+    rt: &Rt,
+    alloc: Global,
+    strategy: &S,
+    input: &Input<'_>,
+) -> Result<Answer, Fault> {
+    match input {
+        Input::Tagged(messages, tags) => {
+            let (messages, tags) = (messages.as_slice(), tags.as_slice());
+            let passed = callers::first_forged(rt, alloc, strategy, messages, tags)?;
+            Ok(Answer::Number(passed as u64))
+        }
+        Input::Matrix(matrix) => {
+            let counts = callers::rows_above(rt, alloc, strategy, matrix.as_slice())?;
+            Ok(Answer::Counts(counts))
+        }
+        Input::Slice(_) | Input::Iterator(_) | Input::Owned(_) => Ok(Answer::Number(0)),
     }
 }
 
@@ -193,6 +257,7 @@ fn items_by_strategy<Rt: Threads + Wait + Sync, S: Strategy>(
         Input::Slice(items) => by_source(rt, alloc, strategy, case, Copies { slice: items }),
         Input::Iterator(items) => by_source(rt, alloc, strategy, case, items.iter().copied()),
         Input::Owned(items) => by_source(rt, alloc, strategy, case, items),
+        Input::Matrix(_) | Input::Tagged(_, _) => Ok(Answer::Number(0)),
     }
 }
 

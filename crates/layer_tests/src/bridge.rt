@@ -16,6 +16,7 @@ use parallel_bridge::consumer::map_init::MapInitConsumer;
 use parallel_bridge::consumer::try_fold::TryFoldFolder;
 use parallel_bridge::consumer::try_reduce::TryReduceFolder;
 use parallel_bridge::consumer::while_some::{WhileSomeConsumer, WhileSomeFolder};
+use parallel_bridge::list::partition::partition_iter;
 use parallel_bridge::parts::ProducerParts;
 use parallel_bridge::plumbing::Folder;
 use parallel_bridge::producer::{Copies, DrainProducer, Indices, Producer};
@@ -239,5 +240,25 @@ fn items_are_gathered_where_too_many_are_said_to_come(rt: HostRuntime) {
             .expect(&rt, "memory");
         let items = parts.into_vec();
         same(&rt, items.as_slice(), [2, 1, 0].as_slice());
+    }
+}
+
+#[test]
+fn items_are_parted_where_too_many_are_said_to_come(rt: HostRuntime) {
+    let alloc = rt.alloc();
+    let op = |n: u8| (
+        n,
+        if n == 1 {
+            None
+        } else {
+            Some(n.wrapping_add(10))
+        },
+    );
+    for said in [2, 3, 4, 4_096, usize::MAX / 8, usize::MAX] {
+        let (values, keys) = partition_iter(alloc, Overstated { left: 3, said }, &op).expect(
+            &rt, "memory",
+        );
+        same(&rt, values.as_slice(), [12, 10].as_slice());
+        same(&rt, keys.as_slice(), [1].as_slice());
     }
 }

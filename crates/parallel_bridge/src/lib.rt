@@ -16,6 +16,7 @@ pub mod parts;
 pub mod path;
 pub mod plumbing;
 pub mod producer;
+mod room;
 pub mod segment;
 pub mod segments;
 pub mod source;

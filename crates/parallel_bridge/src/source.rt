@@ -8,6 +8,7 @@ ghost use Rattle.parallel_bridge.specs.Sources.{MayCome};
 use crate::pairs::{PairDrain, Pairs};
 use crate::parts::{Parts, ProducerParts};
 use crate::producer::{DrainProducer, Producer, SliceDrain};
+use crate::room::{places_for, with_places};
 use crate::segment::Segment;
 use parallel_fault::Fault;
 use std::alloc::{AllocError, Global};
@@ -165,18 +166,7 @@ where
     }
 }
 
-// A gathered list of so many items, or of more, is given places to spare.
-const LONG: usize = 4_096;
-
-// How many places to spare it has, beside an eighth of its items.
-const SPARE: usize = 34_816;
-
 // The items that an iterator gives, as a list.
-//
-// glibc gives the free memory at the end of its heap back once that is more than twice the greatest
-// block that was freed. A gathered list and its answers, as long, with the 128 KiB that the heap
-// keeps, would be more, and each call would get all their pages anew. The places to spare, which
-// are never touched, make the greatest block great enough.
 fn gathered<I: Iterator>(alloc: Global, iter: I) -> Result<Vec<I::Item>, AllocError>
 where
     I::Item: Drop,
@@ -184,20 +174,7 @@ where
     requires ends { IsFinite (I.remaining iter) }
     ensures { IfOk result (λ all. Drains I.next_gives iter all.items) }
 {
-    // (a hint may be too high, so that a refusal of its places is no want of memory yet)
-    let mut items = match Vec::with_capacity(alloc, places_for(iter.size_hint().0)) {
-        Ok(items) => items,
-        Err(_) => Vec::new(alloc),
-    };
+    let mut items = with_places(alloc, places_for(iter.size_hint().0));
     items.extend(iter)?;
     Ok(items)
-}
-
-// How many places a list is given that is said to have so many items.
-fn places_for(hint: usize) -> usize {
-    if hint < LONG {
-        hint
-    } else {
-        hint.saturating_add(hint / 8).saturating_add(SPARE)
-    }
 }

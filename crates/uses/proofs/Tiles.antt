@@ -1,5 +1,5 @@
 -- Counts of a matrix's cells, row by row.
-use Rattle.std.proofs.Common.{◌≡◌, ℕ, ◌+◌, ◌-◌, ◌*◌, ◌<◌, ◌≤◌, ◌%◌, ◌^◌, List, [], ◌∷◌, Result, Vec, Global, Bool, length, drop, map, refl, sym, ap, ◌∙◌, subst, arith, cond, nat_lt, length-append, length-drop}
+use Rattle.std.proofs.Common.{◌≡◌, ℕ, ◌+◌, ◌-◌, ◌*◌, ◌<◌, ◌≤◌, ◌%◌, ◌^◌, List, [], ◌∷◌, Result, Vec, Global, Bool, length, drop, map, refl, sym, ap, ◌∙◌, subst, arith, cond, length-append, length-drop}
 use Rattle.std.specs.Prelude.{IfOk}
 use Rattle.std.specs.Borrow.{MutBor}
 use Rattle.std.specs.declared.ops.Range.{Range}
@@ -18,22 +18,22 @@ use Rattle.commonware_parallel.specs.MergedRows.{FillsRows}
 use Rattle.commonware_parallel.specs.Rectangles.{IsInGrid}
 use Rattle.commonware_parallel.specs.Tiles.{IsTiling, grid_of, rows_of}
 use Rattle.uses.proofs.RowKernels.{rows_of_kernel}
-use Rattle.uses.specs.Tiles.{number_above, row_cells, numbers_by_row}
+use Rattle.uses.specs.Tiles.{number_of, row_cells, numbers_by_row}
 
-module _ (threshold : ℕ) (matrix : List ℕ) where
-  -- how many cells from a place on are above the threshold
+module _ (test : ℕ → Bool) (matrix : List ℕ) where
+  -- how many cells from a place on pass the test
   abbrev from : ℕ → ℕ
-  from place = number_above threshold (drop place matrix)
+  from place = number_of test (drop place matrix)
 
   -- the cells from a place up to another
-  between : (a b : ℕ) → a ≤ b → number_above threshold (slice_range matrix a b) + from b ≡ from a
+  between : (a b : ℕ) → a ≤ b → number_of test (slice_range matrix a b) + from b ≡ from a
   between a b h =
-      sym (ap (number_above threshold) (drop_split matrix a b h)
-      ∙ sum_by-append (λ cell. cond (nat_lt threshold cell) 1 0) (slice_range matrix a b)
+      sym (ap (number_of test) (drop_split matrix a b h)
+      ∙ sum_by-append (λ cell. cond (test cell) 1 0) (slice_range matrix a b)
       (drop b matrix))
 
   -- no range has more of them than places
-  number_small : (a b : ℕ) → a ≤ b → number_above threshold (slice_range matrix a b) ≤ b - a
+  number_small : (a b : ℕ) → a ≤ b → number_of test (slice_range matrix a b) ≤ b - a
   number_small a b h =
       let parts : length (drop a matrix)
       ≡ length (slice_range matrix a b) + length (drop b matrix) =
@@ -44,29 +44,29 @@ module _ (threshold : ℕ) (matrix : List ℕ) where
         parts,
         length-drop a matrix,
         length-drop b matrix,
-        count_by-le-length (λ cell. nat_lt threshold cell) (slice_range matrix a b),
+        count_by-le-length test (slice_range matrix a b),
       )
 
-module _ (threshold : ℕ) (matrix : List ℕ) (len : ℕ) where
-  -- how many cells of a row are above the threshold, from one column up to another
+module _ (test : ℕ → Bool) (matrix : List ℕ) (len : ℕ) where
+  -- how many cells of a row pass the test, from one column up to another
   abbrev pub number : ℕ → ℕ → ℕ → ℕ
-  number row a b = number_above threshold (row_cells matrix len row a b)
+  number row a b = number_of test (row_cells matrix len row a b)
 
   no_number : (row a : ℕ) → number row a a ≡ 0
   no_number row a =
-      let all = between threshold matrix (row * len + a) (row * len + a) (omega arith) in
+      let all = between test matrix (row * len + a) (row * len + a) (omega arith) in
       omega (arith, all)
 
   both_numbers : (row a b c : ℕ) → a ≤ b → b ≤ c → number row a b + number row b c ≡ number row a c
   both_numbers row a b c low high =
-      let one = between threshold matrix (row * len + a) (row * len + b) (omega (arith, low)) in
-      let two = between threshold matrix (row * len + b) (row * len + c) (omega (arith, high)) in
-      let all = between threshold matrix (row * len + a) (row * len + c) (omega (arith, low, high))
+      let one = between test matrix (row * len + a) (row * len + b) (omega (arith, low)) in
+      let two = between test matrix (row * len + b) (row * len + c) (omega (arith, high)) in
+      let all = between test matrix (row * len + a) (row * len + c) (omega (arith, low, high))
       in omega (arith, one, two, all)
 
   number_fits : (row a b : ℕ) → len < 2 ^ 64 → a ≤ b → b ≤ len → number row a b < 2 ^ 64
   number_fits row a b small low within =
-      let most = number_small threshold matrix (row * len + a) (row * len + b) (omega (arith, low))
+      let most = number_small test matrix (row * len + a) (row * len + b) (omega (arith, low))
       in omega (arith, most, small, within)
 
   -- a kernel that adds up numbers of cells from 0 on, and answers and resets its count at each
@@ -83,7 +83,7 @@ module _ (threshold : ℕ) (matrix : List ℕ) (len : ℕ) where
       → ((p q : MutBor ℕ) (row answer : ℕ) → finish p row answer q
       → (answer ≡ p.now) × (q.now ≡ 0))
       → ((a b r : ℕ) → merge a b r → r ≡ (a + b) % 2 ^ 64)
-      → IfOk result (λ values. values.items ≡ numbers_by_row threshold matrix rows len)
+      → IfOk result (λ values. values.items ≡ numbers_by_row test matrix rows len)
   rows_counted rows whole small init fill finish merge there columns r c result gave begins adds ends
       joins =
       rows_of_kernel init fill finish merge rows len whole number
@@ -107,16 +107,16 @@ module _ (threshold : ℕ) (matrix : List ℕ) (len : ℕ) where
         number_fits row a c small (omega (arith, low, high)) within,
       )) there columns r c result gave
 
--- rows of no columns have nothing above a threshold
-pub no_columns : (threshold : ℕ) (matrix : List ℕ) (rows : ℕ)
-    → replicate rows 0 ≡ numbers_by_row threshold matrix rows 0
-no_columns threshold matrix rows =
-    let numbers : ℕ → ℕ = λ (row : ℕ). number threshold matrix 0 row 0 0 in
-    same_number_lists (replicate rows 0) (numbers_by_row threshold matrix rows 0)
+-- rows of no columns have nothing that passes
+pub no_columns : (test : ℕ → Bool) (matrix : List ℕ) (rows : ℕ)
+    → replicate rows 0 ≡ numbers_by_row test matrix rows 0
+no_columns test matrix rows =
+    let numbers : ℕ → ℕ = λ (row : ℕ). number test matrix 0 row 0 0 in
+    same_number_lists (replicate rows 0) (numbers_by_row test matrix rows 0)
     (length-replicate {A = ℕ} rows 0 ∙ sym (length-map-range_with_len numbers 0 rows))
     (λ i within.
     let below : i < rows = omega (arith, within, length-replicate {A = ℕ} rows 0) in
-    get_or-replicate rows i 0 0 below ∙ sym (no_number threshold matrix 0 i 0)
+    get_or-replicate rows i 0 0 below ∙ sym (no_number test matrix 0 i 0)
     ∙ sym (get_or-map-range_with_len numbers 0 rows i i 0 below (omega arith)))
 
 -- columns of the grid are columns of the matrix

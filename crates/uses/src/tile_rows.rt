@@ -2,7 +2,7 @@
 ghost use Rattle.std.specs.Prelude.{◌≡◌, ◌≢◌, ◌+◌, ◌*◌, ◌≤◌, ◌%◌, ◌^◌, IfOk, length};
 ghost use Rattle.parallel_fault.specs.Trouble.{IsMemoryOnErr};
 ghost use Rattle.commonware_parallel.specs.Tiles.{columns_of, rows_of};
-ghost use Rattle.uses.specs.Tiles.{number_above, numbers_by_row, row_cells};
+ghost use Rattle.uses.specs.Tiles.{is_above, number_of, numbers_by_row, row_cells};
 
 use commonware_parallel::{Fault, Grid, Place, Strategy, Tiles};
 use std::alloc::Global;
@@ -35,7 +35,7 @@ pub fn above_by_row<Rt: Threads + Wait + Sync, P: Place, S: Strategy>(
 ) -> Result<Vec<usize>, Fault>
     requires { rows * len ≡ length matrix.now }
     ensures counted { IfOk result
-        (λ counts. counts.items ≡ numbers_by_row threshold matrix.now rows len) }
+        (λ counts. counts.items ≡ numbers_by_row (is_above threshold) matrix.now rows len) }
     ensures fault { IsMemoryOnErr result }
 {
     if len == 0 {
@@ -47,11 +47,13 @@ pub fn above_by_row<Rt: Threads + Wait + Sync, P: Place, S: Strategy>(
         requires { (rows_of tiles ≡ rows) × (columns_of tiles ≡ len) × (len ≢ 0)
             × (rows * len ≡ length matrix.now) }
         ensures counted { IfOk result
-            (λ counts. counts.items ≡ numbers_by_row threshold matrix.entry.now rows len) }
+            (λ counts. counts.items
+            ≡ numbers_by_row (is_above threshold) matrix.entry.now rows len) }
         ensures fault { IsMemoryOnErr result }
     { count_rows(rt, alloc, tiles, matrix, rows, len, threshold) };
-    let counts = strategy.run_tiles(rt, alloc, site, len, &grids, 1, kernel)?;
-    counts
+    strategy
+        .run_tiles(rt, alloc, site, len, &grids, 1, kernel)
+        .flatten()
 }
 
 // The counts of rows of no columns.
@@ -64,7 +66,7 @@ fn count_nothing(
 ) -> Result<Vec<usize>, Fault>
     requires none { len ≡ 0 }
     ensures counted { IfOk result
-        (λ counts. counts.items ≡ numbers_by_row threshold matrix.now rows len) }
+        (λ counts. counts.items ≡ numbers_by_row (is_above threshold) matrix.now rows len) }
     ensures fault { IsMemoryOnErr result }
 {
     let _ = matrix;
@@ -89,7 +91,7 @@ fn count_rows<Rt: Threads + Wait + Sync, P: Place, S: Strategy>(
     requires some { len ≢ 0 }
     requires whole { rows * len ≡ length matrix.now }
     ensures counted { IfOk result
-        (λ counts. counts.items ≡ numbers_by_row threshold matrix.now rows len) }
+        (λ counts. counts.items ≡ numbers_by_row (is_above threshold) matrix.now rows len) }
     ensures fault { IsMemoryOnErr result }
 {
     let init = || -> usize
@@ -98,7 +100,7 @@ fn count_rows<Rt: Threads + Wait + Sync, P: Place, S: Strategy>(
     let fill = |count: &mut usize, row: usize, columns: Range<usize>|
         requires { (columns.start ≤ columns.end)
             × (row * len + columns.end ≤ length matrix.now) }
-        ensures { count.new ≡ (count.old + number_above threshold
+        ensures { count.new ≡ (count.old + number_of (is_above threshold)
             (row_cells matrix.entry.now len row columns.start columns.end)) % 2 ^ 64 }
     {
         let first = row * len;
@@ -120,7 +122,7 @@ fn count_rows<Rt: Threads + Wait + Sync, P: Place, S: Strategy>(
 
 // How many cells are above the threshold.
 fn count_above(cells: &[u8], threshold: u8) -> usize
-    ensures { result ≡ number_above threshold cells.now }
+    ensures { result ≡ number_of (is_above threshold) cells.now }
 {
     cells.iter().filter(|cell| **cell > threshold).count()
 }

@@ -9,6 +9,7 @@ ghost use Rattle.parallel_bridge.specs.Sources.{GivesSome};
 ghost use Rattle.parallel_bridge.specs.Tries.{OnlyOk};
 
 use crate::plumbing::{Consumer, Folder, Reducer};
+use crate::room::with_places;
 use parallel_fault::{Fault, Trouble};
 use std::alloc::Global;
 use std::convert::Infallible;
@@ -19,6 +20,13 @@ use std::convert::Infallible;
 pub struct PartitionConsumer<'f, F> {
     /// The closure that answers an item.
     pub map_op: &'f F,
+    /// How many items are expected.
+    pub items: usize,
+    /// How many places the list of values is given at first, so that it needn't grow. Where memory
+    /// for them is refused, it begins with none.
+    pub value_places: usize,
+    /// How many places the list of keys is given at first, likewise.
+    pub key_places: usize,
 }
 
 /// The values and the keys of a segment so far, in order.
@@ -120,17 +128,34 @@ impl<'f, X: Drop, U: Send + Drop, K: Send + Drop, F: Fn(X) -> (K, Option<U>) + S
         (λ all. (all.0.items ≡ left.0.items ++ right.0.items)
         × (all.1.items ≡ left.1.items ++ right.1.items)) out };
 
-    fn split_at(self, _index: usize) -> Result<(Self, Self, PartitionReducer), Fault> {
-        let right = PartitionConsumer {
-            map_op: self.map_op,
+    // (the left half keeps all places, so that the right half's items find some behind its own)
+    fn split_at(self, index: usize) -> Result<(Self, Self, PartitionReducer), Fault> {
+        let PartitionConsumer {
+            map_op,
+            items,
+            value_places,
+            key_places,
+        } = self;
+        let more = items.saturating_sub(index);
+        let left = PartitionConsumer {
+            map_op,
+            items: index,
+            value_places,
+            key_places,
         };
-        Ok((self, right, PartitionReducer))
+        let right = PartitionConsumer {
+            map_op,
+            items: more,
+            value_places: more,
+            key_places: more,
+        };
+        Ok((left, right, PartitionReducer))
     }
 
     fn into_folder(self, alloc: Global) -> Result<PartitionFolder<'f, U, K, F>, Fault> {
         Ok(PartitionFolder {
-            values: Vec::new(alloc),
-            keys: Vec::new(alloc),
+            values: with_places(alloc, self.value_places),
+            keys: with_places(alloc, self.key_places),
             map_op: self.map_op,
         })
     }

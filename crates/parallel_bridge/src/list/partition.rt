@@ -10,6 +10,7 @@ use crate::bridge::{bridge, unfailing};
 use crate::consumer::partition::{PartitionConsumer, partition_onto};
 use crate::parts::Parts;
 use crate::path::Path;
+use crate::room::{places_for, second_places_for, with_places};
 use parallel_fault::Fault;
 use std::alloc::Global;
 use std::num::NonZeroUsize;
@@ -29,7 +30,10 @@ pub fn partition_iter<I: Iterator, K: Drop, U: Drop, F: Fn(I::Item) -> (K, Optio
         (λ xs. PartitionOf (F.post map_op.now) xs r.0.items r.1.items)) }
     ensures fault { IsMemoryOnErr result }
 {
-    let answer = partition_onto(Vec::new(alloc), Vec::new(alloc), iter, map_op)?;
+    let hint = iter.size_hint().0;
+    let values = with_places(alloc, places_for(hint));
+    let keys = with_places(alloc, second_places_for(hint));
+    let answer = partition_onto(values, keys, iter, map_op)?;
     Ok(answer)
 }
 
@@ -53,7 +57,14 @@ pub fn partition_parallel<
         (λ xs. PartitionOf (F.post map_op.now) xs r.0.items r.1.items)) }
     ensures fault { IsMemoryOnErr result }
 {
-    unfailing(bridge(rt, alloc, threads, parts, PartitionConsumer { map_op }))
+    let items = parts.len();
+    let consumer = PartitionConsumer {
+        map_op,
+        items,
+        value_places: places_for(items),
+        key_places: second_places_for(items),
+    };
+    unfailing(bridge(rt, alloc, threads, parts, consumer))
 }
 
 /// The values and the keys of the items of a list, in their order: serially as they come, in

@@ -3,6 +3,7 @@
 use crate::tests::same::{answers, row, same};
 use crate::tests::steps::{add, zero};
 use crate::tests::strategies::{SITE, Stopped, number, pool};
+use commonware_parallel::mocks::explore;
 use commonware_parallel::{Rayon, Sequential, Strategy, Trouble};
 use known_answers::segments::{try_fold_along_shape, try_fold_in_one, try_fold_planned_for_one};
 use std::alloc::Global;
@@ -281,4 +282,41 @@ fn a_verifier_finds_the_first_forged_tag(rt: HostRuntime) {
     for threads in [1usize, 4, 8] {
         find_the_forged(&rt, rt.alloc(), &pool(&rt, rt.alloc(), threads, threads));
     }
+}
+
+// The index of the first of four messages whose tag isn't its own digest, if one is found.
+fn index_of_forged<Rt: Threads + Wait + Sync, S: Strategy>(
+    rt: &Rt,
+    alloc: Global,
+    strategy: &S,
+) -> Option<usize> {
+    let none: &[u8] = &[];
+    let messages = [none, b"abc", b"abd", none];
+    let tags = [OF_NONE, OF_ABC, OF_ABC, OF_ABC];
+    match verify_tags(rt, alloc, strategy, SITE, &messages, &tags) {
+        Err(Trouble::Closure(index)) => Some(index),
+        _ => None,
+    }
+}
+
+// The index of the first of four numbers that isn't even, if one is found.
+fn index_of_odd<Rt: Threads + Wait + Sync, S: Strategy>(
+    rt: &Rt,
+    alloc: Global,
+    strategy: &S,
+) -> Option<usize> {
+    let is_even = |number: u64| number % 2 == 0;
+    match verify_all(rt, alloc, strategy, SITE, &[2u64, 4, 5, 7], is_even) {
+        Err(Trouble::Closure(index)) => Some(index),
+        _ => None,
+    }
+}
+
+#[test]
+fn explorers_find_the_same_first_one(rt: HostRuntime) {
+    let alloc = rt.alloc();
+    let forged = explore(&rt, alloc, |explorer| index_of_forged(&rt, alloc, explorer));
+    same(&rt, forged.expect(&rt, "memory"), Some(2));
+    let odd = explore(&rt, alloc, |explorer| index_of_odd(&rt, alloc, explorer));
+    same(&rt, odd.expect(&rt, "memory"), Some(2));
 }

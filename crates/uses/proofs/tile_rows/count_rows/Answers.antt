@@ -5,7 +5,7 @@ use Rattle.std.specs.Borrow.{MutBor}
 use Rattle.std.specs.declared.ops.Range.{Range}
 use Rattle.commonware_parallel.specs.Rectangles.{IsInGrid}
 use Rattle.commonware_parallel.specs.Tiles.{columns_of, keeps_rows, rows_of}
-use Rattle.uses.specs.Tiles.{number_above, row_cells}
+use Rattle.uses.specs.Tiles.{is_above, number_of, row_cells}
 use Rattle.uses.proofs.Tiles.{in_matrix, rows_counted}
 use Rattle.uses.proofs.tile_rows.count_rows.Goals as goal
 
@@ -18,11 +18,12 @@ fill_merge_collect_vec-requires-clause-fill_accepts g c κs within = λ state ro
 
 pub returns-clause-counted : goal.returns-clause-counted
 returns-clause-counted g c =
-    rows_counted c.args.threshold c.args.matrix.now c.args.len c.args.rows (keeps_rows c.args.tiles)
+    rows_counted (is_above c.args.threshold) c.args.matrix.now c.args.len c.args.rows
+    (keeps_rows c.args.tiles)
     c.ranges.len.fits
     (λ (s : ℕ). s ≡ 0)
     (λ (p : MutBor ℕ) (row : ℕ) (columns : Range ℕ) (done : Unit {0}) (q : MutBor ℕ).
-    Range ℕ × (q.now ≡ (p.now + number_above c.args.threshold
+    Range ℕ × (q.now ≡ (p.now + number_of (is_above c.args.threshold)
     (row_cells c.args.matrix.now c.args.len row columns.start columns.end)) % 2 ^ 64))
     (λ (p : MutBor ℕ) (row answer : ℕ) (q : MutBor ℕ). (answer ≡ p.now) × (q.now ≡ 0))
     (λ (a b r : ℕ). r ≡ (a + b) % 2 ^ 64)
