@@ -1,7 +1,7 @@
 -- The seats that come back are those of the shares, in order.
 use Rattle.std.proofs.Common.{◌≡◌, ℕ, zero, suc, ◌<◌, List, [], ◌∷◌, map, length, get_or, ◌∙◌, arith}
 use Rattle.std.proofs.lemmas.List.{length-map}
-use Rattle.parallel_shares.specs.declared.shares.queue.Shares.{Shares}
+use Rattle.parallel_shares.specs.declared.shares.Shares.{Shares}
 use Rattle.parallel_shares.specs.declared.shares.seat.Seat.{Seat}
 use Rattle.parallel_shares.specs.Seats.{plan_of, index_of, AreSeatsOf, IsSeatOf}
 use Rattle.bench.specs.declared.soak.Driven.{Driven}

@@ -3,7 +3,7 @@ use Rattle.std.specs.Prelude.{◌≡◌, ℕ, List, [], ◌∷◌, ◌++◌, All
 use Rattle.std.specs.declared.alloc.Global.{Global}
 use Rattle.std.specs.declared.ops.Range.{Range}
 use Rattle.std.specs.declared.vec.Vec.{Vec}
-use Rattle.parallel_shares.specs.declared.shares.queue.Shares.{Shares}
+use Rattle.parallel_shares.specs.declared.shares.Shares.{Shares}
 use Rattle.parallel_shares.specs.declared.shares.seat.Seat.{Seat}
 use Rattle.parallel_shares.specs.declared.shares.stretch.Stretch.{Stretch}
 use Rattle.parallel_shares.specs.Fillings.{Finished}

@@ -1,4 +1,5 @@
 -- What the contracts of the policy cite.
+pub mod Entries
 pub mod Estimates
 pub mod Arbitration
 pub mod Runs

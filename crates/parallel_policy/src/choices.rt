@@ -1,7 +1,8 @@
 // One call, decided by a policy's choice and measured.
-ghost use Rattle.std.specs.Prelude.{◌≡◌, ℕ, ◌<◌, ◌≤◌, Bool, Result, IfOk, IfErr, OnErr};
+ghost use Rattle.std.specs.Prelude.{◌≡◌, ℕ, ◌<◌, ◌≤◌, Bool, Result, IfOk, OnErr};
 ghost use Rattle.parallel_policy.specs.declared.execution.RunExecution.{RunExecution};
 ghost use Rattle.parallel_policy.specs.Decisions.{AnswersOn, DecidesAs, Decides, ReadsAs, RunsSomewhen, RunsSerially, RunsWith};
+ghost use Rattle.parallel_fault.specs.Trouble.{IsMemoryOnErr};
 
 use crate::execution::RunExecution;
 use parallel_fault::{Fault, Trouble};
@@ -31,7 +32,7 @@ pub trait Choices<Q> {
         parallelism: usize,
     ) -> Result<(RunExecution, bool), Fault>
         ensures chosen { IfOk result (λ answer. chooses self.old key parallelism answer self.new) }
-        ensures fault { IfErr result (λ fault. fault ≡ Fault.Memory) }
+        ensures fault { IsMemoryOnErr result }
         ensures refused { OnErr result (refused self.old key self.new) };
 
     /// Records that a run of that kind took so many nanoseconds.

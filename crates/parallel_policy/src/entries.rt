@@ -1,7 +1,9 @@
 // An entry by its key, in a map of any keys.
-ghost use Rattle.std.specs.Prelude.{◌≡◌, ◌≢◌, false, Some, IsSome, IfOk, IfErr, IsOk, OnErr, MatchOption};
+ghost use Rattle.std.specs.Prelude.{◌≡◌, false, Some, IsSome, IfOk, IsOk, OnErr};
 ghost use Rattle.std.specs.HashMap.{get};
+ghost use Rattle.parallel_policy.specs.Entries.{IsEntryOr};
 ghost use Rattle.std.specs.Fn.{FnOnceReturnsAtMut};
+ghost use Rattle.parallel_fault.specs.Trouble.{IsMemoryOnErr};
 
 use parallel_fault::Fault;
 use std::collections::HashMap;
@@ -17,13 +19,13 @@ pub(crate) fn change_entry<K: Eq + Hash + Copy, V: Default + Copy, T, F: FnOnce(
 where
     T: Drop,
     requires { F.IsAlwaysCallable change }
-    ensures changed { IfOk result (λ answer. (before : V) × (after : V)
-        × MatchOption (get K.eq entries.old key) (V.is_default before) (λ v. before ≡ v)
+    ensures changed { IfOk result (λ answer. (before after : V)
+        × IsEntryOr V.is_default (get K.eq entries.old key) before
         × FnOnceReturnsAtMut F.FnOnce change before answer after
         × (get K.eq entries.new key ≡ Some after)) }
     ensures others { (other : K) → K.eq key other ≡ false
         → get K.eq entries.new other ≡ get K.eq entries.old other }
-    ensures fault { IfErr result (λ fault. fault ≡ Fault.Memory) }
+    ensures fault { IsMemoryOnErr result }
     ensures err { OnErr result ((other : K)
         → get K.eq entries.new other ≡ get K.eq entries.old other) }
     ensures known { IsSome (get K.eq entries.old key) → IsOk result }

@@ -1,7 +1,8 @@
 // A table of entries that is shared, under a lock.
-ghost use Rattle.std.specs.Prelude.{◌≡◌, ◌<◌, ◌≤◌, ⊤, IfErr};
+ghost use Rattle.std.specs.Prelude.{◌≡◌, ◌<◌, ◌≤◌, ⊤};
 ghost use Rattle.parallel_policy.specs.declared.execution.RunExecution.{RunExecution};
 ghost use Rattle.parallel_policy.specs.Decisions.{AnswersOn, DecidesAs};
+ghost use Rattle.parallel_fault.specs.Trouble.{IsMemoryOnErr};
 
 use crate::choices::{Choices, decide};
 use crate::execution::{RunExecution, SpawnExecution};
@@ -34,7 +35,7 @@ impl Policy {
     ///
     /// `Fault::Memory` where its memory was refused.
     pub fn new(alloc: Global) -> Result<Policy, Fault>
-        ensures { IfErr result (λ fault. fault ≡ Fault.Memory) }
+        ensures { IsMemoryOnErr result }
     {
         let table = Arc::new(alloc, Mutex::new(Table::new(alloc)))?;
         Ok(Policy { table })
@@ -109,7 +110,7 @@ impl Policy {
         key: Key,
         parallelism: usize,
     ) -> Result<(RunExecution, bool), Fault>
-        ensures { IfErr result (λ fault. fault ≡ Fault.Memory) }
+        ensures { IsMemoryOnErr result }
     {
         self.table.lock(rt).choose_run(key, parallelism)
     }
@@ -126,7 +127,7 @@ impl Policy {
         execution: RunExecution,
         nanoseconds: u64,
     ) -> Result<(), Fault>
-        ensures { IfErr result (λ fault. fault ≡ Fault.Memory) }
+        ensures { IsMemoryOnErr result }
     {
         self.table.lock(rt).record_run(key, execution, nanoseconds)
     }
@@ -142,7 +143,7 @@ impl Policy {
         key: Key,
         budget: u64,
     ) -> Result<(SpawnExecution, bool), Fault>
-        ensures { IfErr result (λ fault. fault ≡ Fault.Memory) }
+        ensures { IsMemoryOnErr result }
     {
         self.table.lock(rt).choose_spawn(key, budget)
     }
@@ -158,7 +159,7 @@ impl Policy {
         key: Key,
         nanoseconds: u64,
     ) -> Result<(), Fault>
-        ensures { IfErr result (λ fault. fault ≡ Fault.Memory) }
+        ensures { IsMemoryOnErr result }
     {
         self.table.lock(rt).record_spawn_inline(key, nanoseconds)
     }
@@ -175,7 +176,7 @@ impl Policy {
         key: Key,
         nanoseconds: u64,
     ) -> Result<(), Fault>
-        ensures { IfErr result (λ fault. fault ≡ Fault.Memory) }
+        ensures { IsMemoryOnErr result }
     {
         self.table.lock(rt).record_spawn_job(key, nanoseconds)
     }
@@ -192,7 +193,7 @@ impl Policy {
         key: Key,
         nanoseconds: u64,
     ) -> Result<(), Fault>
-        ensures { IfErr result (λ fault. fault ≡ Fault.Memory) }
+        ensures { IsMemoryOnErr result }
     {
         self.table.lock(rt).record_spawn_overhead(key, nanoseconds)
     }

@@ -1,10 +1,11 @@
 // The entries of a policy, by their keys.
-ghost use Rattle.std.specs.Prelude.{◌≡◌, ◌∷◌, None, IsSome, IfOk, IfErr, IsOk, OnOk, OnErr};
+ghost use Rattle.std.specs.Prelude.{◌≡◌, ◌∷◌, None, IsSome, IfOk, IsOk, OnOk, OnErr};
 ghost use Rattle.parallel_policy.specs.Runs.{RunHistory, run_choice};
 ghost use Rattle.parallel_policy.specs.Spawns.{SpawnHistory, spawn_choice};
 ghost use Rattle.parallel_policy.specs.declared.history.RunEvent.{RunEvent};
 ghost use Rattle.parallel_policy.specs.declared.history.SpawnEvent.{SpawnEvent};
 ghost use Rattle.parallel_policy.specs.declared.history.SpawnSample.{SpawnSample};
+ghost use Rattle.parallel_fault.specs.Trouble.{IsMemoryOnErr};
 
 use crate::choices::Choices;
 use crate::entries::change_entry;
@@ -75,7 +76,7 @@ impl Table {
         ensures entry { OnOk result (IsSome (run_of self.new key)) }
         ensures others { HasOtherRuns self.old self.new key }
         ensures spawns { HasSameSpawns self.old self.new }
-        ensures fault { IfErr result (λ fault. fault ≡ Fault.Memory) }
+        ensures fault { IsMemoryOnErr result }
         ensures err { OnErr result (HasSameRuns self.old self.new) }
         ensures known { IsSome (run_of self.old key) → IsOk result }
     {
@@ -99,7 +100,7 @@ impl Table {
         ensures entry { OnOk result (IsSome (run_of self.new key)) }
         ensures others { HasOtherRuns self.old self.new key }
         ensures spawns { HasSameSpawns self.old self.new }
-        ensures fault { IfErr result (λ fault. fault ≡ Fault.Memory) }
+        ensures fault { IsMemoryOnErr result }
         ensures err { OnErr result (HasSameRuns self.old self.new) }
         ensures known { IsSome (run_of self.old key) → IsOk result }
     {
@@ -123,7 +124,7 @@ impl Table {
         ensures entry { OnOk result (IsSome (spawn_of self.new key)) }
         ensures others { HasOtherSpawns self.old self.new key }
         ensures runs { HasSameRuns self.old self.new }
-        ensures fault { IfErr result (λ fault. fault ≡ Fault.Memory) }
+        ensures fault { IsMemoryOnErr result }
         ensures err { OnErr result (HasSameSpawns self.old self.new) }
         ensures known { IsSome (spawn_of self.old key) → IsOk result }
     {
@@ -143,7 +144,7 @@ impl Table {
         ensures entry { OnOk result (IsSome (spawn_of self.new key)) }
         ensures others { HasOtherSpawns self.old self.new key }
         ensures runs { HasSameRuns self.old self.new }
-        ensures fault { IfErr result (λ fault. fault ≡ Fault.Memory) }
+        ensures fault { IsMemoryOnErr result }
         ensures err { OnErr result (HasSameSpawns self.old self.new) }
         ensures known { IsSome (spawn_of self.old key) → IsOk result }
     {
@@ -167,7 +168,7 @@ impl Table {
         ensures entry { OnOk result (IsSome (spawn_of self.new key)) }
         ensures others { HasOtherSpawns self.old self.new key }
         ensures runs { HasSameRuns self.old self.new }
-        ensures fault { IfErr result (λ fault. fault ≡ Fault.Memory) }
+        ensures fault { IsMemoryOnErr result }
         ensures err { OnErr result (HasSameSpawns self.old self.new) }
         ensures known { IsSome (spawn_of self.old key) → IsOk result }
     {
@@ -188,7 +189,7 @@ impl Table {
         ensures entry { OnOk result (IsSome (spawn_of self.new key)) }
         ensures others { HasOtherSpawns self.old self.new key }
         ensures runs { HasSameRuns self.old self.new }
-        ensures fault { IfErr result (λ fault. fault ≡ Fault.Memory) }
+        ensures fault { IsMemoryOnErr result }
         ensures err { OnErr result (HasSameSpawns self.old self.new) }
         ensures known { IsSome (spawn_of self.old key) → IsOk result }
     {

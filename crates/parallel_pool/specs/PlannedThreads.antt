@@ -1,5 +1,6 @@
 -- For how many threads a pool is planned.
 use Rattle.std.specs.Prelude.{◌≡◌, ℕ, ◌<◌, ◌^◌, ◌==◌, List, Option, None, Some, MatchOption, if◌then◌else◌, min}
+use Rattle.std.specs.Borrow.{Bor}
 use Rattle.std.specs.NonZero.{non_zero_usize_get}
 use Rattle.std.specs.Str.Parse.{IsNumeral, digits_value, without_leading_plus}
 use Rattle.parallel_pool.specs.declared.rayon.pool_plan.PoolPlan.{PoolPlan}
@@ -24,6 +25,13 @@ by_cpus (Some n) machine = if n == 0 then machine else n
 abbrev pub by_texts : Option ℕ → Option ℕ → ℕ → ℕ
 by_texts None cpus machine = by_cpus cpus machine
 by_texts (Some n) cpus machine = if n == 0 then machine else n
+
+-- this holds of the number by two texts, either of which may be missing, and the machine's
+abbrev pub OfTexts : Option (Bor (List ℕ)) → Option (Bor (List ℕ)) → ℕ → (ℕ → Type 0) → Type 0
+OfTexts num_threads num_cpus machine P = (threads : Option ℕ) × (cpus : Option ℕ)
+    × MatchOption num_threads (threads ≡ None) (λ text. Writes text.now threads)
+    × MatchOption num_cpus (cpus ≡ None) (λ text. Writes text.now cpus)
+    × P (by_texts threads cpus machine)
 
 -- what a number is that may be missing, and what stands in for it
 abbrev pub number_or : {A : Type 0} → ℕ → (A → ℕ) → Option A → ℕ

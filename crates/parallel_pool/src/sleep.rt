@@ -1,5 +1,5 @@
 // The sleep of idle workers: who looks for work, who sleeps, and who is woken when work comes.
-ghost use Rattle.std.specs.Prelude.{◌≡◌, ◌≢◌, ◌⊎◌, ◌+◌, ◌<◌, ◌≤◌, ◌↔◌, true, IfErr, IfOk, IfSome, IsSome, None, vec_len, ⊤};
+ghost use Rattle.std.specs.Prelude.{◌≡◌, ◌≢◌, ◌⊎◌, ◌+◌, ◌<◌, ◌≤◌, ◌↔◌, true, IfOk, IfSome, IsSome, None, vec_len, ⊤};
 ghost use Rattle.parallel_pool.specs.declared.sleep.sleep_state.Block.TheVariants.{Blocked};
 ghost use Rattle.std.specs.NonZero.{non_zero_usize_get};
 ghost use Rattle.parallel_pool.specs.Counters.{sleeping_of, inactive_of};
@@ -9,6 +9,7 @@ ghost use Rattle.parallel_pool.specs.declared.latch.history.Act.TheVariants.{Pro
 ghost use Rattle.parallel_pool.specs.Latch.{IsSeatOf, known};
 ghost use Rattle.parallel_pool.specs.SleepTries.{OnlyProbes, TriesToSleep};
 ghost use Rattle.parallel_pool.specs.Standings.{is_blocked, standing_at};
+ghost use Rattle.parallel_fault.specs.Trouble.{IsMemoryOnErr};
 
 pub mod counters;
 pub mod idle_state;
@@ -46,7 +47,7 @@ impl Sleep {
     pub fn new(alloc: Global, workers: NonZeroUsize) -> Result<(Sleep, Vec<Parker>), Fault>
         requires { non_zero_usize_get workers ≤ MAX_THREADS }
         ensures count { IfOk result (λ made. vec_len made.1 ≡ non_zero_usize_get workers) }
-        ensures fault { IfErr result (λ refusal. refusal ≡ Fault.Memory) }
+        ensures fault { IsMemoryOnErr result }
     {
         let state = SleepState::new(alloc, workers, 0)?;
         let mut parkers = Vec::new(alloc);

@@ -4,7 +4,7 @@ use Rattle.std.specs.List.{range_with_len}
 use Rattle.std.proofs.lemmas.List.{length_push, length-replicate}
 use Rattle.parallel_shares.specs.declared.shares.rule.View.{View}
 use Rattle.parallel_shares.specs.declared.shares.seat.Seat.{Seat}
-use Rattle.parallel_shares.specs.declared.shares.queue.Shares.{Shares}
+use Rattle.parallel_shares.specs.declared.shares.Shares.{Shares}
 use Rattle.parallel_shares.specs.Sizes.{Sizes, shares_of}
 use Rattle.parallel_shares.specs.Sharing.{fresh_view, undealt, dealt_from, dealt}
 use Rattle.parallel_shares.specs.Seats.{known, index_of, IsSeatOf, AreSeatsOf, AreFresh, IsFresh, Carries}

@@ -1,11 +1,13 @@
 -- What fills and finishes do along a list of stretches, with one state that goes from each to the
 -- next.
-use Rattle.std.specs.Prelude.{◌≡◌, ℕ, ◌<◌, List, [], ◌∷◌, ◌++◌, Option, Some, None}
+use Rattle.std.specs.Prelude.{◌≡◌, ℕ, ◌<◌, List, All, [], ◌∷◌, ◌++◌, Option, Some, None}
 use Rattle.std.specs.Borrow.{MutBor}
 use Rattle.std.specs.declared.ops.Range.{Range}
 use Rattle.parallel_shares.specs.declared.shares.stretch.Stretch.{Stretch}
 use Rattle.parallel_shares.specs.declared.shares.stretch.Piece.{Piece}
-use Rattle.parallel_shares.specs.Stretches.{Parted}
+use Rattle.parallel_shares.specs.Fronts.{IsFront}
+use Rattle.parallel_shares.specs.Sizes.{Sizes}
+use Rattle.parallel_shares.specs.Stretches.{Cutting, Parted}
 
 -- answered is a call that is lent a state: s is the state before the call, t the state after it
 abbrev pub Fills : {T : Type 0} → (MutBor T → ℕ → Range ℕ → Unit {0} → MutBor T → Type 0) → T → ℕ
@@ -66,3 +68,24 @@ pub record Underway {T R : Type 0}
   pub finished : Finished fill finish first done results before
   pub filled : FilledOpen fill before opened state
   pub parted : Parted len cells done opened
+
+-- whatever is on its way goes on by these cells: from an open stretch, results and a state to those
+-- after
+abbrev pub GoesOn : {T R : Type 0} → (T → ℕ → Range ℕ → T → Type 0) → (T → ℕ → R → T → Type 0) → ℕ
+    → List ℕ → Option Piece → List R → T → Option Piece → List R → T → Type 0
+GoesOn {T = T} fill finish len more opened results state opened_after results_after state_after =
+    (first : T) (cells : List ℕ)
+    → Underway fill finish len first cells opened results state
+    → Underway fill finish len first (cells ++ more) opened_after results_after state_after
+
+-- ---- a run over claims
+
+-- ranges were claimed, each the front of a word of the cells, and the stretches that they are cut
+-- into have their results
+abbrev pub Worked : {T R : Type 0} → (T → ℕ → Range ℕ → T → Type 0) → (T → ℕ → R → T → Type 0)
+    → Sizes → ℕ → List (Range ℕ) → T → List (Range ℕ) → List R → T → Type 0
+Worked fill finish sizes len claims state claims_after results state_after =
+    (gained : List (Range ℕ)) × (cut : List Stretch)
+    × (claims_after ≡ claims ++ gained)
+    × All (IsFront sizes) gained
+    × Cutting gained len cut × Finished fill finish state cut results state_after

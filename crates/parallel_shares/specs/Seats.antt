@@ -5,7 +5,7 @@ use Rattle.parallel_shares.specs.declared.shares.rule.View.{View}
 use Rattle.parallel_shares.specs.declared.shares.seat.Seat.{Seat}
 use Rattle.parallel_shares.specs.declared.shares.seat.Tried.{Tried}
 use Rattle.parallel_shares.specs.declared.shares.seat.Tried.TheVariants.{Claimed, Empty, Lost, Taken, Nothing}
-use Rattle.parallel_shares.specs.declared.shares.queue.Shares.{Shares}
+use Rattle.parallel_shares.specs.declared.shares.Shares.{Shares}
 use Rattle.parallel_shares.specs.Words.{start_of, end_of, IsEmptyWord}
 use Rattle.parallel_shares.specs.Sizes.{Sizes, shares_of, share_of}
 use Rattle.parallel_shares.specs.Answers.{claim_cells}

@@ -7,7 +7,7 @@ use Rattle.parallel_shares.specs.declared.shares.seat.Tried.{Tried}
 use Rattle.parallel_shares.specs.declared.shares.seat.Tried.TheVariants.{Claimed, Empty, Lost, Taken, Nothing}
 use Rattle.parallel_shares.specs.declared.shares.steal.Victim.{Victim}
 use Rattle.std.specs.declared.ops.Range.{Range}
-use Rattle.parallel_shares.specs.declared.shares.queue.Shares.{Shares}
+use Rattle.parallel_shares.specs.declared.shares.Shares.{Shares}
 use Rattle.parallel_shares.specs.Words.{IsWithin, IsEmptyWord}
 use Rattle.parallel_shares.specs.Sizes.{Sizes, shares_of, share_of}
 use Rattle.parallel_shares.specs.Answers.{cells_in, Pays, claim_cells}

@@ -1,7 +1,8 @@
 //! Balanced ranges of indices.
-ghost use Rattle.std.specs.Prelude.{◌≡◌, vec_len, IfOk, IfErr};
+ghost use Rattle.std.specs.Prelude.{◌≡◌, vec_len, IfOk};
 ghost use Rattle.std.specs.Int.NonZero.{non_zero_usize_get};
 ghost use Rattle.parallel_shares.specs.Cut.{BalancedCut};
+ghost use Rattle.parallel_fault.specs.Trouble.{IsMemoryOnErr};
 
 use parallel_fault::Fault;
 use std::alloc::Global;
@@ -16,7 +17,7 @@ use std::ops::Range;
 pub fn cut(alloc: Global, len: usize, count: NonZeroUsize) -> Result<Vec<Range<usize>>, Fault>
     ensures balanced { IfOk result (λ ranges. BalancedCut len ranges.items) }
     ensures count { IfOk result (λ ranges. vec_len ranges ≡ non_zero_usize_get count) }
-    ensures fault { IfErr result (λ refusal. refusal ≡ Fault.Memory) }
+    ensures fault { IsMemoryOnErr result }
 {
     let shorter = len / count;
     let longer_ranges = len % count;

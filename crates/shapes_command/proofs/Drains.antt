@@ -6,7 +6,7 @@ use Rattle.std.proofs.lemmas.Bool.{cases_lt}
 use Rattle.std.proofs.lemmas.Bool.Decides.{nat_tests}
 use Rattle.std.proofs.lemmas.List.{length-map, map-append}
 use Rattle.std.specs.declared.ops.Range.{Range}
-use Rattle.parallel_shares.specs.declared.shares.queue.Shares.{Shares}
+use Rattle.parallel_shares.specs.declared.shares.Shares.{Shares}
 use Rattle.parallel_shares.specs.Holders.{inside, in_ranges, same_number}
 use Rattle.parallel_shares.specs.Totals.{total, times}
 use Rattle.parallel_shares.specs.Seats.{plan_of, index_of, claims_of, AreSeatsOf, AllDone, EachCellOnce, IsSeatOf, has_emptied, transit_of}

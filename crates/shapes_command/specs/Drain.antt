@@ -1,7 +1,7 @@
 -- What comes back from workers that claim until their words are empty.
 use Rattle.std.specs.Prelude.{◌≡◌, ℕ, ◌<◌, true, List, length, slice_index_or, None}
 use Rattle.parallel_shares.specs.declared.shares.seat.Seat.{Seat}
-use Rattle.parallel_shares.specs.declared.shares.queue.Shares.{Shares}
+use Rattle.parallel_shares.specs.declared.shares.Shares.{Shares}
 use Rattle.parallel_shares.specs.Holders.{inside, in_ranges}
 use Rattle.parallel_shares.specs.Totals.{times}
 use Rattle.parallel_shares.specs.Seats.{plan_of, index_of, claims_of, has_emptied, transit_of, IsSeatOf}

@@ -1,6 +1,7 @@
 // The core latch: one word, of which each call is one atomic step.
 ghost use Rattle.std.specs.Prelude.{◌≡◌};
 ghost use Rattle.std.specs.NonZero.{non_zero_usize_get};
+ghost use Rattle.parallel_fault.specs.Trouble.{IsMemoryOnErr};
 
 use crate::latch::history::View;
 use crate::latch::latch_seat::{
@@ -33,7 +34,7 @@ pub struct CoreLatch {
 }
 
 impl CoreLatch {
-    ghost use Rattle.std.specs.Prelude.{◌≡◌, ◌↔◌, All, IfErr, IfOk, IsTrue, false, vec_len, ⊤};
+    ghost use Rattle.std.specs.Prelude.{◌≡◌, ◌↔◌, All, IfOk, IsTrue, false, vec_len, ⊤};
     ghost use Rattle.parallel_pool.specs.LatchMoves.{is_unset, is_sleepy, is_sleeping, is_latched};
     ghost use Rattle.parallel_pool.specs.LatchHistory.{newcomer, Called, HasSeenSet, Learns};
     ghost use Rattle.parallel_pool.specs.Latch.{IsSeatOf, known};
@@ -44,7 +45,7 @@ impl CoreLatch {
         ensures count { IfOk result (λ made. vec_len made.1 ≡ non_zero_usize_get seats) }
         ensures seats { IfOk result (λ made. All (IsSeatOf made.0) made.1.items) }
         ensures fresh { IfOk result (λ made. All (λ seat. known seat ≡ newcomer) made.1.items) }
-        ensures fault { IfErr result (λ refusal. refusal ≡ Fault.Memory) }
+        ensures fault { IsMemoryOnErr result }
     {
         let (latch, mut founder) = CoreLatch::of_word(alloc)?;
         let mut all = Vec::new(alloc);
@@ -58,7 +59,7 @@ impl CoreLatch {
     // The latch, and its first seat.
     fn of_word(alloc: Global) -> Result<(CoreLatch, LatchSeat), Fault>
         ensures made { IfOk result (λ made. IsSeatOf made.0 made.1 × (known made.1 ≡ newcomer)) }
-        ensures fault { IfErr result (λ refusal. refusal ≡ Fault.Memory) }
+        ensures fault { IsMemoryOnErr result }
     {
         let (table, seat) = Table::of_words(alloc, &[UNSET], &())?;
         Ok((CoreLatch { table }, LatchSeat { seat }))

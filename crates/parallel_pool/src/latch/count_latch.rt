@@ -1,6 +1,7 @@
 // A latch of shares, which is set by the last of them.
 ghost use Rattle.std.specs.Prelude.{◌≡◌};
 ghost use Rattle.std.specs.NonZero.{non_zero_usize_get};
+ghost use Rattle.parallel_fault.specs.Trouble.{IsMemoryOnErr};
 
 use crate::latch::count_share::{
     CountShare, CountsDown, EachOnce, Hearing, Learning, SeesCount, ShareView, Sharing, Telling,
@@ -27,7 +28,7 @@ pub struct CountLatch {
 }
 
 impl CountLatch {
-    ghost use Rattle.std.specs.Prelude.{◌≡◌, ◌≤◌, ◌-◌, ◌<◌, ℕ, ◌↔◌, All, IfErr, IfOk, IsTrue, [], length, vec_len};
+    ghost use Rattle.std.specs.Prelude.{◌≡◌, ◌≤◌, ◌-◌, ◌<◌, ℕ, ◌↔◌, All, IfOk, IsTrue, [], length, vec_len};
     ghost use Rattle.parallel_pool.specs.CountHistory.{Given, Longer, times_given};
     ghost use Rattle.parallel_pool.specs.CountLatch.{IsShareOf, shares_of, knows, unspent, gives_seen};
 
@@ -41,7 +42,7 @@ impl CountLatch {
         ensures belong { IfOk result (λ made. All (IsShareOf made.0) made.1.items) }
         ensures unspent { IfOk result (λ made. All (λ share. unspent share ≡ 1) made.1.items) }
         ensures fresh { IfOk result (λ made. All (λ share. gives_seen share ≡ []) made.1.items) }
-        ensures fault { IfErr result (λ refusal. refusal ≡ Fault.Memory) }
+        ensures fault { IsMemoryOnErr result }
     {
         let (latch, mut founder) = CountLatch::of_word(alloc, count.get())?;
         let mut all = Vec::new(alloc);
@@ -56,7 +57,7 @@ impl CountLatch {
     fn of_word(alloc: Global, count: usize) -> Result<(CountLatch, CountShare), Fault>
         ensures made { IfOk result (λ made. IsShareOf made.0 made.1 × (shares_of made.0 ≡ count)
             × (unspent made.1 ≡ count)) }
-        ensures fault { IfErr result (λ refusal. refusal ≡ Fault.Memory) }
+        ensures fault { IsMemoryOnErr result }
     {
         let count = count as u64;
         let (table, seat) = Table::of_words(alloc, &[count], &count)?;

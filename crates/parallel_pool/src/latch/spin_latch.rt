@@ -1,6 +1,7 @@
 // A core latch that says which worker to wake.
 ghost use Rattle.std.specs.Prelude.{◌≡◌};
 ghost use Rattle.std.specs.NonZero.{non_zero_usize_get};
+ghost use Rattle.parallel_fault.specs.Trouble.{IsMemoryOnErr};
 
 use crate::latch::core_latch::CoreLatch;
 use crate::latch::latch_seat::LatchSeat;
@@ -19,7 +20,7 @@ pub struct SpinLatch {
 }
 
 impl SpinLatch {
-    ghost use Rattle.std.specs.Prelude.{◌≡◌, ◌↔◌, All, IfErr, IfOk, IsTrue, None, Some, vec_len, if◌then◌else◌};
+    ghost use Rattle.std.specs.Prelude.{◌≡◌, ◌↔◌, All, IfOk, IsTrue, None, Some, vec_len, if◌then◌else◌};
     ghost use Rattle.parallel_pool.specs.LatchMoves.{is_sleeping, is_latched};
     ghost use Rattle.parallel_pool.specs.LatchHistory.{newcomer, Called, HasSeenSet};
     ghost use Rattle.parallel_pool.specs.Latch.{IsSeatOf, known};
@@ -37,7 +38,7 @@ impl SpinLatch {
         ensures count { IfOk result (λ made. vec_len made.1 ≡ non_zero_usize_get seats) }
         ensures seats { IfOk result (λ made. All (IsSeatOf (core_of made.0)) made.1.items) }
         ensures fresh { IfOk result (λ made. All (λ seat. known seat ≡ newcomer) made.1.items) }
-        ensures fault { IfErr result (λ refusal. refusal ≡ Fault.Memory) }
+        ensures fault { IsMemoryOnErr result }
     {
         let (core_latch, seats) = CoreLatch::new(alloc, seats)?;
         let latch = SpinLatch {

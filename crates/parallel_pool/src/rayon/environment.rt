@@ -1,8 +1,8 @@
 // For how many threads a pool is planned: what is set, what an environment says, what a machine
 // has.
-ghost use Rattle.std.specs.Prelude.{◌≡◌, ◌<◌, ◌≤◌, ℕ, min, Option, MatchOption, None};
+ghost use Rattle.std.specs.Prelude.{◌≡◌, ◌<◌, ◌≤◌, min, MatchOption, None};
 ghost use Rattle.std.specs.NonZero.{non_zero_usize_get};
-ghost use Rattle.parallel_pool.specs.PlannedThreads.{Writes, by_texts, number_or};
+ghost use Rattle.parallel_pool.specs.PlannedThreads.{OfTexts, Writes, by_texts, number_or};
 
 use crate::rayon::thread_pool::MAX_THREADS;
 use std::num::NonZeroUsize;
@@ -31,11 +31,8 @@ pub fn planned_threads(
     machine: Option<NonZeroUsize>,
 ) -> usize
     ensures set { 0 < set → result ≡ min set MAX_THREADS }
-    ensures texts { set ≡ 0 → (threads : Option ℕ) × (cpus : Option ℕ)
-        × MatchOption num_threads.entry (threads ≡ None) (λ text. Writes text.now threads)
-        × MatchOption num_cpus.entry (cpus ≡ None) (λ text. Writes text.now cpus)
-        × (result ≡ min (by_texts threads cpus (number_or 1 non_zero_usize_get machine))
-        MAX_THREADS) }
+    ensures texts { set ≡ 0 → OfTexts num_threads.entry num_cpus.entry
+        (number_or 1 non_zero_usize_get machine) (λ number. result ≡ min number MAX_THREADS) }
     ensures at_least { 1 ≤ result }
     ensures at_most { result ≤ MAX_THREADS }
 {
@@ -61,10 +58,8 @@ fn number_of(machine: Option<NonZeroUsize>) -> usize
 // The number by both texts.
 fn by_texts(num_threads: Option<&str>, num_cpus: Option<&str>, machine: usize) -> usize
     requires { 1 ≤ machine }
-    ensures number { (threads : Option ℕ) × (cpus : Option ℕ)
-        × MatchOption num_threads.entry (threads ≡ None) (λ text. Writes text.now threads)
-        × MatchOption num_cpus.entry (cpus ≡ None) (λ text. Writes text.now cpus)
-        × (result ≡ by_texts threads cpus machine) }
+    ensures number { OfTexts num_threads.entry num_cpus.entry machine
+        (λ number. result ≡ number) }
     ensures at_least { 1 ≤ result }
 {
     let threads = number_in(num_threads);

@@ -1,6 +1,7 @@
 // The queues of a pool, and how a thread comes to its views of them.
-ghost use Rattle.std.specs.Prelude.{◌≡◌, All, IfErr, IfOk, length, vec_len};
+ghost use Rattle.std.specs.Prelude.{◌≡◌, All, IfOk, length, vec_len};
 ghost use Rattle.parallel_pool.specs.JobHistory.{newcomer};
+ghost use Rattle.parallel_fault.specs.Trouble.{IsMemoryOnErr};
 
 use crate::rayon::inlet_port::{Inlet, InletPort};
 use crate::rayon::job_deque::JobDeque;
@@ -26,7 +27,7 @@ pub struct JobQueues<T: Drop = OwnedJob> {
 
 // An empty queue.
 fn open_inlet<T: Drop>(alloc: Global) -> Result<Arc<Inlet<T>, Global>, Fault>
-    ensures { IfErr result (λ refusal. refusal ≡ Fault.Memory) }
+    ensures { IsMemoryOnErr result }
 {
     let (queue, _pass) = Injector::new_as(alloc)?;
     Ok(Arc::new(alloc, queue)?)
@@ -35,7 +36,7 @@ fn open_inlet<T: Drop>(alloc: Global) -> Result<Arc<Inlet<T>, Global>, Fault>
 // So many empty queues.
 fn open_inlets<T: Drop>(alloc: Global, count: usize) -> Result<Vec<Arc<Inlet<T>, Global>>, Fault>
     ensures count { IfOk result (λ made. vec_len made ≡ count) }
-    ensures fault { IfErr result (λ refusal. refusal ≡ Fault.Memory) }
+    ensures fault { IsMemoryOnErr result }
 {
     let mut all = Vec::new(alloc);
     for _ in 0..count {
@@ -48,7 +49,7 @@ fn open_inlets<T: Drop>(alloc: Global, count: usize) -> Result<Vec<Arc<Inlet<T>,
 fn open_deques<T: Drop>(alloc: Global, count: usize) -> Result<Vec<JobDeque<T>>, Fault>
     ensures count { IfOk result (λ made. vec_len made ≡ count) }
     ensures fresh { IfOk result (λ made. All (λ view. view ≡ newcomer) made.items) }
-    ensures fault { IfErr result (λ refusal. refusal ≡ Fault.Memory) }
+    ensures fault { IsMemoryOnErr result }
 {
     let mut all = Vec::new(alloc);
     for _ in 0..count {
@@ -60,7 +61,7 @@ fn open_deques<T: Drop>(alloc: Global, count: usize) -> Result<Vec<JobDeque<T>>,
 // What takes jobs from each deque.
 fn thieves<T: Drop>(alloc: Global, deques: &[JobDeque<T>]) -> Result<Vec<Thief<T>>, Fault>
     ensures count { IfOk result (λ made. vec_len made ≡ length deques.now) }
-    ensures fault { IfErr result (λ refusal. refusal ≡ Fault.Memory) }
+    ensures fault { IsMemoryOnErr result }
 {
     let mut all = Vec::new(alloc);
     for place in 0..deques.len() {
@@ -76,7 +77,7 @@ fn passes<T: Drop>(
 ) -> Result<Vec<InletPort<T>>, Fault>
     ensures count { IfOk result (λ made. vec_len made ≡ length queues.now) }
     ensures fresh { IfOk result (λ made. All (λ view. view ≡ newcomer) made.items) }
-    ensures fault { IfErr result (λ refusal. refusal ≡ Fault.Memory) }
+    ensures fault { IsMemoryOnErr result }
 {
     let mut all = Vec::new(alloc);
     for place in 0..queues.len() {
@@ -89,7 +90,7 @@ fn passes<T: Drop>(
 fn thief_passes<T: Drop>(alloc: Global, deques: &[Thief<T>]) -> Result<Vec<ThiefPort<T>>, Fault>
     ensures count { IfOk result (λ made. vec_len made ≡ length deques.now) }
     ensures fresh { IfOk result (λ made. All (λ view. view ≡ newcomer) made.items) }
-    ensures fault { IfErr result (λ refusal. refusal ≡ Fault.Memory) }
+    ensures fault { IsMemoryOnErr result }
 {
     let mut all = Vec::new(alloc);
     for place in 0..deques.len() {
@@ -111,7 +112,7 @@ impl<T: Drop> JobQueues<T> {
         ensures workers { IfOk result (λ made. workers_of made.0 ≡ non_zero_usize_get workers) }
         ensures count { IfOk result (λ made. vec_len made.1 ≡ non_zero_usize_get workers) }
         ensures fresh { IfOk result (λ made. All (λ view. view ≡ newcomer) made.1.items) }
-        ensures fault { IfErr result (λ refusal. refusal ≡ Fault.Memory) }
+        ensures fault { IsMemoryOnErr result }
     {
         let injected = open_inlet(alloc)?;
         let broadcasts = open_inlets(alloc, workers.get())?;
@@ -129,7 +130,7 @@ impl<T: Drop> JobQueues<T> {
     /// nothing is counted and nobody woken.
     pub fn seat(&self, alloc: Global) -> Result<JobSeat<T>, Fault>
         ensures seat { IfOk result (λ seat. IsFreshSeat (workers_of self.now) seat) }
-        ensures fault { IfErr result (λ refusal. refusal ≡ Fault.Memory) }
+        ensures fault { IsMemoryOnErr result }
     {
         let injected = InletPort::new(Arc::try_clone(&self.injected)?);
         let broadcasts = passes(alloc, self.broadcasts.as_slice())?;

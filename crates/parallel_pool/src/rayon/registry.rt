@@ -1,6 +1,7 @@
 // What the threads of a pool share, and how its workers come to their end.
-ghost use Rattle.std.specs.Prelude.{◌≡◌, ◌≤◌, IfErr};
+ghost use Rattle.std.specs.Prelude.{◌≡◌, ◌≤◌};
 ghost use Rattle.std.specs.NonZero.{non_zero_usize_get};
+ghost use Rattle.parallel_fault.specs.Trouble.{IsMemoryOnErr};
 
 use crate::latch::lock_latch::LockLatch;
 use crate::latch::once_latch::OnceLatch;
@@ -28,7 +29,7 @@ impl Registry {
     /// The registry of so many workers, and what each rests by, in order.
     pub(crate) fn new(alloc: Global, workers: NonZeroUsize) -> Result<(Registry, Vec<Rest>), Fault>
         requires { non_zero_usize_get workers ≤ MAX_THREADS }
-        ensures fault { IfErr result (λ refusal. refusal ≡ Fault.Memory) }
+        ensures fault { IsMemoryOnErr result }
     {
         let (sleep, parkers) = Sleep::new(alloc, workers)?;
         let rests = rests(alloc, parkers)?;
@@ -83,7 +84,7 @@ impl Registry {
 
 // So many latches that aren't set.
 fn lock_latches(alloc: Global, count: usize) -> Result<Vec<LockLatch>, Fault>
-    ensures fault { IfErr result (λ refusal. refusal ≡ Fault.Memory) }
+    ensures fault { IsMemoryOnErr result }
 {
     let mut all = Vec::new(alloc);
     for _ in 0..count {
@@ -94,7 +95,7 @@ fn lock_latches(alloc: Global, count: usize) -> Result<Vec<LockLatch>, Fault>
 
 // What each worker rests by, on its parker.
 fn rests(alloc: Global, parkers: Vec<Parker>) -> Result<Vec<Rest>, Fault>
-    ensures fault { IfErr result (λ refusal. refusal ≡ Fault.Memory) }
+    ensures fault { IsMemoryOnErr result }
 {
     let mut all = Vec::new(alloc);
     for parker in parkers {
@@ -105,7 +106,7 @@ fn rests(alloc: Global, parkers: Vec<Parker>) -> Result<Vec<Rest>, Fault>
 
 // The latch of each worker.
 fn latches(alloc: Global, rests: &[Rest]) -> Result<Vec<Arc<OnceLatch, Global>>, Fault>
-    ensures fault { IfErr result (λ refusal. refusal ≡ Fault.Memory) }
+    ensures fault { IsMemoryOnErr result }
 {
     let mut all = Vec::new(alloc);
     for rest in rests {

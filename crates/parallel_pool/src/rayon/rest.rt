@@ -2,6 +2,7 @@
 ghost use Rattle.std.specs.Arc.{arc_value};
 ghost use Rattle.parallel_pool.specs.Latch.{IsSeatOf};
 ghost use Rattle.parallel_pool.specs.OnceLatch.{core_of};
+ghost use Rattle.parallel_fault.specs.Trouble.{IsMemoryOnErr};
 
 use crate::latch::latch_seat::LatchSeat;
 use crate::latch::once_latch::OnceLatch;
@@ -22,11 +23,11 @@ pub(crate) struct Rest {
 }
 
 impl Rest {
-    ghost use Rattle.std.specs.Prelude.{◌≡◌, IfErr};
+    ghost use Rattle.std.specs.Prelude.{◌≡◌};
 
     /// What the worker of this index rests by, on this parker, with a latch that isn't set.
     pub(crate) fn new(alloc: Global, index: usize, parker: Parker) -> Result<Rest, Fault>
-        ensures fault { IfErr result (λ refusal. refusal ≡ Fault.Memory) }
+        ensures fault { IsMemoryOnErr result }
     {
         let (latch, mut seats) = OnceLatch::new(alloc, NonZeroUsize::MIN, index)?;
         let Some(seat) = seats.pop() else {
@@ -42,7 +43,7 @@ impl Rest {
 
     /// The latch, for whoever sets it.
     pub(crate) fn latch(&self) -> Result<Arc<OnceLatch, Global>, Fault>
-        ensures fault { IfErr result (λ refusal. refusal ≡ Fault.Memory) }
+        ensures fault { IsMemoryOnErr result }
     {
         Ok(Arc::try_clone(&self.terminate)?)
     }

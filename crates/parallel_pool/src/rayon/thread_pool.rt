@@ -1,6 +1,7 @@
 // A pool that holds a number of threads, and the call that runs a closure on a worker.
-ghost use Rattle.std.specs.Prelude.{◌≡◌, ◌≤◌, ◌<◌, ℕ, min, vec_len, slice_index_or, IfErr, IfOk};
+ghost use Rattle.std.specs.Prelude.{◌≡◌, ◌≤◌, ◌<◌, ℕ, min, vec_len, slice_index_or, IfOk};
 ghost use Rattle.std.specs.NonZero.{non_zero_usize_get};
+ghost use Rattle.parallel_fault.specs.Trouble.{IsMemoryOnErr};
 
 use crate::rayon::broadcast_context::BroadcastContext;
 use parallel_fault::Fault;
@@ -130,7 +131,7 @@ impl<W: Drop> ThreadPool<W> {
             → index < thread_count self.now
             → F.post op.now (context index (thread_count self.now))
             (slice_index_or answers.items index other)) }
-        ensures fault { IfErr result (λ refusal. refusal ≡ Fault.Memory) }
+        ensures fault { IsMemoryOnErr result }
     {
         let num_threads = self.current_num_threads();
         let answers = thread::map_indices(

@@ -276,7 +276,7 @@ fn current<T: Execute>(
     num_threads: NonZeroUsize,
     workers: &mut Vec<WorkerThread<T>>,
 ) -> Result<Option<WorkerThread<T>>, ThreadPoolBuildError>
-    ensures { IfOk result (λ current. MatchOption current
+    ensures { IfOk result (λ found. MatchOption found
         (plan.now.use_current_thread ≡ false)
         (λ worker. (plan.now.use_current_thread ≡ true)
         × IsFirstWorker plan.now.label (non_zero_usize_get num_threads) worker)) }

@@ -1,5 +1,5 @@
 // The state of all workers' sleep, which lies under one lock.
-ghost use Rattle.std.specs.Prelude.{◌≡◌, ◌≢◌, ◌↔◌, ◌-◌, ◌+◌, ◌%◌, ◌<◌, ◌≤◌, ◌∷◌, [], false, true, length, take, replicate, slice_set, vec_len, IfErr, IfOk, IsTrue, Some, None, if◌then◌else◌};
+ghost use Rattle.std.specs.Prelude.{◌≡◌, ◌≢◌, ◌↔◌, ◌-◌, ◌+◌, ◌%◌, ◌<◌, ◌≤◌, ◌∷◌, [], false, true, length, take, replicate, slice_set, vec_len, IfOk, IsTrue, Some, None, if◌then◌else◌};
 ghost use Rattle.std.specs.NonZero.{non_zero_usize_get};
 ghost use Rattle.parallel_pool.specs.Counters.{sleeping_of, inactive_of, events_of};
 ghost use Rattle.parallel_pool.specs.IdleState.{worker_of, rounds_of, recorded_of};
@@ -7,6 +7,7 @@ ghost use Rattle.parallel_pool.specs.Standings.{is_blocked, is_inactive, standin
 ghost use Rattle.parallel_pool.specs.Blocks.{state_after, rounds_after, recorded_after};
 ghost use Rattle.parallel_pool.specs.declared.sleep.standing.Standing.TheVariants.{Working, Looking, Sleeping};
 ghost use Rattle.parallel_pool.specs.declared.sleep.sleep_state.Block.TheVariants.{Changed, Injected, Blocked};
+ghost use Rattle.parallel_fault.specs.Trouble.{IsMemoryOnErr};
 
 use crate::rayon::thread_pool::MAX_THREADS;
 use crate::sleep::counters::Counters;
@@ -70,7 +71,7 @@ impl SleepState {
           workers = replicate (non_zero_usize_get workers) Working;
           woken = [];
         }) }
-        ensures fault { IfErr result (λ refusal. refusal ≡ Fault.Memory) }
+        ensures fault { IsMemoryOnErr result }
     {
         let standings = Vec::from_elem(alloc, Standing::Working, workers.get())?;
         let woken = Vec::with_capacity(alloc, workers.get())?;

@@ -1,7 +1,8 @@
-ghost use Rattle.std.specs.Prelude.{◌≡◌, length, IfOk, IfErr};
+ghost use Rattle.std.specs.Prelude.{◌≡◌, length, IfOk};
 ghost use Rattle.parallel_shares.specs.Machine.{opening, IsStateOf};
 ghost use Rattle.parallel_shares.specs.Answers.{Replays};
 ghost use Rattle.parallel_shares.specs.Holders.{Reached};
+ghost use Rattle.parallel_fault.specs.Trouble.{IsMemoryOnErr};
 
 use super::event::{Event, Outcome};
 use super::plan::Plan;
@@ -23,7 +24,7 @@ pub fn replay(alloc: Global, plan: &Plan, events: &[Event]) -> Result<(State, Ve
     ensures run { IfOk result (λ r. Reached plan.now r.0) }
     ensures belongs { IfOk result (λ r. IsStateOf plan.now r.0) }
     ensures one_each { IfOk result (λ r. length r.1.items ≡ length events.now) }
-    ensures fault { IfErr result (λ refusal. refusal ≡ Fault.Memory) }
+    ensures fault { IsMemoryOnErr result }
 {
     let mut state = State::new(alloc, plan)?;
     let mut outcomes = Vec::with_capacity(alloc, events.len())?;

@@ -1,6 +1,7 @@
-ghost use Rattle.std.specs.Prelude.{◌≡◌, ◌<◌, ◌++◌, [], ◌∷◌, length, replicate, IfOk, IfErr, OnErr, IsSome};
+ghost use Rattle.std.specs.Prelude.{◌≡◌, ◌<◌, ◌++◌, [], ◌∷◌, length, replicate, IfOk, OnErr, IsSome};
 ghost use Rattle.parallel_shares.specs.Sizes.{shares_of, IsSound};
 ghost use Rattle.parallel_shares.specs.Machine.{opening_words, fresh};
+ghost use Rattle.parallel_fault.specs.Trouble.{IsMemoryOnErr};
 
 use super::plan::Plan;
 use crate::shares::pack;
@@ -51,7 +52,7 @@ impl ClaimedCells {
     fn push(&mut self, cells: Range<usize>) -> Result<(), Fault>
         ensures pushed { IfOk result (λ _. self.new ≡ self.old ++ cells ∷ []) }
         ensures unchanged { OnErr result (self.new ≡ self.old) }
-        ensures fault { IfErr result (λ refusal. refusal ≡ Fault.Memory) }
+        ensures fault { IsMemoryOnErr result }
     {
         self.ranges.push(cells)?;
         Ok(())
@@ -104,7 +105,7 @@ impl State {
             (λ state. BalancedCut plan.now.units (map range_of state.words)) }
         ensures shows { IfOk result (λ state. (holders : Holders) × IsOpening plan.now holders
             × Shows plan.now state holders) }
-        ensures fault { IfErr result (λ refusal. refusal ≡ Fault.Memory) }
+        ensures fault { IsMemoryOnErr result }
     {
         let words = opening_words(alloc, plan)?;
         let places = fresh_places(alloc, plan.workers())?;
@@ -215,7 +216,7 @@ impl State {
         requires { seat < length self.old.places }
         ensures gained { IfOk result (λ _. self.new ≡ gains self.old seat cells) }
         ensures unchanged { OnErr result (self.new ≡ self.old) }
-        ensures fault { IfErr result (λ refusal. refusal ≡ Fault.Memory) }
+        ensures fault { IsMemoryOnErr result }
     {
         let place = &mut self.places[seat];
         place.claims.push(cells)
@@ -235,7 +236,7 @@ pub(crate) fn opening_words(alloc: Global, plan: &Plan) -> Result<Vec<u64>, Faul
     ensures words { IfOk result (λ words. words.items ≡ opening_words plan.now
         (shares_of plan.now)) }
     ensures sound { IsSound plan.now }
-    ensures fault { IfErr result (λ refusal. refusal ≡ Fault.Memory) }
+    ensures fault { IsMemoryOnErr result }
 {
     let shares = plan.shares();
     let mut words = Vec::with_capacity(alloc, shares)?;
@@ -251,7 +252,7 @@ pub(crate) fn opening_words(alloc: Global, plan: &Plan) -> Result<Vec<u64>, Faul
 /// So many places where nothing was loaded, taken or claimed.
 fn fresh_places(alloc: Global, seats: usize) -> Result<Vec<Place>, Fault>
     ensures places { IfOk result (λ places. places.items ≡ replicate seats fresh) }
-    ensures fault { IfErr result (λ refusal. refusal ≡ Fault.Memory) }
+    ensures fault { IsMemoryOnErr result }
 {
     let mut places = Vec::with_capacity(alloc, seats)?;
     for _seat in 0..seats {

@@ -1,9 +1,10 @@
-ghost use Rattle.std.specs.Prelude.{◌≡◌, ◌≤◌, ◌↔◌, IfOk, IfErr, OnErr, IsTrue};
+ghost use Rattle.std.specs.Prelude.{◌≡◌, ◌≤◌, ◌↔◌, IfOk, OnErr, IsTrue};
 ghost use Rattle.parallel_shares.specs.Words.{IsEmptyWord};
 ghost use Rattle.parallel_shares.specs.Machine.{IsStateOf};
 ghost use Rattle.parallel_shares.specs.Answers.{Answers, AddsClaim, LoadAnswers, ClaimAnswers, StealAnswers, RefillAnswers};
 ghost use Rattle.parallel_shares.specs.Holders.{Steps};
 ghost use Rattle.parallel_shares.specs.declared.machine.event.Event.TheVariants.{Claim};
+ghost use Rattle.parallel_fault.specs.Trouble.{IsMemoryOnErr};
 
 use super::event::{Event, Outcome};
 use super::plan::Plan;
@@ -26,7 +27,7 @@ pub fn step(plan: &Plan, state: &mut State, event: Event) -> Result<Outcome, Fau
     ensures belongs { IsStateOf plan.now state.new }
     ensures unchanged { OnErr result (state.new ≡ state.old) }
     ensures refused { OnErr result (AddsClaim plan.now state.old event) }
-    ensures fault { IfErr result (λ refusal. refusal ≡ Fault.Memory) }
+    ensures fault { IsMemoryOnErr result }
 {
     match event {
         Event::Load { seat, share } => Ok(load(state, seat, share)),
@@ -55,7 +56,7 @@ fn claim(plan: &Plan, state: &mut State, seat: usize) -> Result<Outcome, Fault>
         state.new) }
     ensures unchanged { OnErr result (state.new ≡ state.old) }
     ensures refused { OnErr result (AddsClaim plan.now state.old (Claim seat)) }
-    ensures fault { IfErr result (λ refusal. refusal ≡ Fault.Memory) }
+    ensures fault { IsMemoryOnErr result }
 {
     let own = plan.share_of(seat);
     let Some(load) = state.remembered(seat) else {

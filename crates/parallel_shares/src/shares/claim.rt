@@ -1,7 +1,7 @@
 //! Claims that are tried until one wins or nothing is left that pays.
 ghost use Rattle.std.specs.Prelude.{◌≡◌, None};
 
-use super::queue::Shares;
+use super::Shares;
 use super::seat::{Seat, Tried};
 use std::ops::Range;
 use std::sync::Wait;

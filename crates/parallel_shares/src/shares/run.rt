@@ -1,13 +1,14 @@
 //! A worker's run over its share: it claims until nothing is left that pays, and fills and finishes
 //! the stretches of its claims.
-ghost use Rattle.std.specs.Prelude.{◌≡◌, ◌≢◌, ◌++◌, ◌<◌, ◌-◌, ◌*◌, ◌+◌, ℕ, List, All, None, Some, IfOk, IfErr, IfSome};
+ghost use Rattle.std.specs.Prelude.{◌≡◌, ◌≢◌, ◌++◌, ◌<◌, ◌-◌, ◌*◌, ◌+◌, ℕ, List, All, None, Some, IfOk, IfSome};
 ghost use Rattle.std.specs.Borrow.{MutBor};
 ghost use Rattle.std.specs.declared.ops.Range.{Range};
 ghost use Rattle.parallel_shares.specs.declared.shares.stretch.Stretch.{Stretch};
 ghost use Rattle.parallel_shares.specs.Stretches.{Cutting, IsPartOfRow, IsPiece, StartsBelow, piece_cells, range_cells};
-ghost use Rattle.parallel_shares.specs.Fillings.{Fills, Gives, Finished, Closes, Underway};
+ghost use Rattle.parallel_shares.specs.Fillings.{Fills, Gives, Closes, GoesOn, Worked};
+ghost use Rattle.parallel_fault.specs.Trouble.{IsMemoryOnErr};
 
-use super::queue::Shares;
+use super::Shares;
 use super::seat::Seat;
 use super::stretch::{Piece, front, grown};
 use parallel_fault::Fault;
@@ -24,13 +25,13 @@ impl Shares {
     /// each stretch of what it claimed, in order.
     ///
     /// The claims that the seat gained are fronts of words (`IsFront`), and are cut into stretches
-    /// as `Cutting` says. Each stretch is filled by calls of `fill` with its row and neighbouring
+    /// as `Cutting` says (`Worked`). Each stretch is filled by calls of `fill` with its row and neighbouring
     /// columns, and then `finish` answers its result; all calls are lent one state, which begins as
     /// the one handed in (`Finished`). `fill` is asked for columns of cells that are there alone,
-    /// at least one, and `finish` for rows that have such cells. The seat ends as after a `claim` that answers `None`. The
-    /// one refusal is `Fault::Memory`, where the list of results could not grow: the seat is still
-    /// one of these shares, its claims have grown by what was claimed, and some of that has no
-    /// result. `rt` is the right to go on trying.
+    /// at least one, and `finish` for rows that have such cells. The seat ends as after a `claim`
+    /// that answers `None`. The one refusal is `Fault::Memory`, where the list of results could not
+    /// grow: the seat is still one of these shares, its claims have grown by what was claimed, and
+    /// some of that has no result. `rt` is the right to go on trying.
     pub fn run<W: Wait, T, R: Drop, L: Fn(&mut T, usize, Range<usize>), N: Fn(&mut T, usize) -> R>(
         &self,
         rt: &W,
@@ -52,12 +53,10 @@ impl Shares {
         ensures index { index_of seat.new ≡ index_of seat.old }
         ensures transit { transit_of seat.new ≡ None }
         ensures done { IfOk result (λ _. FoundNothing self.now seat.old seat.new) }
-        ensures chain { IfOk result (λ results. (gained : List (Range ℕ)) × (cut : List Stretch)
-            × (claims_of seat.new ≡ claims_of seat.old ++ gained)
-            × All (IsFront (plan_of self.now)) gained
-            × Cutting gained len cut × Finished (Fills (L.post fill.now))
-            (Gives (N.post finish.now)) state.old cut results.items state.new) }
-        ensures fault { IfErr result (λ refusal. refusal ≡ Fault.Memory) }
+        ensures chain { IfOk result (λ results.
+            Worked (Fills (L.post fill.now)) (Gives (N.post finish.now)) (plan_of self.now) len
+            (claims_of seat.old) state.old (claims_of seat.new) results.items state.new) }
+        ensures fault { IsMemoryOnErr result }
     {
         let mut results = Vec::new(alloc);
         let mut opened = None;
@@ -91,12 +90,10 @@ fn fill_claim<T, R: Drop, L: Fn(&mut T, usize, Range<usize>), N: Fn(&mut T, usiz
         → N.pre finish.now state piece.row) }
     ensures open_accepts { IfOk result (λ next. IfSome next (λ piece. (state : MutBor T)
         → N.pre finish.now state piece.row)) }
-    ensures chain { IfOk result (λ next. (first : T) (cells : List ℕ)
-        → Underway (Fills (L.post fill.now))
-        (Gives (N.post finish.now)) len first cells opened results.old.items state.old
-        → Underway (Fills (L.post fill.now)) (Gives (N.post finish.now)) len first
-        (cells ++ range_cells claim) next results.new.items state.new) }
-    ensures fault { IfErr result (λ refusal. refusal ≡ Fault.Memory) }
+    ensures chain { IfOk result (λ next.
+        GoesOn (Fills (L.post fill.now)) (Gives (N.post finish.now)) len (range_cells claim)
+        opened results.old.items state.old next results.new.items state.new) }
+    ensures fault { IsMemoryOnErr result }
 {
     let mut opened = opened;
     let mut at = claim.start;
@@ -123,12 +120,10 @@ fn fill_piece<T, R: Drop, L: Fn(&mut T, usize, Range<usize>), N: Fn(&mut T, usiz
     requires open_accepts { IfSome opened (λ before. (state : MutBor T)
         → N.pre finish.now state before.row) }
     ensures row { IfOk result (λ next. next.row ≡ piece.row) }
-    ensures chain { IfOk result (λ next. (len : ℕ) (first : T) (cells : List ℕ) → IsPiece len piece
-        → Underway (Fills (L.post fill.now))
-        (Gives (N.post finish.now)) len first cells opened results.old.items state.old
-        → Underway (Fills (L.post fill.now)) (Gives (N.post finish.now)) len first
-        (cells ++ piece_cells len piece) (Some next) results.new.items state.new) }
-    ensures fault { IfErr result (λ refusal. refusal ≡ Fault.Memory) }
+    ensures chain { IfOk result (λ next. (len : ℕ) → IsPiece len piece
+        → GoesOn (Fills (L.post fill.now)) (Gives (N.post finish.now)) len (piece_cells len piece)
+        opened results.old.items state.old (Some next) results.new.items state.new) }
+    ensures fault { IsMemoryOnErr result }
 {
     if let Some(longer) = grown(opened, piece) {
         fill(state, piece.row, piece.start..piece.end);
@@ -150,7 +145,7 @@ fn finish_open<T, R: Drop, N: Fn(&mut T, usize) -> R>(
     ensures closes { IfOk result (λ _. Closes
         (Gives (N.post finish.now)) opened state.old results.old.items state.new
         results.new.items) }
-    ensures fault { IfErr result (λ refusal. refusal ≡ Fault.Memory) }
+    ensures fault { IsMemoryOnErr result }
 {
     if let Some(piece) = opened {
         results.push(finish(state, piece.row))?;

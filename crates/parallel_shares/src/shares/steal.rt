@@ -5,10 +5,9 @@ ghost use Rattle.parallel_shares.specs.Words.{IsWithin, packed};
 ghost use Rattle.parallel_shares.specs.Answers.{Pays};
 ghost use Rattle.parallel_shares.specs.Steals.{IsBetter, IsNoBetter};
 
-use super::queue::Shares;
 use super::rule::{LookAt, PutDown, TakeBack};
 use super::seat::{Seat, Tried};
-use super::{pack, unpack};
+use super::{Shares, pack, unpack};
 use crate::machine::Plan;
 
 /// A share, and the word that was loaded there.

@@ -1,7 +1,8 @@
 //! Claimed cells, cut at the ends of the rows.
-ghost use Rattle.std.specs.Prelude.{◌≡◌, ◌≢◌, ◌+◌, ◌*◌, ◌-◌, ◌<◌, ◌≤◌, ◌++◌, ◌∷◌, [], ℕ, List, Some, IfOk, IfErr};
+ghost use Rattle.std.specs.Prelude.{◌≡◌, ◌≢◌, ◌+◌, ◌*◌, ◌-◌, ◌<◌, ◌≤◌, ◌++◌, ◌∷◌, [], ℕ, List, Some, IfOk};
 ghost use Rattle.std.specs.List.{range_with_len};
 ghost use Rattle.parallel_shares.specs.Stretches.{Cutting, Parted, IsPiece, Grown, stretches_of, piece_cells, range_cells};
+ghost use Rattle.parallel_fault.specs.Trouble.{IsMemoryOnErr};
 
 use parallel_fault::Fault;
 use std::alloc::Global;
@@ -32,7 +33,7 @@ pub struct Piece {
 pub fn stretches(alloc: Global, claims: &[Range<usize>], len: usize) -> Result<Vec<Stretch>, Fault>
     requires { len ≢ 0 }
     ensures cutting { IfOk result (λ found. Cutting claims.now len found.items) }
-    ensures fault { IfErr result (λ refusal. refusal ≡ Fault.Memory) }
+    ensures fault { IsMemoryOnErr result }
 {
     let mut found = Vec::new(alloc);
     let mut opened = None;
@@ -53,7 +54,7 @@ fn add_claim(
     requires { len ≢ 0 }
     ensures parted { IfOk result (λ next. (cells : List ℕ) → Parted len cells found.old.items opened
         → Parted len (cells ++ range_cells claim.now) found.new.items next) }
-    ensures fault { IfErr result (λ refusal. refusal ≡ Fault.Memory) }
+    ensures fault { IsMemoryOnErr result }
 {
     let mut opened = opened;
     let mut at = claim.start;
@@ -70,7 +71,7 @@ fn add(found: &mut Vec<Stretch>, opened: Option<Piece>, piece: Piece) -> Result<
     ensures parted { IfOk result (λ next. (len : ℕ) (cells : List ℕ) → IsPiece len piece
         → Parted len cells found.old.items opened
         → Parted len (cells ++ piece_cells len piece) found.new.items (Some next)) }
-    ensures fault { IfErr result (λ refusal. refusal ≡ Fault.Memory) }
+    ensures fault { IsMemoryOnErr result }
 {
     if let Some(longer) = grown(opened, piece) {
         return Ok(longer);
@@ -82,7 +83,7 @@ fn add(found: &mut Vec<Stretch>, opened: Option<Piece>, piece: Piece) -> Result<
 // Ends the stretch that is open, if one is.
 fn close(found: &mut Vec<Stretch>, opened: Option<Piece>) -> Result<(), Fault>
     ensures found { IfOk result (λ _. found.new.items ≡ found.old.items ++ stretches_of opened) }
-    ensures fault { IfErr result (λ refusal. refusal ≡ Fault.Memory) }
+    ensures fault { IsMemoryOnErr result }
 {
     if let Some(Piece { row, start, end }) = opened {
         found.push(Stretch {

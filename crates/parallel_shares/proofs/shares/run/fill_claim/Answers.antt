@@ -44,9 +44,8 @@ loop-at-preserved g c =
           piece.result.row (omega (arith, piece.ensures.start, c.loop-at-test.true, piece.ensures.piece.0)));
       chain = λ first cells way.
           rw (← claim_more len cells start at piece.result i.begun piece.ensures.start)
-          (c.in_ok-fill_piece.ensures.chain len first
-          (cells ++ range_with_len start (at - start)) piece.ensures.piece
-          (i.chain first cells way));
+          (c.in_ok-fill_piece.ensures.chain len piece.ensures.piece first
+          (cells ++ range_with_len start (at - start)) (i.chain first cells way));
     }
 
 pub returns-clause-chain : goal.returns-clause-chain

@@ -1,9 +1,9 @@
 -- The cells of the claim so far were filled behind those from before, and the open row may be
 -- finished.
-use Rattle.std.proofs.Common.{ℕ, List, ◌++◌, ◌-◌, ◌≤◌, IfSome}
+use Rattle.std.proofs.Common.{◌-◌, ◌≤◌, IfSome}
 use Rattle.std.specs.Borrow.{MutBor}
 use Rattle.std.specs.List.{range_with_len}
-use Rattle.parallel_shares.specs.Fillings.{Fills, Gives, Underway}
+use Rattle.parallel_shares.specs.Fillings.{Fills, Gives, GoesOn}
 use Rattle.parallel_shares.proofs.shares.run.fill_claim.Given as goal
 
 abbrev pub invariant-loop-at : goal.invariant-loop-at
@@ -12,12 +12,9 @@ invariant-loop-at g l = record {
   within : l.at - l.claim.start ≤ l.claim.end - l.claim.start;
   accepts : IfSome l.opened
       (λ piece. (state : MutBor g.row.T.Denot) → goal.N-pre g l.finish state piece.row);
-  chain : (first : g.row.T.Denot) (cells : List ℕ)
-      → Underway (Fills (goal.L-post g l.fill))
-      (Gives (goal.N-post g l.finish)) l.len first cells l.fn.opened l.fn.results.items l.fn.state
-      → Underway (Fills (goal.L-post g l.fill)) (Gives (goal.N-post g l.finish)) l.len first
-      (cells ++ range_with_len l.claim.start (l.at - l.claim.start)) l.opened l.results.items
-      l.state;
+  chain : GoesOn (Fills (goal.L-post g l.fill)) (Gives (goal.N-post g l.finish)) l.len
+      (range_with_len l.claim.start (l.at - l.claim.start)) l.fn.opened l.fn.results.items l.fn.state
+      l.opened l.results.items l.state;
 }
 
 abbrev pub decreases-loop-at : goal.decreases-loop-at

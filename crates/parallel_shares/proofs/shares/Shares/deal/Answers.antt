@@ -1,0 +1,61 @@
+-- Each seat gets the next number of the first view, and the last seat is what is left of it.
+use Rattle.std.proofs.Common.{◌≡◌, ◌+◌, ◌<◌, ◌∷◌, [], ◌∙◌, ap, arith}
+use Rattle.parallel_shares.specs.Sharing.{fresh_view, undealt, dealt_from, dealt}
+use Rattle.parallel_shares.proofs.Openings.{some_shares}
+use Rattle.parallel_shares.proofs.Keeping.{splits}
+use Rattle.parallel_shares.proofs.Dealt.{rest_dealt, first_dealt, is_seat, is_fresh, dealt_none, dealt_more}
+use Rattle.parallel_shares.proofs.shares.Shares.deal.Goals as goal
+
+pub loop-index-init : goal.loop-index-init
+loop-index-init c = record {
+  table = c.requires.table;
+  view = c.requires.view;
+  seats = dealt_none c.args.self.now c.in_ok-seats.seats.items c.in_ok-seats.ensures.items;
+}
+
+pub split_seat-seat-requires : goal.split_seat-seat-requires
+split_seat-seat-requires c =
+    let shares = c.args.self.now in
+    let view = ap (λ m. m.0) c.loop-index.invariant.view in (
+      c.loop-index.invariant.table,
+      omega (arith, shares.words, some_shares shares.plan shares.sound),
+      rw (shares.key, view) (splits shares.plan shares.sound c.loop-index.first.id
+          c.loop-index.index),
+    )
+
+pub seated-requires : goal.seated-requires
+seated-requires c =
+    let shares = c.args.self.now in
+    let view = ap (λ m. m.0) c.loop-index.invariant.view in
+    let more : c.loop-index.index < shares.plan.workers =
+    omega (arith, c.workers-workers.ensures) in (
+      shares.plan,
+      c.split_seat-seat.ensures.4 ∙ ap (λ v. (dealt v, [])) view
+          ∙ ap (λ v. (v, [])) (first_dealt shares.plan c.loop-index.index more),
+    )
+
+pub loop-index-preserved : goal.loop-index-preserved
+loop-index-preserved c =
+    let shares = c.args.self.now in
+    let index = c.loop-index.index in
+    let i = c.loop-index.invariant in
+    let view = ap (λ m. m.0) i.view in
+    let more : index < shares.plan.workers = omega (arith, c.workers-workers.ensures) in
+    let x = c.seated.result in
+    let made = c.seated.ensures in
+    let split = c.split_seat-seat.ensures in
+    let table : x.seat.table_id ≡ shares.table.shared.table_id = ap (λ s. s.table_id) made.0
+    ∙ split.3 ∙ i.table in
+    let own : c.split_seat-seat.result.me ≡ (fresh_view shares.plan (index ∷ []), []) = split.4
+    ∙ ap (λ v. (dealt v, [])) view ∙ ap (λ v. (v, [])) (first_dealt shares.plan index more) in
+    let me : x.seat.me ≡ (fresh_view shares.plan (index ∷ []), []) = ap (λ s. s.me) made.0 ∙ own in
+    let left : c.split_seat-seat.new.seat.me ≡ (undealt shares.plan (index + 1), []) = split.2
+    ∙ ap (λ m. (dealt_from m.0, m.1)) i.view
+    ∙ ap (λ v. (v, [])) (rest_dealt shares.plan index more) in
+    record {
+      table = split.0 ∙ i.table;
+      view = left;
+      seats = dealt_more shares index c.loop-index.seats.items c.push.new.self.items x i.seats
+          (is_seat shares x index table made.1 more me made.2 made.3) made.1
+          (is_fresh shares x index table made.1 more me made.2 made.3) c.in_ok-push.ensures.items;
+    }

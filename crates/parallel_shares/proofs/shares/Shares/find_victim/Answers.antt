@@ -1,0 +1,73 @@
+-- Each turn passes over the seat's own share, or loads another one and keeps the better.
+use Rattle.std.proofs.Common.{rules, ◌≡◌, ◌≢◌, ◌+◌, ◌<◌, ◌∙◌, length, Some, subst, sym, arith}
+use Rattle.parallel_shares.specs.Sizes.{shares_of, share_of}
+use Rattle.parallel_shares.specs.Seats.{known}
+use Rattle.parallel_shares.specs.Steals.{OnlyLooks, LooksRound, IsBest}
+use Rattle.parallel_shares.proofs.Victims.{passes_own, best_passes_own, looks_more, only_more, better, no_better}
+use Rattle.parallel_shares.proofs.shares.Shares.find_victim.Goals as goal
+use Rattle.parallel_shares.proofs.shares.Shares.find_victim.Goals.{then-share-own+then-is_better, then-share-own+else-is_better, else-share-own}
+
+pub loop-share-preserved : goal.loop-share-preserved
+loop-share-preserved c =
+    let plan = c.args.self.now.plan in
+    let own = share_of plan c.args.seat.now.index in
+    let n = c.loop-share.share in
+    let first = known c.args.seat.now in
+    let seat = known c.loop-share.seat in
+    let i = c.loop-share.invariant in
+    let exists : n < shares_of plan =
+    omega (arith, c.loop-share-test.true, c.shares-share-end.ensures.shares) in
+    let fits : n < length seat.words = omega (arith, i.seat.words, exists) in
+    let counts : n < length seat.loads = omega (arith, i.seat.loads, exists) in
+    elim c.if-share-own.branch [
+      | then-share-own+then-is_better w ↦
+          let apart : n ≢ own = λ is. w.if-share-own.true (is ∙ sym c.share_of-own.ensures) in
+          let now = w.look_at-word in
+          rw (w.seat-is, w.best-is)
+          (record {
+            seat = now.ensures.seat;
+            same = (now.ensures.same.0 ∙ i.same.0, now.ensures.same.1 ∙ i.same.1);
+            emptied = now.ensures.emptied ∙ i.emptied;
+            only = subst (OnlyLooks first) (sym now.ensures.view)
+                (only_more plan own n first seat now.result apart fits counts i.only);
+            looks = subst (λ v. LooksRound plan own (n + 1) first v) (sym now.ensures.view)
+                (looks_more plan own n first seat now.result apart fits counts now.ensures.within
+                now.ensures.splits i.looks);
+            best =
+                subst (λ v. IsBest plan own (n + 1) v
+                (Some (record { share = n; word = now.result }))) (sym now.ensures.view)
+                (better plan own n first seat now.result apart fits counts c.loop-share.best
+                (rw w.if-is_better.true at w.is_better.ensures) i.best);
+          })
+      | then-share-own+else-is_better w ↦
+          let apart : n ≢ own = λ is. w.if-share-own.true (is ∙ sym c.share_of-own.ensures) in
+          let now = w.look_at-word in
+          rw (w.seat-is, w.best-is)
+          (record {
+            seat = now.ensures.seat;
+            same = (now.ensures.same.0 ∙ i.same.0, now.ensures.same.1 ∙ i.same.1);
+            emptied = now.ensures.emptied ∙ i.emptied;
+            only = subst (OnlyLooks first) (sym now.ensures.view)
+                (only_more plan own n first seat now.result apart fits counts i.only);
+            looks = subst (λ v. LooksRound plan own (n + 1) first v) (sym now.ensures.view)
+                (looks_more plan own n first seat now.result apart fits counts now.ensures.within
+                now.ensures.splits i.looks);
+            best = subst (λ v. IsBest plan own (n + 1) v c.loop-share.best) (sym now.ensures.view)
+                (no_better plan own n first seat now.result apart fits counts c.loop-share.best
+                (rw w.if-is_better.false at w.is_better.ensures) i.best);
+          })
+      | else-share-own w ↦
+          let is : n ≡ own = omega (arith, w.if-share-own.false, c.share_of-own.ensures) in
+          rw (w.seat-is, w.best-is)
+          (record {
+            seat = i.seat;
+            same = i.same;
+            emptied = i.emptied;
+            only = i.only;
+            looks = passes_own plan own n first seat is i.looks;
+            best = best_passes_own plan own n first seat is c.loop-share.best i.best;
+          })
+    ]
+
+pub loop-share-init : goal.loop-share-init
+loop-share-init c = search rules

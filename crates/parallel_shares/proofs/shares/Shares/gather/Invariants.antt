@@ -1,0 +1,16 @@
+-- The one seat and those that are left have together what all seats had.
+use Rattle.std.proofs.Common.{◌≡◌, ◌<◌, ℕ, length, get_or}
+use Rattle.parallel_shares.specs.declared.shares.seat.Seat.{Seat}
+use Rattle.parallel_shares.specs.Seats.{IsSeatOf}
+use Rattle.parallel_shares.proofs.Gatherings.{Gathering}
+use Rattle.parallel_shares.proofs.shares.Shares.gather.Given as goal
+
+abbrev pub invariant-loop-seat : goal.invariant-loop-seat
+invariant-loop-seat l = record {
+  table : l.all.table_id ≡ l.self.table.shared.table_id;
+  each : (i : ℕ) (d : Seat) → i < length l.seats.items → IsSeatOf l.self (get_or l.seats.items i d);
+  has : Gathering l.all.me.0 l.seats.items l.fn.seats.items;
+}
+
+abbrev pub decreases-loop-seat : goal.decreases-loop-seat
+decreases-loop-seat l = length l.seats.items

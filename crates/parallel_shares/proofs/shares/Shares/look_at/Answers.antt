@@ -1,0 +1,14 @@
+-- The load keeps what words and seats keep together.
+use Rattle.std.proofs.Common.{arith}
+use Rattle.parallel_shares.proofs.Keeping.{looks_at}
+use Rattle.parallel_shares.proofs.shares.Shares.look_at.Goals as goal
+
+pub load-requires : goal.load-requires
+load-requires c =
+    let shares = c.args.self.now in
+    let seat = c.args.seat.now in (
+      c.requires.belongs.table,
+      omega (arith, shares.words, c.requires.exists),
+      rw shares.key (looks_at shares.plan shares.sound shares.table.shared.table_id.slots
+          seat.seat.id c.args.share seat.index seat.seat.me c.requires.belongs.plan seat.owns),
+    )

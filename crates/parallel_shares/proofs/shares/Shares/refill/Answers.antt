@@ -1,0 +1,29 @@
+-- The store keeps what words and seats keep together: the seat has seen its own word empty.
+use Rattle.std.proofs.Common.{◌≡◌, ◌<◌, ◌∙◌, Some, [], ◌∷◌, cond, ap, sym, subst, arith}
+use Rattle.parallel_shares.specs.Sizes.{shares_of, share_of}
+use Rattle.parallel_shares.specs.Seats.{Carries}
+use Rattle.parallel_shares.specs.Sharing.{ranges_of}
+use Rattle.parallel_shares.proofs.Keeping.{puts_down}
+use Rattle.parallel_shares.proofs.Sharings.{share_exists}
+use Rattle.parallel_shares.proofs.shares.Shares.refill.Goals as goal
+
+pub store-requires : goal.store-requires
+store-requires c =
+    let shares = c.args.self.now in
+    let plan = shares.plan in
+    let seat = c.args.seat.now in
+    let asks = c.requires.belongs in
+    let units = c.in-Some.units in
+    let transit : seat.transit ≡ Some units = sym c.in_transit.ensures ∙ c.in-Some.is in
+    let carried = subst (Carries plan seat.own_empty) transit asks.carries in
+    let own : share_of plan seat.index ≡ seat.index = ap (λ b. cond b 0 seat.index) carried.3 in
+    let exists : seat.index < shares_of plan =
+    subst (λ n. n < shares_of plan) own (share_exists plan seat.index asks.index) in (
+      asks.table,
+      omega (arith, shares.words, c.share_of-share.ensures, own, exists),
+      rw shares.key (puts_down plan shares.sound shares.table.shared.table_id.slots seat.seat.id
+          c.share_of-share.result seat.index units c.pack-word.result seat.seat.me seat.owns
+          (seat.empties ∙ ap (λ b. cond b (seat.index ∷ []) []) carried.2)
+          (seat.carries ∙ ap ranges_of transit) carried.3 carried.0 carried.1 exists
+          (c.share_of-share.ensures ∙ own) c.pack-word.ensures),
+    )

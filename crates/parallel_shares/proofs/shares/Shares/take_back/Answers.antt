@@ -1,0 +1,18 @@
+-- The exchange keeps what words and seats keep together.
+use Rattle.std.proofs.Common.{◌∙◌, ap, arith}
+use Rattle.parallel_shares.specs.Sharing.{ranges_of}
+use Rattle.parallel_shares.proofs.Keeping.{takes_back}
+use Rattle.parallel_shares.proofs.shares.Shares.take_back.Goals as goal
+
+pub compare_exchange-found-requires : goal.compare_exchange-found-requires
+compare_exchange-found-requires c =
+    let shares = c.args.self.now in
+    let seat = c.args.seat.now in
+    let asks = c.requires.belongs in (
+      asks.table,
+      omega (arith, shares.words, c.requires.exists),
+      rw shares.key (takes_back shares.plan shares.sound shares.table.shared.table_id.slots
+          seat.seat.id c.args.victim.share seat.index c.args.victim.word c.pack-next.result
+          seat.seat.me seat.owns (seat.carries ∙ ap ranges_of c.requires.empty_handed)
+          c.requires.exists c.requires.within c.requires.pays (omega (arith, c.pack-next.ensures))),
+    )

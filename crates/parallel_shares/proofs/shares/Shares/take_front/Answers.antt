@@ -1,0 +1,20 @@
+-- The exchange keeps what words and seats keep together.
+use Rattle.std.proofs.Common.{◌<◌, arith}
+use Rattle.parallel_shares.specs.Sizes.{shares_of}
+use Rattle.parallel_shares.proofs.Keeping.{takes_front}
+use Rattle.parallel_shares.proofs.Sharings.{share_exists}
+use Rattle.parallel_shares.proofs.shares.Shares.take_front.Goals as goal
+
+pub compare_exchange-requires : goal.compare_exchange-requires
+compare_exchange-requires c =
+    let shares = c.args.self.now in
+    let seat = c.args.seat.now in
+    let asks = c.requires.seat in
+    let exists : c.share_of-share.result < shares_of shares.plan =
+    omega (arith, c.share_of-share.ensures, share_exists shares.plan seat.index asks.index) in (
+      asks.table,
+      omega (arith, shares.words, exists),
+      rw shares.key (takes_front shares.plan shares.sound shares.table.shared.table_id.slots
+          seat.seat.id c.share_of-share.result seat.index c.args.word c.args.next seat.seat.me
+          asks.plan seat.owns exists c.requires.within c.requires.some c.requires.front),
+    )
