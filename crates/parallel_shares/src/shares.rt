@@ -17,7 +17,7 @@ use crate::machine::{Plan, opening_words};
 use atomic_table::{Closed, Table};
 use parallel_fault::Fault;
 pub use rule::View;
-use rule::{Deal, Gather, LookOwn, Partition, TakeFront, View};
+use rule::{Deal, Gather, LookOwn, Partition, TakeFront};
 pub use seat::{Seat, Tried};
 use std::alloc::Global;
 use std::num::NonZeroUsize;
