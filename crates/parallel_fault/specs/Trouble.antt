@@ -1,3 +1,4 @@
+-- What is said of a refusal, and of an error that a closure has of its own.
 use Rattle.std.specs.Prelude.{◌≡◌, Result, Err, Ok, IfErr}
 use Rattle.parallel_fault.specs.declared.fault.Fault.{Fault}
 use Rattle.parallel_fault.specs.declared.fault.Trouble.{Trouble}
