@@ -1,33 +1,13 @@
 -- A vector's block is a row of places and the right to free it, and back. Assumes `Logic`.
-use mathlib.Core.Path.{◌≡◌, refl, sym, ap, ◌∙◌}
+use Rattle.parallel_bridge.proofs.Walks.{◌≡◌, refl, sym, ap, ◌∙◌, ℕ, suc, ◌+◌, ◌-◌, ◌*◌, ◌≤◌, arith, List, [], ◌∷◌, ◌++◌, map, T, length, replicate, length-append, length-replicate, Ura, full_share}
+use Rattle.parallel_bridge.proofs.Walks.{ty_array, bare, ent, sep, Fml, ftrue, froom, Logic, sem, ‵, ◌⊛◌, given, ◌$◌, ◌∵◌, !, qed, move, keep, use1, use2, split, learn, rewrite, fsplit, fjoin, done}
+use Rattle.parallel_bridge.proofs.Walks.{part_at, row, block_ptr, nothing, Option, Some, None, token, owns_if, as_raw, as_written, slots}
 use mathlib.Core.Bool.{Bool, true, false, not}
-use Prim.Native.Nat.{ℕ, suc, ◌+◌, ◌-◌, ◌*◌, ◌≤◌}
-use native.Mathlib.Omega.{arith}
-use mathlib.Core.List.{List, [], ◌∷◌, ◌++◌, map}
-use lib.Dec.{T}
-use lib.ListN.{length, replicate, length-append, length-replicate}
-use seplogic.Ra.Ura.{Ura}
-use base.Fraction.{full_share}
-use mir.Syntax.{ty_array}
-use mir.Raw.{raw as bare}
-use base.Logic.{ent, sep}
-use base.Fml.{Fml, ftrue, froom}
-use types.Logic.{Logic, sem}
-use types.Kit.{‵, ◌⊛◌, given, ◌$◌, ◌∵◌, !, qed, move, keep, use1, use2, split, learn, rewrite, fsplit, fjoin, done}
-use denote.Memory.{part_at}
 use denote.Array.{Array}
-use denote.Index.{row}
-use denote.RawPtr.{block_ptr}
-use denote.Steps.{nothing}
-use Rattle.std.specs.Prelude.{Option, Some, None}
 use Rattle.core.specs.Allocator.{block_with_items}
 use Rattle.core.proofs.mem.Param as core
-use Rattle.core.proofs.alloc.Calls.{token}
-use Rattle.std_alloc.specs.Vec.Ownership.{owns_if}
-use Rattle.std_alloc.proofs.RawLayout.{as_raw, as_written}
 use Rattle.std_alloc.proofs.VecSteps.El.{El, el_x, elτ, R, sz, Hd}
 use Rattle.std_alloc.proofs.VecSteps.Rows.{apart, whole}
-use Rattle.parallel_bridge.specs.Places.{slots}
 use Rattle.parallel_bridge.proofs.Rows.{cut, glue, of_items, to_items, of_room, to_room}
 
 module _ {X : Type 0} where

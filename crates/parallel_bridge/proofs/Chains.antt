@@ -1,15 +1,9 @@
 -- What a chain of `into_iter`, `map` and `collect` gives, where the closure has a relation only.
-use Rattle.std.proofs.Common.{◌≡◌, List, [], ◌∷◌, ◌++◌, refl, Option, None, Some, length, sym, subst, ◌∙◌}
-use Rattle.std.specs.List.{All, AllByRecursion, AllZip}
-use Rattle.std.proofs.lemmas.List.Elements.{recursion_from_All}
-use Rattle.std.specs.Fn.{Called}
-use Rattle.std.specs.Iterator.{Yields, Drains, DrainsIf, AlwaysYields, HoldsAlong, CallableAtEachTurn}
-use Rattle.std.specs.Iterator.Adapters.{map_source, map_callee, map_steps}
+use Rattle.parallel_bridge.proofs.Common.{◌≡◌, List, [], ◌∷◌, ◌++◌, refl, Option, None, Some, length, sym, subst, ◌∙◌, All, AllByRecursion, AllZip, recursion_from_All, Called, Yields, Drains}
+use Rattle.parallel_bridge.proofs.Common.{DrainsIf, AlwaysYields, HoldsAlong, CallableAtEachTurn, map_source, map_callee, map_steps, serves_by, YieldsList}
 use Rattle.std.specs.declared.iter.Map.{Map}
 use Rattle.std.specs.declared.vec.IntoIter.{IntoIter}
 use Rattle.std.specs.Vec.Iter.{into_iter_items, into_iter_len, into_iter_steps}
-use Rattle.std.proofs.lemmas.Fn.{serves_by}
-use Rattle.std.proofs.lemmas.Iterator.{YieldsList}
 use Rattle.std.proofs.lemmas.Iterator.Adapters.{YieldsList-from_vec}
 use Rattle.parallel_bridge.specs.Lists.{Chain}
 use denote.Param.Members.{Mut}

@@ -1,13 +1,8 @@
 -- Which list comes of an iterator, and which items may.
-use Rattle.std.proofs.Common.{◌≡◌, List, [], ◌∷◌, ◌++◌, Option, refl, sym, ap, ◌∙◌, subst, map}
-use Rattle.std.specs.List.{All, AllByRecursion, Contains}
-use Rattle.std.specs.Iterator.{Yields, AlwaysYields, Drains, HoldsAlong}
-use Rattle.std.proofs.lemmas.List.Elements.{All-from_recursion, recursion_from_All, All-contains_itself, All-contains}
-use Rattle.std.proofs.lemmas.Iterator.{YieldsList, items_from_drains}
-use Rattle.std.proofs.lemmas.List.{map-id}
+use Rattle.parallel_bridge.proofs.Common.{◌≡◌, List, [], ◌∷◌, ◌++◌, Option, refl, sym, ap, ◌∙◌, subst, map, All, AllByRecursion, Contains, Yields, AlwaysYields, Drains, HoldsAlong, All-from_recursion}
+use Rattle.parallel_bridge.proofs.Common.{recursion_from_All, All-contains_itself, All-contains, YieldsList, items_from_drains, map-id, Bor}
 use Rattle.parallel_bridge.proofs.Chains.{yields_push}
 use Rattle.parallel_bridge.specs.Sources.{MayCome}
-use Rattle.std.specs.Borrow.{Bor}
 
 -- what came of a run, as v reads it, is the list that every run gives
 pub came : {S A B : Type 0} {steps : S → Option A → S → Type 0} {v : A → B} {s : S} {all : List B}

@@ -1,14 +1,7 @@
 -- The first failing index of a map over indices whose closure may fail.
-use Rattle.std.proofs.Common.{◌≡◌, ℕ, zero, suc, ◌+◌, ◌-◌, ◌<◌, ◌≤◌, List, [], ◌∷◌, ◌++◌, Result, Ok, Err, Vec, Global, arith, subst, inl, inr}
-use Rattle.std.specs.Prelude.{MatchResult}
-use Rattle.std.specs.List.{range_with_len}
-use Rattle.std.proofs.lemmas.Bool.{cases_lt}
-use Rattle.parallel_fault.specs.declared.fault.Trouble.{Trouble}
-use Rattle.parallel_fault.specs.declared.fault.Trouble.TheVariants.{Closure}
-use Rattle.parallel_fault.specs.declared.fault.Trouble.TheVariants.{Fault as OfFault}
+use Rattle.parallel_bridge.proofs.Common.{◌≡◌, ℕ, zero, suc, ◌+◌, ◌-◌, ◌<◌, ◌≤◌, List, [], ◌∷◌, ◌++◌, Result, Ok, Err, Vec, Global, arith, subst, inl, inr, MatchResult, range_with_len, cases_lt}
+use Rattle.parallel_bridge.proofs.Calls.{Trouble, Closure, OfFault, UnlessRefused, listed, TryMapOf, EachOk, FirstErr}
 use Rattle.parallel_fault.specs.Trouble.{IfClosure}
-use Rattle.parallel_bridge.specs.Outcomes.{UnlessRefused, listed}
-use Rattle.parallel_bridge.specs.Tries.{TryMapOf, EachOk, FirstErr}
 
 -- every index passes; or one fails by the error, and each below it passes
 abbrev pub FailsFirst : {Y E : Type 0} → (ℕ → Result Y E → Type 0) → (ℕ → Type 0) → ℕ → E → Type 0

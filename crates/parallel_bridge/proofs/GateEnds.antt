@@ -1,17 +1,8 @@
 -- Who stands for all seats of a gate knows of all that was told.
-use Rattle.std.proofs.Common.{◌≡◌, ℕ, ◌+◌, ◌≤◌, ◌<◌, ◌⊎◌, List, [], ◌∷◌, ◌++◌, All, Contains, length, set, sum_by}
-use Rattle.std.proofs.Common.{sym, ap, subst, ◌∙◌, ⊎_elim, inl, inr, arith}
-use Rattle.std.proofs.lemmas.List.Elements.{All-weaker, All-contains, All-contains_itself, Contains-append_left, Contains-append_right, Contains-append_cases, Contains-push, Contains-push_cases}
-use Rattle.std.proofs.lemmas.List.Sums.{sum_by_push}
-use mathlib.Core.Option.{some, some-injective}
-use lib.ListN.{get_elem?}
-use mathlib.Core.Logic.{dite}
-use native.Mathlib.Decide.{ℕ_discrete}
-use Rattle.atomic_table.proofs.Lists.{set_else}
-use Rattle.parallel_bridge.specs.declared.gate.seat.GateView.{GateView}
-use Rattle.parallel_bridge.specs.declared.gate.seat.GateSeat.{GateSeat}
-use Rattle.parallel_bridge.specs.GateRule.{greatest, newcomer, gathered, WasTold, FitsGate, KeepsGate, IsGateOf}
-use Rattle.parallel_bridge.specs.Gates.{known, stands_for, ToldByOne, IsAtMost}
+use Rattle.parallel_bridge.proofs.Common.{◌≡◌, ℕ, ◌+◌, ◌≤◌, ◌<◌, ◌⊎◌, List, [], ◌∷◌, ◌++◌, All, Contains, length, set, sum_by, sym, ap, subst, ◌∙◌, ⊎_elim, inl, inr, arith, All-weaker, All-contains}
+use Rattle.parallel_bridge.proofs.Common.{All-contains_itself, Contains-append_left, Contains-append_right, Contains-append_cases, Contains-push, Contains-push_cases, sum_by_push, some}
+use Rattle.parallel_bridge.proofs.Common.{some-injective, get_elem?, dite, ℕ_discrete}
+use Rattle.parallel_bridge.proofs.Gates.{set_else, GateView, GateSeat, greatest, newcomer, gathered, WasTold, FitsGate, KeepsGate, IsGateOf, known, stands_for, ToldByOne, IsAtMost}
 use Rattle.parallel_bridge.proofs.GateSteps.{held, held_set, one_of}
 
 -- the word, seen by who stands for all seats

@@ -1,16 +1,10 @@
 -- Each step of a gate keeps its rule.
-use Rattle.std.proofs.Common.{◌≡◌, ℕ, ◌+◌, ◌≤◌, ◌<◌, ◌⊎◌, min, List, [], ◌∷◌, ◌++◌, All, Contains, set, get_or, slice_index, sum_by}
-use Rattle.std.proofs.Common.{zero, suc, refl, sym, ap, subst, ◌∙◌, ⊎_elim, inl, inr, arith}
-use Rattle.std.proofs.lemmas.List.Elements.{All-nil, All-append, All-push, All-weaker, Contains-append_left, Contains-append_right, Contains-push}
-use Rattle.std.proofs.lemmas.List.Sums.{sum_by-set, sum_by_push, get_or-le-sum_by}
-use mathlib.Core.Option.{some, some-injective}
-use lib.ListN.{get_elem?}
-use mathlib.Core.Logic.{dite}
-use native.Mathlib.Decide.{ℕ_discrete, dec_le}
+use Rattle.parallel_bridge.proofs.Common.{◌≡◌, ℕ, ◌+◌, ◌≤◌, ◌<◌, ◌⊎◌, min, List, [], ◌∷◌, ◌++◌, All, Contains, set, get_or, slice_index, sum_by, zero, suc, refl, sym, ap, subst, ◌∙◌, ⊎_elim, inl, inr}
+use Rattle.parallel_bridge.proofs.Common.{arith, All-nil, All-append, All-push, All-weaker, Contains-append_left, Contains-append_right, Contains-push, sum_by-set, sum_by_push, get_or-le-sum_by, some}
+use Rattle.parallel_bridge.proofs.Common.{some-injective, get_elem?, dite, ℕ_discrete, dec_le}
+use Rattle.parallel_bridge.proofs.Gates.{at_set, set_here, set_else, at_longer, GateView, greatest, newcomer, one_less, front_half, back_half, gathered, telling, looking, WasTold, FitsGate, KeepsGate}
+use Rattle.parallel_bridge.proofs.Gates.{IsGateOf}
 use Rattle.atomic_table.specs.Table.{State, Me, Allows, Splits, Joins, keeps}
-use Rattle.atomic_table.proofs.Lists.{at_set, set_here, set_else, at_longer}
-use Rattle.parallel_bridge.specs.declared.gate.seat.GateView.{GateView}
-use Rattle.parallel_bridge.specs.GateRule.{greatest, newcomer, one_less, front_half, back_half, gathered, telling, looking, WasTold, FitsGate, KeepsGate, IsGateOf}
 use Rattle.parallel_bridge.proofs.ViewPlaces.{there, each_set, each_more}
 
 -- how many seats the views stand for

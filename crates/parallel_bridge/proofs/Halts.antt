@@ -1,19 +1,10 @@
 -- What the seats of two neighbouring parts say, joined.
-use Rattle.std.proofs.Common.{◌≡◌, ℕ, ◌+◌, ◌-◌, ◌/◌, ◌≤◌, ◌<◌, List, [], ◌∷◌, ◌++◌, All, Contains, Option, Some, None, Result, Ok, Err}
-use Rattle.std.proofs.Common.{sym, subst, arith}
-use Rattle.std.proofs.lemmas.List.Elements.{All-nil, All-append, All-cons, All-weaker, All-contains}
-use Rattle.parallel_fault.specs.declared.fault.Trouble.{Trouble}
-use Rattle.parallel_fault.specs.declared.fault.Trouble.TheVariants.{Closure}
-use Rattle.parallel_fault.specs.declared.fault.Trouble.TheVariants.{Fault as OfFault}
-use Rattle.parallel_bridge.specs.Outcomes.{PutTogether, UnlessRefused}
-use Rattle.parallel_bridge.specs.declared.halt.Halt.{Halt}
-use Rattle.parallel_bridge.specs.declared.halt.Halt.TheVariants.{Failed, Stopped}
+use Rattle.parallel_bridge.proofs.Common.{◌≡◌, ℕ, ◌+◌, ◌-◌, ◌/◌, ◌≤◌, ◌<◌, List, [], ◌∷◌, ◌++◌, All, Contains, Option, Some, None, Result, Ok, Err, sym, subst, arith, All-nil, All-append, All-cons}
+use Rattle.parallel_bridge.proofs.Common.{All-weaker, All-contains}
+use Rattle.parallel_bridge.proofs.Calls.{Trouble, Closure, OfFault, PutTogether, UnlessRefused}
+use Rattle.parallel_bridge.proofs.Gates.{Halt, Failed, Stopped, GateSeat, GateView, greatest, gathered, newcomer, IsSeatOf, known, stands_for, EndsAs, IsKeptOf, JoinsKept, KeptEnds, NotStopped}
+use Rattle.parallel_bridge.proofs.Gates.{SeatAfter, TellsAs}
 use Rattle.parallel_bridge.specs.declared.gate.Gate.{Gate}
-use Rattle.parallel_bridge.specs.declared.gate.seat.GateSeat.{GateSeat}
-use Rattle.parallel_bridge.specs.declared.gate.seat.GateView.{GateView}
-use Rattle.parallel_bridge.specs.GateRule.{greatest, gathered, newcomer}
-use Rattle.parallel_bridge.specs.Gates.{IsSeatOf, known, stands_for}
-use Rattle.parallel_bridge.specs.Halting.{EndsAs, IsKeptOf, JoinsKept, KeptEnds, NotStopped, SeatAfter, TellsAs}
 
 -- who told nothing told no start in front of anything
 pub silent : (P : ℕ → Type 0) (told : List ℕ) → told ≡ [] → All P told

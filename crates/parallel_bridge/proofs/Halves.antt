@@ -1,13 +1,6 @@
 -- The outcomes of two halves of a list, put together, go along the shape of the list.
-use Rattle.std.proofs.Common.{◌≡◌, ℕ, zero, ◌-◌, ◌/◌, ◌<◌, ◌≤◌, List, ◌++◌, length, take, drop, Result, Ok, Err, refl, sym, subst, arith, inl, inr, ◌⊎◌}
-use Rattle.std.proofs.Math.Seq.{take-append_seam, drop-append_seam}
-use Rattle.parallel_fault.specs.declared.fault.Trouble.{Trouble}
-use Rattle.parallel_fault.specs.declared.fault.Trouble.TheVariants.{Closure}
-use Rattle.parallel_fault.specs.declared.fault.Trouble.TheVariants.{Fault as OfFault}
-use Rattle.parallel_bridge.specs.Outcomes.{PutTogether, UnlessRefused}
-use Rattle.parallel_bridge.specs.Shapes.{Shape, halves}
-use Rattle.parallel_bridge.specs.Sources.{Driven, GivesSome}
-use Rattle.parallel_bridge.specs.Tries.{TryAlongCut}
+use Rattle.parallel_bridge.proofs.Common.{◌≡◌, ℕ, zero, ◌-◌, ◌/◌, ◌<◌, ◌≤◌, List, ◌++◌, length, take, drop, Result, Ok, Err, refl, sym, subst, arith, inl, inr, ◌⊎◌, take-append_seam, drop-append_seam}
+use Rattle.parallel_bridge.proofs.Calls.{Trouble, Closure, OfFault, PutTogether, UnlessRefused, Shape, halves, Driven, GivesSome, TryAlongCut}
 use Rattle.parallel_bridge.proofs.Outcomes.{unless_weaker}
 use Rattle.parallel_bridge.proofs.TryShapes.{try_along_leaf, try_along_wider, try_along_node}
 

@@ -1,8 +1,13 @@
+mod Common
+mod Walks
+mod Calls
+mod Gates
+mod Windows
 pub mod Shapes
 pub mod Bracketings
 pub mod Chains
 pub mod Coming
-pub mod Arriving
+pub mod WriteIter
 mod Ranges
 pub mod Halves
 pub mod SegmentLengths
@@ -19,20 +24,20 @@ pub mod Sorting
 pub mod OverLists
 pub mod FirstFailing
 pub mod WrappingSums
-pub mod Crosses
+pub mod SendSync
 pub mod Rows
 pub mod Blocks
 pub mod Runs
 pub mod Writes
 pub mod TryWrites
-pub mod Taken
+pub mod TakenFromFront
 pub mod Neighbours
 mod ViewPlaces
 mod GateSteps
 mod GateEnds
 pub mod Halts
-pub mod Unhalting
-mod HaltsOnward
+pub mod Unhalt
+mod GatedFolds
 pub mod Zips
 pub mod Serials
 pub mod Pieces

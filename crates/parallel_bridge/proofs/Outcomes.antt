@@ -1,9 +1,6 @@
 -- Facts on outcomes.
+use Rattle.parallel_bridge.proofs.Calls.{Trouble, Closure, OfFault, UnlessRefused}
 use Rattle.std.proofs.Common.{Result, Ok, Err}
-use Rattle.parallel_fault.specs.declared.fault.Trouble.{Trouble}
-use Rattle.parallel_fault.specs.declared.fault.Trouble.TheVariants.{Closure}
-use Rattle.parallel_fault.specs.declared.fault.Trouble.TheVariants.{Fault as OfFault}
-use Rattle.parallel_bridge.specs.Outcomes.{UnlessRefused}
 
 -- what holds of each outcome that is allowed holds of this one
 pub unless_weaker : {R E : Type 0} (result : Result R (Trouble E)) (P Q : Result R E → Type 0)

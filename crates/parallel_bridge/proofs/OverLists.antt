@@ -1,20 +1,7 @@
 -- What the clause of a list call says where its source gives one list alone: a fact of that list.
-use Rattle.std.proofs.Common.{◌≡◌, ℕ, Bool, List, [], ◌∷◌, Option, Result, Ok, Err, Vec, Global, refl, ◌∙◌, ap, subst, map, fold}
-use Rattle.parallel_bridge.specs.declared.path.Path.{Path}
-use Rattle.parallel_bridge.specs.declared.path.Path.TheVariants.{Serial}
-use Rattle.std.specs.Prelude.{MatchResult, IfOk, IfErr}
-use Rattle.std.specs.List.{Contains}
-use Rattle.std.specs.Iterator.{Drains}
-use Rattle.std.specs.Borrow.{Bor}
-use Rattle.std.proofs.lemmas.Iterator.{YieldsList}
-use Rattle.std.proofs.lemmas.Result.{IfOk-weaker}
-use Rattle.parallel_fault.specs.declared.fault.Trouble.{Trouble}
-use Rattle.parallel_fault.specs.declared.fault.Trouble.TheVariants.{Closure}
-use Rattle.parallel_fault.specs.declared.fault.Trouble.TheVariants.{Fault as OfFault}
-use Rattle.parallel_bridge.specs.Lists.{MapOf, Bracketing}
-use Rattle.parallel_bridge.specs.Folds.{FoldLaws}
-use Rattle.parallel_bridge.specs.Outcomes.{UnlessRefused}
-use Rattle.parallel_bridge.specs.Shapes.{FoldsAs}
+use Rattle.parallel_bridge.proofs.Common.{◌≡◌, ℕ, Bool, List, [], ◌∷◌, Option, Result, Ok, Err, Vec, Global, refl, ◌∙◌, ap, subst, map, fold, MatchResult, IfOk, IfErr, Contains, Drains, Bor}
+use Rattle.parallel_bridge.proofs.Common.{YieldsList, IfOk-weaker}
+use Rattle.parallel_bridge.proofs.Calls.{Path, Serial, Trouble, Closure, OfFault, MapOf, Bracketing, FoldLaws, UnlessRefused, FoldsAs}
 use Rattle.parallel_bridge.proofs.Coming.{came_as_it_is}
 use Rattle.parallel_bridge.proofs.Laws.{map_is_function, plain_from_bracketing}
 

@@ -1,17 +1,7 @@
 -- What the clause of a list call says of lists of which the items show values: of borrows, and of
 -- pairs.
-use Rattle.std.proofs.Common.{◌≡◌, List, [], ◌∷◌, Result, Ok, Err, Vec, Global, refl, ap, subst, ◌∙◌, map, map-id}
-use Rattle.std.specs.Prelude.{IfOk}
-use Rattle.std.specs.Borrow.{Bor}
-use Rattle.std.specs.List.{zip}
-use Rattle.std.proofs.lemmas.List.{map-append}
-use Rattle.std.proofs.lemmas.Result.{IfOk-weaker}
-use Rattle.parallel_fault.specs.declared.fault.Trouble.{Trouble}
-use Rattle.parallel_fault.specs.declared.fault.Trouble.TheVariants.{Closure}
-use Rattle.parallel_fault.specs.declared.fault.Trouble.TheVariants.{Fault as OfFault}
-use Rattle.parallel_bridge.specs.Lists.{MapOf}
-use Rattle.parallel_bridge.specs.Outcomes.{UnlessRefused, listed}
-use Rattle.parallel_bridge.specs.Tries.{TryMapOf}
+use Rattle.parallel_bridge.proofs.Common.{◌≡◌, List, [], ◌∷◌, Result, Ok, Err, Vec, Global, refl, ap, subst, ◌∙◌, map, map-id, IfOk, Bor, zip, map-append, IfOk-weaker}
+use Rattle.parallel_bridge.proofs.Calls.{Trouble, Closure, OfFault, MapOf, UnlessRefused, listed, TryMapOf}
 use Rattle.parallel_bridge.specs.Zips.{PairsOf, both}
 
 module _ {X A : Type 0} (view : X → A) where

@@ -1,16 +1,8 @@
 -- A list in pieces: how many there are, a cut between two of them, and what std's iterator gives.
-use Rattle.std.proofs.Common.{◌≡◌, ℕ, zero, suc, min, ◌≤◌, ◌<◌, ◌+◌, ◌-◌, ◌*◌, List, ◌∷◌, ◌++◌, length, map, take, drop, refl, sym, ap, subst, ◌∙◌, arith, inl, inr, suc-mul, mul-le-mul_right, add-mul, length-take, length-drop, take-take, drop-drop, take_all}
-use Rattle.std.proofs.Math.Nat.{zero-add, zero-mul}
-use Rattle.std.proofs.Math.Seq.{take-append_seam, drop-append_seam}
-use Rattle.std.proofs.lemmas.Bool.{cases_lt}
-use Rattle.std.proofs.lemmas.Grind.{div_ceil_times}
-use Rattle.std.proofs.lemmas.List.{drop_all, drop-take, length-map, map-append, take_rest}
-use Rattle.std.proofs.lemmas.List.Elements.{Contains-append_left, Contains-append_right}
-use Rattle.std.proofs.lemmas.Iterator.{YieldsList}
-use Rattle.std.specs.Borrow.{Bor}
-use Rattle.std.specs.Int.{div_ceil}
-use Rattle.std.specs.List.{Contains}
-use Rattle.std.specs.Iterator.{AlwaysYields}
+use Rattle.parallel_bridge.proofs.Common.{◌≡◌, ℕ, zero, suc, min, ◌≤◌, ◌<◌, ◌+◌, ◌-◌, ◌*◌, List, ◌∷◌, ◌++◌, length, map, take, drop, refl, sym, ap, subst, ◌∙◌, arith, inl, inr, suc-mul}
+use Rattle.parallel_bridge.proofs.Common.{mul-le-mul_right, add-mul, length-take, length-drop, take-take, drop-drop, take_all, zero-add, zero-mul, take-append_seam, drop-append_seam, cases_lt}
+use Rattle.parallel_bridge.proofs.Common.{div_ceil_times, drop_all, drop-take, length-map, map-append, take_rest, Contains-append_left, Contains-append_right, YieldsList, Bor, div_ceil, Contains}
+use Rattle.parallel_bridge.proofs.Common.{AlwaysYields}
 use Rattle.std.specs.Slice.Iter.{chunks_rest, chunks_size, chunks_steps}
 use Rattle.std.specs.declared.slice.Chunks.{Chunks}
 use Rattle.parallel_bridge.specs.Chunks.{chunks_of, pieces_of}

@@ -1,7 +1,5 @@
 -- The numbers from one on up to another.
-use Rattle.std.proofs.Common.{◌≡◌, ℕ, zero, suc, ◌≤◌, ◌<◌, ◌+◌, ◌-◌, List, ◌∷◌, ◌++◌, ap, ◌∙◌, arith}
-use Rattle.std.specs.List.{All, AllByRecursion, range_with_len}
-use Rattle.std.proofs.lemmas.List.Elements.{All-from_recursion}
+use Rattle.parallel_bridge.proofs.Common.{◌≡◌, ℕ, zero, suc, ◌≤◌, ◌<◌, ◌+◌, ◌-◌, List, ◌∷◌, ◌++◌, ap, ◌∙◌, arith, All, AllByRecursion, range_with_len, All-from_recursion}
 
 between : (K : ℕ → Type 0) (a n : ℕ) → ((x : ℕ) → a ≤ x → x < a + n → K x)
     → AllByRecursion K (range_with_len a n)

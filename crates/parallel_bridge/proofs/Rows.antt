@@ -1,40 +1,16 @@
 -- The memory of a row of places: cut and glued, with one place taken out and put back, and made of
 -- room. Assumes `Logic`.
-use mathlib.Core.Path.{◌≡◌, refl, sym, ap, subst}
-use Prim.Native.Nat.{ℕ, zero, suc, ◌+◌, ◌*◌, ◌<◌, ◌≤◌}
-use native.Mathlib.Omega.{arith}
-use native.Mathlib.Nat.{zero-mul, suc-mul}
-use mathlib.Core.List.{List, [], ◌∷◌, ◌++◌, map}
-use lib.ListN.{length, take, drop, set, get_or, replicate, take-append-drop, length-take}
+use Rattle.parallel_bridge.proofs.Walks.{◌≡◌, refl, sym, ap, subst, ℕ, zero, suc, ◌+◌, ◌*◌, ◌<◌, ◌≤◌, arith, zero-mul, suc-mul, List, [], ◌∷◌, ◌++◌, map, length, take, from as drop, set, get_or}
+use Rattle.parallel_bridge.proofs.Walks.{replicate, take-append-drop, length-take, Ura, full_share, Ty, ty_array, Val, vstruct, vcons, vnil, of_list, SProp, ent, sep, emp, ex, guard, via, id⊢, mono_r}
+use Rattle.parallel_bridge.proofs.Walks.{Fml, ftrue, fsep, fat, froom, Logic, sem, fact, fact_i, Item, Goal, Seq, Step, step, prop, ‵, raw, some, ◌⊛◌, ◌$◌, ◌∵◌, !, qed, by, move, keep, drop as leave}
+use Rattle.parallel_bridge.proofs.Walks.{use0, use1, use2, pick, split, check, show, frame, fsplit, fjoin, fpick, fpack, feq_i, feq_l, rewrite, done, RattleType, Valss, param_laws, part_at, Ptr}
+use Rattle.parallel_bridge.proofs.Walks.{RawPtr, ptr_val, row, nothing, peeks, Shape, Struct, within, shape, Tuple, tuple_type, Option, Some, None, type_size, El, R, el_x, elτ, Good, word, slot}
+use Rattle.parallel_bridge.proofs.Walks.{slots}
 use lib.Seq.{drop-cons, set_split}
-use seplogic.Ra.Ura.{Ura}
-use base.Fraction.{full_share}
-use mir.Syntax.{Ty, ty_array}
-use mir.Val.{Val, vstruct, vcons, vnil, of_list}
-use base.Logic.{SProp, ent, sep, emp, ex, guard, via, id⊢, mono_r}
-use base.Fml.{Fml, ftrue, fsep, fat, froom}
-use types.Logic.{Logic, sem}
-use contract.Monad.{fact, fact_i}
-use types.Kit.{Item, Goal, Seq, Step, step, prop, ‵, raw, some, ◌⊛◌, ◌$◌, ◌∵◌, !, qed, by, move, keep, drop as leave, use0, use1, use2, pick, split, check}
-use types.Kit.{show, frame, fsplit, fjoin, fpick, fpack, feq_i, feq_l, rewrite, done}
-use denote.RattleType.{RattleType, Valss}
 use denote.Laws.{Typed, Is, shows}
-use denote.Param.Laws.{param_laws}
-use denote.Memory.{part_at}
-use denote.RawPtr.{Ptr, RawPtr, ptr_val}
-use denote.Index.{row}
 use denote.Shadow.{makes_shadow}
-use denote.Steps.{nothing, peeks}
-use denote.Struct.Struct.{Shape, Struct, within}
-use denote.Struct.Owning.{shape}
 use denote.Struct.Declared as Declared
-use denote.Struct.Tuple.{Tuple, tuple_type}
 use borrow.Table.OneValue.{part_in, part_out}
-use Rattle.std.specs.Prelude.{Option, Some, None}
-use Rattle.std.specs.Mem.{type_size}
-use Rattle.core.proofs.mem.Param.{El, R, el_x, elτ}
-use Rattle.std_alloc.proofs.RcSteps.{Good, word}
-use Rattle.parallel_bridge.specs.Places.{slot, slots}
 use Rattle.parallel_bridge.specs.contracts.window.cells.Cells as cells
 use Rattle.parallel_bridge.specs.contracts.window.cells.Base as begins
 

@@ -1,10 +1,8 @@
 -- Empty places, items and empty places in a row, and what each step makes of them.
-use Rattle.std.proofs.Common.{◌≡◌, ℕ, zero, suc, ◌+◌, ◌-◌, ◌<◌, ◌≤◌, List, [], ◌∷◌, ◌++◌, map, length, take, drop, set, replicate, refl, sym, ap, ◌∙◌, arith, ◌⊎◌, inl, inr, append-nil}
-use Rattle.std.specs.Prelude.{Option, Some, None, get_or}
-use Rattle.std.proofs.lemmas.List.{length-append, length-replicate, length-take, length-drop}
+use Rattle.parallel_bridge.proofs.Common.{◌≡◌, ℕ, zero, suc, ◌+◌, ◌-◌, ◌<◌, ◌≤◌, List, [], ◌∷◌, ◌++◌, map, length, take, drop, set, replicate, refl, sym, ap, ◌∙◌, arith, ◌⊎◌, inl, inr, append-nil}
+use Rattle.parallel_bridge.proofs.Common.{Option, Some, None, get_or, length-append, length-replicate, length-take, length-drop}
+use Rattle.parallel_bridge.proofs.Windows.{laid, values, IsRow}
 use denote.RawPtr.{Ptr}
-use Rattle.parallel_bridge.specs.Places.{laid, values}
-use Rattle.parallel_bridge.specs.Windows.{IsRow}
 
 module _ {X : Type 0} where
   abbrev empty : ℕ → List (Option X)

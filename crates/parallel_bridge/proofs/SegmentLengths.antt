@@ -1,10 +1,6 @@
 -- The lengths of the segments that a list is cut into: their sum, and how many there are.
-use Rattle.std.proofs.Common.{◌≡◌, ℕ, zero, suc, ◌-◌, ◌*◌, ◌/◌, ◌^◌, ◌<◌, ◌≤◌, List, [], ◌∷◌, ◌++◌, length, take, drop, nat_lt, sum, refl, sym, ◌∙◌, ap, subst, append_assoc, arith}
-use Rattle.std.proofs.lemmas.List.{length-take, length-drop, length-append}
-use Rattle.std.proofs.lemmas.Bool.{cond-false, cond_both, le-ltb, ltb-false}
-use Rattle.std.proofs.lemmas.List.Sums.{sum_by-append}
-use Rattle.std.proofs.lemmas.Nat.{leading_top, pow_pos}
-use Rattle.std.proofs.Math.Nat.{pow-succ'}
+use Rattle.parallel_bridge.proofs.Common.{◌≡◌, ℕ, zero, suc, ◌-◌, ◌*◌, ◌/◌, ◌^◌, ◌<◌, ◌≤◌, List, [], ◌∷◌, ◌++◌, length, take, drop, nat_lt, sum, refl, sym, ◌∙◌, ap, subst, append_assoc, arith}
+use Rattle.parallel_bridge.proofs.Common.{length-take, length-drop, length-append, cond-false, cond_both, le-ltb, ltb-false, sum_by-append, leading_top, pow_pos, pow-succ'}
 use Rattle.parallel_bridge.specs.Shapes.{Shape, leaf_lengths, halved_lengths, cutdepth}
 
 -- only the length of a list matters for the lengths of its segments

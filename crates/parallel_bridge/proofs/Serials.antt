@@ -1,9 +1,6 @@
 -- What a list call answers serially, and that nothing is said of it in parallel.
+use Rattle.parallel_bridge.proofs.Calls.{Trouble, Closure, Path, Serial, Parallel}
 use Rattle.std.proofs.Common.{◌≡◌, Result, Ok, Err, subst, sym}
-use Rattle.parallel_fault.specs.declared.fault.Trouble.{Trouble}
-use Rattle.parallel_fault.specs.declared.fault.Trouble.TheVariants.{Closure}
-use Rattle.parallel_bridge.specs.declared.path.Path.{Path}
-use Rattle.parallel_bridge.specs.declared.path.Path.TheVariants.{Serial, Parallel}
 use Rattle.parallel_bridge.specs.Serials.{AnsweredSerially, UnrefusedSerially}
 
 module _ {path : Path} where

@@ -1,10 +1,7 @@
 -- Two parts sorted, and then the whole; and a sort by a closure that calls another.
-use Rattle.std.proofs.Common.{◌≡◌, Bool, List, [], ◌∷◌, ◌++◌, ◌∙◌, refl, IsPermutation}
-use Rattle.std.specs.Borrow.{Bor}
+use Rattle.parallel_bridge.proofs.Common.{◌≡◌, Bool, List, [], ◌∷◌, ◌++◌, ◌∙◌, refl, IsPermutation, Bor, Mut, Called, ComparesAs, answers_by}
 use Rattle.std.specs.declared.cmp.Ordering.{Ordering}
-use Rattle.std.specs.Fn.{Mut, Called, ComparesAs}
 use Rattle.std.specs.List.Sorted.{IsSortedByClosure, IsStableByClosure}
-use Rattle.std.proofs.lemmas.Fn.{answers_by}
 use Rattle.std.proofs.lemmas.List.Sorted.{IsPermutation-append, IsPermutation-trans}
 
 pub joined_permutation : {X : Type 0} {all front back first second joined sorted : List X}

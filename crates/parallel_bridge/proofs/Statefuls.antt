@@ -1,10 +1,6 @@
 -- Whichever way states go along a list, its answers fall into segments, each from a fresh state.
-use Rattle.std.proofs.Common.{ℕ, List, [], ◌∷◌, ◌++◌, sym, ◌∙◌, ap, subst, append_assoc}
-use Rattle.parallel_bridge.specs.declared.path.Path.{Path}
-use Rattle.parallel_bridge.specs.declared.path.Path.TheVariants.{Serial, Parallel}
-use Rattle.std.proofs.lemmas.List.{append-nil}
-use Rattle.parallel_bridge.specs.Shapes.{Cut, segment, halves, cut_items, Shape}
-use Rattle.parallel_bridge.specs.States.{StateSegment, Stateful, no_segment, more_segments, StatesAlong, StatesAs}
+use Rattle.parallel_bridge.proofs.Common.{ℕ, List, [], ◌∷◌, ◌++◌, sym, ◌∙◌, ap, subst, append_assoc, append-nil}
+use Rattle.parallel_bridge.proofs.Calls.{Path, Serial, Parallel, Cut, segment, halves, cut_items, Shape, StateSegment, Stateful, no_segment, more_segments, StatesAlong, StatesAs}
 use Rattle.parallel_bridge.proofs.Shapes.{Shape-items}
 
 module _ {S X Y : Type 0} (init : S → Type 0) (step : S → X → Y → S → Type 0) where

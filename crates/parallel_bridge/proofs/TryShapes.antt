@@ -1,11 +1,6 @@
 -- Facts on what goes along a cut where segments may fail.
+use Rattle.parallel_bridge.proofs.Calls.{Trouble, Closure, OfFault, Cut, segment, halves, Shape, AlongCut, UnlessRefused, TryAlongCut, OnlyOk}
 use Rattle.std.proofs.Common.{◌≡◌, ℕ, zero, suc, ◌-◌, ◌/◌, ◌<◌, ◌≤◌, List, length, take, drop, Result, Ok, Err, sym, ◌∙◌, ap, subst, arith, inl, inr, ◌⊎◌}
-use Rattle.parallel_fault.specs.declared.fault.Trouble.{Trouble}
-use Rattle.parallel_fault.specs.declared.fault.Trouble.TheVariants.{Closure}
-use Rattle.parallel_fault.specs.declared.fault.Trouble.TheVariants.{Fault as OfFault}
-use Rattle.parallel_bridge.specs.Shapes.{Cut, segment, halves, Shape, AlongCut}
-use Rattle.parallel_bridge.specs.Outcomes.{UnlessRefused}
-use Rattle.parallel_bridge.specs.Tries.{TryAlongCut, OnlyOk}
 use Rattle.parallel_bridge.proofs.Shapes.{Shape-leaf, Shape-node}
 
 -- what goes along a cut still does where segments and parts allow more

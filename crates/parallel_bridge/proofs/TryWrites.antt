@@ -1,15 +1,7 @@
 -- Values that are written one after another into a window, up to the first error.
-use Rattle.std.proofs.Common.{ℕ, List, [], ◌∷◌, ◌++◌, Result, Ok, Err, IfOk, refl, sym, subst, inl, inr}
+use Rattle.parallel_bridge.proofs.Common.{ℕ, List, [], ◌∷◌, ◌++◌, Result, Ok, Err, IfOk, refl, sym, subst, inl, inr, Global, Vec}
+use Rattle.parallel_bridge.proofs.Calls.{Trouble, Closure, OfFault, UnlessRefused, listed, Driven, GivesSome, Cut, segment, halves, cut_items, Shape, EachOk, FirstErr, TryAlongCut, TryMapOf}
 use Rattle.parallel_bridge.specs.Fills.{Answered, OneAfterAnother}
-use Rattle.std.specs.declared.alloc.Global.{Global}
-use Rattle.std.specs.declared.vec.Vec.{Vec}
-use Rattle.parallel_fault.specs.declared.fault.Trouble.{Trouble}
-use Rattle.parallel_fault.specs.declared.fault.Trouble.TheVariants.{Closure}
-use Rattle.parallel_fault.specs.declared.fault.Trouble.TheVariants.{Fault as OfFault}
-use Rattle.parallel_bridge.specs.Outcomes.{UnlessRefused, listed}
-use Rattle.parallel_bridge.specs.Sources.{Driven, GivesSome}
-use Rattle.parallel_bridge.specs.Shapes.{Cut, segment, halves, cut_items, Shape}
-use Rattle.parallel_bridge.specs.Tries.{EachOk, FirstErr, TryAlongCut, TryMapOf}
 use Rattle.parallel_bridge.proofs.Onward.{onto_append}
 use Rattle.parallel_bridge.proofs.Shapes.{MapOf-append, Shape-items}
 use Rattle.parallel_bridge.proofs.TryShapes.{try_along_wider}

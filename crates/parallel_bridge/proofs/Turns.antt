@@ -1,8 +1,6 @@
 -- One turn of a loop over items that come, over plain variables.
-use Rattle.std.proofs.Common.{◌≡◌, List, [], ◌∷◌, ◌++◌, Result, Err, Option, Some, None, false, is_some, refl, sym, subst}
-use Rattle.std.proofs.lemmas.List.{append-nil}
-use Rattle.parallel_bridge.specs.Onto.{TryMapBehind, TryMapOnto, PartitionOnto}
-use Rattle.parallel_bridge.specs.Outcomes.{ended}
+use Rattle.parallel_bridge.proofs.Common.{◌≡◌, List, [], ◌∷◌, ◌++◌, Result, Err, Option, Some, None, false, is_some, refl, sym, subst, append-nil}
+use Rattle.parallel_bridge.proofs.Calls.{TryMapBehind, TryMapOnto, PartitionOnto, ended}
 
 module _ {X Y E : Type 0} (allowed : X → Result Y E → Type 0) where
   -- the first item that is left fails

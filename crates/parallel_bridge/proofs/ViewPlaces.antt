@@ -1,7 +1,6 @@
 -- What stands at a place of a list, where one place has changed or one has come.
-use Rattle.std.proofs.Common.{◌≡◌, ◌≢◌, ℕ, ◌<◌, ◌⊎◌, List, [], ◌∷◌, ◌++◌, length, set, refl, sym, ap, subst, ⊎_elim, inl, inr, zero, suc, arith}
-use mathlib.Core.Option.{some, some-injective, some-ne-none}
-use lib.ListN.{get_elem?}
+use Rattle.parallel_bridge.proofs.Common.{◌≡◌, ◌≢◌, ℕ, ◌<◌, ◌⊎◌, List, [], ◌∷◌, ◌++◌, length, set, refl, sym, ap, subst, ⊎_elim, inl, inr, zero, suc, arith, some, some-injective, some-ne-none}
+use Rattle.parallel_bridge.proofs.Common.{get_elem?}
 use Rattle.atomic_table.proofs.Lists.{at_set}
 
 module _ {A : Type 0} where

@@ -1,13 +1,7 @@
 -- Folds that add up and wrap around at m.
-use Rattle.std.proofs.Common.{◌≡◌, ℕ, ◌+◌, ◌%◌, ◌<◌, List, [], ◌∷◌, Result, nat_lt, sym, ◌∙◌, ap, fold, sum_by, arith}
-use Rattle.std.specs.Prelude.{IfOk}
-use Rattle.std.proofs.lemmas.Bool.{ltb-true, lt-ltb}
-use Rattle.std.proofs.lemmas.Nat.{mod_below}
-use Rattle.std.proofs.lemmas.List.Sums.{sum_by-cons}
-use Rattle.std.proofs.lemmas.Result.{IfOk-weaker}
-use Rattle.std.proofs.Math.Nat.{mod-add-mod, add-mod-mod, mod-eq_of_lt}
-use Rattle.parallel_bridge.specs.Lists.{Bracketing}
-use Rattle.parallel_bridge.specs.Folds.{FoldLaws}
+use Rattle.parallel_bridge.proofs.Common.{◌≡◌, ℕ, ◌+◌, ◌%◌, ◌<◌, List, [], ◌∷◌, Result, nat_lt, sym, ◌∙◌, ap, fold, sum_by, arith, IfOk, ltb-true, lt-ltb, mod_below, sum_by-cons, IfOk-weaker}
+use Rattle.parallel_bridge.proofs.Common.{mod-add-mod, add-mod-mod, mod-eq_of_lt}
+use Rattle.parallel_bridge.proofs.Calls.{Bracketing, FoldLaws}
 use Rattle.parallel_bridge.proofs.OverLists.{fold_of_list}
 
 -- a sum and what the next item adds

@@ -1,9 +1,7 @@
 -- Answers that are written one after another into a window.
+use Rattle.parallel_bridge.proofs.Calls.{MapOf, Cut, segment, halves, cut_items, Shape, TryAlongCut, OnlyOk}
 use Rattle.std.proofs.Common.{ℕ, List, ◌++◌, Result, Ok, Err, sym, subst, inl, inr}
 use Rattle.parallel_bridge.specs.Fills.{Answered, OneAfterAnother}
-use Rattle.parallel_bridge.specs.Lists.{MapOf}
-use Rattle.parallel_bridge.specs.Shapes.{Cut, segment, halves, cut_items, Shape}
-use Rattle.parallel_bridge.specs.Tries.{TryAlongCut, OnlyOk}
 use Rattle.parallel_bridge.proofs.Shapes.{MapOf-append, Shape-items}
 use Rattle.parallel_bridge.proofs.TryShapes.{try_along_wider}
 

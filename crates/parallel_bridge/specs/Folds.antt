@@ -1,6 +1,8 @@
 -- When a fold by segments is the plain fold from the left.
 use Rattle.std.specs.Prelude.{◌≡◌, Bool, IsTrue, List, fold}
 use Rattle.std.specs.List.{Contains}
+use Rattle.parallel_bridge.specs.Lists.{Bracketing, Brackets}
+use Rattle.parallel_bridge.specs.States.{AnyState, FoldInitSegment}
 
 -- The closures are functions, f by items and g by results, on the values that are good; the
 -- identity is neutral on the right of g; and a step on the right of a reduction may be taken out
@@ -23,3 +25,16 @@ abbrev pub IsPlainFold : {X R : Type 0} → (R → Type 0) → (R → X → R �
     → List X → R → Type 0
 IsPlainFold {X = X} {R = R} identity step reduce xs r = (unit : R) (f : R → X → R) (g : R → R → R)
     (good : R → Bool) → FoldLaws identity step reduce unit f g good xs → r ≡ fold f unit xs
+
+-- each reduction of folds of neighbouring segments is the plain fold
+abbrev pub FoldsPlainly : {X R : Type 0} → (R → Type 0) → (R → X → R → Type 0)
+    → (R → R → R → Type 0) → Type 0
+FoldsPlainly {X = X} {R = R} identity step reduce = (xs : List X) (r : R)
+    → Bracketing identity step reduce xs r → IsPlainFold identity step reduce xs r
+
+-- the same of folds with a state, whatever state each step is lent
+abbrev pub FoldsInitPlainly : {S X R : Type 0} → (S → Type 0) → (R → Type 0)
+    → (S → R → X → R → S → Type 0) → (R → R → R → Type 0) → Type 0
+FoldsInitPlainly {X = X} {R = R} init identity step reduce = (xs : List X) (r : R)
+    → Brackets (FoldInitSegment init identity step) reduce xs r
+    → IsPlainFold identity (AnyState step) reduce xs r

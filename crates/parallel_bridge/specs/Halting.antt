@@ -6,7 +6,8 @@ use Rattle.parallel_fault.specs.declared.fault.Trouble.TheVariants.{Closure}
 use Rattle.parallel_fault.specs.declared.fault.Trouble.TheVariants.{Fault as OfFault}
 use Rattle.parallel_bridge.specs.declared.halt.Halt.{Halt}
 use Rattle.parallel_bridge.specs.declared.halt.Halt.TheVariants.{Failed, Stopped}
-use Rattle.parallel_bridge.specs.Tries.{TryChain}
+use Rattle.parallel_bridge.specs.Sources.{Driven}
+use Rattle.parallel_bridge.specs.Tries.{OnlyOk, TryChain, TryFoldSegment, TryReducedSegment}
 use Rattle.parallel_bridge.specs.declared.gate.Gate.{Gate}
 use Rattle.parallel_bridge.specs.declared.gate.seat.GateSeat.{GateSeat}
 use Rattle.parallel_bridge.specs.declared.gate.seat.GateView.{GateView}
@@ -18,6 +19,14 @@ abbrev pub halting : {A R E : Type 0} → (A → Result R E → Type 0) → A �
 halting allowed a (Ok r) = allowed a (Ok r)
 halting allowed a (Err (Failed e)) = allowed a (Err e)
 halting allowed a (Err Stopped) = Unit {0}
+
+-- the outcome of a fold by steps that may fail goes along the shape of a list that may come, where a
+-- segment may be stopped
+abbrev pub FoldHalting : {S X R E : Type 0} → (S → List X → Type 0) → S → (R → Type 0)
+    → (R → X → Result R E → Type 0) → (R → R → R → Type 0) → ℕ → Result R (Trouble (Halt E)) → Type 0
+FoldHalting gives source identity step reduce depth result = Driven gives source
+    (halting (TryReducedSegment identity (TryFoldSegment identity step) reduce))
+    (λ a b. OnlyOk (reduce a b)) depth result
 
 -- the outcome isn't that of a segment that was stopped
 abbrev pub NotStopped : {R E : Type 0} → Result R (Trouble (Halt E)) → Type 0

@@ -3,6 +3,8 @@ use Rattle.std.specs.Prelude.{ℕ, zero, suc, ◌-◌, ◌/◌, List, [], ◌∷
 use Rattle.parallel_bridge.specs.declared.path.Path.{Path}
 use Rattle.parallel_bridge.specs.declared.path.Path.TheVariants.{Serial, Parallel}
 use Rattle.std.specs.Int.{w64, leading_zeros}
+use Rattle.std.specs.Int.NonZero.{non_zero_usize_get}
+use Rattle.std.specs.declared.num.NonZeroUsize.{NonZeroUsize}
 use Rattle.parallel_bridge.specs.Lists.{FoldSegment}
 
 -- a list left whole, or split in two parts that may be split again
@@ -39,6 +41,10 @@ halved_lengths (suc k) n =
 -- rounding down, until it is 0
 abbrev pub cutdepth : ℕ → ℕ
 cutdepth n = 64 - leading_zeros w64 n
+
+-- how many levels deep a list is split for so many threads
+abbrev pub levels : NonZeroUsize → ℕ
+levels threads = cutdepth (non_zero_usize_get threads)
 
 -- each segment gives an answer as leaf allows for its items, and two parts give what node allows
 -- for the answers of left and right

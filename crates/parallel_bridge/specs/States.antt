@@ -3,7 +3,7 @@ use Rattle.std.specs.Prelude.{◌≡◌, ℕ, List, [], ◌∷◌, ◌++◌}
 use Rattle.parallel_bridge.specs.declared.path.Path.{Path}
 use Rattle.parallel_bridge.specs.declared.path.Path.TheVariants.{Serial, Parallel}
 use Rattle.std.specs.Borrow.{MutBor}
-use Rattle.parallel_bridge.specs.Shapes.{Cut, Shape, AlongCut}
+use Rattle.parallel_bridge.specs.Shapes.{AlongCut, AlongLeaves, Cut, Shape}
 
 -- answered is a call that is lent a state: s is the state before the call, t the state after it, x
 -- the item, y the answer
@@ -44,6 +44,12 @@ abbrev pub StatesAlong : {S X Y : Type 0} → (S → Type 0) → (S → X → Y 
     → Type 0
 StatesAlong init step cut ys = AlongCut (StateSegment init step) (λ a b c. c ≡ a ++ b) cut ys
 
+-- what follows from the state t follows from the state s with the items xs and answers ys in front
+abbrev pub StatesOnward : {S X Y : Type 0} → (S → X → Y → S → Type 0) → S → List X → List Y → S
+    → Type 0
+StatesOnward {X = X} {Y = Y} step s xs ys t = (more : List X) (zs : List Y)
+    → StatesFrom step t more zs → StatesFrom step s (xs ++ more) (ys ++ zs)
+
 -- serially one fresh state for the whole list; in parallel one for each segment of the list's shape
 -- of that depth
 abbrev pub StatesAs : {S X Y : Type 0} → (S → Type 0) → (S → X → Y → S → Type 0) → ℕ → Path → List X
@@ -58,6 +64,13 @@ StateChain step s a [] r = a ≡ r
 StateChain {S = S} {R = R} step s a (x ∷ xs) r = (b : R) × (t : S) × step s a x b t
     × StateChain step t b xs r
 
+-- what is reached from the state t and the value b is reached from the state s and the value a with
+-- the items xs in front
+abbrev pub StateChainOnward : {S X R : Type 0} → (S → R → X → R → S → Type 0) → S → R → List X → S
+    → R → Type 0
+StateChainOnward {X = X} {R = R} step s a xs t b = (more : List X) (r : R)
+    → StateChain step t b more r → StateChain step s a (xs ++ more) r
+
 -- r is reached by a chain over all items from a fresh state and a value that identity may answer
 abbrev pub FoldInitSegment : {S X R : Type 0} → (S → Type 0) → (R → Type 0)
     → (S → R → X → R → S → Type 0) → List X → R → Type 0
@@ -67,3 +80,10 @@ FoldInitSegment {S = S} {R = R} init identity step xs r = (s : S) × (a : R) × 
 -- a step from some state to some state
 abbrev pub AnyState : {S X R : Type 0} → (S → R → X → R → S → Type 0) → R → X → R → Type 0
 AnyState {S = S} step a x b = (s t : S) × step s a x b t
+
+-- each segment is folded from a fresh state and an identity of its own, and reduced behind a further
+-- identity
+abbrev pub AlongInit : {S X R : Type 0} → (S → Type 0) → (R → Type 0)
+    → (S → R → X → R → S → Type 0) → (R → R → R → Type 0) → Cut X → R → Type 0
+AlongInit init identity step reduce cut r =
+    AlongLeaves identity (FoldInitSegment init identity step) reduce cut r

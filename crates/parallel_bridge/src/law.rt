@@ -1,8 +1,8 @@
 ghost use Rattle.std.specs.Prelude.{◌≡◌, List, map};
 ghost use Rattle.std.specs.List.{Contains};
-ghost use Rattle.parallel_bridge.specs.Lists.{Bracketing, Brackets, MapOf};
-ghost use Rattle.parallel_bridge.specs.Folds.{IsPlainFold};
-ghost use Rattle.parallel_bridge.specs.States.{AnyState, FoldInitSegment, FoldStep};
+ghost use Rattle.parallel_bridge.specs.Lists.{MapOf};
+ghost use Rattle.parallel_bridge.specs.Folds.{FoldsInitPlainly, FoldsPlainly};
+ghost use Rattle.parallel_bridge.specs.States.{FoldStep};
 
 /// The law of lawful folds: however a list is cut into neighbouring segments, where the closures
 /// keep the laws that `FoldLaws` names, the fold is the plain one from the left. It does nothing.
@@ -11,10 +11,7 @@ pub fn fold_law<X, R, I: Fn() -> R, F: Fn(R, X) -> R, G: Fn(R, R) -> R>(
     fold_op: &F,
     reduce_op: &G,
 )
-    ensures { (xs : List X) (r : R) → Bracketing (I.post identity.now)
-        (λ a x b. F.post fold_op.now a x b) (λ a b c. G.post reduce_op.now a b c) xs r
-        → IsPlainFold (I.post identity.now) (λ a x b. F.post fold_op.now a x b)
-        (λ a b c. G.post reduce_op.now a b c) xs r }
+    ensures { FoldsPlainly (I.post identity.now) (F.post fold_op.now) (G.post reduce_op.now) }
 {
     let _ = identity;
     let _ = fold_op;
@@ -33,13 +30,8 @@ pub fn fold_init_law<
     F: Fn(R, &mut S, X) -> R,
     G: Fn(R, R) -> R,
 >(init: &N, identity: &I, fold_op: &F, reduce_op: &G)
-    ensures { (xs : List X) (r : R) → Brackets
-        (FoldInitSegment (N.post init.now) (I.post identity.now)
-        (FoldStep (λ a p x b q. F.post fold_op.now a p x b q)))
-        (λ a b c. G.post reduce_op.now a b c) xs r
-        → IsPlainFold (I.post identity.now)
-        (AnyState (FoldStep (λ a p x b q. F.post fold_op.now a p x b q)))
-        (λ a b c. G.post reduce_op.now a b c) xs r }
+    ensures { FoldsInitPlainly (N.post init.now) (I.post identity.now)
+        (FoldStep (F.post fold_op.now)) (G.post reduce_op.now) }
 {
     let _ = init;
     let _ = identity;

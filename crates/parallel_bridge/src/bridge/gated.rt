@@ -1,10 +1,9 @@
 //! Lists folded by steps that may fail, where a segment that fails stops those to its right.
 ghost use Rattle.std.specs.Prelude.{◌≡◌, ◌<◌, ◌≤◌, ◌⊎◌, List, Result, length};
 ghost use Rattle.parallel_bridge.specs.Gates.{MayWatch, stands_for};
-ghost use Rattle.parallel_bridge.specs.Halting.{IsKeptOf, JoinsKept, KeptEnds, halting};
+ghost use Rattle.parallel_bridge.specs.Halting.{FoldHalting, IsKeptOf, JoinsKept, KeptEnds};
 ghost use Rattle.parallel_bridge.specs.Outcomes.{PutTogether};
-ghost use Rattle.parallel_bridge.specs.Sources.{Driven};
-ghost use Rattle.parallel_bridge.specs.Tries.{OnlyOk, TryFoldSegment, TryReducedSegment};
+ghost use Rattle.parallel_bridge.specs.Tries.{OnlyOk};
 
 use crate::consumer::gated_fold::GatedFolder;
 use crate::drive::{Task, drive};
@@ -48,10 +47,8 @@ pub fn fold_gated<
         → (value : R) → F.pre fold_op.now value x }
     requires reduce_accepts { G.IsAlwaysCallable reduce_op.now }
     requires watch { MayWatch watch (P.count parts) }
-    ensures along { Driven P.gives parts (halting (TryReducedSegment (ID.post identity.now)
-        (TryFoldSegment (ID.post identity.now) (λ a x out. F.post fold_op.now a x out))
-        (λ a b c. G.post reduce_op.now a b c)))
-        (λ a b. OnlyOk (λ c. G.post reduce_op.now a b c)) depth result.0 }
+    ensures along { FoldHalting P.gives parts (ID.post identity.now) (F.post fold_op.now)
+        (G.post reduce_op.now) depth result.0 }
     ensures ends { KeptEnds watch.entry.gate.now watch.entry.start (P.count parts)
         (stands_for watch.entry.seat) result.1 result.0 }
 {
@@ -113,11 +110,8 @@ impl<
 
     ghost short = { λ depth s. (xs : List X) → S.gives s.parts xs → (depth ≡ 0) ⊎ (length xs < 2) };
 
-    ghost ends = { λ depth s d. Driven S.gives s.parts
-        (halting (TryReducedSegment (ID.post s.identity.now)
-        (TryFoldSegment (ID.post s.identity.now) (λ a x out. F.post s.fold_op.now a x out))
-        (λ a b c. G.post s.reduce_op.now a b c)))
-        (λ a b. OnlyOk (λ c. G.post s.reduce_op.now a b c)) depth d.0
+    ghost ends = { λ depth s d. FoldHalting S.gives s.parts (ID.post s.identity.now)
+        (F.post s.fold_op.now) (G.post s.reduce_op.now) depth d.0
         × S.leaves s.parts d.1
         × KeptEnds s.watch.gate.now s.watch.start (S.count s.parts) (stands_for s.watch.seat)
         d.2 d.0 };

@@ -1,10 +1,10 @@
 //! The value that the items of a segment are folded to with a state at hand.
-ghost use Rattle.std.specs.Prelude.{◌∷◌, ◌++◌, [], List, Result};
+ghost use Rattle.std.specs.Prelude.{◌∷◌, [], Result};
 ghost use Rattle.std.specs.Borrow.{MutBor};
 ghost use Rattle.std.specs.Iterator.{Drains, HoldsAlong, IsFinite};
 ghost use Rattle.std.specs.List.{All};
 ghost use Rattle.parallel_bridge.specs.Sources.{GivesSome};
-ghost use Rattle.parallel_bridge.specs.States.{FoldInitSegment, FoldStep, StateChain};
+ghost use Rattle.parallel_bridge.specs.States.{FoldInitSegment, FoldStep, StateChain, StateChainOnward};
 
 use crate::plumbing::{Consumer, Folder};
 use parallel_fault::{Fault, Trouble};
@@ -157,10 +157,9 @@ pub(crate) fn fold_init_from<I: Iterator, S: Drop, R: Drop, F: Fn(R, &mut S, I::
     requires ends { IsFinite (I.remaining iter) }
     requires accepts { HoldsAlong I.next_gives iter
         (All (λ x. (value : R) (state : MutBor S) → F.pre fold_op.now value state x)) }
-    ensures { GivesSome (Drains I.next_gives) iter (λ xs. (more : List I.Item) (r : R)
-        → StateChain (FoldStep (λ a p x b q. F.post fold_op.now a p x b q)) state.new result more r
-        → StateChain (FoldStep (λ a p x b q. F.post fold_op.now a p x b q)) state.old start
-        (xs ++ more) r) }
+    ensures { GivesSome (Drains I.next_gives) iter
+        (λ xs. StateChainOnward (FoldStep (F.post fold_op.now)) state.old start xs
+        state.new result) }
 {
     let mut value = start;
     for item in iter {

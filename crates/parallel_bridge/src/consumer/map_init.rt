@@ -1,11 +1,11 @@
 //! The answers of a closure with a state at hand.
-ghost use Rattle.std.specs.Prelude.{◌++◌, [], IfOk, List, Result};
+ghost use Rattle.std.specs.Prelude.{IfOk, List, Result};
 ghost use Rattle.std.specs.Borrow.{MutBor};
 ghost use Rattle.std.specs.Iterator.{Drains, HoldsAlong, IsFinite};
 ghost use Rattle.std.specs.List.{All};
 ghost use Rattle.parallel_fault.specs.Trouble.{IsMemoryOnErr};
 ghost use Rattle.parallel_bridge.specs.Sources.{GivesSome};
-ghost use Rattle.parallel_bridge.specs.States.{MapStep, StateSegment, StatesFrom};
+ghost use Rattle.parallel_bridge.specs.States.{MapStep, StateSegment, StatesFrom, StatesOnward};
 
 use crate::plumbing::{Consumer, Folder};
 use parallel_fault::{Fault, Trouble};
@@ -143,11 +143,7 @@ pub(crate) fn map_init_from<I: Iterator, S: Drop, T: Drop, F: Fn(&mut S, I::Item
     requires accepts { HoldsAlong I.next_gives iter
         (All (λ x. (p : MutBor S) → F.pre map_op.now p x)) }
     ensures gives { IfOk result (λ ys. GivesSome (Drains I.next_gives) iter
-        (λ xs. (more : List I.Item)
-        (zs : List T) → StatesFrom (MapStep (λ p x y q. F.post map_op.now p x y q)) state.new more
-        zs
-        → StatesFrom (MapStep (λ p x y q. F.post map_op.now p x y q)) state.old (xs ++ more)
-        (ys.items ++ zs))) }
+        (λ xs. StatesOnward (MapStep (F.post map_op.now)) state.old xs ys.items state.new)) }
     ensures fault { IsMemoryOnErr result }
 {
     let mut answers = Vec::with_capacity(alloc, iter.size_hint().0)?;

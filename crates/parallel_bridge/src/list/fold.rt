@@ -1,12 +1,11 @@
 //! Folds.
 ghost use Rattle.std.specs.Prelude.{IfOk, List};
-ghost use Rattle.std.specs.Int.NonZero.{non_zero_usize_get};
 ghost use Rattle.std.specs.Iterator.{Drains, HoldsAlong, IsFinite};
 ghost use Rattle.std.specs.List.{All};
 ghost use Rattle.parallel_fault.specs.Trouble.{IsMemoryOnErr};
 ghost use Rattle.parallel_bridge.specs.Lists.{FoldSegment};
 ghost use Rattle.parallel_bridge.specs.Serials.{AnsweredSerially};
-ghost use Rattle.parallel_bridge.specs.Shapes.{Along, Shape, cutdepth};
+ghost use Rattle.parallel_bridge.specs.Shapes.{Along, Shape, levels};
 ghost use Rattle.parallel_bridge.specs.Sources.{GivesSome};
 ghost use Rattle.parallel_bridge.specs.Ways.{FoldedAs};
 
@@ -61,9 +60,8 @@ pub fn fold_parallel<
         → (value : R) → F.pre fold_op.now value x }
     requires reduce_accepts { G.IsAlwaysCallable reduce_op.now }
     ensures along { IfOk result (λ r. GivesSome P.gives parts
-        (λ xs. Along (ID.post identity.now) (λ a x b. F.post fold_op.now a x b)
-        (λ a b c. G.post reduce_op.now a b c)
-        (Shape (cutdepth (non_zero_usize_get threads)) xs) r)) }
+        (λ xs. Along (ID.post identity.now) (F.post fold_op.now) (G.post reduce_op.now)
+        (Shape (levels threads) xs) r)) }
     ensures fault { IsMemoryOnErr result }
 {
     let base = ReduceConsumer {
@@ -102,8 +100,8 @@ pub fn fold_by<
         → (value : R) → F.pre fold_op.now value x }
     requires reduce_accepts { G.IsAlwaysCallable reduce_op.now }
     ensures folds { IfOk result (λ r. GivesSome P.gives parts
-        (λ xs. FoldedAs (ID.post identity.now) (λ a x b. F.post fold_op.now a x b)
-        (λ a b c. G.post reduce_op.now a b c) (cutdepth (non_zero_usize_get threads)) path xs r)) }
+        (λ xs. FoldedAs (ID.post identity.now) (F.post fold_op.now) (G.post reduce_op.now)
+        (levels threads) path xs r)) }
     ensures serial { AnsweredSerially path result }
     ensures fault { IsMemoryOnErr result }
 {

@@ -1,14 +1,13 @@
 //! Folds with a state at hand.
 ghost use Rattle.std.specs.Prelude.{IfOk, List};
 ghost use Rattle.std.specs.Borrow.{MutBor};
-ghost use Rattle.std.specs.Int.NonZero.{non_zero_usize_get};
 ghost use Rattle.std.specs.Iterator.{Drains, HoldsAlong, IsFinite};
 ghost use Rattle.std.specs.List.{All};
 ghost use Rattle.parallel_fault.specs.Trouble.{IsMemoryOnErr};
 ghost use Rattle.parallel_bridge.specs.Serials.{AnsweredSerially};
-ghost use Rattle.parallel_bridge.specs.Shapes.{AlongLeaves, Shape, cutdepth};
+ghost use Rattle.parallel_bridge.specs.Shapes.{Shape, levels};
 ghost use Rattle.parallel_bridge.specs.Sources.{GivesSome};
-ghost use Rattle.parallel_bridge.specs.States.{FoldInitSegment, FoldStep};
+ghost use Rattle.parallel_bridge.specs.States.{AlongInit, FoldInitSegment, FoldStep};
 ghost use Rattle.parallel_bridge.specs.Ways.{FoldedInitAs};
 
 use crate::bridge::{bridge, unfailing};
@@ -74,11 +73,8 @@ pub fn fold_init_parallel<
         → (value : R) (state : MutBor S) → F.pre fold_op.now value state x }
     requires reduce_accepts { G.IsAlwaysCallable reduce_op.now }
     ensures along { IfOk result (λ r. GivesSome P.gives parts
-        (λ xs. AlongLeaves (ID.post identity.now)
-        (FoldInitSegment (N.post init.now) (ID.post identity.now)
-        (FoldStep (λ a p x b q. F.post fold_op.now a p x b q)))
-        (λ a b c. G.post reduce_op.now a b c)
-        (Shape (cutdepth (non_zero_usize_get threads)) xs) r)) }
+        (λ xs. AlongInit (N.post init.now) (ID.post identity.now) (FoldStep (F.post fold_op.now))
+        (G.post reduce_op.now) (Shape (levels threads) xs) r)) }
     ensures fault { IsMemoryOnErr result }
 {
     let base = ReduceConsumer {
@@ -123,8 +119,7 @@ pub fn fold_init_by<
     requires reduce_accepts { G.IsAlwaysCallable reduce_op.now }
     ensures folds { IfOk result (λ r. GivesSome P.gives parts
         (λ xs. FoldedInitAs (N.post init.now) (ID.post identity.now)
-        (FoldStep (λ a p x b q. F.post fold_op.now a p x b q))
-        (λ a b c. G.post reduce_op.now a b c) (cutdepth (non_zero_usize_get threads)) path xs r)) }
+        (FoldStep (F.post fold_op.now)) (G.post reduce_op.now) (levels threads) path xs r)) }
     ensures serial { AnsweredSerially path result }
     ensures fault { IsMemoryOnErr result }
 {

@@ -1,11 +1,10 @@
 //! Maps with a state at hand.
 ghost use Rattle.std.specs.Prelude.{IfOk, List};
 ghost use Rattle.std.specs.Borrow.{MutBor};
-ghost use Rattle.std.specs.Int.NonZero.{non_zero_usize_get};
 ghost use Rattle.std.specs.Iterator.{Drains, HoldsAlong, IsFinite};
 ghost use Rattle.std.specs.List.{All};
 ghost use Rattle.parallel_fault.specs.Trouble.{IsMemoryOnErr};
-ghost use Rattle.parallel_bridge.specs.Shapes.{Shape, cutdepth};
+ghost use Rattle.parallel_bridge.specs.Shapes.{Shape, levels};
 ghost use Rattle.parallel_bridge.specs.Sources.{GivesSome};
 ghost use Rattle.parallel_bridge.specs.States.{MapStep, StateSegment, StatesAlong};
 ghost use Rattle.parallel_bridge.specs.Ways.{MappedInitAs};
@@ -68,7 +67,7 @@ pub fn map_init_parallel<
         → (state : MutBor S) → F.pre map_op.now state x }
     ensures along { IfOk result (λ ys. GivesSome P.gives parts
         (λ xs. StatesAlong (N.post init.now) (MapStep (λ p x y q. F.post map_op.now p x y q))
-        (Shape (cutdepth (non_zero_usize_get threads)) xs) ys.items)) }
+        (Shape (levels threads) xs) ys.items)) }
     ensures fault { IsMemoryOnErr result }
 {
     let len = parts.len();
@@ -108,7 +107,7 @@ pub fn map_init_by<
         → (state : MutBor S) → F.pre map_op.now state x }
     ensures maps { IfOk result (λ ys. GivesSome P.gives parts
         (λ xs. MappedInitAs (N.post init.now) (MapStep (λ p x y q. F.post map_op.now p x y q))
-        (cutdepth (non_zero_usize_get threads)) path xs ys.items)) }
+        (levels threads) path xs ys.items)) }
     ensures fault { IsMemoryOnErr result }
 {
     // (each bound before it is answered, so that its facts have a name in the proof)

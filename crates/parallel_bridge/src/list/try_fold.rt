@@ -1,11 +1,10 @@
 //! Folds by steps that may fail.
 ghost use Rattle.std.specs.Prelude.{Err, IfOk, List, Ok};
-ghost use Rattle.std.specs.Int.NonZero.{non_zero_usize_get};
 ghost use Rattle.std.specs.Iterator.{Drains, HoldsAlong, IsFinite};
 ghost use Rattle.std.specs.List.{All};
 ghost use Rattle.parallel_bridge.specs.Outcomes.{UnlessRefused};
 ghost use Rattle.parallel_bridge.specs.Serials.{UnrefusedSerially};
-ghost use Rattle.parallel_bridge.specs.Shapes.{Shape, cutdepth};
+ghost use Rattle.parallel_bridge.specs.Shapes.{Shape, levels};
 ghost use Rattle.parallel_bridge.specs.Sources.{GivesSome};
 ghost use Rattle.parallel_bridge.specs.Tries.{TryAlong, TryFoldSegment};
 ghost use Rattle.parallel_bridge.specs.Ways.{TryFoldedAs};
@@ -72,9 +71,8 @@ pub fn try_fold_parallel<
         → (value : R) → F.pre fold_op.now value x }
     requires reduce_accepts { G.IsAlwaysCallable reduce_op.now }
     ensures along { UnlessRefused result (λ out. GivesSome P.gives parts
-        (λ xs. TryAlong (ID.post identity.now) (λ a x out. F.post fold_op.now a x out)
-        (λ a b c. G.post reduce_op.now a b c)
-        (Shape (cutdepth (non_zero_usize_get threads)) xs) out)) }
+        (λ xs. TryAlong (ID.post identity.now) (F.post fold_op.now) (G.post reduce_op.now)
+        (Shape (levels threads) xs) out)) }
 {
     let (gate, seat) = Gate::open(alloc, seats_for(parts.len()))?;
     let watch = GateWatch {
@@ -128,9 +126,8 @@ pub fn try_fold_by<
         → (value : R) → F.pre fold_op.now value x }
     requires reduce_accepts { G.IsAlwaysCallable reduce_op.now }
     ensures folds { UnlessRefused result (λ out. GivesSome P.gives parts
-        (λ xs. TryFoldedAs (ID.post identity.now) (λ a x out. F.post fold_op.now a x out)
-        (λ a b c. G.post reduce_op.now a b c)
-        (cutdepth (non_zero_usize_get threads)) path xs out)) }
+        (λ xs. TryFoldedAs (ID.post identity.now) (F.post fold_op.now) (G.post reduce_op.now)
+        (levels threads) path xs out)) }
     ensures serial { UnrefusedSerially path result }
 {
     match path {

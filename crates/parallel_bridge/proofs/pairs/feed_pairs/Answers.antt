@@ -2,7 +2,7 @@
 use Rattle.std.proofs.Common.{arith, ◌++◌, ◌∙◌, sym, subst}
 use Rattle.parallel_bridge.specs.Pairs.{pairs_of}
 use Rattle.parallel_bridge.proofs.Neighbours.{no_pair}
-use Rattle.parallel_bridge.proofs.Taken.{others_of}
+use Rattle.parallel_bridge.proofs.TakenFromFront.{others_of}
 use Rattle.parallel_bridge.proofs.pairs.feed_pairs.Goals as goal
 
 pub loop-alloc-preserved : goal.loop-alloc-preserved

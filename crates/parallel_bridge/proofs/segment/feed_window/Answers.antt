@@ -1,7 +1,6 @@
 -- One item less is left, and the folder has taken it.
-use Rattle.std.proofs.lemmas.Grind.{common_steps}
-use Rattle.std.proofs.Common.{arith, ◌++◌, ◌∙◌, sym, subst}
-use Rattle.parallel_bridge.proofs.Taken.{others_of}
+use Rattle.parallel_bridge.proofs.Common.{common_steps, arith, ◌++◌, ◌∙◌, sym, subst}
+use Rattle.parallel_bridge.proofs.TakenFromFront.{others_of}
 use Rattle.parallel_bridge.proofs.segment.feed_window.Goals as goal
 
 pub loop-alloc-preserved : goal.loop-alloc-preserved

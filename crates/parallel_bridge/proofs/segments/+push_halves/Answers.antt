@@ -1,6 +1,5 @@
 -- The lengths of both halves are those of the list.
-use Rattle.std.proofs.Common.{◌≡◌, ◌++◌, ◌-◌, ◌/◌, ◌∙◌, arith}
-use Rattle.std.proofs.lemmas.Result.{IfOk-weaker}
+use Rattle.parallel_bridge.proofs.Common.{◌≡◌, ◌++◌, ◌-◌, ◌/◌, ◌∙◌, arith, IfOk-weaker}
 use Rattle.parallel_bridge.specs.Shapes.{halved_lengths}
 use Rattle.parallel_bridge.proofs.SegmentLengths.{halved_more}
 use Rattle.parallel_bridge.proofs.segments.+push_halves.Goals as goal

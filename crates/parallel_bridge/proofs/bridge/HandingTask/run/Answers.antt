@@ -1,6 +1,5 @@
 -- A list that is not split is one segment.
-use Rattle.std.proofs.Common.{List, Result, [], ◌++◌, IfOk, subst}
-use Rattle.std.proofs.lemmas.List.{append-nil}
+use Rattle.parallel_bridge.proofs.Common.{List, Result, [], ◌++◌, IfOk, subst, append-nil}
 use Rattle.parallel_bridge.specs.Sources.{GivesSome}
 use Rattle.parallel_bridge.proofs.Halves.{driven_leaf}
 use Rattle.parallel_bridge.proofs.Outcomes.{unless_weaker}

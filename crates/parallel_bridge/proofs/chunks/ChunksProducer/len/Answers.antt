@@ -1,8 +1,5 @@
 -- As many as the slice has pieces.
-use Rattle.std.proofs.Common.{length, sym, ap, ◌∙◌}
-use Rattle.std.specs.Int.{div_ceil}
-use Rattle.std.specs.Int.NonZero.{non_zero_usize_get}
-use Rattle.std.proofs.lemmas.List.{length-map}
+use Rattle.parallel_bridge.proofs.Common.{length, sym, ap, ◌∙◌, div_ceil, non_zero_usize_get, length-map}
 use Rattle.parallel_bridge.proofs.Pieces.{length_pieces}
 use Rattle.parallel_bridge.proofs.chunks.ChunksProducer.len.Goals as goal
 

@@ -1,8 +1,5 @@
 -- A cut behind so many pieces of the slice.
-use Rattle.std.proofs.Common.{◌-◌, length, drop, take, ap, ◌∙◌}
-use Rattle.std.specs.Int.{div_ceil}
-use Rattle.std.specs.Int.NonZero.{non_zero_usize_get}
-use Rattle.std.proofs.lemmas.List.{take_rest}
+use Rattle.parallel_bridge.proofs.Common.{◌-◌, length, drop, take, ap, ◌∙◌, div_ceil, non_zero_usize_get, take_rest}
 use Rattle.parallel_bridge.specs.Chunks.{chunks_of}
 use Rattle.parallel_bridge.proofs.Coming.{some_borrows}
 use Rattle.parallel_bridge.proofs.Pieces.{back_count, chunk_of_back, chunk_of_front, chunks_joined, front_count, front_long}
@@ -10,55 +7,39 @@ use Rattle.parallel_bridge.proofs.chunks.ChunksProducer.split_at.Goals as goal
 
 pub returns-clause-joined : goal.returns-clause-joined
 returns-clause-joined g c =
-    let xs = c.args.self.slice.now in
-    let size = non_zero_usize_get c.args.self.size in
-    let m = c.middle_of-middle.result in
-    let cut = c.middle_of-middle.ensures.cut in
-    let some = c.middle_of-middle.ensures.some in
-    chunks_joined c.args.index m size xs some c.requires cut
+    let m = c.middle_of-middle in let size = non_zero_usize_get c.args.self.size in
+    chunks_joined c.args.index m.result size c.args.self.slice.now m.ensures.some c.requires
+    m.ensures.cut
 
 pub returns-clause-front : goal.returns-clause-front
 returns-clause-front g c =
-    let xs = c.args.self.slice.now in
-    let size = non_zero_usize_get c.args.self.size in
-    let m = c.middle_of-middle.result in
-    let cut = c.middle_of-middle.ensures.cut in
-    let some = c.middle_of-middle.ensures.some in
-    front_long c.args.index m size xs some c.requires cut
+    let m = c.middle_of-middle in let size = non_zero_usize_get c.args.self.size in
+    front_long c.args.index m.result size c.args.self.slice.now m.ensures.some c.requires
+    m.ensures.cut
 
 pub returns-clause-counts : goal.returns-clause-counts
 returns-clause-counts g c =
-    let xs = c.args.self.slice.now in
-    let size = non_zero_usize_get c.args.self.size in
-    let m = c.middle_of-middle.result in
-    let cut = c.middle_of-middle.ensures.cut in
-    let some = c.middle_of-middle.ensures.some in (
-      front_count c.args.index m size xs some c.requires cut,
-      ap (λ l. div_ceil (length l) size) (take_rest xs m)
-          ∙ back_count c.args.index m size xs some c.requires cut,
+    let m = c.middle_of-middle in let size = non_zero_usize_get c.args.self.size in (
+      front_count c.args.index m.result size c.args.self.slice.now m.ensures.some c.requires
+          m.ensures.cut,
+      ap (λ l. div_ceil (length l) size) (take_rest c.args.self.slice.now m.result)
+          ∙ back_count c.args.index m.result size c.args.self.slice.now m.ensures.some
+          c.requires m.ensures.cut,
     )
 
 pub returns-clause-may_front : goal.returns-clause-may_front
 returns-clause-may_front g c x =
-    let xs = c.args.self.slice.now in
-    let size = non_zero_usize_get c.args.self.size in
-    let m = c.middle_of-middle.result in
-    let cut = c.middle_of-middle.ensures.cut in
-    let some = c.middle_of-middle.ensures.some in
-    chunk_of_front c.args.index m size xs some c.requires cut x.now
+    let m = c.middle_of-middle in let size = non_zero_usize_get c.args.self.size in
+    chunk_of_front c.args.index m.result size c.args.self.slice.now m.ensures.some c.requires
+    m.ensures.cut x.now
 
 pub returns-clause-may_back : goal.returns-clause-may_back
 returns-clause-may_back g c x =
-    let xs = c.args.self.slice.now in
-    let size = non_zero_usize_get c.args.self.size in
-    let m = c.middle_of-middle.result in
-    let cut = c.middle_of-middle.ensures.cut in
-    let some = c.middle_of-middle.ensures.some in
-    chunk_of_back c.args.index m size xs some c.requires cut x.now
+    let m = c.middle_of-middle in let size = non_zero_usize_get c.args.self.size in
+    chunk_of_back c.args.index m.result size c.args.self.slice.now m.ensures.some c.requires
+    m.ensures.cut x.now
 
 pub returns-clause-some : goal.returns-clause-some
 returns-clause-some g c =
-    let xs = c.args.self.slice.now in
-    let m = c.middle_of-middle.result in
-    let size = non_zero_usize_get c.args.self.size in
-    some_borrows (chunks_of size (take (length xs - m) (drop m xs)))
+    let xs = c.args.self.slice.now in let m = c.middle_of-middle.result in
+    some_borrows (chunks_of (non_zero_usize_get c.args.self.size) (take (length xs - m) (drop m xs)))

@@ -1,7 +1,6 @@
 -- The closure may be called at each item that comes, and one turn is one step more of the chain
 -- over the items that came.
-use Rattle.std.proofs.Common.{rules, ◌∷◌, [], sym, subst, append_assoc}
-use Rattle.std.specs.Borrow.{MutBor}
+use Rattle.parallel_bridge.proofs.Common.{rules, ◌∷◌, [], sym, subst, append_assoc, MutBor}
 use Rattle.parallel_bridge.specs.States.{FoldStep, StateChain}
 use Rattle.parallel_bridge.proofs.Chains.{next_has}
 use Rattle.parallel_bridge.proofs.consumer.fold_init.fold_init_from.Goals as goal

@@ -1,6 +1,5 @@
 -- One turn is one step more of the states.
-use Rattle.std.proofs.Common.{rules, ◌≡◌, ◌∷◌, ◌++◌, [], sym, subst, append_assoc, ap, ◌∙◌}
-use Rattle.std.specs.Borrow.{MutBor}
+use Rattle.parallel_bridge.proofs.Common.{rules, ◌≡◌, ◌∷◌, ◌++◌, [], sym, subst, append_assoc, ap, ◌∙◌, MutBor}
 use Rattle.parallel_bridge.specs.States.{MapStep, StatesFrom}
 use Rattle.parallel_bridge.proofs.Chains.{next_has}
 use Rattle.parallel_bridge.proofs.consumer.map_init.map_init_from.Goals as goal

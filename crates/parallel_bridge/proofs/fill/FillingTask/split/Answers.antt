@@ -1,9 +1,7 @@
 -- The halves' places follow one another, their outcomes go along the shape, and of two errors the
 -- left one stands.
-use Rattle.std.proofs.Common.{◌≡◌, ◌+◌, ◌-◌, ◌/◌, arith, refl, rules, sym, ap, subst, ◌∙◌}
-use Rattle.std.specs.Vec.Ownership.{FitsInBlock}
-use Rattle.parallel_bridge.specs.Fills.{Answered, OneAfterAnother, written}
-use Rattle.parallel_bridge.specs.Places.{shifted}
+use Rattle.parallel_bridge.proofs.Common.{◌≡◌, ◌+◌, ◌-◌, ◌/◌, arith, refl, rules, sym, ap, subst, ◌∙◌, FitsInBlock}
+use Rattle.parallel_bridge.proofs.Windows.{Answered, OneAfterAnother, written, shifted}
 use Rattle.parallel_bridge.proofs.Halves.{driven_node}
 use Rattle.parallel_bridge.proofs.fill.FillingTask.split.Goals as goal
 

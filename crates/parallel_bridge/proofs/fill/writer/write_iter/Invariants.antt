@@ -1,6 +1,5 @@
 -- an answer for each item that came
-use Rattle.std.proofs.Common.{◌≡◌, ◌-◌, List, length}
-use Rattle.std.specs.Iterator.{IsFinite, Yields}
+use Rattle.parallel_bridge.proofs.Common.{◌≡◌, ◌-◌, List, length, IsFinite, Yields}
 use Rattle.parallel_bridge.specs.Fills.{SamePlaces}
 use Rattle.parallel_bridge.proofs.fill.writer.write_iter.Given as goal
 

@@ -1,7 +1,6 @@
 -- the one seat, and those that are left
+use Rattle.parallel_bridge.proofs.Gates.{GateSeat, IsSeatOf, known}
 use Rattle.std.proofs.Common.{All, Contains, length}
-use Rattle.parallel_bridge.specs.declared.gate.seat.GateSeat.{GateSeat}
-use Rattle.parallel_bridge.specs.Gates.{IsSeatOf, known}
 use Rattle.parallel_bridge.proofs.GateEnds.{Gathering}
 use Rattle.parallel_bridge.proofs.gate.Gate.gather.Given as goal
 

@@ -1,8 +1,7 @@
 -- the seats so far, and what the first one is left with
+use Rattle.parallel_bridge.proofs.Gates.{newcomer, IsSeatOf, known, seats_of, stands_for}
 use Rattle.std.proofs.Common.{◌≡◌, ◌+◌, All, [], vec_len}
 use Rattle.std.specs.NonZero.{non_zero_usize_get}
-use Rattle.parallel_bridge.specs.GateRule.{newcomer}
-use Rattle.parallel_bridge.specs.Gates.{IsSeatOf, known, seats_of, stands_for}
 use Rattle.parallel_bridge.proofs.gate.Gate.new.Given as goal
 
 abbrev pub invariant-loop : goal.invariant-loop

@@ -1,10 +1,6 @@
 -- The value of each segment is reduced behind an identity.
+use Rattle.parallel_bridge.proofs.Calls.{Infallible, FoldSegment, Shape, cutdepth, Along, GivesSome, TryAlongCut, OnlyOk}
 use Rattle.std.proofs.Common.{◌∷◌, []}
-use Rattle.std.specs.declared.convert.Infallible.{Infallible}
-use Rattle.parallel_bridge.specs.Lists.{FoldSegment}
-use Rattle.parallel_bridge.specs.Shapes.{Shape, cutdepth, Along}
-use Rattle.parallel_bridge.specs.Sources.{GivesSome}
-use Rattle.parallel_bridge.specs.Tries.{TryAlongCut, OnlyOk}
 use Rattle.parallel_bridge.proofs.Drivers.{driven, fold_driven}
 use Rattle.parallel_bridge.proofs.list.fold.fold_parallel.Goals as goal
 

@@ -1,9 +1,6 @@
 -- One segment serially, the list's shape in parallel; either way a reduction of neighbours.
-use Rattle.std.proofs.Common.{rules}
-use Rattle.std.specs.Borrow.{MutBor}
-use Rattle.parallel_fault.specs.declared.fault.Fault.{Fault}
-use Rattle.parallel_bridge.specs.Shapes.{cutdepth}
-use Rattle.parallel_bridge.specs.States.{FoldStep}
+use Rattle.parallel_bridge.proofs.Common.{rules, MutBor}
+use Rattle.parallel_bridge.proofs.Calls.{Fault, cutdepth, FoldStep}
 use Rattle.parallel_bridge.proofs.Serials.{answered_else, answered_serially}
 use Rattle.parallel_bridge.proofs.Paths.{folded_init_serially, folded_init_along}
 use Rattle.parallel_bridge.proofs.list.fold_init.fold_init_by.Goals as goal

@@ -1,7 +1,5 @@
 -- The chain from the fresh state and the identity.
-use Rattle.std.proofs.Common.{[], refl, subst}
-use Rattle.std.proofs.lemmas.List.{append-nil}
-use Rattle.std.specs.Borrow.{MutBor}
+use Rattle.parallel_bridge.proofs.Common.{[], refl, subst, append-nil, MutBor}
 use Rattle.parallel_bridge.specs.States.{FoldStep, StateChain}
 use Rattle.parallel_bridge.proofs.list.fold_init.fold_init_iter.Goals as goal
 

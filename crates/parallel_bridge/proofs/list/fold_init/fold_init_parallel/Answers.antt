@@ -1,12 +1,6 @@
 -- The value of each segment is reduced behind an identity.
-use Rattle.std.proofs.Common.{◌∷◌, []}
-use Rattle.std.specs.Borrow.{MutBor}
-use Rattle.std.specs.declared.convert.Infallible.{Infallible}
-use Rattle.parallel_bridge.specs.Lists.{FoldSegment}
-use Rattle.parallel_bridge.specs.Shapes.{AlongLeaves, Shape, cutdepth}
-use Rattle.parallel_bridge.specs.Sources.{GivesSome}
-use Rattle.parallel_bridge.specs.States.{FoldStep, FoldInitSegment}
-use Rattle.parallel_bridge.specs.Tries.{TryAlongCut, OnlyOk}
+use Rattle.parallel_bridge.proofs.Common.{◌∷◌, [], MutBor}
+use Rattle.parallel_bridge.proofs.Calls.{Infallible, FoldSegment, AlongLeaves, Shape, cutdepth, GivesSome, FoldStep, FoldInitSegment, TryAlongCut, OnlyOk}
 use Rattle.parallel_bridge.proofs.Drivers.{driven, fold_driven}
 use Rattle.parallel_bridge.proofs.list.fold_init.fold_init_parallel.Goals as goal
 

@@ -1,11 +1,7 @@
 -- What was written into the segments' rooms, side by side, are the answers for the list.
+use Rattle.parallel_bridge.proofs.Calls.{Infallible, MapOf, Shape, Driven, GivesSome, TryAlongCut}
 use Rattle.std.proofs.Common.{Ok, subst, sym}
-use Rattle.std.specs.declared.convert.Infallible.{Infallible}
 use Rattle.parallel_bridge.specs.Fills.{Answered, OneAfterAnother, written}
-use Rattle.parallel_bridge.specs.Lists.{MapOf}
-use Rattle.parallel_bridge.specs.Shapes.{Shape}
-use Rattle.parallel_bridge.specs.Sources.{Driven, GivesSome}
-use Rattle.parallel_bridge.specs.Tries.{TryAlongCut}
 use Rattle.parallel_bridge.proofs.Writes.{filled_shape}
 use Rattle.parallel_bridge.proofs.list.map.map_parallel.Goals as goal
 

@@ -1,8 +1,6 @@
 -- One state serially, one for each segment in parallel; either way the answers fall into segments.
-use Rattle.std.proofs.Common.{rules}
-use Rattle.std.specs.Borrow.{MutBor}
-use Rattle.parallel_bridge.specs.Shapes.{cutdepth}
-use Rattle.parallel_bridge.specs.States.{MapStep}
+use Rattle.parallel_bridge.proofs.Common.{rules, MutBor}
+use Rattle.parallel_bridge.proofs.Calls.{cutdepth, MapStep}
 use Rattle.parallel_bridge.proofs.Paths.{mapped_init_serially, mapped_init_along}
 use Rattle.parallel_bridge.proofs.list.map_init.map_init_by.Goals as goal
 

@@ -1,11 +1,6 @@
 -- The answers from the fresh state.
-use Rattle.std.proofs.Common.{List, ◌++◌, [], refl, subst}
-use Rattle.std.proofs.lemmas.List.{append-nil}
-use Rattle.std.proofs.lemmas.Result.{IfOk-weaker}
-use Rattle.std.specs.Borrow.{MutBor}
-use Rattle.std.specs.Iterator.{Drains}
-use Rattle.parallel_bridge.specs.Sources.{GivesSome}
-use Rattle.parallel_bridge.specs.States.{MapStep, StatesFrom, StateSegment}
+use Rattle.parallel_bridge.proofs.Common.{List, ◌++◌, [], refl, subst, append-nil, IfOk-weaker, MutBor, Drains}
+use Rattle.parallel_bridge.proofs.Calls.{GivesSome, MapStep, StatesFrom, StateSegment}
 use Rattle.parallel_bridge.proofs.list.map_init.map_init_iter.Goals as goal
 
 pub returns-clause-one_state : goal.returns-clause-one_state

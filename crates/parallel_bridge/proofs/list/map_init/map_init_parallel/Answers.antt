@@ -1,13 +1,7 @@
 -- Each segment has a fresh state, and the answers of two parts are one after another.
-use Rattle.std.proofs.Common.{List, Ok, [], ◌≡◌, ◌++◌, refl, subst, sym}
-use Rattle.std.proofs.lemmas.List.{append-nil}
-use Rattle.std.specs.Borrow.{MutBor}
-use Rattle.std.specs.declared.convert.Infallible.{Infallible}
+use Rattle.parallel_bridge.proofs.Common.{List, Ok, [], ◌≡◌, ◌++◌, refl, subst, sym, append-nil, MutBor}
+use Rattle.parallel_bridge.proofs.Calls.{Infallible, Shape, Driven, GivesSome, MapStep, StatesFrom, StateSegment, StatesAlong, TryAlongCut}
 use Rattle.parallel_bridge.specs.Fills.{Answered, OneAfterAnother, written}
-use Rattle.parallel_bridge.specs.Shapes.{Shape}
-use Rattle.parallel_bridge.specs.Sources.{Driven, GivesSome}
-use Rattle.parallel_bridge.specs.States.{MapStep, StatesFrom, StateSegment, StatesAlong}
-use Rattle.parallel_bridge.specs.Tries.{TryAlongCut}
 use Rattle.parallel_bridge.proofs.TryShapes.{along_unfailing}
 use Rattle.parallel_bridge.proofs.Writes.{answers_along}
 use Rattle.parallel_bridge.proofs.list.map_init.map_init_parallel.Goals as goal

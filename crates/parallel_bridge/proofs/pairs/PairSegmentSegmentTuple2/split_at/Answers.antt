@@ -1,6 +1,5 @@
 -- A cut of the items at twice the index is a cut of their pairs at the index.
-use Rattle.std.proofs.Common.{◌++◌, ◌∙◌, ap, length, subst}
-use Rattle.std.specs.List.{Contains}
+use Rattle.parallel_bridge.proofs.Common.{◌++◌, ◌∙◌, ap, length, subst, Contains}
 use Rattle.parallel_bridge.specs.Pairs.{pairs_of}
 use Rattle.parallel_bridge.proofs.Neighbours.{pair_in_back, pair_in_front, pairs_cut, pairs_front}
 use Rattle.parallel_bridge.proofs.pairs.PairSegmentSegmentTuple2.split_at.Goals as goal

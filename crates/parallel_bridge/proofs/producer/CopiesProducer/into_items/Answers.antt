@@ -1,7 +1,5 @@
 -- What comes are the slice's items, in order.
-use Rattle.std.proofs.Common.{rules}
-use Rattle.std.proofs.lemmas.Iterator.{YieldsList-from_slice}
-use Rattle.std.proofs.lemmas.Iterator.Consumers.{YieldsList-from_copied}
+use Rattle.parallel_bridge.proofs.Common.{rules, YieldsList-from_slice, YieldsList-from_copied}
 use Rattle.parallel_bridge.proofs.Coming.{came_as_it_is, stands_in}
 use Rattle.parallel_bridge.proofs.producer.CopiesProducer.into_items.Goals as goal
 

@@ -1,6 +1,5 @@
 -- As many indices as the end is behind the start.
-use Rattle.std.proofs.Common.{length, ◌∙◌, ap, ◌-◌, arith}
-use Rattle.std.proofs.lemmas.List.FromFn.{length-range_with_len}
+use Rattle.parallel_bridge.proofs.Common.{length, ◌∙◌, ap, ◌-◌, arith, length-range_with_len}
 use Rattle.parallel_bridge.proofs.producer.IndicesProducer.len.Goals as goal
 
 pub returns-clause-each : goal.returns-clause-each

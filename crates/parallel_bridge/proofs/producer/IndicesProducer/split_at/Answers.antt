@@ -1,6 +1,5 @@
 -- The indices of the front, and behind them those of the back.
-use Rattle.std.proofs.Common.{length, ◌∙◌, ap, ◌-◌, ◌+◌, arith}
-use Rattle.std.proofs.lemmas.List.FromFn.{length-range_with_len}
+use Rattle.parallel_bridge.proofs.Common.{length, ◌∙◌, ap, ◌-◌, ◌+◌, arith, length-range_with_len}
 use Rattle.parallel_bridge.proofs.Ranges.{indices_split}
 use Rattle.parallel_bridge.proofs.producer.IndicesProducer.split_at.Goals as goal
 

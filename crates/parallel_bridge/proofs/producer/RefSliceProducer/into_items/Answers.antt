@@ -1,6 +1,5 @@
 -- What comes are borrows of the slice's items, in order.
-use Rattle.std.proofs.Common.{rules}
-use Rattle.std.proofs.lemmas.Iterator.{YieldsList-from_slice}
+use Rattle.parallel_bridge.proofs.Common.{rules, YieldsList-from_slice}
 use Rattle.parallel_bridge.proofs.Coming.{came, stands_in}
 use Rattle.parallel_bridge.proofs.producer.RefSliceProducer.into_items.Goals as goal
 

@@ -1,6 +1,5 @@
 -- Each item that was gathered may come.
-use Rattle.std.proofs.Common.{rules, subst}
-use Rattle.std.specs.List.{Contains}
+use Rattle.parallel_bridge.proofs.Common.{rules, subst, Contains}
 use Rattle.parallel_bridge.proofs.Coming.{may_of}
 use Rattle.parallel_bridge.proofs.source.AnySourceByIter.into_parts.Goals as goal
 

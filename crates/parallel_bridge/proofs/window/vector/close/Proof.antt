@@ -1,46 +1,12 @@
 -- `close` gives a vector a row of places as its block. Assumes `Logic`.
-use mathlib.Core.Path.{◌≡◌, refl, sym, ap, subst, ◌∙◌}
-use Prim.Native.Nat.{ℕ, ◌-◌, ◌*◌, ◌≤◌, ◌<◌, ◌^◌}
-use mathlib.Core.List.{List, [], ◌∷◌, ◌++◌, map}
-use lib.ListN.{length, replicate}
-use seplogic.Ra.Ura.{Ura}
-use base.Fraction.{full_share}
-use mir.Syntax.{Fn, w64}
-use mir.MapTy.{inst_fn}
-use mir.Val.{Val, vunit, vint, vptr}
-use base.Logic.{SProp, ent, never, id⊢}
-use base.Fml.{ftrue, fat, flft}
-use prog.Memory.{Memory}
-use prog.Routine.{Routine}
-use prog.Wp.{Env, WpFn, Tables}
-use types.Logic.{Logic}
-use contract.BorrowLft.{◌⊑◌}
-use contract.Monad.{Fun, fact}
-use contract.Running.{tables, tables_of}
-use sound.WpLaws.{WpFn-mono}
-use types.Kit.{‵, raw, ◌⊛◌, at_ret, ◌$◌, ◌∵◌, !, qed, move, keep, drop, use2, split, split3, join, rewrite, fsplit, fsplit3, fjoin3, feq_i, feq_l, flt_l, suffices, done}
-use types.Part.{whole, sub, store_in}
-use types.Run.{addr, stop, fld, unit_lit, of_opd, assigns, assigns_last, first, blocks, exec, returns, enter}
-use types.ByLocal.{alloc_all, pass_all, free_all, look_at, get, get_in, take_at, give_at, through, sets, env}
-use denote.Exit.{yes, no}
-use denote.RattleType.{RattleType, owns}
-use denote.Builtin.{usize}
-use denote.Param.{layout}
-use denote.RawPtr.{Ptr, block_ptr, in_a_block}
-use denote.Signature.{plain, types_at}
-use denote.Steps.{heard, nothing}
-use denote.Triple.Clauses.{Clauses, Ended, closing}
-use denote.Triple.Spec.{Meets, triple_of}
-use denote.Triple.Table.{entered}
-use denote.Triple.Walked.{says, Stays, stay_dropped, stay_ref, walk_of, ends_at, Goes-dropped, Goes-ref, walk_Meets}
-use Rattle.std.specs.Prelude.{Option, Some, None}
-use Rattle.core.proofs.alloc.Calls.{Goes-blank, token}
-use Rattle.std_alloc.specs.Vec.Ownership.{has_block}
-use Rattle.std_alloc.proofs.RcSteps.{word, word-Good}
+use Rattle.parallel_bridge.proofs.Walks.{◌≡◌, refl, sym, ap, subst, ◌∙◌, ℕ, ◌-◌, ◌*◌, ◌≤◌, ◌<◌, ◌^◌, List, [], ◌∷◌, ◌++◌, map, length, replicate, Ura, full_share, Fn, w64, inst_fn, Val, vunit, vint}
+use Rattle.parallel_bridge.proofs.Walks.{vptr, SProp, ent, never, id⊢, ftrue, fat, flft, Memory, Routine, Env, WpFn, Tables, Logic, ◌⊑◌, Fun, fact, tables, tables_of, WpFn-mono, ‵, raw, ◌⊛◌, at_ret}
+use Rattle.parallel_bridge.proofs.Walks.{◌$◌, ◌∵◌, !, qed, move, keep, drop, use2, split, split3, join, rewrite, fsplit, fsplit3, fjoin3, feq_i, feq_l, flt_l, suffices, done, whole, sub, store_in}
+use Rattle.parallel_bridge.proofs.Walks.{addr, stop, fld, unit_lit, of_opd, assigns, assigns_last, first, blocks, exec, returns, enter, alloc_all, pass_all, free_all, look_at, get, get_in, take_at}
+use Rattle.parallel_bridge.proofs.Walks.{give_at, through, sets, env, yes, no, RattleType, owns, usize, layout, Ptr, block_ptr, in_a_block, plain, types_at, heard, nothing, Clauses, Ended, closing}
+use Rattle.parallel_bridge.proofs.Walks.{Meets, triple_of, entered, says, Stays, stay_dropped, stay_ref, walk_of, ends_at, Goes-dropped, Goes-ref, walk_Meets, Option, Some, None, Goes-blank, token}
+use Rattle.parallel_bridge.proofs.Walks.{has_block, word, word-Good, Blk, vec_opens⁰, vec_closes⁰, after, slots, cells_own, deed_owns, values}
 use Rattle.std_alloc.proofs.VecSteps.El.{El, args, el_x, el_d, R, P, Vr, Hd, sz}
-use Rattle.std_alloc.proofs.VecSteps.Opens.{Blk, vec_opens⁰, vec_closes⁰}
-use Rattle.std_alloc.proofs.VecSteps.Shapes.{after}
-use Rattle.parallel_bridge.specs.Places.{slots, cells_own, deed_owns, values}
 use Rattle.parallel_bridge.proofs.Rows.{Places, Start, mark, mark_had, start_had}
 use Rattle.parallel_bridge.proofs.Blocks.{plainly, stored_within, block_in}
 use Rattle.parallel_bridge.specs.contracts.window.cells.Deed as deeds

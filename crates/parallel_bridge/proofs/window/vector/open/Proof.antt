@@ -1,47 +1,12 @@
 -- `open` takes a vector's block out as a row of places with the right to free it. Assumes `Logic`.
-use mathlib.Core.Path.{◌≡◌, refl, sym, ap, subst}
-use Prim.Native.Nat.{ℕ, ◌-◌, ◌*◌, ◌<◌, ◌^◌}
-use native.Mathlib.Nat.{zero-mul}
-use native.Mathlib.Omega.{arith}
-use mathlib.Core.List.{List, [], ◌∷◌, ◌++◌, map}
-use lib.Dec.{lit<}
-use lib.ListN.{length, replicate}
-use seplogic.Ra.Ura.{Ura}
-use mir.Syntax.{Fn, ty_array}
-use mir.MapTy.{inst_fn}
-use mir.Raw.{raw as bare}
-use mir.Val.{Val, vptr}
-use base.Logic.{SProp, ent, id⊢}
-use base.Fml.{ftrue, flft}
-use prog.Memory.{Memory}
-use prog.Routine.{Routine}
-use prog.Wp.{Env, WpFn, Tables}
-use types.Logic.{Logic}
-use contract.Monad.{Fun}
-use contract.Running.{tables, tables_of}
-use sound.WpLaws.{WpFn-mono}
-use types.Kit.{‵, raw, ◌⊛◌, at_ret, ◌$◌, ◌∵◌, !, qed, move, keep, drop, use0, use1, use3, split, split3, join, fsplit, fsplit3, fjoin, fjoin3, feq_i, feq_l, flt_i, suffices, done}
-use types.Part.{whole, sub, agg, look_in, store_in}
-use types.Run.{addr, stop, fld, load, lit, of_opd, no_more, and_then, assigns, first, blocks, exec, returns, enter}
-use types.ByLocal.{alloc_all, pass_all, free_all, look_at, get, through, sets, sets_last, env}
-use denote.RattleType.{RattleType, owns}
-use denote.Param.{layout}
-use denote.RawPtr.{Ptr, block_ptr}
-use denote.Signature.{plain, types_at}
-use denote.Steps.{nothing}
-use denote.Struct.Tuple.{Tuple}
-use denote.Triple.Clauses.{Clauses, Ended, closing}
-use denote.Triple.Spec.{Meets, triple_of}
-use denote.Triple.Table.{entered}
-use denote.Triple.Walked.{Stays, stay_ref, walk_of, ends_at, Goes-ref, walk_Meets}
-use Rattle.std.specs.Prelude.{Option, Some, None}
-use Rattle.core.proofs.alloc.Calls.{token}
-use Rattle.std_alloc.specs.Vec.Ownership.{owns_if, has_block}
-use Rattle.std_alloc.proofs.RcSteps.{Good, word, word-Good}
+use Rattle.parallel_bridge.proofs.Walks.{◌≡◌, refl, sym, ap, subst, ℕ, ◌-◌, ◌*◌, ◌<◌, ◌^◌, zero-mul, arith, List, [], ◌∷◌, ◌++◌, map, lit<, length, replicate, Ura, Fn, ty_array, inst_fn, bare, Val}
+use Rattle.parallel_bridge.proofs.Walks.{vptr, SProp, ent, id⊢, ftrue, flft, Memory, Routine, Env, WpFn, Tables, Logic, Fun, tables, tables_of, WpFn-mono, ‵, raw, ◌⊛◌, at_ret, ◌$◌, ◌∵◌, !, qed, move}
+use Rattle.parallel_bridge.proofs.Walks.{keep, drop, use0, use1, use3, split, split3, join, fsplit, fsplit3, fjoin, fjoin3, feq_i, feq_l, flt_i, suffices, done, whole, sub, agg, look_in, store_in}
+use Rattle.parallel_bridge.proofs.Walks.{addr, stop, fld, load, lit, of_opd, no_more, and_then, assigns, first, blocks, exec, returns, enter, alloc_all, pass_all, free_all, look_at, get, through}
+use Rattle.parallel_bridge.proofs.Walks.{sets, sets_last, env, RattleType, owns, layout, Ptr, block_ptr, plain, types_at, nothing, Tuple, Clauses, Ended, closing, Meets, triple_of, entered, Stays}
+use Rattle.parallel_bridge.proofs.Walks.{stay_ref, walk_of, ends_at, Goes-ref, walk_Meets, Option, Some, None, token, owns_if, has_block, Good, word, word-Good, not_live, vec_opens⁰, vec_closes⁰}
+use Rattle.parallel_bridge.proofs.Walks.{after, slots}
 use Rattle.std_alloc.proofs.VecSteps.El.{El, args, el_x, el_d, elτ, R, P, Vr, Hd, sz}
-use Rattle.std_alloc.proofs.VecSteps.Opens.{not_live, vec_opens⁰, vec_closes⁰}
-use Rattle.std_alloc.proofs.VecSteps.Shapes.{after}
-use Rattle.parallel_bridge.specs.Places.{slots}
 use Rattle.parallel_bridge.proofs.Rows.{Places, Start, Mark, mark, mark_from, start_made, says_three, triple, triple_made}
 use Rattle.parallel_bridge.proofs.Blocks.{plainly, stored, stored_length, block_out}
 use Rattle.parallel_bridge.specs.contracts.window.cells.Deed as deeds

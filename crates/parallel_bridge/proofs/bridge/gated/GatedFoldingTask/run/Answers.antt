@@ -1,17 +1,10 @@
 -- A list that is not split is one segment.
-use Rattle.std.proofs.Common.{Ok, Err, IfOk, List, Result, [], ◌++◌, ◌∙◌, ◌<◌, refl, subst}
-use Rattle.std.proofs.lemmas.List.{append-nil}
-use Rattle.std.specs.declared.convert.Infallible.{Infallible}
-use Rattle.parallel_fault.specs.declared.fault.Trouble.TheVariants.{Closure}
-use Rattle.parallel_bridge.specs.declared.gate.watch.GateWatch.{GateWatch}
-use Rattle.parallel_bridge.specs.declared.halt.Halt.{Halt}
-use Rattle.parallel_bridge.specs.Gates.{IsSeatOf, IsWatching, known, stands_for}
-use Rattle.parallel_bridge.specs.Halting.{HaltsOnward, TellsAs, halting}
-use Rattle.parallel_bridge.specs.Sources.{GivesSome}
-use Rattle.parallel_bridge.specs.Tries.{OnlyOk, TryFoldSegment, TryReducedSegment}
+use Rattle.parallel_bridge.proofs.Common.{Ok, Err, IfOk, List, Result, [], ◌++◌, ◌∙◌, ◌<◌, refl, subst, append-nil}
+use Rattle.parallel_bridge.proofs.Calls.{Infallible, Closure, GivesSome, OnlyOk, TryFoldSegment, TryReducedSegment}
+use Rattle.parallel_bridge.proofs.Gates.{GateWatch, Halt, IsSeatOf, IsWatching, known, stands_for, HaltsOnward, TellsAs, halting}
 use Rattle.parallel_bridge.proofs.Halves.{driven_leaf}
 use Rattle.parallel_bridge.proofs.Halts.{leaf_ends, leaf_halts}
-use Rattle.parallel_bridge.proofs.HaltsOnward.{Comes, folded_halt, folded_value, halts_rests}
+use Rattle.parallel_bridge.proofs.GatedFolds.{Comes, folded_halt, folded_value, halts_rests}
 use Rattle.parallel_bridge.proofs.bridge.gated.GatedFoldingTask.run.Goals as goal
 
 pub returns-in-Ok-control : goal.returns-in-Ok-control

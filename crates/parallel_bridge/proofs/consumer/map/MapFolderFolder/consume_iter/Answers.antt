@@ -1,6 +1,5 @@
 -- The closure may be called at each item that comes, and what was handed on are its answers.
-use Rattle.std.proofs.Common.{rules, ◌++◌}
-use Rattle.std.specs.Iterator.Adapters.{map_steps}
+use Rattle.parallel_bridge.proofs.Common.{rules, ◌++◌, map_steps}
 use Rattle.parallel_bridge.proofs.Chains.{mapped_from, serves_along}
 use Rattle.parallel_bridge.proofs.Shapes.{MapOf-append}
 use Rattle.parallel_bridge.proofs.consumer.map.MapFolderFolder.consume_iter.Goals as goal

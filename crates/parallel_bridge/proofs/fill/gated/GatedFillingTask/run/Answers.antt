@@ -1,11 +1,9 @@
 -- A list that is not split is one segment.
+use Rattle.parallel_bridge.proofs.Calls.{Closure, GivesSome}
+use Rattle.parallel_bridge.proofs.Gates.{IsSeatOf, stands_for, TellsAs, halting}
 use Rattle.std.proofs.Common.{Ok, Err, IfOk, List, subst}
-use Rattle.parallel_fault.specs.declared.fault.Trouble.TheVariants.{Closure}
 use Rattle.parallel_bridge.specs.Fills.{Answered, IsFull, OneAfterAnother, kept}
-use Rattle.parallel_bridge.specs.Sources.{GivesSome}
 use Rattle.parallel_bridge.proofs.Halves.{driven_leaf}
-use Rattle.parallel_bridge.specs.Gates.{IsSeatOf, stands_for}
-use Rattle.parallel_bridge.specs.Halting.{TellsAs, halting}
 use Rattle.parallel_bridge.proofs.Halts.{leaf_ends, leaf_halts}
 use Rattle.parallel_bridge.proofs.fill.gated.GatedFillingTask.run.Goals as goal
 

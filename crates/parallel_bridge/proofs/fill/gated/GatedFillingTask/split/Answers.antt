@@ -1,12 +1,9 @@
 -- The halves' places follow one another, their outcomes go along the shape, of two errors the left
 -- one stands, and their seats are joined.
-use Rattle.std.proofs.Common.{◌≡◌, ◌+◌, ◌-◌, ◌/◌, arith, refl, rules, sym, ap, subst, ◌∙◌}
-use Rattle.std.specs.Vec.Ownership.{FitsInBlock}
-use Rattle.parallel_bridge.specs.Fills.{Answered, OneAfterAnother, written}
-use Rattle.parallel_bridge.specs.Places.{shifted}
+use Rattle.parallel_bridge.proofs.Common.{◌≡◌, ◌+◌, ◌-◌, ◌/◌, arith, refl, rules, sym, ap, subst, ◌∙◌, FitsInBlock}
+use Rattle.parallel_bridge.proofs.Gates.{IsSeatOf, stands_for, halting}
+use Rattle.parallel_bridge.proofs.Windows.{Answered, OneAfterAnother, written, shifted}
 use Rattle.parallel_bridge.proofs.Halves.{driven_node}
-use Rattle.parallel_bridge.specs.Gates.{IsSeatOf, stands_for}
-use Rattle.parallel_bridge.specs.Halting.{halting}
 use Rattle.parallel_bridge.proofs.Halts.{ends_joined}
 use Rattle.parallel_bridge.proofs.fill.gated.GatedFillingTask.split.Goals as goal
 

@@ -1,6 +1,5 @@
-use denote.RattleType.{RattleType}
-use denote.Param.Send.{IsSend}
-use Rattle.parallel_bridge.proofs.Crosses.{cells_send}
+use Rattle.parallel_bridge.proofs.Walks.{RattleType, IsSend}
+use Rattle.parallel_bridge.proofs.SendSync.{cells_send}
 use Rattle.parallel_bridge.specs.contracts.window.cells.Cells.{the_row}
 
 pub send : (R : RattleType) → IsSend R → IsSend (the_row R)

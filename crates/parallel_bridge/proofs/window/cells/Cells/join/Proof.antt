@@ -1,39 +1,10 @@
 -- `join` makes one row of two that lie side by side. Assumes `Logic`.
-use mathlib.Core.Path.{◌≡◌, refl, sym, ap, subst, ◌∙◌}
-use Prim.Native.Nat.{ℕ, ◌+◌, ◌*◌, ◌<◌, ◌^◌}
-use mathlib.Core.List.{List, [], ◌∷◌, ◌++◌}
-use lib.ListN.{length, length-append}
-use seplogic.Ra.Ura.{Ura}
-use mir.Syntax.{Fn}
-use mir.MapTy.{inst_fn}
-use mir.Val.{Val}
-use base.Logic.{SProp, ent, never, id⊢}
-use base.Fml.{ftrue, flft}
-use prog.Memory.{Memory}
-use prog.Routine.{Routine}
-use prog.Wp.{WpFn, Tables}
-use types.Logic.{Logic}
-use contract.BorrowLft.{◌⊑◌}
-use contract.Monad.{Fun, fact}
-use contract.Running.{tables, tables_of}
-use sound.WpLaws.{WpFn-mono}
-use types.Kit.{‵, raw, ◌⊛◌, ◌$◌, ◌∵◌, !, qed, move, keep, drop, use0, use2, split, join, rewrite, fsplit, fjoin, fjoin3, flt_i, suffices, done}
-use types.Part.{agg}
-use types.Run.{and_then, no_more, returns, enter}
-use types.ByLocal.{alloc_all, pass_all, free_all, look_at, get, sets}
-use denote.Exit.{no}
-use denote.RattleType.{owns}
-use denote.RawPtr.{Ptr, block_ptr, in_a_block}
-use denote.Signature.{plain, types_at}
-use denote.Steps.{heard, nothing}
-use denote.Triple.Clauses.{Clauses, Ended, closing}
-use denote.Triple.Spec.{Meets, triple_of}
-use denote.Triple.Table.{entered}
-use denote.Triple.Walked.{says, Stays, stay_dropped, walk_of, ends_at, walk_Meets}
+use Rattle.parallel_bridge.proofs.Walks.{◌≡◌, refl, sym, ap, subst, ◌∙◌, ℕ, ◌+◌, ◌*◌, ◌<◌, ◌^◌, List, [], ◌∷◌, ◌++◌, length, length-append, Ura, Fn, inst_fn, Val, SProp, ent, never, id⊢, ftrue, flft}
+use Rattle.parallel_bridge.proofs.Walks.{Memory, Routine, WpFn, Tables, Logic, ◌⊑◌, Fun, fact, tables, tables_of, WpFn-mono, ‵, raw, ◌⊛◌, ◌$◌, ◌∵◌, !, qed, move, keep, drop, use0, use2, split, join}
+use Rattle.parallel_bridge.proofs.Walks.{rewrite, fsplit, fjoin, fjoin3, flt_i, suffices, done, agg, and_then, no_more, returns, enter, alloc_all, pass_all, free_all, look_at, get, sets, no, owns}
+use Rattle.parallel_bridge.proofs.Walks.{Ptr, block_ptr, in_a_block, plain, types_at, heard, nothing, Clauses, Ended, closing, Meets, triple_of, entered, says, Stays, stay_dropped, walk_of, ends_at}
+use Rattle.parallel_bridge.proofs.Walks.{walk_Meets, Goes-blank, El, R, args, shifted, slots, cells_own}
 use Rattle.std.specs.Vec.Ownership.{FitsInBlock}
-use Rattle.core.proofs.alloc.Calls.{Goes-blank}
-use Rattle.core.proofs.mem.Param.{El, R, args}
-use Rattle.parallel_bridge.specs.Places.{shifted, slots, cells_own}
 use Rattle.parallel_bridge.proofs.Rows.{Places, Mark, Place, sz, mark, mark_from, mark_had, glue}
 use Rattle.parallel_bridge.specs.contracts.window.cells.Cells.join as F
 use Rattle.parallel_bridge.specs.contracts.window.cells.Cells.join.Key.{name as #self}

@@ -1,47 +1,11 @@
 -- `read` moves an item out, whose place is empty then. Assumes `Logic`.
-use mathlib.Core.Path.{◌≡◌, refl, sym, subst, ◌∙◌}
-use Prim.Native.Nat.{ℕ, ◌+◌, ◌*◌, ◌<◌, ◌^◌}
-use native.Mathlib.Omega.{arith}
-use mathlib.Core.List.{List, [], ◌∷◌, ◌++◌}
-use lib.ListN.{length, set, get_or, length-set}
-use seplogic.Ra.Ura.{Ura}
-use base.Fraction.{full_share}
-use mir.Syntax.{Fn, w64}
-use mir.MapTy.{inst_fn}
-use mir.Val.{Val, vptr, vint}
-use base.Logic.{SProp, ent, never, id⊢}
-use base.Fml.{ftrue, fat, froom, flft}
-use prog.Memory.{Memory}
-use prog.Routine.{Routine}
-use prog.Wp.{Env, WpFn, Tables}
-use types.Logic.{Logic}
-use contract.BorrowLft.{◌⊑◌}
-use contract.Monad.{Fun, fact}
-use contract.Running.{tables, tables_of}
-use sound.WpLaws.{WpFn-mono}
-use types.Kit.{‵, raw, ◌⊛◌, some, given, pick, learn, at_ret, ◌$◌, ◌∵◌, !, qed, move, keep, drop, use1, use2, split, split3, join, rewrite, fsplit, fsplit3}
-use types.Kit.{fjoin, fjoin3, feq_i, feq_l, flt_l, flt_i, suffices, done}
-use types.Part.{whole, sub}
-use types.Run.{look, load, stop, fld, bin, size_lit, of_opd, first, blocks, exec, returns, enter}
-use types.ByLocal.{alloc_all, pass_all, free_all, look_at, get, get_in, take_at, give_at, through, sets, sets_last, env}
-use denote.Exit.{yes, no}
-use denote.RattleType.{owns}
-use denote.Builtin.{usize}
-use denote.Param.{layout}
-use denote.RawPtr.{Ptr, in_a_block}
-use denote.Signature.{plain, types_at}
-use denote.Steps.{heard, nothing, opens, closes}
-use denote.Triple.Clauses.{Clauses, Ended, closing}
-use denote.Triple.Spec.{Meets, triple_of}
-use denote.Triple.Table.{entered}
-use denote.Triple.Walked.{Stays, stay_dropped, stay_ref, walk_of, ends_at, Goes-dropped, Goes-ref, walk_Meets}
-use Rattle.std.specs.Prelude.{None}
-use Rattle.core.proofs.mem.Param.{El, R, args, elτ}
-use Rattle.core.proofs.ptr.Rows.{times_below, one_below}
-use Rattle.std_alloc.proofs.RawLayout.{as_raw}
-use Rattle.std_alloc.proofs.RcSteps.{Good, word, word-Good}
-use Rattle.std_alloc.proofs.VecSteps.Shapes.{after}
-use Rattle.parallel_bridge.specs.Places.{IsFilled, slot, slots, cells_own}
+use Rattle.parallel_bridge.proofs.Walks.{◌≡◌, refl, sym, subst, ◌∙◌, ℕ, ◌+◌, ◌*◌, ◌<◌, ◌^◌, arith, List, [], ◌∷◌, ◌++◌, length, set, get_or, length-set, Ura, full_share, Fn, w64, inst_fn, Val, vptr}
+use Rattle.parallel_bridge.proofs.Walks.{vint, SProp, ent, never, id⊢, ftrue, fat, froom, flft, Memory, Routine, Env, WpFn, Tables, Logic, ◌⊑◌, Fun, fact, tables, tables_of, WpFn-mono, ‵, raw, ◌⊛◌}
+use Rattle.parallel_bridge.proofs.Walks.{some, given, pick, learn, at_ret, ◌$◌, ◌∵◌, !, qed, move, keep, drop, use1, use2, split, split3, join, rewrite, fsplit, fsplit3, fjoin, fjoin3, feq_i, feq_l}
+use Rattle.parallel_bridge.proofs.Walks.{flt_l, flt_i, suffices, done, whole, sub, look, load, stop, fld, bin, size_lit, of_opd, first, blocks, exec, returns, enter, alloc_all, pass_all, free_all}
+use Rattle.parallel_bridge.proofs.Walks.{look_at, get, get_in, take_at, give_at, through, sets, sets_last, env, yes, no, owns, usize, layout, Ptr, in_a_block, plain, types_at, heard, nothing, opens}
+use Rattle.parallel_bridge.proofs.Walks.{closes, Clauses, Ended, closing, Meets, triple_of, entered, Stays, stay_dropped, stay_ref, walk_of, ends_at, Goes-dropped, Goes-ref, walk_Meets, None, El, R}
+use Rattle.parallel_bridge.proofs.Walks.{args, elτ, times_below, one_below, as_raw, Good, word, word-Good, after, IsFilled, slot, slots, cells_own}
 use Rattle.parallel_bridge.proofs.Rows.{Places, Start, Place, sz, start_had, item_out, says_two, has_index, Others, place_out, place_in}
 use Rattle.parallel_bridge.specs.contracts.window.cells.Cells.read as F
 use Rattle.parallel_bridge.specs.contracts.window.cells.Cells.read.Key.{name as #self}

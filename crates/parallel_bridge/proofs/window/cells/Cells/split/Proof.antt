@@ -1,47 +1,12 @@
 -- `split` cuts a row in two. Assumes `Logic`.
-use mathlib.Core.Path.{◌≡◌, refl, sym, ap, subst, ◌∙◌}
-use Prim.Native.Nat.{ℕ, ◌+◌, ◌*◌, ◌<◌, ◌≤◌, ◌^◌}
-use native.Mathlib.Omega.{arith}
-use mathlib.Core.List.{List, [], ◌∷◌, ◌++◌}
-use lib.ListN.{length, take, drop as from, length-take, length-drop}
-use seplogic.Ra.Ura.{Ura}
-use base.Fraction.{full_share}
-use mir.Syntax.{Fn, w64}
-use mir.MapTy.{inst_fn}
-use mir.Val.{Val, vint}
-use base.Logic.{SProp, ent, never, id⊢}
-use base.Fml.{ftrue, fat, flft}
-use prog.Memory.{Memory}
-use prog.Routine.{Routine}
-use prog.Wp.{Env, WpFn, Tables}
-use types.Logic.{Logic}
-use contract.BorrowLft.{◌⊑◌}
-use contract.Monad.{Fun, fact}
-use contract.Running.{tables, tables_of}
-use sound.WpLaws.{WpFn-mono}
-use types.Kit.{‵, raw, ◌⊛◌, at_ret, ◌$◌, ◌∵◌, !, qed, move, keep, drop, use0, use1, use3, split, join, rewrite, fsplit, fjoin, fjoin3, feq_l, flt_l, flt_i, suffices, done}
-use types.Part.{whole, sub, agg}
-use types.Run.{stop, fld, bin, size_word, of_opd, and_then, no_more, first, blocks, exec, returns, enter}
-use types.ByLocal.{alloc_all, pass_all, free_all, look_at, get, get_in, take_at, give_at, is, sets, sets_last, env}
-use denote.Exit.{yes, no}
-use denote.RattleType.{RattleType, owns}
-use denote.Builtin.{usize}
-use denote.Param.{layout}
-use denote.RawPtr.{Ptr, block_ptr, in_a_block}
-use denote.Signature.{plain, types_at}
-use denote.Steps.{heard, nothing}
-use denote.Struct.Tuple.{Tuple}
-use denote.Triple.Clauses.{Clauses, Ended, closing}
-use denote.Triple.Spec.{Meets, triple_of}
-use denote.Triple.Table.{entered}
-use denote.Triple.Walked.{says, Stays, stay_dropped, walk_of, ends_at, Goes-dropped, walk_Meets}
-use Rattle.core.proofs.alloc.Calls.{Goes-blank}
-use Rattle.core.proofs.mem.Param.{El, R, args}
-use Rattle.core.proofs.ptr.Rows.{times_below}
+use Rattle.parallel_bridge.proofs.Walks.{◌≡◌, refl, sym, ap, subst, ◌∙◌, ℕ, ◌+◌, ◌*◌, ◌<◌, ◌≤◌, ◌^◌, arith, List, [], ◌∷◌, ◌++◌, length, take, from, length-take, length-drop, Ura, full_share, Fn, w64}
+use Rattle.parallel_bridge.proofs.Walks.{inst_fn, Val, vint, SProp, ent, never, id⊢, ftrue, fat, flft, Memory, Routine, Env, WpFn, Tables, Logic, ◌⊑◌, Fun, fact, tables, tables_of, WpFn-mono, ‵, raw}
+use Rattle.parallel_bridge.proofs.Walks.{◌⊛◌, at_ret, ◌$◌, ◌∵◌, !, qed, move, keep, drop, use0, use1, use3, split, join, rewrite, fsplit, fjoin, fjoin3, feq_l, flt_l, flt_i, suffices, done, whole}
+use Rattle.parallel_bridge.proofs.Walks.{sub, agg, stop, fld, bin, size_word, of_opd, and_then, no_more, first, blocks, exec, returns, enter, alloc_all, pass_all, free_all, look_at, get, get_in}
+use Rattle.parallel_bridge.proofs.Walks.{take_at, give_at, is, sets, sets_last, env, yes, no, RattleType, owns, usize, layout, Ptr, block_ptr, in_a_block, plain, types_at, heard, nothing, Tuple}
+use Rattle.parallel_bridge.proofs.Walks.{Clauses, Ended, closing, Meets, triple_of, entered, says, Stays, stay_dropped, walk_of, ends_at, Goes-dropped, walk_Meets, Goes-blank, El, R, args}
+use Rattle.parallel_bridge.proofs.Walks.{times_below, Good, word, word-Good, after, shifted, slots, cells_own}
 use Rattle.core.proofs.slots.Leases.{uncapped}
-use Rattle.std_alloc.proofs.RcSteps.{Good, word, word-Good}
-use Rattle.std_alloc.proofs.VecSteps.Shapes.{after}
-use Rattle.parallel_bridge.specs.Places.{shifted, slots, cells_own}
 use Rattle.parallel_bridge.proofs.Rows.{Places, Start, Mark, Place, sz, mark, mark_from, mark_had, start_had, start_made, triple, triple_made, cut_at}
 use Rattle.parallel_bridge.specs.contracts.window.cells.Cells.split as F
 use Rattle.parallel_bridge.specs.contracts.window.cells.Cells.split.Key.{name as #self}

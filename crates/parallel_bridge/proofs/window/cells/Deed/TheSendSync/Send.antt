@@ -1,7 +1,5 @@
-use denote.RattleType.{RattleType}
-use denote.Param.Send.{IsSend, Frees}
-use Rattle.core.specs.declared.alloc.Allocator.{Ghosts}
-use Rattle.parallel_bridge.proofs.Crosses.{deed_send}
+use Rattle.parallel_bridge.proofs.Walks.{RattleType, IsSend, Frees, Ghosts}
+use Rattle.parallel_bridge.proofs.SendSync.{deed_send}
 use Rattle.parallel_bridge.specs.contracts.window.cells.Deed.{the_row}
 
 pub send : (R A : RattleType) (g : Ghosts A.Denot) → IsSend A → Frees g g.dealloc_token

@@ -1,40 +1,48 @@
 -- The block is cut behind its first places.
-use Rattle.std.proofs.Common.{◌≡◌, ◌≤◌, ◌<◌, ◌-◌, ◌^◌, length, replicate, None, refl, sym, ap, subst, ◌∙◌}
-use Rattle.parallel_bridge.specs.Places.{values}
-use Rattle.parallel_bridge.specs.Windows.{IsRow, part}
+use Rattle.parallel_bridge.proofs.Windows.{values, IsRow, part}
+use Rattle.std.proofs.Common.{◌≡◌, ◌≤◌, ◌<◌, ◌-◌, ◌^◌, length, take, drop, replicate, None, refl, sym, ap, subst, ◌∙◌}
 use Rattle.parallel_bridge.proofs.Runs.{opened_rows}
 use Rattle.parallel_bridge.proofs.window.home.Home.over.Goals as goal
+use Rattle.parallel_bridge.proofs.window.home.Home.over.Given.{Over}
+use Rattle.parallel_bridge.proofs.window.home.Home.over.Goals.{After-split-cells}
 
-pub invariant_of-window : goal.invariant_of-window
-invariant_of-window g c =
+-- the front of the block is the row of the items, and the rest is empty
+cut_row : (g : Over) (c : After-split-cells g)
+    → (IsRow c.open-all.result.1.at c.open-all.result.0.ptr
+    (take c.args.room c.open-all.result.1.slots) c.args.room 0 c.len-len.result
+    × (values (take c.args.room c.open-all.result.1.slots) ≡ c.args.vec.items))
+    × (drop c.args.room c.open-all.result.1.slots ≡ replicate (c.args.vec.cap - c.args.room) None)
+cut_row g c =
     let v = c.args.vec in
     let row = c.open-all.ensures.row in
     let all = c.open-all.result.1 in
-    let e = c.split-cells.ensures in
     let n = c.len-len.result in
     let counted : n ≡ length v.items = c.len-len.ensures ∙ v.ok.0 in
     let cut = opened_rows all.at c.open-all.result.0.ptr all.slots v.cap c.args.room n v.items
     (row.1 ∙ sym row.0) row.2 counted
     (subst (λ k. k ≤ c.args.room) (sym counted) c.requires.fits.0) c.requires.fits.1 in
+    (cut.1, cut.2)
+
+pub invariant_of-window : goal.invariant_of-window
+invariant_of-window g c =
+    let all = c.open-all.result.1 in
+    let e = c.split-cells.ensures in
+    let n = c.len-len.result in
+    let cut = cut_row g (goal.at.invariant_of-window g c).After-split-cells in
     subst (λ p. IsRow p c.open-all.result.0.ptr c.split-cells.result.0.slots c.args.room 0 n)
     (sym e.0) (subst (λ cs. IsRow all.at c.open-all.result.0.ptr cs c.args.room 0 n)
-    (sym e.1) cut.1.0)
+    (sym e.1) cut.0.0)
 
 pub invariant_of-home : goal.invariant_of-home
 invariant_of-home g c =
     let v = c.args.vec in
     let row = c.open-all.ensures.row in
-    let all = c.open-all.result.1 in
     let e = c.split-cells.ensures in
-    let n = c.len-len.result in
-    let counted : n ≡ length v.items = c.len-len.ensures ∙ v.ok.0 in
-    let cut = opened_rows all.at c.open-all.result.0.ptr all.slots v.cap c.args.room n v.items
-    (row.1 ∙ sym row.0) row.2 counted
-    (subst (λ k. k ≤ c.args.room) (sym counted) c.requires.fits.0) c.requires.fits.1 in
+    let cut = cut_row g (goal.at.invariant_of-home g c).After-split-cells in
     let deed = c.open-all.ensures.deed in
     let left = c.open-all.ensures.left in
     let cap = c.capacity-capacity.ensures in (
-      (e.3, e.4 ∙ cut.2 ∙ ap (λ k. replicate (k - c.args.room) None) (sym cap)),
+      (e.3, e.4 ∙ cut.1 ∙ ap (λ k. replicate (k - c.args.room) None) (sym cap)),
       deed.0 ∙ sym row.0,
       deed.1 ∙ sym cap,
       deed.2 ∙ sym left.2,
@@ -44,13 +52,6 @@ invariant_of-home g c =
 
 pub returns-clause-window : goal.returns-clause-window
 returns-clause-window g c =
-    let v = c.args.vec in
-    let row = c.open-all.ensures.row in
-    let all = c.open-all.result.1 in
     let e = c.split-cells.ensures in
-    let n = c.len-len.result in
-    let counted : n ≡ length v.items = c.len-len.ensures ∙ v.ok.0 in
-    let cut = opened_rows all.at c.open-all.result.0.ptr all.slots v.cap c.args.room n v.items
-    (row.1 ∙ sym row.0) row.2 counted
-    (subst (λ k. k ≤ c.args.room) (sym counted) c.requires.fits.0) c.requires.fits.1 in
-    (ap (part c.open-all.result.0.ptr c.args.room 0) (ap values e.1 ∙ cut.1.1), refl)
+    let cut = cut_row g (goal.at.returns-clause-window g c).After-split-cells in
+    (ap (part c.open-all.result.0.ptr c.args.room 0) (ap values e.1 ∙ cut.0.1), refl)

@@ -1,11 +1,10 @@
 -- Two rows side by side as one.
-use Rattle.std.proofs.Common.{◌≡◌, ◌+◌, ◌++◌, length, sym, ap, subst, ◌∙◌, ◌⊎◌, inl, inr}
-use Rattle.std.specs.Vec.Ownership.{FitsInBlock}
-use denote.Param.{param}
-use Rattle.parallel_bridge.specs.Places.{shifted, values}
-use Rattle.parallel_bridge.specs.Windows.{Adjoins, IsRow, part}
+use Rattle.parallel_bridge.proofs.Common.{◌≡◌, ◌+◌, ◌++◌, length, sym, ap, subst, ◌∙◌, ◌⊎◌, inl, inr, FitsInBlock, param}
+use Rattle.parallel_bridge.proofs.Windows.{shifted, values, Adjoins, IsRow, part}
 use Rattle.parallel_bridge.proofs.Runs.{row_length, two_rows}
 use Rattle.parallel_bridge.proofs.window.part.Window.join.Goals as goal
+use Rattle.parallel_bridge.proofs.window.part.Window.join.Given.{Over}
+use Rattle.parallel_bridge.proofs.window.part.Window.join.Goals.{After-join}
 
 pub join-requires : goal.join-requires
 join-requires g c =
@@ -27,8 +26,14 @@ join-requires g c =
       subst (λ n. FitsInBlock R n) (λ i. sym long i + sym more i) fits,
     )
 
-pub invariant_of-result : goal.invariant_of-result
-invariant_of-result g c =
+-- the two rows as one
+as_one : (g : Over) (c : After-join g) → IsRow c.self.inside.cells.at c.self.inside.base.ptr
+    (c.self.inside.cells.slots ++ c.into_parts-more_room.result.4.slots)
+    (c.self.inside.room + c.into_parts-more_room.result.1) c.self.inside.before
+    (c.self.inside.len + c.into_parts-more_room.result.3)
+    × (values (c.self.inside.cells.slots ++ c.into_parts-more_room.result.4.slots)
+    ≡ values c.self.inside.cells.slots ++ values c.into_parts-more_room.result.4.slots)
+as_one g c =
     let w = c.self.inside in
     let v = c.into_parts-more_room.result in
     let is = c.into_parts-more_room.ensures in
@@ -41,9 +46,14 @@ invariant_of-result g c =
       | inr h ↦
           inr (is.row.1 ∙ ap length h)
     ] in
-    let two =
     two_rows w.cells.at w.base.ptr w.cells.slots w.room w.before w.len c.self.invariant is.row
-    beside in
+    beside
+
+pub invariant_of-result : goal.invariant_of-result
+invariant_of-result g c =
+    let w = c.self.inside in
+    let v = c.into_parts-more_room.result in
+    let two = as_one g (goal.at.invariant_of-result g c).After-join in
     let e = c.join.ensures in
     subst (λ p. IsRow p w.base.ptr c.join.result.slots (w.room + v.1) w.before (w.len + v.3))
     (sym e.0) (subst (λ cs. IsRow w.cells.at w.base.ptr cs (w.room + v.1) w.before
@@ -54,18 +64,7 @@ returns g c =
     let w = c.self.inside in
     let v = c.into_parts-more_room.result in
     let is = c.into_parts-more_room.ensures in
-    let adjoins =
-    subst (λ a. Adjoins (part w.base.ptr w.room w.before (values w.cells.slots)) a) is.view
-    (subst (λ a. Adjoins a c.args.right) (sym c.self.view_is) c.requires.adjoins) in
-    let beside : ((w.before + w.len ≡ w.room) × (v.2 ≡ 0)) ⊎ (v.3 ≡ 0) =
-    elim adjoins [
-      | inl h ↦ inl (ap (λ n. w.before + n) c.self.invariant.1 ∙ h.0, h.1)
-      | inr h ↦
-          inr (is.row.1 ∙ ap length h)
-    ] in
-    let two =
-    two_rows w.cells.at w.base.ptr w.cells.slots w.room w.before w.len c.self.invariant is.row
-    beside in
+    let two = as_one g (goal.at.returns g c).After-join in
     ap (part w.base.ptr (w.room + v.1) w.before) (ap values c.join.ensures.1 ∙ two.1)
     ∙ (λ i. part (c.self.view_is i).start ((c.self.view_is i).room + (sym is.view i).room)
     (c.self.view_is i).before ((c.self.view_is i).items ++ (sym is.view i).items))

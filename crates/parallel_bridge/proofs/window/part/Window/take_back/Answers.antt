@@ -1,7 +1,6 @@
 -- The items without the last.
+use Rattle.parallel_bridge.proofs.Windows.{values, IsRow}
 use Rattle.std.proofs.Common.{◌-◌, ◌<◌, ◌++◌, ◌∷◌, [], length, sym, ap, subst, ◌∙◌}
-use Rattle.parallel_bridge.specs.Places.{values}
-use Rattle.parallel_bridge.specs.Windows.{IsRow}
 use Rattle.parallel_bridge.proofs.Runs.{back_row, some_same}
 use Rattle.parallel_bridge.proofs.window.part.Window.take_back.Goals as goal
 

@@ -1,7 +1,5 @@
 -- Items that are taken from the front of a list.
-use Rattle.std.proofs.Common.{◌≡◌, List, [], ◌∷◌, ◌++◌, sym, subst, ◌∙◌, ap, append_assoc}
-use Rattle.std.specs.List.{Contains}
-use Rattle.std.proofs.lemmas.List.Elements.{Contains-append_left, Contains-append_right, Contains-push}
+use Rattle.parallel_bridge.proofs.Common.{◌≡◌, List, [], ◌∷◌, ◌++◌, sym, subst, ◌∙◌, ap, append_assoc, Contains, Contains-append_left, Contains-append_right, Contains-push}
 
 module _ {X : Type 0} where
   -- the front item stands in the list

@@ -1,20 +1,9 @@
 -- A row of places may go to another thread where its items may, and the right to free a block where
 -- its allocator may.
-use Rattle.std.specs.Prelude.{ℕ, ◌+◌, List, [], ◌∷◌, Option, Some, None}
-use Rattle.std.specs.Mem.{type_size}
-use base.Fraction.{full_share}
-use base.Fml.{Fml}
+use Rattle.parallel_bridge.proofs.Walks.{ℕ, ◌+◌, List, [], ◌∷◌, Option, Some, None, type_size, full_share, Fml, RattleType, Ptr, block_ptr, null_ptr, exits_of, shape, fields, to, IsSend, AllSend}
+use Rattle.parallel_bridge.proofs.Walks.{part_keyless, owning_send, struct_send, sendable, Ghosts, Bool, true, false, has_block, owns_if, slots, cells_own}
 use base.Shift.{Keyless}
-use denote.RattleType.{RattleType}
-use denote.RawPtr.{Ptr, block_ptr, null_ptr}
-use denote.Struct.Struct.{exits_of}
-use denote.Struct.Owning.{shape, fields, to}
-use denote.Param.Send.{IsSend, AllSend, part_keyless, owning_send, struct_send, sendable}
-use Rattle.core.specs.declared.alloc.Allocator.{Ghosts}
-use Rattle.std.specs.Prelude.{Bool, true, false}
-use Rattle.std_alloc.specs.Vec.Ownership.{has_block, owns_if}
 use Rattle.std_alloc.proofs.SendSync.{FreesAnywhere, quiet}
-use Rattle.parallel_bridge.specs.Places.{slots, cells_own}
 use Rattle.parallel_bridge.specs.contracts.window.cells.Cells as cells
 use Rattle.parallel_bridge.specs.contracts.window.cells.Deed as deed
 

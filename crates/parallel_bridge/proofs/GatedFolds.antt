@@ -1,12 +1,9 @@
--- Folding some items under the eye of a gate, and then more, is folding all of them.
+-- For `consume_iter` of `GatedFolder`: folding some items under the eye of a gate, and then more, is
+-- folding all of them.
+use Rattle.parallel_bridge.proofs.Gates.{Halt, Failed, Stopped, GateWatch, IsWatching, SameWatch, known, Begins, HaltsOnward, TellsAs, halting}
 use Rattle.std.proofs.Common.{List, [], ◌++◌, Result, Ok, Err, IsTrue, is_err, refl, sym, subst, ◌∙◌}
 use Rattle.parallel_bridge.specs.Tries.{OnlyOk, TryChain, TryFoldSegment, TryReducedSegment}
 use Rattle.parallel_bridge.proofs.Onward.{try_chain_append}
-use Rattle.parallel_bridge.specs.declared.halt.Halt.{Halt}
-use Rattle.parallel_bridge.specs.declared.halt.Halt.TheVariants.{Failed, Stopped}
-use Rattle.parallel_bridge.specs.declared.gate.watch.GateWatch.{GateWatch}
-use Rattle.parallel_bridge.specs.Gates.{IsWatching, SameWatch, known}
-use Rattle.parallel_bridge.specs.Halting.{Begins, HaltsOnward, TellsAs, halting}
 
 module _ {X R E : Type 0} (step : R → X → Result R E → Type 0) where
   -- behind a value

@@ -1,16 +1,8 @@
--- An outcome that is no stop goes along the shape as if there were no gate.
+-- For `unhalt`: an outcome that is no stop goes along the shape as if there were no gate.
+use Rattle.parallel_bridge.proofs.Calls.{Trouble, Closure, OfFault, Cut, segment, halves, Shape, Driven, OnlyOk, TryAlongCut}
+use Rattle.parallel_bridge.proofs.Gates.{Halt, Failed, Stopped, halting, IsUnhalted, IsUnhaltedLost, NotStopped}
+use Rattle.parallel_bridge.proofs.Windows.{written, View}
 use Rattle.std.proofs.Common.{ℕ, List, Result, Ok, Err, refl, sym, subst, inl, inr}
-use Rattle.parallel_fault.specs.declared.fault.Trouble.{Trouble}
-use Rattle.parallel_fault.specs.declared.fault.Trouble.TheVariants.{Closure}
-use Rattle.parallel_fault.specs.declared.fault.Trouble.TheVariants.{Fault as OfFault}
-use Rattle.parallel_bridge.specs.Fills.{written}
-use Rattle.parallel_bridge.specs.Shapes.{Cut, segment, halves, Shape}
-use Rattle.parallel_bridge.specs.Sources.{Driven}
-use Rattle.parallel_bridge.specs.Tries.{OnlyOk, TryAlongCut}
-use Rattle.parallel_bridge.specs.Windows.{View}
-use Rattle.parallel_bridge.specs.declared.halt.Halt.{Halt}
-use Rattle.parallel_bridge.specs.declared.halt.Halt.TheVariants.{Failed, Stopped}
-use Rattle.parallel_bridge.specs.Halting.{halting, IsUnhalted, IsUnhaltedLost, NotStopped}
 
 module _ {X R E : Type 0} (leaf : List X → Result R E → Type 0)
     (node : R → R → Result R E → Type 0) (meeting : R → R → Result R (Halt E) → Type 0)

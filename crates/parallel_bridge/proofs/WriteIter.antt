@@ -1,7 +1,5 @@
--- Items that came so far, and those that come behind them.
-use Rattle.std.proofs.Common.{◌≡◌, ℕ, ◌+◌, ◌≤◌, List, [], ◌∷◌, ◌++◌, Option, Some, length, refl, subst, sym, arith}
-use Rattle.std.proofs.lemmas.List.{length-append}
-use Rattle.std.specs.Iterator.{Drains, Yields}
+-- For `write_iter` and its watched twin: items that came so far, and those that come behind them.
+use Rattle.parallel_bridge.proofs.Common.{◌≡◌, ℕ, ◌+◌, ◌≤◌, List, [], ◌∷◌, ◌++◌, Option, Some, length, refl, subst, sym, arith, length-append, Drains, Yields}
 
 module _ {S A : Type 0} (steps : S → Option A → S → Type 0) where
   -- what came, and then all that is left
