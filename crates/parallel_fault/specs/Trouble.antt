@@ -1,4 +1,4 @@
-use Rattle.std.specs.Prelude.{◌≡◌, Result, Err, Ok}
+use Rattle.std.specs.Prelude.{◌≡◌, Result, Err, Ok, IfErr}
 use Rattle.parallel_fault.specs.declared.fault.Fault.{Fault}
 use Rattle.parallel_fault.specs.declared.fault.Trouble.{Trouble}
 use Rattle.parallel_fault.specs.declared.fault.Fault.TheVariants.{Memory}
@@ -19,3 +19,7 @@ IfFault (OfFault f) P = P f
 abbrev pub IsMemoryOnErr : {T : Type 0} → Result T Fault → Type 0
 IsMemoryOnErr (Ok _) = Unit {0}
 IsMemoryOnErr (Err f) = f ≡ Memory
+
+-- no fault but want of memory, where the closure may have an error of its own
+abbrev pub IsMemoryOnFault : {T E : Type 0} → Result T (Trouble E) → Type 0
+IsMemoryOnFault result = IfErr result (λ trouble. IfFault trouble (λ fault. fault ≡ Memory))
