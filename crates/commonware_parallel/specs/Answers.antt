@@ -23,6 +23,10 @@ abbrev pub OneOf : Type 0 → Type 0 → Path → Type 0
 OneOf serial parallel Serial = serial
 OneOf serial parallel Parallel = parallel
 
+-- an answer of the first serially, of the second in parallel
+abbrev pub OfOne : {R : Type 0} → (R → Type 0) → (R → Type 0) → Path → R → Type 0
+OfOne serial parallel path answer = OneOf (serial answer) (parallel answer) path
+
 -- a pick that is a path, and a fact of it
 abbrev pub OnPath : Pick → (Path → Type 0) → Type 0
 OnPath (By path) fact = fact path

@@ -1,9 +1,14 @@
 -- the ranges that a batch is run over
-use Rattle.std.specs.Prelude.{◌≡◌, ◌≤◌, ◌<◌, Bool, List, [], ◌∷◌, ℕ, length, All}
+use Rattle.std.specs.Prelude.{◌≡◌, ◌≤◌, ◌<◌, ◌⊎◌, Bool, List, [], ◌∷◌, ℕ, length, All, Result, Ok, Err}
+use Rattle.std.specs.Int.NonZero.{non_zero_usize_get}
+use Rattle.std.specs.declared.num.NonZeroUsize.{NonZeroUsize}
 use Rattle.std.specs.declared.ops.Range.{Range}
 use Rattle.parallel_fault.specs.declared.fault.Fault.{Fault}
+use Rattle.parallel_fault.specs.declared.fault.Fault.TheVariants.{Memory}
+use Rattle.parallel_fault.specs.declared.fault.Trouble.{Trouble}
 use Rattle.parallel_policy.specs.declared.Site.{Site}
 use Rattle.parallel_shares.specs.Cut.{BalancedCut, range_length}
+use Rattle.commonware_parallel.specs.Answers.{UnlessFaulty}
 use Rattle.commonware_parallel.specs.Calls.{IsInnerOf, batches_call}
 use Rattle.commonware_parallel.specs.declared.call.Call.{Call}
 use Rattle.commonware_parallel.specs.declared.call.Pick.{Pick}
@@ -33,16 +38,35 @@ IsWholeBatch strategy place len batches =
     (ranges_of batches ≡ record { start = 0; end = len } ∷ [])
     × (strategy_of batches ≡ strategy) × (place_of batches ≡ place)
 
+-- allowed holds of some batch of so many ranges, through the strategy and with the place
+abbrev pub OnBatch : {S P : Type 0} → S → P → ℕ → ℕ → ℕ → (Batches S P → Type 0) → Type 0
+OnBatch strategy place len parts minimum allowed = (batches : Batches _ _)
+    × IsBatch len parts minimum (ranges_of batches) × (strategy_of batches ≡ strategy)
+    × (place_of batches ≡ place) × allowed batches
+
 -- allowed holds of some batch: of as many ranges as the strategy may take for the call, over its
 -- inner strategy and with the call's place
 abbrev pub OnSomeBatch : {S P : Type 0} (takes : S → Site → Call → Pick → Type 0)
     (refuses : S → Site → Call → Fault → Type 0) (plans threads : S → ℕ) (starts : S → Bool)
-    (strategy : S) (site : Site) (place : P) (len minimum multiplier : ℕ)
-    (allowed : Batches S P → Type 0) → Type 0
-OnSomeBatch takes refuses plans threads starts strategy site place len minimum multiplier allowed =
-    (parts : ℕ)
-    × (0 < parts) × (parts ≤ (batches_call (plans strategy) len minimum multiplier).parts)
-    × takes strategy site (batches_call (plans strategy) len minimum multiplier) (Into parts)
-    × (batches : Batches _ _) × IsBatch len parts minimum (ranges_of batches)
+    (site_of : P → Site) (strategy : S) (place : P) (len : ℕ) (minimum : NonZeroUsize)
+    (multiplier : ℕ) (allowed : Batches S P → Type 0) → Type 0
+OnSomeBatch takes refuses plans threads starts site_of strategy place len minimum multiplier
+    allowed = (parts : ℕ)
+    × (0 < parts)
+    × (parts ≤ (batches_call (plans strategy) len (non_zero_usize_get minimum) multiplier).parts)
+    × takes strategy (site_of place)
+    (batches_call (plans strategy) len (non_zero_usize_get minimum) multiplier) (Into parts)
+    × (batches : Batches _ _) × IsBatch len parts (non_zero_usize_get minimum) (ranges_of batches)
     × IsInnerOf takes refuses plans threads starts strategy (strategy_of batches)
     × (place_of batches ≡ place) × allowed batches
+
+-- a refusal of what prepares the items, or want of memory behind items that were prepared
+abbrev pub FailsPrepared : {X : Type 0} → (Result X Fault → Type 0) → Fault → Type 0
+FailsPrepared {X = X} prepares fault = ((fault ≡ Memory) × (items : X) × prepares (Ok items))
+    ⊎ prepares (Err fault)
+
+-- an outcome that is allowed for items that were prepared, or such a refusal
+abbrev pub AnswersPrepared : {X R E : Type 0} → (Result X Fault → Type 0)
+    → (X → Result R E → Type 0) → Result R (Trouble E) → Type 0
+AnswersPrepared {X = X} prepares allowed result = UnlessFaulty result
+    (λ out. (items : X) × prepares (Ok items) × allowed items out) (FailsPrepared prepares)

@@ -3,11 +3,13 @@ pub mod Batches
 pub mod Calls
 pub mod Explorers
 pub mod Exploring
+pub mod ListCalls
 pub mod Measures
 pub mod MergedRows
 pub mod Merkle
 pub mod Mixes
 pub mod Noting
+pub mod OnePlace
 pub mod Rayon
 pub mod Chains
 pub mod Rectangles

@@ -1,6 +1,6 @@
 -- results of stretches that are merged row by row
 use Rattle.std.specs.Prelude.{◌≡◌, ◌≢◌, ℕ, zero, suc, ◌+◌, ◌*◌, ◌%◌, ◌^◌, ◌<◌, ◌≤◌, Bool, true, List, [], ◌∷◌, ◌++◌, Option, Some, None, All, map}
-use Rattle.std.specs.List.{FoldsTo}
+use Rattle.std.specs.List.{FoldsTo, range_with_len}
 use Rattle.std.specs.List.Sorted.{IsPermutation}
 use Rattle.std.specs.declared.ops.Range.{Range}
 use Rattle.parallel_shares.specs.declared.shares.stretch.Stretch.{Stretch}
@@ -51,6 +51,13 @@ FillsParts init fill finish rows len whole parts = CutsRectangle rows len (stret
     × (whole ≡ true → All (IsWholeRow len) (stretches_in parts))
     × Chains init fill finish (stretches_in parts) (results_in parts)
 
+-- such chains over some stretches, of which the results alone are told
+abbrev pub FillsCut : {T R : Type 0} → (T → Type 0) → (T → ℕ → Range ℕ → T → Type 0)
+    → (T → ℕ → R → T → Type 0) → ℕ → ℕ → Bool → List R → Type 0
+FillsCut init fill finish rows len whole results = (cut : List Stretch)
+    × CutsRectangle rows len cut × (whole ≡ true → All (IsWholeRow len) cut)
+    × Chains init fill finish cut results
+
 -- such chains, and for each row what the results of its stretches are together
 abbrev pub FillsRows : {T R : Type 0} → (T → Type 0) → (T → ℕ → Range ℕ → T → Type 0)
     → (T → ℕ → R → T → Type 0) → (R → R → R → Type 0) → ℕ → ℕ → Bool → List R → Type 0
@@ -98,3 +105,10 @@ RespectsCuts {R = R} merge rows len value = (row a b c : ℕ) (r : R) → row < 
 -- a result is the value of the columns of its stretch
 abbrev pub IsValueOf : {R : Type 0} → (ℕ → ℕ → ℕ → R) → Stretch × R → Type 0
 IsValueOf value part = part.1 ≡ value part.0.row part.0.columns.start part.0.columns.end
+
+-- where each result is the value of its stretch's columns, each row's merged value is that of all
+-- its columns
+abbrev pub MergesToValues : {R : Type 0} → (R → R → R → Type 0) → ℕ → ℕ → (ℕ → ℕ → ℕ → R) → Type 0
+MergesToValues {R = R} merge rows len value = (parts : List (Stretch × R)) (values : List R)
+    → All (IsValueOf value) parts → MergesRows merge rows len parts values
+    → values ≡ map (λ row. value row 0 len) (range_with_len 0 rows)

@@ -1,5 +1,6 @@
 -- what the seats of shares have done when they come back
 use Rattle.std.specs.Prelude.{◌≡◌, ℕ, List, [], ◌∷◌, ◌++◌, All, Ok, IfOk}
+use Rattle.std.specs.Borrow.{MutBor}
 use Rattle.std.specs.declared.alloc.Global.{Global}
 use Rattle.std.specs.declared.ops.Range.{Range}
 use Rattle.std.specs.declared.vec.Vec.{Vec}
@@ -11,6 +12,8 @@ use Rattle.parallel_shares.specs.Fronts.{IsFront}
 use Rattle.parallel_shares.specs.Seats.{IsSeatOf, IsFresh, plan_of, index_of, claims_of}
 use Rattle.parallel_shares.specs.Steals.{FoundNothing}
 use Rattle.parallel_shares.specs.Stretches.{Cutting}
+use Rattle.parallel_shares.specs.Sizes.{Work}
+use Rattle.commonware_parallel.specs.MergedRows.{FillsCut}
 use Rattle.commonware_parallel.specs.declared.tiles.seats.Worked.{Worked}
 
 -- the seat that came back
@@ -41,3 +44,20 @@ abbrev pub AllResults : {R : Type 0} → List (Worked R) → List R → Type 0
 AllResults [] all = all ≡ []
 AllResults {R = R} (w ∷ ws) all = (results : Vec R Global) × (more : List R)
     × (w.results ≡ Ok results) × AllResults ws more × (all ≡ results.items ++ more)
+
+-- chains over stretches that cut the work's rows, each of so many columns, into whole rows where
+-- they stay whole
+abbrev pub FillsWork : {T R : Type 0} → (T → Type 0) → (T → ℕ → Range ℕ → T → Type 0)
+    → (T → ℕ → R → T → Type 0) → ℕ → Work → List R → Type 0
+FillsWork init fill finish len work results =
+    FillsCut init fill finish work.rows len work.whole results
+
+-- fill accepts, with any state, each row and columns that it may be asked for
+abbrev pub AcceptsFills : {T : Type 0} → (ℕ → Range ℕ → Type 0)
+    → (MutBor T → ℕ → Range ℕ → Type 0) → Type 0
+AcceptsFills {T = T} asked accepts = (lent : MutBor T) (row : ℕ) (columns : Range ℕ)
+    → asked row columns → accepts lent row columns
+
+-- finish accepts, with any state, each row that it may be asked for
+abbrev pub AcceptsFinishes : {T : Type 0} → (ℕ → Type 0) → (MutBor T → ℕ → Type 0) → Type 0
+AcceptsFinishes {T = T} asked accepts = (lent : MutBor T) (row : ℕ) → asked row → accepts lent row

@@ -1,8 +1,16 @@
 -- what tiles are planned for
-use Rattle.std.specs.Prelude.{◌≡◌, ℕ, ◌+◌, Bool, List, HoldsAt}
+use Rattle.std.specs.Prelude.{◌≡◌, ◌≢◌, ℕ, ◌<◌, ◌≤◌, Bool, List, HoldsAt}
+use Rattle.std.specs.declared.ops.Range.{Range}
 use Rattle.std.specs.Int.NonZero.{non_zero_usize_get}
 use Rattle.parallel_shares.specs.declared.grid.Grid.{Grid}
 use Rattle.parallel_shares.specs.Grid.{IsChosenGrid, critical_cost, stays_whole}
+use Rattle.parallel_fault.specs.declared.fault.Fault.{Fault}
+use Rattle.parallel_policy.specs.declared.Site.{Site}
+use Rattle.commonware_parallel.specs.Calls.{IsInnerOf, tiles_call}
+use Rattle.commonware_parallel.specs.MergedRows.{FillsRows}
+use Rattle.commonware_parallel.specs.declared.call.Call.{Call}
+use Rattle.commonware_parallel.specs.declared.call.Pick.{Pick}
+use Rattle.commonware_parallel.specs.declared.call.Pick.TheVariants.{Into}
 use Rattle.commonware_parallel.specs.declared.tiles.Tiles.{Tiles}
 
 -- the place of the grid in the list that was handed in
@@ -50,3 +58,28 @@ IsSerialCost grids len cost = (index : ℕ) × IsChosenGrid grids len 1 index
 abbrev pub IsSerialTiling : {S P : Type 0} → S → P → List Grid → ℕ → Tiles S P → Type 0
 IsSerialTiling strategy place grids len tiles = IsTiling grids len 1 tiles
     × (tiles_strategy tiles ≡ strategy) × (tiles_place tiles ≡ place)
+
+-- allowed holds of some tiles: for as many workers as the strategy may take for the call, through
+-- its inner strategy and with the call's place
+abbrev pub OnSomeTiles : {S P : Type 0} (takes : S → Site → Call → Pick → Type 0)
+    (refuses : S → Site → Call → Fault → Type 0) (plans threads : S → ℕ) (starts : S → Bool)
+    (site_of : P → Site) (strategy : S) (place : P) (grids : List Grid) (len multiplier : ℕ)
+    (allowed : Tiles S P → Type 0) → Type 0
+OnSomeTiles takes refuses plans threads starts site_of strategy place grids len multiplier
+    allowed = (cost : ℕ) × IsSerialCost grids len cost
+    × (workers : ℕ) × (0 < workers) × (workers ≤ plans strategy)
+    × takes strategy (site_of place) (tiles_call (plans strategy) len cost multiplier)
+    (Into workers)
+    × (tiles : Tiles _ _) × IsTiling grids len workers tiles
+    × IsInnerOf takes refuses plans threads starts strategy (tiles_strategy tiles)
+    × (tiles_place tiles ≡ place) × allowed tiles
+
+-- a fact, where the tiles are planned for one worker and have cells
+abbrev pub IfSerialTiles : {S P : Type 0} → Tiles S P → Type 0 → Type 0
+IfSerialTiles tiles fact = workers_of tiles ≡ 1 → rows_of tiles ≢ 0 → columns_of tiles ≢ 0 → fact
+
+-- the values of the rows of the tiles' grid
+abbrev pub FillsTiles : {S P T R : Type 0} → (T → Type 0) → (T → ℕ → Range ℕ → T → Type 0)
+    → (T → ℕ → R → T → Type 0) → (R → R → R → Type 0) → Tiles S P → List R → Type 0
+FillsTiles init fill finish merge tiles values = FillsRows init fill finish merge (rows_of tiles)
+    (columns_of tiles) (keeps_rows tiles) values

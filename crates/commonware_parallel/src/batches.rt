@@ -1,11 +1,9 @@
-ghost use Rattle.std.specs.Prelude.{◌≡◌, ◌↔◌, ◌+◌, ◌/◌, ◌<◌, ◌≤◌, ◌⊎◌, [], ◌∷◌, Vec, length, All, IfErr, IfOk, IsTrue, Ok, Err, max};
+ghost use Rattle.std.specs.Prelude.{◌≡◌, ◌↔◌, ◌+◌, ◌/◌, ◌<◌, ◌≤◌, [], ◌∷◌, Vec, length, All, IfErr, IfOk, IsTrue, Ok, max};
 ghost use Rattle.std.specs.Fn.{FnOnceReturnsAt, FnOnceTakesAt};
 ghost use Rattle.std.specs.List.{Contains};
 ghost use Rattle.parallel_bridge.specs.Lists.{MapOf};
 ghost use Rattle.parallel_bridge.specs.Outcomes.{listed};
 ghost use Rattle.parallel_bridge.specs.Tries.{TryMapOf};
-ghost use Rattle.parallel_fault.specs.declared.fault.Fault.TheVariants.{Memory};
-ghost use Rattle.commonware_parallel.specs.Answers.{UnlessFaulty};
 ghost use Rattle.std.specs.Int.NonZero.{non_zero_usize_get};
 ghost use Rattle.parallel_fault.specs.Trouble.{IsMemoryOnErr};
 ghost use Rattle.parallel_shares.specs.Cut.{BalancedCut, range_length};
@@ -34,7 +32,7 @@ pub struct Batches<'scope, S, P> {
 }
 
 impl<'scope, S: Strategy, P: Place> Batches<'scope, S, P> {
-    ghost use Rattle.commonware_parallel.specs.Batches.{IsBatch, place_of, ranges_of, strategy_of};
+    ghost use Rattle.commonware_parallel.specs.Batches.{AnswersPrepared, FailsPrepared, IsBatch, place_of, ranges_of, strategy_of};
 
     /// One range, `0..len`. An empty input has one range too, which is `0..0`.
     pub fn whole(
@@ -135,9 +133,8 @@ impl<'scope, S: Strategy, P: Place> Batches<'scope, S, P> {
         ensures maps { IfOk result (λ answers. (items : Vec T Global)
             × FnOnceReturnsAt G.FnOnce prepare (ranges_of self.entry) (Ok items)
             × MapOf (F.post map_op) items.items answers.items) }
-        ensures fault { IfErr result (λ fault. ((fault ≡ Memory) × (items : Vec T Global)
-            × FnOnceReturnsAt G.FnOnce prepare (ranges_of self.entry) (Ok items))
-            ⊎ FnOnceReturnsAt G.FnOnce prepare (ranges_of self.entry) (Err fault)) }
+        ensures fault { IfErr result
+            (FailsPrepared (FnOnceReturnsAt G.FnOnce prepare (ranges_of self.entry))) }
     {
         let is_whole = self.is_whole();
         let items = prepare(self.ranges.as_slice())?;
@@ -165,13 +162,8 @@ impl<'scope, S: Strategy, P: Place> Batches<'scope, S, P> {
         requires accepts { (items : Vec T Global)
             → FnOnceReturnsAt G.FnOnce prepare (ranges_of self) (Ok items)
             → (x : T) → Contains items.items x → F.pre map_op x }
-        ensures { UnlessFaulty result
-            (λ out. (items : Vec T Global)
-            × FnOnceReturnsAt G.FnOnce prepare (ranges_of self.entry) (Ok items)
-            × TryMapOf (F.post map_op) items.items (listed out))
-            (λ fault. ((fault ≡ Memory) × (items : Vec T Global)
-            × FnOnceReturnsAt G.FnOnce prepare (ranges_of self.entry) (Ok items))
-            ⊎ FnOnceReturnsAt G.FnOnce prepare (ranges_of self.entry) (Err fault)) }
+        ensures { AnswersPrepared (FnOnceReturnsAt G.FnOnce prepare (ranges_of self.entry))
+            (λ items out. TryMapOf (F.post map_op) items.items (listed out)) result }
     {
         let is_whole = self.is_whole();
         let items = prepare(self.ranges.as_slice())?;

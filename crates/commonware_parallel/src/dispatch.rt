@@ -4,8 +4,7 @@
 // that goes by a path is told one, and any other a number of parts.
 ghost use Rattle.std.specs.Prelude.{◌≡◌, ◌≢◌, ◌<◌, ◌≤◌, ℕ, IfErr, IfOk, false, true};
 ghost use Rattle.parallel_bridge.specs.declared.path.Path.{Path};
-ghost use Rattle.parallel_fault.specs.Trouble.{IfFault};
-ghost use Rattle.parallel_fault.specs.declared.fault.Fault.TheVariants.{Memory};
+ghost use Rattle.parallel_fault.specs.Trouble.{IsMemoryOnErr, IsMemoryOnFault};
 ghost use Rattle.commonware_parallel.specs.Answers.{AnswersAs, OnParts, OnPath};
 ghost use Rattle.commonware_parallel.specs.Calls.{goes_by_path};
 ghost use Rattle.commonware_parallel.specs.declared.call.Kind.TheVariants.{Spawn};
@@ -35,8 +34,8 @@ pub fn dispatch_path<S: Strategy, Rt: Wait, P: Place, R, E, B: FnOnce(Path) -> R
         → B.pre body path }
     ensures answers { AnswersAs (λ path. S.takes strategy.now (P.site_of site) call (By path))
         (S.refuses strategy.now (P.site_of site) call)
-        (λ path answer. B.post body path answer) result }
-    ensures memory { IfErr result (λ trouble. IfFault trouble (λ fault. fault ≡ Memory)) }
+        (B.post body) result }
+    ensures memory { IsMemoryOnFault result }
 {
     let told = move |pick: Pick| -> Result<R, E>
         requires { OnPath pick (λ path. B.pre body path) }
@@ -71,8 +70,8 @@ pub fn dispatch_parts<S: Strategy, Rt: Wait, P: Place, R, E, B: FnOnce(usize) ->
     ensures answers { AnswersAs (λ parts. (0 < parts) × (parts ≤ call.parts)
         × S.takes strategy.now (P.site_of site) call (Into parts))
         (S.refuses strategy.now (P.site_of site) call)
-        (λ parts answer. B.post body parts answer) result }
-    ensures memory { IfErr result (λ trouble. IfFault trouble (λ fault. fault ≡ Memory)) }
+        (B.post body) result }
+    ensures memory { IsMemoryOnFault result }
 {
     let told = move |pick: Pick| -> Result<R, E>
         requires { OnParts pick (λ parts. B.pre body parts) }
@@ -104,7 +103,7 @@ pub fn choose_path<S: Strategy, Rt: Wait, P: Place>(
     ensures takes { IfOk result (λ chosen. S.takes strategy.now (P.site_of site) call
         (By chosen.0)) }
     ensures refused { IfErr result (S.refuses strategy.now (P.site_of site) call) }
-    ensures memory { call.kind ≢ Spawn → IfErr result (λ fault. fault ≡ Memory) }
+    ensures memory { call.kind ≢ Spawn → IsMemoryOnErr result }
 {
     match strategy.choose(rt, alloc, site, call) {
         Ok((Pick::By(path), meter)) => Ok((path, meter)),

@@ -40,5 +40,5 @@ pub use rayon_strategy::Rayon;
 pub use runtime::Runtime;
 pub use sequential::Sequential;
 pub use spawned::{Closure, Job, Spawned};
-pub use strategy::Strategy;
+pub use strategy::{Chooser, Strategy};
 pub use tiles::{Tiles, merge_law};

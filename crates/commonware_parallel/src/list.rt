@@ -4,13 +4,11 @@
 // These functions are generic in the parts and not in the source, and write the bodies that go to
 // the strategy: the checker refuses a closure over parts whose type is a source's ("what is passed
 // does not fit the bound").
-ghost use Rattle.std.specs.Prelude.{◌≡◌, ◌<◌, List, IfOk, IfErr, length};
+ghost use Rattle.std.specs.Prelude.{◌≡◌, ◌<◌, List, IfOk, length, ⊤};
 ghost use Rattle.std.specs.Borrow.{MutBor};
-ghost use Rattle.std.specs.Int.NonZero.{non_zero_usize_get};
 ghost use Rattle.parallel_bridge.specs.Lists.{MapOf};
 ghost use Rattle.parallel_bridge.specs.Outcomes.{UnlessRefused, listed};
 ghost use Rattle.parallel_bridge.specs.Parts.{PartitionOf};
-ghost use Rattle.parallel_bridge.specs.Shapes.{cutdepth};
 ghost use Rattle.parallel_bridge.specs.Sources.{GivesSome};
 ghost use Rattle.parallel_bridge.specs.States.{MapStep};
 ghost use Rattle.parallel_bridge.specs.Tries.{TryMapOf};
@@ -21,6 +19,7 @@ ghost use Rattle.parallel_fault.specs.declared.fault.Fault.TheVariants.{Memory};
 ghost use Rattle.parallel_fault.specs.declared.fault.Trouble.TheVariants.{Fault as OfFault};
 ghost use Rattle.commonware_parallel.specs.Answers.{UnlessFault};
 ghost use Rattle.commonware_parallel.specs.Calls.{AtSomePath, body_call, multiplied_call};
+ghost use Rattle.commonware_parallel.specs.ListCalls.{GoesBy, GoesOver};
 ghost use Rattle.commonware_parallel.specs.declared.call.Kind.TheVariants.{Body};
 ghost use Rattle.commonware_parallel.specs.declared.call.Pick.TheVariants.{By};
 ghost use Rattle.parallel_bridge.specs.declared.path.Path.{Path};
@@ -106,7 +105,7 @@ pub fn dispatch_fallible<
         → fault ≡ Memory }
     ensures answers { UnlessFault result (AtSomePath (S.takes strategy.now (P.site_of site) call)
         (λ path. B.post body path result)) }
-    ensures fault { UnlessRefused result (λ _. Unit {0}) }
+    ensures fault { UnlessRefused result (λ _. ⊤) }
 {
     match dispatch_path(strategy, rt, alloc, site, call, body) {
         Ok(answer) => Ok(answer),
@@ -248,19 +247,17 @@ pub fn map_init_through<
     requires init_accepts { N.IsAlwaysCallable init.now }
     requires map_accepts { (x : Q.Item) → Q.may parts x
         → (state : MutBor V) → F.pre map_op.now state x }
-    ensures answers { IfOk result (λ ys. GivesSome Q.gives parts
-        (λ xs. AtSomePath (S.takes strategy.now (P.site_of site) call)
-        (λ path. MappedInitAs (N.post init.now) (MapStep (λ p x y q. F.post map_op.now p x y q))
-        (cutdepth (S.threads strategy.now)) path xs ys.items))) }
+    ensures answers { IfOk result (λ ys.
+        GoesBy Q.gives parts S.takes S.threads strategy.now (P.site_of site) call
+        (MappedInitAs (N.post init.now) (MapStep (F.post map_op.now))) ys.items) }
     ensures fault { IsMemoryOnErr result }
 {
     let threads = strategy.thread_number();
     let body = move |path: Path| -> Result<Vec<T>, Fault>
         requires { N.IsAlwaysCallable init.now × ((x : Q.Item) → Q.may parts x
             → (state : MutBor V) → F.pre map_op.now state x) }
-        ensures maps { IfOk result (λ ys. GivesSome Q.gives parts (λ xs. MappedInitAs
-            (N.post init.entry.now) (MapStep (λ p x y q. F.post map_op.entry.now p x y q))
-            (cutdepth (non_zero_usize_get threads)) path xs ys.items)) }
+        ensures maps { IfOk result (λ ys. GoesOver Q.gives parts threads path
+            (MappedInitAs (N.post init.entry.now) (MapStep (F.post map_op.entry.now))) ys.items) }
         ensures fault { IsMemoryOnErr result }
     { map_init_by(rt, alloc, threads, path, parts, init, map_op) };
     let answers = dispatch_call(strategy, rt, alloc, site, call, body)?;

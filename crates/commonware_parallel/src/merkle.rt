@@ -2,7 +2,7 @@
 //!
 //! An odd last node goes up unchanged, one leaf is its own root, and no leaf gives None
 //! (`MerkleRoot`).
-ghost use Rattle.std.specs.Prelude.{◌≡◌, IfOk};
+ghost use Rattle.std.specs.Prelude.{IfOk};
 ghost use Rattle.parallel_fault.specs.Trouble.{IsMemoryOnErr};
 ghost use Rattle.commonware_parallel.specs.Merkle.{MerkleRoot, NextLevel};
 
@@ -40,7 +40,7 @@ pub fn root<
     combine: F,
 ) -> Result<Option<T>, Fault>
     requires accepts { F.IsAlwaysCallable combine }
-    ensures root { IfOk result (MerkleRoot (λ a b c. F.post combine a b c) leaves.items) }
+    ensures root { IfOk result (MerkleRoot (F.post combine) leaves.items) }
     ensures fault { IsMemoryOnErr result }
 {
     let mut level = leaves;
@@ -67,7 +67,7 @@ fn next_level<
     combine: &F,
 ) -> Result<Vec<T>, Fault>
     requires accepts { F.IsAlwaysCallable combine.now }
-    ensures next { IfOk result (λ nodes. NextLevel (λ a b c. F.post combine.now a b c)
+    ensures next { IfOk result (λ nodes. NextLevel (F.post combine.now)
         level.items nodes.items) }
     ensures fault { IsMemoryOnErr result }
 {

@@ -1,18 +1,18 @@
 //! The calls of one place, with what they have in common written once.
-ghost use Rattle.std.specs.Prelude.{◌≡◌, IfOk, IfErr, OnOk, length};
+ghost use Rattle.std.specs.Prelude.{IfOk, IfErr, OnOk, length};
 ghost use Rattle.std.specs.Borrow.{MutBor};
 ghost use Rattle.std.specs.List.Sorted.{IsPermutation, IsSortedByClosure, IsStableByClosure};
 ghost use Rattle.parallel_bridge.specs.Lists.{Bracketing, Brackets, MapOf};
 ghost use Rattle.parallel_bridge.specs.Outcomes.{UnlessRefused, listed};
 ghost use Rattle.parallel_bridge.specs.Parts.{PartitionOf};
-ghost use Rattle.parallel_bridge.specs.Shapes.{cutdepth};
 ghost use Rattle.parallel_bridge.specs.Sources.{GivesSome};
 ghost use Rattle.parallel_bridge.specs.States.{FoldInitSegment, FoldStep, MapStep, Stateful};
 ghost use Rattle.parallel_bridge.specs.Tries.{TryBracketing, TryMapOf};
 ghost use Rattle.parallel_bridge.specs.Ways.{FoldedAs, FoldedInitAs, MappedInitAs, TryFoldedAs};
-ghost use Rattle.parallel_fault.specs.Trouble.{IfFault, IsMemoryOnErr};
-ghost use Rattle.parallel_fault.specs.declared.fault.Fault.TheVariants.{Memory};
-ghost use Rattle.commonware_parallel.specs.Calls.{AtSomePath, body_call, join_call};
+ghost use Rattle.parallel_fault.specs.Trouble.{IsMemoryOnErr, IsMemoryOnFault};
+ghost use Rattle.commonware_parallel.specs.Calls.{body_call, join_call};
+ghost use Rattle.commonware_parallel.specs.ListCalls.{Asked};
+ghost use Rattle.commonware_parallel.specs.OnePlace.{AskedOn, GoesOn};
 
 use crate::strategy::Strategy;
 use parallel_bridge::Source;
@@ -69,9 +69,8 @@ impl<'s, Rt: Threads + Wait + Sync, S: Strategy, P: Place> On<'s, Rt, S, P> {
         ensures permutation { IsPermutation items.old items.new }
         ensures sorted { OnOk result (IsSortedByClosure C.FnMut compare items.new) }
         ensures stable { IsStableByClosure C.FnMut compare items.old items.new }
-        ensures asked { OnOk result (AtSomePath
-            (S.takes self.now.strategy.now (P.site_of self.now.site) (body_call (length items.old)))
-            (λ _. Unit {0})) }
+        ensures asked { OnOk result (Asked (S.takes self.now.strategy.now
+            (P.site_of self.now.site) (body_call (length items.old)))) }
         ensures fault { IsMemoryOnErr result }
     {
         self.strategy
@@ -87,9 +86,8 @@ impl<'s, Rt: Threads + Wait + Sync, S: Strategy, P: Place> On<'s, Rt, S, P> {
         requires { C.IsAlwaysCallable compare }
         ensures permutation { IsPermutation items.old items.new }
         ensures sorted { OnOk result (IsSortedByClosure C.FnMut compare items.new) }
-        ensures asked { OnOk result (AtSomePath
-            (S.takes self.now.strategy.now (P.site_of self.now.site) (body_call (length items.old)))
-            (λ _. Unit {0})) }
+        ensures asked { OnOk result (Asked (S.takes self.now.strategy.now
+            (P.site_of self.now.site) (body_call (length items.old)))) }
         ensures fault { IsMemoryOnErr result }
     {
         self.strategy
@@ -106,9 +104,7 @@ impl<'s, Rt: Threads + Wait + Sync, S: Strategy, P: Place> On<'s, Rt, S, P> {
         requires accepts { (x : I.Item) → I.may source x → F.pre map_op x }
         ensures answers { IfOk result (λ ys. GivesSome I.gives source
             (λ xs. MapOf (F.post map_op) xs ys.items)) }
-        ensures asked { OnOk result (GivesSome I.gives source
-            (λ xs. AtSomePath (S.takes self.now.strategy.now (P.site_of self.now.site)
-            (body_call (length xs))) (λ _. Unit {0}))) }
+        ensures asked { OnOk result (AskedOn I.gives source S.takes P.site_of self.now) }
         ensures fault { IsMemoryOnErr result }
     {
         self.strategy
@@ -130,14 +126,10 @@ impl<'s, Rt: Threads + Wait + Sync, S: Strategy, P: Place> On<'s, Rt, S, P> {
             → (value : R) → F.pre fold_op value x }
         requires reduce_accepts { G.IsAlwaysCallable reduce_op }
         ensures brackets { IfOk result (λ r. GivesSome I.gives source
-            (λ xs. Bracketing (ID.post identity) (λ a x b. F.post fold_op a x b)
-            (λ a b c. G.post reduce_op a b c) xs r)) }
-        ensures along { IfOk result (λ r. GivesSome I.gives source
-            (λ xs. AtSomePath (S.takes self.now.strategy.now (P.site_of self.now.site)
-            (body_call (length xs)))
-            (λ path. FoldedAs (ID.post identity) (λ a x b. F.post fold_op a x b)
-            (λ a b c. G.post reduce_op a b c)
-            (cutdepth (S.threads self.now.strategy.now)) path xs r))) }
+            (λ xs. Bracketing (ID.post identity) (F.post fold_op) (G.post reduce_op) xs r)) }
+        ensures along { IfOk result
+            (GoesOn I.gives source S.takes S.threads P.site_of self.now
+            (FoldedAs (ID.post identity) (F.post fold_op) (G.post reduce_op))) }
         ensures fault { IsMemoryOnErr result }
     {
         self.strategy.fold(
@@ -164,15 +156,11 @@ impl<'s, Rt: Threads + Wait + Sync, S: Strategy, P: Place> On<'s, Rt, S, P> {
         requires reduce_accepts { G.IsAlwaysCallable reduce_op }
         ensures brackets { IfOk result (λ r. GivesSome I.gives source
             (λ xs. Brackets (FoldInitSegment (N.post init) (ID.post identity)
-            (FoldStep (λ a p x b q. F.post fold_op a p x b q)))
-            (λ a b c. G.post reduce_op a b c) xs r)) }
-        ensures along { IfOk result (λ r. GivesSome I.gives source
-            (λ xs. AtSomePath (S.takes self.now.strategy.now (P.site_of self.now.site)
-            (body_call (length xs)))
-            (λ path. FoldedInitAs (N.post init) (ID.post identity)
-            (FoldStep (λ a p x b q. F.post fold_op a p x b q))
-            (λ a b c. G.post reduce_op a b c)
-            (cutdepth (S.threads self.now.strategy.now)) path xs r))) }
+            (FoldStep (F.post fold_op))) (G.post reduce_op) xs r)) }
+        ensures along { IfOk result
+            (GoesOn I.gives source S.takes S.threads P.site_of self.now
+            (FoldedInitAs (N.post init) (ID.post identity) (FoldStep (F.post fold_op))
+            (G.post reduce_op))) }
         ensures fault { IsMemoryOnErr result }
     {
         self.strategy.fold_init(
@@ -196,15 +184,11 @@ impl<'s, Rt: Threads + Wait + Sync, S: Strategy, P: Place> On<'s, Rt, S, P> {
             → (value : R) → F.pre fold_op value x }
         requires reduce_accepts { G.IsAlwaysCallable reduce_op }
         ensures brackets { UnlessRefused result (λ out. GivesSome I.gives source
-            (λ xs. TryBracketing (ID.post identity) (λ a x b. F.post fold_op a x b)
-            (λ a b c. G.post reduce_op a b c) xs out)) }
-        ensures along { UnlessRefused result (λ out. GivesSome I.gives source
-            (λ xs. AtSomePath (S.takes self.now.strategy.now (P.site_of self.now.site)
-            (body_call (length xs)))
-            (λ path. TryFoldedAs (ID.post identity) (λ a x b. F.post fold_op a x b)
-            (λ a b c. G.post reduce_op a b c)
-            (cutdepth (S.threads self.now.strategy.now)) path xs out))) }
-        ensures fault { IfErr result (λ trouble. IfFault trouble (λ fault. fault ≡ Memory)) }
+            (λ xs. TryBracketing (ID.post identity) (F.post fold_op) (G.post reduce_op) xs out)) }
+        ensures along { UnlessRefused result
+            (GoesOn I.gives source S.takes S.threads P.site_of self.now
+            (TryFoldedAs (ID.post identity) (F.post fold_op) (G.post reduce_op))) }
+        ensures fault { IsMemoryOnFault result }
     {
         self.strategy.try_fold(
             self.rt, self.alloc, self.site, source, identity, fold_op, reduce_op,
@@ -223,11 +207,9 @@ impl<'s, Rt: Threads + Wait + Sync, S: Strategy, P: Place> On<'s, Rt, S, P> {
         requires accepts { (x : I.Item) → I.may source x → F.pre map_op x }
         ensures answers { UnlessRefused result (λ out. GivesSome I.gives source
             (λ xs. TryMapOf (F.post map_op) xs (listed out))) }
-        ensures asked { UnlessRefused result (λ _. GivesSome I.gives source
-            (λ xs. AtSomePath (S.takes self.now.strategy.now (P.site_of self.now.site)
-            (body_call (length xs)))
-            (λ _. Unit {0}))) }
-        ensures fault { IfErr result (λ trouble. IfFault trouble (λ fault. fault ≡ Memory)) }
+        ensures asked { UnlessRefused result
+            (λ _. AskedOn I.gives source S.takes P.site_of self.now) }
+        ensures fault { IsMemoryOnFault result }
     {
         self.strategy
             .try_map_collect_vec(self.rt, self.alloc, self.site, source, map_op)
@@ -247,13 +229,10 @@ impl<'s, Rt: Threads + Wait + Sync, S: Strategy, P: Place> On<'s, Rt, S, P> {
         requires map_accepts { (x : I.Item) → I.may source x
             → (state : MutBor V) → F.pre map_op state x }
         ensures stateful { IfOk result (λ ys. GivesSome I.gives source
-            (λ xs. Stateful (N.post init) (MapStep (λ p x y q. F.post map_op p x y q))
-            xs ys.items)) }
-        ensures along { IfOk result (λ ys. GivesSome I.gives source
-            (λ xs. AtSomePath (S.takes self.now.strategy.now (P.site_of self.now.site)
-            (body_call (length xs)))
-            (λ path. MappedInitAs (N.post init) (MapStep (λ p x y q. F.post map_op p x y q))
-            (cutdepth (S.threads self.now.strategy.now)) path xs ys.items))) }
+            (λ xs. Stateful (N.post init) (MapStep (F.post map_op)) xs ys.items)) }
+        ensures along { IfOk result (λ ys.
+            GoesOn I.gives source S.takes S.threads P.site_of self.now
+            (MappedInitAs (N.post init) (MapStep (F.post map_op))) ys.items) }
         ensures fault { IsMemoryOnErr result }
     {
         self.strategy
@@ -272,10 +251,7 @@ impl<'s, Rt: Threads + Wait + Sync, S: Strategy, P: Place> On<'s, Rt, S, P> {
         requires accepts { (x : I.Item) → I.may source x → F.pre map_op x }
         ensures answers { IfOk result (λ parts. GivesSome I.gives source
             (λ xs. PartitionOf (F.post map_op) xs parts.0.items parts.1.items)) }
-        ensures asked { OnOk result (GivesSome I.gives source
-            (λ xs. AtSomePath (S.takes self.now.strategy.now (P.site_of self.now.site)
-            (body_call (length xs)))
-            (λ _. Unit {0}))) }
+        ensures asked { OnOk result (AskedOn I.gives source S.takes P.site_of self.now) }
         ensures fault { IsMemoryOnErr result }
     {
         self.strategy

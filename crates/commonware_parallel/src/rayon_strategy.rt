@@ -1,4 +1,4 @@
-ghost use Rattle.std.specs.Prelude.{◌≡◌, ◌≢◌, ℕ, ◌<◌, ◌≤◌, Bool, true, false, ◌-◌, ◌⊎◌, min, nat_eq, Some, IsSome, is_some, IfOk, IfErr};
+ghost use Rattle.std.specs.Prelude.{◌≡◌, ◌≢◌, ◌<◌, ◌≤◌, true, false, ◌-◌, ◌⊎◌, min, nat_eq, Some, IsSome, is_some, IfOk, IfErr};
 ghost use Rattle.std.specs.Option.{option_copied};
 ghost use Rattle.std.specs.Int.NonZero.{non_zero_usize_get};
 ghost use Rattle.parallel_fault.specs.Trouble.{IsMemoryOnErr};
@@ -9,7 +9,7 @@ mod machine;
 
 use crate::call::{Call, Kind, Pick};
 use crate::meter::{Measured, Sample, Told};
-use crate::strategy::Strategy;
+use crate::strategy::Chooser;
 use parallel_fault::{Fault, Trouble};
 use parallel_policy::policy::INLINE_BUDGET;
 use parallel_policy::{Clock, Key, Place, Policy, RunExecution, Site, SpawnExecution};
@@ -230,7 +230,7 @@ impl<C: Clone> Rayon<C> {
     }
 }
 
-impl<C: Clock> Strategy for Rayon<C> {
+impl<C: Clock> Chooser for Rayon<C> {
     ghost use Rattle.commonware_parallel.specs.Rayon.{planning_of, threads_of, chooses_of, starts_of, RayonTakes, RayonRefuses};
 
     ghost takes = { λ strategy _ call pick. RayonTakes (planning_of strategy) (threads_of strategy)

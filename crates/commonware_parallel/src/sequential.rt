@@ -1,4 +1,4 @@
-ghost use Rattle.std.specs.Prelude.{◌≡◌, ℕ, List, All, true, IfOk, OnOk};
+ghost use Rattle.std.specs.Prelude.{◌≡◌, All, true, IfOk, OnOk};
 ghost use Rattle.std.specs.Borrow.{MutBor};
 ghost use Rattle.std.specs.Iterator.{IsFinite, Drains, HoldsAlong};
 ghost use Rattle.std.specs.List.Sorted.{IsPermutation, IsSortedByClosure, IsStableByClosure};
@@ -16,7 +16,7 @@ mod parts;
 use crate::call::{Call, Pick};
 use crate::meter::Unmeasured;
 use crate::spawned::{Job, Spawned, Stage};
-use crate::strategy::Strategy;
+use crate::strategy::Chooser;
 use parallel_bridge::list::fold::fold_iter;
 use parallel_bridge::list::fold_init::fold_init_iter;
 use parallel_bridge::list::map::map_iter;
@@ -133,7 +133,7 @@ impl Sequential {
         requires fold_accepts { HoldsAlong I.next_gives iter
             (All (λ x. (value : R) → F.pre fold_op value x)) }
         ensures { GivesSome (Drains I.next_gives) iter
-            (λ xs. FoldSegment (ID.post identity) (λ a x b. F.post fold_op a x b) xs result) }
+            (λ xs. FoldSegment (ID.post identity) (F.post fold_op) xs result) }
     {
         fold_iter(iter, &identity, &fold_op)
     }
@@ -159,7 +159,7 @@ impl Sequential {
             (All (λ x. (value : R) (state : MutBor S) → F.pre fold_op value state x)) }
         ensures { GivesSome (Drains I.next_gives) iter
             (λ xs. FoldInitSegment (N.post init) (ID.post identity)
-            (FoldStep (λ a p x b q. F.post fold_op a p x b q)) xs result) }
+            (FoldStep (F.post fold_op)) xs result) }
     {
         fold_init_iter(iter, &init, &identity, &fold_op)
     }
@@ -188,7 +188,7 @@ impl Sequential {
         requires fold_accepts { HoldsAlong I.next_gives iter
             (All (λ x. (value : R) → F.pre fold_op value x)) }
         ensures { GivesSome (Drains I.next_gives) iter
-            (λ xs. TryFoldSegment (ID.post identity) (λ a x b. F.post fold_op a x b) xs result) }
+            (λ xs. TryFoldSegment (ID.post identity) (F.post fold_op) xs result) }
     {
         try_fold_iter(iter, &identity, &fold_op)
     }
@@ -241,7 +241,7 @@ impl Sequential {
             (All (λ x. (state : MutBor S) → F.pre map_op state x)) }
         ensures one_state { IfOk result (λ ys. GivesSome (Drains I.next_gives) iter
             (λ xs. StateSegment (N.post init)
-            (MapStep (λ p x y q. F.post map_op p x y q)) xs ys.items)) }
+            (MapStep (F.post map_op)) xs ys.items)) }
         ensures fault { IsMemoryOnErr result }
     {
         let answers = map_init_iter(alloc, iter, &init, &map_op)?;
@@ -278,7 +278,7 @@ impl Sequential {
             (All (λ x. (state : MutBor S) → F.pre map_op state x)) }
         ensures one_state { IfOk result (λ ys. GivesSome (Drains I.next_gives) iter
             (λ xs. StateSegment (N.post init)
-            (MapStep (λ p x y q. F.post map_op p x y q)) xs ys.items)) }
+            (MapStep (F.post map_op)) xs ys.items)) }
         ensures fault { IsMemoryOnErr result }
     {
         self.map_init_collect_vec(alloc, site, iter, init, map_op)
@@ -378,7 +378,7 @@ impl Sequential {
     }
 }
 
-impl Strategy for Sequential {
+impl Chooser for Sequential {
     ghost use Rattle.commonware_parallel.specs.Calls.{first_pick};
 
     ghost takes = { λ _ _ call pick. pick ≡ first_pick call };

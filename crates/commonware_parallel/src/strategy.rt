@@ -1,34 +1,37 @@
-ghost use Rattle.std.specs.Prelude.{◌≡◌, ◌≢◌, ℕ, ◌<◌, ◌≤◌, Bool, IfOk, IfErr, OnOk, IsTrue, MatchResult, length};
+ghost use Rattle.std.specs.Prelude.{ℕ, ◌<◌, IfOk, IfErr, OnOk, MatchResult, length};
 ghost use Rattle.std.specs.Borrow.{MutBor};
 ghost use Rattle.std.specs.Int.NonZero.{non_zero_usize_get};
 ghost use Rattle.std.specs.List.Sorted.{IsPermutation, IsSortedByClosure, IsStableByClosure};
 ghost use Rattle.parallel_bridge.specs.Lists.{Bracketing, Brackets, MapOf};
 ghost use Rattle.parallel_bridge.specs.Outcomes.{UnlessRefused, listed};
 ghost use Rattle.parallel_bridge.specs.Parts.{PartitionOf};
-ghost use Rattle.parallel_bridge.specs.Shapes.{cutdepth};
 ghost use Rattle.parallel_bridge.specs.Sources.{GivesSome};
 ghost use Rattle.parallel_bridge.specs.States.{FoldInitSegment, FoldStep, MapStep, Stateful};
 ghost use Rattle.parallel_bridge.specs.Tries.{TryBracketing, TryMapOf};
 ghost use Rattle.parallel_bridge.specs.Ways.{FoldedAs, FoldedInitAs, MappedInitAs, TryFoldedAs};
-ghost use Rattle.commonware_parallel.specs.Calls.{AtSomePath, HasPick, IsInnerOf, body_call, join_call, multiplied_call, spawn_call, tiles_call};
-ghost use Rattle.commonware_parallel.specs.Answers.{AnswersAs, OneOf};
+ghost use Rattle.commonware_parallel.specs.Calls.{AtSomePath, body_call, join_call, multiplied_call, spawn_call};
+ghost use Rattle.commonware_parallel.specs.Answers.{AnswersAs, OfOne, OneOf};
 ghost use Rattle.commonware_parallel.specs.Batches.{IsBatch, OnSomeBatch, ranges_of};
 ghost use Rattle.commonware_parallel.specs.Spawned.{BeginsAs, FailsToSpawn, gives_answer};
-ghost use Rattle.commonware_parallel.specs.Tiles.{IsSerialCost, IsTiling, tiles_place, tiles_strategy};
+ghost use Rattle.commonware_parallel.specs.ListCalls.{Asked, AskedOver, GoesByLength};
+ghost use Rattle.commonware_parallel.specs.Tiles.{IsTiling, OnSomeTiles};
 ghost use Rattle.parallel_shares.specs.Grid.{Fits};
-ghost use Rattle.parallel_fault.specs.Trouble.{IfFault, IsMemoryOnErr};
+ghost use Rattle.parallel_fault.specs.Trouble.{IsMemoryOnErr, IsMemoryOnFault};
+
+mod chooser;
 
 use crate::batches::{Batches, batches_through, try_batches_through};
-use crate::call::{Call, Kind, Pick};
+use crate::call::Call;
 use crate::dispatch::{choose_path, dispatch_path};
 use crate::list::{
-    body_over, dispatch_call, fold_init_through, fold_through, map_init_through, map_through,
+    body_over, fold_init_through, fold_through, map_init_through, map_through,
     multiplied_body_over, partition_through, try_fold_as_it_comes, try_fold_through,
     try_map_through,
 };
 use crate::meter::Meter;
 use crate::spawned::{Job, Spawned, begin};
 use crate::tiles::{Tiles, tiles_through};
+pub use chooser::Chooser;
 use parallel_bridge::list::fold::fold_iter;
 use parallel_bridge::list::fold_init::fold_init_iter;
 use parallel_bridge::list::map::map_iter;
@@ -42,7 +45,6 @@ use parallel_policy::Place;
 use parallel_shares::Grid;
 use std::alloc::Global;
 use std::cmp::Ordering;
-use std::fmt::Debug;
 use std::num::NonZeroUsize;
 use std::sync::Wait;
 use std::thread;
@@ -51,13 +53,12 @@ use std::thread::Threads;
 /// Runs a program's folds, maps, joins, sorts, batches and tiles, which are written once for all
 /// strategies.
 ///
-/// A strategy chooses and does nothing else. It is asked about a `Call`, and answers a `Pick`, one
-/// that the call has: a path, serial or parallel, or a number of ranges or workers. What the call
-/// then does is one of the `final` functions below, proved here once for every strategy: an
-/// implementation can't break what they say.
+/// A strategy chooses and does nothing else: it implements `Chooser`, and is a `Strategy` by that.
+/// It is asked about a `Call`, and answers a `Pick`, one that the call has: a path, serial or
+/// parallel, or a number of ranges or workers. What the call then does is one of the `final`
+/// functions below, proved here once for every strategy: an implementation can't break what they
+/// say.
 ///
-/// An implementation writes two functions that choose, `dispatch` and `choose`, readers of its
-/// numbers, `inner`, the type `Measure`, and six ghost members, in which it says what it may pick.
 /// Code that is generic over `S: Strategy` may rest on the clauses here alone; code at one strategy
 /// sees through its ghost members, and so learns from a clause `along` in which segments a call
 /// went.
@@ -74,119 +75,10 @@ use std::thread::Threads;
 /// their number. A map's closure and a fold's step have to accept the items that may come
 /// (`Source::may`), at every value so far and every state where they have one, and no other;
 /// `identity`, `init`, `reduce_op` and `compare` have to accept every value of their argument types.
-pub trait Strategy: Clone + Send + Sync + Debug + 'static {
+pub trait Strategy: Chooser {
     ghost use Rattle.commonware_parallel.specs.declared.batches.Batches.{Batches};
     ghost use Rattle.commonware_parallel.specs.declared.tiles.Tiles.{Tiles};
-    ghost use Rattle.parallel_policy.specs.declared.Site.{Site};
-    ghost use Rattle.parallel_fault.specs.declared.fault.Fault.{Fault};
-    ghost use Rattle.parallel_fault.specs.declared.fault.Fault.TheVariants.{Memory};
-    ghost use Rattle.commonware_parallel.specs.declared.call.Call.{Call};
-    ghost use Rattle.commonware_parallel.specs.declared.call.Kind.TheVariants.{Body, Spawn};
-    ghost use Rattle.commonware_parallel.specs.declared.call.Pick.{Pick};
-    ghost use Rattle.commonware_parallel.specs.declared.call.Pick.TheVariants.{By, Into};
-    ghost use Rattle.parallel_bridge.specs.declared.path.Path.{Path};
-    ghost use Rattle.parallel_bridge.specs.declared.path.Path.TheVariants.{Serial};
-
-    /// Whether a call at a site may be given a pick.
-    ghost takes: { Self → Site → Call → Pick → Type 0 };
-
-    /// Whether a call at a site may meet a refusal before its body runs.
-    ghost refuses: { Self → Site → Call → Fault → Type 0 };
-
-    /// The planning number, at least 1: how many parts batches and tiles are planned for.
-    ghost plans: { Self → ℕ };
-
-    /// The pool's thread number, at least 1: a parallel list goes along its shape of that number's
-    /// `cutdepth`.
-    ghost threads: { Self → ℕ };
-
-    /// Whether a job that is handed off gets a worker; a pool of unstarted workers gives it none.
-    ghost starts: { Self → Bool };
-
-    /// Whether any call of the kind `Body` may run serially without the strategy being asked.
-    ghost unasked: { Self → Bool };
-
-    /// The planning number.
-    fn planning(&self) -> NonZeroUsize
-        ensures number { non_zero_usize_get result ≡ plans self.now }
-        ensures positive { 0 < plans self.now };
-
-    /// The pool's thread number.
-    fn thread_number(&self) -> NonZeroUsize
-        ensures number { non_zero_usize_get result ≡ threads self.now }
-        ensures positive { 0 < threads self.now };
-
-    /// Whether a job that is handed off gets a worker.
-    fn starts_workers(&self) -> bool
-        ensures { result ≡ starts self.now };
-
-    /// Whether any call of the kind `Body` may run serially without the strategy being asked, as
-    /// where it has no other pick and measures nothing. A list call then goes over its source as it
-    /// comes.
-    fn is_serial(&self) -> bool
-        ensures unasked { result ≡ unasked self.now }
-        ensures first { IsTrue result → (site : Site) (call : Call) → call.kind ≡ Body
-            → takes self.now site call (By Serial) };
-
-    /// The strategy that the parts of a batch go through: one with the same numbers that no policy
-    /// chooses for (`IsInnerOf`).
-    ///
-    /// # Errors
-    ///
-    /// `Fault::Memory` alone.
-    fn inner(&self) -> Result<Self, Fault>
-        ensures inner { IfOk result (IsInnerOf takes refuses plans threads starts self.now) }
-        ensures fault { IsMemoryOnErr result };
-
-    /// Picks for the call, tells the body on the caller's thread, and answers what it answered.
-    ///
-    /// The body runs inside, so that an implementation can time it and tell an error of it apart.
-    /// An answer or an error of the body's own is one that it allows at a pick that the call has
-    /// and that the strategy may take (`AnswersAs`).
-    ///
-    /// # Errors
-    ///
-    /// `Trouble::Closure` with the body's own error. `Trouble::Fault` with a refusal that `refuses`
-    /// allows, which is `Fault::Memory`; the body wasn't called then, or its answer is gone.
-    fn dispatch<Rt: Wait, P: Place, R, E, B: FnOnce(Pick) -> Result<R, E>>(
-        &self,
-        rt: &Rt,
-        alloc: Global,
-        site: P,
-        call: Call,
-        body: B,
-    ) -> Result<R, Trouble<E>>
-        requires parts { 0 < call.parts }
-        requires kind { call.kind ≢ Spawn }
-        requires accepts { (pick : Pick) → HasPick call pick
-            → takes self.now (P.site_of site) call pick → B.pre body pick }
-        ensures answers { AnswersAs
-            (λ pick. HasPick call pick × takes self.now (P.site_of site) call pick)
-            (refuses self.now (P.site_of site) call)
-            (λ pick answer. B.post body pick answer) result }
-        ensures memory { IfErr result (λ trouble. IfFault trouble (λ fault. fault ≡ Memory)) };
-
-    /// Measures what goes on after a choice was handed out.
-    type Measure: Meter + Send + 'static;
-
-    /// Hands out a pick for the call, with a meter of the run to come, where the body can't run
-    /// inside: for a job that goes on on a worker, and for a body that writes through a `&mut`.
-    ///
-    /// # Errors
-    ///
-    /// A refusal that `refuses` allows; `Fault::Memory` alone for every call but a spawn.
-    fn choose<Rt: Wait, P: Place>(
-        &self,
-        rt: &Rt,
-        alloc: Global,
-        site: P,
-        call: Call,
-    ) -> Result<(Pick, Self::Measure), Fault>
-        requires parts { 0 < call.parts }
-        ensures takes { IfOk result (λ chosen. HasPick call chosen.0
-            × takes self.now (P.site_of site) call chosen.0) }
-        ensures refused { IfErr result (refuses self.now (P.site_of site) call) }
-        ensures memory { call.kind ≢ Spawn → IfErr result (λ fault. fault ≡ Memory) };
+    ghost use Rattle.commonware_parallel.specs.declared.call.Pick.TheVariants.{By};
 
     /// An answer of one of two bodies, by the path that the strategy takes.
     ///
@@ -208,9 +100,9 @@ pub trait Strategy: Clone + Send + Sync + Debug + 'static {
         requires serial_runs { A.pre serial }
         requires parallel_runs { B.pre parallel }
         ensures answers { IfOk result (λ answer. AtSomePath
-            (takes self.now (P.site_of site) (body_call len))
+            (Self.takes self.now (P.site_of site) (body_call len))
             (λ path. OneOf (A.post serial answer) (B.post parallel answer) path)) }
-        ensures refused { IfErr result (refuses self.now (P.site_of site) (body_call len)) }
+        ensures refused { IfErr result (Self.refuses self.now (P.site_of site) (body_call len)) }
         ensures fault { IsMemoryOnErr result }
     {
         let body = move |path: Path| -> Result<R, ()>
@@ -259,10 +151,10 @@ pub trait Strategy: Clone + Send + Sync + Debug + 'static {
         requires serial_runs { A.pre serial }
         requires parallel_runs { B.pre parallel }
         ensures answers { AnswersAs
-            (λ path. takes self.now (P.site_of site) (body_call len) (By path))
-            (refuses self.now (P.site_of site) (body_call len))
-            (λ path answer. OneOf (A.post serial answer) (B.post parallel answer) path) result }
-        ensures fault { IfErr result (λ trouble. IfFault trouble (λ fault. fault ≡ Memory)) }
+            (λ path. Self.takes self.now (P.site_of site) (body_call len) (By path))
+            (Self.refuses self.now (P.site_of site) (body_call len))
+            (OfOne (A.post serial) (B.post parallel)) result }
+        ensures fault { IsMemoryOnFault result }
     {
         let body = move |path: Path| -> Result<R, E>
             requires { A.pre serial × B.pre parallel }
@@ -294,7 +186,7 @@ pub trait Strategy: Clone + Send + Sync + Debug + 'static {
         requires first_runs { A.pre a }
         requires second_runs { B.pre b }
         ensures answers { IfOk result (λ answers. A.post a answers.0 × B.post b answers.1) }
-        ensures refused { IfErr result (refuses self.now (P.site_of site) join_call) }
+        ensures refused { IfErr result (Self.refuses self.now (P.site_of site) join_call) }
         ensures fault { IsMemoryOnErr result }
     {
         let body = move |path: Path| -> Result<(RA, RB), ()>
@@ -343,11 +235,11 @@ pub trait Strategy: Clone + Send + Sync + Debug + 'static {
             × ((answer : T) → gives_answer F.may_answer spawned answer
             → F.may_answer job clone answer)) }
         ensures form { IfOk result (λ spawned. AtSomePath
-            (takes self.now (P.site_of site) (spawn_call len))
-            (λ path. BeginsAs (starts self.now) path spawned)) }
+            (Self.takes self.now (P.site_of site) (spawn_call len))
+            (λ path. BeginsAs (Self.starts self.now) path spawned)) }
         ensures refused { IfErr result
-            (FailsToSpawn (takes self.now (P.site_of site) (spawn_call len))
-            (refuses self.now (P.site_of site) (spawn_call len)) (starts self.now)) }
+            (FailsToSpawn (Self.takes self.now (P.site_of site) (spawn_call len))
+            (Self.refuses self.now (P.site_of site) (spawn_call len)) (Self.starts self.now)) }
     {
         let (path, meter) = choose_path(self, rt, alloc, site, Call::spawn(len))?;
         let own = self.clone()?;
@@ -376,8 +268,8 @@ pub trait Strategy: Clone + Send + Sync + Debug + 'static {
         ensures permutation { IsPermutation items.old items.new }
         ensures sorted { OnOk result (IsSortedByClosure C.FnMut compare items.new) }
         ensures stable { IsStableByClosure C.FnMut compare items.old items.new }
-        ensures asked { OnOk result (AtSomePath
-            (takes self.now (P.site_of site) (body_call (length items.old))) (λ _. Unit {0})) }
+        ensures asked { OnOk result
+            (Asked (Self.takes self.now (P.site_of site) (body_call (length items.old)))) }
         ensures fault { IsMemoryOnErr result }
     {
         let (path, mut meter) = choose_path(self, rt, alloc, site, Call::body(items.len()))?;
@@ -406,36 +298,11 @@ pub trait Strategy: Clone + Send + Sync + Debug + 'static {
         requires { C.IsAlwaysCallable compare }
         ensures permutation { IsPermutation items.old items.new }
         ensures sorted { OnOk result (IsSortedByClosure C.FnMut compare items.new) }
-        ensures asked { OnOk result (AtSomePath
-            (takes self.now (P.site_of site) (body_call (length items.old))) (λ _. Unit {0})) }
+        ensures asked { OnOk result
+            (Asked (Self.takes self.now (P.site_of site) (body_call (length items.old)))) }
         ensures fault { IsMemoryOnErr result }
     {
         self.sort_by(rt, alloc, site, items, compare)
-    }
-
-    /// An answer of a body over `len` items that may itself be refused memory.
-    ///
-    /// # Errors
-    ///
-    /// `Fault::Memory` alone, the strategy's or the body's.
-    final fn dispatch_body<Rt: Wait, P: Place, R, B: FnOnce(Path) -> Result<R, Fault>>(
-        &self,
-        rt: &Rt,
-        alloc: Global,
-        site: P,
-        len: usize,
-        body: B,
-    ) -> Result<R, Fault>
-        requires accepts { (path : Path) → takes self.now (P.site_of site) (body_call len) (By path)
-            → B.pre body path }
-        requires memory { (path : Path) (fault : Fault) → B.post body path (Err fault)
-            → fault ≡ Memory }
-        ensures answers { IfOk result (λ answer. AtSomePath
-            (takes self.now (P.site_of site) (body_call len))
-            (λ path. B.post body path (Ok answer))) }
-        ensures fault { IsMemoryOnErr result }
-    {
-        dispatch_call(self, rt, alloc, site, Call::body(len), body)
     }
 
     /// The answers of `map_op` for the items, in the items' order (`MapOf`). The closure has to
@@ -459,9 +326,8 @@ pub trait Strategy: Clone + Send + Sync + Debug + 'static {
         requires accepts { (x : I.Item) → I.may source x → F.pre map_op x }
         ensures answers { IfOk result (λ ys. GivesSome I.gives source
             (λ xs. MapOf (F.post map_op) xs ys.items)) }
-        ensures asked { OnOk result (GivesSome I.gives source
-            (λ xs. AtSomePath (takes self.now (P.site_of site) (body_call (length xs)))
-            (λ _. Unit {0}))) }
+        ensures asked { OnOk result
+            (AskedOver I.gives source (Self.takes self.now (P.site_of site)) body_call) }
         ensures fault { IsMemoryOnErr result }
     {
         if self.is_serial() {
@@ -500,9 +366,8 @@ pub trait Strategy: Clone + Send + Sync + Debug + 'static {
         requires accepts { (x : I.Item) → I.may source x → F.pre map_op x }
         ensures answers { IfOk result (λ ys. GivesSome I.gives source
             (λ xs. MapOf (F.post map_op) xs ys.items)) }
-        ensures asked { OnOk result (GivesSome I.gives source
-            (λ xs. AtSomePath (takes self.now (P.site_of site)
-            (multiplied_call (length xs) multiplier)) (λ _. Unit {0}))) }
+        ensures asked { OnOk result (AskedOver I.gives source
+            (Self.takes self.now (P.site_of site)) (λ n. multiplied_call n multiplier)) }
         ensures fault { IsMemoryOnErr result }
     {
         if self.is_serial() {
@@ -552,12 +417,10 @@ pub trait Strategy: Clone + Send + Sync + Debug + 'static {
             → (value : R) → F.pre fold_op value x }
         requires reduce_accepts { G.IsAlwaysCallable reduce_op }
         ensures brackets { IfOk result (λ r. GivesSome I.gives source
-            (λ xs. Bracketing (ID.post identity) (λ a x b. F.post fold_op a x b)
-            (λ a b c. G.post reduce_op a b c) xs r)) }
-        ensures along { IfOk result (λ r. GivesSome I.gives source
-            (λ xs. AtSomePath (takes self.now (P.site_of site) (body_call (length xs)))
-            (λ path. FoldedAs (ID.post identity) (λ a x b. F.post fold_op a x b)
-            (λ a b c. G.post reduce_op a b c) (cutdepth (threads self.now)) path xs r))) }
+            (λ xs. Bracketing (ID.post identity) (F.post fold_op) (G.post reduce_op) xs r)) }
+        ensures along { IfOk result
+            (GoesByLength I.gives source Self.takes Self.threads self.now (P.site_of site) body_call
+            (FoldedAs (ID.post identity) (F.post fold_op) (G.post reduce_op))) }
         ensures fault { IsMemoryOnErr result }
     {
         if self.is_serial() {
@@ -608,13 +471,11 @@ pub trait Strategy: Clone + Send + Sync + Debug + 'static {
         requires reduce_accepts { G.IsAlwaysCallable reduce_op }
         ensures brackets { IfOk result (λ r. GivesSome I.gives source
             (λ xs. Brackets (FoldInitSegment (N.post init) (ID.post identity)
-            (FoldStep (λ a p x b q. F.post fold_op a p x b q)))
-            (λ a b c. G.post reduce_op a b c) xs r)) }
-        ensures along { IfOk result (λ r. GivesSome I.gives source
-            (λ xs. AtSomePath (takes self.now (P.site_of site) (body_call (length xs)))
-            (λ path. FoldedInitAs (N.post init) (ID.post identity)
-            (FoldStep (λ a p x b q. F.post fold_op a p x b q))
-            (λ a b c. G.post reduce_op a b c) (cutdepth (threads self.now)) path xs r))) }
+            (FoldStep (F.post fold_op))) (G.post reduce_op) xs r)) }
+        ensures along { IfOk result
+            (GoesByLength I.gives source Self.takes Self.threads self.now (P.site_of site) body_call
+            (FoldedInitAs (N.post init) (ID.post identity) (FoldStep (F.post fold_op))
+            (G.post reduce_op))) }
         ensures fault { IsMemoryOnErr result }
     {
         if self.is_serial() {
@@ -666,13 +527,11 @@ pub trait Strategy: Clone + Send + Sync + Debug + 'static {
             → (value : R) → F.pre fold_op value x }
         requires reduce_accepts { G.IsAlwaysCallable reduce_op }
         ensures brackets { UnlessRefused result (λ out. GivesSome I.gives source
-            (λ xs. TryBracketing (ID.post identity) (λ a x b. F.post fold_op a x b)
-            (λ a b c. G.post reduce_op a b c) xs out)) }
-        ensures along { UnlessRefused result (λ out. GivesSome I.gives source
-            (λ xs. AtSomePath (takes self.now (P.site_of site) (body_call (length xs)))
-            (λ path. TryFoldedAs (ID.post identity) (λ a x b. F.post fold_op a x b)
-            (λ a b c. G.post reduce_op a b c) (cutdepth (threads self.now)) path xs out))) }
-        ensures fault { IfErr result (λ trouble. IfFault trouble (λ fault. fault ≡ Memory)) }
+            (λ xs. TryBracketing (ID.post identity) (F.post fold_op) (G.post reduce_op) xs out)) }
+        ensures along { UnlessRefused result
+            (GoesByLength I.gives source Self.takes Self.threads self.now (P.site_of site) body_call
+            (TryFoldedAs (ID.post identity) (F.post fold_op) (G.post reduce_op))) }
+        ensures fault { IsMemoryOnFault result }
     {
         if self.is_serial() {
             return try_fold_as_it_comes(source.into_items(), &identity, &fold_op);
@@ -706,10 +565,9 @@ pub trait Strategy: Clone + Send + Sync + Debug + 'static {
         requires accepts { (x : I.Item) → I.may source x → F.pre map_op x }
         ensures answers { UnlessRefused result (λ out. GivesSome I.gives source
             (λ xs. TryMapOf (F.post map_op) xs (listed out))) }
-        ensures asked { UnlessRefused result (λ _. GivesSome I.gives source
-            (λ xs. AtSomePath (takes self.now (P.site_of site) (body_call (length xs)))
-            (λ _. Unit {0}))) }
-        ensures fault { IfErr result (λ trouble. IfFault trouble (λ fault. fault ≡ Memory)) }
+        ensures asked { UnlessRefused result
+            (λ _. AskedOver I.gives source (Self.takes self.now (P.site_of site)) body_call) }
+        ensures fault { IsMemoryOnFault result }
     {
         if self.is_serial() {
             return try_map_iter(alloc, source.into_items(), &map_op);
@@ -752,12 +610,10 @@ pub trait Strategy: Clone + Send + Sync + Debug + 'static {
         requires map_accepts { (x : I.Item) → I.may source x
             → (state : MutBor S) → F.pre map_op state x }
         ensures stateful { IfOk result (λ ys. GivesSome I.gives source
-            (λ xs. Stateful (N.post init) (MapStep (λ p x y q. F.post map_op p x y q))
-            xs ys.items)) }
-        ensures along { IfOk result (λ ys. GivesSome I.gives source
-            (λ xs. AtSomePath (takes self.now (P.site_of site) (body_call (length xs)))
-            (λ path. MappedInitAs (N.post init) (MapStep (λ p x y q. F.post map_op p x y q))
-            (cutdepth (threads self.now)) path xs ys.items))) }
+            (λ xs. Stateful (N.post init) (MapStep (F.post map_op)) xs ys.items)) }
+        ensures along { IfOk result (λ ys.
+            GoesByLength I.gives source Self.takes Self.threads self.now (P.site_of site) body_call
+            (MappedInitAs (N.post init) (MapStep (F.post map_op))) ys.items) }
         ensures fault { IsMemoryOnErr result }
     {
         if self.is_serial() {
@@ -800,13 +656,11 @@ pub trait Strategy: Clone + Send + Sync + Debug + 'static {
         requires map_accepts { (x : I.Item) → I.may source x
             → (state : MutBor S) → F.pre map_op state x }
         ensures stateful { IfOk result (λ ys. GivesSome I.gives source
-            (λ xs. Stateful (N.post init) (MapStep (λ p x y q. F.post map_op p x y q))
-            xs ys.items)) }
-        ensures along { IfOk result (λ ys. GivesSome I.gives source
-            (λ xs. AtSomePath (takes self.now (P.site_of site)
-            (multiplied_call (length xs) multiplier))
-            (λ path. MappedInitAs (N.post init) (MapStep (λ p x y q. F.post map_op p x y q))
-            (cutdepth (threads self.now)) path xs ys.items))) }
+            (λ xs. Stateful (N.post init) (MapStep (F.post map_op)) xs ys.items)) }
+        ensures along { IfOk result (λ ys.
+            GoesByLength I.gives source Self.takes Self.threads self.now (P.site_of site)
+            (λ n. multiplied_call n multiplier)
+            (MappedInitAs (N.post init) (MapStep (F.post map_op))) ys.items) }
         ensures fault { IsMemoryOnErr result }
     {
         if self.is_serial() {
@@ -846,9 +700,8 @@ pub trait Strategy: Clone + Send + Sync + Debug + 'static {
         requires accepts { (x : I.Item) → I.may source x → F.pre map_op x }
         ensures answers { IfOk result (λ parts. GivesSome I.gives source
             (λ xs. PartitionOf (F.post map_op) xs parts.0.items parts.1.items)) }
-        ensures asked { OnOk result (GivesSome I.gives source
-            (λ xs. AtSomePath (takes self.now (P.site_of site) (body_call (length xs)))
-            (λ _. Unit {0}))) }
+        ensures asked { OnOk result
+            (AskedOver I.gives source (Self.takes self.now (P.site_of site)) body_call) }
         ensures fault { IsMemoryOnErr result }
     {
         if self.is_serial() {
@@ -885,9 +738,8 @@ pub trait Strategy: Clone + Send + Sync + Debug + 'static {
         requires { (batches : Batches Self P) (count : ℕ)
             → IsBatch len count (non_zero_usize_get minimum) (ranges_of batches)
             → F.pre run batches }
-        ensures answers { IfOk result (λ answer. OnSomeBatch takes refuses plans threads starts
-            self.now
-            (P.site_of site) site len (non_zero_usize_get minimum) multiplier
+        ensures answers { IfOk result (λ answer. OnSomeBatch Self.takes Self.refuses Self.plans
+            Self.threads Self.starts P.site_of self.now site len minimum multiplier
             (λ batches. F.post run batches answer)) }
         ensures fault { IsMemoryOnErr result }
     {
@@ -918,9 +770,8 @@ pub trait Strategy: Clone + Send + Sync + Debug + 'static {
         requires { (batches : Batches Self P) (count : ℕ)
             → IsBatch len count (non_zero_usize_get minimum) (ranges_of batches)
             → F.pre run batches }
-        ensures { UnlessRefused result
-            (λ out. OnSomeBatch takes refuses plans threads starts self.now
-            (P.site_of site) site len (non_zero_usize_get minimum) multiplier
+        ensures { UnlessRefused result (λ out. OnSomeBatch Self.takes Self.refuses Self.plans
+            Self.threads Self.starts P.site_of self.now site len minimum multiplier
             (λ batches. F.post run batches out)) }
     {
         try_batches_through(self, rt, alloc, site, len, minimum, multiplier, run)
@@ -950,17 +801,14 @@ pub trait Strategy: Clone + Send + Sync + Debug + 'static {
     ) -> Result<R, Fault>
         requires fits { Fits grids.now len }
         requires accepts { (tiles : Tiles Self P) (workers : ℕ)
-            → IsTiling grids.now len workers tiles
-            → F.pre run tiles }
-        ensures answers { IfOk result (λ answer. (cost : ℕ) × IsSerialCost grids.now len cost
-            × (workers : ℕ) × (0 < workers) × (workers ≤ plans self.now)
-            × takes self.now (P.site_of site) (tiles_call (plans self.now) len cost multiplier)
-            (Into workers)
-            × (tiles : Tiles Self P) × IsTiling grids.now len workers tiles
-            × IsInnerOf takes refuses plans threads starts self.now (tiles_strategy tiles)
-            × (tiles_place tiles ≡ site) × F.post run tiles answer) }
+            → IsTiling grids.now len workers tiles → F.pre run tiles }
+        ensures answers { IfOk result (λ answer. OnSomeTiles Self.takes Self.refuses Self.plans
+            Self.threads Self.starts P.site_of self.now site grids.now len multiplier
+            (λ tiles. F.post run tiles answer)) }
         ensures fault { IsMemoryOnErr result }
     {
         tiles_through(self, rt, alloc, site, len, grids, multiplier, run)
     }
 }
+
+impl<C: Chooser> Strategy for C {}

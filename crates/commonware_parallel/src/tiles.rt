@@ -1,15 +1,14 @@
 //! Tiles: a grid's cells, filled by stretches of rows.
-ghost use Rattle.std.specs.Prelude.{◌≡◌, ◌≢◌, ◌*◌, ◌+◌, ◌-◌, ◌≤◌, ◌<◌, ◌^◌, ◌⊎◌, ◌↔◌, ℕ, List, All, [], IfOk, IsFalse, IsTrue, not, true, MatchResult, length};
+ghost use Rattle.std.specs.Prelude.{◌≡◌, ◌≢◌, ◌*◌, ◌+◌, ◌-◌, ◌≤◌, ◌<◌, ◌^◌, ◌⊎◌, ◌↔◌, ℕ, [], IfOk, IsFalse, IsTrue, not, MatchResult, length};
 ghost use Rattle.std.specs.Borrow.{MutBor};
 ghost use Rattle.std.specs.Int.NonZero.{non_zero_usize_get};
 ghost use Rattle.std.specs.declared.ops.Range.{Range};
 ghost use Rattle.parallel_fault.specs.Trouble.{IsMemoryOnErr};
-ghost use Rattle.parallel_shares.specs.declared.shares.stretch.Stretch.{Stretch};
 ghost use Rattle.parallel_shares.specs.Fillings.{Fills, Gives};
 ghost use Rattle.parallel_shares.specs.Grid.{Fits};
-ghost use Rattle.commonware_parallel.specs.Chains.{Chains, OneChain};
-ghost use Rattle.commonware_parallel.specs.MergedRows.{FillsRows};
-ghost use Rattle.commonware_parallel.specs.Rectangles.{CutsRectangle, IsInGrid, IsWholeRow};
+ghost use Rattle.commonware_parallel.specs.Chains.{OneChain};
+ghost use Rattle.commonware_parallel.specs.MergedRows.{FillsCut};
+ghost use Rattle.commonware_parallel.specs.Rectangles.{IsInGrid};
 
 mod dispatched;
 mod law;
@@ -53,7 +52,7 @@ pub struct Tiles<'scope, S, P> {
 }
 
 impl<'scope, S: Strategy, P: Place> Tiles<'scope, S, P> {
-    ghost use Rattle.commonware_parallel.specs.Tiles.{IsTiling, columns_of, grid_of, keeps_rows, rows_of, tiles_place, tiles_strategy, workers_of};
+    ghost use Rattle.commonware_parallel.specs.Tiles.{FillsTiles, IfSerialTiles, IsTiling, columns_of, grid_of, keeps_rows, rows_of, tiles_place, tiles_strategy, workers_of};
 
     /// The place of the grid that was chosen in the list that was handed in.
     pub fn grid(&self) -> usize
@@ -148,15 +147,12 @@ impl<'scope, S: Strategy, P: Place> Tiles<'scope, S, P> {
             → L.pre fill state row columns }
         requires finish_accepts { (state : MutBor T) (row : ℕ) → row < rows_of self
             → F.pre finish state row }
-        ensures fills { IfOk result (λ results. (cut : List Stretch)
-            × CutsRectangle (rows_of self.entry) (columns_of self.entry) cut
-            × (keeps_rows self.entry ≡ true → All (IsWholeRow (columns_of self.entry)) cut)
-            × Chains (N.post init) (Fills (L.post fill))
-            (Gives (F.post finish)) cut results.items) }
-        ensures serial { workers_of self.entry ≡ 1 → rows_of self.entry ≢ 0
-            → columns_of self.entry ≢ 0
-            → IfOk result (λ results. OneChain (N.post init) (Fills (L.post fill))
-            (Gives (F.post finish)) (rows_of self.entry) (columns_of self.entry) results.items) }
+        ensures fills { IfOk result (λ results. FillsCut (N.post init) (Fills (L.post fill))
+            (Gives (F.post finish)) (rows_of self.entry) (columns_of self.entry)
+            (keeps_rows self.entry) results.items) }
+        ensures serial { IfSerialTiles self.entry
+            (IfOk result (λ results. OneChain (N.post init) (Fills (L.post fill))
+            (Gives (F.post finish)) (rows_of self.entry) (columns_of self.entry) results.items)) }
         ensures empty { (rows_of self.entry ≡ 0) ⊎ (columns_of self.entry ≡ 0)
             → MatchResult result (λ results. results.items ≡ []) (λ _. ⊥) }
         ensures fault { IsMemoryOnErr result }
@@ -222,9 +218,9 @@ impl<'scope, S: Strategy, P: Place> Tiles<'scope, S, P> {
         requires finish_accepts { (state : MutBor T) (row : ℕ) → row < rows_of self
             → F.pre finish state row }
         requires merge_accepts { M.IsAlwaysCallable merge }
-        ensures merges { columns_of self.entry ≢ 0 → IfOk result (λ values. FillsRows (N.post init)
-            (Fills (L.post fill)) (Gives (F.post finish)) (λ a b c. M.post merge a b c)
-            (rows_of self.entry) (columns_of self.entry) (keeps_rows self.entry) values.items) }
+        ensures merges { columns_of self.entry ≢ 0 → IfOk result
+            (λ values. FillsTiles (N.post init) (Fills (L.post fill)) (Gives (F.post finish))
+            (M.post merge) self.entry values.items) }
         ensures count { columns_of self.entry ≢ 0
             → IfOk result (λ values. length values.items ≡ rows_of self.entry) }
         ensures empty { (rows_of self.entry ≡ 0) ⊎ (columns_of self.entry ≡ 0)

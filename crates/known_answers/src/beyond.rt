@@ -3,11 +3,13 @@
 ghost use Rattle.std.specs.Prelude.{◌≡◌, ◌<◌, ◌/◌, List, false, max, min, IfOk, IfErr, IsOk};
 ghost use Rattle.std.specs.Int.NonZero.{non_zero_usize_get};
 ghost use Rattle.std.specs.Iterator.{IsFinite, Drains};
+ghost use Rattle.parallel_fault.specs.Trouble.{IsMemoryOnErr};
 ghost use Rattle.parallel_fault.specs.declared.fault.Fault.TheVariants.{Memory};
 ghost use Rattle.parallel_bridge.specs.Lists.{FoldSegment};
-ghost use Rattle.parallel_bridge.specs.Shapes.{Along, Shape, cutdepth};
-ghost use Rattle.commonware_parallel.specs.Batches.{IsBatch, ranges_of};
+ghost use Rattle.parallel_bridge.specs.Shapes.{Along};
+ghost use Rattle.commonware_parallel.specs.Batches.{IsBatch};
 ghost use Rattle.commonware_parallel.specs.Rayon.{planning_of, threads_of, chooses_of};
+ghost use Rattle.known_answers.specs.Known.{shape_at};
 
 use commonware_parallel::{Clock, Fault, Rayon, Sequential, Strategy};
 use parallel_policy::Place;
@@ -45,8 +47,8 @@ where
     requires fold_accepts { F.IsAlwaysCallable fold_op }
     requires reduce_accepts { G.IsAlwaysCallable reduce_op }
     ensures segment { IfOk result (λ r. (xs : List I.Item) × Drains I.next_gives iter xs
-        × FoldSegment (ID.post identity) (λ a x b. F.post fold_op a x b) xs r) }
-    ensures fault { IfErr result (λ fault. fault ≡ Memory) }
+        × FoldSegment (ID.post identity) (F.post fold_op) xs r) }
+    ensures fault { IsMemoryOnErr result }
 {
     Strategy::fold(
         strategy, rt, alloc, site, iter, identity, fold_op, reduce_op,
@@ -68,7 +70,7 @@ pub fn fold_by_own<
     requires identity_accepts { ID.IsAlwaysCallable identity }
     requires fold_accepts { F.IsAlwaysCallable fold_op }
     ensures { (xs : List I.Item) × Drains I.next_gives iter xs
-        × FoldSegment (ID.post identity) (λ a x b. F.post fold_op a x b) xs result }
+        × FoldSegment (ID.post identity) (F.post fold_op) xs result }
 {
     strategy.fold(site, iter, identity, fold_op, reduce_op)
 }
@@ -104,9 +106,9 @@ where
     requires fold_accepts { F.IsAlwaysCallable fold_op }
     requires reduce_accepts { G.IsAlwaysCallable reduce_op }
     ensures along { IfOk result (λ r. (xs : List I.Item) × Drains I.next_gives iter xs
-        × Along (ID.post identity) (λ a x b. F.post fold_op a x b) (λ a b c. G.post reduce_op a b c)
-        (Shape (cutdepth (threads_of strategy.now)) xs) r) }
-    ensures fault { IfErr result (λ fault. fault ≡ Memory) }
+        × Along (ID.post identity) (F.post fold_op) (G.post reduce_op)
+        (shape_at strategy.now xs) r) }
+    ensures fault { IsMemoryOnErr result }
 {
     strategy.fold(rt, alloc, site, iter, identity, fold_op, reduce_op)
 }
@@ -141,8 +143,8 @@ where
     requires fold_accepts { F.IsAlwaysCallable fold_op }
     requires reduce_accepts { G.IsAlwaysCallable reduce_op }
     ensures segment { IfOk result (λ r. (xs : List I.Item) × Drains I.next_gives iter xs
-        × FoldSegment (ID.post identity) (λ a x b. F.post fold_op a x b) xs r) }
-    ensures fault { IfErr result (λ fault. fault ≡ Memory) }
+        × FoldSegment (ID.post identity) (F.post fold_op) xs r) }
+    ensures fault { IsMemoryOnErr result }
 {
     strategy.fold(rt, alloc, site, iter, identity, fold_op, reduce_op)
 }
@@ -230,7 +232,7 @@ pub fn ranges_at_pool<Rt: Wait, C: Clock, P: Place>(
     ensures batch { IfOk result (λ ranges. IsBatch len
         (max 1 (min (planning_of strategy.now) (len / non_zero_usize_get minimum)))
         (non_zero_usize_get minimum) ranges.items) }
-    ensures fault { IfErr result (λ fault. fault ≡ Memory) }
+    ensures fault { IsMemoryOnErr result }
 {
     let ranges = strategy.run_batches(rt, alloc, site, len, minimum, 1, |batches| {
         batches.ranges().to_vec(alloc)

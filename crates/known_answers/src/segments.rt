@@ -1,16 +1,15 @@
 // Callers at one strategy of the calls with a state at hand or with steps that may fail, whose
 // contracts say more than the trait's clauses: in which segments a list goes.
-ghost use Rattle.std.specs.Prelude.{◌≡◌, ◌<◌, List, All, false, IfOk, IfErr, IsOk};
+ghost use Rattle.std.specs.Prelude.{◌≡◌, ◌<◌, List, false, IfOk, IsOk};
 ghost use Rattle.std.specs.Borrow.{MutBor};
 ghost use Rattle.std.specs.Iterator.{IsFinite, Drains};
-ghost use Rattle.parallel_fault.specs.declared.fault.Fault.TheVariants.{Memory};
-ghost use Rattle.parallel_fault.specs.Trouble.{IfFault};
+ghost use Rattle.parallel_fault.specs.Trouble.{IsMemoryOnErr, IsMemoryOnFault};
 ghost use Rattle.parallel_bridge.specs.Outcomes.{UnlessRefused};
-ghost use Rattle.parallel_bridge.specs.Shapes.{AlongLeaves, Shape, cutdepth};
 ghost use Rattle.parallel_bridge.specs.Sources.{MayCome};
 ghost use Rattle.parallel_bridge.specs.States.{FoldInitSegment, FoldStep, MapStep, StateSegment, StatesAlong};
 ghost use Rattle.parallel_bridge.specs.Tries.{TryAlong, TryFoldSegment};
-ghost use Rattle.commonware_parallel.specs.Rayon.{planning_of, threads_of, chooses_of};
+ghost use Rattle.commonware_parallel.specs.Rayon.{planning_of, chooses_of};
+ghost use Rattle.known_answers.specs.Known.{AlongWithStates, shape_at};
 
 use commonware_parallel::{Clock, Fault, Rayon, Sequential, Strategy, Trouble};
 use parallel_policy::Place;
@@ -51,8 +50,8 @@ where
     requires reduce_accepts { G.IsAlwaysCallable reduce_op }
     ensures segment { IfOk result (λ r. (xs : List I.Item) × Drains I.next_gives iter xs
         × FoldInitSegment (N.post init) (ID.post identity)
-        (FoldStep (λ a p x b q. F.post fold_op a p x b q)) xs r) }
-    ensures fault { IfErr result (λ fault. fault ≡ Memory) }
+        (FoldStep (F.post fold_op)) xs r) }
+    ensures fault { IsMemoryOnErr result }
 {
     Strategy::fold_init(
         strategy, rt, alloc, site, iter, init, identity, fold_op, reduce_op,
@@ -95,11 +94,9 @@ where
     requires fold_accepts { F.IsAlwaysCallable fold_op }
     requires reduce_accepts { G.IsAlwaysCallable reduce_op }
     ensures along { IfOk result (λ r. (xs : List I.Item) × Drains I.next_gives iter xs
-        × AlongLeaves (ID.post identity)
-        (FoldInitSegment (N.post init) (ID.post identity)
-        (FoldStep (λ a p x b q. F.post fold_op a p x b q)))
-        (λ a b c. G.post reduce_op a b c) (Shape (cutdepth (threads_of strategy.now)) xs) r) }
-    ensures fault { IfErr result (λ fault. fault ≡ Memory) }
+        × AlongWithStates (N.post init) (ID.post identity) (F.post fold_op) (G.post reduce_op)
+        (shape_at strategy.now xs) r) }
+    ensures fault { IsMemoryOnErr result }
 {
     strategy.fold_init(rt, alloc, site, iter, init, identity, fold_op, reduce_op)
 }
@@ -139,8 +136,8 @@ where
     requires reduce_accepts { G.IsAlwaysCallable reduce_op }
     ensures segment { IfOk result (λ r. (xs : List I.Item) × Drains I.next_gives iter xs
         × FoldInitSegment (N.post init) (ID.post identity)
-        (FoldStep (λ a p x b q. F.post fold_op a p x b q)) xs r) }
-    ensures fault { IfErr result (λ fault. fault ≡ Memory) }
+        (FoldStep (F.post fold_op)) xs r) }
+    ensures fault { IsMemoryOnErr result }
 {
     strategy.fold_init(rt, alloc, site, iter, init, identity, fold_op, reduce_op)
 }
@@ -172,8 +169,8 @@ where
     requires map_accepts { (x : I.Item) → MayCome I.next_gives iter x
         → (state : MutBor W) → F.pre map_op state x }
     ensures segment { IfOk result (λ ys. (xs : List I.Item) × Drains I.next_gives iter xs
-        × StateSegment (N.post init) (MapStep (λ p x y q. F.post map_op p x y q)) xs ys.items) }
-    ensures fault { IfErr result (λ fault. fault ≡ Memory) }
+        × StateSegment (N.post init) (MapStep (F.post map_op)) xs ys.items) }
+    ensures fault { IsMemoryOnErr result }
 {
     Strategy::map_init_collect_vec(strategy, rt, alloc, site, iter, init, map_op)
 }
@@ -209,9 +206,9 @@ where
     requires map_accepts { (x : I.Item) → MayCome I.next_gives iter x
         → (state : MutBor W) → F.pre map_op state x }
     ensures along { IfOk result (λ ys. (xs : List I.Item) × Drains I.next_gives iter xs
-        × StatesAlong (N.post init) (MapStep (λ p x y q. F.post map_op p x y q))
-        (Shape (cutdepth (threads_of strategy.now)) xs) ys.items) }
-    ensures fault { IfErr result (λ fault. fault ≡ Memory) }
+        × StatesAlong (N.post init) (MapStep (F.post map_op))
+        (shape_at strategy.now xs) ys.items) }
+    ensures fault { IsMemoryOnErr result }
 {
     strategy.map_init_collect_vec(rt, alloc, site, iter, init, map_op)
 }
@@ -245,8 +242,8 @@ where
     requires map_accepts { (x : I.Item) → MayCome I.next_gives iter x
         → (state : MutBor W) → F.pre map_op state x }
     ensures segment { IfOk result (λ ys. (xs : List I.Item) × Drains I.next_gives iter xs
-        × StateSegment (N.post init) (MapStep (λ p x y q. F.post map_op p x y q)) xs ys.items) }
-    ensures fault { IfErr result (λ fault. fault ≡ Memory) }
+        × StateSegment (N.post init) (MapStep (F.post map_op)) xs ys.items) }
+    ensures fault { IsMemoryOnErr result }
 {
     strategy.map_init_collect_vec(rt, alloc, site, iter, init, map_op)
 }
@@ -280,8 +277,8 @@ where
     requires fold_accepts { F.IsAlwaysCallable fold_op }
     requires reduce_accepts { G.IsAlwaysCallable reduce_op }
     ensures segment { UnlessRefused result (λ out. (xs : List I.Item) × Drains I.next_gives iter xs
-        × TryFoldSegment (ID.post identity) (λ a x b. F.post fold_op a x b) xs out) }
-    ensures fault { IfErr result (λ trouble. IfFault trouble (λ fault. fault ≡ Memory)) }
+        × TryFoldSegment (ID.post identity) (F.post fold_op) xs out) }
+    ensures fault { IsMemoryOnFault result }
 {
     Strategy::try_fold(
         strategy, rt, alloc, site, iter, identity, fold_op, reduce_op,
@@ -321,9 +318,9 @@ where
     requires fold_accepts { F.IsAlwaysCallable fold_op }
     requires reduce_accepts { G.IsAlwaysCallable reduce_op }
     ensures along { UnlessRefused result (λ out. (xs : List I.Item) × Drains I.next_gives iter xs
-        × TryAlong (ID.post identity) (λ a x b. F.post fold_op a x b)
-        (λ a b c. G.post reduce_op a b c) (Shape (cutdepth (threads_of strategy.now)) xs) out) }
-    ensures fault { IfErr result (λ trouble. IfFault trouble (λ fault. fault ≡ Memory)) }
+        × TryAlong (ID.post identity) (F.post fold_op)
+        (G.post reduce_op) (shape_at strategy.now xs) out) }
+    ensures fault { IsMemoryOnFault result }
 {
     strategy.try_fold(rt, alloc, site, iter, identity, fold_op, reduce_op)
 }
@@ -359,8 +356,8 @@ where
     requires fold_accepts { F.IsAlwaysCallable fold_op }
     requires reduce_accepts { G.IsAlwaysCallable reduce_op }
     ensures segment { UnlessRefused result (λ out. (xs : List I.Item) × Drains I.next_gives iter xs
-        × TryFoldSegment (ID.post identity) (λ a x b. F.post fold_op a x b) xs out) }
-    ensures fault { IfErr result (λ trouble. IfFault trouble (λ fault. fault ≡ Memory)) }
+        × TryFoldSegment (ID.post identity) (F.post fold_op) xs out) }
+    ensures fault { IsMemoryOnFault result }
 {
     strategy.try_fold(rt, alloc, site, iter, identity, fold_op, reduce_op)
 }

@@ -7,7 +7,7 @@ use Rattle.parallel_shares.specs.declared.shares.stretch.Stretch.{Stretch}
 use Rattle.parallel_shares.specs.declared.shares.stretch.Piece.{Piece}
 use Rattle.parallel_shares.specs.Fronts.{IsFront}
 use Rattle.parallel_shares.specs.Sizes.{Sizes}
-use Rattle.parallel_shares.specs.Stretches.{Cutting, Parted}
+use Rattle.parallel_shares.specs.Stretches.{Cutting, IsPiece, Parted, piece_cells}
 
 -- answered is a call that is lent a state: s is the state before the call, t the state after it
 abbrev pub Fills : {T : Type 0} → (MutBor T → ℕ → Range ℕ → Unit {0} → MutBor T → Type 0) → T → ℕ
@@ -77,6 +77,14 @@ GoesOn {T = T} fill finish len more opened results state opened_after results_af
     (first : T) (cells : List ℕ)
     → Underway fill finish len first cells opened results state
     → Underway fill finish len first (cells ++ more) opened_after results_after state_after
+
+-- the same by a piece, on rows of any length that it is a piece of
+abbrev pub GoesOnByPiece : {T R : Type 0} → (T → ℕ → Range ℕ → T → Type 0) → (T → ℕ → R → T → Type 0)
+    → Piece → Option Piece → List R → T → Option Piece → List R → T → Type 0
+GoesOnByPiece fill finish piece opened results state opened_after results_after state_after =
+    (len : ℕ) → IsPiece len piece
+    → GoesOn fill finish len (piece_cells len piece) opened results state opened_after results_after
+    state_after
 
 -- ---- a run over claims
 

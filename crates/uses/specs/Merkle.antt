@@ -74,6 +74,11 @@ abbrev pub Accepts : List ℕ → ℕ → ℕ → List ℕ → List (Option (Lis
 Accepts root count index leaf proof =
     (index < count) × (climb node_digest count index (leaf_digest leaf) proof ≡ Some root)
 
+-- a fact, where the nodes have a root for which a proof of the leaf at the index is accepted
+abbrev pub IfAccepted : List (List ℕ) → ℕ → List ℕ → List (Option (List ℕ)) → Type 0 → Type 0
+IfAccepted nodes index leaf proof fact = (root : List ℕ) → merkle_root node_digest nodes ≡ Some root
+    → Accepts root (length nodes) index leaf proof → fact
+
 -- the nodes of levels that are kept as vectors
 abbrev pub levels_of : List (Vec (List ℕ) Global) → List (List (List ℕ))
 levels_of levels = map (λ (level : Vec (List ℕ) Global). level.items) levels

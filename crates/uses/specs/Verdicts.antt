@@ -17,6 +17,10 @@ abbrev pub IsSortedOut : {X : Type 0} → (X → Bool → Type 0) → X → (X �
 IsSortedOut verdict x (key, Some value) = (key ≡ x) × (value ≡ x) × verdict x true
 IsSortedOut verdict x (key, None) = (key ≡ x) × verdict x false
 
+-- each verdict is the one that the test gives
+abbrev pub GoesByTest : {X : Type 0} → (X → Bool → Type 0) → (X → Bool) → Type 0
+GoesByTest {X = X} allowed test = (x : X) (verdict : Bool) → allowed x verdict → verdict ≡ test x
+
 -- a number of the list is above the limit, and none before it
 abbrev pub IsFirstOver : ℕ → List ℕ → ℕ → Type 0
 IsFirstOver limit xs over =

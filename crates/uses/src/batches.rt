@@ -1,7 +1,7 @@
 // Batches: a closure that is handed balanced ranges, and looks into a list by them.
-ghost use Rattle.std.specs.Prelude.{◌≡◌, ◌≤◌, All, count_by, length, max, IfOk, IfErr};
+ghost use Rattle.std.specs.Prelude.{◌≡◌, ◌≤◌, All, count_by, length, max, IfOk};
 ghost use Rattle.std.specs.Int.NonZero.{non_zero_usize_get};
-ghost use Rattle.parallel_fault.specs.declared.fault.Fault.TheVariants.{Memory};
+ghost use Rattle.parallel_fault.specs.Trouble.{IsMemoryOnErr};
 ghost use Rattle.parallel_shares.specs.Cut.{BalancedCut, CutsFrom, range_length};
 ghost use Rattle.commonware_parallel.specs.Batches.{ranges_of};
 ghost use Rattle.uses.specs.Batches.{CoversOnce};
@@ -27,7 +27,7 @@ pub fn batch_ranges<Rt: Wait, P: Place, S: Strategy>(
     ensures planned { IfOk result (λ ranges. length ranges.items ≤ max 1 (S.plans strategy.now)) }
     ensures minimum { IfOk result (λ ranges. 2 ≤ length ranges.items
         → All (λ range. non_zero_usize_get minimum ≤ range_length range) ranges.items) }
-    ensures fault { IfErr result (λ fault. fault ≡ Memory) }
+    ensures fault { IsMemoryOnErr result }
 {
     let ranges = strategy.run_batches(rt, alloc, site, len, minimum, 1, |batches| {
         batches.ranges().to_vec(alloc)
@@ -45,7 +45,7 @@ pub fn count_by_ranges<Rt: Wait, P: Place, S: Strategy>(
     flags: &[bool],
 ) -> Result<usize, Fault>
     ensures counted { IfOk result (λ count. count ≡ count_by (λ flag. flag) flags.now) }
-    ensures fault { IfErr result (λ fault. fault ≡ Memory) }
+    ensures fault { IsMemoryOnErr result }
 {
     let count = |batches: Batches<'_, S, P>| -> usize
         requires { BalancedCut (length flags.now) (ranges_of batches) }

@@ -1,8 +1,8 @@
 // Folds that are the plain fold from the left, since their closures keep the laws that `FoldLaws`
 // names.
-ghost use Rattle.std.specs.Prelude.{◌≡◌, ◌*◌, ◌+◌, ◌%◌, ◌^◌, ◌<◌, All, fold, length, sum_by, IfOk, IfErr};
+ghost use Rattle.std.specs.Prelude.{◌≡◌, ◌*◌, ◌+◌, ◌%◌, ◌^◌, ◌<◌, All, fold, length, sum_by, IfOk};
 ghost use Rattle.std.specs.List.{slice_index};
-ghost use Rattle.parallel_fault.specs.declared.fault.Fault.TheVariants.{Memory};
+ghost use Rattle.parallel_fault.specs.Trouble.{IsMemoryOnErr};
 ghost use Rattle.parallel_bridge.specs.Folds.{IsPlainFold};
 ghost use Rattle.parallel_bridge.specs.Sources.{GivesSome};
 
@@ -21,7 +21,7 @@ pub fn sum_of_squares<Rt: Threads + Wait + Sync, P: Place, S: Strategy>(
     numbers: &[u32],
 ) -> Result<u32, Fault>
     ensures sum { IfOk result (λ sum. sum ≡ sum_by (λ x. x * x) numbers.now % 2 ^ 32) }
-    ensures fault { IfErr result (λ fault. fault ≡ Memory) }
+    ensures fault { IsMemoryOnErr result }
 {
     strategy.fold(
         rt,
@@ -48,7 +48,7 @@ pub fn sum_of_entries<Rt: Threads + Wait + Sync, P: Place, S: Strategy>(
     requires inside { All (λ place. place < length table.now) places.now }
     ensures sum { IfOk result (λ sum.
         sum ≡ sum_by (λ place. slice_index table.now place) places.now % 2 ^ 64) }
-    ensures fault { IfErr result (λ fault. fault ≡ Memory) }
+    ensures fault { IsMemoryOnErr result }
 {
     let step = |sum: u64, place: usize| -> u64
         requires { place < length table.now }
@@ -92,9 +92,9 @@ pub fn plain_fold<
     requires fold_accepts { F.IsAlwaysCallable fold_op }
     requires reduce_accepts { G.IsAlwaysCallable reduce_op }
     ensures plain { IfOk result (λ r. GivesSome I.gives source
-        (λ xs. IsPlainFold (ID.post identity) (λ a x b. F.post fold_op a x b)
-        (λ a b c. G.post reduce_op a b c) xs r)) }
-    ensures fault { IfErr result (λ fault. fault ≡ Memory) }
+        (λ xs. IsPlainFold (ID.post identity) (F.post fold_op)
+        (G.post reduce_op) xs r)) }
+    ensures fault { IsMemoryOnErr result }
 {
     fold_law(&identity, &fold_op, &reduce_op);
     strategy.fold(rt, alloc, site, source, identity, fold_op, reduce_op)

@@ -1,14 +1,16 @@
 // A strategy of a user's own, and what calls through it are known to answer.
-ghost use Rattle.std.specs.Prelude.{◌≡◌, ◌*◌, ◌<◌, ◌≤◌, List, false, true, length, map, IfOk, IfErr};
+ghost use Rattle.std.specs.Prelude.{◌≡◌, ◌*◌, ◌<◌, ◌≤◌, false, true, length, map, IfOk};
 ghost use Rattle.std.specs.Int.NonZero.{non_zero_usize_get};
-ghost use Rattle.parallel_fault.specs.declared.fault.Fault.TheVariants.{Memory};
+ghost use Rattle.parallel_fault.specs.Trouble.{IsMemoryOnErr};
 ghost use Rattle.parallel_bridge.specs.Lists.{FoldSegment};
-ghost use Rattle.parallel_bridge.specs.Shapes.{Along, Shape, cutdepth};
+ghost use Rattle.parallel_bridge.specs.Shapes.{Along};
 ghost use Rattle.parallel_bridge.specs.Sources.{GivesSome};
-ghost use Rattle.uses.specs.LongLists.{from_of, thread_number_of};
+ghost use Rattle.uses.specs.LongLists.{from_of, shape_of};
 
 use crate::squares::squares;
-use commonware_parallel::{Call, Fault, Pick, Place, Source, Strategy, Trouble, Unmeasured};
+use commonware_parallel::{
+    Call, Chooser, Fault, Pick, Place, Source, Strategy, Trouble, Unmeasured,
+};
 use std::alloc::Global;
 use std::num::NonZeroUsize;
 use std::sync::Wait;
@@ -54,7 +56,7 @@ impl LongLists {
     }
 }
 
-impl Strategy for LongLists {
+impl Chooser for LongLists {
     ghost use Rattle.uses.specs.LongLists.{from_of, thread_number_of, TakesByLength};
 
     // The pick goes by the number of items alone, wherever the call stands.
@@ -129,7 +131,7 @@ pub fn squares_by_length<Rt: Threads + Wait + Sync, P: Place>(
     numbers: &[u32],
 ) -> Result<Vec<u64>, Fault>
     ensures squares { IfOk result (λ answers. answers.items ≡ map (λ x. x * x) numbers.now) }
-    ensures fault { IfErr result (λ fault. fault ≡ Memory) }
+    ensures fault { IsMemoryOnErr result }
 {
     squares(rt, alloc, strategy, site, numbers)
 }
@@ -162,12 +164,12 @@ pub fn fold_by_length<
     requires reduce_accepts { G.IsAlwaysCallable reduce_op }
     ensures short { IfOk result (λ r. GivesSome I.gives source
         (λ xs. length xs < from_of strategy.now
-        → FoldSegment (ID.post identity) (λ a x b. F.post fold_op a x b) xs r)) }
+        → FoldSegment (ID.post identity) (F.post fold_op) xs r)) }
     ensures long { IfOk result (λ r. GivesSome I.gives source
         (λ xs. from_of strategy.now ≤ length xs
-        → Along (ID.post identity) (λ a x b. F.post fold_op a x b) (λ a b c. G.post reduce_op a b c)
-        (Shape (cutdepth (thread_number_of strategy.now)) xs) r)) }
-    ensures fault { IfErr result (λ fault. fault ≡ Memory) }
+        → Along (ID.post identity) (F.post fold_op) (G.post reduce_op)
+        (shape_of strategy.now xs) r)) }
+    ensures fault { IsMemoryOnErr result }
 {
     strategy.fold(rt, alloc, site, source, identity, fold_op, reduce_op)
 }

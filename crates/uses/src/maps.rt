@@ -1,8 +1,8 @@
 // Further maps: over borrowed items, over indices, by a closure that looks into a table or asks
 // something of its item, and over an iterator.
-ghost use Rattle.std.specs.Prelude.{◌≡◌, ◌*◌, ◌-◌, ◌%◌, ◌^◌, ◌<◌, ◌++◌, map, length, All, IfOk, IfErr};
+ghost use Rattle.std.specs.Prelude.{◌≡◌, ◌*◌, ◌-◌, ◌%◌, ◌^◌, ◌<◌, ◌++◌, map, length, All, IfOk};
 ghost use Rattle.std.specs.List.{range_with_len, slice_index};
-ghost use Rattle.parallel_fault.specs.declared.fault.Fault.TheVariants.{Memory};
+ghost use Rattle.parallel_fault.specs.Trouble.{IsMemoryOnErr};
 
 use commonware_parallel::{Copies, Fault, Indices, Place, Strategy};
 use std::alloc::Global;
@@ -18,7 +18,7 @@ pub fn borrowed_squares<Rt: Threads + Wait + Sync, P: Place, S: Strategy>(
     numbers: &[u32],
 ) -> Result<Vec<u64>, Fault>
     ensures squares { IfOk result (λ answers. answers.items ≡ map (λ x. x * x) numbers.now) }
-    ensures fault { IfErr result (λ fault. fault ≡ Memory) }
+    ensures fault { IsMemoryOnErr result }
 {
     strategy.map_collect_vec(rt, alloc, site, numbers, |number: &u32| {
         u64::from(*number) * u64::from(*number)
@@ -36,7 +36,7 @@ pub fn first_squares<Rt: Threads + Wait + Sync, P: Place, S: Strategy>(
 ) -> Result<Vec<usize>, Fault>
     ensures squares { IfOk result (λ answers.
         answers.items ≡ map (λ x. (x * x) % 2 ^ 64) (range_with_len 0 (count - 0))) }
-    ensures fault { IfErr result (λ fault. fault ≡ Memory) }
+    ensures fault { IsMemoryOnErr result }
 {
     let indices = Indices {
         start: 0,
@@ -62,7 +62,7 @@ pub fn last_entries<Rt: Threads + Wait + Sync, P: Place, S: Strategy>(
     ensures entries { IfOk result (λ answers. answers.items
         ≡ map (λ i. slice_index table.now (length table.now - 1 - i))
         (range_with_len 0 (count - 0))) }
-    ensures fault { IfErr result (λ fault. fault ≡ Memory) }
+    ensures fault { IsMemoryOnErr result }
 {
     let indices = Indices {
         start: 0,
@@ -87,7 +87,7 @@ pub fn squares_of_both<Rt: Threads + Wait + Sync, P: Place, S: Strategy>(
 ) -> Result<Vec<u64>, Fault>
     ensures squares { IfOk result (λ answers.
         answers.items ≡ map (λ x. x * x) (front.now ++ back.now)) }
-    ensures fault { IfErr result (λ fault. fault ≡ Memory) }
+    ensures fault { IsMemoryOnErr result }
 {
     let numbers = front.iter().copied().chain(back.iter().copied());
     strategy.map_collect_vec(rt, alloc, site, numbers, |number| {
@@ -106,7 +106,7 @@ pub fn doubles<Rt: Threads + Wait + Sync, P: Place, S: Strategy>(
 ) -> Result<Vec<u32>, Fault>
     requires small { All (λ x. x < 2 ^ 31) numbers.now }
     ensures doubles { IfOk result (λ answers. answers.items ≡ map (λ x. 2 * x) numbers.now) }
-    ensures fault { IfErr result (λ fault. fault ≡ Memory) }
+    ensures fault { IsMemoryOnErr result }
 {
     let double = |number: u32| -> u32
         requires { number < 2 ^ 31 }

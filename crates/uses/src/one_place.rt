@@ -1,6 +1,6 @@
 // Several calls of one place: what they have in common is written once.
-ghost use Rattle.std.specs.Prelude.{◌≡◌, ◌*◌, map, IfOk, IfErr};
-ghost use Rattle.parallel_fault.specs.declared.fault.Fault.TheVariants.{Memory};
+ghost use Rattle.std.specs.Prelude.{◌≡◌, ◌*◌, map, IfOk};
+ghost use Rattle.parallel_fault.specs.Trouble.{IsMemoryOnErr};
 
 use commonware_parallel::{Copies, Fault, On, Place, Strategy};
 use std::alloc::Global;
@@ -16,7 +16,7 @@ pub fn squares_and_sum<Rt: Threads + Wait + Sync, P: Place, S: Strategy>(
     numbers: &[u32],
 ) -> Result<(Vec<u64>, u64), Fault>
     ensures squares { IfOk result (λ both. both.0.items ≡ map (λ x. x * x) numbers.now) }
-    ensures fault { IfErr result (λ fault. fault ≡ Memory) }
+    ensures fault { IsMemoryOnErr result }
 {
     let on = On {
         rt,

@@ -1,8 +1,8 @@
 // Lists of a user's own: a producer, which is a list that can be cut, and a source, which is made
 // into one where a call goes parallel.
-ghost use Rattle.std.specs.Prelude.{◌≡◌, ◌*◌, ◌++◌, ◌⊎◌, length, map, reverse, IfOk, IfErr};
+ghost use Rattle.std.specs.Prelude.{◌≡◌, ◌*◌, ◌++◌, length, map, reverse, IfOk, ⊤};
 ghost use Rattle.std.specs.List.{Contains};
-ghost use Rattle.parallel_fault.specs.declared.fault.Fault.TheVariants.{Memory};
+ghost use Rattle.parallel_fault.specs.Trouble.{IsMemoryOnErr};
 
 use commonware_parallel::bridge::DrainProducer;
 use commonware_parallel::{Fault, Place, Producer, Source, Strategy};
@@ -72,7 +72,7 @@ impl<'a, T: Copy + Send + Sync + Drop> Source<ByWrapping> for Wrapped<'a, T> {
 
     type Iter = Chain<Copied<Iter<'a, T>>, Copied<Iter<'a, T>>>;
 
-    ghost can = { λ _. Unit {0} };
+    ghost can = { λ _. ⊤ };
 
     ghost gives = { λ s xs. xs ≡ s.front.now ++ s.back.now };
 
@@ -100,7 +100,7 @@ pub fn squares_backwards<Rt: Threads + Wait + Sync, P: Place, S: Strategy>(
 ) -> Result<Vec<u64>, Fault>
     ensures squares { IfOk result
         (λ answers. answers.items ≡ map (λ x. x * x) (reverse numbers.now)) }
-    ensures fault { IfErr result (λ fault. fault ≡ Memory) }
+    ensures fault { IsMemoryOnErr result }
 {
     strategy.map_collect_vec(rt, alloc, site, Backwards { slice: numbers }, |number| {
         u64::from(number) * u64::from(number)
@@ -118,7 +118,7 @@ pub fn squares_of_wrapped<Rt: Threads + Wait + Sync, P: Place, S: Strategy>(
 ) -> Result<Vec<u64>, Fault>
     ensures squares { IfOk result
         (λ answers. answers.items ≡ map (λ x. x * x) (front.now ++ back.now)) }
-    ensures fault { IfErr result (λ fault. fault ≡ Memory) }
+    ensures fault { IsMemoryOnErr result }
 {
     strategy.map_collect_vec(rt, alloc, site, Wrapped { front, back }, |number| {
         u64::from(number) * u64::from(number)

@@ -1,6 +1,6 @@
 // The shortest caller: a map over a list, through whichever strategy the program runs.
-ghost use Rattle.std.specs.Prelude.{◌≡◌, ◌*◌, map, IfOk, IfErr};
-ghost use Rattle.parallel_fault.specs.declared.fault.Fault.TheVariants.{Memory};
+ghost use Rattle.std.specs.Prelude.{◌≡◌, ◌*◌, map, IfOk};
+ghost use Rattle.parallel_fault.specs.Trouble.{IsMemoryOnErr};
 
 use commonware_parallel::{Copies, Fault, Place, Strategy};
 use std::alloc::Global;
@@ -16,7 +16,7 @@ pub fn squares<Rt: Threads + Wait + Sync, P: Place, S: Strategy>(
     numbers: &[u32],
 ) -> Result<Vec<u64>, Fault>
     ensures squares { IfOk result (λ answers. answers.items ≡ map (λ x. x * x) numbers.now) }
-    ensures fault { IfErr result (λ fault. fault ≡ Memory) }
+    ensures fault { IsMemoryOnErr result }
 {
     strategy.map_collect_vec(rt, alloc, site, Copies { slice: numbers }, |number| {
         u64::from(number) * u64::from(number)

@@ -1,8 +1,8 @@
 // Maps and folds with a state at hand, and sorts.
-ghost use Rattle.std.specs.Prelude.{◌≡◌, ℕ, ◌⊎◌, List, Some, None, IfOk, IfErr};
+ghost use Rattle.std.specs.Prelude.{◌≡◌, ℕ, ◌⊎◌, Some, None, IfOk};
 ghost use Rattle.std.specs.List.Sorted.{IsNonDecreasingBy, IsPermutation, IsStableByKey};
 ghost use Rattle.std.specs.Ordering.{nat_cmp};
-ghost use Rattle.parallel_fault.specs.declared.fault.Fault.TheVariants.{Memory};
+ghost use Rattle.parallel_fault.specs.Trouble.{IsMemoryOnErr};
 ghost use Rattle.parallel_bridge.specs.Folds.{IsPlainFold};
 ghost use Rattle.parallel_bridge.specs.Sources.{GivesSome};
 ghost use Rattle.parallel_bridge.specs.States.{AnyState, FoldStep};
@@ -26,7 +26,7 @@ pub fn leave_out_repeats<Rt: Threads + Wait + Sync, P: Place, S: Strategy>(
     numbers: &[u32],
 ) -> Result<Vec<Option<u32>>, Fault>
     ensures told { IfOk result (λ entries. (last : ℕ) → filled last entries.items ≡ numbers.now) }
-    ensures fault { IfErr result (λ fault. fault ≡ Memory) }
+    ensures fault { IsMemoryOnErr result }
 {
     let entry = |last: &mut Option<u32>, number: u32| -> Option<u32>
         ensures { (last.new ≡ Some number)
@@ -75,9 +75,9 @@ pub fn plain_fold_init<
     requires reduce_accepts { G.IsAlwaysCallable reduce_op }
     ensures plain { IfOk result (λ r. GivesSome I.gives source
         (λ xs. IsPlainFold (ID.post identity)
-        (AnyState (FoldStep (λ a p x b q. F.post fold_op a p x b q)))
-        (λ a b c. G.post reduce_op a b c) xs r)) }
-    ensures fault { IfErr result (λ fault. fault ≡ Memory) }
+        (AnyState (FoldStep (F.post fold_op)))
+        (G.post reduce_op) xs r)) }
+    ensures fault { IsMemoryOnErr result }
 {
     fold_init_law(&init, &identity, &fold_op, &reduce_op);
     strategy.fold_init(rt, alloc, site, source, init, identity, fold_op, reduce_op)
@@ -98,7 +98,7 @@ pub fn sort_by_first<Rt: Threads + Wait + Sync, P: Place, S: Strategy>(
     ensures permutation { IsPermutation pairs.old pairs.new }
     ensures sorted { IfOk result (λ _. IsNonDecreasingBy (λ pair. pair.0) pairs.new) }
     ensures stable { IfOk result (λ _. IsStableByKey (λ pair. pair.0) nat_cmp pairs.old pairs.new) }
-    ensures fault { IfErr result (λ fault. fault ≡ Memory) }
+    ensures fault { IsMemoryOnErr result }
 {
     let answer = strategy.sort_by(
         rt,

@@ -1,9 +1,8 @@
 // Checks of many items: the first bad index, the good and the bad, a sum that stops at a limit.
 ghost use Rattle.std.specs.Prelude.{◌≡◌, ℕ, ◌≤◌, ◌<◌, ◌%◌, ◌^◌, ◌+◌, Bool, true, false, All, not, length, sum, Result, IfOk, IfErr, ⊤};
 ghost use Rattle.std.specs.List.{filter, zip};
-ghost use Rattle.parallel_fault.specs.declared.fault.Fault.TheVariants.{Memory};
-ghost use Rattle.parallel_fault.specs.Trouble.{IfClosure, IfFault};
-ghost use Rattle.uses.specs.Verdicts.{AddsWithin, HasItsTag, IsFirstFailing, IsFirstForged, IsFirstOver, IsSortedOut, Judges, JudgesTag};
+ghost use Rattle.parallel_fault.specs.Trouble.{IfClosure, IsMemoryOnErr, IsMemoryOnFault};
+ghost use Rattle.uses.specs.Verdicts.{AddsWithin, GoesByTest, HasItsTag, IsFirstFailing, IsFirstForged, IsFirstOver, IsSortedOut, Judges, JudgesTag};
 
 use crate::merkle::Digest;
 use commonware_parallel::{Copies, Enumerated, Fault, Indices, Place, Strategy, Trouble, Zipped};
@@ -36,7 +35,7 @@ pub fn verify_all<
     ensures each { IfOk result (λ _. All (λ x. F.post check x true) items.now) }
     ensures first { IfErr result
         (λ trouble. IfClosure trouble (IsFirstFailing (F.post check) items.now)) }
-    ensures fault { IfErr result (λ trouble. IfFault trouble (λ fault. fault ≡ Memory)) }
+    ensures fault { IsMemoryOnFault result }
 {
     let verdict = |index: usize| -> Result<(), usize>
         requires { F.IsAlwaysCallable check × (index < length items.now) }
@@ -77,7 +76,7 @@ fn judge_all<
     ensures each { IfOk result (λ _. All (λ x. C.post check.now x true) items.now) }
     ensures first { IfErr result
         (λ trouble. IfClosure trouble (IsFirstFailing (C.post check.now) items.now)) }
-    ensures fault { IfErr result (λ trouble. IfFault trouble (λ fault. fault ≡ Memory)) }
+    ensures fault { IsMemoryOnFault result }
 {
     let _ = check;
     let indices = Indices {
@@ -106,7 +105,7 @@ pub fn verify_tags<Rt: Threads + Wait + Sync, P: Place, S: Strategy>(
     ensures each { IfOk result (λ _. All HasItsTag (zip messages.now tags.now)) }
     ensures first { IfErr result
         (λ trouble. IfClosure trouble (IsFirstForged (zip messages.now tags.now))) }
-    ensures fault { IfErr result (λ trouble. IfFault trouble (λ fault. fault ≡ Memory)) }
+    ensures fault { IsMemoryOnFault result }
 {
     let pairs = Zipped {
         left: Copies { slice: messages },
@@ -150,10 +149,9 @@ pub fn split_by_check<
     ensures number { IfOk result
         (λ parts. length parts.0.items + length parts.1.items ≡ length items.now) }
     ensures ordered { IfOk result (λ parts. (passes : T → Bool)
-        → ((x : T) (verdict : Bool) → F.post check x verdict → verdict ≡ passes x)
-        → (parts.0.items ≡ filter passes items.now)
+        → GoesByTest (F.post check) passes → (parts.0.items ≡ filter passes items.now)
         × (parts.1.items ≡ filter (λ x. not (passes x)) items.now)) }
-    ensures fault { IfErr result (λ fault. fault ≡ Memory) }
+    ensures fault { IsMemoryOnErr result }
 {
     let sorted_out = |item: T| -> (T, Option<T>)
         requires { F.IsAlwaysCallable check }
@@ -185,7 +183,7 @@ pub fn sum_within<Rt: Threads + Wait + Sync, P: Place, S: Strategy>(
     ensures within { IfOk result (λ _. All (λ x. x ≤ limit) numbers.now) }
     ensures sum { IfOk result (λ total. total ≡ sum numbers.now % 2 ^ 64) }
     ensures first { IfErr result (λ trouble. IfClosure trouble (IsFirstOver limit numbers.now)) }
-    ensures fault { IfErr result (λ trouble. IfFault trouble (λ fault. fault ≡ Memory)) }
+    ensures fault { IsMemoryOnFault result }
 {
     let step = |total: u64, number: u64| -> Result<u64, u64>
         ensures { AddsWithin limit total number result }
@@ -220,7 +218,7 @@ fn add_all<
     ensures within { IfOk result (λ _. All (λ x. x ≤ limit) numbers.now) }
     ensures sum { IfOk result (λ total. total ≡ sum numbers.now % 2 ^ 64) }
     ensures first { IfErr result (λ trouble. IfClosure trouble (IsFirstOver limit numbers.now)) }
-    ensures fault { IfErr result (λ trouble. IfFault trouble (λ fault. fault ≡ Memory)) }
+    ensures fault { IsMemoryOnFault result }
 {
     let _ = limit;
     strategy.try_fold(

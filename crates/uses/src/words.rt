@@ -1,6 +1,6 @@
 // The longest word of a list, by a fold whose closures keep the laws that `FoldLaws` names.
-ghost use Rattle.std.specs.Prelude.{◌≡◌, [], MatchOption, IfOk, IfErr};
-ghost use Rattle.parallel_fault.specs.declared.fault.Fault.TheVariants.{Memory};
+ghost use Rattle.std.specs.Prelude.{◌≡◌, [], MatchOption, IfOk};
+ghost use Rattle.parallel_fault.specs.Trouble.{IsMemoryOnErr};
 ghost use Rattle.uses.specs.Words.{IsFirstLongest, longer_of};
 
 use commonware_parallel::{Copies, Fault, Place, Strategy};
@@ -18,7 +18,7 @@ pub fn longest_word<'a, Rt: Threads + Wait + Sync, P: Place, S: Strategy>(
 ) -> Result<Option<&'a str>, Fault>
     ensures longest { IfOk result
         (λ longest. MatchOption longest (words.now ≡ []) (IsFirstLongest words.now)) }
-    ensures fault { IfErr result (λ fault. fault ≡ Memory) }
+    ensures fault { IsMemoryOnErr result }
 {
     strategy.fold(
         rt,

@@ -1,5 +1,5 @@
 // What the batch calls of a strategy stand on.
-ghost use Rattle.std.specs.Prelude.{◌≡◌, ◌/◌, ◌<◌, ◌≤◌, ℕ, IfOk, false, max};
+ghost use Rattle.std.specs.Prelude.{◌≡◌, ◌/◌, ◌<◌, ◌≤◌, ℕ, IfOk, false, max, ⊤};
 ghost use Rattle.std.specs.Int.NonZero.{non_zero_usize_get};
 ghost use Rattle.parallel_bridge.specs.Outcomes.{UnlessRefused};
 ghost use Rattle.parallel_fault.specs.Trouble.{IsMemoryOnErr};
@@ -7,7 +7,7 @@ ghost use Rattle.parallel_fault.specs.declared.fault.Fault.{Fault};
 ghost use Rattle.parallel_fault.specs.declared.fault.Fault.TheVariants.{Memory};
 ghost use Rattle.parallel_fault.specs.declared.fault.Trouble.TheVariants.{Fault as OfFault};
 ghost use Rattle.commonware_parallel.specs.Answers.{UnlessFault};
-ghost use Rattle.commonware_parallel.specs.Batches.{IsBatch, OnSomeBatch, place_of, ranges_of, strategy_of};
+ghost use Rattle.commonware_parallel.specs.Batches.{IsBatch, OnBatch, OnSomeBatch, ranges_of};
 ghost use Rattle.commonware_parallel.specs.declared.batches.Batches.{Batches};
 ghost use Rattle.commonware_parallel.specs.Calls.{goes_by_path};
 ghost use Rattle.commonware_parallel.specs.declared.call.Pick.TheVariants.{Into};
@@ -42,8 +42,7 @@ pub(crate) fn batches_through<
     requires accepts { (batches : Batches S P) (count : ℕ)
         → IsBatch len count (non_zero_usize_get minimum) (ranges_of batches) → F.pre run batches }
     ensures answers { IfOk result (λ answer. OnSomeBatch S.takes S.refuses S.plans S.threads
-        S.starts
-        strategy.now (P.site_of site) site len (non_zero_usize_get minimum) multiplier
+        S.starts P.site_of strategy.now site len minimum multiplier
         (λ batches. F.post run batches answer)) }
     ensures fault { IsMemoryOnErr result }
 {
@@ -54,10 +53,8 @@ pub(crate) fn batches_through<
             → IsBatch len count (non_zero_usize_get minimum) (ranges_of batches)
             → F.pre run batches) × (0 < parts)
             × (parts ≤ max 1 (len / non_zero_usize_get minimum)) }
-        ensures answers { IfOk result (λ answer. (batches : Batches S P)
-            × IsBatch len parts (non_zero_usize_get minimum) (ranges_of batches)
-            × (strategy_of batches ≡ inner) × (place_of batches ≡ site)
-            × F.post run batches answer) }
+        ensures answers { IfOk result (λ answer. OnBatch inner site len parts
+            (non_zero_usize_get minimum) (λ batches. F.post run batches answer)) }
         ensures fault { IsMemoryOnErr result }
     {
         let batches = Batches::in_parts(alloc, &inner, site, len, parts, minimum)?;
@@ -92,7 +89,7 @@ pub(crate) fn try_batches_through<
     requires accepts { (batches : Batches S P) (count : ℕ)
         → IsBatch len count (non_zero_usize_get minimum) (ranges_of batches) → F.pre run batches }
     ensures { UnlessRefused result (λ out. OnSomeBatch S.takes S.refuses S.plans S.threads S.starts
-        strategy.now (P.site_of site) site len (non_zero_usize_get minimum) multiplier
+        P.site_of strategy.now site len minimum multiplier
         (λ batches. F.post run batches out)) }
 {
     let inner = strategy.inner()?;
@@ -102,9 +99,8 @@ pub(crate) fn try_batches_through<
             → IsBatch len count (non_zero_usize_get minimum) (ranges_of batches)
             → F.pre run batches) × (0 < parts)
             × (parts ≤ max 1 (len / non_zero_usize_get minimum)) }
-        ensures { UnlessRefused result (λ out. (batches : Batches S P)
-            × IsBatch len parts (non_zero_usize_get minimum) (ranges_of batches)
-            × (strategy_of batches ≡ inner) × (place_of batches ≡ site) × F.post run batches out) }
+        ensures { UnlessRefused result (λ out. OnBatch inner site len parts
+            (non_zero_usize_get minimum) (λ batches. F.post run batches out)) }
     { run_in_parts(&inner, alloc, site, len, minimum, parts, run) };
     dispatch_settled(strategy, rt, alloc, site, call, body)
 }
@@ -123,10 +119,8 @@ fn run_in_parts<S: Strategy, P: Place, R, E, F: FnOnce(Batches<'_, S, P>) -> Res
         → IsBatch len count (non_zero_usize_get minimum) (ranges_of batches) → F.pre run batches }
     requires some { 0 < parts }
     requires fit { parts ≤ max 1 (len / non_zero_usize_get minimum) }
-    ensures { UnlessRefused result (λ out. (batches : Batches S P)
-        × IsBatch len parts (non_zero_usize_get minimum) (ranges_of batches)
-        × (strategy_of batches ≡ strategy.now) × (place_of batches ≡ site)
-        × F.post run batches out) }
+    ensures { UnlessRefused result (λ out. OnBatch strategy.now site len parts
+        (non_zero_usize_get minimum) (λ batches. F.post run batches out)) }
 {
     let batches = Batches::in_parts(alloc, strategy, site, len, parts, minimum)?;
     match run(batches) {
@@ -153,7 +147,7 @@ fn dispatch_settled<
         → fault ≡ Memory }
     ensures answers { UnlessFault result ((parts : ℕ) × ((0 < parts) × (parts ≤ call.parts)
         × S.takes strategy.now (P.site_of site) call (Into parts)) × B.post body parts result) }
-    ensures fault { UnlessRefused result (λ _. Unit {0}) }
+    ensures fault { UnlessRefused result (λ _. ⊤) }
 {
     match dispatch_parts(strategy, rt, alloc, site, call, body) {
         Ok(answer) => Ok(answer),

@@ -1,16 +1,14 @@
 // The folds that a strategy's list calls stand on, generic in the parts as `list` says.
 ghost use Rattle.std.specs.Prelude.{◌≡◌, ◌<◌, All, IfOk};
 ghost use Rattle.std.specs.Borrow.{MutBor};
-ghost use Rattle.std.specs.Int.NonZero.{non_zero_usize_get};
 ghost use Rattle.std.specs.Iterator.{Drains, HoldsAlong, IsFinite};
 ghost use Rattle.parallel_bridge.specs.Outcomes.{UnlessRefused};
-ghost use Rattle.parallel_bridge.specs.Shapes.{cutdepth};
 ghost use Rattle.parallel_bridge.specs.Sources.{GivesSome};
 ghost use Rattle.parallel_bridge.specs.States.{FoldStep};
 ghost use Rattle.parallel_bridge.specs.Tries.{TryFoldSegment};
 ghost use Rattle.parallel_bridge.specs.Ways.{FoldedAs, FoldedInitAs, TryFoldedAs};
 ghost use Rattle.parallel_fault.specs.Trouble.{IsMemoryOnErr};
-ghost use Rattle.commonware_parallel.specs.Calls.{AtSomePath};
+ghost use Rattle.commonware_parallel.specs.ListCalls.{GoesBy, GoesOver};
 ghost use Rattle.commonware_parallel.specs.declared.call.Kind.TheVariants.{Body};
 
 use crate::call::Call;
@@ -54,10 +52,9 @@ pub fn fold_through<
     requires fold_accepts { (x : Q.Item) → Q.may parts x
         → (value : R) → F.pre fold_op.now value x }
     requires reduce_accepts { G.IsAlwaysCallable reduce_op.now }
-    ensures answers { IfOk result (λ r. GivesSome Q.gives parts
-        (λ xs. AtSomePath (S.takes strategy.now (P.site_of site) call)
-        (λ path. FoldedAs (ID.post identity.now) (λ a x b. F.post fold_op.now a x b)
-        (λ a b c. G.post reduce_op.now a b c) (cutdepth (S.threads strategy.now)) path xs r))) }
+    ensures answers { IfOk result
+        (GoesBy Q.gives parts S.takes S.threads strategy.now (P.site_of site) call
+        (FoldedAs (ID.post identity.now) (F.post fold_op.now) (G.post reduce_op.now))) }
     ensures fault { IsMemoryOnErr result }
 {
     let threads = strategy.thread_number();
@@ -65,10 +62,9 @@ pub fn fold_through<
         requires { ID.IsAlwaysCallable identity.now
             × ((x : Q.Item) → Q.may parts x → (value : R) → F.pre fold_op.now value x)
             × G.IsAlwaysCallable reduce_op.now }
-        ensures folds { IfOk result (λ r. GivesSome Q.gives parts (λ xs. FoldedAs
-            (ID.post identity.entry.now) (λ a x b. F.post fold_op.entry.now a x b)
-            (λ a b c. G.post reduce_op.entry.now a b c)
-            (cutdepth (non_zero_usize_get threads)) path xs r)) }
+        ensures folds { IfOk result (GoesOver Q.gives parts threads path
+            (FoldedAs (ID.post identity.entry.now) (F.post fold_op.entry.now)
+            (G.post reduce_op.entry.now))) }
         ensures fault { IsMemoryOnErr result }
     {
         fold_by(
@@ -110,11 +106,10 @@ pub fn fold_init_through<
     requires fold_accepts { (x : Q.Item) → Q.may parts x
         → (value : R) (state : MutBor V) → F.pre fold_op.now value state x }
     requires reduce_accepts { G.IsAlwaysCallable reduce_op.now }
-    ensures answers { IfOk result (λ r. GivesSome Q.gives parts
-        (λ xs. AtSomePath (S.takes strategy.now (P.site_of site) call)
-        (λ path. FoldedInitAs (N.post init.now) (ID.post identity.now)
-        (FoldStep (λ a p x b q. F.post fold_op.now a p x b q))
-        (λ a b c. G.post reduce_op.now a b c) (cutdepth (S.threads strategy.now)) path xs r))) }
+    ensures answers { IfOk result
+        (GoesBy Q.gives parts S.takes S.threads strategy.now (P.site_of site) call
+        (FoldedInitAs (N.post init.now) (ID.post identity.now) (FoldStep (F.post fold_op.now))
+        (G.post reduce_op.now))) }
     ensures fault { IsMemoryOnErr result }
 {
     let threads = strategy.thread_number();
@@ -123,11 +118,9 @@ pub fn fold_init_through<
             × ((x : Q.Item) → Q.may parts x
             → (value : R) (state : MutBor V) → F.pre fold_op.now value state x)
             × G.IsAlwaysCallable reduce_op.now }
-        ensures folds { IfOk result (λ r. GivesSome Q.gives parts (λ xs. FoldedInitAs
-            (N.post init.entry.now) (ID.post identity.entry.now)
-            (FoldStep (λ a p x b q. F.post fold_op.entry.now a p x b q))
-            (λ a b c. G.post reduce_op.entry.now a b c)
-            (cutdepth (non_zero_usize_get threads)) path xs r)) }
+        ensures folds { IfOk result (GoesOver Q.gives parts threads path
+            (FoldedInitAs (N.post init.entry.now) (ID.post identity.entry.now)
+            (FoldStep (F.post fold_op.entry.now)) (G.post reduce_op.entry.now))) }
         ensures fault { IsMemoryOnErr result }
     {
         fold_init_by(
@@ -166,21 +159,18 @@ pub fn try_fold_through<
     requires fold_accepts { (x : Q.Item) → Q.may parts x
         → (value : R) → F.pre fold_op.now value x }
     requires reduce_accepts { G.IsAlwaysCallable reduce_op.now }
-    ensures answers { UnlessRefused result (λ out. GivesSome Q.gives parts
-        (λ xs. AtSomePath (S.takes strategy.now (P.site_of site) call)
-        (λ path. TryFoldedAs (ID.post identity.now) (λ a x o. F.post fold_op.now a x o)
-        (λ a b c. G.post reduce_op.now a b c) (cutdepth (S.threads strategy.now))
-        path xs out))) }
+    ensures answers { UnlessRefused result
+        (GoesBy Q.gives parts S.takes S.threads strategy.now (P.site_of site) call
+        (TryFoldedAs (ID.post identity.now) (F.post fold_op.now) (G.post reduce_op.now))) }
 {
     let threads = strategy.thread_number();
     let body = move |path: Path| -> Result<R, Trouble<E>>
         requires { ID.IsAlwaysCallable identity.now
             × ((x : Q.Item) → Q.may parts x → (value : R) → F.pre fold_op.now value x)
             × G.IsAlwaysCallable reduce_op.now }
-        ensures { UnlessRefused result (λ out. GivesSome Q.gives parts (λ xs. TryFoldedAs
-            (ID.post identity.entry.now) (λ a x o. F.post fold_op.entry.now a x o)
-            (λ a b c. G.post reduce_op.entry.now a b c)
-            (cutdepth (non_zero_usize_get threads)) path xs out)) }
+        ensures { UnlessRefused result (GoesOver Q.gives parts threads path
+            (TryFoldedAs (ID.post identity.entry.now) (F.post fold_op.entry.now)
+            (G.post reduce_op.entry.now))) }
     {
         try_fold_here(
             rt, alloc, threads, path, parts, identity, fold_op, reduce_op,
@@ -205,7 +195,7 @@ where
     requires fold_accepts { HoldsAlong I.next_gives iter
         (All (λ x. (value : R) → F.pre fold_op.now value x)) }
     ensures { UnlessRefused result (λ out. GivesSome (Drains I.next_gives) iter
-        (λ xs. TryFoldSegment (ID.post identity.now) (λ a x o. F.post fold_op.now a x o) xs out)) }
+        (λ xs. TryFoldSegment (ID.post identity.now) (F.post fold_op.now) xs out)) }
 {
     match try_fold_iter(iter, identity, fold_op) {
         Ok(value) => Ok(value),
@@ -236,10 +226,8 @@ fn try_fold_here<
     requires fold_accepts { (x : P.Item) → P.may parts x
         → (value : R) → F.pre fold_op.now value x }
     requires reduce_accepts { G.IsAlwaysCallable reduce_op.now }
-    ensures folds { UnlessRefused result (λ out. GivesSome P.gives parts
-        (λ xs. TryFoldedAs (ID.post identity.now) (λ a x out. F.post fold_op.now a x out)
-        (λ a b c. G.post reduce_op.now a b c)
-        (cutdepth (non_zero_usize_get threads)) path xs out)) }
+    ensures folds { UnlessRefused result (GoesOver P.gives parts threads path
+        (TryFoldedAs (ID.post identity.now) (F.post fold_op.now) (G.post reduce_op.now))) }
 {
     try_fold_by(
         rt, alloc, threads, path, parts, identity, fold_op, reduce_op,

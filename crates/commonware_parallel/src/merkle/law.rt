@@ -5,10 +5,10 @@ ghost use Rattle.commonware_parallel.specs.Merkle.{IsDetermined, MerkleRoot};
 /// The law of roots: where `combine` has one answer at most for each two nodes, the leaves have one
 /// root at most. It does nothing.
 pub fn root_law<T, F: Fn(T, T) -> T>(combine: &F)
-    ensures { IsDetermined (λ a b c. F.post combine.now a b c)
+    ensures { IsDetermined (F.post combine.now)
         → (leaves : List T) (one other : Option T)
-        → MerkleRoot (λ a b c. F.post combine.now a b c) leaves one
-        → MerkleRoot (λ a b c. F.post combine.now a b c) leaves other → one ≡ other }
+        → MerkleRoot (F.post combine.now) leaves one
+        → MerkleRoot (F.post combine.now) leaves other → one ≡ other }
 {
     let _ = combine;
 }

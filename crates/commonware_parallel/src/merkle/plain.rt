@@ -1,5 +1,5 @@
 // The root of a tree on the caller's thread, by plain loops.
-ghost use Rattle.std.specs.Prelude.{◌<◌, IfOk, length};
+ghost use Rattle.std.specs.Prelude.{◌<◌, IfOk};
 ghost use Rattle.parallel_fault.specs.Trouble.{IsMemoryOnErr};
 ghost use Rattle.commonware_parallel.specs.Merkle.{MerkleRoot, NextLevel};
 
@@ -18,7 +18,7 @@ pub fn plain_root<T: Drop, F: Fn(T, T) -> T>(
     combine: &F,
 ) -> Result<Option<T>, Fault>
     requires accepts { F.IsAlwaysCallable combine.now }
-    ensures root { IfOk result (λ root. MerkleRoot (λ a b c. F.post combine.now a b c)
+    ensures root { IfOk result (λ root. MerkleRoot (F.post combine.now)
         leaves.items root) }
     ensures fault { IsMemoryOnErr result }
 {
@@ -36,7 +36,7 @@ fn next_level<T: Drop, F: Fn(T, T) -> T>(
     combine: &F,
 ) -> Result<Vec<T>, Fault>
     requires accepts { F.IsAlwaysCallable combine.now }
-    ensures next { IfOk result (λ nodes. NextLevel (λ a b c. F.post combine.now a b c)
+    ensures next { IfOk result (λ nodes. NextLevel (F.post combine.now)
         level.items nodes.items) }
     ensures fault { IsMemoryOnErr result }
 {

@@ -1,5 +1,4 @@
-ghost use Rattle.std.specs.Prelude.{◌≡◌, ◌<◌, IfOk, nat_eq, true};
-ghost use Rattle.std.specs.Int.NonZero.{non_zero_usize_get};
+ghost use Rattle.std.specs.Prelude.{◌≡◌, ◌<◌, IfOk, nat_eq};
 ghost use Rattle.parallel_fault.specs.Trouble.{IsMemoryOnErr};
 
 use crate::call::{Call, Kind, Pick};
@@ -7,7 +6,7 @@ use crate::meter::Unmeasured;
 use crate::mocks::choice::pick;
 use crate::mocks::rule::Rule;
 use crate::rayon_strategy::Rayon;
-use crate::strategy::Strategy;
+use crate::strategy::Chooser;
 use parallel_bridge::Path;
 use parallel_fault::{Fault, Trouble};
 use parallel_policy::{Place, Site};
@@ -116,7 +115,7 @@ impl Explorer {
     }
 }
 
-impl Strategy for Explorer {
+impl Chooser for Explorer {
     ghost use Rattle.commonware_parallel.specs.Explorers.{plans_of, pool_threads, rule_of, explorer_starts, ExplorerTakes, ExplorerRefuses};
 
     ghost takes = { λ explorer site call pick. ExplorerTakes explorer site call pick };

@@ -1,10 +1,8 @@
 // What the tile call of a strategy stands on.
-ghost use Rattle.std.specs.Prelude.{◌≡◌, ◌<◌, ◌≤◌, ℕ, IfOk, MatchResult};
+ghost use Rattle.std.specs.Prelude.{◌≡◌, ◌<◌, ℕ, IfOk, MatchResult};
 ghost use Rattle.parallel_fault.specs.Trouble.{IsMemoryOnErr};
 ghost use Rattle.parallel_shares.specs.Grid.{Fits};
-ghost use Rattle.commonware_parallel.specs.Calls.{IsInnerOf, tiles_call};
-ghost use Rattle.commonware_parallel.specs.Tiles.{IsSerialCost, IsTiling, tiles_place, tiles_strategy};
-ghost use Rattle.commonware_parallel.specs.declared.call.Pick.TheVariants.{Into};
+ghost use Rattle.commonware_parallel.specs.Tiles.{IsSerialCost, IsTiling, OnSomeTiles, tiles_place, tiles_strategy};
 ghost use Rattle.commonware_parallel.specs.declared.tiles.Tiles.{Tiles};
 
 use super::Tiles;
@@ -38,13 +36,9 @@ pub(crate) fn tiles_through<
     requires fits { Fits grids.now len }
     requires accepts { (tiles : Tiles S P) (workers : ℕ) → IsTiling grids.now len workers tiles
         → F.pre run tiles }
-    ensures answers { IfOk result (λ answer. (cost : ℕ) × IsSerialCost grids.now len cost
-        × (workers : ℕ) × (0 < workers) × (workers ≤ S.plans strategy.now)
-        × S.takes strategy.now (P.site_of site)
-        (tiles_call (S.plans strategy.now) len cost multiplier) (Into workers)
-        × (tiles : Tiles S P) × IsTiling grids.now len workers tiles
-        × IsInnerOf S.takes S.refuses S.plans S.threads S.starts strategy.now (tiles_strategy tiles)
-        × (tiles_place tiles ≡ site) × F.post run tiles answer) }
+    ensures answers { IfOk result (λ answer. OnSomeTiles S.takes S.refuses S.plans S.threads
+        S.starts P.site_of strategy.now site grids.now len multiplier
+        (λ tiles. F.post run tiles answer)) }
     ensures fault { IsMemoryOnErr result }
 {
     let inner = strategy.inner()?;

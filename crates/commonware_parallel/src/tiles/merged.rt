@@ -122,7 +122,7 @@ pub(super) fn merge_sorted<R: Drop, M: Fn(R, R) -> R>(
     requires fits { rows * len < 2 ^ 64 }
     requires merge_accepts { M.IsAlwaysCallable merge.now }
     requires cut { CutsRectangle rows len (stretches_in parts.items) }
-    ensures merges { IfOk result (λ values. MergesRows (λ a b c. M.post merge.now a b c) rows len
+    ensures merges { IfOk result (λ values. MergesRows (M.post merge.now) rows len
         parts.items values.items) }
     ensures fault { IsMemoryOnErr result }
 {
@@ -154,7 +154,7 @@ fn merge_ordered<R: Drop, M: Fn(R, R) -> R>(
     requires merge_accepts { M.IsAlwaysCallable merge.now }
     requires there { All (IsThere rows len) parts.items }
     requires follow { Follows len 0 (rows * len) parts.items }
-    ensures values { IfOk result (λ values. RowValues (λ a b c. M.post merge.now a b c) len rows
+    ensures values { IfOk result (λ values. RowValues (M.post merge.now) len rows
         parts.items values.items) }
     ensures fault { IsMemoryOnErr result }
 {
@@ -171,7 +171,7 @@ fn merge_ordered<R: Drop, M: Fn(R, R) -> R>(
 // What came so far of a row with its next result.
 fn joined<R: Drop, M: Fn(R, R) -> R>(held: Option<R>, next: R, merge: &M) -> R
     requires { M.IsAlwaysCallable merge.now }
-    ensures { Joins (λ a b c. M.post merge.now a b c) held next result }
+    ensures { Joins (M.post merge.now) held next result }
 {
     match held {
         Some(so_far) => merge(so_far, next),

@@ -1,19 +1,16 @@
 //! A shared plan: a seat for each worker, which claims cells until nothing is left that pays.
-ghost use Rattle.std.specs.Prelude.{◌≡◌, ◌≢◌, ◌++◌, ℕ, List, All, IfOk, Ok, map, true};
+ghost use Rattle.std.specs.Prelude.{◌≡◌, ◌≢◌, ◌++◌, ℕ, All, IfOk, Ok, map};
 ghost use Rattle.std.specs.Borrow.{MutBor};
 ghost use Rattle.std.specs.declared.alloc.Global.{Global};
 ghost use Rattle.std.specs.declared.ops.Range.{Range};
 ghost use Rattle.std.specs.declared.vec.Vec.{Vec};
 ghost use Rattle.parallel_fault.specs.Trouble.{IsMemoryOnErr};
-ghost use Rattle.parallel_shares.specs.declared.shares.stretch.Stretch.{Stretch};
 ghost use Rattle.parallel_shares.specs.Fillings.{Fills, Gives};
 ghost use Rattle.parallel_shares.specs.Seats.{AreFresh, AreSeatsOf, plan_of};
 ghost use Rattle.parallel_shares.specs.Sizes.{Work, sizes_of};
 ghost use Rattle.parallel_shares.specs.Stretches.{IsPartOfRow, StartsBelow};
 ghost use Rattle.parallel_bridge.specs.States.{Stateful};
-ghost use Rattle.commonware_parallel.specs.Chains.{Chains};
-ghost use Rattle.commonware_parallel.specs.Rectangles.{CutsRectangle, IsWholeRow};
-ghost use Rattle.commonware_parallel.specs.Seated.{AllResults, IsReady, WorksFrom, seat_of};
+ghost use Rattle.commonware_parallel.specs.Seated.{AcceptsFills, AcceptsFinishes, AllResults, FillsWork, IsReady, WorksFrom, seat_of};
 
 use crate::strategy::Strategy;
 use parallel_fault::Fault;
@@ -64,10 +61,8 @@ pub(super) fn fill_shared<
     requires finish_accepts { (lent : MutBor T) (row : ℕ)
         → StartsBelow (plan_of shares).cells len row → F.pre finish.now lent row }
     ensures fills { IfOk result (λ results. (work : Work) → work.len ≡ len
-        → plan_of shares ≡ sizes_of work → (cut : List Stretch) × CutsRectangle work.rows len cut
-        × (work.whole ≡ true → All (IsWholeRow len) cut)
-        × Chains (N.post init) (Fills (L.post fill.now))
-        (Gives (F.post finish.now)) cut results.items) }
+        → plan_of shares ≡ sizes_of work → FillsWork (N.post init) (Fills (L.post fill.now))
+        (Gives (F.post finish.now)) len work results.items) }
     ensures fault { IsMemoryOnErr result }
 {
     let worked = work_all(
@@ -114,11 +109,8 @@ fn work_all<
 {
     let run = move |state: &mut T, seat: Seat| -> Worked<R>
         requires { IsReady shares.now seat × (len ≢ 0)
-            × ((lent : MutBor T) (row : ℕ) (columns : Range ℕ)
-            → IsPartOfRow (plan_of shares.now).cells len row columns
-            → L.pre fill.now lent row columns)
-            × ((lent : MutBor T) (row : ℕ) → StartsBelow (plan_of shares.now).cells len row
-            → F.pre finish.now lent row) }
+            × AcceptsFills (IsPartOfRow (plan_of shares.now).cells len) (L.pre fill.now)
+            × AcceptsFinishes (StartsBelow (plan_of shares.now).cells len) (F.pre finish.now) }
         ensures { WorksFrom shares.entry.now len (Fills (L.post fill.entry.now))
             (Gives (F.post finish.entry.now)) state.old seat result state.new }
     { work(rt, alloc, shares, seat, len, state, fill, finish) };

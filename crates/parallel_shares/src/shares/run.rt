@@ -4,8 +4,8 @@ ghost use Rattle.std.specs.Prelude.{◌≡◌, ◌≢◌, ◌++◌, ◌<◌, ◌
 ghost use Rattle.std.specs.Borrow.{MutBor};
 ghost use Rattle.std.specs.declared.ops.Range.{Range};
 ghost use Rattle.parallel_shares.specs.declared.shares.stretch.Stretch.{Stretch};
-ghost use Rattle.parallel_shares.specs.Stretches.{Cutting, IsPartOfRow, IsPiece, StartsBelow, piece_cells, range_cells};
-ghost use Rattle.parallel_shares.specs.Fillings.{Fills, Gives, Closes, GoesOn, Worked};
+ghost use Rattle.parallel_shares.specs.Stretches.{IsPartOfRow, StartsBelow, range_cells};
+ghost use Rattle.parallel_shares.specs.Fillings.{Fills, Gives, Closes, GoesOn, GoesOnByPiece, Worked};
 ghost use Rattle.parallel_fault.specs.Trouble.{IsMemoryOnErr};
 
 use super::Shares;
@@ -120,8 +120,8 @@ fn fill_piece<T, R: Drop, L: Fn(&mut T, usize, Range<usize>), N: Fn(&mut T, usiz
     requires open_accepts { IfSome opened (λ before. (state : MutBor T)
         → N.pre finish.now state before.row) }
     ensures row { IfOk result (λ next. next.row ≡ piece.row) }
-    ensures chain { IfOk result (λ next. (len : ℕ) → IsPiece len piece
-        → GoesOn (Fills (L.post fill.now)) (Gives (N.post finish.now)) len (piece_cells len piece)
+    ensures chain { IfOk result (λ next.
+        GoesOnByPiece (Fills (L.post fill.now)) (Gives (N.post finish.now)) piece
         opened results.old.items state.old (Some next) results.new.items state.new) }
     ensures fault { IsMemoryOnErr result }
 {

@@ -1,6 +1,6 @@
 // Roots and trees of leaves, through a strategy.
-ghost use Rattle.std.specs.Prelude.{◌≡◌, ◌*◌, ◌<◌, IfOk, IfErr, length};
-ghost use Rattle.parallel_fault.specs.declared.fault.Fault.TheVariants.{Memory};
+ghost use Rattle.std.specs.Prelude.{◌≡◌, ◌*◌, ◌<◌, IfOk, length};
+ghost use Rattle.parallel_fault.specs.Trouble.{IsMemoryOnErr};
 ghost use Rattle.uses.specs.Merkle.{leaf_digest, leaf_digests, merkle_root, next_level, node_at, node_digest};
 
 use crate::merkle::digest::{Digest, leaf_digest, node_digest};
@@ -23,7 +23,7 @@ pub fn root<Rt: Threads + Wait + Sync, P: Place, S: Strategy>(
     leaves: &[&[u8]],
 ) -> Result<Option<Digest>, Fault>
     ensures root { IfOk result (λ root. root ≡ merkle_root node_digest (leaf_digests leaves.now)) }
-    ensures fault { IfErr result (λ fault. fault ≡ Memory) }
+    ensures fault { IsMemoryOnErr result }
 {
     let digests = leaf_digests(rt, alloc, strategy, site, leaves)?;
     let node = |left: Digest, right: Digest| -> Digest
@@ -41,7 +41,7 @@ pub(crate) fn leaf_digests<Rt: Threads + Wait + Sync, P: Place, S: Strategy>(
     leaves: &[&[u8]],
 ) -> Result<Vec<Digest>, Fault>
     ensures digests { IfOk result (λ digests. digests.items ≡ leaf_digests leaves.now) }
-    ensures fault { IfErr result (λ fault. fault ≡ Memory) }
+    ensures fault { IsMemoryOnErr result }
 {
     let digest = |leaf: &[u8]| -> Digest
         ensures { result ≡ leaf_digest leaf.now }
@@ -58,7 +58,7 @@ pub(crate) fn next_level<Rt: Threads + Wait + Sync, P: Place, S: Strategy>(
     below: &[Digest],
 ) -> Result<Vec<Digest>, Fault>
     ensures next { IfOk result (λ level. level.items ≡ next_level node_digest below.now) }
-    ensures fault { IfErr result (λ fault. fault ≡ Memory) }
+    ensures fault { IsMemoryOnErr result }
 {
     let places = Indices {
         start: 0,

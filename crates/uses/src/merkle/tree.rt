@@ -2,7 +2,7 @@
 ghost use Rattle.std.specs.Prelude.{◌≡◌, ◌≢◌, ℕ, ◌<◌, ◌≤◌, ◌/◌, List, IfOk, IfSome, IsSome, IsTrue, ◌↔◌, Some, length};
 ghost use Rattle.parallel_fault.specs.Trouble.{IsMemoryOnErr};
 ghost use Rattle.uses.specs.Collisions.{IsCollision};
-ghost use Rattle.uses.specs.Merkle.{Accepts, IsTree, climb, leaf_digest, leaf_digests, level_above, levels_of, lowest, merkle_root, next_level, node_at, node_digest, one_up};
+ghost use Rattle.uses.specs.Merkle.{Accepts, IfAccepted, IsTree, climb, leaf_digest, leaf_digests, level_above, levels_of, lowest, merkle_root, next_level, node_at, node_digest, one_up};
 
 use crate::merkle::build::{leaf_digests, next_level};
 use crate::merkle::collision::{Collision, colliding_nodes};
@@ -128,8 +128,7 @@ impl Tree {
         ensures collision { IfSome result IsCollision }
         ensures found { index < length self.now → leaf_digest leaf.now ≡ node_at self.now index
             → leaf.now ≢ other.now
-            → (root : List ℕ) → merkle_root node_digest self.now ≡ Some root
-            → Accepts root (length self.now) index other.now proof.now → IsSome result }
+            → IfAccepted self.now index other.now proof.now (IsSome result) }
     {
         if !self.has_leaf(index, leaf) || leaf == other {
             return None;

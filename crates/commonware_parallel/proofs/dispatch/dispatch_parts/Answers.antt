@@ -9,7 +9,7 @@ use Rattle.commonware_parallel.proofs.dispatch.dispatch_parts.Goals as goal
 pub returns-in-Ok-clause-answers : goal.returns-in-Ok-clause-answers
 returns-in-Ok-clause-answers g c =
     let takes =
-    g.S.Strategy.takes c.args.strategy.now (g.P.Place.site_of c.args.site) c.args.call in
+    g.S.Chooser.takes c.args.strategy.now (g.P.Place.site_of c.args.site) c.args.call in
     let fact = λ (parts : ℕ). g.B.FnOnce.post c.args.body (parts, tt) (Ok c.in-Ok.answer) in
     let w = c.in-Ok.ensures.answers in
     let told : OnParts w.0 fact = search rules in
@@ -18,7 +18,7 @@ returns-in-Ok-clause-answers g c =
 pub returns-in-Err-Closure-clause-answers : goal.returns-in-Err-Closure-clause-answers
 returns-in-Err-Closure-clause-answers g c =
     let takes =
-    g.S.Strategy.takes c.args.strategy.now (g.P.Place.site_of c.args.site) c.args.call in
+    g.S.Chooser.takes c.args.strategy.now (g.P.Place.site_of c.args.site) c.args.call in
     let fact =
     λ (parts : ℕ). g.B.FnOnce.post c.args.body (parts, tt) (Err c.in-Err-Closure.error) in
     let told : (pick : Pick) × (HasPick c.args.call pick × takes pick) × OnParts pick fact =

@@ -10,7 +10,7 @@ use Rattle.commonware_parallel.proofs.dispatch.dispatch_path.Goals as goal
 pub returns-in-Ok-clause-answers : goal.returns-in-Ok-clause-answers
 returns-in-Ok-clause-answers g c =
     let takes =
-    g.S.Strategy.takes c.args.strategy.now (g.P.Place.site_of c.args.site) c.args.call in
+    g.S.Chooser.takes c.args.strategy.now (g.P.Place.site_of c.args.site) c.args.call in
     let fact = λ (path : Path). g.B.FnOnce.post c.args.body (path, tt) (Ok c.in-Ok.answer) in
     let w = c.in-Ok.ensures.answers in
     let told : OnPath w.0 fact = search rules in
@@ -19,7 +19,7 @@ returns-in-Ok-clause-answers g c =
 pub returns-in-Err-Closure-clause-answers : goal.returns-in-Err-Closure-clause-answers
 returns-in-Err-Closure-clause-answers g c =
     let takes =
-    g.S.Strategy.takes c.args.strategy.now (g.P.Place.site_of c.args.site) c.args.call in
+    g.S.Chooser.takes c.args.strategy.now (g.P.Place.site_of c.args.site) c.args.call in
     let fact =
     λ (path : Path). g.B.FnOnce.post c.args.body (path, tt) (Err c.in-Err-Closure.error) in
     let told : (pick : Pick) × (HasPick c.args.call pick × takes pick) × OnPath pick fact =

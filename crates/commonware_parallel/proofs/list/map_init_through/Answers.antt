@@ -14,6 +14,6 @@ returns-clause-answers g c =
     (q : MutBor g.row.V.Denot). g.F.Fn.post c.args.map_op.now (p, (x, tt)) (y, (q, tt))) in
     let w = c.in_ok-answers.ensures.answers in
     at_threads g.Q.Parts.gives c.args.parts
-    (g.S.Strategy.takes c.args.strategy.now (g.P.Place.site_of c.args.site) c.args.call)
+    (g.S.Chooser.takes c.args.strategy.now (g.P.Place.site_of c.args.site) c.args.call)
     (λ depth path xs. MappedInitAs init step depth path xs c.in_ok-answers.answers.items) _ _
     c.thread_number-threads.ensures.number w.0 w.1 (search rules)

@@ -14,7 +14,7 @@ use Rattle.commonware_parallel.proofs.batches.dispatched.try_batches_through.Goa
 
 pub returns : goal.returns
 returns g c =
-    let T = g.S.Strategy in
+    let T = g.S.Chooser in
     let site = g.P.Place.site_of c.args.site in
     let least = non_zero_usize_get c.args.minimum in
     let post =
@@ -25,8 +25,8 @@ returns g c =
     ∙ ap (λ n. batches_call n c.args.len least c.args.multiplier) c.planning.ensures.number in
     let says =
     λ (out : Result g.row.R.Denot g.row.E.Denot). OnSomeBatch T.takes T.refuses T.plans
-    T.threads T.starts c.args.strategy.now site c.args.site c.args.len least c.args.multiplier
-    (λ batches. post batches out) in
+    T.threads T.starts g.P.Place.site_of c.args.strategy.now c.args.site c.args.len
+    c.args.minimum c.args.multiplier (λ batches. post batches out) in
     unless_told c.dispatch_settled.result _ says c.dispatch_settled.ensures.answers
     c.dispatch_settled.ensures.fault (λ w.
     let P : Call → Type 0 = λ call. (0 < w.0) × (w.0 ≤ call.parts)

@@ -15,6 +15,6 @@ returns-clause-answers g c =
     c.args.reduce_op.now (a, (b, tt)) r in
     let w = c.in_ok-answer.ensures.answers in
     at_threads g.Q.Parts.gives c.args.parts
-    (g.S.Strategy.takes c.args.strategy.now (g.P.Place.site_of c.args.site) c.args.call)
+    (g.S.Chooser.takes c.args.strategy.now (g.P.Place.site_of c.args.site) c.args.call)
     (λ depth path xs. FoldedAs identity step reduce depth path xs c.in_ok-answer.answer) _ _
     c.thread_number-threads.ensures.number w.0 w.1 (search rules)

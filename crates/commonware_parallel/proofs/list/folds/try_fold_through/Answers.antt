@@ -15,7 +15,7 @@ returns g c =
     c.args.reduce_op.now (a, (b, tt)) r in
     record {
       answers = outcome_at_threads g.Q.Parts.gives c.args.parts
-          (g.S.Strategy.takes c.args.strategy.now (g.P.Place.site_of c.args.site) c.args.call)
+          (g.S.Chooser.takes c.args.strategy.now (g.P.Place.site_of c.args.site) c.args.call)
           (λ depth path xs out. TryFoldedAs identity step reduce depth path xs out) _ _
           c.thread_number-threads.ensures.number c.dispatch_fallible.result _
           c.dispatch_fallible.ensures.answers c.dispatch_fallible.ensures.fault

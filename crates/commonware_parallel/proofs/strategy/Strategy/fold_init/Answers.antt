@@ -29,9 +29,9 @@ returns-then-is_serial-clause-along g c =
     let site = g.P.Place.site_of c.args.site in
     let w = c.fold_init_iter.ensures in
     at_serial (Drains g.I.Iter.Iterator.next_gives) c.into_items.result g.I.Source.gives
-    c.args.source (λ call pick. g.Self.Strategy.takes c.args.self.now site call pick) body_call
+    c.args.source (λ call pick. g.Self.Chooser.takes c.args.self.now site call pick) body_call
     c.into_items.ensures.gives (λ n. c.is_serial.ensures.first (search rules) site
     (body_call n) refl)
     (λ path xs. FoldedInitAs init identity step reduce
-    (cutdepth (g.Self.Strategy.threads c.args.self.now)) path xs c.fold_init_iter.result)
+    (cutdepth (g.Self.Chooser.threads c.args.self.now)) path xs c.fold_init_iter.result)
     (w.0, w.1, (of_segment w.2, w.2))

@@ -32,9 +32,9 @@ returns-then-is_serial-clause-along g c =
     let ys = c.in_ok-answers.answers.items in
     let w = c.in_ok-answers.ensures.one_state in
     at_serial (Drains g.I.Iter.Iterator.next_gives) c.into_items.result g.I.Source.gives
-    c.args.source (λ call pick. g.Self.Strategy.takes c.args.self.now site call pick) body_call
+    c.args.source (λ call pick. g.Self.Chooser.takes c.args.self.now site call pick) body_call
     c.into_items.ensures.gives (λ n. c.is_serial.ensures.first (search rules) site
     (body_call n) refl)
     (λ path xs. MappedInitAs init step
-    (cutdepth (g.Self.Strategy.threads c.args.self.now)) path xs ys)
+    (cutdepth (g.Self.Chooser.threads c.args.self.now)) path xs ys)
     (w.0, w.1, (stateful_from_segment init step w.0 ys w.2, w.2))

@@ -37,15 +37,15 @@ returns-then-is_serial-clause-along g c =
     λ (a : g.row.R.Denot) (b : g.row.R.Denot) (r : g.row.R.Denot). g.G.Fn.post c.args.reduce_op
     (a, (b, tt)) r in
     let site = g.P.Place.site_of c.args.site in
-    let depth = cutdepth (g.Self.Strategy.threads c.args.self.now) in
+    let depth = cutdepth (g.Self.Chooser.threads c.args.self.now) in
     unless_weaker c.try_fold_as_it_comes.result
     (λ out. GivesSome (Drains g.I.Iter.Iterator.next_gives) c.into_items.result
     (λ xs. TryFoldSegment identity step xs out))
     (λ out. GivesSome g.I.Source.gives c.args.source
-    (λ xs. AtSomePath (g.Self.Strategy.takes c.args.self.now site (body_call (length xs)))
+    (λ xs. AtSomePath (g.Self.Chooser.takes c.args.self.now site (body_call (length xs)))
     (λ path. TryFoldedAs identity step reduce depth path xs out)))
     (λ out h. at_serial (Drains g.I.Iter.Iterator.next_gives) c.into_items.result g.I.Source.gives
-    c.args.source (λ call pick. g.Self.Strategy.takes c.args.self.now site call pick) body_call
+    c.args.source (λ call pick. g.Self.Chooser.takes c.args.self.now site call pick) body_call
     c.into_items.ensures.gives (λ n. c.is_serial.ensures.first (search rules) site
     (body_call n) refl)
     (λ path xs. TryFoldedAs identity step reduce depth path xs out)

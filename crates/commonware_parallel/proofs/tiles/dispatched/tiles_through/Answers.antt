@@ -11,7 +11,7 @@ use Rattle.commonware_parallel.proofs.tiles.dispatched.tiles_through.Goals as go
 
 pub returns-in-Ok-clause-answers : goal.returns-in-Ok-clause-answers
 returns-in-Ok-clause-answers g c =
-    let T = g.S.Strategy in
+    let T = g.S.Chooser in
     let w = c.in-Ok.ensures.answers in
     let P : Call → Type 0 = λ call. (0 < w.0) × (w.0 ≤ call.parts)
     × T.takes c.args.strategy.now (g.P.Place.site_of c.args.site) call (Into w.0) in

@@ -1,6 +1,6 @@
 -- Told, so that a body which breaks these is refused with no further search.
 use Rattle.std.proofs.Common.{rules}
-use Rattle.commonware_parallel.proofs.rayon_strategy.RayonStrategy.is_serial.Goals as goal
+use Rattle.commonware_parallel.proofs.rayon_strategy.RayonChooser.is_serial.Goals as goal
 
 pub returns-clause-unasked : goal.returns-clause-unasked
 returns-clause-unasked g c = search rules

@@ -1,6 +1,6 @@
 -- Told, so that a body which breaks these is refused with no further search.
 use Rattle.std.proofs.Common.{rules}
-use Rattle.commonware_parallel.proofs.rayon_strategy.RayonStrategy.inner.Goals as goal
+use Rattle.commonware_parallel.proofs.rayon_strategy.RayonChooser.inner.Goals as goal
 
 pub returns-clause-inner : goal.returns-clause-inner
 returns-clause-inner g c = search rules

@@ -1,6 +1,6 @@
 -- Told, so that a body which breaks these is refused with no further search.
 use Rattle.std.proofs.Common.{rules}
-use Rattle.commonware_parallel.proofs.sequential.SequentialStrategy.dispatch.Goals as goal
+use Rattle.commonware_parallel.proofs.sequential.SequentialChooser.dispatch.Goals as goal
 
 pub body-requires : goal.body-requires
 body-requires g c = search rules

@@ -1,0 +1,43 @@
+-- what a list call says of the list that it went over, the path that it took and the call that the
+-- strategy was asked about
+use Rattle.std.specs.Prelude.{ℕ, List, length, ⊤}
+use Rattle.std.specs.Int.NonZero.{non_zero_usize_get}
+use Rattle.std.specs.declared.num.NonZeroUsize.{NonZeroUsize}
+use Rattle.parallel_bridge.specs.Shapes.{cutdepth}
+use Rattle.parallel_bridge.specs.Sources.{GivesSome}
+use Rattle.parallel_bridge.specs.declared.path.Path.{Path}
+use Rattle.parallel_policy.specs.declared.Site.{Site}
+use Rattle.commonware_parallel.specs.Calls.{AtSomePath}
+use Rattle.commonware_parallel.specs.declared.call.Call.{Call}
+use Rattle.commonware_parallel.specs.declared.call.Pick.{Pick}
+
+-- some path may be taken
+abbrev pub Asked : (Pick → Type 0) → Type 0
+Asked takes = AtSomePath takes (λ _. ⊤)
+
+-- a list that the source may give, and for the call over its length some path may be taken
+abbrev pub AskedOver : {I X : Type 0} → (I → List X → Type 0) → I → (Call → Pick → Type 0)
+    → (ℕ → Call) → Type 0
+AskedOver gives source takes call_of = GivesSome gives source
+    (λ xs. Asked (takes (call_of (length xs))))
+
+-- a list that may come, and the answer went as the way says of it, at the depth for so many threads
+abbrev pub GoesOver : {I X R : Type 0} → (I → List X → Type 0) → I → NonZeroUsize → Path
+    → (ℕ → Path → List X → R → Type 0) → R → Type 0
+GoesOver gives source threads path way answer = GivesSome gives source
+    (λ xs. way (cutdepth (non_zero_usize_get threads)) path xs answer)
+
+module _ {I X S R : Type 0} (gives : I → List X → Type 0) (source : I)
+    (takes : S → Site → Call → Pick → Type 0) (threads : S → ℕ) (strategy : S) (site : Site) where
+  -- a list that may come, and a path that the strategy may take for the call, by which the answer
+  -- went as the way says, at the depth for the strategy's thread number
+  abbrev pub GoesBy : Call → (ℕ → Path → List X → R → Type 0) → R → Type 0
+  GoesBy call way answer = GivesSome gives source
+      (λ xs. AtSomePath (takes strategy site call)
+      (λ path. way (cutdepth (threads strategy)) path xs answer))
+
+  -- the same of the call over the list's length
+  abbrev pub GoesByLength : (ℕ → Call) → (ℕ → Path → List X → R → Type 0) → R → Type 0
+  GoesByLength call_of way answer = GivesSome gives source
+      (λ xs. AtSomePath (takes strategy site (call_of (length xs)))
+      (λ path. way (cutdepth (threads strategy)) path xs answer))
