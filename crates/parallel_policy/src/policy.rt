@@ -1,5 +1,5 @@
 // A table of entries that is shared, under a lock.
-ghost use Rattle.std.specs.Prelude.{◌≡◌, ◌<◌, ◌≤◌, ⊤};
+ghost use Rattle.std.specs.Prelude.{◌<◌, ◌≤◌, ⊤};
 ghost use Rattle.parallel_policy.specs.declared.execution.RunExecution.{RunExecution};
 ghost use Rattle.parallel_policy.specs.Decisions.{AnswersOn, DecidesAs};
 ghost use Rattle.parallel_fault.specs.Trouble.{IsMemoryOnErr};

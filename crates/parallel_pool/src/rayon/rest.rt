@@ -23,8 +23,6 @@ pub(crate) struct Rest {
 }
 
 impl Rest {
-    ghost use Rattle.std.specs.Prelude.{◌≡◌};
-
     /// What the worker of this index rests by, on this parker, with a latch that isn't set.
     pub(crate) fn new(alloc: Global, index: usize, parker: Parker) -> Result<Rest, Fault>
         ensures fault { IsMemoryOnErr result }

@@ -1,9 +1,8 @@
 //! A worker's run over its share: it claims until nothing is left that pays, and fills and finishes
 //! the stretches of its claims.
-ghost use Rattle.std.specs.Prelude.{◌≡◌, ◌≢◌, ◌++◌, ◌<◌, ◌-◌, ◌*◌, ◌+◌, ℕ, List, All, None, Some, IfOk, IfSome};
+ghost use Rattle.std.specs.Prelude.{◌≡◌, ◌≢◌, ◌<◌, ◌-◌, ◌+◌, ℕ, None, Some, IfOk, IfSome};
 ghost use Rattle.std.specs.Borrow.{MutBor};
 ghost use Rattle.std.specs.declared.ops.Range.{Range};
-ghost use Rattle.parallel_shares.specs.declared.shares.stretch.Stretch.{Stretch};
 ghost use Rattle.parallel_shares.specs.Stretches.{IsPartOfRow, StartsBelow, range_cells};
 ghost use Rattle.parallel_shares.specs.Fillings.{Fills, Gives, Closes, GoesOn, GoesOnByPiece, Worked};
 ghost use Rattle.parallel_fault.specs.Trouble.{IsMemoryOnErr};
@@ -19,7 +18,6 @@ use std::sync::Wait;
 impl Shares {
     ghost use Rattle.parallel_shares.specs.Seats.{plan_of, index_of, claims_of, transit_of, IsSeatOf};
     ghost use Rattle.parallel_shares.specs.Steals.{FoundNothing};
-    ghost use Rattle.parallel_shares.specs.Fronts.{IsFront};
 
     /// Claims until nothing is left that pays, on rows of `len` cells, and answers a result for
     /// each stretch of what it claimed, in order.
