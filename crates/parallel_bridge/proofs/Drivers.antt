@@ -21,6 +21,14 @@ pub driven : {R E : Type 0} (answer : Result R (Trouble E)) (result : Result R F
 driven answer (Ok r) P Q f same h = f r (subst (λ a. UnlessRefused a P) same h)
 driven answer (Err f) P Q g same h = tt
 
+-- what holds of values and keys holds of lists that have them
+pub parted : {U K : Type 0} (result : Result (Vec U Global × Vec K Global) Fault) (us : List U)
+    (ks : List K) (P : List U → List K → Type 0) → P us ks → IfOk result (λ r. r.0.items ≡ us)
+    → IfOk result (λ r. r.1.items ≡ ks) → IfOk result (λ r. P r.0.items r.1.items)
+parted (Ok r) us ks P h at_us at_ks =
+    subst (λ l. P l r.1.items) (sym at_us) (subst (λ l. P us l) (sym at_ks) h)
+parted (Err f) us ks P h at_us at_ks = tt
+
 listed_only : {Y E : Type 0} (ys : List Y) (out : Result (List (Vec Y Global)) E)
     → OnlyOk (λ v. IsListed ys v) out → OnlyOk (λ v. joined v ≡ ys) out
 listed_only ys (Ok v) h = h.0
@@ -118,30 +126,29 @@ module _ {X Y E : Type 0} (allowed : X → Result Y E → Type 0) where
   try_map_shape k xs out h = subst (λ l. TryMapOf allowed l (listed out)) (Shape-items k xs)
       (try_map_driven (Shape k xs) out h)
 
-module _ {X K U : Type 0} (E : Type 0) (allowed : X → (K × Option U) → Type 0) where
+module _ {X K U V : Type 0} (E : Type 0) (values : V → List U) (keys : V → List K)
+    (allowed : X → (K × Option U) → Type 0) where
   -- the values and the keys of two parts one after another
-  pub partition_driven : (cut : Cut X) (r : Vec U Global × Vec K Global)
-      → TryAlongCut {E = E} (λ l o. OnlyOk (λ v. PartitionOf allowed l v.0.items v.1.items) o)
-      (λ a b o. OnlyOk (λ c. (c.0.items ≡ a.0.items ++ b.0.items)
-      × (c.1.items ≡ a.1.items ++ b.1.items)) o) cut (Ok r)
-      → PartitionOf allowed (cut_items cut) r.0.items r.1.items
+  pub partition_driven : (cut : Cut X) (r : V)
+      → TryAlongCut {E = E} (λ l o. OnlyOk (λ v. PartitionOf allowed l (values v) (keys v)) o)
+      (λ a b o. OnlyOk (λ c. (values c ≡ values a ++ values b) × (keys c ≡ keys a ++ keys b)) o)
+      cut (Ok r) → PartitionOf allowed (cut_items cut) (values r) (keys r)
   partition_driven (segment xs) r h = h
   partition_driven (halves p q) r (inl (a, b, h, i, n)) =
-      subst (λ us. PartitionOf allowed (cut_items p ++ cut_items q) us r.1.items) (sym n.0)
-      (subst (λ ks. PartitionOf allowed (cut_items p ++ cut_items q) (a.0.items ++ b.0.items) ks)
+      subst (λ us. PartitionOf allowed (cut_items p ++ cut_items q) us (keys r)) (sym n.0)
+      (subst (λ ks. PartitionOf allowed (cut_items p ++ cut_items q) (values a ++ values b) ks)
       (sym n.1)
       (PartitionOf-append allowed (cut_items p)
-      (cut_items q) a.0.items b.0.items a.1.items b.1.items (partition_driven p a h)
+      (cut_items q) (values a) (values b) (keys a) (keys b) (partition_driven p a h)
       (partition_driven q b i)))
   partition_driven (halves p q) r (inr (inl (e, same, h))) = absurd (cc same)
   partition_driven (halves p q) r (inr (inr (a, e, same, h, i))) = absurd (cc same)
 
-  pub partition_shape : (k : ℕ) (xs : List X) (r : Vec U Global × Vec K Global)
-      → TryAlongCut {E = E} (λ l o. OnlyOk (λ v. PartitionOf allowed l v.0.items v.1.items) o)
-      (λ a b o. OnlyOk (λ c. (c.0.items ≡ a.0.items ++ b.0.items)
-      × (c.1.items ≡ a.1.items ++ b.1.items)) o) (Shape k xs) (Ok r)
-      → PartitionOf allowed xs r.0.items r.1.items
-  partition_shape k xs r h = subst (λ l. PartitionOf allowed l r.0.items r.1.items)
+  pub partition_shape : (k : ℕ) (xs : List X) (r : V)
+      → TryAlongCut {E = E} (λ l o. OnlyOk (λ v. PartitionOf allowed l (values v) (keys v)) o)
+      (λ a b o. OnlyOk (λ c. (values c ≡ values a ++ values b) × (keys c ≡ keys a ++ keys b)) o)
+      (Shape k xs) (Ok r) → PartitionOf allowed xs (values r) (keys r)
+  partition_shape k xs r h = subst (λ l. PartitionOf allowed l (values r) (keys r))
       (Shape-items k xs) (partition_driven (Shape k xs) r h)
 
 -- the answers of a map whose segments' lists are kept apart, joined

@@ -6,7 +6,7 @@ use Rattle.std.specs.declared.alloc.Global.{Global}
 use Rattle.parallel_bridge.specs.Outcomes.{joined}
 use Rattle.parallel_bridge.specs.Lists.{Chain}
 use Rattle.parallel_bridge.specs.Tries.{EachOk, OnlyOk, TryChain, TryMapOf}
-use Rattle.parallel_bridge.specs.Parts.{PartitionOf, values_of, keys_of}
+use Rattle.parallel_bridge.specs.Parts.{PartitionOf, keys_in, keys_of, values_in, values_of}
 use Rattle.parallel_bridge.specs.Onto.{TryMapOnto, TryMapBehind, PartitionOnto, TryContinues}
 use Rattle.parallel_bridge.proofs.Shapes.{MapOf-append}
 
@@ -133,13 +133,50 @@ module _ {X K U : Type 0} (allowed : X → (K × Option U) → Type 0) where
 
 -- the same of lists that are an outcome
 pub part_only : {X K U E : Type 0} (allowed : X → (K × Option U) → Type 0) (values us : List U)
-    (keys ks : List K) (xs ys : List X) (out : Result (Vec U Global × Vec K Global) E)
+    (keys ks : List K) (xs ys : List X)
+    (out : Result (Vec (Vec U Global × Vec K Global) Global) E)
     → PartitionOnto allowed values keys xs us ks
-    → OnlyOk (λ r. PartitionOnto allowed us ks ys r.0.items r.1.items) out
-    → OnlyOk (λ r. PartitionOnto allowed values keys (xs ++ ys) r.0.items r.1.items) out
+    → OnlyOk (λ r. PartitionOnto allowed us ks ys (values_in r.items) (keys_in r.items)) out
+    → OnlyOk
+    (λ r. PartitionOnto allowed values keys (xs ++ ys) (values_in r.items) (keys_in r.items)) out
 part_only allowed values us keys ks xs ys (Ok r) h k =
-    part_append allowed values us r.0.items keys ks r.1.items xs ys h k
+    part_append allowed values us (values_in r.items) keys ks (keys_in r.items) xs ys h k
 part_only allowed values us keys ks xs ys (Err e) h k = k
+
+-- the values of pairs of lists one after another
+pub values_in-append : {K U : Type 0} (ps qs : List (Vec U Global × Vec K Global))
+    → values_in (ps ++ qs) ≡ values_in ps ++ values_in qs
+values_in-append [] qs = refl
+values_in-append (p ∷ ps) qs = ap (λ l. p.0.items ++ l) (values_in-append ps qs)
+    ∙ sym (append_assoc p.0.items (values_in ps) (values_in qs))
+
+-- the keys likewise
+pub keys_in-append : {K U : Type 0} (ps qs : List (Vec U Global × Vec K Global))
+    → keys_in (ps ++ qs) ≡ keys_in ps ++ keys_in qs
+keys_in-append [] qs = refl
+keys_in-append (p ∷ ps) qs = ap (λ l. p.1.items ++ l) (keys_in-append ps qs)
+    ∙ sym (append_assoc p.1.items (keys_in ps) (keys_in qs))
+
+-- the values and the keys of lists of pairs that are put one after another
+pub pairs_joined : {K U : Type 0} (all left right : List (Vec U Global × Vec K Global))
+    → all ≡ left ++ right → (values_in all ≡ values_in left ++ values_in right)
+    × (keys_in all ≡ keys_in left ++ keys_in right)
+pairs_joined all left right same = (
+  ap (λ l. values_in l) same ∙ values_in-append left right,
+  ap (λ l. keys_in l) same ∙ keys_in-append left right,
+)
+
+-- with one pair of lists more come its values
+pub values_in-push : {K U : Type 0} (ps : List (Vec U Global × Vec K Global))
+    (p : Vec U Global × Vec K Global) → values_in (ps ++ p ∷ []) ≡ values_in ps ++ p.0.items
+values_in-push ps p = values_in-append ps (p ∷ [])
+    ∙ ap (λ l. values_in ps ++ l) (append-nil p.0.items)
+
+-- and its keys
+pub keys_in-push : {K U : Type 0} (ps : List (Vec U Global × Vec K Global))
+    (p : Vec U Global × Vec K Global) → keys_in (ps ++ p ∷ []) ≡ keys_in ps ++ p.1.items
+keys_in-push ps p = keys_in-append ps (p ∷ [])
+    ∙ ap (λ l. keys_in ps ++ l) (append-nil p.1.items)
 
 -- the items of lists of lists one after another
 pub joined-append : {T : Type 0} (vs ws : List (Vec T Global))

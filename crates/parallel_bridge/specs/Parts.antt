@@ -1,5 +1,7 @@
 -- What a partition may answer.
-use Rattle.std.specs.Prelude.{◌≡◌, List, [], ◌∷◌, Option, Some, None}
+use Rattle.std.specs.Prelude.{◌≡◌, List, [], ◌∷◌, ◌++◌, Option, Some, None}
+use Rattle.std.specs.declared.vec.Vec.{Vec}
+use Rattle.std.specs.declared.alloc.Global.{Global}
 use Rattle.parallel_bridge.specs.Lists.{MapOf}
 
 -- the values of the pairs that have one, in order
@@ -20,3 +22,13 @@ abbrev pub PartitionOf : {X K U : Type 0} → (X → (K × Option U) → Type 0)
     → Type 0
 PartitionOf {K = K} {U = U} allowed xs us ks = (ps : List (K × Option U)) × MapOf allowed xs ps
     × (us ≡ values_of ps) × (ks ≡ keys_of ps)
+
+-- the values in pairs of lists, one list after another
+abbrev pub values_in : {K U : Type 0} → List (Vec U Global × Vec K Global) → List U
+values_in [] = []
+values_in (p ∷ ps) = p.0.items ++ values_in ps
+
+-- the keys in pairs of lists, one list after another
+abbrev pub keys_in : {K U : Type 0} → List (Vec U Global × Vec K Global) → List K
+keys_in [] = []
+keys_in (p ∷ ps) = p.1.items ++ keys_in ps

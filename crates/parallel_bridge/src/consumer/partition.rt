@@ -4,7 +4,7 @@ ghost use Rattle.std.specs.Iterator.{Drains, HoldsAlong, IsFinite};
 ghost use Rattle.std.specs.List.{All};
 ghost use Rattle.parallel_fault.specs.Trouble.{IsMemoryOnErr};
 ghost use Rattle.parallel_bridge.specs.Onto.{PartitionOnto};
-ghost use Rattle.parallel_bridge.specs.Parts.{PartitionOf, keys_of, values_of};
+ghost use Rattle.parallel_bridge.specs.Parts.{PartitionOf, keys_in, keys_of, values_in, values_of};
 ghost use Rattle.parallel_bridge.specs.Sources.{GivesSome};
 ghost use Rattle.parallel_bridge.specs.Tries.{OnlyOk};
 
@@ -14,19 +14,17 @@ use parallel_fault::{Fault, Trouble};
 use std::alloc::Global;
 use std::convert::Infallible;
 
-/// Answers each item by a closure, and gives the values and the keys of the items without one, both
-/// in the items' order.
+/// Answers each item by a closure, and gives a list of the values and one of the keys of the items
+/// without one for each segment, both in the items' order.
 #[derive(Drop)]
-pub struct PartitionConsumer<'f, F> {
+pub struct PartitionConsumer<'f, U, K, F> {
     /// The closure that answers an item.
     pub map_op: &'f F,
     /// How many items are expected.
     pub items: usize,
-    /// How many places the list of values is given at first, so that it needn't grow. Where memory
-    /// for them is refused, it begins with none.
-    pub value_places: usize,
-    /// How many places the list of keys is given at first, likewise.
-    pub key_places: usize,
+    /// Lists for the segments, from left to right, whose places are used and whose items are not. A
+    /// segment for which there are none makes its own.
+    pub spares: Vec<(Vec<U>, Vec<K>)>,
 }
 
 /// The values and the keys of a segment so far, in order.
@@ -40,33 +38,33 @@ pub struct PartitionFolder<'f, U, K, F> {
     pub map_op: &'f F,
 }
 
-/// Joins the values and the keys of two parts, the left ones first.
+/// Puts the lists of two parts one after another, the left ones first. Values and keys stay where
+/// they lie.
 #[derive(Drop)]
 pub struct PartitionReducer;
 
-impl<U: Drop, K: Drop> Reducer<(Vec<U>, Vec<K>), Infallible> for PartitionReducer {
+impl<U: Drop, K: Drop> Reducer<Vec<(Vec<U>, Vec<K>)>, Infallible> for PartitionReducer {
     ghost can_reduce = { λ _ _ _. Unit {0} };
 
     ghost reduce_gives = { λ _ left right out. OnlyOk
-        (λ all. (all.0.items ≡ left.0.items ++ right.0.items)
-        × (all.1.items ≡ left.1.items ++ right.1.items)) out };
+        (λ all. (values_in all.items ≡ values_in left.items ++ values_in right.items)
+        × (keys_in all.items ≡ keys_in left.items ++ keys_in right.items)) out };
 
     fn reduce(
         self,
-        left: (Vec<U>, Vec<K>),
-        right: (Vec<U>, Vec<K>),
-    ) -> Result<(Vec<U>, Vec<K>), Trouble<Infallible>> {
-        let (mut values, mut keys) = left;
-        let (mut more_values, mut more_keys) = right;
-        values.append(&mut more_values)?;
-        keys.append(&mut more_keys)?;
-        Ok((values, keys))
+        left: Vec<(Vec<U>, Vec<K>)>,
+        right: Vec<(Vec<U>, Vec<K>)>,
+    ) -> Result<Vec<(Vec<U>, Vec<K>)>, Trouble<Infallible>> {
+        let mut lists = left;
+        let mut others = right;
+        lists.append(&mut others)?;
+        Ok(lists)
     }
 }
 
 impl<'f, X: Drop, U: Drop, K: Drop, F: Fn(X) -> (K, Option<U>)> Folder<
     X,
-    (Vec<U>, Vec<K>),
+    Vec<(Vec<U>, Vec<K>)>,
     Infallible,
 > for PartitionFolder<'f, U, K, F> {
     ghost ready = { λ _. Unit {0} };
@@ -74,8 +72,8 @@ impl<'f, X: Drop, U: Drop, K: Drop, F: Fn(X) -> (K, Option<U>)> Folder<
     ghost takes = { λ s x. F.pre s.map_op.now x };
 
     ghost gives = { λ s xs out. OnlyOk
-        (λ r. PartitionOnto (F.post s.map_op.now) s.values.items s.keys.items xs r.0.items
-        r.1.items) out };
+        (λ r. PartitionOnto (F.post s.map_op.now) s.values.items s.keys.items xs (values_in r.items)
+        (keys_in r.items)) out };
 
     fn consume(self, _alloc: Global, item: X) -> Result<Self, Fault> {
         let answer = (self.map_op)(item);
@@ -96,8 +94,10 @@ impl<'f, X: Drop, U: Drop, K: Drop, F: Fn(X) -> (K, Option<U>)> Folder<
         })
     }
 
-    fn complete(self, _alloc: Global) -> Result<(Vec<U>, Vec<K>), Trouble<Infallible>> {
-        Ok((self.values, self.keys))
+    fn complete(self, alloc: Global) -> Result<Vec<(Vec<U>, Vec<K>)>, Trouble<Infallible>> {
+        let mut lists = Vec::new(alloc);
+        lists.push((self.values, self.keys))?;
+        Ok(lists)
     }
 
     fn full(&self) -> bool {
@@ -106,8 +106,8 @@ impl<'f, X: Drop, U: Drop, K: Drop, F: Fn(X) -> (K, Option<U>)> Folder<
 }
 
 impl<'f, X: Drop, U: Send + Drop, K: Send + Drop, F: Fn(X) -> (K, Option<U>) + Sync> Consumer<X>
-    for PartitionConsumer<'f, F> {
-    type Result = (Vec<U>, Vec<K>);
+    for PartitionConsumer<'f, U, K, F> {
+    type Result = Vec<(Vec<U>, Vec<K>)>;
 
     type Error = Infallible;
 
@@ -122,43 +122,118 @@ impl<'f, X: Drop, U: Send + Drop, K: Send + Drop, F: Fn(X) -> (K, Option<U>) + S
     ghost fits = { λ _ _. Unit {0} };
 
     ghost leaf_gives = { λ s xs out. OnlyOk
-        (λ r. PartitionOf (F.post s.map_op.now) xs r.0.items r.1.items) out };
+        (λ r. PartitionOf (F.post s.map_op.now) xs (values_in r.items) (keys_in r.items)) out };
 
     ghost node_gives = { λ _ left right out. OnlyOk
-        (λ all. (all.0.items ≡ left.0.items ++ right.0.items)
-        × (all.1.items ≡ left.1.items ++ right.1.items)) out };
+        (λ all. (values_in all.items ≡ values_in left.items ++ values_in right.items)
+        × (keys_in all.items ≡ keys_in left.items ++ keys_in right.items)) out };
 
-    // (the left half keeps all places, so that the right half's items find some behind its own)
     fn split_at(self, index: usize) -> Result<(Self, Self, PartitionReducer), Fault> {
         let PartitionConsumer {
             map_op,
             items,
-            value_places,
-            key_places,
+            spares,
         } = self;
-        let more = items.saturating_sub(index);
+        let mut spares = spares;
+        let half = spares.len() / 2;
+        let others = spares.split_off(half)?;
         let left = PartitionConsumer {
             map_op,
             items: index,
-            value_places,
-            key_places,
+            spares,
         };
         let right = PartitionConsumer {
             map_op,
-            items: more,
-            value_places: more,
-            key_places: more,
+            items: items.saturating_sub(index),
+            spares: others,
         };
         Ok((left, right, PartitionReducer))
     }
 
     fn into_folder(self, alloc: Global) -> Result<PartitionFolder<'f, U, K, F>, Fault> {
+        let (values, keys) = first_lists(alloc, self.spares, self.items);
         Ok(PartitionFolder {
-            values: with_places(alloc, self.value_places),
-            keys: with_places(alloc, self.key_places),
+            values,
+            keys,
             map_op: self.map_op,
         })
     }
+}
+
+/// The first pair of spare lists, emptied, or where there is none a pair of new ones for so many
+/// items.
+fn first_lists<U: Drop, K: Drop>(
+    alloc: Global,
+    spares: Vec<(Vec<U>, Vec<K>)>,
+    items: usize,
+) -> (Vec<U>, Vec<K>)
+    ensures { (result.0.items ≡ []) × (result.1.items ≡ []) }
+{
+    match spares.into_iter().next() {
+        Some((values, keys)) => {
+            let mut values = values;
+            let mut keys = keys;
+            values.clear();
+            keys.clear();
+            (values, keys)
+        }
+        None => (with_places(alloc, items), with_places(alloc, items)),
+    }
+}
+
+/// Spare lists for segments of such lengths, the first ones with so many places more.
+pub(crate) fn spare_lists<U: Drop, K: Drop>(
+    alloc: Global,
+    lengths: Vec<usize>,
+    first_values: usize,
+    first_keys: usize,
+) -> Result<Vec<(Vec<U>, Vec<K>)>, Fault>
+    ensures fault { IsMemoryOnErr result }
+{
+    let mut spares = Vec::new(alloc);
+    let mut value_places = first_values;
+    let mut key_places = first_keys;
+    for length in lengths {
+        let values = with_places(alloc, length.max(value_places));
+        let keys = with_places(alloc, length.max(key_places));
+        spares.push((values, keys))?;
+        value_places = 0;
+        key_places = 0;
+    }
+    Ok(spares)
+}
+
+/// The values and the keys of all segments, one after another, in the first lists' places where
+/// there is room.
+pub(crate) fn put_in_one<U: Drop, K: Drop>(
+    alloc: Global,
+    lists: Vec<(Vec<U>, Vec<K>)>,
+) -> Result<(Vec<U>, Vec<K>), Fault>
+    ensures values { IfOk result (λ r. r.0.items ≡ values_in lists.items) }
+    ensures keys { IfOk result (λ r. r.1.items ≡ keys_in lists.items) }
+    ensures fault { IsMemoryOnErr result }
+{
+    let mut values = Vec::new(alloc);
+    let mut keys = Vec::new(alloc);
+    for (more_values, more_keys) in lists {
+        values = put_behind(values, more_values)?;
+        keys = put_behind(keys, more_keys)?;
+    }
+    Ok((values, keys))
+}
+
+/// The items of two lists one after another.
+fn put_behind<T: Drop>(list: Vec<T>, more: Vec<T>) -> Result<Vec<T>, Fault>
+    ensures items { IfOk result (λ all. all.items ≡ list.items ++ more.items) }
+    ensures fault { IsMemoryOnErr result }
+{
+    if list.is_empty() && list.capacity() < more.capacity() {
+        return Ok(more);
+    }
+    let mut list = list;
+    let mut more = more;
+    list.append(&mut more)?;
+    Ok(list)
 }
 
 /// The lists with the value of one answer more, or with its key where it has none.

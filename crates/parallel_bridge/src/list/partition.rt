@@ -7,10 +7,11 @@ ghost use Rattle.parallel_bridge.specs.Parts.{PartitionOf};
 ghost use Rattle.parallel_bridge.specs.Sources.{GivesSome};
 
 use crate::bridge::{bridge, unfailing};
-use crate::consumer::partition::{PartitionConsumer, partition_onto};
+use crate::consumer::partition::{PartitionConsumer, partition_onto, put_in_one, spare_lists};
 use crate::parts::Parts;
 use crate::path::Path;
-use crate::room::{places_for, second_places_for, with_places};
+use crate::room::{keep_pages_of, places_for, second_places_for, with_places};
+use crate::segments::segments;
 use parallel_fault::Fault;
 use std::alloc::Global;
 use std::num::NonZeroUsize;
@@ -58,13 +59,16 @@ pub fn partition_parallel<
     ensures fault { IsMemoryOnErr result }
 {
     let items = parts.len();
+    let lengths = segments(alloc, threads, items)?;
+    keep_pages_of::<(U, K)>(alloc, items);
+    let spares = spare_lists(alloc, lengths, places_for(items), second_places_for(items))?;
     let consumer = PartitionConsumer {
         map_op,
         items,
-        value_places: places_for(items),
-        key_places: second_places_for(items),
+        spares,
     };
-    unfailing(bridge(rt, alloc, threads, parts, consumer))
+    let lists = unfailing(bridge(rt, alloc, threads, parts, consumer))?;
+    put_in_one(alloc, lists)
 }
 
 /// The values and the keys of the items of a list, in their order: serially as they come, in
