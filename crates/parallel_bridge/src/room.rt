@@ -44,11 +44,12 @@ pub(crate) fn with_places<T: Drop>(alloc: Global, places: usize) -> Vec<T>
     }
 }
 
-/// Makes glibc keep the pages of lists that are let go later, where they have no more than twice the
-/// memory of so many items of this type together.
+/// Makes glibc keep the pages of lists that are let go later, where all of them together have no
+/// more than twice the memory of so many items.
 ///
-/// glibc gives the free memory at the end of its heap back once that is more than twice the greatest
-/// block that was freed. So it takes a block of so many places, never touched, and lets it go.
+/// glibc gives the free memory at the end of its heap back once that is more than twice the
+/// greatest block that was freed. So this takes a block of so many places, never touched, and lets
+/// it go.
 pub(crate) fn keep_pages_of<T: Drop>(alloc: Global, items: usize) {
     let block: Vec<T> = with_places(alloc, places_for(items));
     drop(block);
