@@ -108,12 +108,13 @@ returns-in-Err-control g c depth short =
     let told : TellsAs self.watch.start last.watch.seat.seat.me.0 last.control =
     subst (λ n. TellsAs n last.watch.seat.seat.me.0 last.control) begun.same.1 all.3 in
     let onward = subst (HaltsOnward (step g i) first.control fed.0) c.in-Err-control.is all.0 in (
-      driven_leaf g.S.Segment.gives self.parts leaf node depth (Err (Closure c.in-Err-control.halt)) short (
-        fed.0,
-        fed.1,
-        folded_halt (identity g i) (step g i) (reduce g i) first.control fed.0
-            c.in-Err-control.halt begun.begins onward,
-      ),
+      driven_leaf g.S.Segment.gives self.parts leaf node depth
+          (Err (Closure c.in-Err-control.halt)) short (
+            fed.0,
+            fed.1,
+            folded_halt (identity g i) (step g i) (reduce g i) first.control fed.0
+                c.in-Err-control.halt begun.begins onward,
+          ),
       c.feed-fed.ensures.rest,
       (
         subst (λ w. IsSeatOf w.now last.watch.seat) (all.1.0 ∙ begun.same.0) all.2,
