@@ -1,7 +1,7 @@
--- The names of std that proofs here cite, those of its own page among them, passed on from one place.
--- Declares nothing.
+-- The names of std that proofs here cite, those of its own page among them, passed on from one
+-- place. Declares nothing.
 pub use Rattle.std.proofs.Common.{All, Bool, Contains, Err, Global, IfErr, IfOk, IsPermutation, IsSome, IsTrue, List, MatchResult, None, Ok, Option, Result, Some, Vec, [], add-mul, ap, append-nil}
-pub use Rattle.std.proofs.Common.{append_assoc, arith, drop, drop-drop, false, fold, get_or, inl, inr, is_err, is_some, le-ltb, length, length-append, length-drop, length-take, length-take-le, lt-ltb}
+pub use Rattle.std.proofs.Common.{append_assoc, arith, drop, drop-drop, false, fold, get_or, inl, inr, is_some, le-ltb, length, length-append, length-drop, length-take, length-take-le, lt-ltb}
 pub use Rattle.std.proofs.Common.{ltb-false, ltb-true, map, map-id, min, mul-le-mul_right, nat_lt, pow_pos, refl, replicate, rules, set, slice_index, subst, suc, suc-mul, sum, sum_by, sym, take}
 pub use Rattle.std.proofs.Common.{take-append-drop, take-take, take_all, zero, zip, ℕ, ⊎_elim, ◌%◌, ◌*◌, ◌++◌, ◌+◌, ◌-◌, ◌/◌, ◌<◌, ◌^◌, ◌∙◌, ◌∷◌, ◌≡◌, ◌≢◌, ◌≤◌, ◌⊎◌}
 pub use Rattle.std.proofs.Math.Nat.{add-mod-mod, mod-add-mod, mod-eq_of_lt, pow-succ', zero-add, zero-mul}

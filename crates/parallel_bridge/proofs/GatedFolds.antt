@@ -1,5 +1,5 @@
--- For `consume_iter` of `GatedFolder`: folding some items under the eye of a gate, and then more, is
--- folding all of them.
+-- For `consume_iter` of `GatedFolder`: folding some items under the eye of a gate, and then more,
+-- is folding all of them.
 use Rattle.parallel_bridge.proofs.Gates.{Halt, Failed, Stopped, GateWatch, IsWatching, SameWatch, known, Begins, HaltsOnward, TellsAs, halting}
 use Rattle.std.proofs.Common.{List, [], ◌++◌, Result, Ok, Err, IsTrue, is_err, refl, sym, subst, ◌∙◌}
 use Rattle.parallel_bridge.specs.Tries.{OnlyOk, TryChain, TryFoldSegment, TryReducedSegment}

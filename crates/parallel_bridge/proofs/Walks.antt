@@ -6,6 +6,7 @@ pub use Rattle.core.proofs.mem.Param.{El, R, args, el_x, elτ}
 pub use Rattle.core.proofs.ptr.Rows.{one_below, times_below}
 pub use Rattle.core.specs.declared.alloc.Allocator.{Ghosts}
 pub use Rattle.parallel_bridge.specs.Places.{IsFilled, cells_own, deed_owns, shifted, slot, slots, values}
+pub use Rattle.std.proofs.raw_atomic.Walks.{proved_at}
 pub use Rattle.std.specs.Mem.{type_size}
 pub use Rattle.std.specs.Prelude.{Bool, None, Option, Some, false, true}
 pub use Rattle.std_alloc.proofs.RawLayout.{as_raw, as_written}
@@ -38,10 +39,8 @@ pub use denote.Struct.Lending.{Lends-nothing, of_Lends}
 pub use denote.Struct.Owning.{fields, shape, to}
 pub use denote.Struct.Struct.{Shape, Struct, exits_of, within}
 pub use denote.Struct.Tuple.{Tuple, tuple_type}
-pub use denote.Triple.Clauses.{Clauses, Ended, closing}
-pub use denote.Triple.Spec.{Meets, triple_of}
-pub use denote.Triple.Table.{entered}
-pub use denote.Triple.Walked.{Goes-dropped, Goes-ref, Stays, ends_at, says, stay_dropped, stay_ref, walk_Meets, walk_of}
+pub use denote.Triple.Clauses.{Clauses, Ended}
+pub use denote.Triple.Walked.{Goes-dropped, Goes-ref, Stays, ends_at, says, stay_dropped, stay_ref, walk_of}
 pub use lib.Dec.{T, lit<}
 pub use lib.ListN.{drop as from, get_or, length, length-append, length-drop, length-replicate, length-set, length-take, replicate, set, take, take-append-drop}
 pub use mathlib.Core.List.{List, [], map, ◌++◌, ◌∷◌}
@@ -56,10 +55,9 @@ pub use prog.Memory.{Memory}
 pub use prog.Routine.{Routine}
 pub use prog.Wp.{Env, Tables, WpFn}
 pub use seplogic.Ra.Ura.{Ura}
-pub use sound.WpLaws.{WpFn-mono}
 pub use types.ByLocal.{alloc_all, env, free_all, get, get_in, give_at, is, look_at, pass_all, sets, sets_last, take_at, through}
-pub use types.Kit.{ !, Goal, Item, Seq, Step, at_ret, by, check, done, drop, feq_i, feq_l, fjoin, fjoin3, flt_i, flt_l, fpack, fpick, frame, fsplit, fsplit3, given, join, keep, learn, move, pick, prop}
-pub use types.Kit.{qed, raw, rewrite, show, some, split, split3, step, suffices, use0, use1, use2, use3, ‵, ◌$◌, ◌∵◌, ◌⊛◌}
+pub use types.Kit.{Goal, Item, Seq, Step, at_ret, by, check, done, drop, feq_i, feq_l, fjoin, fjoin3, flt_i, flt_l, fpack, fpick, frame, fsplit, fsplit3, given, join, keep, learn, move, pick, prop}
+pub use types.Kit.{qed, raw, rewrite, show, some, split, split3, step, suffices, use0, use1, use2, use3, !, ‵, ◌$◌, ◌∵◌, ◌⊛◌}
 pub use types.Logic.{Logic, sem}
 pub use types.Part.{agg, look_in, store_in, sub, whole}
 pub use types.Run.{addr, and_then, assigns, assigns_last, bin, blocks, enter, exec, first, fld, init, lit, load, look, no_more, of_opd, returns, size_lit, size_word, stop, unit_lit}

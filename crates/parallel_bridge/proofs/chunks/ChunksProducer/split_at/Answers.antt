@@ -42,4 +42,5 @@ returns-clause-may_back g c x =
 pub returns-clause-some : goal.returns-clause-some
 returns-clause-some g c =
     let xs = c.args.self.slice.now in let m = c.middle_of-middle.result in
-    some_borrows (chunks_of (non_zero_usize_get c.args.self.size) (take (length xs - m) (drop m xs)))
+    let size = non_zero_usize_get c.args.self.size in
+    some_borrows (chunks_of size (take (length xs - m) (drop m xs)))

@@ -1,11 +1,11 @@
 -- `close` gives a vector a row of places as its block. Assumes `Logic`.
-use Rattle.parallel_bridge.proofs.Walks.{◌≡◌, refl, sym, ap, subst, ◌∙◌, ℕ, ◌-◌, ◌*◌, ◌≤◌, ◌<◌, ◌^◌, List, [], ◌∷◌, ◌++◌, map, length, replicate, Ura, full_share, Fn, w64, inst_fn, Val, vunit, vint}
-use Rattle.parallel_bridge.proofs.Walks.{vptr, SProp, ent, never, id⊢, ftrue, fat, flft, Memory, Routine, Env, WpFn, Tables, Logic, ◌⊑◌, Fun, fact, tables, tables_of, WpFn-mono, ‵, raw, ◌⊛◌, at_ret}
+use Rattle.parallel_bridge.proofs.Walks.{proved_at, ◌≡◌, refl, sym, ap, subst, ◌∙◌, ℕ, ◌-◌, ◌*◌, ◌≤◌, ◌<◌, ◌^◌, List, [], ◌∷◌, ◌++◌, map, length, replicate, Ura, full_share, Fn, w64, inst_fn, Val}
+use Rattle.parallel_bridge.proofs.Walks.{vunit, vint, vptr, SProp, ent, never, id⊢, ftrue, fat, flft, Memory, Routine, Env, WpFn, Tables, Logic, ◌⊑◌, Fun, fact, tables, tables_of, ‵, raw, ◌⊛◌, at_ret}
 use Rattle.parallel_bridge.proofs.Walks.{◌$◌, ◌∵◌, !, qed, move, keep, drop, use2, split, split3, join, rewrite, fsplit, fsplit3, fjoin3, feq_i, feq_l, flt_l, suffices, done, whole, sub, store_in}
 use Rattle.parallel_bridge.proofs.Walks.{addr, stop, fld, unit_lit, of_opd, assigns, assigns_last, first, blocks, exec, returns, enter, alloc_all, pass_all, free_all, look_at, get, get_in, take_at}
-use Rattle.parallel_bridge.proofs.Walks.{give_at, through, sets, env, yes, no, RattleType, owns, usize, layout, Ptr, block_ptr, in_a_block, plain, types_at, heard, nothing, Clauses, Ended, closing}
-use Rattle.parallel_bridge.proofs.Walks.{Meets, triple_of, entered, says, Stays, stay_dropped, stay_ref, walk_of, ends_at, Goes-dropped, Goes-ref, walk_Meets, Option, Some, None, Goes-blank, token}
-use Rattle.parallel_bridge.proofs.Walks.{has_block, word, word-Good, Blk, vec_opens⁰, vec_closes⁰, after, slots, cells_own, deed_owns, values}
+use Rattle.parallel_bridge.proofs.Walks.{give_at, through, sets, env, yes, no, RattleType, owns, usize, layout, Ptr, block_ptr, in_a_block, plain, types_at, heard, nothing, Clauses, Ended, says}
+use Rattle.parallel_bridge.proofs.Walks.{Stays, stay_dropped, stay_ref, walk_of, ends_at, Goes-dropped, Goes-ref, Option, Some, None, Goes-blank, token, has_block, word, word-Good, Blk, vec_opens⁰}
+use Rattle.parallel_bridge.proofs.Walks.{vec_closes⁰, after, slots, cells_own, deed_owns, values}
 use Rattle.std_alloc.proofs.VecSteps.El.{El, args, el_x, el_d, R, P, Vr, Hd, sz}
 use Rattle.parallel_bridge.proofs.Rows.{Places, Start, mark, mark_had, start_had}
 use Rattle.parallel_bridge.proofs.Blocks.{plainly, stored_within, block_in}
@@ -50,15 +50,9 @@ module _ (E : El) where
     abbrev held : Clauses 𝓤 ended
     held = F.clauses E.row E.al.row E.al.g E.al.d E.al.drops 𝓛 at_mem run
 
-    abbrev Bound : Type 0
-    Bound = (walk_of 𝓛 ended stayed held).Ghost
-
-    abbrev Goes : Bound → Type 1
-    Goes y = ent 𝓤 ((walk_of 𝓛 ended stayed held).pre y)
-        (WpFn 𝓤 H 𝓣.C 𝓣.Λ here ((walk_of 𝓛 ended stayed held).args y)
-        ((walk_of 𝓛 ended stayed held).post y))
-
-    walk : (z : Bound) → Goes z
+    walk : (z : (walk_of 𝓛 ended stayed held).Ghost) → ent 𝓤 ((walk_of 𝓛 ended stayed held).pre z)
+        (WpFn 𝓤 H 𝓣.C 𝓣.Λ here ((walk_of 𝓛 ended stayed held).args z)
+        ((walk_of 𝓛 ended stayed held).post z))
     walk z =
         let κ = z.0.0.0 in
         let κ₁ = z.0.0.1.0 in
@@ -166,8 +160,14 @@ module _ (E : El) where
         feq_i ! (List Val) (vunit ∷ []) (vunit ∷ []) refl $ keep ! (1 ∷ 2 ∷ 0 ∷ []) $
         done !)))))))))))))))
 
-    meets : Meets 𝓛 ended.signature (WpFn 𝓤 H 𝓣.C 𝓣.Λ here) (closing 𝓛 ended held)
-    meets = walk_Meets 𝓛 ended stayed (
+pub close_spec : {M : Type 1} → stated.statement M
+unfolding tables_of
+close_spec 𝓤 𝓛 𝓜 𝓡 wired X Z L LZ g d dd met md =
+    let E : El =
+    record { row = X; laws = L; al = record { row = Z; laws = LZ; g = g; d = d; drops = dd } }
+    in
+    let 𝓣 : Tables 𝓤 𝓛.H = tables_of 𝓤 𝓛.H 𝓜 (tables 𝓤 𝓛.H 𝓜 𝓡 𝓡.env) in
+    proved_at 𝓛 (ended E) (stayed E) (F.clauses X Z g d dd 𝓛 𝓜.mem 𝓡.returns) 𝓜 𝓡 (
       Goes-ref 𝓛 3 0 tt (plain (λ _. Vr E)),
       (
         Goes-dropped 𝓛 3 (plain (λ _. Start (plainly E))) no (λ κs x f. refl),
@@ -177,20 +177,11 @@ module _ (E : El) where
             Goes-dropped 𝓛 3 (plain (λ _. usize)) yes (λ κs x f. refl),
             (
               Goes-blank 𝓛 3 (plain (λ _. Places (plainly E))) no (λ κs x f. tt),
-              (Goes-blank 𝓛 3 (plain (λ _. Deeds)) no (λ κs x f. tt), tt),
+              (Goes-blank 𝓛 3 (plain (λ _. Deeds E)) no (λ κs x f. tt), tt),
             ),
           ),
         ),
       ),
-    ) held (WpFn 𝓤 H 𝓣.C 𝓣.Λ here) (WpFn-mono 𝓤 H 𝓛.laws 𝓣 here) walk
-
-pub close_spec : {M : Type 1} → stated.statement M
-unfolding tables_of
-close_spec 𝓤 𝓛 𝓜 𝓡 wired X Z L LZ g d dd met md =
-    let E : El =
-    record { row = X; laws = L; al = record { row = Z; laws = LZ; g = g; d = d; drops = dd } }
-    in
-    let 𝓣 : Tables 𝓤 𝓛.H = tables_of 𝓤 𝓛.H 𝓜 (tables 𝓤 𝓛.H 𝓜 𝓡 𝓡.env) in
-    entered 𝓤 𝓛.H (triple_of 𝓛 (ended E).signature (F.spec X Z g d dd 𝓛 𝓜.mem 𝓡.returns)) 𝓣.C 𝓣.Λ
+    )
     (#self (args E)) (here E) (code.unfolded 𝓤 𝓛.H 𝓜 𝓡 wired (X, (Z, tt)) d dd)
-    (meets E 𝓛 𝓜.mem 𝓡.returns 𝓣)
+    (λ y are. walk E 𝓛 𝓜.mem 𝓡.returns 𝓣 y)

@@ -1,11 +1,10 @@
 -- `open` takes a vector's block out as a row of places with the right to free it. Assumes `Logic`.
-use Rattle.parallel_bridge.proofs.Walks.{◌≡◌, refl, sym, ap, subst, ℕ, ◌-◌, ◌*◌, ◌<◌, ◌^◌, zero-mul, arith, List, [], ◌∷◌, ◌++◌, map, lit<, length, replicate, Ura, Fn, ty_array, inst_fn, bare, Val}
-use Rattle.parallel_bridge.proofs.Walks.{vptr, SProp, ent, id⊢, ftrue, flft, Memory, Routine, Env, WpFn, Tables, Logic, Fun, tables, tables_of, WpFn-mono, ‵, raw, ◌⊛◌, at_ret, ◌$◌, ◌∵◌, !, qed, move}
+use Rattle.parallel_bridge.proofs.Walks.{proved_at, ◌≡◌, refl, sym, ap, subst, ℕ, ◌-◌, ◌*◌, ◌<◌, ◌^◌, zero-mul, arith, List, [], ◌∷◌, ◌++◌, map, lit<, length, replicate, Ura, Fn, ty_array, inst_fn}
+use Rattle.parallel_bridge.proofs.Walks.{bare, Val, vptr, SProp, ent, id⊢, ftrue, flft, Memory, Routine, Env, WpFn, Tables, Logic, Fun, tables, tables_of, ‵, raw, ◌⊛◌, at_ret, ◌$◌, ◌∵◌, !, qed, move}
 use Rattle.parallel_bridge.proofs.Walks.{keep, drop, use0, use1, use3, split, split3, join, fsplit, fsplit3, fjoin, fjoin3, feq_i, feq_l, flt_i, suffices, done, whole, sub, agg, look_in, store_in}
 use Rattle.parallel_bridge.proofs.Walks.{addr, stop, fld, load, lit, of_opd, no_more, and_then, assigns, first, blocks, exec, returns, enter, alloc_all, pass_all, free_all, look_at, get, through}
-use Rattle.parallel_bridge.proofs.Walks.{sets, sets_last, env, RattleType, owns, layout, Ptr, block_ptr, plain, types_at, nothing, Tuple, Clauses, Ended, closing, Meets, triple_of, entered, Stays}
-use Rattle.parallel_bridge.proofs.Walks.{stay_ref, walk_of, ends_at, Goes-ref, walk_Meets, Option, Some, None, token, owns_if, has_block, Good, word, word-Good, not_live, vec_opens⁰, vec_closes⁰}
-use Rattle.parallel_bridge.proofs.Walks.{after, slots}
+use Rattle.parallel_bridge.proofs.Walks.{sets, sets_last, env, RattleType, owns, layout, Ptr, block_ptr, plain, types_at, nothing, Tuple, Clauses, Ended, Stays, stay_ref, walk_of, ends_at, Goes-ref}
+use Rattle.parallel_bridge.proofs.Walks.{Option, Some, None, token, owns_if, has_block, Good, word, word-Good, not_live, vec_opens⁰, vec_closes⁰, after, slots}
 use Rattle.std_alloc.proofs.VecSteps.El.{El, args, el_x, el_d, elτ, R, P, Vr, Hd, sz}
 use Rattle.parallel_bridge.proofs.Rows.{Places, Start, Mark, mark, mark_from, start_made, says_three, triple, triple_made}
 use Rattle.parallel_bridge.proofs.Blocks.{plainly, stored, stored_length, block_out}
@@ -38,15 +37,9 @@ module _ (E : El) where
     abbrev held : Clauses 𝓤 ended
     held = F.clauses E.row E.al.row E.al.g E.al.d E.al.drops 𝓛 at_mem run
 
-    abbrev Bound : Type 0
-    Bound = (walk_of 𝓛 ended stayed held).Ghost
-
-    abbrev Goes : Bound → Type 1
-    Goes y = ent 𝓤 ((walk_of 𝓛 ended stayed held).pre y)
-        (WpFn 𝓤 H 𝓣.C 𝓣.Λ here ((walk_of 𝓛 ended stayed held).args y)
-        ((walk_of 𝓛 ended stayed held).post y))
-
-    walk : (z : Bound) → Goes z
+    walk : (z : (walk_of 𝓛 ended stayed held).Ghost) → ent 𝓤 ((walk_of 𝓛 ended stayed held).pre z)
+        (WpFn 𝓤 H 𝓣.C 𝓣.Λ here ((walk_of 𝓛 ended stayed held).args z)
+        ((walk_of 𝓛 ended stayed held).post z))
     walk z =
         let κ = z.0.0.0 in
         let κ₁ = z.0.0.1.0 in
@@ -141,10 +134,6 @@ module _ (E : El) where
         move ! (3 ∷ 4 ∷ []) $ join ! $ move ! (2 ∷ 0 ∷ []) $ join ! $ keep ! (0 ∷ 1 ∷ 2 ∷ []) $
         done !)))
 
-    meets : Meets 𝓛 ended.signature (WpFn 𝓤 H 𝓣.C 𝓣.Λ here) (closing 𝓛 ended held)
-    meets = walk_Meets 𝓛 ended stayed (Goes-ref 𝓛 3 0 tt (plain (λ _. Vr E)), tt) held
-        (WpFn 𝓤 H 𝓣.C 𝓣.Λ here) (WpFn-mono 𝓤 H 𝓛.laws 𝓣 here) walk
-
 pub open_spec : {M : Type 1} → stated.statement M
 unfolding tables_of
 open_spec 𝓤 𝓛 𝓜 𝓡 wired X Z L LZ g d dd met md =
@@ -152,6 +141,7 @@ open_spec 𝓤 𝓛 𝓜 𝓡 wired X Z L LZ g d dd met md =
     record { row = X; laws = L; al = record { row = Z; laws = LZ; g = g; d = d; drops = dd } }
     in
     let 𝓣 : Tables 𝓤 𝓛.H = tables_of 𝓤 𝓛.H 𝓜 (tables 𝓤 𝓛.H 𝓜 𝓡 𝓡.env) in
-    entered 𝓤 𝓛.H (triple_of 𝓛 (ended E).signature (F.spec X Z g d dd 𝓛 𝓜.mem 𝓡.returns)) 𝓣.C 𝓣.Λ
+    proved_at 𝓛 (ended E) (stayed E) (F.clauses X Z g d dd 𝓛 𝓜.mem 𝓡.returns) 𝓜 𝓡
+    (Goes-ref 𝓛 3 0 tt (plain (λ _. Vr E)), tt)
     (#self (args E)) (here E) (code.unfolded 𝓤 𝓛.H 𝓜 𝓡 wired (X, (Z, tt)) d dd)
-    (meets E 𝓛 𝓜.mem 𝓡.returns 𝓣)
+    (λ y are. walk E 𝓛 𝓜.mem 𝓡.returns 𝓣 y)

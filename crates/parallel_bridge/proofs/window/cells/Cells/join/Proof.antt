@@ -1,9 +1,9 @@
 -- `join` makes one row of two that lie side by side. Assumes `Logic`.
-use Rattle.parallel_bridge.proofs.Walks.{◌≡◌, refl, sym, ap, subst, ◌∙◌, ℕ, ◌+◌, ◌*◌, ◌<◌, ◌^◌, List, [], ◌∷◌, ◌++◌, length, length-append, Ura, Fn, inst_fn, Val, SProp, ent, never, id⊢, ftrue, flft}
-use Rattle.parallel_bridge.proofs.Walks.{Memory, Routine, WpFn, Tables, Logic, ◌⊑◌, Fun, fact, tables, tables_of, WpFn-mono, ‵, raw, ◌⊛◌, ◌$◌, ◌∵◌, !, qed, move, keep, drop, use0, use2, split, join}
+use Rattle.parallel_bridge.proofs.Walks.{proved_at, ◌≡◌, refl, sym, ap, subst, ◌∙◌, ℕ, ◌+◌, ◌*◌, ◌<◌, ◌^◌, List, [], ◌∷◌, ◌++◌, length, length-append, Ura, Fn, inst_fn, Val, SProp, ent, never, id⊢}
+use Rattle.parallel_bridge.proofs.Walks.{ftrue, flft, Memory, Routine, WpFn, Tables, Logic, ◌⊑◌, Fun, fact, tables, tables_of, ‵, raw, ◌⊛◌, ◌$◌, ◌∵◌, !, qed, move, keep, drop, use0, use2, split, join}
 use Rattle.parallel_bridge.proofs.Walks.{rewrite, fsplit, fjoin, fjoin3, flt_i, suffices, done, agg, and_then, no_more, returns, enter, alloc_all, pass_all, free_all, look_at, get, sets, no, owns}
-use Rattle.parallel_bridge.proofs.Walks.{Ptr, block_ptr, in_a_block, plain, types_at, heard, nothing, Clauses, Ended, closing, Meets, triple_of, entered, says, Stays, stay_dropped, walk_of, ends_at}
-use Rattle.parallel_bridge.proofs.Walks.{walk_Meets, Goes-blank, El, R, args, shifted, slots, cells_own}
+use Rattle.parallel_bridge.proofs.Walks.{Ptr, block_ptr, in_a_block, plain, types_at, heard, nothing, Clauses, Ended, says, Stays, stay_dropped, walk_of, ends_at, Goes-blank, El, R, args, shifted}
+use Rattle.parallel_bridge.proofs.Walks.{slots, cells_own}
 use Rattle.std.specs.Vec.Ownership.{FitsInBlock}
 use Rattle.parallel_bridge.proofs.Rows.{Places, Mark, Place, sz, mark, mark_from, mark_had, glue}
 use Rattle.parallel_bridge.specs.contracts.window.cells.Cells.join as F
@@ -28,15 +28,9 @@ module _ (E : El) where
     abbrev held : Clauses 𝓤 ended
     held = F.clauses E.row 𝓛 at_mem run
 
-    abbrev Bound : Type 0
-    Bound = (walk_of 𝓛 ended stayed held).Ghost
-
-    abbrev Goes : Bound → Type 1
-    Goes y = ent 𝓤 ((walk_of 𝓛 ended stayed held).pre y)
-        (WpFn 𝓤 H 𝓣.C 𝓣.Λ here ((walk_of 𝓛 ended stayed held).args y)
-        ((walk_of 𝓛 ended stayed held).post y))
-
-    walk : (z : Bound) → Goes z
+    walk : (z : (walk_of 𝓛 ended stayed held).Ghost) → ent 𝓤 ((walk_of 𝓛 ended stayed held).pre z)
+        (WpFn 𝓤 H 𝓣.C 𝓣.Λ here ((walk_of 𝓛 ended stayed held).args z)
+        ((walk_of 𝓛 ended stayed held).post z))
     walk z =
         let κ = z.0.0.0 in let q = z.0.1.0 in let vss = z.0.4 in
         let Post : Val → SProp 𝓤 = (walk_of 𝓛 ended stayed held).post z in
@@ -80,19 +74,14 @@ module _ (E : El) where
         nothing ! $ nothing ! $ nothing ! $ fjoin3 ! $ move ! (2 ∷ []) $ nothing ! $
         move ! (1 ∷ 0 ∷ []) $ join ! $ keep ! (0 ∷ 1 ∷ 2 ∷ []) $ done !)))))
 
-    meets : Meets 𝓛 ended.signature (WpFn 𝓤 H 𝓣.C 𝓣.Λ here) (closing 𝓛 ended held)
-    meets =
-        walk_Meets 𝓛 ended stayed (
-          Goes-blank 𝓛 1 (plain (λ _. Places E)) no (λ κs x f. tt),
-          (Goes-blank 𝓛 1 (plain (λ _. Places E)) no (λ κs x f. tt), tt),
-        )
-        held (WpFn 𝓤 H 𝓣.C 𝓣.Λ here) (WpFn-mono 𝓤 H 𝓛.laws 𝓣 here) walk
-
 pub join_spec : {M : Type 1} → stated.statement M
 unfolding tables_of
 join_spec 𝓤 𝓛 𝓜 𝓡 wired X L =
     let E : El = record { row = X; laws = L } in
     let 𝓣 : Tables 𝓤 𝓛.H = tables_of 𝓤 𝓛.H 𝓜 (tables 𝓤 𝓛.H 𝓜 𝓡 𝓡.env) in
-    entered 𝓤 𝓛.H (triple_of 𝓛 (ended E).signature (F.spec X 𝓛 𝓜.mem 𝓡.returns)) 𝓣.C 𝓣.Λ
+    proved_at 𝓛 (ended E) (stayed E) (F.clauses X 𝓛 𝓜.mem 𝓡.returns) 𝓜 𝓡 (
+      Goes-blank 𝓛 1 (plain (λ _. Places E)) no (λ κs x f. tt),
+      (Goes-blank 𝓛 1 (plain (λ _. Places E)) no (λ κs x f. tt), tt),
+    )
     (#self (args E)) (here E) (code.unfolded 𝓤 𝓛.H 𝓜 𝓡 wired (X, tt))
-    (meets E 𝓛 𝓜.mem 𝓡.returns 𝓣)
+    (λ y are. walk E 𝓛 𝓜.mem 𝓡.returns 𝓣 y)

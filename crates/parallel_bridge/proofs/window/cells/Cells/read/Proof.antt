@@ -1,11 +1,11 @@
 -- `read` moves an item out, whose place is empty then. Assumes `Logic`.
-use Rattle.parallel_bridge.proofs.Walks.{◌≡◌, refl, sym, subst, ◌∙◌, ℕ, ◌+◌, ◌*◌, ◌<◌, ◌^◌, arith, List, [], ◌∷◌, ◌++◌, length, set, get_or, length-set, Ura, full_share, Fn, w64, inst_fn, Val, vptr}
-use Rattle.parallel_bridge.proofs.Walks.{vint, SProp, ent, never, id⊢, ftrue, fat, froom, flft, Memory, Routine, Env, WpFn, Tables, Logic, ◌⊑◌, Fun, fact, tables, tables_of, WpFn-mono, ‵, raw, ◌⊛◌}
+use Rattle.parallel_bridge.proofs.Walks.{proved_at, ◌≡◌, refl, sym, subst, ◌∙◌, ℕ, ◌+◌, ◌*◌, ◌<◌, ◌^◌, arith, List, [], ◌∷◌, ◌++◌, length, set, get_or, length-set, Ura, full_share, Fn, w64, inst_fn}
+use Rattle.parallel_bridge.proofs.Walks.{Val, vptr, vint, SProp, ent, never, id⊢, ftrue, fat, froom, flft, Memory, Routine, Env, WpFn, Tables, Logic, ◌⊑◌, Fun, fact, tables, tables_of, ‵, raw, ◌⊛◌}
 use Rattle.parallel_bridge.proofs.Walks.{some, given, pick, learn, at_ret, ◌$◌, ◌∵◌, !, qed, move, keep, drop, use1, use2, split, split3, join, rewrite, fsplit, fsplit3, fjoin, fjoin3, feq_i, feq_l}
 use Rattle.parallel_bridge.proofs.Walks.{flt_l, flt_i, suffices, done, whole, sub, look, load, stop, fld, bin, size_lit, of_opd, first, blocks, exec, returns, enter, alloc_all, pass_all, free_all}
 use Rattle.parallel_bridge.proofs.Walks.{look_at, get, get_in, take_at, give_at, through, sets, sets_last, env, yes, no, owns, usize, layout, Ptr, in_a_block, plain, types_at, heard, nothing, opens}
-use Rattle.parallel_bridge.proofs.Walks.{closes, Clauses, Ended, closing, Meets, triple_of, entered, Stays, stay_dropped, stay_ref, walk_of, ends_at, Goes-dropped, Goes-ref, walk_Meets, None, El, R}
-use Rattle.parallel_bridge.proofs.Walks.{args, elτ, times_below, one_below, as_raw, Good, word, word-Good, after, IsFilled, slot, slots, cells_own}
+use Rattle.parallel_bridge.proofs.Walks.{closes, Clauses, Ended, Stays, stay_dropped, stay_ref, walk_of, ends_at, Goes-dropped, Goes-ref, None, El, R, args, elτ, times_below, one_below, as_raw, Good}
+use Rattle.parallel_bridge.proofs.Walks.{word, word-Good, after, IsFilled, slot, slots, cells_own}
 use Rattle.parallel_bridge.proofs.Rows.{Places, Start, Place, sz, start_had, item_out, says_two, has_index, Others, place_out, place_in}
 use Rattle.parallel_bridge.specs.contracts.window.cells.Cells.read as F
 use Rattle.parallel_bridge.specs.contracts.window.cells.Cells.read.Key.{name as #self}
@@ -32,15 +32,9 @@ module _ (E : El) where
     abbrev held : Clauses 𝓤 ended
     held = F.clauses E.row 𝓛 at_mem run
 
-    abbrev Bound : Type 0
-    Bound = (walk_of 𝓛 ended stayed held).Ghost
-
-    abbrev Goes : Bound → Type 1
-    Goes y = ent 𝓤 ((walk_of 𝓛 ended stayed held).pre y)
-        (WpFn 𝓤 H 𝓣.C 𝓣.Λ here ((walk_of 𝓛 ended stayed held).args y)
-        ((walk_of 𝓛 ended stayed held).post y))
-
-    walk : (z : Bound) → Goes z
+    walk : (z : (walk_of 𝓛 ended stayed held).Ghost) → ent 𝓤 ((walk_of 𝓛 ended stayed held).pre z)
+        (WpFn 𝓤 H 𝓣.C 𝓣.Λ here ((walk_of 𝓛 ended stayed held).args z)
+        ((walk_of 𝓛 ended stayed held).post z))
     walk z =
         let κ = z.0.0.0 in let κ₁ = z.0.0.1.0 in let q = z.0.1.0 in let q₁ = z.0.1.1.0 in
         let rb : ℕ = z.0.3.0.ref_ptr.0 in let ro : ℕ = z.0.3.0.ref_ptr.1 in let vss = z.0.4 in
@@ -115,22 +109,17 @@ module _ (E : El) where
         move ! (3 ∷ []) $ nothing ! $ move ! (1 ∷ 0 ∷ []) $ join ! $ move ! (2 ∷ 0 ∷ []) $ join ! $
         keep ! (0 ∷ 1 ∷ 2 ∷ []) $ done !)))))))))))
 
-    meets : Meets 𝓛 ended.signature (WpFn 𝓤 H 𝓣.C 𝓣.Λ here) (closing 𝓛 ended held)
-    meets =
-        walk_Meets 𝓛 ended stayed (
-          Goes-ref 𝓛 2 0 tt (plain (λ _. Places E)),
-          (
-            Goes-dropped 𝓛 2 (plain (λ _. Start E)) no (λ κs x f. refl),
-            (Goes-dropped 𝓛 2 (plain (λ _. usize)) yes (λ κs x f. refl), tt),
-          ),
-        )
-        held (WpFn 𝓤 H 𝓣.C 𝓣.Λ here) (WpFn-mono 𝓤 H 𝓛.laws 𝓣 here) walk
-
 pub read_spec : {M : Type 1} → stated.statement M
 unfolding tables_of
 read_spec 𝓤 𝓛 𝓜 𝓡 wired X L =
     let E : El = record { row = X; laws = L } in
     let 𝓣 : Tables 𝓤 𝓛.H = tables_of 𝓤 𝓛.H 𝓜 (tables 𝓤 𝓛.H 𝓜 𝓡 𝓡.env) in
-    entered 𝓤 𝓛.H (triple_of 𝓛 (ended E).signature (F.spec X 𝓛 𝓜.mem 𝓡.returns)) 𝓣.C 𝓣.Λ
+    proved_at 𝓛 (ended E) (stayed E) (F.clauses X 𝓛 𝓜.mem 𝓡.returns) 𝓜 𝓡 (
+      Goes-ref 𝓛 2 0 tt (plain (λ _. Places E)),
+      (
+        Goes-dropped 𝓛 2 (plain (λ _. Start E)) no (λ κs x f. refl),
+        (Goes-dropped 𝓛 2 (plain (λ _. usize)) yes (λ κs x f. refl), tt),
+      ),
+    )
     (#self (args E)) (here E) (code.unfolded 𝓤 𝓛.H 𝓜 𝓡 wired (X, tt))
-    (meets E 𝓛 𝓜.mem 𝓡.returns 𝓣)
+    (λ y are. walk E 𝓛 𝓜.mem 𝓡.returns 𝓣 y)

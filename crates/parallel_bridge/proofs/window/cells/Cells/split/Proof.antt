@@ -1,11 +1,11 @@
 -- `split` cuts a row in two. Assumes `Logic`.
-use Rattle.parallel_bridge.proofs.Walks.{◌≡◌, refl, sym, ap, subst, ◌∙◌, ℕ, ◌+◌, ◌*◌, ◌<◌, ◌≤◌, ◌^◌, arith, List, [], ◌∷◌, ◌++◌, length, take, from, length-take, length-drop, Ura, full_share, Fn, w64}
-use Rattle.parallel_bridge.proofs.Walks.{inst_fn, Val, vint, SProp, ent, never, id⊢, ftrue, fat, flft, Memory, Routine, Env, WpFn, Tables, Logic, ◌⊑◌, Fun, fact, tables, tables_of, WpFn-mono, ‵, raw}
-use Rattle.parallel_bridge.proofs.Walks.{◌⊛◌, at_ret, ◌$◌, ◌∵◌, !, qed, move, keep, drop, use0, use1, use3, split, join, rewrite, fsplit, fjoin, fjoin3, feq_l, flt_l, flt_i, suffices, done, whole}
-use Rattle.parallel_bridge.proofs.Walks.{sub, agg, stop, fld, bin, size_word, of_opd, and_then, no_more, first, blocks, exec, returns, enter, alloc_all, pass_all, free_all, look_at, get, get_in}
-use Rattle.parallel_bridge.proofs.Walks.{take_at, give_at, is, sets, sets_last, env, yes, no, RattleType, owns, usize, layout, Ptr, block_ptr, in_a_block, plain, types_at, heard, nothing, Tuple}
-use Rattle.parallel_bridge.proofs.Walks.{Clauses, Ended, closing, Meets, triple_of, entered, says, Stays, stay_dropped, walk_of, ends_at, Goes-dropped, walk_Meets, Goes-blank, El, R, args}
-use Rattle.parallel_bridge.proofs.Walks.{times_below, Good, word, word-Good, after, shifted, slots, cells_own}
+use Rattle.parallel_bridge.proofs.Walks.{proved_at, ◌≡◌, refl, sym, ap, subst, ◌∙◌, ℕ, ◌+◌, ◌*◌, ◌<◌, ◌≤◌, ◌^◌, arith, List, [], ◌∷◌, ◌++◌, length, take, from, length-take, length-drop, Ura}
+use Rattle.parallel_bridge.proofs.Walks.{full_share, Fn, w64, inst_fn, Val, vint, SProp, ent, never, id⊢, ftrue, fat, flft, Memory, Routine, Env, WpFn, Tables, Logic, ◌⊑◌, Fun, fact, tables}
+use Rattle.parallel_bridge.proofs.Walks.{tables_of, ‵, raw, ◌⊛◌, at_ret, ◌$◌, ◌∵◌, !, qed, move, keep, drop, use0, use1, use3, split, join, rewrite, fsplit, fjoin, fjoin3, feq_l, flt_l, flt_i}
+use Rattle.parallel_bridge.proofs.Walks.{suffices, done, whole, sub, agg, stop, fld, bin, size_word, of_opd, and_then, no_more, first, blocks, exec, returns, enter, alloc_all, pass_all, free_all}
+use Rattle.parallel_bridge.proofs.Walks.{look_at, get, get_in, take_at, give_at, is, sets, sets_last, env, yes, no, RattleType, owns, usize, layout, Ptr, block_ptr, in_a_block, plain, types_at, heard}
+use Rattle.parallel_bridge.proofs.Walks.{nothing, Tuple, Clauses, Ended, says, Stays, stay_dropped, walk_of, ends_at, Goes-dropped, Goes-blank, El, R, args, times_below, Good, word, word-Good, after}
+use Rattle.parallel_bridge.proofs.Walks.{shifted, slots, cells_own}
 use Rattle.core.proofs.slots.Leases.{uncapped}
 use Rattle.parallel_bridge.proofs.Rows.{Places, Start, Mark, Place, sz, mark, mark_from, mark_had, start_had, start_made, triple, triple_made, cut_at}
 use Rattle.parallel_bridge.specs.contracts.window.cells.Cells.split as F
@@ -36,15 +36,9 @@ module _ (E : El) where
     abbrev held : Clauses 𝓤 ended
     held = F.clauses E.row 𝓛 at_mem run
 
-    abbrev Bound : Type 0
-    Bound = (walk_of 𝓛 ended stayed held).Ghost
-
-    abbrev Goes : Bound → Type 1
-    Goes y = ent 𝓤 ((walk_of 𝓛 ended stayed held).pre y)
-        (WpFn 𝓤 H 𝓣.C 𝓣.Λ here ((walk_of 𝓛 ended stayed held).args y)
-        ((walk_of 𝓛 ended stayed held).post y))
-
-    walk : (z : Bound) → Goes z
+    walk : (z : (walk_of 𝓛 ended stayed held).Ghost) → ent 𝓤 ((walk_of 𝓛 ended stayed held).pre z)
+        (WpFn 𝓤 H 𝓣.C 𝓣.Λ here ((walk_of 𝓛 ended stayed held).args z)
+        ((walk_of 𝓛 ended stayed held).post z))
     walk z =
         let κ = z.0.0.0 in let q = z.0.1.0 in let vss = z.0.4 in
         let Post : Val → SProp 𝓤 = (walk_of 𝓛 ended stayed held).post z in
@@ -125,22 +119,17 @@ module _ (E : El) where
         nothing ! $ nothing ! $ nothing ! $ fjoin3 ! $ nothing ! $ fjoin ! $ move ! (2 ∷ []) $
         nothing ! $ move ! (1 ∷ 0 ∷ []) $ join ! $ keep ! (0 ∷ 1 ∷ 2 ∷ []) $ done !))))))))
 
-    meets : Meets 𝓛 ended.signature (WpFn 𝓤 H 𝓣.C 𝓣.Λ here) (closing 𝓛 ended held)
-    meets =
-        walk_Meets 𝓛 ended stayed (
-          Goes-blank 𝓛 1 (plain (λ _. Places E)) no (λ κs x f. tt),
-          (
-            Goes-dropped 𝓛 1 (plain (λ _. Start E)) no (λ κs x f. refl),
-            (Goes-dropped 𝓛 1 (plain (λ _. usize)) yes (λ κs x f. refl), tt),
-          ),
-        )
-        held (WpFn 𝓤 H 𝓣.C 𝓣.Λ here) (WpFn-mono 𝓤 H 𝓛.laws 𝓣 here) walk
-
 pub split_spec : {M : Type 1} → stated.statement M
 unfolding tables_of
 split_spec 𝓤 𝓛 𝓜 𝓡 wired X L =
     let E : El = record { row = X; laws = L } in
     let 𝓣 : Tables 𝓤 𝓛.H = tables_of 𝓤 𝓛.H 𝓜 (tables 𝓤 𝓛.H 𝓜 𝓡 𝓡.env) in
-    entered 𝓤 𝓛.H (triple_of 𝓛 (ended E).signature (F.spec X 𝓛 𝓜.mem 𝓡.returns)) 𝓣.C 𝓣.Λ
+    proved_at 𝓛 (ended E) (stayed E) (F.clauses X 𝓛 𝓜.mem 𝓡.returns) 𝓜 𝓡 (
+      Goes-blank 𝓛 1 (plain (λ _. Places E)) no (λ κs x f. tt),
+      (
+        Goes-dropped 𝓛 1 (plain (λ _. Start E)) no (λ κs x f. refl),
+        (Goes-dropped 𝓛 1 (plain (λ _. usize)) yes (λ κs x f. refl), tt),
+      ),
+    )
     (#self (args E)) (here E) (code.unfolded 𝓤 𝓛.H 𝓜 𝓡 wired (X, tt))
-    (meets E 𝓛 𝓜.mem 𝓡.returns 𝓣)
+    (λ y are. walk E 𝓛 𝓜.mem 𝓡.returns 𝓣 y)
