@@ -1,9 +1,9 @@
 // Jobs that are brought to a pool, beside a thread started for each.
+use crate::counted_job::{Board, CountedJob};
 use crate::decimal::Decimal;
-use crate::errand::{Board, Errand};
 use crate::request::JobTrial;
 use crate::times::Times;
-use crate::work::STIRS;
+use crate::work::ROUNDS;
 use anyhow::{Context, Result, ensure};
 use commonware_parallel::{Clock, Fault, MonotonicClock};
 use parallel_pool::rayon::{Execute, Staff, ThreadPool, ThreadPoolBuilder, WorkerThread, Yield};
@@ -27,8 +27,8 @@ const PAUSE: u64 = 5;
 /// timed.
 const MOST_THREADS: usize = 20_000;
 
-/// A pool of workers that call `Errand`s.
-type Pool = ThreadPool<Staff<Errand>>;
+/// A pool of workers that call `CountedJob`s.
+type Pool = ThreadPool<Staff<CountedJob>>;
 
 /// Times a trial of jobs, and prints a line for each way.
 pub fn race_jobs<Rt>(rt: &Rt, trial: JobTrial) -> Result<()>
@@ -47,13 +47,13 @@ where
 {
     let alloc = rt.alloc();
     let clock = Arc::new(alloc, MonotonicClock::new(*rt)?)?;
-    for (kind, stirs) in [("empty", 0), ("heavy", STIRS)] {
+    for (kind, rounds) in [("empty", 0), ("heavy", ROUNDS)] {
         for (way, is_from_worker) in [("spawn", false), ("spawn_from", true)] {
-            let taken = time_pool(rt, alloc, &*clock, trial, stirs, is_from_worker)?;
+            let taken = time_pool(rt, alloc, &*clock, trial, rounds, is_from_worker)?;
             report(rt, kind, way, trial.jobs, taken)?;
         }
         let jobs = trial.jobs.min(MOST_THREADS);
-        let taken = time_threads(rt, alloc, &*clock, jobs, trial.workers, stirs)?;
+        let taken = time_threads(rt, alloc, &*clock, jobs, trial.workers, rounds)?;
         report(rt, kind, "a thread each", jobs, taken)?;
     }
     let times = time_wakes(rt, alloc, &clock, trial.workers)?;
@@ -78,7 +78,7 @@ fn time_pool<R: Threads + Wait + Copy + Send + 'static, C: Clock>(
     alloc: Global,
     clock: &C,
     trial: JobTrial,
-    stirs: u64,
+    rounds: u64,
     is_from_worker: bool,
 ) -> Result<u64> {
     let board = board_of(alloc, trial.jobs)?;
@@ -86,13 +86,13 @@ fn time_pool<R: Threads + Wait + Copy + Send + 'static, C: Clock>(
     if is_from_worker {
         builder = builder.use_current_thread();
     }
-    let (pool, worker) = builder.build_for::<R, Errand>(rt, alloc)?;
+    let (pool, worker) = builder.build_for::<R, CountedJob>(rt, alloc)?;
     ensure!(
         worker.is_some() == is_from_worker,
         "the pool has another worker here than was asked for"
     );
     let start = clock.now();
-    bring_jobs(rt, &pool, worker, &board, stirs, trial.jobs)?;
+    bring_jobs(rt, &pool, worker, &board, rounds, trial.jobs)?;
     pool.close(rt);
     let end = clock.now();
     ensure!(board.is_each_once(), "jobs were lost");
@@ -109,15 +109,15 @@ pub fn board_of(alloc: Global, jobs: usize) -> Result<Arc<Board, Global>> {
 fn bring_jobs<R: Wait>(
     rt: &R,
     pool: &Pool,
-    worker: Option<WorkerThread<Errand>>,
+    worker: Option<WorkerThread<CountedJob>>,
     board: &Arc<Board, Global>,
-    stirs: u64,
+    rounds: u64,
     jobs: usize,
 ) -> Result<(), Fault> {
     let Some(mut worker) = worker else {
-        return spawn_all(rt, pool, board, 0..jobs, stirs);
+        return spawn_all(rt, pool, board, 0..jobs, rounds);
     };
-    spawn_all_from(rt, pool, &mut worker, board, stirs, jobs)?;
+    spawn_all_from(rt, pool, &mut worker, board, rounds, jobs)?;
     call_all(rt, pool, &mut worker);
     Ok(())
 }
@@ -132,10 +132,10 @@ pub fn spawn_all<R: Wait>(
     pool: &Pool,
     board: &Arc<Board, Global>,
     numbers: Range<usize>,
-    stirs: u64,
+    rounds: u64,
 ) -> Result<(), Fault> {
     for number in numbers {
-        let job = Errand::new(board, number, stirs)?;
+        let job = CountedJob::new(board, number, rounds)?;
         if let Err((fault, _)) = pool.spawn(rt, job) {
             return Err(fault);
         }
@@ -147,13 +147,13 @@ pub fn spawn_all<R: Wait>(
 fn spawn_all_from<R: Wait>(
     rt: &R,
     pool: &Pool,
-    worker: &mut WorkerThread<Errand>,
+    worker: &mut WorkerThread<CountedJob>,
     board: &Arc<Board, Global>,
-    stirs: u64,
+    rounds: u64,
     jobs: usize,
 ) -> Result<(), Fault> {
     for number in 0..jobs {
-        let job = Errand::new(board, number, stirs)?;
+        let job = CountedJob::new(board, number, rounds)?;
         if let Err((fault, _)) = pool.spawn_from(rt, worker, job) {
             return Err(fault);
         }
@@ -162,7 +162,7 @@ fn spawn_all_from<R: Wait>(
 }
 
 // Calls jobs until the worker finds none.
-fn call_all<R: Wait>(rt: &R, pool: &Pool, worker: &mut WorkerThread<Errand>) {
+fn call_all<R: Wait>(rt: &R, pool: &Pool, worker: &mut WorkerThread<CountedJob>) {
     for _ in rt.forever() {
         match pool.yield_now(rt, worker) {
             Some(Yield::Executed) => {}
@@ -179,7 +179,7 @@ fn time_threads<R: Threads, C: Clock>(
     clock: &C,
     jobs: usize,
     at_once: NonZeroUsize,
-    stirs: u64,
+    rounds: u64,
 ) -> Result<u64> {
     let board = board_of(alloc, jobs)?;
     let mut threads = VecDeque::new(alloc);
@@ -188,7 +188,7 @@ fn time_threads<R: Threads, C: Clock>(
         if threads.len() >= at_once.get() {
             join_first(rt, &mut threads);
         }
-        let job = Errand::new(&board, number, stirs)?;
+        let job = CountedJob::new(&board, number, rounds)?;
         threads.push_back(start_one(rt, job)?)?;
     }
     join_all(rt, threads);

@@ -1,5 +1,5 @@
 // Pools that are brought many jobs by several threads at once, and pools that come and go.
-use crate::errand::{Board, Errand, part_of};
+use crate::counted_job::{Board, CountedJob, part_of};
 use crate::jobs::{board_of, spawn_all};
 use crate::request::PoolTrial;
 use anyhow::{Context, Result, ensure};
@@ -66,7 +66,7 @@ fn soak_one<R: Clock + Threads + Wait + Copy + Send + Sync + 'static>(
 ) -> Result<()> {
     let board = board_of(alloc, jobs)?;
     let builder = ThreadPoolBuilder::new().num_threads(WORKERS);
-    let (pool, _) = builder.build_for::<R, Errand>(rt, alloc)?;
+    let (pool, _) = builder.build_for::<R, CountedJob>(rt, alloc)?;
     let brought = bring_all(rt, alloc, &pool, &board, jobs)?;
     pool.close(rt);
     for each in brought {
@@ -87,7 +87,7 @@ trait Bring: Sync {
     ) -> Result<(), Fault>;
 }
 
-impl Bring for ThreadPool<Staff<Errand>> {
+impl Bring for ThreadPool<Staff<CountedJob>> {
     fn bring<R: Wait>(
         &self,
         rt: &R,
@@ -103,11 +103,11 @@ impl Bring for ThreadPool<Staff<Errand>> {
 fn bring_all<R: Clock + Threads + Wait + Sync>(
     rt: &R,
     alloc: Global,
-    pool: &ThreadPool<Staff<Errand>>,
+    pool: &ThreadPool<Staff<CountedJob>>,
     board: &Arc<Board, Global>,
     jobs: usize,
 ) -> Result<Vec<Result<(), Fault>>> {
-    bring_parts::<R, ThreadPool<Staff<Errand>>>(rt, alloc, pool, board, jobs)
+    bring_parts::<R, ThreadPool<Staff<CountedJob>>>(rt, alloc, pool, board, jobs)
 }
 
 fn bring_parts<R: Clock + Threads + Wait + Sync, P: Bring>(
@@ -149,7 +149,7 @@ fn drop_one<R: Clock + Threads + Wait + Copy + Send + 'static>(
 ) -> Result<()> {
     let board = board_of(alloc, FEW)?;
     let builder = ThreadPoolBuilder::new().num_threads(workers);
-    let (pool, _) = builder.build_for::<R, Errand>(rt, alloc)?;
+    let (pool, _) = builder.build_for::<R, CountedJob>(rt, alloc)?;
     spawn_all(rt, &pool, &board, 0..FEW, 0)?;
     drop(pool);
     ensure!(come_all(rt, &board), "jobs were lost");

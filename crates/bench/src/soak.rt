@@ -4,7 +4,7 @@ ghost use Rattle.std.specs.Int.NonZero.{non_zero_usize_get};
 ghost use Rattle.parallel_shares.specs.Seats.{AreSeatsOf, IsSeatOf, index_of, transit_of};
 ghost use Rattle.bench.specs.Driven.{seat_of};
 
-use crate::work::stir;
+use crate::work::mixed_once;
 use anyhow::{Result, ensure};
 use parallel_fault::Fault;
 use parallel_shares::{Seat, Shares, Tried};
@@ -103,7 +103,7 @@ impl Random {
 
     // The next number, whose first digits look as random as its last.
     fn next(&mut self) -> u64 {
-        self.state = stir(self.state);
+        self.state = mixed_once(self.state);
         self.state ^ (self.state >> 32)
     }
 }

@@ -2,7 +2,7 @@
 use crate::calls::SITE;
 use crate::case::TileCase;
 use crate::loops::fold_light;
-use crate::work::stirred;
+use crate::work::mixed;
 use commonware_parallel::{Fault, Grid, Strategy};
 use std::alloc::Global;
 use std::num::NonZeroUsize;
@@ -19,20 +19,20 @@ pub const FEW_ROWS: usize = 3;
 /// What a tile costs where rows are cut, counted in cells.
 pub const CUT_COST: usize = 64;
 
-/// How often the number of a heavy cell is stirred, which takes about 30 ns.
-pub const CELL_STIRS: u64 = 16;
+/// How often the number of a heavy cell is mixed, which takes about 30 ns.
+pub const CELL_ROUNDS: u64 = 16;
 
-/// How many rows each stir of an uneven cell stands for: row i's cells are stirred i / 16 times.
-pub const ROWS_A_STIR: usize = 16;
+/// How many rows each round of an uneven cell stands for: row i's cells are mixed i / 16 times.
+pub const ROWS_A_ROUND: usize = 16;
 
 /// What a cell costs.
 #[derive(Clone, Copy, Debug, PartialEq, Eq, Hash)]
 pub enum Cost {
     /// An addition.
     Light,
-    /// As many stirs as `CELL_STIRS`.
+    /// As many rounds as `CELL_ROUNDS`.
     Heavy,
-    /// The more stirs the later the row.
+    /// The more rounds the later the row.
     Uneven,
 }
 
@@ -86,18 +86,18 @@ impl Tiling {
         };
         match self.cost {
             Cost::Light => fold_light(cells),
-            Cost::Heavy => sum_stirred(cells, CELL_STIRS),
-            Cost::Uneven => sum_stirred(cells, (row / ROWS_A_STIR) as u64),
+            Cost::Heavy => sum_mixed(cells, CELL_ROUNDS),
+            Cost::Uneven => sum_mixed(cells, (row / ROWS_A_ROUND) as u64),
         }
     }
 }
 
-/// The sum of what so many stirs make of each cell.
+/// The sum of what so many rounds make of each cell.
 #[inline(never)]
-fn sum_stirred(cells: &[u64], stirs: u64) -> u64 {
+fn sum_mixed(cells: &[u64], rounds: u64) -> u64 {
     let mut total = 0u64;
     for cell in cells {
-        total = total.wrapping_add(stirred(*cell, stirs));
+        total = total.wrapping_add(mixed(*cell, rounds));
     }
     total
 }

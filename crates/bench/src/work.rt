@@ -3,13 +3,13 @@ use crate::case::Case;
 use commonware_parallel::Fault;
 use std::alloc::{AllocError, Global};
 
-/// How often the heavy function stirs its number, which takes about a microsecond.
-pub const STIRS: u64 = 512;
+/// In how many rounds the heavy function mixes its number, which takes about a microsecond.
+pub const ROUNDS: u64 = 512;
 
-/// What a stir multiplies by: the factor of Knuth's generator of 64 bits.
+/// What a round multiplies by: the factor of Knuth's generator of 64 bits.
 pub const FACTOR: u64 = 6_364_136_223_846_793_005;
 
-/// What a stir adds: the summand of that generator.
+/// What a round adds: the summand of that generator.
 pub const SUMMAND: u64 = 1_442_695_040_888_963_407;
 
 /// A function that takes a nanosecond or less.
@@ -24,7 +24,7 @@ pub fn try_light(item: u64) -> Result<u64, Fault> {
 
 /// A function that takes about a microsecond.
 pub fn heavy(item: u64) -> u64 {
-    stirred(item, STIRS)
+    mixed(item, ROUNDS)
 }
 
 /// What the nodes of a tree are taken modulo.
@@ -51,22 +51,22 @@ pub fn try_heavy(item: u64) -> Result<u64, u64> {
     Ok(heavy(item))
 }
 
-/// A function that takes as many stirs as its item is great.
+/// A function that takes as many rounds as its item is great.
 pub fn rising(item: u64) -> u64 {
-    stirred(item, item)
+    mixed(item, item)
 }
 
-/// What so many stirs make of an item. Each needs the number that the last one made.
-pub fn stirred(item: u64, stirs: u64) -> u64 {
+/// What so many rounds make of an item. Each needs the number that the last one made.
+pub fn mixed(item: u64, rounds: u64) -> u64 {
     let mut state = item;
-    for _ in 0..stirs {
-        state = stir(state);
+    for _ in 0..rounds {
+        state = mixed_once(state);
     }
     state
 }
 
 /// The next number of a chain that looks random.
-pub fn stir(state: u64) -> u64 {
+pub fn mixed_once(state: u64) -> u64 {
     (state ^ (state >> 29))
         .wrapping_mul(FACTOR)
         .wrapping_add(SUMMAND)

@@ -1,5 +1,5 @@
 // The jobs that pools are brought here: values of one type, and none of them boxed.
-use crate::work::stirred;
+use crate::work::mixed;
 use parallel_pool::rayon::Execute;
 use std::alloc::{AllocError, Global};
 use std::ops::Range;
@@ -49,38 +49,38 @@ impl Board {
     }
 }
 
-/// A job that stirs its number and marks itself on a board.
+/// A job that mixes its number and marks itself on a board.
 #[derive(Drop)]
-pub struct Errand {
+pub struct CountedJob {
     board: Arc<Board, Global>,
     number: usize,
-    stirs: u64,
+    rounds: u64,
 }
 
-impl Errand {
+impl CountedJob {
     /// The job of that number.
     pub fn new(
         board: &Arc<Board, Global>,
         number: usize,
-        stirs: u64,
-    ) -> Result<Errand, AllocError> {
-        Ok(Errand {
+        rounds: u64,
+    ) -> Result<CountedJob, AllocError> {
+        Ok(CountedJob {
             board: Arc::try_clone(board)?,
             number,
-            stirs,
+            rounds,
         })
     }
 }
 
-impl Execute for Errand {
+impl Execute for CountedJob {
     fn execute(self, _index: usize) {
-        let Errand {
+        let CountedJob {
             board,
             number,
-            stirs,
+            rounds,
         } = self;
-        if stirs > 0 {
-            let answer = stirred(number as u64, stirs);
+        if rounds > 0 {
+            let answer = mixed(number as u64, rounds);
             board.checksum.fetch_add(answer, Ordering::Relaxed);
         }
         board.mark(number);
