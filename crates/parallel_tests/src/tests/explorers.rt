@@ -7,7 +7,7 @@ use crate::tests::strategies::{SITE, Stopped, number, pool};
 use commonware_parallel::mocks::{
     ExploreError, Explorer, Rule, TASKS, WORKERS, explore, inline, mix, pick, pooled,
 };
-use commonware_parallel::{Fault, Grid, Site, Strategy, Trouble};
+use commonware_parallel::{Chooser, Fault, Grid, Site, Strategy, Trouble};
 use std::alloc::Global;
 use std::ops::Range;
 use std::process::Abort;

@@ -7,7 +7,7 @@ use commonware_parallel::bridge::list::fold::{fold_iter, fold_parallel};
 use commonware_parallel::bridge::list::map::{map_iter, map_parallel};
 use commonware_parallel::bridge::parts::ProducerParts;
 use commonware_parallel::rayon::install;
-use commonware_parallel::{Call, Copies, Kind, Path, Pick, Sequential, Strategy, ThreadPool};
+use commonware_parallel::{Call, Chooser, Copies, Kind, Path, Pick, Sequential, ThreadPool};
 use parallel_policy::Place;
 use std::num::NonZeroUsize;
 
@@ -45,15 +45,6 @@ fn a_strategy_hands_its_picks_out(rt: HostRuntime) {
             .choose(&rt, alloc, SITE, Call { kind, ..call })
             .expect(&rt, "memory");
         row(&rt, (kind, planned), chosen, pick);
-        let told = strategy
-            .dispatch_body(&rt, alloc, SITE, 1, |path| Ok(path))
-            .expect(&rt, "memory");
-        let path = if planned == 1 {
-            Path::Serial
-        } else {
-            Path::Parallel
-        };
-        same(&rt, told, path);
     }
 }
 

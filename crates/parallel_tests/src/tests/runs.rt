@@ -3,7 +3,7 @@ use crate::tests::same::{answers, lists, row, same};
 use crate::tests::strategies::{SITE, Stopped, number, pool};
 use commonware_parallel::rayon::ThreadPoolBuilder;
 use commonware_parallel::{
-    Clock, Copies, Fault, MonotonicClock, Rayon, Runtime, Sequential, Strategy,
+    Chooser, Clock, Copies, Fault, MonotonicClock, Rayon, Runtime, Sequential, Strategy,
 };
 use known_answers::beyond::{planned_pool, run_parallel, run_serial};
 use std::alloc::Global;

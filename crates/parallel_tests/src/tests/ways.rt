@@ -7,7 +7,7 @@ use crate::tests::steps::{add, count, zero};
 use crate::tests::strategies::{SITE, number, pool};
 use crate::tests::threads::Meeting;
 use commonware_parallel::mocks::{Explorer, TASKS, explore};
-use commonware_parallel::{Call, Fault, Grid, Path, Pick, Strategy, Trouble};
+use commonware_parallel::{Call, Chooser, Fault, Grid, Path, Pick, Strategy, Trouble};
 use std::alloc::Global;
 use std::process::Abort;
 use std::sync::Wait;
