@@ -1,10 +1,9 @@
 // Shares over atomic words, and the pure machine, on plans whose words are known.
-ghost use Rattle.std.specs.Prelude.{◌≡◌, ◌≢◌, IfOk};
+ghost use Rattle.std.specs.Prelude.{◌≡◌, ◌≢◌, ◌*◌, ◌^◌, ◌<◌, ◌≤◌, IsFalse};
 ghost use Rattle.std.specs.Int.NonZero.{non_zero_usize_get};
 ghost use Rattle.parallel_shares.specs.Seats.{AreSeatsOf};
 
 use crate::same::{row, same};
-use parallel_fault::Fault;
 use parallel_shares::machine::{Event, Outcome, Plan, State, replay};
 use parallel_shares::{Seat, Shares, Tried, pack, stretches};
 use std::alloc::Global;
@@ -130,12 +129,50 @@ fn play<R: Wait + Abort>(rt: &R, shares: &Shares, seats: &mut Vec<Seat>, steps: 
     }
 }
 
-// Shares that were made, and their seats.
-fn opened(rt: &impl Abort, made: Result<(Shares, Vec<Seat>), Fault>) -> (Shares, Vec<Seat>)
-    requires { IfOk made (λ made. AreSeatsOf made.0 made.1.items) }
+// Shares of so many rows and cells a row, and their seats.
+fn opened(
+    rt: &impl Abort,
+    alloc: Global,
+    rows: usize,
+    len: usize,
+    tile_cost: usize,
+    workers: usize,
+    whole: bool,
+) -> (Shares, Vec<Seat>)
+    requires some_rows { rows ≢ 0 }
+    requires some_cells { len ≢ 0 }
+    requires cells_fit { rows * len < 2 ^ 64 }
+    requires cut_pays { IsFalse whole → 2 * tile_cost ≤ len }
     ensures { AreSeatsOf result.0 result.1.items }
 {
-    made.expect(rt, "memory")
+    let (tile_cost, workers) = (number(rt, tile_cost), number(rt, workers));
+    Shares::new(alloc, rows, len, tile_cost, workers, whole).expect(rt, "memory")
+}
+
+// The plan of the same sizes.
+fn planned(
+    rt: &impl Abort,
+    rows: usize,
+    len: usize,
+    tile_cost: usize,
+    workers: usize,
+    whole: bool,
+) -> Plan
+    requires some_rows { rows ≢ 0 }
+    requires some_cells { len ≢ 0 }
+    requires cells_fit { rows * len < 2 ^ 64 }
+    requires cut_pays { IsFalse whole → 2 * tile_cost ≤ len }
+{
+    Plan::new(rows, len, number(rt, tile_cost), number(rt, workers), whole)
+}
+
+// The seats take all steps, and then these words are left.
+fn plays<R: Wait + Abort>(rt: &R, made: (Shares, Vec<Seat>), steps: &[Step], words: &[u64])
+    requires { AreSeatsOf made.0 made.1.items }
+{
+    let (shares, mut seats) = made;
+    play(rt, &shares, &mut seats, steps);
+    closes(rt, shares, seats, words);
 }
 
 // The words that are left.
@@ -148,10 +185,7 @@ fn closes(rt: &impl Abort, shares: Shares, seats: Vec<Seat>, wanted: &[u64])
 
 #[test]
 fn one_seat_claims_a_whole_queue(rt: HostRuntime) {
-    let (shares, mut seats) = opened(
-        &rt,
-        Shares::new(rt.alloc(), 65_536, 3, number(&rt, 1), number(&rt, 4), true),
-    );
+    let (shares, mut seats) = opened(&rt, rt.alloc(), 65_536, 3, 1, 4, true);
     same(&rt, (shares.unit(), shares.cells()), (6, 196_608));
     same(
         &rt,
@@ -169,17 +203,7 @@ fn one_seat_claims_a_whole_queue(rt: HostRuntime) {
 #[test]
 fn the_last_claim_of_the_greatest_queue_is_its_last_row(rt: HostRuntime) {
     let len = 281_470_681_808_895;
-    let (shares, mut seats) = opened(
-        &rt,
-        Shares::new(
-            rt.alloc(),
-            65_537,
-            len,
-            number(&rt, 1),
-            number(&rt, 1),
-            true,
-        ),
-    );
+    let (shares, mut seats) = opened(&rt, rt.alloc(), 65_537, len, 1, 1, true);
     let sizes = (shares.unit(), shares.cells());
     same(&rt, sizes, (562_941_363_617_790, usize::MAX));
     let last = 18_446_462_603_027_742_720..18_446_744_073_709_551_615;
@@ -189,54 +213,29 @@ fn the_last_claim_of_the_greatest_queue_is_its_last_row(rt: HostRuntime) {
 
 #[test]
 fn untouched_shares_have_the_words_of_the_opening(rt: HostRuntime) {
-    let (shares, seats) = opened(
-        &rt,
-        Shares::new(
-            rt.alloc(),
-            65_537,
-            281_470_681_808_895,
-            number(&rt, 1),
-            number(&rt, 1),
-            true,
-        ),
-    );
+    let (shares, seats) = opened(&rt, rt.alloc(), 65_537, 281_470_681_808_895, 1, 1, true);
     closes(&rt, shares, seats, &[32_769]);
-    let (shares, seats) = opened(
-        &rt,
-        Shares::new(rt.alloc(), 1, 4, number(&rt, 2), number(&rt, 2), false),
-    );
+    let (shares, seats) = opened(&rt, rt.alloc(), 1, 4, 2, 2, false);
     closes(&rt, shares, seats, &[2, 131_076]);
+}
+
+// A plan's state has these words at first.
+fn opens_with(rt: &impl Abort, alloc: Global, plan: &Plan, words: &[u64]) {
+    let state = State::new(alloc, plan).expect(rt, "memory");
+    same(rt, state.words(), words);
 }
 
 #[test]
 fn the_machine_opens_with_the_same_words(rt: HostRuntime) {
-    let greatest = Plan::new(
-        65_537,
-        281_470_681_808_895,
-        number(&rt, 1),
-        number(&rt, 1),
-        true,
-    );
-    let state = State::new(rt.alloc(), &greatest).expect(&rt, "memory");
-    same(&rt, state.words(), [32_769].as_slice());
-    let small = Plan::new(1, 4, number(&rt, 2), number(&rt, 2), false);
-    let state = State::new(rt.alloc(), &small).expect(&rt, "memory");
-    same(&rt, state.words(), [2, 131_076].as_slice());
+    let greatest = planned(&rt, 65_537, 281_470_681_808_895, 1, 1, true);
+    opens_with(&rt, rt.alloc(), &greatest, &[32_769]);
+    let small = planned(&rt, 1, 4, 2, 2, false);
+    opens_with(&rt, rt.alloc(), &small, &[2, 131_076]);
 }
 
 #[test]
 fn the_greatest_cut_plan_opens_with_two_halves(rt: HostRuntime) {
-    let (shares, seats) = opened(
-        &rt,
-        Shares::new(
-            rt.alloc(),
-            1,
-            usize::MAX,
-            number(&rt, 1),
-            number(&rt, 2),
-            false,
-        ),
-    );
+    let (shares, seats) = opened(&rt, rt.alloc(), 1, usize::MAX, 1, 2, false);
     same(&rt, shares.unit(), 281_479_271_743_489);
     closes(&rt, shares, seats, &[32_768, 2_147_549_183]);
 }
@@ -244,25 +243,14 @@ fn the_greatest_cut_plan_opens_with_two_halves(rt: HostRuntime) {
 #[test]
 fn the_last_unit_of_a_cut_plan_has_the_cells_that_are_left(rt: HostRuntime) {
     same(&rt, pack(3, 9), 196_617);
-    let plan = Plan::new(1, 100_001, number(&rt, 10), number(&rt, 2), false);
+    let plan = planned(&rt, 1, 100_001, 10, 2, false);
     same(
         &rt,
         (plan.unit(), plan.workers(), plan.claim(), plan.units()),
         (2, 2, 5, 50_001),
     );
-    let state = State::new(rt.alloc(), &plan).expect(&rt, "memory");
-    same(&rt, state.words(), [25_001, 1_638_515_537].as_slice());
-    let (shares, mut seats) = opened(
-        &rt,
-        Shares::new(
-            rt.alloc(),
-            1,
-            100_001,
-            number(&rt, 10),
-            number(&rt, 2),
-            false,
-        ),
-    );
+    opens_with(&rt, rt.alloc(), &plan, &[25_001, 1_638_515_537]);
+    let (shares, mut seats) = opened(&rt, rt.alloc(), 1, 100_001, 10, 2, false);
     play(
         &rt,
         &shares,
@@ -273,26 +261,23 @@ fn the_last_unit_of_a_cut_plan_has_the_cells_that_are_left(rt: HostRuntime) {
 
 #[test]
 fn a_thief_takes_the_last_of_equals(rt: HostRuntime) {
-    let (shares, mut seats) = opened(
-        &rt,
-        Shares::new(rt.alloc(), 1, 12, number(&rt, 1), number(&rt, 3), false),
-    );
     let steps = [
         Step::Claims(0, Tried::Claimed(0..1)),
         Step::Empties(0, 3..4),
         Step::Steals(0, Tried::Taken, Some(10..12)),
         Step::Refills(0),
     ];
-    play(&rt, &shares, &mut seats, &steps);
-    closes(&rt, shares, seats, &[655_372, 262_152, 524_298]);
+    plays(
+        &rt,
+        opened(&rt, rt.alloc(), 1, 12, 1, 3, false),
+        &steps,
+        &[655_372, 262_152, 524_298],
+    );
 }
 
 #[test]
 fn a_thief_takes_the_most_cells_and_not_the_most_units(rt: HostRuntime) {
-    let (shares, mut seats) = opened(
-        &rt,
-        Shares::new(rt.alloc(), 1, 65_537, number(&rt, 2), number(&rt, 3), false),
-    );
+    let (shares, mut seats) = opened(&rt, rt.alloc(), 1, 65_537, 2, 3, false);
     same(&rt, shares.unit(), 2);
     let steps = [
         Step::Empties(0, 21_844..21_846),
@@ -306,25 +291,22 @@ fn a_thief_takes_the_most_cells_and_not_the_most_units(rt: HostRuntime) {
 
 #[test]
 fn nothing_is_taken_where_no_split_pays(rt: HostRuntime) {
-    let (shares, mut seats) = opened(
-        &rt,
-        Shares::new(rt.alloc(), 1, 4, number(&rt, 2), number(&rt, 2), false),
-    );
     let steps = [
         Step::Claims(0, Tried::Claimed(0..2)),
         Step::Claims(0, Tried::Empty),
         Step::Steals(0, Tried::Nothing, None),
     ];
-    play(&rt, &shares, &mut seats, &steps);
-    closes(&rt, shares, seats, &[pack(2, 2), 131_076]);
+    plays(
+        &rt,
+        opened(&rt, rt.alloc(), 1, 4, 2, 2, false),
+        &steps,
+        &[pack(2, 2), 131_076],
+    );
 }
 
 #[test]
 fn nothing_is_taken_where_there_is_no_other_seat(rt: HostRuntime) {
-    let (shares, mut seats) = opened(
-        &rt,
-        Shares::new(rt.alloc(), 1, 8, number(&rt, 1), number(&rt, 1), false),
-    );
+    let (shares, mut seats) = opened(&rt, rt.alloc(), 1, 8, 1, 1, false);
     let steps = [
         Step::Empties(0, 7..8),
         Step::Steals(0, Tried::Nothing, None),
@@ -334,10 +316,6 @@ fn nothing_is_taken_where_there_is_no_other_seat(rt: HostRuntime) {
 
 #[test]
 fn seats_share_a_row_by_a_steal(rt: HostRuntime) {
-    let (shares, mut seats) = opened(
-        &rt,
-        Shares::new(rt.alloc(), 1, 8, number(&rt, 1), number(&rt, 2), false),
-    );
     let steps = [
         Step::Empties(0, 3..4),
         Step::Steals(0, Tried::Taken, Some(6..8)),
@@ -347,14 +325,18 @@ fn seats_share_a_row_by_a_steal(rt: HostRuntime) {
         Step::Claims(1, Tried::Claimed(4..5)),
         Step::Claims(1, Tried::Claimed(5..6)),
     ];
-    play(&rt, &shares, &mut seats, &steps);
-    closes(&rt, shares, seats, &[pack(8, 8), pack(6, 6)]);
+    plays(
+        &rt,
+        opened(&rt, rt.alloc(), 1, 8, 1, 2, false),
+        &steps,
+        &[pack(8, 8), pack(6, 6)],
+    );
 }
 
 #[test]
 fn a_replay_steals_and_loses_a_stale_claim(rt: HostRuntime) {
     let alloc = rt.alloc();
-    let plan = Plan::new(1, 8, number(&rt, 1), number(&rt, 2), false);
+    let plan = planned(&rt, 1, 8, 1, 2, false);
     let look_0 = Event::Load { seat: 0, share: 0 };
     let look_1 = Event::Load { seat: 1, share: 1 };
     let across = Event::Load { seat: 0, share: 1 };
@@ -403,7 +385,7 @@ fn claims_stretches(
 #[test]
 fn a_small_cut_plan_is_claimed_across_rows(rt: HostRuntime) {
     let alloc = rt.alloc();
-    let plan = Plan::new(3, 5, number(&rt, 2), number(&rt, 2), false);
+    let plan = planned(&rt, 3, 5, 2, 2, false);
     let load = Event::Load { seat: 0, share: 0 };
     let claim = Event::Claim { seat: 0 };
     let events = [load, claim, load, claim, load, claim, load, claim];
@@ -418,10 +400,7 @@ fn a_small_cut_plan_is_claimed_across_rows(rt: HostRuntime) {
 #[test]
 fn a_run_goes_on_in_a_row_and_over_to_the_next(rt: HostRuntime) {
     let alloc = rt.alloc();
-    let (shares, mut seats) = opened(
-        &rt,
-        Shares::new(alloc, 3, 5, number(&rt, 2), number(&rt, 2), false),
-    );
+    let (shares, mut seats) = opened(&rt, alloc, 3, 5, 2, 2, false);
     let Some(mut seat) = seats.pop() else {
         panic!(rt; "no seat")
     };

@@ -7,6 +7,8 @@ use parallel_policy::key::Key;
 use parallel_policy::policy::{INLINE_BUDGET, Policy};
 use parallel_policy::site::Site;
 use parallel_policy::table::Table;
+use std::alloc::Global;
+use std::process::Abort;
 use std::sync::Wait;
 use std::sync::atomic::{AtomicU64, Ordering};
 
@@ -20,21 +22,36 @@ const P: RunExecution = RunExecution::Parallel;
 
 const S: RunExecution = RunExecution::Serial;
 
-// The choices of two keys in turn, of which the near one's runs are short and the far one's long.
-fn choices_of_two(
-    table: &mut Table,
-    near: Key,
-    far: Key,
-) -> Result<[(RunExecution, bool); 5], Fault> {
-    let near_first = table.choose_run(near, 4)?;
-    table.record_run(near, P, 100_000)?;
-    let far_first = table.choose_run(far, 4)?;
-    table.record_run(far, P, 10_000_000)?;
-    let near_second = table.choose_run(near, 4)?;
-    table.record_run(near, S, 95_000)?;
-    let far_second = table.choose_run(far, 4)?;
-    let near_third = table.choose_run(near, 4)?;
-    Ok([near_first, far_first, near_second, far_second, near_third])
+// What a choice of a run answers, and of a job, and what a record does.
+type RunChoice = Result<(RunExecution, bool), Fault>;
+
+type JobChoice = Result<(SpawnExecution, bool), Fault>;
+
+type Told = Result<(), Fault>;
+
+fn fresh(rt: &impl Abort, alloc: Global) -> Policy {
+    Policy::new(alloc).expect(rt, "memory")
+}
+
+fn handle(rt: &impl Abort, policy: &Policy) -> Policy {
+    policy.clone().expect(rt, "memory")
+}
+
+// The choices of two keys in turn, of which the near one's runs are short and the far one's long,
+// and whether the table could be told of each run.
+fn choices_of_two(table: &mut Table, near: Key, far: Key) -> ([RunChoice; 5], [Told; 3]) {
+    let near_first = table.choose_run(near, 4);
+    let near_told = table.record_run(near, P, 100_000);
+    let far_first = table.choose_run(far, 4);
+    let far_told = table.record_run(far, P, 10_000_000);
+    let near_second = table.choose_run(near, 4);
+    let serial_told = table.record_run(near, S, 95_000);
+    let far_second = table.choose_run(far, 4);
+    let near_third = table.choose_run(near, 4);
+    (
+        [near_first, far_first, near_second, far_second, near_third],
+        [near_told, far_told, serial_told],
+    )
 }
 
 // What a table's samples of a key's serial runs say.
@@ -48,10 +65,16 @@ fn a_table_keeps_an_entry_for_each_key(rt: HostRuntime) {
     let near = Key::new(SITE, 64, 64, 4);
     let far = Key::new(Site { column: 2, ..SITE }, 64, 64, 4);
     let choices = choices_of_two(&mut table, near, far);
-    let wanted = [(P, true), (P, true), (S, true), (P, true), (S, false)];
-    same(&rt, choices, Ok(wanted));
-    same(&rt, serial_of(&table, near), Some(95_000));
-    same(&rt, serial_of(&table, far), None);
+    let wanted = [
+        Ok((P, true)),
+        Ok((P, true)),
+        Ok((S, true)),
+        Ok((P, true)),
+        Ok((S, false)),
+    ];
+    same(&rt, choices, (wanted, [Ok(()), Ok(()), Ok(())]));
+    let serial = (serial_of(&table, near), serial_of(&table, far));
+    same(&rt, serial, (Some(95_000), None));
 }
 
 // What a policy's samples of a key's runs in parallel and of its serial ones say.
@@ -66,50 +89,62 @@ fn choices_of_runs(
     policy: &Policy,
     shared: &Policy,
     key: Key,
-) -> Result<[(RunExecution, bool); 3], Fault> {
-    let first = policy.choose_run(rt, key, 4)?;
-    shared.record_run(rt, key, P, 100_000)?;
-    let second = policy.choose_run(rt, key, 4)?;
-    shared.record_run(rt, key, S, 95_001)?;
-    Ok([first, second, policy.choose_run(rt, key, 4)?])
+) -> ([RunChoice; 3], [Told; 2]) {
+    let first = policy.choose_run(rt, key, 4);
+    let parallel = shared.record_run(rt, key, P, 100_000);
+    let second = policy.choose_run(rt, key, 4);
+    let serial = shared.record_run(rt, key, S, 95_001);
+    let third = policy.choose_run(rt, key, 4);
+    ([first, second, third], [parallel, serial])
 }
 
 #[test]
 fn a_policy_records_the_run_that_it_is_told(rt: HostRuntime) {
     let key = Key::new(SITE, 64, 64, 4);
-    let policy = Policy::new(rt.alloc()).expect(&rt, "memory");
-    let shared = policy.clone().expect(&rt, "memory");
+    let policy = fresh(&rt, rt.alloc());
+    let shared = handle(&rt, &policy);
     let choices = choices_of_runs(&rt, &policy, &shared, key);
-    same(&rt, choices, Ok([(P, true), (S, true), (S, false)]));
+    let wanted = [Ok((P, true)), Ok((S, true)), Ok((S, false))];
     let estimates = estimates_of(&rt, &policy, key);
-    same(&rt, estimates, Some([Some(100_000), Some(95_001)]));
+    same(
+        &rt,
+        (choices, estimates),
+        (
+            (wanted, [Ok(()), Ok(())]),
+            Some([Some(100_000), Some(95_001)]),
+        ),
+    );
     assert!(rt; policy.spawn_entry(&rt, key).is_none());
 }
 
-// Tells a policy of a job, of its overhead and of an inline run, and answers what its samples say
-// of each.
-fn told_of_a_job(
-    rt: &impl Wait,
-    policy: &Policy,
-    key: Key,
-) -> Result<Option<[Option<u64>; 3]>, Fault> {
-    policy.record_spawn_job(rt, key, 25_003)?;
-    policy.record_spawn_overhead(rt, key, 10_002)?;
-    policy.record_spawn_inline(rt, key, 8_001)?;
-    let Some(entry) = policy.spawn_entry(rt, key) else {
-        return Ok(None);
-    };
+// Tells a policy of a job, of its overhead and of an inline run.
+fn told_of_a_job(rt: &impl Wait, policy: &Policy, key: Key) -> [Told; 3] {
+    let job = policy.record_spawn_job(rt, key, 25_003);
+    let overhead = policy.record_spawn_overhead(rt, key, 10_002);
+    let inline = policy.record_spawn_inline(rt, key, 8_001);
+    [job, overhead, inline]
+}
+
+// What a policy's samples of a key's jobs say, of their overhead and of their inline runs.
+fn estimates_of_jobs(rt: &impl Wait, policy: &Policy, key: Key) -> Option<[Option<u64>; 3]> {
+    let entry = policy.spawn_entry(rt, key)?;
     let job = entry.estimate(SpawnSample::Job);
     let overhead = entry.estimate(SpawnSample::Overhead);
-    Ok(Some([job, overhead, entry.estimate(SpawnSample::InlineRun)]))
+    Some([job, overhead, entry.estimate(SpawnSample::InlineRun)])
 }
 
 #[test]
 fn a_policy_records_the_job_that_it_is_told(rt: HostRuntime) {
-    let policy = Policy::new(rt.alloc()).expect(&rt, "memory");
-    let told = told_of_a_job(&rt, &policy, Key::new(SITE, 64, 64, 4));
+    let policy = fresh(&rt, rt.alloc());
+    let key = Key::new(SITE, 64, 64, 4);
+    let told = told_of_a_job(&rt, &policy, key);
+    let estimates = estimates_of_jobs(&rt, &policy, key);
     let wanted = [Some(25_003), Some(10_002), Some(8_001)];
-    same(&rt, told, Ok(Some(wanted)));
+    same(
+        &rt,
+        (told, estimates),
+        ([Ok(()), Ok(()), Ok(())], Some(wanted)),
+    );
 }
 
 #[test]
@@ -124,40 +159,43 @@ fn choices_of_jobs(
     shared: &Policy,
     key: Key,
     other: Key,
-) -> Result<[(SpawnExecution, bool); 4], Fault> {
-    let first = policy.choose_spawn(rt, key, INLINE_BUDGET)?;
-    shared.record_spawn_job(rt, key, 25_000)?;
-    policy.record_spawn_overhead(rt, key, 10_000)?;
-    let second = shared.choose_spawn(rt, key, INLINE_BUDGET)?;
-    policy.record_spawn_inline(rt, key, 8_000)?;
-    let third = policy.choose_spawn(rt, key, INLINE_BUDGET)?;
-    let of_other = shared.choose_spawn(rt, other, INLINE_BUDGET)?;
-    Ok([first, second, third, of_other])
+) -> ([JobChoice; 4], [Told; 3]) {
+    let first = policy.choose_spawn(rt, key, INLINE_BUDGET);
+    let job = shared.record_spawn_job(rt, key, 25_000);
+    let overhead = policy.record_spawn_overhead(rt, key, 10_000);
+    let second = shared.choose_spawn(rt, key, INLINE_BUDGET);
+    let inline = policy.record_spawn_inline(rt, key, 8_000);
+    let third = policy.choose_spawn(rt, key, INLINE_BUDGET);
+    let of_other = shared.choose_spawn(rt, other, INLINE_BUDGET);
+    ([first, second, third, of_other], [job, overhead, inline])
 }
 
 #[test]
 fn records_of_jobs_feed_their_choices(rt: HostRuntime) {
     let key = Key::new(SITE, 64, 64, 4);
     let other = Key::new(SITE, 64, 64, 5);
-    let policy = Policy::new(rt.alloc()).expect(&rt, "memory");
-    let shared = policy.clone().expect(&rt, "memory");
+    let policy = fresh(&rt, rt.alloc());
+    let shared = handle(&rt, &policy);
     let choices = choices_of_jobs(&rt, &policy, &shared, key, other);
     let inline = SpawnExecution::Inline;
     let offload = SpawnExecution::Offload;
     let wanted = [
-        (offload, true),
-        (inline, true),
-        (inline, false),
-        (offload, true),
+        Ok((offload, true)),
+        Ok((inline, true)),
+        Ok((inline, false)),
+        Ok((offload, true)),
     ];
-    same(&rt, choices, Ok(wanted));
-    assert!(rt; policy.spawn_entry(&rt, other).is_some());
-    assert!(rt; policy.run_entry(&rt, key).is_none());
+    same(&rt, choices, (wanted, [Ok(()), Ok(()), Ok(())]));
+    let entries = (
+        policy.spawn_entry(&rt, other).is_some(),
+        policy.run_entry(&rt, key).is_some(),
+    );
+    same(&rt, entries, (true, false));
 }
 
 #[test]
 fn a_run_planned_for_one_asks_no_policy(rt: HostRuntime) {
-    let policy = Policy::new(rt.alloc()).expect(&rt, "memory");
+    let policy = fresh(&rt, rt.alloc());
     let body = |path: RunExecution| -> Result<RunExecution, u8> { Ok(path) };
     for planned in [0, 1] {
         let answer = policy.try_run(&rt, SITE, 64, 64, planned, &|| 0, body);
@@ -170,32 +208,41 @@ fn a_run_planned_for_one_asks_no_policy(rt: HostRuntime) {
     }
 }
 
-// Whether a policy has an entry for runs of the site at this length and work, planned for so many
+// Whether a policy has an entry for runs of the site at each length and work, planned for so many
 // threads.
-fn has_runs(rt: &impl Wait, policy: &Policy, len: usize, work: usize, planned: usize) -> bool {
-    policy
-        .run_entry(rt, Key::new(SITE, len, work, planned))
-        .is_some()
+fn has_runs_of(rt: &impl Wait, policy: &Policy, of: [(usize, usize, usize); 4]) -> [bool; 4] {
+    let mut found = [false; 4];
+    for at in 0..4usize {
+        let (len, work, planned) = of[at];
+        let key = Key::new(SITE, len, work, planned);
+        found[at] = policy.run_entry(rt, key).is_some();
+    }
+    found
 }
 
 #[test]
 fn a_fresh_policy_runs_in_parallel_and_then_serially(rt: HostRuntime) {
-    let policy = Policy::new(rt.alloc()).expect(&rt, "memory");
+    let policy = fresh(&rt, rt.alloc());
     let body = |path: RunExecution| -> Result<RunExecution, u8> { Ok(path) };
     for path in [P, S, S] {
         let answer = policy.try_run(&rt, SITE, 64, 640, 4, &|| 0, body);
         same(&rt, answer, Ok(path));
     }
-    assert!(rt; has_runs(&rt, &policy, 64, 640, 4));
-    assert!(rt; !has_runs(&rt, &policy, 64, 64, 4));
-    assert!(rt; !has_runs(&rt, &policy, 640, 64, 4));
-    assert!(rt; !has_runs(&rt, &policy, 64, 640, 1));
+    same(
+        &rt,
+        has_runs_of(
+            &rt,
+            &policy,
+            [(64, 640, 4), (64, 64, 4), (640, 64, 4), (64, 640, 1)],
+        ),
+        [true, false, false, false],
+    );
 }
 
 // The clock stands still but while a body runs: 70000 nanoseconds in parallel, 30000 serially.
 #[test]
 fn a_policy_measures_what_passes_in_the_body(rt: HostRuntime) {
-    let policy = Policy::new(rt.alloc()).expect(&rt, "memory");
+    let policy = fresh(&rt, rt.alloc());
     let ticks = AtomicU64::new(5);
     let now = || ticks.load(Ordering::SeqCst);
     let body = |path: RunExecution| -> Result<RunExecution, u8> {
@@ -242,7 +289,7 @@ fn run_of_ten<Rt: Wait>(
 
 #[test]
 fn success_is_recorded_and_errors_are_not(rt: HostRuntime) {
-    let policy = Policy::new(rt.alloc()).expect(&rt, "memory");
+    let policy = fresh(&rt, rt.alloc());
     let key = Key::new(SITE, 10, 10, 4);
     let ticks = AtomicU64::new(0);
     let failed = run_of_ten(&rt, &policy, &ticks, &[P, S]);
@@ -260,8 +307,8 @@ fn success_is_recorded_and_errors_are_not(rt: HostRuntime) {
 // A body that asks the same policy would wait forever if the policy's lock were held.
 #[test]
 fn a_body_runs_without_the_lock(rt: HostRuntime) {
-    let policy = Policy::new(rt.alloc()).expect(&rt, "memory");
-    let inner = policy.clone().expect(&rt, "memory");
+    let policy = fresh(&rt, rt.alloc());
+    let inner = handle(&rt, &policy);
     let body = move |path: RunExecution| -> Result<RunExecution, Fault> {
         let key = Key::new(SITE, 1, 1, 2);
         inner.record_run(&rt, key, path, 5)?;
