@@ -193,13 +193,29 @@ fn records_of_jobs_feed_their_choices(rt: HostRuntime) {
     same(&rt, entries, (true, false));
 }
 
+// The path of a run over 64 items of so much work, by a clock that stands still.
+fn path_of<Rt: Wait>(
+    rt: &Rt,
+    policy: &Policy,
+    work: usize,
+    planned: usize,
+) -> Result<RunExecution, Trouble<u8>> {
+    policy.try_run(
+        rt,
+        SITE,
+        64,
+        work,
+        planned,
+        &|| 0,
+        |path: RunExecution| -> Result<RunExecution, u8> { Ok(path) },
+    )
+}
+
 #[test]
 fn a_run_planned_for_one_asks_no_policy(rt: HostRuntime) {
     let policy = fresh(&rt, rt.alloc());
-    let body = |path: RunExecution| -> Result<RunExecution, u8> { Ok(path) };
     for planned in [0, 1] {
-        let answer = policy.try_run(&rt, SITE, 64, 64, planned, &|| 0, body);
-        same(&rt, answer, Ok(S));
+        same(&rt, path_of(&rt, &policy, 64, planned), Ok(S));
         assert!(rt;
             policy
                 .run_entry(&rt, Key::new(SITE, 64, 64, planned))
@@ -223,10 +239,8 @@ fn has_runs_of(rt: &impl Wait, policy: &Policy, of: [(usize, usize, usize); 4]) 
 #[test]
 fn a_fresh_policy_runs_in_parallel_and_then_serially(rt: HostRuntime) {
     let policy = fresh(&rt, rt.alloc());
-    let body = |path: RunExecution| -> Result<RunExecution, u8> { Ok(path) };
     for path in [P, S, S] {
-        let answer = policy.try_run(&rt, SITE, 64, 640, 4, &|| 0, body);
-        same(&rt, answer, Ok(path));
+        same(&rt, path_of(&rt, &policy, 640, 4), Ok(path));
     }
     same(
         &rt,

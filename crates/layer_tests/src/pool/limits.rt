@@ -114,6 +114,11 @@ fn a_worker_asks_for_jobs_before_it_sleeps(rt: HostRuntime) {
     worker.join(&rt);
 }
 
+// What a worker is told that asks whether jobs were injected.
+fn no_jobs() -> bool {
+    false
+}
+
 // An idle worker to which a job comes once it has announced itself. It answers whether it goes back
 // to announce itself again, and does so.
 fn idle_before_a_job<R: Wait>(
@@ -129,12 +134,12 @@ fn idle_before_a_job<R: Wait>(
         return false;
     };
     for _ in 0..33 {
-        sleep.no_work_found(rt, &mut idle, parker, latch, &mut seat, || false);
+        sleep.no_work_found(rt, &mut idle, parker, latch, &mut seat, no_jobs);
     }
     sleep.new_internal_jobs(rt, 1, true);
-    sleep.no_work_found(rt, &mut idle, parker, latch, &mut seat, || false);
+    sleep.no_work_found(rt, &mut idle, parker, latch, &mut seat, no_jobs);
     let is_back = idle.rounds() == 32 && sleep.counters(rt).events() == 1;
-    sleep.no_work_found(rt, &mut idle, parker, latch, &mut seat, || false);
+    sleep.no_work_found(rt, &mut idle, parker, latch, &mut seat, no_jobs);
     is_back && idle.recorded() == Some(2) && sleep.counters(rt).events() == 2
 }
 
