@@ -2,7 +2,7 @@
 use crate::tests::same::{answers, lists, row, same};
 use crate::tests::strategies::{SITE, Stopped, number, pool};
 use commonware_parallel::{Batches, Fault, Rayon, Sequential, Strategy, Trouble};
-use known_answers::beyond::ranges_at_pool;
+use known_answers::one_strategy::ranges_at_pool;
 use std::alloc::Global;
 use std::num::NonZeroUsize;
 use std::ops::Range;

@@ -4,7 +4,7 @@ use crate::tests::same::{answers, row};
 use crate::tests::steps::{add, ten, zero};
 use crate::tests::strategies::{SITE, Stopped, number, pool};
 use commonware_parallel::{Fault, Sequential, Strategy};
-use known_answers::beyond::{
+use known_answers::one_strategy::{
     fold_along_shape, fold_by_own, fold_in_one, fold_planned_for_one, planned_pool,
 };
 use std::alloc::Global;

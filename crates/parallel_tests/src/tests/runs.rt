@@ -5,7 +5,7 @@ use commonware_parallel::rayon::ThreadPoolBuilder;
 use commonware_parallel::{
     Chooser, Clock, Copies, Fault, MonotonicClock, Rayon, Runtime, Sequential, Strategy,
 };
-use known_answers::beyond::{planned_pool, run_parallel, run_serial};
+use known_answers::one_strategy::{planned_pool, run_parallel, run_serial};
 use std::alloc::Global;
 use std::thread::available_parallelism;
 use uses::long_lists::LongLists;

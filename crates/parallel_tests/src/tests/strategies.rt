@@ -4,7 +4,7 @@ ghost use Rattle.commonware_parallel.specs.Rayon.{chooses_of, planning_of};
 ghost use Rattle.std.specs.Int.NonZero.{non_zero_usize_get};
 
 use commonware_parallel::{Clock, Rayon, Site};
-use known_answers::beyond::planned_pool;
+use known_answers::one_strategy::planned_pool;
 use std::alloc::Global;
 use std::num::NonZeroUsize;
 use std::process::Abort;

@@ -5,7 +5,7 @@ use Rattle.std.proofs.lemmas.Bool.{cases_lt}
 use Rattle.commonware_parallel.specs.Batches.{IsBatch, ranges_of}
 use Rattle.commonware_parallel.specs.Rayon.{planning_of}
 use Rattle.commonware_parallel.proofs.Picks.{as_many_parts}
-use Rattle.known_answers.proofs.beyond.ranges_at_pool.Goals as goal
+use Rattle.known_answers.proofs.one_strategy.ranges_at_pool.Goals as goal
 
 -- where one is planned for there may be one
 all_parts : (planned share parts : ℕ) → (planned ≤ 1 → parts ≡ 1)
