@@ -1,3 +1,4 @@
+//! Batches: balanced ranges of the indices of a list, and the calls that go over them.
 ghost use Rattle.std.specs.Prelude.{◌≡◌, ◌↔◌, ◌+◌, ◌/◌, ◌<◌, ◌≤◌, [], ◌∷◌, Vec, length, All, IfErr, IfOk, IsTrue, Ok, max};
 ghost use Rattle.std.specs.Fn.{FnOnceReturnsAt, FnOnceTakesAt};
 ghost use Rattle.std.specs.List.{Contains};

@@ -1,3 +1,4 @@
+//! What a strategy is asked, and what it answers: calls and picks.
 ghost use Rattle.std.specs.Prelude.{◌≡◌, ◌<◌, ◌≤◌};
 ghost use Rattle.std.specs.Int.NonZero.{non_zero_usize_get};
 ghost use Rattle.commonware_parallel.specs.Calls.{HasPick, batches_call, body_call, first_pick, goes_by_path, join_call, last_pick, multiplied_call, nth_pick};

@@ -1,3 +1,4 @@
+//! The strategy over several threads, with the policy that it asks.
 ghost use Rattle.std.specs.Prelude.{◌≡◌, ◌≢◌, ◌<◌, ◌≤◌, true, false, ◌-◌, ◌⊎◌, min, nat_eq, Some, IsSome, is_some, IfOk, IfErr};
 ghost use Rattle.std.specs.Option.{option_copied};
 ghost use Rattle.std.specs.Int.NonZero.{non_zero_usize_get};

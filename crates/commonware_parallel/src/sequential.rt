@@ -1,3 +1,4 @@
+//! The strategy on the caller's thread.
 ghost use Rattle.std.specs.Prelude.{◌≡◌, All, true, IfOk, OnOk};
 ghost use Rattle.std.specs.Borrow.{MutBor};
 ghost use Rattle.std.specs.Iterator.{IsFinite, Drains, HoldsAlong};

@@ -1,3 +1,4 @@
+//! What a program calls: maps, folds, joins, sorts, batches, tiles and jobs through any strategy.
 ghost use Rattle.std.specs.Prelude.{ℕ, ◌<◌, IfOk, IfErr, OnOk, MatchResult, length};
 ghost use Rattle.std.specs.Borrow.{MutBor};
 ghost use Rattle.std.specs.Int.NonZero.{non_zero_usize_get};

@@ -1,3 +1,4 @@
+//! The pick that a rule gives.
 ghost use Rattle.std.specs.Prelude.{◌≡◌, ◌<◌};
 ghost use Rattle.std.specs.Int.NonZero.{non_zero_usize_get};
 ghost use Rattle.commonware_parallel.specs.Mixes.{pick_of};

@@ -1,3 +1,4 @@
+//! A strategy that picks by a rule, for tests.
 ghost use Rattle.std.specs.Prelude.{◌≡◌, ◌<◌, IfOk, nat_eq};
 ghost use Rattle.parallel_fault.specs.Trouble.{IsMemoryOnErr};
 
