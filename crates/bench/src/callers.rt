@@ -1,5 +1,5 @@
-// Callers as they are met: the bytes of a matrix that are above a threshold, counted by row, and
-// messages that are checked against their tags. Each through a strategy and by a plain loop.
+//! Callers as they are met: the bytes of a matrix that are above a threshold, counted by row, and
+//! messages that are checked against their tags. Each through a strategy and by a plain loop.
 use crate::calls::SITE;
 use commonware_parallel::{Enumerated, Fault, Strategy, Trouble, Zipped};
 use sha2::{Digest as _, Sha256};

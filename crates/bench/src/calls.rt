@@ -1,4 +1,4 @@
-// The same cases by a strategy, over any source of the items.
+//! The same cases by a strategy, over any source of the items.
 use crate::work::{heavy, light, rising, try_heavy, try_light};
 use commonware_parallel::{Fault, Site, Source, Strategy, Trouble};
 use parallel_bridge::{Parts, Segment};

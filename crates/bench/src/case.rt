@@ -1,5 +1,4 @@
-// The cases that are timed, and their names.
-
+//! The cases that are timed, and their names.
 /// A case: what is done with a list.
 #[derive(Clone, Copy, Debug, PartialEq, Eq, Hash)]
 pub enum Case {

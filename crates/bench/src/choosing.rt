@@ -1,5 +1,4 @@
-// Rounds of choices by keys that are known, and what a choice with its record takes.
-
+//! Rounds of choices by keys that are known, and what a choice with its record takes.
 use crate::decimal::Decimal;
 use crate::learner::{Learner, Recording, Shared};
 use crate::race::rounds_of;

@@ -1,4 +1,4 @@
-// The jobs that pools are brought here: values of one type, and none of them boxed.
+//! The jobs that pools are brought here: values of one type, and none of them boxed.
 use crate::work::mixed;
 use parallel_pool::rayon::Execute;
 use std::alloc::{AllocError, Global};

@@ -1,4 +1,4 @@
-// Numbers that are printed with three places after the point.
+//! Numbers that are printed with three places after the point.
 use std::fmt;
 
 /// A number of thousandths, which prints as `1.250` for 1250 of them.

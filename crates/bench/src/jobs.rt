@@ -1,4 +1,4 @@
-// Jobs that are brought to a pool, beside a thread started for each.
+//! Jobs that are brought to a pool, beside a thread started for each.
 use crate::counted_job::{Board, CountedJob};
 use crate::decimal::Decimal;
 use crate::request::JobTrial;

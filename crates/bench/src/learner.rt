@@ -1,4 +1,4 @@
-// What chooses by the entries of a policy: a table alone, and a shared policy under its lock.
+//! What chooses by the entries of a policy: a table alone, and a shared policy under its lock.
 use commonware_parallel::Fault;
 use parallel_policy::{Key, Policy, Table};
 use std::sync::Wait;

@@ -1,5 +1,5 @@
-// The plain loops that the calls stand for, each over the same slice. A loop that gathers as many
-// answers as there are items is a chain, which is its faster form.
+//! The plain loops that the calls stand for, each over the same slice. A loop that gathers as many
+//! answers as there are items is a chain, which is its faster form.
 use crate::work::{heavy, light, rising, try_heavy, try_light};
 use commonware_parallel::Fault;
 use std::alloc::{AllocError, Global};

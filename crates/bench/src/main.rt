@@ -1,6 +1,6 @@
-// Times folds, maps, tiles, trees and callers through a plain loop and through each strategy, the
-// choices of a policy and the jobs of a pool; empties random plans of shares, and brings jobs to
-// pools.
+//! Times folds, maps, tiles, trees and callers through a plain loop and through each strategy, the
+//! choices of a policy and the jobs of a pool; empties random plans of shares, and brings jobs to
+//! pools.
 #![tactic(auto)]
 
 mod callers;

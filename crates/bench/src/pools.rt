@@ -1,4 +1,4 @@
-// Pools that are brought many jobs by several threads at once, and pools that come and go.
+//! Pools that are brought many jobs by several threads at once, and pools that come and go.
 use crate::counted_job::{Board, CountedJob, part_of};
 use crate::jobs::{board_of, spawn_all};
 use crate::request::PoolTrial;

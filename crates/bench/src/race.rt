@@ -1,4 +1,4 @@
-// Rounds in which the ways of a case run one after the other.
+//! Rounds in which the ways of a case run one after the other.
 use crate::decimal::Decimal;
 use crate::request::Trial;
 use crate::times::Times;

@@ -1,4 +1,4 @@
-// What the words of the command line ask for.
+//! What the words of the command line ask for.
 use crate::case::Case;
 use crate::soak::SoakTrial;
 use crate::ways::{Form, Way};

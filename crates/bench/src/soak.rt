@@ -1,4 +1,4 @@
-// Random plans of shares, each emptied by threads that claim, steal and refill.
+//! Random plans of shares, each emptied by threads that claim, steal and refill.
 ghost use Rattle.std.specs.Prelude.{◌≡◌, ◌*◌, ◌≤◌, IfOk, IsFalse, None, map};
 ghost use Rattle.std.specs.Int.NonZero.{non_zero_usize_get};
 ghost use Rattle.parallel_shares.specs.Seats.{AreSeatsOf, IsSeatOf, index_of, transit_of};

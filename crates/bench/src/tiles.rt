@@ -1,4 +1,4 @@
-// The cells of a grid, added up: each is an item of the list, which is laid out as rows.
+//! The cells of a grid, added up: each is an item of the list, which is laid out as rows.
 use crate::calls::SITE;
 use crate::case::TileCase;
 use crate::loops::fold_light;

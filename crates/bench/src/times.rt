@@ -1,4 +1,4 @@
-// What is told of a list of times.
+//! What is told of a list of times.
 use anyhow::{Context, Result};
 
 /// The least of several times and one in their middle, in nanoseconds.

@@ -1,4 +1,4 @@
-// The root of a tree over the items, by a strategy and by a plain loop over levels in one buffer.
+//! The root of a tree over the items, by a strategy and by a plain loop over levels in one buffer.
 use crate::calls::SITE;
 use crate::case::TreeCase;
 use crate::work::{combined, combined_heavily};

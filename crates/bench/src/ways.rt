@@ -1,4 +1,4 @@
-// The ways in which a case is run.
+//! The ways in which a case is run.
 use crate::callers::{Digest, Message, matrix_of, messages_of, tags_of};
 use crate::case::{CallerCase, Case, ItemCase};
 use crate::tiles::Tiling;

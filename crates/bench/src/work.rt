@@ -1,4 +1,4 @@
-// The functions of an item, and the list that they are called on.
+//! The functions of an item, and the list that they are called on.
 use crate::case::Case;
 use commonware_parallel::Fault;
 use std::alloc::{AllocError, Global};

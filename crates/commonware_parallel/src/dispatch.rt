@@ -1,7 +1,7 @@
-// What the calls of a strategy are dispatched by: a body is told a path, or a number of parts.
-//
-// A strategy picks for every kind of call. Which picks a call has goes by its kind, so that a call
-// that goes by a path is told one, and any other a number of parts.
+//! What the calls of a strategy are dispatched by: a body is told a path, or a number of parts.
+//!
+//! A strategy picks for every kind of call. Which picks a call has goes by its kind, so that a call
+//! that goes by a path is told one, and any other a number of parts.
 ghost use Rattle.std.specs.Prelude.{◌≡◌, ◌≢◌, ◌<◌, ◌≤◌, ℕ, IfErr, IfOk, false, true};
 ghost use Rattle.parallel_bridge.specs.declared.path.Path.{Path};
 ghost use Rattle.parallel_fault.specs.Trouble.{IsMemoryOnErr, IsMemoryOnFault};

@@ -1,9 +1,9 @@
-// What the list calls of a strategy stand on: the list's parts, split or as they come, by a path
-// that the strategy takes.
-//
-// These functions are generic in the parts and not in the source, and write the bodies that go to
-// the strategy: the checker refuses a closure over parts whose type is a source's ("what is passed
-// does not fit the bound").
+//! What the list calls of a strategy stand on: the list's parts, split or as they come, by a path
+//! that the strategy takes.
+//!
+//! These functions are generic in the parts and not in the source, and write the bodies that go to
+//! the strategy: the checker refuses a closure over parts whose type is a source's ("what is passed
+//! does not fit the bound").
 ghost use Rattle.std.specs.Prelude.{◌≡◌, ◌<◌, List, IfOk, length, ⊤};
 ghost use Rattle.std.specs.Borrow.{MutBor};
 ghost use Rattle.parallel_bridge.specs.Lists.{MapOf};

@@ -1,5 +1,5 @@
-// Known answers, which follow from the public clauses alone: a definition that allowed another
-// answer would leave its contract here unproved.
+//! Known answers, which follow from the public clauses alone: a definition that allowed another
+//! answer would leave its contract here unproved.
 ghost use Rattle.std.specs.Prelude.{◌≡◌, ℕ, ◌<◌, false, true, [], ◌∷◌, Result, Ok, Err, IfOk};
 ghost use Rattle.std.specs.Int.NonZero.{non_zero_usize_get};
 ghost use Rattle.parallel_fault.specs.Trouble.{IsMemoryOnErr};

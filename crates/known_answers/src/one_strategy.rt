@@ -1,5 +1,5 @@
-// Callers at one strategy, whose contracts say more than the trait's clauses: they see through the
-// strategy's ghost members which path it takes.
+//! Callers at one strategy, whose contracts say more than the trait's clauses: they see through the
+//! strategy's ghost members which path it takes.
 ghost use Rattle.std.specs.Prelude.{◌≡◌, ◌<◌, ◌/◌, List, false, max, min, IfOk, IfErr, IsOk};
 ghost use Rattle.std.specs.Int.NonZero.{non_zero_usize_get};
 ghost use Rattle.std.specs.Iterator.{IsFinite, Drains};

@@ -1,5 +1,5 @@
-// Callers at one strategy of the calls with a state at hand or with steps that may fail, whose
-// contracts say more than the trait's clauses: in which segments a list goes.
+//! Callers at one strategy of the calls with a state at hand or with steps that may fail, whose
+//! contracts say more than the trait's clauses: in which segments a list goes.
 ghost use Rattle.std.specs.Prelude.{◌≡◌, ◌<◌, List, false, IfOk, IsOk};
 ghost use Rattle.std.specs.Borrow.{MutBor};
 ghost use Rattle.std.specs.Iterator.{IsFinite, Drains};

@@ -1,4 +1,4 @@
-// Consumers, producers and sources at concrete types.
+//! Consumers, producers and sources at concrete types.
 mod gates;
 mod refusals;
 mod sources;

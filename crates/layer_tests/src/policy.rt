@@ -1,4 +1,4 @@
-// Worked examples of entries, tables and policies. Expected values stand in the tests.
+//! Worked examples of entries, tables and policies. Expected values stand in the tests.
 mod decisions;
 mod histories;
 mod memory;

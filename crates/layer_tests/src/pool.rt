@@ -1,4 +1,4 @@
-// What no clause says: worked values, each call on its happy path, and waits across threads.
+//! What no clause says: worked values, each call on its happy path, and waits across threads.
 mod count_latches;
 mod environments;
 mod jobs;

@@ -1,4 +1,4 @@
-// Shares over atomic words, and the pure machine, on plans whose words are known.
+//! Shares over atomic words, and the pure machine, on plans whose words are known.
 ghost use Rattle.std.specs.Prelude.{◌≡◌, ◌≢◌, ◌*◌, ◌^◌, ◌<◌, ◌≤◌, IsFalse};
 ghost use Rattle.std.specs.Int.NonZero.{non_zero_usize_get};
 ghost use Rattle.parallel_shares.specs.Seats.{AreSeatsOf};

@@ -1,3 +1,4 @@
+//! When a fold or a map through any shape has one answer, the plain one.
 ghost use Rattle.std.specs.Prelude.{◌≡◌, List, map};
 ghost use Rattle.std.specs.List.{Contains};
 ghost use Rattle.parallel_bridge.specs.Lists.{MapOf};

@@ -1,3 +1,4 @@
+//! Why a call could not be carried out, and why a call whose closures may fail has no answer.
 ghost use Rattle.std.specs.Prelude.{◌≡◌};
 ghost use Rattle.parallel_fault.specs.declared.fault.Fault.TheVariants.{Memory};
 ghost use Rattle.parallel_fault.specs.declared.fault.Trouble.TheVariants.{Fault as OfFault};

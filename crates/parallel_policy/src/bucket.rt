@@ -1,4 +1,4 @@
-// Lengths that count as one.
+//! Lengths that count as one.
 ghost use Rattle.std.specs.Prelude.{◌≡◌, ◌-◌, ◌^◌, ◌<◌, ◌≤◌};
 ghost use Rattle.parallel_policy.specs.Keys.{binary_digits};
 

@@ -1,4 +1,4 @@
-// How often a path is measured, and how often the other one is probed.
+//! How often a path is measured, and how often the other one is probed.
 ghost use Rattle.std.specs.Prelude.{◌≡◌, ℕ, ◌≤◌};
 ghost use Rattle.parallel_policy.specs.Arbitration.{contest_of, doublings_of, interval_of, arbitrated, count_after, IsCount};
 

@@ -1,4 +1,4 @@
-// One call, decided by a policy's choice and measured.
+//! One call, decided by a policy's choice and measured.
 ghost use Rattle.std.specs.Prelude.{◌≡◌, ℕ, ◌<◌, ◌≤◌, Bool, Result, IfOk, OnErr};
 ghost use Rattle.parallel_policy.specs.declared.execution.RunExecution.{RunExecution};
 ghost use Rattle.parallel_policy.specs.Decisions.{AnswersOn, DecidesAs, Decides, ReadsAs, RunsSomewhen, RunsSerially, RunsWith};

@@ -1,4 +1,4 @@
-// The clock that measures how long a body ran.
+//! The clock that measures how long a body ran.
 ghost use Rattle.std.specs.Prelude.{◌≡◌, ◌-◌, ◌^◌, min};
 ghost use Rattle.std.specs.Duration.{as_nanos};
 

@@ -1,4 +1,4 @@
-// An entry by its key, in a map of any keys.
+//! An entry by its key, in a map of any keys.
 ghost use Rattle.std.specs.Prelude.{◌≡◌, false, Some, IsSome, IfOk, IsOk, OnErr};
 ghost use Rattle.std.specs.HashMap.{get};
 ghost use Rattle.parallel_policy.specs.Entries.{IsEntryOr};

@@ -1,4 +1,4 @@
-// How long one kind of run takes, by its samples.
+//! How long one kind of run takes, by its samples.
 ghost use Rattle.std.specs.Prelude.{◌≡◌, ℕ, ◌≤◌, min, max, Option, Some, None, IfSome};
 ghost use Rattle.parallel_policy.specs.Estimates.{mean, blended};
 

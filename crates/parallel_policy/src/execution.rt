@@ -1,5 +1,4 @@
-// The ways in which a call may be carried out.
-
+//! The ways in which a call may be carried out.
 /// How the body of a call runs.
 #[derive(Clone, Copy, Debug, PartialEq, Eq)]
 pub enum RunExecution {

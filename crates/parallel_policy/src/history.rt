@@ -1,4 +1,4 @@
-// What happens to an entry of the policy.
+//! What happens to an entry of the policy.
 use crate::execution::RunExecution;
 
 /// What happens to a `RunEntry`.

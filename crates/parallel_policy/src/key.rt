@@ -1,4 +1,4 @@
-// By what the policy tells calls apart.
+//! By what the policy tells calls apart.
 ghost use Rattle.std.specs.Prelude.{◌≡◌};
 
 use crate::bucket::len_bucket;

@@ -1,4 +1,4 @@
-// What holds of every history.
+//! What holds of every history.
 ghost use Rattle.parallel_policy.specs.Laws.{MeasuresOneOfTen};
 
 /// The law of measuring: of any ten choices in a row of a `RunEntry`, whatever it was recorded

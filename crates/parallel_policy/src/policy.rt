@@ -1,4 +1,4 @@
-// A table of entries that is shared, under a lock.
+//! A table of entries that is shared, under a lock.
 ghost use Rattle.std.specs.Prelude.{◌<◌, ◌≤◌, ⊤};
 ghost use Rattle.parallel_policy.specs.declared.execution.RunExecution.{RunExecution};
 ghost use Rattle.parallel_policy.specs.Decisions.{AnswersOn, DecidesAs};

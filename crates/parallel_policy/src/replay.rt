@@ -1,4 +1,4 @@
-// What an entry answers, reckoned from its whole history: plain, slow, and without an entry.
+//! What an entry answers, reckoned from its whole history: plain, slow, and without an entry.
 ghost use Rattle.std.specs.Prelude.{◌≡◌, Some, ◌<◌, ◌≤◌};
 ghost use Rattle.parallel_policy.specs.declared.execution.RunExecution.{RunExecution};
 ghost use Rattle.parallel_policy.specs.declared.history.SpawnSample.{SpawnSample};

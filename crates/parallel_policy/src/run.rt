@@ -1,4 +1,4 @@
-// What the policy keeps for one key of runs.
+//! What the policy keeps for one key of runs.
 ghost use Rattle.std.specs.Prelude.{◌≡◌, ℕ, ◌*◌, ◌<◌, ◌∷◌, Bool, true, None, Some, IsSomeAnd, nat_lt};
 ghost use Rattle.parallel_policy.specs.Estimates.{blended};
 ghost use Rattle.parallel_policy.specs.Arbitration.{IsCount};

@@ -1,4 +1,4 @@
-// The call site that a caller hands in, and the trait through which calls take it.
+//! The call site that a caller hands in, and the trait through which calls take it.
 ghost use Rattle.std.specs.Prelude.{◌≡◌};
 ghost use Rattle.parallel_policy.specs.declared.site.Site.{Site};
 

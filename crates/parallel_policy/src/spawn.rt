@@ -1,4 +1,4 @@
-// What the policy keeps for one key of spawned jobs.
+//! What the policy keeps for one key of spawned jobs.
 ghost use Rattle.std.specs.Prelude.{◌≡◌, ◌⊎◌, ◌∷◌, true, None};
 ghost use Rattle.parallel_policy.specs.Arbitration.{IsCount};
 ghost use Rattle.parallel_policy.specs.Spawns.{SpawnHistory, SpawnState, HoldsSpawn, fresh_spawn, spawn_choice, spawn_answer, spawn_count_after, with_spawn_sample, spawn_time};

@@ -1,4 +1,4 @@
-// The entries of a policy, by their keys.
+//! The entries of a policy, by their keys.
 ghost use Rattle.std.specs.Prelude.{◌≡◌, ◌∷◌, None, IsSome, IfOk, IsOk, OnOk, OnErr};
 ghost use Rattle.parallel_policy.specs.Runs.{RunHistory, run_choice};
 ghost use Rattle.parallel_policy.specs.Spawns.{SpawnHistory, spawn_choice};

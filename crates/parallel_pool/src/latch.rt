@@ -1,4 +1,4 @@
-// Latches: what one thread waits on until another has set it.
+//! Latches: what one thread waits on until another has set it.
 pub mod core_latch;
 pub mod count_latch;
 pub mod count_share;

@@ -1,4 +1,4 @@
-// The pool and what runs on it.
+//! The pool and what runs on it.
 pub mod broadcast_context;
 pub mod build_error;
 pub mod environment;

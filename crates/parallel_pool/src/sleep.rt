@@ -1,4 +1,4 @@
-// The sleep of idle workers: who looks for work, who sleeps, and who is woken when work comes.
+//! The sleep of idle workers: who looks for work, who sleeps, and who is woken when work comes.
 ghost use Rattle.std.specs.Prelude.{◌≡◌, ◌≢◌, ◌⊎◌, ◌+◌, ◌<◌, ◌≤◌, ◌↔◌, true, IfOk, IfSome, IsSome, None, vec_len, ⊤};
 ghost use Rattle.parallel_pool.specs.declared.sleep.sleep_state.Block.TheVariants.{Blocked};
 ghost use Rattle.std.specs.NonZero.{non_zero_usize_get};

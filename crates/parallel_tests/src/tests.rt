@@ -1,4 +1,4 @@
-// The tests that cross crates, at concrete types. Expected values stand in the tests.
+//! The tests that cross crates, at concrete types. Expected values stand in the tests.
 mod batches;
 mod blocks;
 mod clocks;

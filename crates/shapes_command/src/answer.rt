@@ -1,4 +1,4 @@
-// The line that answers a request.
+//! The line that answers a request.
 ghost use Rattle.std.specs.Prelude.{◌≡◌, ◌++◌, ℕ, List, IfOk, IfErr, map, string_bytes};
 ghost use Rattle.std.specs.Fmt.{decimal};
 ghost use Rattle.std.specs.NonZero.{non_zero_usize_get};

@@ -1,4 +1,4 @@
-// The numbers of a command line: decimal digits alone, from one number up to another.
+//! The numbers of a command line: decimal digits alone, from one number up to another.
 ghost use Rattle.std.specs.Prelude.{◌≡◌, ◌≢◌, ◌≤◌, ◌-◌, ◌^◌, SomeIff, MatchOption, codes};
 ghost use Rattle.std.specs.NonZero.{non_zero_usize_get};
 ghost use Rattle.std.specs.Str.Parse.{digits_value};

@@ -1,4 +1,4 @@
-// What a command line asks for.
+//! What a command line asks for.
 ghost use Rattle.std.specs.Prelude.{◌≡◌, ◌↔◌, IsTrue, MatchOption, codes};
 ghost use Rattle.shapes_command.specs.Request.{IsExploreLine, SaysExploreSum, IsBodiesLine};
 ghost use Rattle.shapes_command.specs.Request.{IsRequestLine, Says, IsUnasked, IsLineOfWords, SaysInWords, IsShareLine, SaysShare, IsListLine, SaysList};

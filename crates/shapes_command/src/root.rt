@@ -1,4 +1,4 @@
-// The root of a tree over a command line's items, by each rule of a search.
+//! The root of a tree over a command line's items, by each rule of a search.
 ghost use Rattle.std.specs.Prelude.{◌≡◌, IfOk, IfErr, map};
 ghost use Rattle.shapes_command.specs.Answer.{IsRootOf, combined};
 ghost use Rattle.shapes_command.specs.Request.{AreItems, number_of};

@@ -1,5 +1,5 @@
-// Searches through the rules of an explorer: for the sum of a list, and for a body that answers
-// otherwise.
+//! Searches through the rules of an explorer: for the sum of a list, and for a body that answers
+//! otherwise.
 ghost use Rattle.std.specs.Prelude.{◌≡◌, Bool, true, false, IfOk, IfErr};
 ghost use Rattle.commonware_parallel.specs.Explorers.{plans_of, rule_of};
 ghost use Rattle.commonware_parallel.specs.declared.mocks.rule.Rule.TheVariants.{Parallel, Serial};

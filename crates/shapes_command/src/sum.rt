@@ -1,4 +1,4 @@
-// The fold of a command line's items.
+//! The fold of a command line's items.
 ghost use Rattle.std.specs.Prelude.{◌≡◌, ◌+◌, ◌≤◌, IfOk, IfErr, sum_by};
 ghost use Rattle.parallel_bridge.specs.Shapes.{Shape, cutdepth};
 ghost use Rattle.commonware_parallel.specs.Explorers.{plans_of, pool_threads, rule_of};

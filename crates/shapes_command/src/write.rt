@@ -1,4 +1,4 @@
-// A line that is written whole, or as far as the writer takes it.
+//! A line that is written whole, or as far as the writer takes it.
 ghost use Rattle.std.specs.Prelude.{◌≡◌, ℕ, ◌<◌, ◌≤◌, length, take, IfOk, OnOk, OnErr};
 ghost use Rattle.std.specs.Io.KnownBytes.{Appends, Keeps};
 ghost use Rattle.shapes_command.specs.Line.{AppendsPart};

@@ -1,4 +1,4 @@
-// Batches: a closure that is handed balanced ranges, and looks into a list by them.
+//! Batches: a closure that is handed balanced ranges, and looks into a list by them.
 ghost use Rattle.std.specs.Prelude.{◌≡◌, ◌≤◌, All, count_by, length, max, IfOk};
 ghost use Rattle.std.specs.Int.NonZero.{non_zero_usize_get};
 ghost use Rattle.parallel_fault.specs.Trouble.{IsMemoryOnErr};

@@ -1,5 +1,5 @@
-// A closure whose answer the shape of a run doesn't change, and one whose answer it does, told
-// apart by a search through the rules.
+//! A closure whose answer the shape of a run doesn't change, and one whose answer it does, told
+//! apart by a search through the rules.
 ghost use Rattle.std.specs.Prelude.{◌≡◌, IfOk};
 ghost use Rattle.parallel_fault.specs.Trouble.{IsMemoryOnErr};
 ghost use Rattle.commonware_parallel.specs.Explorers.{rule_of};

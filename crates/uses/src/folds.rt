@@ -1,5 +1,5 @@
-// Folds that are the plain fold from the left, since their closures keep the laws that `FoldLaws`
-// names.
+//! Folds that are the plain fold from the left, since their closures keep the laws that `FoldLaws`
+//! names.
 ghost use Rattle.std.specs.Prelude.{◌≡◌, ◌*◌, ◌+◌, ◌%◌, ◌^◌, ◌<◌, All, fold, length, sum_by, IfOk};
 ghost use Rattle.std.specs.List.{slice_index};
 ghost use Rattle.parallel_fault.specs.Trouble.{IsMemoryOnErr};

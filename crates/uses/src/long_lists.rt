@@ -1,4 +1,4 @@
-// A strategy of a user's own, and what calls through it are known to answer.
+//! A strategy of a user's own, and what calls through it are known to answer.
 ghost use Rattle.std.specs.Prelude.{◌≡◌, ◌*◌, ◌<◌, ◌≤◌, false, true, length, map, IfOk};
 ghost use Rattle.std.specs.Int.NonZero.{non_zero_usize_get};
 ghost use Rattle.parallel_fault.specs.Trouble.{IsMemoryOnErr};

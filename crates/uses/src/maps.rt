@@ -1,5 +1,5 @@
-// Further maps: over borrowed items, over indices, by a closure that looks into a table or asks
-// something of its item, and over an iterator.
+//! Further maps: over borrowed items, over indices, by a closure that looks into a table or asks
+//! something of its item, and over an iterator.
 ghost use Rattle.std.specs.Prelude.{◌≡◌, ◌*◌, ◌-◌, ◌%◌, ◌^◌, ◌<◌, ◌++◌, map, length, All, IfOk};
 ghost use Rattle.std.specs.List.{range_with_len, slice_index};
 ghost use Rattle.parallel_fault.specs.Trouble.{IsMemoryOnErr};

@@ -1,5 +1,5 @@
-// Lists of a user's own: a producer, which is a list that can be cut, and a source, which is made
-// into one where a call goes parallel.
+//! Lists of a user's own: a producer, which is a list that can be cut, and a source, which is made
+//! into one where a call goes parallel.
 ghost use Rattle.std.specs.Prelude.{◌≡◌, ◌*◌, ◌++◌, length, map, reverse, IfOk, ⊤};
 ghost use Rattle.std.specs.List.{Contains};
 ghost use Rattle.parallel_fault.specs.Trouble.{IsMemoryOnErr};

@@ -1,4 +1,4 @@
-// Runs: one of two bodies, as the strategy chooses.
+//! Runs: one of two bodies, as the strategy chooses.
 ghost use Rattle.std.specs.Prelude.{◌≡◌, ℕ, ◌≤◌, ◌⊎◌, count_by, length, IfOk, IfErr};
 ghost use Rattle.commonware_parallel.specs.Answers.{OneOf};
 ghost use Rattle.commonware_parallel.specs.Calls.{AtSomePath, body_call};

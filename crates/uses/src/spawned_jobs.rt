@@ -1,4 +1,4 @@
-// Jobs that go on while their caller does: a closure, and a job that is a type of one's own.
+//! Jobs that go on while their caller does: a closure, and a job that is a type of one's own.
 ghost use Rattle.std.specs.Prelude.{◌≡◌, ℕ, ⊤, count_by, IfOk};
 ghost use Rattle.commonware_parallel.specs.Spawned.{gives_answer};
 

@@ -1,4 +1,4 @@
-// The shortest caller: a map over a list, through whichever strategy the program runs.
+//! The shortest caller: a map over a list, through whichever strategy the program runs.
 ghost use Rattle.std.specs.Prelude.{◌≡◌, ◌*◌, map, IfOk};
 ghost use Rattle.parallel_fault.specs.Trouble.{IsMemoryOnErr};
 

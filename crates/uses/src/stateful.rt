@@ -1,4 +1,4 @@
-// Maps and folds with a state at hand, and sorts.
+//! Maps and folds with a state at hand, and sorts.
 ghost use Rattle.std.specs.Prelude.{◌≡◌, ℕ, ◌⊎◌, Some, None, IfOk};
 ghost use Rattle.std.specs.List.Sorted.{IsNonDecreasingBy, IsPermutation, IsStableByKey};
 ghost use Rattle.std.specs.Ordering.{nat_cmp};

@@ -1,4 +1,4 @@
-// Tiles: a kernel over the rows of a matrix, which a strategy cuts as it likes.
+//! Tiles: a kernel over the rows of a matrix, which a strategy cuts as it likes.
 ghost use Rattle.std.specs.Prelude.{◌≡◌, ◌≢◌, ◌+◌, ◌*◌, ◌≤◌, ◌%◌, ◌^◌, IfOk, length};
 ghost use Rattle.parallel_fault.specs.Trouble.{IsMemoryOnErr};
 ghost use Rattle.commonware_parallel.specs.Tiles.{columns_of, rows_of};

@@ -1,4 +1,4 @@
-// Checks of many items: the first bad index, the good and the bad, a sum that stops at a limit.
+//! Checks of many items: the first bad index, the good and the bad, a sum that stops at a limit.
 ghost use Rattle.std.specs.Prelude.{◌≡◌, ℕ, ◌≤◌, ◌<◌, ◌%◌, ◌^◌, ◌+◌, Bool, true, false, All, not, length, sum, Result, IfOk, IfErr, ⊤};
 ghost use Rattle.std.specs.List.{filter, zip};
 ghost use Rattle.parallel_fault.specs.Trouble.{IfClosure, IsMemoryOnErr, IsMemoryOnFault};

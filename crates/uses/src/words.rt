@@ -1,4 +1,4 @@
-// The longest word of a list, by a fold whose closures keep the laws that `FoldLaws` names.
+//! The longest word of a list, by a fold whose closures keep the laws that `FoldLaws` names.
 ghost use Rattle.std.specs.Prelude.{◌≡◌, [], MatchOption, IfOk};
 ghost use Rattle.parallel_fault.specs.Trouble.{IsMemoryOnErr};
 ghost use Rattle.uses.specs.Words.{IsFirstLongest, longer_of};

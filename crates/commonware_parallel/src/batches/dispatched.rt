@@ -1,4 +1,4 @@
-// What the batch calls of a strategy stand on.
+//! What the batch calls of a strategy stand on.
 ghost use Rattle.std.specs.Prelude.{◌≡◌, ◌/◌, ◌<◌, ◌≤◌, ℕ, IfOk, false, max, ⊤};
 ghost use Rattle.std.specs.Int.NonZero.{non_zero_usize_get};
 ghost use Rattle.parallel_bridge.specs.Outcomes.{UnlessRefused};

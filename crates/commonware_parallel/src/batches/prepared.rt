@@ -1,4 +1,4 @@
-// Maps over what was prepared from a batch's ranges.
+//! Maps over what was prepared from a batch's ranges.
 ghost use Rattle.std.specs.Prelude.{IfOk};
 ghost use Rattle.std.specs.List.{Contains};
 ghost use Rattle.parallel_bridge.specs.Lists.{MapOf};

@@ -1,4 +1,4 @@
-// The folds that a strategy's list calls stand on, generic in the parts as `list` says.
+//! The folds that a strategy's list calls stand on, generic in the parts as `list` says.
 ghost use Rattle.std.specs.Prelude.{◌≡◌, ◌<◌, All, IfOk};
 ghost use Rattle.std.specs.Borrow.{MutBor};
 ghost use Rattle.std.specs.Iterator.{Drains, HoldsAlong, IsFinite};

@@ -1,4 +1,4 @@
-// There is one root.
+//! There is one root.
 ghost use Rattle.std.specs.Prelude.{◌≡◌, List, Option};
 ghost use Rattle.commonware_parallel.specs.Merkle.{IsDetermined, MerkleRoot};
 

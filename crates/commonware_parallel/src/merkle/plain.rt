@@ -1,4 +1,4 @@
-// The root of a tree on the caller's thread, by plain loops.
+//! The root of a tree on the caller's thread, by plain loops.
 ghost use Rattle.std.specs.Prelude.{◌<◌, IfOk};
 ghost use Rattle.parallel_fault.specs.Trouble.{IsMemoryOnErr};
 ghost use Rattle.commonware_parallel.specs.Merkle.{MerkleRoot, NextLevel};

@@ -1,4 +1,4 @@
-// Why a search through the rules gave no answer.
+//! Why a search through the rules gave no answer.
 ghost use Rattle.std.specs.Prelude.{◌≡◌};
 
 use crate::mocks::rule::Rule;

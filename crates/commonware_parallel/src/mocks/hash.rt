@@ -1,4 +1,4 @@
-// A hash of a seed, a call site and a length that is the same on every machine and in every run.
+//! A hash of a seed, a call site and a length that is the same on every machine and in every run.
 ghost use Rattle.std.specs.Prelude.{◌≡◌, ◌<◌};
 ghost use Rattle.commonware_parallel.specs.Mixes.{mixed_in, mix_of};
 

@@ -1,4 +1,4 @@
-// By what an explorer picks.
+//! By what an explorer picks.
 /// By what an explorer picks.
 #[derive(Clone, Copy, Debug, PartialEq, Eq)]
 pub enum Rule {

@@ -1,4 +1,4 @@
-// The search through the rules.
+//! The search through the rules.
 ghost use Rattle.std.specs.Prelude.{◌≡◌, IfOk, IfErr};
 ghost use Rattle.std.specs.Arc.{arc_value};
 ghost use Rattle.std.specs.Int.NonZero.{non_zero_usize_get};

@@ -1,4 +1,4 @@
-// A pool of the machine's own size.
+//! A pool of the machine's own size.
 ghost use Rattle.std.specs.Prelude.{◌≡◌, ◌≤◌, ◌<◌, IfOk, true};
 ghost use Rattle.parallel_pool.specs.ThreadPool.{thread_count};
 

@@ -1,4 +1,4 @@
-// Batches and tiles on the caller's thread: one whole range, and a plan for one worker.
+//! Batches and tiles on the caller's thread: one whole range, and a plan for one worker.
 ghost use Rattle.std.specs.Prelude.{IfOk};
 ghost use Rattle.parallel_bridge.specs.Outcomes.{UnlessRefused};
 ghost use Rattle.parallel_fault.specs.Trouble.{IsMemoryOnErr};

@@ -1,4 +1,4 @@
-// The end of a job on a worker, which its task waits for.
+//! The end of a job on a worker, which its task waits for.
 ghost use Rattle.std.specs.Prelude.{◌≡◌, ◌⊎◌, true, None, IsSomeAnd};
 ghost use Rattle.futures.specs.Poll.{OnPending};
 ghost use Rattle.futures.specs.Task.{Hears, IsArmed, Keeps, Wakes};

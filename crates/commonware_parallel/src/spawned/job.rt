@@ -1,4 +1,4 @@
-// What is spawned, and the promise by which its answer is known.
+//! What is spawned, and the promise by which its answer is known.
 ghost use Rattle.std.specs.Prelude.{◌≡◌};
 
 use std::snapshot::Snapshot;

@@ -1,4 +1,4 @@
-// How a job begins: at once, on a worker of its own, or never.
+//! How a job begins: at once, on a worker of its own, or never.
 ghost use Rattle.std.specs.Prelude.{IfErr, IfOk, true};
 ghost use Rattle.parallel_bridge.specs.declared.path.Path.TheVariants.{Parallel, Serial};
 ghost use Rattle.commonware_parallel.specs.Spawned.{BeginsAs, FailsToBegin, gives_answer};

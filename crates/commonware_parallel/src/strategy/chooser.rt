@@ -1,4 +1,4 @@
-// What a strategy writes: how it chooses.
+//! What a strategy writes: how it chooses.
 ghost use Rattle.std.specs.Prelude.{◌≡◌, ◌≢◌, ◌<◌, ℕ, Bool, IfErr, IfOk, IsTrue};
 ghost use Rattle.std.specs.Int.NonZero.{non_zero_usize_get};
 ghost use Rattle.parallel_fault.specs.Trouble.{IsMemoryOnErr, IsMemoryOnFault};

@@ -1,4 +1,4 @@
-// What the tile call of a strategy stands on.
+//! What the tile call of a strategy stands on.
 ghost use Rattle.std.specs.Prelude.{◌≡◌, ◌<◌, ℕ, IfOk, MatchResult};
 ghost use Rattle.parallel_fault.specs.Trouble.{IsMemoryOnErr};
 ghost use Rattle.parallel_shares.specs.Grid.{Fits};

@@ -1,4 +1,4 @@
-// One value for each row.
+//! One value for each row.
 ghost use Rattle.std.specs.Prelude.{ℕ};
 ghost use Rattle.commonware_parallel.specs.MergedRows.{MergesToValues, RespectsCuts};
 

@@ -1,5 +1,5 @@
-// A gate of first errors: what its seats see, and that a segment right of a known error stops, with
-// each item and each value dropped once.
+//! A gate of first errors: what its seats see, and that a segment right of a known error stops,
+//! with each item and each value dropped once.
 ghost use Rattle.std.specs.Prelude.{◌≡◌, ◌<◌, All, IfSome};
 ghost use Rattle.parallel_bridge.specs.GateRule.{newcomer};
 ghost use Rattle.parallel_bridge.specs.Gates.{IsSeatOf, known, stands_for};

@@ -1,4 +1,4 @@
-// Pieces of slices, lists pair by pair, and items with their indices: what comes, whole and cut.
+//! Pieces of slices, lists pair by pair, and items with their indices: what comes, whole and cut.
 use crate::bridge::number;
 use crate::same::{row, same};
 use parallel_bridge::chunks::Chunks;

@@ -1,5 +1,5 @@
-// Owned items that are taken from where they lie, and answers that are written where they stay:
-// each is dropped once, or handed out.
+//! Owned items that are taken from where they lie, and answers that are written where they stay:
+//! each is dropped once, or handed out.
 use crate::bridge::number;
 use crate::same::{row, same};
 use parallel_bridge::list::map::map_parallel;

@@ -1,4 +1,4 @@
-// Runs that a table decides, and what they record of the clock.
+//! Runs that a table decides, and what they record of the clock.
 ghost use Rattle.std.specs.Prelude.{◌≡◌, ◌+◌, ◌%◌, ◌^◌, [], ◌∷◌, IfOk};
 ghost use Rattle.parallel_policy.specs.Runs.{RunHistory, run_choice};
 ghost use Rattle.parallel_policy.specs.Tables.{HoldsRunAt, HasOtherRuns};

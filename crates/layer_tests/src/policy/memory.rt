@@ -1,6 +1,6 @@
-// Calls whose memory may be refused at any point: each answers what it always does, or
-// `Fault::Memory`, and then the table is as it was and no body was called. Run with each allocation
-// failing in turn.
+//! Calls whose memory may be refused at any point: each answers what it always does, or
+//! `Fault::Memory`, and then the table is as it was and no body was called. Run with each
+//! allocation failing in turn.
 use crate::same::{row, same};
 use parallel_fault::{Fault, Trouble};
 use parallel_policy::choices::decide;

@@ -1,4 +1,4 @@
-// What is printed, and which traits the plain types have.
+//! What is printed, and which traits the plain types have.
 use crate::same::{prints, row, same};
 use parallel_policy::bucket::len_bucket;
 use parallel_policy::cadence::Cadence;

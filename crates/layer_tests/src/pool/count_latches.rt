@@ -1,4 +1,4 @@
-// A latch of shares.
+//! A latch of shares.
 ghost use Rattle.std.specs.Prelude.{◌≡◌, All, IfOk, IfSome, false, true};
 ghost use Rattle.parallel_pool.specs.CountLatch.{IsShareOf, shares_of, unspent};
 

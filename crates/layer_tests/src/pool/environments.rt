@@ -1,4 +1,4 @@
-// For how many threads a pool is planned.
+//! For how many threads a pool is planned.
 use crate::same::{row, same};
 use parallel_pool::rayon::planned_threads;
 use std::num::NonZeroUsize;

@@ -1,4 +1,4 @@
-// Queues of numbered jobs: which job comes next, and a refused push.
+//! Queues of numbered jobs: which job comes next, and a refused push.
 ghost use Rattle.std.specs.Prelude.{◌≡◌, ◌<◌, length, vec_len};
 
 use crate::pool::pools::becomes;

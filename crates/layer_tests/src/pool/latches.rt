@@ -1,4 +1,4 @@
-// The core latch, and the latches that say which worker to wake.
+//! The core latch, and the latches that say which worker to wake.
 ghost use Rattle.std.specs.Prelude.{◌≡◌, true};
 ghost use Rattle.parallel_pool.specs.Latch.{IsSeatOf};
 ghost use Rattle.parallel_pool.specs.SpinLatch.{core_of as core_of_spin};

@@ -1,4 +1,4 @@
-// Threads that sleep, which have to be woken within a limit of time.
+//! Threads that sleep, which have to be woken within a limit of time.
 ghost use Rattle.std.specs.Prelude.{◌≡◌, All};
 ghost use Rattle.parallel_pool.specs.Latch.{IsSeatOf};
 

@@ -1,4 +1,4 @@
-// Pools that were built: their workers, the jobs that come to them, and their end.
+//! Pools that were built: their workers, the jobs that come to them, and their end.
 ghost use Rattle.std.specs.Prelude.{◌≡◌};
 
 use crate::same::{prints, row, same};

@@ -1,11 +1,11 @@
-// Builds and jobs that are refused: what is refused comes back, and no worker is left running.
-//
-// The three tests that take all memory first are refused wherever they are run, but where
-// allocations are checked (`no_memory`): there they end. The one that takes all places for a thread's
-// stack is refused there too. The others are to be run with each allocation failing in turn, and with
-// each start of a thread failing in turn: of the many jobs with the 1000th failing, which is of a
-// push to the injected jobs, and the 3000th, of a push for a worker. A test whose own boxes are
-// refused has nothing to ask, and ends.
+//! Builds and jobs that are refused: what is refused comes back, and no worker is left running.
+//!
+//! The three tests that take all memory first are refused wherever they are run, but where
+//! allocations are checked (`no_memory`): there they end. The one that takes all places for a
+//! thread's stack is refused there too. The others are to be run with each allocation failing in
+//! turn, and with each start of a thread failing in turn: of the many jobs with the 1000th failing,
+//! which is of a push to the injected jobs, and the 3000th, of a push for a worker. A test whose
+//! own boxes are refused has nothing to ask, and ends.
 ghost use Rattle.std.specs.Prelude.{◌≡◌};
 
 use crate::pool::no_memory::{all_memory, all_places};

@@ -1,4 +1,4 @@
-// Jobs that are brought and taken by a worker's own seat of its pool's queues: each is counted.
+//! Jobs that are brought and taken by a worker's own seat of its pool's queues: each is counted.
 ghost use Rattle.std.specs.Prelude.{◌≡◌};
 
 use crate::pool::pools::{Bell, becomes, raises, word};

@@ -1,4 +1,4 @@
-// The state of the workers' sleep.
+//! The state of the workers' sleep.
 use crate::same::{row, same};
 use parallel_pool::sleep::{Block, Counters, Due, IdleState, SleepState, Standing};
 use std::num::NonZeroUsize;

@@ -1,4 +1,4 @@
-// Threads that wait for one another.
+//! Threads that wait for one another.
 ghost use Rattle.std.specs.Prelude.{◌≡◌, All};
 ghost use Rattle.parallel_pool.specs.CountLatch.{IsShareOf, unspent};
 ghost use Rattle.parallel_pool.specs.Latch.{IsSeatOf};

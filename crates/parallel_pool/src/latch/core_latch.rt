@@ -1,4 +1,4 @@
-// The core latch: one word, of which each call is one atomic step.
+//! The core latch: one word, of which each call is one atomic step.
 ghost use Rattle.std.specs.Prelude.{◌≡◌};
 ghost use Rattle.std.specs.NonZero.{non_zero_usize_get};
 ghost use Rattle.parallel_fault.specs.Trouble.{IsMemoryOnErr};

@@ -1,4 +1,4 @@
-// A latch of shares, which is set by the last of them.
+//! A latch of shares, which is set by the last of them.
 ghost use Rattle.std.specs.Prelude.{◌≡◌};
 ghost use Rattle.std.specs.NonZero.{non_zero_usize_get};
 ghost use Rattle.parallel_fault.specs.Trouble.{IsMemoryOnErr};

@@ -1,4 +1,4 @@
-// A share of a count latch, the rule that the latch and its shares keep, and what each step tells.
+//! A share of a count latch, the rule that the latch and its shares keep, and what each step tells.
 use atomic_table::{Join, Play, Seat, Split, TableRule};
 use std::collections::LinkedList;
 

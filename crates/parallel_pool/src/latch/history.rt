@@ -1,4 +1,4 @@
-// What is known of a latch: the calls that were made of it, one after another.
+//! What is known of a latch: the calls that were made of it, one after another.
 use std::collections::LinkedList;
 
 /// What a call does to a core latch.

@@ -1,4 +1,4 @@
-// A seat of a core latch, the rule that the latch and its seats keep, and what each step tells.
+//! A seat of a core latch, the rule that the latch and its seats keep, and what each step tells.
 use crate::latch::history::View;
 use atomic_table::{Join, Play, Seat, Split, TableRule};
 

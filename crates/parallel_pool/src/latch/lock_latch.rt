@@ -1,4 +1,4 @@
-// A latch under a lock, for a thread that has nothing else to do than wait.
+//! A latch under a lock, for a thread that has nothing else to do than wait.
 use std::sync::{Condvar, Mutex, Wait};
 
 /// A latch that threads sleep on until it is set. It may be used again after `wait_and_reset`.

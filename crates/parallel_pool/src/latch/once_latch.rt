@@ -1,4 +1,4 @@
-// A core latch that wakes one worker, once.
+//! A core latch that wakes one worker, once.
 ghost use Rattle.std.specs.Prelude.{◌≡◌};
 ghost use Rattle.std.specs.NonZero.{non_zero_usize_get};
 ghost use Rattle.parallel_fault.specs.Trouble.{IsMemoryOnErr};

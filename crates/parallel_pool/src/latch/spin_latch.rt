@@ -1,4 +1,4 @@
-// A core latch that says which worker to wake.
+//! A core latch that says which worker to wake.
 ghost use Rattle.std.specs.Prelude.{◌≡◌};
 ghost use Rattle.std.specs.NonZero.{non_zero_usize_get};
 ghost use Rattle.parallel_fault.specs.Trouble.{IsMemoryOnErr};

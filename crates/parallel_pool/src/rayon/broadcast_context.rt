@@ -1,5 +1,4 @@
-// What a broadcast closure is told.
-
+//! What a broadcast closure is told.
 /// Which of a pool's threads a broadcast closure stands for, and how many there are.
 #[derive(Clone, Copy, Debug)]
 pub struct BroadcastContext {

@@ -1,4 +1,4 @@
-// Why a pool could not be made.
+//! Why a pool could not be made.
 ghost use Rattle.std.specs.Prelude.{◌≡◌};
 
 use parallel_fault::Fault;

@@ -1,5 +1,5 @@
-// For how many threads a pool is planned: what is set, what an environment says, what a machine
-// has.
+//! For how many threads a pool is planned: what is set, what an environment says, what a machine
+//! has.
 ghost use Rattle.std.specs.Prelude.{◌≡◌, ◌<◌, ◌≤◌, min, MatchOption, None};
 ghost use Rattle.std.specs.NonZero.{non_zero_usize_get};
 ghost use Rattle.parallel_pool.specs.PlannedThreads.{OfTexts, Writes, by_texts, number_or};

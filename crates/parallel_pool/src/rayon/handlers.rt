@@ -1,4 +1,4 @@
-// The closures that a builder is handed, in boxes of the caller's.
+//! The closures that a builder is handed, in boxes of the caller's.
 ghost use Rattle.std.specs.Prelude.{◌≡◌};
 
 use std::alloc::AllocError;

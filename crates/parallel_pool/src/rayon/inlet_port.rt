@@ -1,4 +1,4 @@
-// A pass of one queue that any thread may push to.
+//! A pass of one queue that any thread may push to.
 use crate::rayon::job_history::{JobView, Numbered, Purpose, Pushes, Takes};
 use crossbeam_deque::{Injector, InjectorPass, Steal};
 use std::alloc::Global;

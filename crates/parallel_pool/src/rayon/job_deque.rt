@@ -1,4 +1,4 @@
-// A worker's own deque.
+//! A worker's own deque.
 use crate::rayon::job_history::{
     JobView, Looks, Numbered, Purpose, Pushes, TakesLast, ToCall, ToKeep,
 };

@@ -1,5 +1,5 @@
-// The history of a queue of jobs, the rule that the queue and its passes keep, and what each step
-// tells.
+//! The history of a queue of jobs, the rule that the queue and its passes keep, and what each step
+//! tells.
 ghost use Rattle.std.specs.Prelude.{Bool};
 
 use crossbeam_deque::protocol::{Lesson, Outcome, Protocol};

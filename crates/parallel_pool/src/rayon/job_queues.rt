@@ -1,4 +1,4 @@
-// The queues of a pool, and how a thread comes to its views of them.
+//! The queues of a pool, and how a thread comes to its views of them.
 ghost use Rattle.std.specs.Prelude.{◌≡◌, All, IfOk, length, vec_len};
 ghost use Rattle.parallel_pool.specs.JobHistory.{newcomer};
 ghost use Rattle.parallel_fault.specs.Trouble.{IsMemoryOnErr};

@@ -1,4 +1,4 @@
-// One thread's views of a pool's queues, by which it pushes and takes jobs.
+//! One thread's views of a pool's queues, by which it pushes and takes jobs.
 use crate::rayon::inlet_port::InletPort;
 use crate::rayon::job_history::{Purpose, ToCall, ToKeep};
 use crate::rayon::owned_job::OwnedJob;

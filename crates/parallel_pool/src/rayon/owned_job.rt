@@ -1,5 +1,4 @@
-// What a pool's workers call: a job of any type, or one that its caller boxed.
-
+//! What a pool's workers call: a job of any type, or one that its caller boxed.
 /// What the workers of a pool call, each job once, by whichever worker takes it.
 ///
 /// A pool of one's own type of job, as an enum of those that there are, takes no box for a job

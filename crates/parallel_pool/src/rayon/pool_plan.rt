@@ -1,4 +1,4 @@
-// What a pool is built by, but for the closures.
+//! What a pool is built by, but for the closures.
 ghost use Rattle.std.specs.Prelude.{◌≡◌, ◌≤◌};
 ghost use Rattle.std.specs.NonZero.{non_zero_usize_get};
 ghost use Rattle.parallel_pool.specs.PlannedThreads.{IsPlanned};

@@ -1,5 +1,4 @@
-// Which queue of a pool.
-
+//! Which queue of a pool.
 /// A queue of a pool.
 #[derive(Clone, Copy, Debug, PartialEq, Eq)]
 pub enum Queue {

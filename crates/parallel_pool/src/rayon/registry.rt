@@ -1,4 +1,4 @@
-// What the threads of a pool share, and how its workers come to their end.
+//! What the threads of a pool share, and how its workers come to their end.
 ghost use Rattle.std.specs.Prelude.{◌≤◌};
 ghost use Rattle.std.specs.NonZero.{non_zero_usize_get};
 ghost use Rattle.parallel_fault.specs.Trouble.{IsMemoryOnErr};

@@ -1,4 +1,4 @@
-// What a worker rests by: its parker, and the latch that ends it.
+//! What a worker rests by: its parker, and the latch that ends it.
 ghost use Rattle.std.specs.Arc.{arc_value};
 ghost use Rattle.parallel_pool.specs.Latch.{IsSeatOf};
 ghost use Rattle.parallel_pool.specs.OnceLatch.{core_of};

@@ -1,4 +1,4 @@
-// Starting the workers of a pool.
+//! Starting the workers of a pool.
 ghost use Rattle.std.specs.Prelude.{◌≡◌};
 
 use crate::rayon::build_error::ThreadPoolBuildError;

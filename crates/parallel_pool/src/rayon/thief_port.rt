@@ -1,4 +1,4 @@
-// A pass of a worker's own deque, for any thread.
+//! A pass of a worker's own deque, for any thread.
 use crate::rayon::job_history::{JobView, Numbered, Purpose, Takes};
 use crossbeam_deque::{Pass, Steal, Stealer};
 use std::alloc::Global;

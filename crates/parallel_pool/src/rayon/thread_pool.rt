@@ -1,4 +1,4 @@
-// A pool that holds a number of threads, and the call that runs a closure on a worker.
+//! A pool that holds a number of threads, and the call that runs a closure on a worker.
 ghost use Rattle.std.specs.Prelude.{◌≡◌, ◌≤◌, ◌<◌, ℕ, min, vec_len, slice_index_or, IfOk};
 ghost use Rattle.std.specs.NonZero.{non_zero_usize_get};
 ghost use Rattle.parallel_fault.specs.Trouble.{IsMemoryOnErr};

@@ -1,4 +1,4 @@
-// Building a pool.
+//! Building a pool.
 ghost use Rattle.std.specs.Prelude.{◌≡◌, ◌≢◌, ◌≤◌, ℕ, IfOk, IfSome, IsTrue, MatchOption, None, Some, true, false};
 ghost use Rattle.std.specs.NonZero.{non_zero_usize_get};
 ghost use Rattle.parallel_pool.specs.PlannedThreads.{IsPlanned};

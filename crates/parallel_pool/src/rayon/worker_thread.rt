@@ -1,4 +1,4 @@
-// A worker of a pool: where it looks for jobs, and what it does between two of them.
+//! A worker of a pool: where it looks for jobs, and what it does between two of them.
 use crate::rayon::broadcast_context::BroadcastContext;
 use crate::rayon::job_deque::JobDeque;
 use crate::rayon::job_seat::JobSeat;

@@ -1,5 +1,4 @@
-// What a yield did.
-
+//! What a yield did.
 /// What a yield did.
 #[derive(Clone, Copy, Debug, PartialEq, Eq)]
 pub enum Yield {

@@ -1,4 +1,4 @@
-// Three counts, and the word that has them all.
+//! Three counts, and the word that has them all.
 ghost use Rattle.std.specs.Prelude.{◌≡◌, ◌+◌, ◌*◌};
 
 /// How many workers sleep, how many are inactive, and the count of events.

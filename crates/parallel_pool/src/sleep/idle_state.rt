@@ -1,4 +1,4 @@
-// How far an idle worker has come on its way to sleep.
+//! How far an idle worker has come on its way to sleep.
 ghost use Rattle.std.specs.Prelude.{◌≡◌, ◌+◌, ◌<◌, ◌≤◌};
 
 /// In this round an idle worker announces that it is sleepy. In each round before it yields.

@@ -1,4 +1,4 @@
-// The state of all workers' sleep, which lies under one lock.
+//! The state of all workers' sleep, which lies under one lock.
 ghost use Rattle.std.specs.Prelude.{◌≡◌, ◌≢◌, ◌↔◌, ◌-◌, ◌+◌, ◌%◌, ◌<◌, ◌≤◌, ◌∷◌, [], false, true, length, take, replicate, slice_set, vec_len, IfOk, IsTrue, Some, None, if◌then◌else◌};
 ghost use Rattle.std.specs.NonZero.{non_zero_usize_get};
 ghost use Rattle.parallel_pool.specs.Counters.{sleeping_of, inactive_of, events_of};

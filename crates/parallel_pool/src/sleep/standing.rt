@@ -1,5 +1,4 @@
-// Where a worker stands.
-
+//! Where a worker stands.
 /// Where a worker stands: it has work, it looks for work, or it sleeps until it is woken.
 ///
 /// A worker is inactive where it looks or sleeps, and blocked where it sleeps.

@@ -1,4 +1,4 @@
-// Waking the blocked workers of the lowest indices.
+//! Waking the blocked workers of the lowest indices.
 ghost use Rattle.std.specs.Prelude.{◌≡◌, ◌+◌, ◌≤◌, length, take, vec_len, vec_capacity};
 ghost use Rattle.parallel_pool.specs.Standings.{sleeping_in, inactive_in, blocked_of, AreWoken};
 

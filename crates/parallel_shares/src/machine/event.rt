@@ -1,3 +1,4 @@
+//! The steps of a seat, and what they come to.
 use std::ops::Range;
 
 /// One step of a seat: it touches at most one word.

@@ -1,3 +1,4 @@
+//! How a grid is cut into units, claims and shares.
 ghost use Rattle.std.specs.Prelude.{◌≡◌, ◌≢◌, ◌+◌, ◌*◌, ◌/◌, ◌%◌, ◌^◌, ◌<◌, ◌≤◌, ◌-◌, IfSome, IfNone, IsFalse};
 ghost use Rattle.std.specs.Int.NonZero.{non_zero_usize_get};
 

@@ -1,3 +1,4 @@
+//! Lists of events, taken from the opening state of a plan.
 ghost use Rattle.std.specs.Prelude.{◌≡◌, length, IfOk};
 ghost use Rattle.parallel_shares.specs.Machine.{opening, IsStateOf};
 ghost use Rattle.parallel_shares.specs.Answers.{Replays};

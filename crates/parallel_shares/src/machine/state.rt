@@ -1,3 +1,4 @@
+//! What the words, the seats and their claims are between two events.
 ghost use Rattle.std.specs.Prelude.{◌≡◌, ◌<◌, ◌++◌, [], ◌∷◌, length, replicate, IfOk, OnErr, IsSome};
 ghost use Rattle.parallel_shares.specs.Sizes.{shares_of, IsSound};
 ghost use Rattle.parallel_shares.specs.Machine.{opening_words, fresh};

@@ -1,3 +1,4 @@
+//! One event on a state: what it answers, and what it changes.
 ghost use Rattle.std.specs.Prelude.{◌≡◌, ◌≤◌, ◌↔◌, IfOk, OnErr, IsTrue};
 ghost use Rattle.parallel_shares.specs.Words.{IsEmptyWord};
 ghost use Rattle.parallel_shares.specs.Machine.{IsStateOf};

@@ -1,3 +1,4 @@
+//! A worker's right to claim, and what a single try came to.
 ghost use Rattle.std.specs.Prelude.{◌≡◌, [], ◌∷◌, cond, true, false};
 ghost use Rattle.parallel_shares.specs.Sharing.{ranges_of};
 

@@ -1,4 +1,4 @@
-// Batches: in which ranges their indices go.
+//! Batches: in which ranges their indices go.
 use crate::tests::same::{answers, lists, row, same};
 use crate::tests::strategies::{SITE, Stopped, number, pool};
 use commonware_parallel::{Batches, Fault, Rayon, Sequential, Strategy, Trouble};

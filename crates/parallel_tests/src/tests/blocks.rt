@@ -1,5 +1,5 @@
-// That blocks of memory are given back: of a home by the count of a heap, and of calls by the size
-// of the process.
+//! That blocks of memory are given back: of a home by the count of a heap, and of calls by the size
+//! of the process.
 use crate::tests::same::{row, same};
 use crate::tests::strategies::{SITE, pool};
 use commonware_parallel::{Fault, Strategy, Trouble};

@@ -1,4 +1,4 @@
-// Clocks that are told what to read, and pools that learn by them.
+//! Clocks that are told what to read, and pools that learn by them.
 use crate::tests::strategies::number;
 use commonware_parallel::{Clock, Rayon};
 use std::alloc::Global;

@@ -1,4 +1,4 @@
-// The program's command lines, its refusals, and writers that fail.
+//! The program's command lines, its refusals, and writers that fail.
 use crate::tests::same::{answers, row, same};
 use crate::tests::strategies::number;
 use parallel_fault::Fault;

@@ -1,4 +1,4 @@
-// What the task of a spawned job sees of its end.
+//! What the task of a spawned job sees of its end.
 ghost use Rattle.std.specs.Prelude.{⊤};
 
 use crate::tests::same::same;

@@ -1,6 +1,6 @@
-// What a policy has of the calls of strategies that it was handed to: at which keys there are
-// entries, and the times that they keep. The clocks go on by 100000 nanoseconds at each reading, so
-// each measured run takes as long.
+//! What a policy has of the calls of strategies that it was handed to: at which keys there are
+//! entries, and the times that they keep. The clocks go on by 100000 nanoseconds at each reading,
+//! so each measured run takes as long.
 ghost use Rattle.std.specs.Prelude.{◌≡◌, ⊤};
 
 use crate::tests::clocks::{Stepping, learning};

@@ -1,5 +1,5 @@
-// Calls whose closures fail at many items, many times over: the first failing item's error is
-// answered each time, and each item and each answer is let go once.
+//! Calls whose closures fail at many items, many times over: the first failing item's error is
+//! answered each time, and each item and each answer is let go once.
 use crate::tests::same::row;
 use crate::tests::strategies::{SITE, Stopped, number, pool};
 use commonware_parallel::mocks::explore;

@@ -1,4 +1,4 @@
-// Explorers: what they pick, and what the search through the rules answers.
+//! Explorers: what they pick, and what the search through the rules answers.
 ghost use Rattle.parallel_shares.specs.Grid.{Fits};
 
 use crate::tests::same::{answers, same};

@@ -1,5 +1,6 @@
-// Folds through each strategy. The identity 10 isn't neutral for addition, so that the sum tells in
-// how many segments a list went: each leaf of its shape adds 20, and a list in one piece adds 10.
+//! Folds through each strategy. The identity 10 isn't neutral for addition, so that the sum tells
+//! in how many segments a list went: each leaf of its shape adds 20, and a list in one piece adds
+//! 10.
 use crate::tests::same::{answers, row};
 use crate::tests::steps::{add, ten, zero};
 use crate::tests::strategies::{SITE, Stopped, number, pool};

@@ -1,5 +1,5 @@
-// Calls that may fail, on four threads: once the first item has failed, the segments behind it
-// stop, and most items are never asked.
+//! Calls that may fail, on four threads: once the first item has failed, the segments behind it
+//! stop, and most items are never asked.
 use crate::tests::strategies::{SITE, pool};
 use commonware_parallel::{Copies, Fault, Strategy, Trouble};
 use std::alloc::Global;

@@ -1,4 +1,4 @@
-// The known answers once each, which their contracts state.
+//! The known answers once each, which their contracts state.
 use crate::tests::same::{answers, lists, same};
 use crate::tests::strategies::{SITE, pool};
 use commonware_parallel::{Sequential, Trouble};

@@ -1,4 +1,4 @@
-// Each call of the layers below a strategy, once by itself.
+//! Each call of the layers below a strategy, once by itself.
 use crate::tests::same::{answers, lists, row, same};
 use crate::tests::steps::{add, ten};
 use crate::tests::strategies::{SITE, number, pool};

@@ -1,4 +1,4 @@
-// Packed words, and the pure machine of shares on whole plans.
+//! Packed words, and the pure machine of shares on whole plans.
 use crate::tests::same::{row, same};
 use crate::tests::strategies::number;
 use commonware_parallel::Fault;

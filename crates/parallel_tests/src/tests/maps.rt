@@ -1,4 +1,4 @@
-// Maps through each strategy.
+//! Maps through each strategy.
 use crate::tests::same::{lists, row, same};
 use crate::tests::strategies::{SITE, number, pool};
 use commonware_parallel::{Fault, Pairs, Sequential, Strategy};

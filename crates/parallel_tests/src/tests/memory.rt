@@ -1,5 +1,5 @@
-// Calls whose memory may be refused at any point: each one answers what it always does, or
-// `Fault::Memory`, and nothing else. Run with each allocation failing in turn.
+//! Calls whose memory may be refused at any point: each one answers what it always does, or
+//! `Fault::Memory`, and nothing else. Run with each allocation failing in turn.
 use crate::tests::same::{row, same};
 use crate::tests::steps::{add, add_counted, zero};
 use crate::tests::strategies::{SITE, Stopped, number};

@@ -1,8 +1,8 @@
-// A machine without memory, as a test makes it: it takes all the addresses that the process may
-// have, untouched, and then each request is refused until some of them are let go.
-//
-// Where allocations are checked, as by `rt try`, small requests are granted from a store without
-// end: there is no such machine then, but one that has no place for large blocks.
+//! A machine without memory, as a test makes it: it takes all the addresses that the process may
+//! have, untouched, and then each request is refused until some of them are let go.
+//!
+//! Where allocations are checked, as by `rt try`, small requests are granted from a store without
+//! end: there is no such machine then, but one that has no place for large blocks.
 use std::alloc::Global;
 
 // Asks for blocks of a size until one is refused, and keeps them; for so many at most. Answers

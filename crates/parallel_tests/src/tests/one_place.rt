@@ -1,4 +1,4 @@
-// The calls of one place, each under its short name.
+//! The calls of one place, each under its short name.
 use crate::tests::same::{answers, lists, same};
 use crate::tests::steps::{add, add_counted, ascending, descending, zero};
 use crate::tests::strategies::{SITE, pool};

@@ -1,4 +1,4 @@
-// Segments of lists, cuts of indices, and grids of tiles.
+//! Segments of lists, cuts of indices, and grids of tiles.
 use crate::tests::same::{lists, same};
 use crate::tests::strategies::number;
 use commonware_parallel::bridge::segments::segments;

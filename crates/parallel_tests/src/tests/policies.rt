@@ -1,4 +1,4 @@
-// What a policy learns, through the calls of a pool.
+//! What a policy learns, through the calls of a pool.
 use crate::tests::clocks::{Stepping, learning};
 use crate::tests::same::{answers, lists, row, same};
 use crate::tests::steps::{add, ascending, count, ten, zero};

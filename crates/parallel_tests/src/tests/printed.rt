@@ -1,4 +1,4 @@
-// What is printed, and which traits the plain types have.
+//! What is printed, and which traits the plain types have.
 use crate::tests::same::{answers, prints, row, says};
 use crate::tests::strategies::{SITE, number, pool};
 use commonware_parallel::{Call, Fault, Grid, Kind, Sequential, Site, Trouble, Unmeasured};

@@ -1,9 +1,9 @@
-// Growths that are refused, each in its turn: the answer is the right one or want of memory, and
-// each item and each value is let go once.
-//
-// All memory is taken first but for a room, of which each further try of a call is left 16 bytes
-// more, so that the first request is refused, then the second, and so on. Where memory has no end
-// (`no_memory`) each call is tried once: that is for runs in which each allocation fails in turn.
+//! Growths that are refused, each in its turn: the answer is the right one or want of memory, and
+//! each item and each value is let go once.
+//!
+//! All memory is taken first but for a room, of which each further try of a call is left 16 bytes
+//! more, so that the first request is refused, then the second, and so on. Where memory has no end
+//! (`no_memory`) each call is tried once: that is for runs in which each allocation fails in turn.
 use crate::tests::errors::{Counted, Counts, counted_items};
 use crate::tests::no_memory::all_memory;
 use crate::tests::same::row;

@@ -1,4 +1,4 @@
-// Roots of Merkle trees: the plain program's, through every strategy, and each node let go once.
+//! Roots of Merkle trees: the plain program's, through every strategy, and each node let go once.
 use crate::tests::errors::{Counted, Counts, counted_items};
 use crate::tests::same::{answers, row};
 use crate::tests::strategies::{SITE, Stopped, number, pool};

@@ -1,4 +1,4 @@
-// Runs, and the numbers of a pool.
+//! Runs, and the numbers of a pool.
 use crate::tests::same::{answers, lists, row, same};
 use crate::tests::strategies::{SITE, Stopped, number, pool};
 use commonware_parallel::rayon::ThreadPoolBuilder;

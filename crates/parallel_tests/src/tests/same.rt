@@ -1,5 +1,5 @@
-// How a test compares what it found. A call of these costs a tenth of an `assert_eq!` in its place
-// to prove.
+//! How a test compares what it found. A call of these costs a tenth of an `assert_eq!` in its place
+//! to prove.
 use std::alloc::Global;
 use std::fmt::{Debug, Display};
 use std::process::Abort;

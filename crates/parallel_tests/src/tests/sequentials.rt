@@ -1,4 +1,4 @@
-// `Sequential`'s own functions: one range, a plan for one worker, a job that is run at once, maps.
+//! `Sequential`'s own functions: one range, a plan for one worker, a job that is run at once, maps.
 ghost use Rattle.std.specs.Prelude.{◌≡◌, ⊤};
 
 use crate::tests::same::{answers, lists, same};

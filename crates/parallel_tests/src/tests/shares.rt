@@ -1,4 +1,4 @@
-// Threads of a caller's own that empty a cut plan by single tries.
+//! Threads of a caller's own that empty a cut plan by single tries.
 ghost use Rattle.std.specs.Prelude.{◌≡◌, IfOk, None};
 ghost use Rattle.parallel_shares.specs.Seats.{AreSeatsOf, IsSeatOf, index_of, transit_of};
 

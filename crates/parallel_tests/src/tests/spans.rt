@@ -1,5 +1,5 @@
-// What a policy is told of a call: its time goes from before the closures to behind them. The
-// closures move the clock.
+//! What a policy is told of a call: its time goes from before the closures to behind them. The
+//! closures move the clock.
 ghost use Rattle.std.specs.Prelude.{◌≡◌, ⊤};
 
 use crate::tests::clocks::{Stepping, learning};

@@ -1,4 +1,4 @@
-// Maps and folds with a state at hand, partitions, sorts and joins, through each strategy.
+//! Maps and folds with a state at hand, partitions, sorts and joins, through each strategy.
 use crate::tests::same::{answers, lists, row, same};
 use crate::tests::steps::{add, add_counted, ascending, count, descending, ten, zero};
 use crate::tests::strategies::{SITE, Stopped, number, pool};

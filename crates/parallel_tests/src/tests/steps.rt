@@ -1,5 +1,5 @@
-// The steps of the tests' folds, states and sorts, over `u32`. One that stands here is proved once,
-// and not once for each test that hands it on.
+//! The steps of the tests' folds, states and sorts, over `u32`. One that stands here is proved
+//! once, and not once for each test that hands it on.
 use std::cmp::Ordering;
 
 pub fn zero() -> u32 {

@@ -1,4 +1,4 @@
-// What the tests make their strategies of.
+//! What the tests make their strategies of.
 ghost use Rattle.std.specs.Prelude.{◌≡◌, false};
 ghost use Rattle.commonware_parallel.specs.Rayon.{chooses_of, planning_of};
 ghost use Rattle.std.specs.Int.NonZero.{non_zero_usize_get};

@@ -1,5 +1,5 @@
-// Parts of a call that run side by side: two calls of a closure each wait, for a bounded number of
-// turns, until the other one was begun.
+//! Parts of a call that run side by side: two calls of a closure each wait, for a bounded number of
+//! turns, until the other one was begun.
 use crate::tests::same::{answers, lists, row, same};
 use crate::tests::steps::ascending;
 use crate::tests::strategies::{SITE, number, pool};

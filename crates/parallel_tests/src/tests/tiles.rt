@@ -1,4 +1,4 @@
-// Tiles: which cells are filled, for how many workers, and what is answered for each row.
+//! Tiles: which cells are filled, for how many workers, and what is answered for each row.
 use crate::tests::same::{lists, row, same};
 use crate::tests::strategies::{SITE, Stopped, number, pool};
 use crate::tests::threads::Meeting;

@@ -1,5 +1,5 @@
-// A Merkle tree over SHA-256, as `uses` has it. Its roots were computed by another program, from
-// what the digest of a leaf and of a node is said to be.
+//! A Merkle tree over SHA-256, as `uses` has it. Its roots were computed by another program, from
+//! what the digest of a leaf and of a node is said to be.
 use crate::tests::same::{answers, row};
 use crate::tests::strategies::{SITE, pool};
 use commonware_parallel::mocks::explore;

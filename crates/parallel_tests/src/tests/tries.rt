@@ -1,5 +1,5 @@
-// Calls whose closures may fail. The first failing item's error is the answer, whichever part of
-// the list ended first.
+//! Calls whose closures may fail. The first failing item's error is the answer, whichever part of
+//! the list ended first.
 use crate::tests::same::{answers, row, same};
 use crate::tests::steps::{add, zero};
 use crate::tests::strategies::{SITE, Stopped, number, pool};

@@ -1,6 +1,6 @@
-// What a policy keeps of a call that is refused or fails, through a pool: that it was asked, where
-// it was, and no time. The clock goes on by a second at each reading, so that a time of such a call
-// would be seen in the estimates.
+//! What a policy keeps of a call that is refused or fails, through a pool: that it was asked, where
+//! it was, and no time. The clock goes on by a second at each reading, so that a time of such a
+//! call would be seen in the estimates.
 ghost use Rattle.std.specs.Prelude.{◌≡◌, ⊤};
 
 use crate::tests::clocks::{Stepping, learning};

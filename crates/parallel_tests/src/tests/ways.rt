@@ -1,4 +1,4 @@
-// The ways that explorers take: by the serial and the parallel rule, and by seeds.
+//! The ways that explorers take: by the serial and the parallel rule, and by seeds.
 ghost use Rattle.std.specs.Prelude.{◌<◌};
 
 use crate::tests::explorers::PLACE;

@@ -1,4 +1,4 @@
-// Roots and trees of leaves, through a strategy.
+//! Roots and trees of leaves, through a strategy.
 ghost use Rattle.std.specs.Prelude.{◌≡◌, ◌*◌, ◌<◌, IfOk, length};
 ghost use Rattle.parallel_fault.specs.Trouble.{IsMemoryOnErr};
 ghost use Rattle.uses.specs.Merkle.{leaf_digest, leaf_digests, merkle_root, next_level, node_at, node_digest};

@@ -1,4 +1,4 @@
-// What a proof for another leaf than a tree has gives: two different inputs with one digest.
+//! What a proof for another leaf than a tree has gives: two different inputs with one digest.
 ghost use Rattle.std.specs.Prelude.{◌≡◌, ◌≢◌, ℕ, ◌<◌, List, IfSome, IsSome, IsSomeAnd, MatchOption, Some, length};
 ghost use Rattle.uses.specs.Collisions.{IsCollision, NodesCollide, children_of};
 ghost use Rattle.uses.specs.Merkle.{Accepts, IsTree, climb, leaf_digest, levels_of, lowest, merkle_root, node_at, node_digest, one_up};

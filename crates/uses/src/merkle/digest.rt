@@ -1,4 +1,4 @@
-// The digests of leaves and of inner nodes.
+//! The digests of leaves and of inner nodes.
 ghost use Rattle.std.specs.Prelude.{◌≡◌};
 ghost use Rattle.uses.specs.Merkle.{leaf_digest, node_digest};
 

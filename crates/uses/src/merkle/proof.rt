@@ -1,4 +1,4 @@
-// The check of a proof that a leaf stands at an index.
+//! The check of a proof that a leaf stands at an index.
 ghost use Rattle.std.specs.Prelude.{◌≡◌, ◌<◌, ◌↔◌, IsTrue};
 ghost use Rattle.uses.specs.Merkle.{Accepts, climb, has_sibling, joined, node_digest, one_up};
 

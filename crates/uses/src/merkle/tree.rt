@@ -1,4 +1,4 @@
-// The levels of a tree, and the proofs that they give.
+//! The levels of a tree, and the proofs that they give.
 ghost use Rattle.std.specs.Prelude.{◌≡◌, ◌≢◌, ℕ, ◌<◌, ◌≤◌, ◌/◌, List, IfOk, IfSome, IsSome, IsTrue, ◌↔◌, Some, length};
 ghost use Rattle.parallel_fault.specs.Trouble.{IsMemoryOnErr};
 ghost use Rattle.uses.specs.Collisions.{IsCollision};
