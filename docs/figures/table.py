@@ -24,6 +24,8 @@ AIMS = [
     ("the same", PARALLEL, [("map-light", 1_000_000, "vec", 0.6), ("map-light", 10_000_000, "vec", 0.6)]),
     ("a light map over a plain iterator", LEARNT, [("map-light", 1000, "iter", 1.2), ("map-light", 10_000, "iter", 1.2), ("map-light", 100_000, "iter", 1.2), ("map-light", 1_000_000, "iter", 0.6)]),
     ("a light fold over a plain iterator", PARALLEL, [("fold-light", 1_000_000, "iter", 0.6)]),
+    ("a light map over a counted iterator", LEARNT, [("map-light", 1000, "counted", 1.2), ("map-light", 10_000, "counted", 1.2), ("map-light", 100_000, "counted", 1.2), ("map-light", 1_000_000, "counted", 0.6)]),
+    ("a light fold over a counted iterator", LEARNT, [("fold-light", 1_000_000, "counted", 0.6)]),
     ("a light fallible map over a slice", PARALLEL, [("try-map-light", 100_000, "", 1.1), ("try-map-light", 1_000_000, "", 0.30)]),
     ("the same", SEQUENTIAL, [("try-map-light", 1_000_000, "", 1.02)]),
     ("a heavy fallible map that fails at a tenth, to a loop that ends there", PARALLEL, [("try-map-early", 1_000_000, "", 1.5)]),
@@ -47,7 +49,7 @@ AIMS = [
     ("light tiles, whole rows and cut rows", LEARNT, [("tiles-rows-light", 1_000_000, "", 1.2), ("tiles-cut-light", 1_000_000, "", 1.2)]),
 ]
 NAMES = {SEQUENTIAL: "`Sequential`", PARALLEL: "no policy", LEARNT: "its policy"}
-OVER = {"": "slice", "vec": "vector", "iter": "plain iterator", "fresh": "slice, fresh memory"}
+OVER = {"": "slice", "vec": "vector", "iter": "plain iterator", "counted": "counted iterator", "fresh": "slice, fresh memory"}
 OWN = {"rows-above": "tiles of bytes", "tags": "`Zipped` slices"}
 WAYS = [SEQUENTIAL, PARALLEL, LEARNT]
 LINE = re.compile(r"(.+): best ([0-9.]+) us, median [0-9.]+ us, ([0-9.]+) and ([0-9.]+) of the loop")

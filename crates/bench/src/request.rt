@@ -74,9 +74,9 @@ pub enum Request {
 
 /// What the words after the program's name ask for: nothing for the names, `soak PLANS SEED` for
 /// random plans, `pools JOBS POOLS` for pools, and `policy LEN THREADS`, `jobs JOBS WORKERS` or
-/// `CASE LEN THREADS` for a trial of one thread at least, a case's with `iter` or `vec`, with
-/// `fresh` or with both behind it, in that order; a case of tiles, of trees or of a caller has
-/// neither `iter` nor `vec`. With `once WAY` before a case, `WAY` being `loop`, `sequential`,
+/// `CASE LEN THREADS` for a trial of one thread at least, a case's with `iter`, `counted` or `vec`,
+/// with `fresh` or with both behind it, in that order; a case of tiles, of trees or of a caller has
+/// none of the first three. With `once WAY` before a case, `WAY` being `loop`, `sequential`,
 /// `rayon` or `policy`, that way alone is called, once. Any other words ask for nothing.
 pub fn parse_request(words: &[String]) -> Option<Request> {
     if let [once, way, rest @ ..] = words
@@ -164,6 +164,7 @@ fn parse_options(words: &[String]) -> Option<(Form, bool)> {
 fn form_named(name: &str) -> Option<Form> {
     match name {
         "iter" => Some(Form::Iterator),
+        "counted" => Some(Form::Counted),
         "vec" => Some(Form::Owned),
         _ => None,
     }

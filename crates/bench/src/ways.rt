@@ -3,7 +3,7 @@ use crate::callers::{Digest, Message, matrix_of, messages_of, tags_of};
 use crate::case::{CallerCase, Case, ItemCase};
 use crate::tiles::Tiling;
 use crate::{callers, calls, loops, tiles, trees};
-use commonware_parallel::{Clock, Copies, Fault, Rayon, Sequential, Source, Strategy};
+use commonware_parallel::{Clock, Copies, Counted, Fault, Rayon, Sequential, Source, Strategy};
 use parallel_bridge::{Parts, Segment};
 use std::alloc::Global;
 use std::sync::Wait;
@@ -29,6 +29,8 @@ pub enum Form {
     Slice,
     /// An iterator over it, which is no list.
     Iterator,
+    /// The same iterator, asked for its number.
+    Counted,
     /// A list of its own, which the call takes.
     Owned,
 }
@@ -40,6 +42,8 @@ pub enum Input<'a> {
     Slice(&'a [u64]),
     /// A slice that is gone over by an iterator.
     Iterator(&'a [u64]),
+    /// A slice that is gone over by an iterator which is asked for its number.
+    Counted(&'a [u64]),
     /// A list to take.
     Owned(Vec<u64>),
     /// The bytes of a matrix.
@@ -62,6 +66,7 @@ impl<'a> Input<'a> {
             Case::Items(_) | Case::Tiles(_) | Case::Trees(_) => match form {
                 Form::Slice => Ok(Input::Slice(items)),
                 Form::Iterator => Ok(Input::Iterator(items)),
+                Form::Counted => Ok(Input::Counted(items)),
                 Form::Owned => Ok(Input::Owned(items.iter().copied().collect(alloc)?)),
             },
         }
@@ -71,6 +76,7 @@ impl<'a> Input<'a> {
         match self {
             Input::Slice(items) => items,
             Input::Iterator(items) => items,
+            Input::Counted(items) => items,
             Input::Owned(items) => items.as_slice(),
             Input::Matrix(_) | Input::Tagged(_, _) => &[],
         }
@@ -176,7 +182,9 @@ fn caller_by_loop(alloc: Global, input: &Input<'_>) -> Result<Answer, Fault> {
         Input::Matrix(matrix) => {
             Ok(Answer::Counts(callers::rows_above_by_loop(alloc, matrix.as_slice())?))
         }
-        Input::Slice(_) | Input::Iterator(_) | Input::Owned(_) => Ok(Answer::Number(0)),
+        Input::Slice(_) | Input::Iterator(_) | Input::Counted(_) | Input::Owned(_) => {
+            Ok(Answer::Number(0))
+        }
     }
 }
 
@@ -241,7 +249,9 @@ fn caller_by_strategy<Rt: Threads + Wait + Sync, S: Strategy>(
             let counts = callers::rows_above(rt, alloc, strategy, matrix.as_slice())?;
             Ok(Answer::Counts(counts))
         }
-        Input::Slice(_) | Input::Iterator(_) | Input::Owned(_) => Ok(Answer::Number(0)),
+        Input::Slice(_) | Input::Iterator(_) | Input::Counted(_) | Input::Owned(_) => {
+            Ok(Answer::Number(0))
+        }
     }
 }
 
@@ -256,6 +266,10 @@ fn items_by_strategy<Rt: Threads + Wait + Sync, S: Strategy>(
     match input {
         Input::Slice(items) => by_source(rt, alloc, strategy, case, Copies { slice: items }),
         Input::Iterator(items) => by_source(rt, alloc, strategy, case, items.iter().copied()),
+        Input::Counted(items) => {
+            let iter = items.iter().copied();
+            by_source(rt, alloc, strategy, case, Counted { iter })
+        }
         Input::Owned(items) => by_source(rt, alloc, strategy, case, items),
         Input::Matrix(_) | Input::Tagged(_, _) => Ok(Answer::Number(0)),
     }

@@ -28,7 +28,8 @@ pub use meter::{Measured, Meter, Unmeasured};
 pub use on::On;
 pub use parallel_bridge as bridge;
 pub use parallel_bridge::{
-    Chunks, Copies, Enumerated, Indices, Pairs, Parts, Path, Producer, Source, Zipped, gate,
+    Chunks, Copies, Counted, Enumerated, ExactSize, Indices, Pairs, Parts, Path, Producer, Source,
+    Zipped, gate,
 };
 pub use parallel_fault::{Fault, Trouble};
 pub use parallel_policy as policy;

@@ -8,7 +8,7 @@ use Rattle.core.specs.Allocator.{block_with_items}
 use Rattle.core.proofs.mem.Param as core
 use Rattle.std_alloc.proofs.VecSteps.El.{El, el_x, elτ, R, sz, Hd}
 use Rattle.std_alloc.proofs.VecSteps.Rows.{apart, whole}
-use Rattle.parallel_bridge.proofs.Rows.{cut, glue, of_items, to_items, of_room, to_room}
+use Rattle.parallel_bridge.proofs.RowMemory.{cut, glue, of_items, to_items, of_room, to_room}
 
 module _ {X : Type 0} where
   pub length_somes : (xs : List X) → length (map Some xs) ≡ length xs

@@ -12,7 +12,7 @@ use Rattle.parallel_bridge.specs.Parts.{PartitionOf}
 use Rattle.parallel_bridge.specs.Onto.{ReducesTo}
 use Rattle.parallel_bridge.proofs.Shapes.{Shape-items, map_along_shape, MapOf-append}
 use Rattle.parallel_bridge.proofs.TryShapes.{try_along_wider}
-use Rattle.parallel_bridge.proofs.Onward.{joined-append, onto_append, PartitionOf-append}
+use Rattle.parallel_bridge.proofs.FoldersAppend.{joined-append, onto_append, PartitionOf-append}
 
 -- of an answer that is handed on holds what follows from what is said of the outcome
 pub driven : {R E : Type 0} (answer : Result R (Trouble E)) (result : Result R Fault)

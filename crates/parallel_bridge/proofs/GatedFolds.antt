@@ -3,7 +3,7 @@
 use Rattle.parallel_bridge.proofs.Gates.{Halt, Failed, Stopped, GateWatch, IsWatching, SameWatch, known, Begins, HaltsOnward, TellsAs, halting}
 use Rattle.std.proofs.Common.{List, [], ◌++◌, Result, Ok, Err, IsTrue, is_err, refl, sym, subst, ◌∙◌}
 use Rattle.parallel_bridge.specs.Tries.{OnlyOk, TryChain, TryFoldSegment, TryReducedSegment}
-use Rattle.parallel_bridge.proofs.Onward.{try_chain_append}
+use Rattle.parallel_bridge.proofs.FoldersAppend.{try_chain_append}
 
 module _ {X R E : Type 0} (step : R → X → Result R E → Type 0) where
   -- behind a value

@@ -5,17 +5,17 @@ mod Gates
 mod Windows
 pub mod Shapes
 pub mod Bracketings
-pub mod Chains
-pub mod Coming
+pub mod CollectChains
+pub mod IteratorItems
 pub mod WriteIter
 mod Ranges
 pub mod Halves
 pub mod SegmentLengths
 pub mod Laws
-pub mod Turns
+pub mod LoopSteps
 pub mod Outcomes
 pub mod TryShapes
-pub mod Onward
+pub mod FoldersAppend
 pub mod Statefuls
 pub mod TryBracketings
 pub mod Drivers
@@ -25,9 +25,9 @@ pub mod OverLists
 pub mod FirstFailing
 pub mod WrappingSums
 pub mod SendSync
-pub mod Rows
+pub mod RowMemory
 pub mod Blocks
-pub mod Runs
+pub mod WindowSlots
 pub mod Writes
 pub mod TryWrites
 pub mod TakenFromFront

@@ -17,5 +17,6 @@ pub mod GateRule
 pub mod Gates
 pub mod Halting
 pub mod Zips
+pub mod ExactSizes
 pub mod Serials
 pub mod Chunks

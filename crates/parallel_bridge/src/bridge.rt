@@ -52,7 +52,7 @@ pub fn bridge<Rt: Threads + Sync, P: Parts, C: Consumer<P::Item> + Send>(
         → length (leaf_lengths (Shape (cutdepth (non_zero_usize_get threads)) xs)) ≤ length xs }
 {
     let depth = depth_of(threads);
-    let (segment, home) = parts.into_segment();
+    let (segment, home) = parts.into_segment(alloc)?;
     let handing = Handing {
         parts: segment,
         consumer,

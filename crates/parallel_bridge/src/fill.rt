@@ -45,7 +45,10 @@ where
     ensures { Filled P.gives parts (Answered (W.so_far writer.now) (W.fails writer.now)) depth room
         result.0 result.1 }
 {
-    let (segment, home) = parts.into_segment();
+    let (segment, home) = match parts.into_segment(alloc) {
+        Ok(made) => made,
+        Err(fault) => return (room, Err(Trouble::Fault(fault))),
+    };
     let filling = Filling {
         parts: segment,
         writer,

@@ -75,9 +75,9 @@ impl<T: Send + Drop> Parts for Pairs<T> {
         }
     }
 
-    fn into_segment(self) -> (PairSegment<T>, Home<T, Global>) {
+    fn into_segment(self, _alloc: Global) -> Result<(PairSegment<T>, Home<T, Global>), Fault> {
         let (window, home) = Home::adopt(self.items);
-        (PairSegment { window }, home)
+        Ok((PairSegment { window }, home))
     }
 
     fn put_away(home: Home<T, Global>, rest: Window<T>) {

@@ -1,8 +1,9 @@
 //! What a list call splits among threads: a list that comes apart into segments, and the block that
 //! its items lie in, to which what is left of them comes back.
-ghost use Rattle.std.specs.Prelude.{◌≡◌, ◌≤◌, ℕ, List, length};
+ghost use Rattle.std.specs.Prelude.{◌≡◌, ◌≤◌, ℕ, List, IfOk, length};
 ghost use Rattle.std.specs.Iterator.{Drains, HoldsAlong, IsFinite};
 ghost use Rattle.std.specs.List.{All, Contains};
+ghost use Rattle.parallel_fault.specs.Trouble.{IsMemoryOnErr};
 ghost use Rattle.parallel_bridge.specs.Fills.{SamePlaces};
 ghost use Rattle.parallel_bridge.specs.Windows.{IsSite};
 
@@ -10,6 +11,7 @@ use crate::producer::{DrainProducer, Producer, SliceDrain};
 use crate::segment::{ProducerSegment, Segment, WindowSegment};
 use crate::window::home::Home;
 use crate::window::part::Window;
+use parallel_fault::Fault;
 use std::alloc::Global;
 
 /// A list that a call splits among threads. Its laws are a [`Producer`]'s, and those of its one
@@ -53,14 +55,21 @@ pub trait Parts: Send + Sized + Drop {
             → gives self xs }
         ensures may { HoldsAlong Self.Iter.next_gives result (All (may self)) };
 
-    /// The whole list as one segment, and what its items lie in. Nothing is copied.
-    fn into_segment(self) -> (Self::Segment, Self::Home)
-        ensures sound { Self.Segment.sound result.0 }
-        ensures gives { (xs : List Self.Item) → Self.Segment.gives result.0 xs → gives self xs }
-        ensures may { (x : Self.Item) → Self.Segment.may result.0 x → may self x }
-        ensures count { Self.Segment.count result.0 ≡ count self }
-        ensures keeps { (rest : Self.Segment.Rest) → Self.Segment.leaves result.0 rest
-            → keeps result.1 rest };
+    /// The whole list as one segment, and what its items lie in. What is no list yet is gathered;
+    /// of what is one, nothing is copied.
+    ///
+    /// # Errors
+    ///
+    /// `Fault::Memory` alone, where the items have to be gathered; they are then gone.
+    fn into_segment(self, alloc: Global) -> Result<(Self::Segment, Self::Home), Fault>
+        ensures sound { IfOk result (λ p. Self.Segment.sound p.0) }
+        ensures gives { IfOk result (λ p. (xs : List Self.Item) → Self.Segment.gives p.0 xs
+            → gives self xs) }
+        ensures may { IfOk result (λ p. (x : Self.Item) → Self.Segment.may p.0 x → may self x) }
+        ensures count { IfOk result (λ p. Self.Segment.count p.0 ≡ count self) }
+        ensures keeps { IfOk result (λ p. (rest : Self.Segment.Rest)
+            → Self.Segment.leaves p.0 rest → keeps p.1 rest) }
+        ensures fault { IsMemoryOnErr result };
 
     /// Puts away what is left of the segment of the whole list.
     fn put_away(home: Self::Home, rest: <Self::Segment as Segment<Self::Item>>::Rest)
@@ -99,8 +108,8 @@ impl<P: Producer> Parts for ProducerParts<P> {
         self.list.into_items()
     }
 
-    fn into_segment(self) -> (ProducerSegment<P>, ()) {
-        (ProducerSegment { parts: self.list }, ())
+    fn into_segment(self, _alloc: Global) -> Result<(ProducerSegment<P>, ()), Fault> {
+        Ok((ProducerSegment { parts: self.list }, ()))
     }
 
     fn put_away(_home: (), _rest: ()) {}
@@ -134,9 +143,9 @@ impl<T: Send + Drop> Parts for DrainProducer<T> {
         self.drain()
     }
 
-    fn into_segment(self) -> (WindowSegment<T>, Home<T, Global>) {
+    fn into_segment(self, _alloc: Global) -> Result<(WindowSegment<T>, Home<T, Global>), Fault> {
         let (window, home) = Home::adopt(self.into_vec());
-        (WindowSegment { window }, home)
+        Ok((WindowSegment { window }, home))
     }
 
     fn put_away(home: Home<T, Global>, rest: Window<T>) {

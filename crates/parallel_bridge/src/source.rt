@@ -5,6 +5,7 @@ ghost use Rattle.std.specs.List.{All, Contains};
 ghost use Rattle.parallel_fault.specs.Trouble.{IsMemoryOnErr};
 ghost use Rattle.parallel_bridge.specs.Sources.{MayCome};
 
+use crate::counted::{Counted, ExactSize};
 use crate::pairs::{PairDrain, Pairs};
 use crate::parts::{Parts, ProducerParts};
 use crate::producer::{DrainProducer, Producer, SliceDrain};
@@ -71,6 +72,9 @@ pub struct ByPairs;
 
 /// The kind of a source that is an iterator.
 pub struct ByIter;
+
+/// The kind of a source that is an iterator which knows its number.
+pub struct ByCount;
 
 impl<P: Producer> Source<ByParts> for P {
     type Item = P::Item;
@@ -166,8 +170,33 @@ where
     }
 }
 
-// The items that an iterator gives, as a list.
-fn gathered<I: Iterator>(alloc: Global, iter: I) -> Result<Vec<I::Item>, AllocError>
+impl<I: ExactSize + Send + Drop> Source<ByCount> for Counted<I>
+where
+    I::Item: Send + Drop,
+{
+    type Item = I::Item;
+
+    type Parts = Counted<I>;
+
+    type Iter = I;
+
+    ghost can = { λ _. Unit {0} };
+
+    ghost gives = { λ source xs. Drains I.next_gives source.iter xs };
+
+    ghost may = { λ source x. MayCome I.next_gives source.iter x };
+
+    fn into_items(self) -> I {
+        self.iter
+    }
+
+    fn into_parts(self, _alloc: Global) -> Result<Counted<I>, Fault> {
+        Ok(self)
+    }
+}
+
+/// The items that an iterator gives, as a list.
+pub(crate) fn gathered<I: Iterator>(alloc: Global, iter: I) -> Result<Vec<I::Item>, AllocError>
 where
     I::Item: Drop,
     requires can { I.can_next iter }

@@ -1,10 +1,12 @@
-//! Pieces of slices, lists pair by pair, and items with their indices: what comes, whole and cut.
+//! Pieces of slices, lists pair by pair, items with their indices, and iterators that know their
+//! number: what comes, whole and cut.
 use crate::bridge::number;
 use crate::same::{row, same};
 use parallel_bridge::chunks::Chunks;
+use parallel_bridge::counted::Counted;
 use parallel_bridge::enumerated::Enumerated;
 use parallel_bridge::list::map::map_parallel;
-use parallel_bridge::parts::ProducerParts;
+use parallel_bridge::parts::{Parts, ProducerParts};
 use parallel_bridge::producer::{Copies, Indices, Producer};
 use parallel_bridge::zipped::Zipped;
 
@@ -108,4 +110,38 @@ fn items_come_with_their_indices_in_the_whole_list(rt: HostRuntime) {
         let wanted = [(0, b'a'), (1, b'b'), (2, b'c'), (3, b'd'), (4, b'e')];
         row(&rt, threads, seen.as_slice(), wanted.as_slice());
     }
+}
+
+#[test]
+fn iterators_that_know_their_number_come_whole_and_cut(rt: HostRuntime) {
+    let alloc = rt.alloc();
+    let letters = [b'a', b'b', b'c', b'd', b'e'];
+    for threads in [1, 2, 4] {
+        let list = Counted {
+            iter: letters.iter().copied().zip(3..9usize),
+        };
+        row(&rt, threads, Parts::len(&list), 5);
+        let seen = map_parallel(
+            &rt,
+            alloc,
+            number(&rt, threads),
+            list,
+            &|item: (u8, usize)| item,
+        )
+        .expect(&rt, "memory");
+        let wanted = [(b'a', 3), (b'b', 4), (b'c', 5), (b'd', 6), (b'e', 7)];
+        row(&rt, threads, seen.as_slice(), wanted.as_slice());
+    }
+}
+
+#[test]
+fn an_iterator_that_knows_its_number_says_what_is_left(rt: HostRuntime) {
+    let letters = [b'a', b'b', b'c'];
+    let mut iter = letters.iter();
+    for left in [3, 2, 1, 0] {
+        row(&rt, left, Parts::len(&Counted { iter: iter.clone() }), left);
+        iter.next();
+    }
+    same(&rt, Parts::len(&Counted { iter: 5..5usize }), 0);
+    same(&rt, Parts::len(&Counted { iter: 9..5usize }), 0);
 }

@@ -52,7 +52,10 @@ pub fn fold_gated<
     ensures ends { KeptEnds watch.entry.gate.now watch.entry.start (P.count parts)
         (stands_for watch.entry.seat) result.1 result.0 }
 {
-    let (segment, home) = parts.into_segment();
+    let (segment, home) = match parts.into_segment(alloc) {
+        Ok(made) => made,
+        Err(fault) => return (Err(Trouble::Fault(fault)), Some(watch.seat)),
+    };
     let folding = GatedFolding {
         parts: segment,
         identity,

@@ -56,7 +56,10 @@ where
     ensures ends { EndsAs watch.entry.start (P.count parts) (stands_for watch.entry.seat)
         (known result.2) (written result.0 result.1) }
 {
-    let (segment, home) = parts.into_segment();
+    let (segment, home) = match parts.into_segment(alloc) {
+        Ok(made) => made,
+        Err(fault) => return (room, Err(Trouble::Fault(fault)), watch.seat),
+    };
     let filling = GatedFilling {
         parts: segment,
         writer,

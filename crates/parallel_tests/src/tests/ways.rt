@@ -2,12 +2,13 @@
 ghost use Rattle.std.specs.Prelude.{◌<◌};
 
 use crate::tests::explorers::PLACE;
+use crate::tests::no_memory::all_places;
 use crate::tests::same::{answers, row, same};
 use crate::tests::steps::{add, count, zero};
 use crate::tests::strategies::{SITE, number, pool};
 use crate::tests::threads::Meeting;
-use commonware_parallel::mocks::{Explorer, TASKS, explore};
-use commonware_parallel::{Call, Chooser, Fault, Grid, Path, Pick, Strategy, Trouble};
+use commonware_parallel::mocks::{Explorer, Rule, TASKS, explore};
+use commonware_parallel::{Call, Chooser, Counted, Fault, Grid, Path, Pick, Strategy, Trouble};
 use std::alloc::Global;
 use std::process::Abort;
 use std::sync::Wait;
@@ -258,4 +259,58 @@ fn each_map_keeps_its_order_by_each_rule(rt: HostRuntime) {
         |explorer| maps_in_order(&rt, alloc, explorer).ok(),
     );
     answers(&rt, 1, mapped, Some([true; 4]));
+}
+
+// The sum of the numbers below 1,000,000, which are 8 MB as a list: by an iterator that says how
+// many come.
+fn sum_counted<Rt: Threads + Wait + Sync, S: Strategy>(
+    rt: &Rt,
+    alloc: Global,
+    strategy: &S,
+) -> Result<usize, Fault> {
+    let numbers = Counted {
+        iter: 0..1_000_000usize,
+    };
+    let add = |left: usize, right: usize| left.wrapping_add(right);
+    strategy.fold(rt, alloc, PLACE, numbers, || 0, add, add)
+}
+
+// The same by an iterator alone.
+fn sum_gathered<Rt: Threads + Wait + Sync, S: Strategy>(
+    rt: &Rt,
+    alloc: Global,
+    strategy: &S,
+) -> Result<usize, Fault> {
+    let add = |left: usize, right: usize| left.wrapping_add(right);
+    strategy.fold(rt, alloc, PLACE, 0..1_000_000usize, || 0, add, add)
+}
+
+#[test]
+fn a_counted_iterator_is_gathered_where_it_goes_parallel_alone(rt: HostRuntime) {
+    let alloc = rt.alloc();
+    let pool = pool(&rt, alloc, 2, 2);
+    let serial = Explorer::by_rule(&pool, Rule::Serial).expect(&rt, "memory");
+    let parallel = Explorer::by_rule(&pool, Rule::Parallel).expect(&rt, "memory");
+    row(
+        &rt,
+        "serial",
+        sum_counted(&rt, alloc, &serial),
+        Ok(499_999_500_000),
+    );
+    row(
+        &rt,
+        "parallel",
+        sum_counted(&rt, alloc, &parallel),
+        Ok(499_999_500_000),
+    );
+    let Some(held) = all_places(alloc) else {
+        return;
+    };
+    let counted = sum_counted(&rt, alloc, &serial);
+    let gathered = sum_gathered(&rt, alloc, &serial);
+    let cut = sum_counted(&rt, alloc, &parallel);
+    drop(held);
+    row(&rt, "counted", counted, Ok(499_999_500_000));
+    row(&rt, "gathered", gathered, Err(Fault::Memory));
+    row(&rt, "cut", cut, Err(Fault::Memory));
 }

@@ -10,3 +10,12 @@ returns-clause-by_threads g c xs =
 
 pub returns-clause-by_items : goal.returns-clause-by_items
 returns-clause-by_items g c xs some = shape_by_items (cutdepth c.args.threads.value) xs some
+
+-- also where the list could not be gathered
+pub returns-in_err-segment-clause-by_threads : goal.returns-in_err-segment-clause-by_threads
+returns-in_err-segment-clause-by_threads g c xs =
+    shape_by_threads c.args.threads.value xs (omega arith) (omega arith)
+
+pub returns-in_err-segment-clause-by_items : goal.returns-in_err-segment-clause-by_items
+returns-in_err-segment-clause-by_items g c xs some =
+    shape_by_items (cutdepth c.args.threads.value) xs some

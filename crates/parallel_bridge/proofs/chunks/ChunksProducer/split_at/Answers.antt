@@ -1,7 +1,7 @@
 -- A cut behind so many pieces of the slice.
 use Rattle.parallel_bridge.proofs.Common.{◌-◌, length, drop, take, ap, ◌∙◌, div_ceil, non_zero_usize_get, take_rest}
 use Rattle.parallel_bridge.specs.Chunks.{chunks_of}
-use Rattle.parallel_bridge.proofs.Coming.{some_borrows}
+use Rattle.parallel_bridge.proofs.IteratorItems.{some_borrows}
 use Rattle.parallel_bridge.proofs.Pieces.{back_count, chunk_of_back, chunk_of_front, chunks_joined, front_count, front_long}
 use Rattle.parallel_bridge.proofs.chunks.ChunksProducer.split_at.Goals as goal
 

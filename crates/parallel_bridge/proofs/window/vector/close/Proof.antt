@@ -7,7 +7,7 @@ use Rattle.parallel_bridge.proofs.Walks.{give_at, through, sets, env, yes, no, R
 use Rattle.parallel_bridge.proofs.Walks.{Stays, stay_dropped, stay_ref, walk_of, ends_at, Goes-dropped, Goes-ref, Option, Some, None, Goes-blank, token, has_block, word, word-Good, Blk, vec_opens⁰}
 use Rattle.parallel_bridge.proofs.Walks.{vec_closes⁰, after, slots, cells_own, deed_owns, values}
 use Rattle.std_alloc.proofs.VecSteps.El.{El, args, el_x, el_d, R, P, Vr, Hd, sz}
-use Rattle.parallel_bridge.proofs.Rows.{Places, Start, mark, mark_had, start_had}
+use Rattle.parallel_bridge.proofs.RowMemory.{Places, Start, mark, mark_had, start_had}
 use Rattle.parallel_bridge.proofs.Blocks.{plainly, stored_within, block_in}
 use Rattle.parallel_bridge.specs.contracts.window.cells.Deed as deeds
 use Rattle.parallel_bridge.specs.contracts.window.vector.close as F

@@ -6,7 +6,7 @@ use Rattle.parallel_bridge.proofs.Walks.{addr, stop, fld, load, lit, of_opd, no_
 use Rattle.parallel_bridge.proofs.Walks.{sets, sets_last, env, RattleType, owns, layout, Ptr, block_ptr, plain, types_at, nothing, Tuple, Clauses, Ended, Stays, stay_ref, walk_of, ends_at, Goes-ref}
 use Rattle.parallel_bridge.proofs.Walks.{Option, Some, None, token, owns_if, has_block, Good, word, word-Good, not_live, vec_opens⁰, vec_closes⁰, after, slots}
 use Rattle.std_alloc.proofs.VecSteps.El.{El, args, el_x, el_d, elτ, R, P, Vr, Hd, sz}
-use Rattle.parallel_bridge.proofs.Rows.{Places, Start, Mark, mark, mark_from, start_made, says_three, triple, triple_made}
+use Rattle.parallel_bridge.proofs.RowMemory.{Places, Start, Mark, mark, mark_from, start_made, says_three, triple, triple_made}
 use Rattle.parallel_bridge.proofs.Blocks.{plainly, stored, stored_length, block_out}
 use Rattle.parallel_bridge.specs.contracts.window.cells.Deed as deeds
 use Rattle.parallel_bridge.specs.contracts.window.vector.open as F

@@ -2,7 +2,7 @@
 use Rattle.std.proofs.Common.{rules}
 use Rattle.std.proofs.lemmas.Iterator.{YieldsList-from_slice}
 use Rattle.std.proofs.lemmas.Iterator.Consumers.{YieldsList-at, YieldsList-from_chain, YieldsList-from_copied}
-use Rattle.parallel_bridge.proofs.Coming.{came_as_it_is, stands_in}
+use Rattle.parallel_bridge.proofs.IteratorItems.{came_as_it_is, stands_in}
 use Rattle.uses.proofs.own_lists.WrappedSourceByWrapping.into_items.Goals as goal
 
 pub returns-clause-gives : goal.returns-clause-gives

@@ -1,5 +1,5 @@
 -- The lists of the right part come behind those of the left one.
-use Rattle.parallel_bridge.proofs.Onward.{pairs_joined}
+use Rattle.parallel_bridge.proofs.FoldersAppend.{pairs_joined}
 use Rattle.parallel_bridge.proofs.consumer.partition.PartitionReducerReducerVecTuple2VecVecInfallible.reduce.Goals as goal
 
 pub returns : goal.returns

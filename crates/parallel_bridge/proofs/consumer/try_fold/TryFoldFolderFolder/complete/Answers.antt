@@ -2,7 +2,7 @@
 use Rattle.std.proofs.Common.{Result, ◌∷◌, []}
 use Rattle.parallel_bridge.specs.Onto.{TryContinues}
 use Rattle.parallel_bridge.proofs.Outcomes.{unless_weaker}
-use Rattle.parallel_bridge.proofs.Onward.{try_rests}
+use Rattle.parallel_bridge.proofs.FoldersAppend.{try_rests}
 use Rattle.parallel_bridge.proofs.consumer.try_fold.TryFoldFolderFolder.complete.Goals as goal
 
 pub returns : goal.returns

@@ -1,6 +1,6 @@
 -- A chain over the items and one over more are one chain.
 use Rattle.std.proofs.Common.{Result, ◌∷◌, []}
-use Rattle.parallel_bridge.proofs.Onward.{try_onward}
+use Rattle.parallel_bridge.proofs.FoldersAppend.{try_onward}
 use Rattle.parallel_bridge.proofs.consumer.try_fold.TryFoldFolderFolder.consume.Goals as goal
 
 pub returns-clause-gives : goal.returns-clause-gives

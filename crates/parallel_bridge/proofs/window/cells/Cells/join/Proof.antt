@@ -5,7 +5,7 @@ use Rattle.parallel_bridge.proofs.Walks.{rewrite, fsplit, fjoin, fjoin3, flt_i, 
 use Rattle.parallel_bridge.proofs.Walks.{Ptr, block_ptr, in_a_block, plain, types_at, heard, nothing, Clauses, Ended, says, Stays, stay_dropped, walk_of, ends_at, Goes-blank, El, R, args, shifted}
 use Rattle.parallel_bridge.proofs.Walks.{slots, cells_own}
 use Rattle.std.specs.Vec.Ownership.{FitsInBlock}
-use Rattle.parallel_bridge.proofs.Rows.{Places, Mark, Place, sz, mark, mark_from, mark_had, glue}
+use Rattle.parallel_bridge.proofs.RowMemory.{Places, Mark, Place, sz, mark, mark_from, mark_had, glue}
 use Rattle.parallel_bridge.specs.contracts.window.cells.Cells.join as F
 use Rattle.parallel_bridge.specs.contracts.window.cells.Cells.join.Key.{name as #self}
 use Rattle.parallel_bridge.proofs.window.cells.Cells.join.Statement as stated

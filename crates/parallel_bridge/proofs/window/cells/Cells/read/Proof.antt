@@ -6,7 +6,7 @@ use Rattle.parallel_bridge.proofs.Walks.{flt_l, flt_i, suffices, done, whole, su
 use Rattle.parallel_bridge.proofs.Walks.{look_at, get, get_in, take_at, give_at, through, sets, sets_last, env, yes, no, owns, usize, layout, Ptr, in_a_block, plain, types_at, heard, nothing, opens}
 use Rattle.parallel_bridge.proofs.Walks.{closes, Clauses, Ended, Stays, stay_dropped, stay_ref, walk_of, ends_at, Goes-dropped, Goes-ref, None, El, R, args, elτ, times_below, one_below, as_raw, Good}
 use Rattle.parallel_bridge.proofs.Walks.{word, word-Good, after, IsFilled, slot, slots, cells_own}
-use Rattle.parallel_bridge.proofs.Rows.{Places, Start, Place, sz, start_had, item_out, says_two, has_index, Others, place_out, place_in}
+use Rattle.parallel_bridge.proofs.RowMemory.{Places, Start, Place, sz, start_had, item_out, says_two, has_index, Others, place_out, place_in}
 use Rattle.parallel_bridge.specs.contracts.window.cells.Cells.read as F
 use Rattle.parallel_bridge.specs.contracts.window.cells.Cells.read.Key.{name as #self}
 use Rattle.parallel_bridge.proofs.window.cells.Cells.read.Statement as stated

@@ -7,7 +7,7 @@ use Rattle.parallel_bridge.proofs.Walks.{look_at, get, get_in, take_at, give_at,
 use Rattle.parallel_bridge.proofs.Walks.{nothing, Tuple, Clauses, Ended, says, Stays, stay_dropped, walk_of, ends_at, Goes-dropped, Goes-blank, El, R, args, times_below, Good, word, word-Good, after}
 use Rattle.parallel_bridge.proofs.Walks.{shifted, slots, cells_own}
 use Rattle.core.proofs.slots.Leases.{uncapped}
-use Rattle.parallel_bridge.proofs.Rows.{Places, Start, Mark, Place, sz, mark, mark_from, mark_had, start_had, start_made, triple, triple_made, cut_at}
+use Rattle.parallel_bridge.proofs.RowMemory.{Places, Start, Mark, Place, sz, mark, mark_from, mark_had, start_had, start_made, triple, triple_made, cut_at}
 use Rattle.parallel_bridge.specs.contracts.window.cells.Cells.split as F
 use Rattle.parallel_bridge.specs.contracts.window.cells.Cells.split.Key.{name as #self}
 use Rattle.parallel_bridge.proofs.window.cells.Cells.split.Statement as stated

@@ -1,7 +1,7 @@
 -- The items without the first.
 use Rattle.parallel_bridge.proofs.Windows.{values, IsRow}
 use Rattle.std.proofs.Common.{◌+◌, ◌-◌, ◌<◌, ◌∷◌, length, sym, ap, subst, ◌∙◌}
-use Rattle.parallel_bridge.proofs.Runs.{take_row, some_same}
+use Rattle.parallel_bridge.proofs.WindowSlots.{take_row, some_same}
 use Rattle.parallel_bridge.proofs.window.part.Window.take.Goals as goal
 
 pub read-item-requires : goal.read-item-requires

@@ -1,4 +1,4 @@
--- One turn of a loop over items that come, over plain variables.
+-- One step of a loop over items that come, over plain variables.
 use Rattle.parallel_bridge.proofs.Common.{◌≡◌, List, [], ◌∷◌, ◌++◌, Result, Err, Option, Some, None, false, is_some, refl, sym, subst, append-nil}
 use Rattle.parallel_bridge.proofs.Calls.{TryMapBehind, TryMapOnto, PartitionOnto, ended}
 

@@ -1,0 +1,6 @@
+-- Each item that comes may come.
+use Rattle.parallel_bridge.proofs.IteratorItems.{may_along}
+use Rattle.parallel_bridge.proofs.counted.CountedParts.into_items.Goals as goal
+
+pub returns-clause-may : goal.returns-clause-may
+returns-clause-may g c = may_along g.I.Iterator.next_gives c.args.self.iter
