@@ -137,10 +137,12 @@ fn iterators_that_know_their_number_come_whole_and_cut(rt: HostRuntime) {
 #[test]
 fn an_iterator_that_knows_its_number_says_what_is_left(rt: HostRuntime) {
     let letters = [b'a', b'b', b'c'];
-    let mut iter = letters.iter();
+    let mut list = Counted {
+        iter: letters.iter(),
+    };
     for left in [3, 2, 1, 0] {
-        row(&rt, left, Parts::len(&Counted { iter: iter.clone() }), left);
-        iter.next();
+        row(&rt, left, Parts::len(&list), left);
+        list.iter.next();
     }
     same(&rt, Parts::len(&Counted { iter: 5..5usize }), 0);
     same(&rt, Parts::len(&Counted { iter: 9..5usize }), 0);
