@@ -1,3 +1,4 @@
+-- The number of workers for which queues of jobs are.
 use Rattle.std.specs.Prelude.{ℕ, vec_len}
 use Rattle.parallel_pool.specs.declared.rayon.job_queues.JobQueues.{JobQueues}
 

@@ -29,7 +29,8 @@ pub struct CountLatch {
 
 impl CountLatch {
     ghost use Rattle.std.specs.Prelude.{◌≡◌, ◌≤◌, ◌-◌, ◌<◌, ℕ, ◌↔◌, All, IfOk, IsTrue, [], length, vec_len};
-    ghost use Rattle.parallel_pool.specs.CountHistory.{Given, Longer, times_given};
+    ghost use Rattle.parallel_pool.specs.CountHistory.{Given, times_given};
+    ghost use Rattle.parallel_pool.specs.Histories.{Longer};
     ghost use Rattle.parallel_pool.specs.CountLatch.{IsShareOf, shares_of, knows, unspent, gives_seen};
 
     /// A latch of `count` shares, and the shares, of which each has seen no give yet.

@@ -1,6 +1,6 @@
 //! The queues of a pool, and how a thread comes to its views of them.
 ghost use Rattle.std.specs.Prelude.{◌≡◌, All, IfOk, length, vec_len};
-ghost use Rattle.parallel_pool.specs.JobHistory.{newcomer};
+ghost use Rattle.parallel_pool.specs.JobHistory.{new_pass};
 ghost use Rattle.parallel_fault.specs.Trouble.{IsMemoryOnErr};
 
 use crate::rayon::inlet_port::{Inlet, InletPort};
@@ -48,7 +48,7 @@ fn open_inlets<T: Drop>(alloc: Global, count: usize) -> Result<Vec<Arc<Inlet<T>,
 // So many empty deques.
 fn open_deques<T: Drop>(alloc: Global, count: usize) -> Result<Vec<JobDeque<T>>, Fault>
     ensures count { IfOk result (λ made. vec_len made ≡ count) }
-    ensures fresh { IfOk result (λ made. All (λ view. view ≡ newcomer) made.items) }
+    ensures fresh { IfOk result (λ made. All (λ view. view ≡ new_pass) made.items) }
     ensures fault { IsMemoryOnErr result }
 {
     let mut all = Vec::new(alloc);
@@ -76,7 +76,7 @@ fn passes<T: Drop>(
     queues: &[Arc<Inlet<T>, Global>],
 ) -> Result<Vec<InletPort<T>>, Fault>
     ensures count { IfOk result (λ made. vec_len made ≡ length queues.now) }
-    ensures fresh { IfOk result (λ made. All (λ view. view ≡ newcomer) made.items) }
+    ensures fresh { IfOk result (λ made. All (λ view. view ≡ new_pass) made.items) }
     ensures fault { IsMemoryOnErr result }
 {
     let mut all = Vec::new(alloc);
@@ -89,7 +89,7 @@ fn passes<T: Drop>(
 // A thief's pass of each deque.
 fn thief_passes<T: Drop>(alloc: Global, deques: &[Thief<T>]) -> Result<Vec<ThiefPort<T>>, Fault>
     ensures count { IfOk result (λ made. vec_len made ≡ length deques.now) }
-    ensures fresh { IfOk result (λ made. All (λ view. view ≡ newcomer) made.items) }
+    ensures fresh { IfOk result (λ made. All (λ view. view ≡ new_pass) made.items) }
     ensures fault { IsMemoryOnErr result }
 {
     let mut all = Vec::new(alloc);
@@ -111,7 +111,7 @@ impl<T: Drop> JobQueues<T> {
     ) -> Result<(JobQueues<T>, Vec<JobDeque<T>>), Fault>
         ensures workers { IfOk result (λ made. workers_of made.0 ≡ non_zero_usize_get workers) }
         ensures count { IfOk result (λ made. vec_len made.1 ≡ non_zero_usize_get workers) }
-        ensures fresh { IfOk result (λ made. All (λ view. view ≡ newcomer) made.1.items) }
+        ensures fresh { IfOk result (λ made. All (λ view. view ≡ new_pass) made.1.items) }
         ensures fault { IsMemoryOnErr result }
     {
         let injected = open_inlet(alloc)?;

@@ -1,3 +1,4 @@
+-- There is an unspent share for each turn, and the founder has those that are left.
 use Rattle.std.proofs.Common.{◌≡◌, ◌+◌, All, [], vec_len}
 use Rattle.std.specs.NonZero.{non_zero_usize_get}
 use Rattle.parallel_pool.specs.CountLatch.{IsShareOf, shares_of, unspent, gives_seen}
