@@ -12,7 +12,8 @@ use Rattle.parallel_pool.proofs.CountSteps.{held, held_set, held_more, all_set, 
 
 -- a new seat, which has no share and has seen the gives that another has seen, keeps the rule
 pub tells : (n id : ℕ) (v : ShareView)
-    → Splits (λ (s : State (Unit {0}) ShareView). IsCountOf n s.words s.views) id v v (telling_gives v)
+    → Splits (λ (s : State (Unit {0}) ShareView). IsCountOf n s.words s.views) id v v
+    (telling_gives v)
 tells n id v s h at =
     let log : List ℕ = h.0 in
     let kept : CountsAs n log s.words s.views = h.1 in
@@ -35,7 +36,8 @@ tells n id v s h at =
               fresh = λ none. absurd (omega arith);
             })
             (all_set (FitsShare n log) s.views id v mine (λ by u ne there. kept.fits by u there));
-        beyond = λ by far. kept.beyond by (omega (arith, length-append views (telling_gives v ∷ [])));
+        beyond = λ by far. kept.beyond by
+            (omega (arith, length-append views (telling_gives v ∷ [])));
         once = kept.once;
       },
     )

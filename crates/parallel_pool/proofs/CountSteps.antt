@@ -1,6 +1,6 @@
 -- Each step of a count latch keeps its rule.
 use Rattle.std.proofs.Common.{◌≡◌, ◌≢◌, ℕ, ◌+◌, ◌-◌, ◌%◌, ◌^◌, ◌≤◌, ◌<◌, ◌==◌, cond, List, [], ◌∷◌, ◌++◌, length, set, slice_index, sum_by, refl, sym, ap}
-use Rattle.std.proofs.Common.{subst, ◌∙◌, ⊎_elim, append_assoc, append-nil, arith, eq-eqb, ne_eqb, length-set, length-append}
+use Rattle.std.proofs.Common.{subst, ◌∙◌, ⊎_elim, append-nil, arith, eq-eqb, ne_eqb, length-set, length-append}
 use Rattle.std.proofs.lemmas.List.Sums.{sum_by-set, sum_by-append}
 use Rattle.std.proofs.Math.Nat.{add-mod_right, mod-eq_of_lt}
 use mathlib.Core.Option.{some}
@@ -100,7 +100,8 @@ gives n slots id me whole s h homes at small =
     let positive : 0 < held s.views = omega (arith, less, whole) in
     let fits : held s.views < 2 ^ 64 = subst (λ k. k < 2 ^ 64) found small in
     let of : me.0.of ≡ n = mine.of left' in
-    let once : (by : ℕ) → times_given by (log ++ id ∷ []) ≤ 1 = given_once id log fresh kept.once in (
+    let once : (by : ℕ) → times_given by (log ++ id ∷ []) ≤ 1 =
+    given_once id log fresh kept.once in (
       w,
       keeps,
       tt,

@@ -1,6 +1,6 @@
 -- Each push to a queue of jobs and each take from it keeps the history's rule.
 use Rattle.std.proofs.Common.{◌≡◌, ◌≢◌, ℕ, ◌+◌, ◌<◌, ◌≤◌, ◌==◌, Bool, true, false, cond, List, [], ◌∷◌, ◌++◌, length, set, map, refl, sym, ap, subst, ◌∙◌}
-use Rattle.std.proofs.Common.{⊎_elim, append_assoc, append-nil, arith, eq-eqb, ne_eqb, length-set, length-append, Option, Some, None, Result, Ok, Err}
+use Rattle.std.proofs.Common.{⊎_elim, append-nil, arith, eq-eqb, ne_eqb, length-set, length-append, Option, Some, None, Result, Ok, Err}
 use Rattle.std.proofs.Common.{MatchOption, MatchResult}
 use mathlib.Core.Logic.{dite}
 use native.Mathlib.Decide.{ℕ_discrete}
@@ -27,8 +27,8 @@ none_either false = refl
 
 module _ {T : Type 0} where
   -- a history with one deed more leads on
-  leads_on : (s : Lineup T) (log : List (Event T)) (e : Event T) (m t : Lineup T) → DeedsLead s log m
-      → DeedMoves e.deed e.number e.job m t → DeedsLead s (log ++ e ∷ []) t
+  leads_on : (s : Lineup T) (log : List (Event T)) (e : Event T) (m t : Lineup T)
+      → DeedsLead s log m → DeedMoves e.deed e.number e.job m t → DeedsLead s (log ++ e ∷ []) t
   leads_on s [] e m t same moves =
       (t, subst (λ (x : Lineup T). DeedMoves e.deed e.number e.job x t) (sym same) moves, refl)
   leads_on s (x ∷ xs) e m t leads moves =
@@ -45,9 +45,10 @@ module _ {T : Type 0} where
   left_more number (q ∷ qs) p = let h = left_more number qs p in omega (arith, h)
 
   -- a deed keeps count of a number: what was there or pushed is taken or there
-  counts_one : (number : ℕ) (deed : Deed) (n : ℕ) (job : T) (s t : Lineup T) → DeedMoves deed n job s t
-      → times_left number s.left + cond (n == number) (one_push deed) 0 ≡ cond (n == number)
-      (one_take deed) 0 + times_left number t.left
+  counts_one : (number : ℕ) (deed : Deed) (n : ℕ) (job : T) (s t : Lineup T)
+      → DeedMoves deed n job s t
+      → times_left number s.left + cond (n == number) (one_push deed) 0
+      ≡ cond (n == number) (one_take deed) 0 + times_left number t.left
   counts_one number Push n job s t moves =
       let e : times_left number t.left ≡ times_left number (s.left ++ (n, job) ∷ []) =
       ap (times_left number) moves.2 in
@@ -80,8 +81,8 @@ module _ {T : Type 0} where
   goes_up TakeLast n job s t moves = omega (arith, moves.0)
 
   -- a push gives no number below the next one
-  not_below : (number : ℕ) (deed : Deed) (n : ℕ) (job : T) (s t : Lineup T) → DeedMoves deed n job s t
-      → number < s.next → cond (n == number) (one_push deed) 0 ≡ 0
+  not_below : (number : ℕ) (deed : Deed) (n : ℕ) (job : T) (s t : Lineup T)
+      → DeedMoves deed n job s t → number < s.next → cond (n == number) (one_push deed) 0 ≡ 0
   not_below number Push n job s t moves below = ap (λ b. cond {A = ℕ} b 1 0)
       (ne_eqb n number (λ e. absurd (omega (arith, e, moves.0, below))))
   not_below number TakeFirst n job s t moves below = none_either (n == number)

@@ -1,6 +1,6 @@
 -- Each step of a core latch keeps its rule, and what a step found is the phase of its history.
 use Rattle.std.proofs.Common.{◌≡◌, ◌≢◌, ℕ, ◌<◌, ◌==◌, Bool, true, false, cond, List, [], ◌∷◌, ◌++◌, length, set, slice_index, refl, sym, ap, subst, ◌∙◌, ⊎_elim}
-use Rattle.std.proofs.Common.{append_assoc, append-nil, arith, eq-eqb, rules, ne_eqb, IsTrue, ◌↔◌, length-set, length-append}
+use Rattle.std.proofs.Common.{append-nil, arith, eq-eqb, rules, ne_eqb, IsTrue, ◌↔◌, length-set, length-append}
 use mathlib.Core.Option.{some, some-ne-none}
 use lib.ListN.{get_elem?}
 use prog.Atomic.{either}
@@ -139,7 +139,8 @@ enters slots s h homes small = (
     h.1,
     (λ by u e. ⊎_elim
         (λ (t : get_elem? s.views by ≡ some u). h.2 by u t)
-        (λ (t : (by ≡ length s.views) × (newcomer ≡ u)). subst (λ (x : View). FitsLatch h.0 by x) t.1
+        (λ (t : (by ≡ length s.views) × (newcomer ≡ u)). subst
+        (λ (x : View). FitsLatch h.0 by x) t.1
         ((h.0, refl), (h.0, refl), h.3 by (omega (arith, t.0))))
         (at_end s.views newcomer u by e)),
     (λ by far. h.3 by (omega (arith, far, length-append s.views (newcomer ∷ [])))),

@@ -6,7 +6,8 @@ use Rattle.parallel_pool.specs.declared.latch.history.View.{View}
 
 -- the seat is one of this latch
 abbrev pub IsLatchSeatOf : CoreLatch → LatchSeat → Type 0
-IsLatchSeatOf latch seat = (seat.seat.table_id ≡ latch.table.shared.table_id) × (seat.seat.me.1 ≡ [])
+IsLatchSeatOf latch seat =
+    (seat.seat.table_id ≡ latch.table.shared.table_id) × (seat.seat.me.1 ≡ [])
 
 -- what the seat knows of its latch
 abbrev pub known : LatchSeat → View

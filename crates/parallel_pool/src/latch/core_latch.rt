@@ -58,7 +58,8 @@ impl CoreLatch {
 
     // The latch, and its first seat.
     fn of_word(alloc: Global) -> Result<(CoreLatch, LatchSeat), Fault>
-        ensures made { IfOk result (λ made. IsLatchSeatOf made.0 made.1 × (known made.1 ≡ newcomer)) }
+        ensures made { IfOk result
+            (λ made. IsLatchSeatOf made.0 made.1 × (known made.1 ≡ newcomer)) }
         ensures fault { IsMemoryOnErr result }
     {
         let (table, seat) = Table::of_words(alloc, &[UNSET], &())?;
