@@ -9,7 +9,7 @@ use lib.ListN.{get_elem?}
 use Rattle.atomic_table.specs.Table.{opening, Splits, Joins}
 use Rattle.atomic_table.proofs.Lists.{at_snoc, set_else}
 use Rattle.parallel_shares.specs.declared.shares.rule.View.{View}
-use Rattle.parallel_shares.specs.Words.{start_of, end_of, packed}
+use Rattle.parallel_shares.specs.Words.{packed}
 use Rattle.parallel_shares.specs.Sizes.{Sizes, shares_of, opening_start, IsSound}
 use Rattle.parallel_shares.specs.Machine.{opening_words}
 use Rattle.parallel_shares.specs.Answers.{Pays}

@@ -1,35 +1,36 @@
 -- Each step of a seat keeps what words and seats keep together, whatever the table is by then.
-use Rattle.std.proofs.Common.{◌≡◌, ℕ, false, cond, zero, suc, ◌+◌, ◌-◌, ◌/◌, ◌<◌, ◌≤◌, ◌==◌, ◌⊎◌, inl, inr, List, [], ◌∷◌, ◌++◌, length, get_or, set, refl, sym, ap, subst, ◌∙◌, arith}
-use Rattle.std.specs.List.{range_with_len}
-use Rattle.std.proofs.lemmas.Bool.{cases_lt, cases_eq, eq-eqb, ne_eqb}
-use Rattle.std.proofs.lemmas.List.{length-set, get_or-set_other, get_or_past}
+use Rattle.std.proofs.Common.{◌≡◌, ℕ, false, cond, ◌+◌, ◌-◌, ◌/◌, ◌<◌, ◌≤◌, ◌==◌, ◌⊎◌, inl, inr, List, [], ◌∷◌, ◌++◌, length, get_or, set, refl, sym, ap, subst, ◌∙◌, arith}
+use Rattle.std.proofs.lemmas.Bool.{cases_eq, eq-eqb, ne_eqb}
+use Rattle.std.proofs.lemmas.List.{length-set, get_or-set_other}
 use Rattle.std.proofs.lemmas.Nat.{mul-le}
 use Rattle.std.specs.declared.ops.Range.{Range}
-use mathlib.Core.Option.{some, none, some-injective, some-ne-none}
+use mathlib.Core.Option.{some, none}
 use prog.Atomic.{either}
 use lib.ListN.{get_elem?}
-use Rattle.atomic_table.specs.Table.{State, Me, step, Act, keeps, Valid, stepped, carried_after, opening, Allows, Splits, Joins}
-use Rattle.atomic_table.proofs.Lists.{at_set, at_snoc, set_else, exchanged}
+use Rattle.atomic_table.specs.Table.{State, Me, step, Act, keeps, Valid, stepped, carried_after, Allows}
+use Rattle.atomic_table.proofs.Lists.{at_set, exchanged}
 use Rattle.parallel_shares.specs.declared.shares.rule.View.{View}
 use Rattle.parallel_shares.specs.Words.{start_of, end_of, packed, IsEmptyWord, IsWithin}
-use Rattle.parallel_shares.specs.Sizes.{Sizes, shares_of, share_of, opening_start, IsSound}
-use Rattle.parallel_shares.specs.Machine.{opening_words}
+use Rattle.parallel_shares.specs.Sizes.{Sizes, shares_of, share_of, IsSound}
 use Rattle.parallel_shares.specs.Answers.{claim_stop, claim_cells, middle_of, Pays}
-use Rattle.parallel_shares.specs.Holders.{inside, in_word, in_range, in_ranges, same_number}
+use Rattle.parallel_shares.specs.Holders.{inside, in_word, in_range, in_ranges}
 use Rattle.parallel_shares.specs.Totals.{total, times}
 use Rattle.parallel_shares.specs.Sharing.{SomeSplitPays, in_view, Empties, Idle, IsSharingOf, looked_own, took_front, missed, looked, took_back, back_half}
 use Rattle.parallel_shares.specs.Sharing.{put_down, LooksOwn, TakesFront, LooksAt, TakesBack, PutsDown, Exchanges}
 use Rattle.parallel_shares.proofs.Words.{start_of_packed, end_of_packed, within_packed}
-use Rattle.parallel_shares.proofs.Counts.{inside_within, inside_below, inside_cut, inside_nothing, inside_cells, inside_no_cells}
+use Rattle.parallel_shares.proofs.Counts.{inside_below, inside_nothing, inside_cells, inside_no_cells}
 use Rattle.parallel_shares.proofs.ListWrites.{each_set, in_ranges_push}
-use Rattle.parallel_shares.proofs.Openings.{at_end, in_order, within_units, length_opening, opening_is_state}
-use Rattle.parallel_shares.proofs.UnitsHandedOver.{unit_of_cell}
 use Rattle.parallel_shares.proofs.EventsMoveUnits.{cut_front, cut_back}
-use Rattle.parallel_shares.proofs.Totals.{total_append, total_set, total_two, total_put, set_get, is_same, same_once, times_dealt, times_range, in_ranges_append, both_empty}
+use Rattle.parallel_shares.proofs.Totals.{total_set, total_two, total_put, set_get, is_same, same_once}
 
 -- the table as the rule sees it
 abbrev Table : Type 0
 Table = State (Unit {0}) View
+
+-- the table with another word at a share, and another view at a seat
+abbrev written : Table → ℕ → ℕ → ℕ → View → Table
+written s share word id view =
+    record { words = set s.words share word; homes = s.homes; views = set s.views id view }
 
 -- an empty list is no list with an element
 not_empty : {A : Type 0} (xs : List A) (x : A) → xs ≡ x ∷ [] → ¬ (xs ≡ [])
@@ -147,11 +148,7 @@ module _ (sizes : Sizes) (sound : IsSound sizes) where
       → get_elem? s.views id ≡ some v → (share : ℕ)
       → w.claims ≡ v.claims → w.transit ≡ v.transit → w.owns ≡ v.owns → w.changes ≡ v.changes
       → ¬ (w.owns ≡ []) → Empties sizes s.words w
-      → IsSharingOf sizes (record {
-        words = set s.words share (get_or s.words share 0);
-        homes = s.homes;
-        views = set s.views id w;
-      })
+      → IsSharingOf sizes (written s share (get_or s.words share 0) id w)
   words_stay s k id v w e share claims transit owns same has empties =
       rw (set_get s.words share)
       (sharing_after s k id v w e s.words refl k.within
@@ -173,11 +170,7 @@ module _ (sizes : Sizes) (sound : IsSound sizes) where
       + in_view sizes c v)
       → ((c : ℕ) → sizes.cells ≤ c → in_ranges c claims ≡ in_ranges c v.claims)
       → ¬ (v.owns ≡ []) → (transit ≡ []) ⊎ SomeSplitPays sizes
-      → IsSharingOf sizes (record {
-        words = set s.words share left;
-        homes = s.homes;
-        views = set s.views id (took v claims transit word);
-      })
+      → IsSharingOf sizes (written s share left id (took v claims transit word))
   takes_units s k id v e share word left claims transit exists found some_left inner pays count past
       has carry =
       let there : share < length s.words = omega (arith, k.shares) in
@@ -211,11 +204,7 @@ module _ (sizes : Sizes) (sound : IsSound sizes) where
   exchanges : (slots id share index old new : ℕ) (me : Me (Unit {0}) View) (hit : View)
       → me.0.owns ≡ index ∷ []
       → ((s : Table) → IsSharingOf sizes s → get_elem? s.views id ≡ some me.0
-      → get_or s.words share 0 ≡ old → IsSharingOf sizes (record {
-        words = set s.words share new;
-        homes = s.homes;
-        views = set s.views id hit;
-      }))
+      → get_or s.words share 0 ≡ old → IsSharingOf sizes (written s share new id hit))
       → Allows (IsSharingOf sizes) slots id me share (λ n. either (n == old) new n)
       (Exchanges me old hit)
   exchanges slots id share index old new me hit owns keeps_rule s k h e b =
@@ -304,11 +293,7 @@ module _ (sizes : Sizes) (sound : IsSound sizes) where
 
     takes : (s : Table) → IsSharingOf sizes s → (id : ℕ) → get_elem? s.views id ≡ some v
         → get_or s.words share 0 ≡ word → IsSharingOf sizes
-        (record {
-          words = set s.words share next;
-          homes = s.homes;
-          views = set s.views id (took_front v word);
-        })
+        (written s share next id (took_front v word))
     takes s k id e found =
         takes_units s k id v e share word next (v.claims ++ claim_cells v.plan word ∷ []) v.transit
         exists found some_left
@@ -375,11 +360,7 @@ module _ (sizes : Sizes) (sound : IsSound sizes) where
 
     steals : (s : Table) → IsSharingOf sizes s → (id : ℕ) → get_elem? s.views id ≡ some v
         → get_or s.words share 0 ≡ word → IsSharingOf sizes
-        (record {
-          words = set s.words share left;
-          homes = s.homes;
-          views = set s.views id (took_back v word);
-        })
+        (written s share left id (took_back v word))
     steals s k id e found =
         takes_units s k id v e share word left v.claims (back_half word ∷ []) exists found not_none
         (within_packed sizes.units (start_of word) middle sound.units_fit (omega (arith, halves.0))
@@ -419,11 +400,7 @@ module _ (sizes : Sizes) (sound : IsSound sizes) where
     filling = packed units.start units.end
 
     fills : (s : Table) → IsSharingOf sizes s → (id : ℕ) → get_elem? s.views id ≡ some v
-        → IsSharingOf sizes (record {
-          words = set s.words index filling;
-          homes = s.homes;
-          views = set s.views id (put_down v index filling);
-        })
+        → IsSharingOf sizes (written s index filling id (put_down v index filling))
     fills s k id e =
         let there : index < length s.words = omega (arith, k.shares) in
         let fit : units.end ≤ 65535 = omega (arith, inner, sound.units_fit) in
