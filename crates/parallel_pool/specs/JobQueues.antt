@@ -3,5 +3,5 @@ use Rattle.std.specs.Prelude.{ℕ, vec_len}
 use Rattle.parallel_pool.specs.declared.rayon.job_queues.JobQueues.{JobQueues}
 
 -- for how many workers the queues are
-abbrev pub workers_of : {T : Type 0} → JobQueues T → ℕ
-workers_of queues = vec_len queues.deques
+abbrev pub worker_count : {T : Type 0} → JobQueues T → ℕ
+worker_count queues = vec_len queues.deques

@@ -16,7 +16,7 @@ use std::sync::Arc;
 
 /// The queues of a pool: one for the injected jobs, and for each worker a broadcast queue and a
 /// deque of its own. Each is numbered for itself. Contracts name the number of workers by
-/// `workers_of`.
+/// `worker_count`.
 #[derive(Drop)]
 pub struct JobQueues<T: Drop = OwnedJob> {
     injected: Arc<Inlet<T>, Global>,
@@ -101,7 +101,7 @@ fn thief_passes<T: Drop>(alloc: Global, deques: &[Thief<T>]) -> Result<Vec<Thief
 
 impl<T: Drop> JobQueues<T> {
     ghost use Rattle.std.specs.NonZero.{non_zero_usize_get};
-    ghost use Rattle.parallel_pool.specs.JobQueues.{workers_of};
+    ghost use Rattle.parallel_pool.specs.JobQueues.{worker_count};
     ghost use Rattle.parallel_pool.specs.JobSeat.{IsFreshSeat};
 
     /// Empty queues for so many workers, and the workers' own deques, in order.
@@ -109,7 +109,7 @@ impl<T: Drop> JobQueues<T> {
         alloc: Global,
         workers: NonZeroUsize,
     ) -> Result<(JobQueues<T>, Vec<JobDeque<T>>), Fault>
-        ensures workers { IfOk result (λ made. workers_of made.0 ≡ non_zero_usize_get workers) }
+        ensures workers { IfOk result (λ made. worker_count made.0 ≡ non_zero_usize_get workers) }
         ensures count { IfOk result (λ made. vec_len made.1 ≡ non_zero_usize_get workers) }
         ensures fresh { IfOk result (λ made. All (λ view. view ≡ new_pass) made.1.items) }
         ensures fault { IsMemoryOnErr result }
@@ -129,7 +129,7 @@ impl<T: Drop> JobQueues<T> {
     /// A seat for one thread, which has seen nothing yet. No pool stands over the queues, so
     /// nothing is counted and nobody woken.
     pub fn seat(&self, alloc: Global) -> Result<JobSeat<T>, Fault>
-        ensures seat { IfOk result (λ seat. IsFreshSeat (workers_of self.now) seat) }
+        ensures seat { IfOk result (λ seat. IsFreshSeat (worker_count self.now) seat) }
         ensures fault { IsMemoryOnErr result }
     {
         let injected = InletPort::new(Arc::try_clone(&self.injected)?);
