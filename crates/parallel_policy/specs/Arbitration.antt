@@ -1,4 +1,4 @@
--- one choice between a path that is preferred and one that loses
+-- One choice between a path that is preferred and one that loses.
 use Rattle.std.specs.Prelude.{◌≢◌, ℕ, ◌+◌, ◌-◌, ◌*◌, ◌/◌, ◌%◌, ◌^◌, ◌<◌, min, max, Bool, true, cond, nat_le, ◌==◌}
 
 -- two paths, the time of each, and whether the one that loses may be probed

@@ -1,4 +1,4 @@
--- a call that is decided by a policy's choice, and measured
+-- A call that is decided by a policy's choice, and measured.
 use Rattle.std.specs.Prelude.{◌≡◌, ℕ, ◌-◌, Bool, Ok, Err, Result, MatchBool}
 use Rattle.std.specs.Borrow.{MutBor}
 use Rattle.std.specs.Fn.{Once, Mut, Called}

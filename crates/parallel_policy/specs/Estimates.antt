@@ -1,4 +1,4 @@
--- what samples of one kind say, in nanoseconds
+-- What samples of one kind say, in nanoseconds.
 use Rattle.std.specs.Prelude.{ℕ, ◌+◌, ◌*◌, ◌/◌, Option, Some, None, List, [], ◌∷◌}
 
 -- an old estimate and a sample, weighed four to one and rounded down

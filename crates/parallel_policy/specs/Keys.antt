@@ -1,4 +1,4 @@
--- by what the policy tells calls apart
+-- By what the policy tells calls apart.
 use Rattle.std.specs.Prelude.{ℕ, ◌+◌, ◌-◌, ◌*◌, ◌^◌, Bool, nat_eq, ◌==◌, ◌&&◌, bit_xor}
 use Rattle.std.specs.Int.{w64, leading_zeros}
 use Rattle.std.specs.Cmp.Lexicographic.{pointwise}

@@ -1,4 +1,4 @@
--- what holds of every history of runs
+-- What holds of every history of runs.
 use Rattle.std.specs.Prelude.{◌≡◌, ◌⊎◌, ℕ, ◌+◌, ◌≤◌, true, [], ◌∷◌, ◌++◌}
 use Rattle.parallel_policy.specs.declared.history.RunEvent.TheVariants.{Chosen, Sampled}
 use Rattle.parallel_policy.specs.Runs.{RunHistory, run_choice}

@@ -1,4 +1,3 @@
--- What the contracts of the policy cite.
 pub mod Entries
 pub mod Estimates
 pub mod Arbitration

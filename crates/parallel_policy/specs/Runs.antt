@@ -1,4 +1,4 @@
--- serial or parallel, by the history of a key's entry
+-- Serial or parallel, by the history of a key's entry.
 use Rattle.std.specs.Prelude.{◌≡◌, ℕ, ◌-◌, ◌*◌, ◌^◌, min, Bool, true, cond, not, ◌||◌, nat_le, nat_lt, Option, Some, None, List, [], ◌∷◌}
 use Rattle.parallel_policy.specs.declared.history.RunEvent.{RunEvent}
 use Rattle.parallel_policy.specs.declared.history.RunEvent.TheVariants.{Chosen, Sampled}

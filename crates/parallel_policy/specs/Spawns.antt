@@ -1,4 +1,4 @@
--- inline or offloaded, by the history of a key's entry
+-- Inline or offloaded, by the history of a key's entry.
 use Rattle.std.specs.Prelude.{◌≡◌, ℕ, min, Bool, true, cond, nat_lt, Option, Some, None, List, [], ◌∷◌, unwrap_or}
 use Rattle.parallel_policy.specs.declared.history.SpawnEvent.{SpawnEvent}
 use Rattle.parallel_policy.specs.declared.history.SpawnEvent.TheVariants.{Chosen, Sampled}

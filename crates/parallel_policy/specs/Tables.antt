@@ -1,4 +1,4 @@
--- a policy's entries, by their keys
+-- A policy's entries, by their keys.
 use Rattle.std.specs.Prelude.{◌≡◌, ◌⊎◌, ℕ, Bool, false, Option, unwrap_or, IsSome, ◌∷◌}
 use Rattle.std.specs.HashMap.{get}
 use Rattle.parallel_policy.specs.declared.execution.RunExecution.{RunExecution}

@@ -5,28 +5,30 @@ use lib.ListN.{get_elem?}
 use Rattle.atomic_table.specs.Table.{State, Me, Allows, Splits, Joins, keeps}
 use Rattle.atomic_table.proofs.Lists.{at_set}
 use Rattle.parallel_pool.specs.declared.latch.count_share.ShareView.{ShareView}
-use Rattle.parallel_pool.specs.CountHistory.{share_view, telling, hearing, stranger, FitsShare, CountsAs, IsCountOf, Given, Longer, SameShare}
-use Rattle.parallel_pool.proofs.Beginnings.{longest}
+use Rattle.parallel_pool.specs.Histories.{Longer}
+use Rattle.parallel_pool.specs.CountHistory.{share_view, telling_gives, hearing_gives, stranger, FitsShare, CountsAs, IsCountOf, Given, SameShare}
+use Rattle.parallel_pool.proofs.HistoryBeginnings.{longest}
 use Rattle.parallel_pool.proofs.CountSteps.{held, held_set, held_more, all_set, all_more}
 
 -- a new seat, which has no share and has seen the gives that another has seen, keeps the rule
 pub tells : (n id : ℕ) (v : ShareView)
-    → Splits (λ (s : State (Unit {0}) ShareView). IsCountOf n s.words s.views) id v v (telling v)
+    → Splits (λ (s : State (Unit {0}) ShareView). IsCountOf n s.words s.views) id v v
+    (telling_gives v)
 tells n id v s h at =
     let log : List ℕ = h.0 in
     let kept : CountsAs n log s.words s.views = h.1 in
     let mine : FitsShare n log id v = kept.fits id v at in
     let views : List ShareView = set s.views id v in
     let less : held views + v.unspent ≡ held s.views + v.unspent = held_set s.views id v v at in
-    let same : held (views ++ telling v ∷ []) ≡ held s.views =
-    omega (arith, held_more views (telling v), less) in
+    let same : held (views ++ telling_gives v ∷ []) ≡ held s.views =
+    omega (arith, held_more views (telling_gives v), less) in
     let long : length views ≡ length s.views = length-set s.views id v in (
       log,
       record {
         word = kept.word ∙ ap (λ k. k ∷ []) (sym same);
         left = omega (arith, same, kept.left);
         fits =
-            all_more (FitsShare n log) views (telling v)
+            all_more (FitsShare n log) views (telling_gives v)
             (record {
               seen = mine.seen;
               heard = (log, refl);
@@ -34,7 +36,8 @@ tells n id v s h at =
               fresh = λ none. absurd (omega arith);
             })
             (all_set (FitsShare n log) s.views id v mine (λ by u ne there. kept.fits by u there));
-        beyond = λ by far. kept.beyond by (omega (arith, length-append views (telling v ∷ [])));
+        beyond = λ by far. kept.beyond by
+            (omega (arith, length-append views (telling_gives v ∷ [])));
         once = kept.once;
       },
     )
@@ -42,11 +45,11 @@ tells n id v s h at =
 -- a share hears a seat that has no share, which is dropped
 pub hears : (n id : ℕ) (v : ShareView) (other : ℕ) (w : ShareView) → w.unspent ≡ 0
     → Joins (λ (s : State (Unit {0}) ShareView). IsCountOf n s.words s.views) id v other w
-    (hearing v w) stranger
+    (hearing_gives v w) stranger
 hears n id v other w none s h at two at' =
     let log : List ℕ = h.0 in
     let kept : CountsAs n log s.words s.views = h.1 in
-    let both : ShareView = hearing v w in
+    let both : ShareView = hearing_gives v w in
     let views : List ShareView = set s.views id both in
     let was : get_elem? s.views other ≡ some w =
     ⊎_elim (λ x. absurd (two x.0)) (λ x. x.1) (at_set s.views id other both w at') in

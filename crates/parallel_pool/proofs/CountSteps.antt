@@ -1,6 +1,6 @@
 -- Each step of a count latch keeps its rule.
 use Rattle.std.proofs.Common.{◌≡◌, ◌≢◌, ℕ, ◌+◌, ◌-◌, ◌%◌, ◌^◌, ◌≤◌, ◌<◌, ◌==◌, cond, List, [], ◌∷◌, ◌++◌, length, set, slice_index, sum_by, refl, sym, ap}
-use Rattle.std.proofs.Common.{subst, ◌∙◌, ⊎_elim, append_assoc, append-nil, arith, eq-eqb, ne_eqb, length-set, length-append}
+use Rattle.std.proofs.Common.{subst, ◌∙◌, ⊎_elim, append-nil, arith, eq-eqb, ne_eqb, length-set, length-append}
 use Rattle.std.proofs.lemmas.List.Sums.{sum_by-set, sum_by-append}
 use Rattle.std.proofs.Math.Nat.{add-mod_right, mod-eq_of_lt}
 use mathlib.Core.Option.{some}
@@ -10,8 +10,9 @@ use native.Mathlib.Decide.{ℕ_discrete}
 use Rattle.atomic_table.specs.Table.{State, Me, Allows, Splits, Enters, keeps}
 use Rattle.atomic_table.proofs.Lists.{at_set}
 use Rattle.parallel_pool.specs.declared.latch.count_share.ShareView.{ShareView}
-use Rattle.parallel_pool.specs.CountHistory.{share_view, one_less, one_share, times_given, GoesOn, FitsShare, CountsAs, IsCountOf, CountsFrom, Sees}
-use Rattle.parallel_pool.proofs.Places.{within, at_end, at_get}
+use Rattle.parallel_pool.specs.CountHistory.{share_view, one_less, one_share, times_given, FitsShare, CountsAs, IsCountOf, CountsFrom, Sees}
+use Rattle.parallel_pool.proofs.HistoryBeginnings.{begins_on}
+use Rattle.parallel_pool.proofs.ListLookups.{within, at_end, at_get}
 
 -- how many shares the seats hold
 abbrev pub held : List ShareView → ℕ
@@ -42,10 +43,6 @@ times_other by other log ne =
     sum_by-append (λ n. cond (n == other) 1 0) log (by ∷ [])
     ∙ (ap (λ b. times_given other log + (0 + cond b 1 0)) (ne_eqb by other (λ e. ne (sym e)))
     ∙ omega arith)
-
--- a history that goes on goes on from what the shorter one went on from
-goes_on : (log seen more : List ℕ) → GoesOn log seen → GoesOn (log ++ more) seen
-goes_on log seen more g = (g.0 ++ more, ap (λ l. l ++ more) g.1 ∙ append_assoc seen g.0 more)
 
 -- a word that isn't 0 goes down by one
 counted_down : (n : ℕ) → 0 < n → n < 2 ^ 64 → (n + (2 ^ 64 - 1)) % 2 ^ 64 ≡ n - 1
@@ -103,7 +100,8 @@ gives n slots id me whole s h homes at small =
     let positive : 0 < held s.views = omega (arith, less, whole) in
     let fits : held s.views < 2 ^ 64 = subst (λ k. k < 2 ^ 64) found small in
     let of : me.0.of ≡ n = mine.of left' in
-    let once : (by : ℕ) → times_given by (log ++ id ∷ []) ≤ 1 = given_once id log fresh kept.once in (
+    let once : (by : ℕ) → times_given by (log ++ id ∷ []) ≤ 1 =
+    given_once id log fresh kept.once in (
       w,
       keeps,
       tt,
@@ -124,8 +122,8 @@ gives n slots id me whole s h homes at small =
               })
               (λ by v ne there. let old = kept.fits by v there in
               record {
-                seen = goes_on log v.seen (id ∷ []) old.seen;
-                heard = goes_on log v.heard (id ∷ []) old.heard;
+                seen = begins_on log v.seen (id ∷ []) old.seen;
+                heard = begins_on log v.heard (id ∷ []) old.heard;
                 of = old.of;
                 fresh = λ may. times_other id by log ne ∙ old.fresh may;
               });

@@ -4,7 +4,7 @@ use Rattle.std.proofs.Common.{subst, ◌∙◌, Option, Some, None, Result, Ok, 
 use Rattle.parallel_pool.specs.declared.rayon.job_history.JobView.{JobView}
 use Rattle.parallel_pool.specs.declared.rayon.queue.Queue.{Queue}
 use Rattle.parallel_pool.specs.declared.rayon.queue.Queue.TheVariants.{Injected, Broadcast, Deque}
-use Rattle.parallel_pool.specs.JobHistory.{newcomer, HasPushed}
+use Rattle.parallel_pool.specs.JobHistory.{new_pass, HasPushed}
 use Rattle.parallel_pool.specs.JobSeat.{SeatView, view_of, with_view, Does, PushesFrom}
 
 module _ {T : Type 0} where
@@ -20,14 +20,14 @@ module _ {T : Type 0} where
   same_again (Broadcast i) s =
       λ k. record {
         injected = s.injected;
-        broadcasts = set_read s.broadcasts i newcomer k;
+        broadcasts = set_read s.broadcasts i new_pass k;
         deques = s.deques;
       }
   same_again (Deque i) s =
       λ k. record {
         injected = s.injected;
         broadcasts = s.broadcasts;
-        deques = set_read s.deques i newcomer k;
+        deques = set_read s.deques i new_pass k;
       }
 
   -- what one pass is told of a take, for the whole seat

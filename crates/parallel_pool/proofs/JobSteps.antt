@@ -1,6 +1,6 @@
 -- Each push to a queue of jobs and each take from it keeps the history's rule.
 use Rattle.std.proofs.Common.{◌≡◌, ◌≢◌, ℕ, ◌+◌, ◌<◌, ◌≤◌, ◌==◌, Bool, true, false, cond, List, [], ◌∷◌, ◌++◌, length, set, map, refl, sym, ap, subst, ◌∙◌}
-use Rattle.std.proofs.Common.{⊎_elim, append_assoc, append-nil, arith, eq-eqb, ne_eqb, length-set, length-append, Option, Some, None, Result, Ok, Err}
+use Rattle.std.proofs.Common.{⊎_elim, append-nil, arith, eq-eqb, ne_eqb, length-set, length-append, Option, Some, None, Result, Ok, Err}
 use Rattle.std.proofs.Common.{MatchOption, MatchResult}
 use mathlib.Core.Logic.{dite}
 use native.Mathlib.Decide.{ℕ_discrete}
@@ -16,9 +16,10 @@ use Rattle.parallel_pool.specs.declared.rayon.job_history.Deed.{Deed}
 use Rattle.parallel_pool.specs.declared.rayon.job_history.Deed.TheVariants.{Push, TakeFirst, TakeLast}
 use Rattle.parallel_pool.specs.declared.rayon.job_history.Event.{Event}
 use Rattle.parallel_pool.specs.declared.rayon.job_history.JobView.{JobView}
-use Rattle.parallel_pool.specs.JobHistory.{Lineup, event, job_view, newcomer, opening, Moves, Leads, events_of, FitsJobs, IsJobHistoryOf, one_push, one_take}
+use Rattle.parallel_pool.specs.JobHistory.{Lineup, event, job_view, new_pass, no_jobs, DeedMoves, DeedsLead, events_by, FitsJobs, IsJobHistoryOf, one_push, one_take}
 use Rattle.parallel_pool.specs.JobHistory.{times_pushed, times_taken, IsEachOnce, Extends, HasPushed, HasTaken}
-use Rattle.parallel_pool.proofs.Places.{within, at_end}
+use Rattle.parallel_pool.proofs.HistoryBeginnings.{begins_on}
+use Rattle.parallel_pool.proofs.ListLookups.{within, at_end}
 
 none_either : (b : Bool) → cond {A = ℕ} b 0 0 ≡ 0
 none_either true = refl
@@ -26,10 +27,10 @@ none_either false = refl
 
 module _ {T : Type 0} where
   -- a history with one deed more leads on
-  leads_on : (s : Lineup T) (log : List (Event T)) (e : Event T) (m t : Lineup T) → Leads s log m
-      → Moves e.deed e.number e.job m t → Leads s (log ++ e ∷ []) t
+  leads_on : (s : Lineup T) (log : List (Event T)) (e : Event T) (m t : Lineup T)
+      → DeedsLead s log m → DeedMoves e.deed e.number e.job m t → DeedsLead s (log ++ e ∷ []) t
   leads_on s [] e m t same moves =
-      (t, subst (λ (x : Lineup T). Moves e.deed e.number e.job x t) (sym same) moves, refl)
+      (t, subst (λ (x : Lineup T). DeedMoves e.deed e.number e.job x t) (sym same) moves, refl)
   leads_on s (x ∷ xs) e m t leads moves =
       (leads.0, leads.1, leads_on leads.0 xs e m t leads.2 moves)
 
@@ -44,9 +45,10 @@ module _ {T : Type 0} where
   left_more number (q ∷ qs) p = let h = left_more number qs p in omega (arith, h)
 
   -- a deed keeps count of a number: what was there or pushed is taken or there
-  counts_one : (number : ℕ) (deed : Deed) (n : ℕ) (job : T) (s t : Lineup T) → Moves deed n job s t
-      → times_left number s.left + cond (n == number) (one_push deed) 0 ≡ cond (n == number)
-      (one_take deed) 0 + times_left number t.left
+  counts_one : (number : ℕ) (deed : Deed) (n : ℕ) (job : T) (s t : Lineup T)
+      → DeedMoves deed n job s t
+      → times_left number s.left + cond (n == number) (one_push deed) 0
+      ≡ cond (n == number) (one_take deed) 0 + times_left number t.left
   counts_one number Push n job s t moves =
       let e : times_left number t.left ≡ times_left number (s.left ++ (n, job) ∷ []) =
       ap (times_left number) moves.2 in
@@ -60,7 +62,7 @@ module _ {T : Type 0} where
       ap (times_left number) moves.1 in
       omega (arith, e, left_more number t.left (n, job), none_either (n == number))
 
-  counts : (number : ℕ) (s : Lineup T) (log : List (Event T)) (t : Lineup T) → Leads s log t
+  counts : (number : ℕ) (s : Lineup T) (log : List (Event T)) (t : Lineup T) → DeedsLead s log t
       → times_left number s.left + times_pushed number log ≡ times_taken number log + times_left
       number t.left
   counts number s [] t same =
@@ -72,21 +74,21 @@ module _ {T : Type 0} where
       let rest = counts number leads.0 xs t leads.2 in omega (arith, one, rest)
 
   -- no deed takes the next number back
-  goes_up : (deed : Deed) (n : ℕ) (job : T) (s t : Lineup T) → Moves deed n job s t
+  goes_up : (deed : Deed) (n : ℕ) (job : T) (s t : Lineup T) → DeedMoves deed n job s t
       → s.next ≤ t.next
   goes_up Push n job s t moves = omega (arith, moves.1)
   goes_up TakeFirst n job s t moves = omega (arith, moves.0)
   goes_up TakeLast n job s t moves = omega (arith, moves.0)
 
   -- a push gives no number below the next one
-  not_below : (number : ℕ) (deed : Deed) (n : ℕ) (job : T) (s t : Lineup T) → Moves deed n job s t
-      → number < s.next → cond (n == number) (one_push deed) 0 ≡ 0
+  not_below : (number : ℕ) (deed : Deed) (n : ℕ) (job : T) (s t : Lineup T)
+      → DeedMoves deed n job s t → number < s.next → cond (n == number) (one_push deed) 0 ≡ 0
   not_below number Push n job s t moves below = ap (λ b. cond {A = ℕ} b 1 0)
       (ne_eqb n number (λ e. absurd (omega (arith, e, moves.0, below))))
   not_below number TakeFirst n job s t moves below = none_either (n == number)
   not_below number TakeLast n job s t moves below = none_either (n == number)
 
-  none_below : (number : ℕ) (s : Lineup T) (log : List (Event T)) (t : Lineup T) → Leads s log t
+  none_below : (number : ℕ) (s : Lineup T) (log : List (Event T)) (t : Lineup T) → DeedsLead s log t
       → number < s.next → times_pushed number log ≡ 0
   none_below number s [] t same below = refl
   none_below number s (x ∷ xs) t leads below =
@@ -97,7 +99,7 @@ module _ {T : Type 0} where
 
   -- a push of a number is the only one
   only_push : (number : ℕ) (deed : Deed) (n : ℕ) (job : T) (s t : Lineup T) (rest : ℕ)
-      → Moves deed n job s t → (number < t.next → rest ≡ 0) → rest ≤ 1
+      → DeedMoves deed n job s t → (number < t.next → rest ≡ 0) → rest ≤ 1
       → cond (n == number) (one_push deed) 0 + rest ≤ 1
   only_push number Push n job s t rest moves none few = dite (ℕ_discrete n number)
       (λ e. let none' : rest ≡ 0 = none (omega (arith, e, moves.0, moves.1)) in let b : cond {A = ℕ}
@@ -110,7 +112,7 @@ module _ {T : Type 0} where
   only_push number TakeLast n job s t rest moves none few =
       omega (arith, none_either (n == number), few)
 
-  one_pushed : (number : ℕ) (s : Lineup T) (log : List (Event T)) (t : Lineup T) → Leads s log t
+  one_pushed : (number : ℕ) (s : Lineup T) (log : List (Event T)) (t : Lineup T) → DeedsLead s log t
       → times_pushed number log ≤ 1
   one_pushed number s [] t same = omega arith
   one_pushed number s (x ∷ xs) t leads = only_push number x.deed x.number x.job s leads.0
@@ -118,38 +120,38 @@ module _ {T : Type 0} where
       (one_pushed number leads.0 xs t leads.2)
 
   -- in a history of a queue, each job that was taken was pushed, and none was pushed or taken twice
-  pub each_once : (log : List (Event T)) (t : Lineup T) → Leads opening log t → IsEachOnce log
+  pub each_once : (log : List (Event T)) (t : Lineup T) → DeedsLead no_jobs log t → IsEachOnce log
   each_once log t leads number =
-      let c = counts number opening log t leads in
-      (omega (arith, c), one_pushed number opening log t leads)
+      let c = counts number no_jobs log t leads in
+      (omega (arith, c), one_pushed number no_jobs log t leads)
 
-  events_of-append : (by : ℕ) (xs ys : List (Event T))
-      → events_of by (xs ++ ys) ≡ events_of by xs ++ events_of by ys
-  events_of-append by [] ys = refl
-  events_of-append by (x ∷ xs) ys =
-      elim (x.by == by) as (λ b. cond b (x ∷ events_of by (xs ++ ys))
-      (events_of by (xs ++ ys)) ≡ cond b (x ∷ events_of by xs)
-      (events_of by xs) ++ events_of by ys) [
-        | true ↦ ap (λ l. x ∷ l) (events_of-append by xs ys)
-        | false ↦ events_of-append by xs ys
+  events_by-append : (by : ℕ) (xs ys : List (Event T))
+      → events_by by (xs ++ ys) ≡ events_by by xs ++ events_by by ys
+  events_by-append by [] ys = refl
+  events_by-append by (x ∷ xs) ys =
+      elim (x.by == by) as (λ b. cond b (x ∷ events_by by (xs ++ ys))
+      (events_by by (xs ++ ys)) ≡ cond b (x ∷ events_by by xs)
+      (events_by by xs) ++ events_by by ys) [
+        | true ↦ ap (λ l. x ∷ l) (events_by-append by xs ys)
+        | false ↦ events_by-append by xs ys
       ]
 
   -- a deed is one of its pass, and of no other
-  events_of-own : (by : ℕ) (e : Event T) (xs : List (Event T)) → e.by ≡ by
-      → events_of by (xs ++ e ∷ []) ≡ events_of by xs ++ e ∷ []
-  events_of-own by e xs same = events_of-append by xs (e ∷ [])
-      ∙ ap (λ b. events_of by xs ++ cond b (e ∷ []) []) (eq-eqb e.by by same)
+  events_by-own : (by : ℕ) (e : Event T) (xs : List (Event T)) → e.by ≡ by
+      → events_by by (xs ++ e ∷ []) ≡ events_by by xs ++ e ∷ []
+  events_by-own by e xs same = events_by-append by xs (e ∷ [])
+      ∙ ap (λ b. events_by by xs ++ cond b (e ∷ []) []) (eq-eqb e.by by same)
 
-  events_of-other : (other : ℕ) (e : Event T) (xs : List (Event T)) → e.by ≢ other
-      → events_of other (xs ++ e ∷ []) ≡ events_of other xs
-  events_of-other other e xs ne = events_of-append other xs (e ∷ [])
-      ∙ (ap (λ b. events_of other xs ++ cond b (e ∷ []) []) (ne_eqb e.by other ne)
-      ∙ append-nil (events_of other xs))
+  events_by-other : (other : ℕ) (e : Event T) (xs : List (Event T)) → e.by ≢ other
+      → events_by other (xs ++ e ∷ []) ≡ events_by other xs
+  events_by-other other e xs ne = events_by-append other xs (e ∷ [])
+      ∙ (ap (λ b. events_by other xs ++ cond b (e ∷ []) []) (ne_eqb e.by other ne)
+      ∙ append-nil (events_by other xs))
 
   -- a deed of the pass `id` keeps the rule, and tells what the pass has seen
   grows : (items after : List T) (views : List (JobView T)) (id : ℕ) (v : JobView T) (e : Event T)
       → e.by ≡ id → get_elem? views id ≡ some v
-      → (h : IsJobHistoryOf items views) → (t : Lineup T) → Moves e.deed e.number e.job h.1 t
+      → (h : IsJobHistoryOf items views) → (t : Lineup T) → DeedMoves e.deed e.number e.job h.1 t
       → map (λ (p : ℕ × T). p.1) t.left ≡ after
       → (w : JobView T) × IsJobHistoryOf after (set views id w) × Extends v e w
   grows items after views id v e by at h t moves same =
@@ -157,9 +159,9 @@ module _ {T : Type 0} where
       let mine : FitsJobs log id v = h.4 id v at in
       let all : List (Event T) = log ++ e ∷ [] in
       let w : JobView T = job_view all (v.own ++ e ∷ []) in
-      let own : events_of id all ≡ v.own ++ e ∷ [] = events_of-own id e log by
+      let own : events_by id all ≡ v.own ++ e ∷ [] = events_by-own id e log by
       ∙ ap (λ l. l ++ e ∷ []) mine.1 in
-      let leads : Leads opening all t = leads_on opening log e h.1 t h.2 moves in
+      let leads : DeedsLead no_jobs all t = leads_on no_jobs log e h.1 t h.2 moves in
       let long : length (set views id w) ≡ length views = length-set views id w in
       let here : id < length views = within views id v at in (
         w,
@@ -173,15 +175,11 @@ module _ {T : Type 0} where
               (λ i. (sym x.0 i, x.1 i)) (([], sym (append-nil all)), own))
               (λ (x : (other ≢ id) × (get_elem? views other ≡ some u)).
               let old : FitsJobs log other u = h.4 other u x.1 in (
-                (
-                  old.0.0 ++ e ∷ [],
-                  ap (λ l. l ++ e ∷ []) old.0.1
-                      ∙ append_assoc u.seen old.0.0 (e ∷ []),
-                ),
-                events_of-other other e log (λ q. x.0 (sym q ∙ by)) ∙ old.1,
+                begins_on log u.seen (e ∷ []) old.0,
+                events_by-other other e log (λ q. x.0 (sym q ∙ by)) ∙ old.1,
               ))
               (at_set views id other w u there)),
-          (λ other far. events_of-other other e log
+          (λ other far. events_by-other other e log
               (λ q. absurd (omega (arith, q, by, far, long, here)))
               ∙ h.5 other (omega (arith, far, long))),
         ),
@@ -191,7 +189,7 @@ module _ {T : Type 0} where
           ends = refl;
           legal = (t, leads);
           own = refl;
-          all = ap (λ k. events_of k all) by ∙ own;
+          all = ap (λ k. events_by k all) by ∙ own;
           once = each_once all t leads;
         },
       )
@@ -271,7 +269,7 @@ module _ {T : Type 0} where
       )
 
   -- a new pass, which has seen nothing, keeps the rule
-  pub admits : Admits (IsJobHistoryOf {T = T}) newcomer
+  pub admits : Admits (IsJobHistoryOf {T = T}) new_pass
   admits items views h = (
     h.0,
     h.1,
@@ -279,25 +277,25 @@ module _ {T : Type 0} where
     h.3,
     (λ by v e. ⊎_elim
         (λ (t : get_elem? views by ≡ some v). h.4 by v t)
-        (λ (t : (by ≡ length views) × (newcomer ≡ v)). subst
+        (λ (t : (by ≡ length views) × (new_pass ≡ v)). subst
         (λ (x : JobView T). FitsJobs h.0 by x) t.1 ((h.0, refl), h.5 by (omega (arith, t.0))))
-        (at_end views newcomer v by e)),
-    (λ by far. h.5 by (omega (arith, far, length-append views (newcomer ∷ [])))),
+        (at_end views new_pass v by e)),
+    (λ by far. h.5 by (omega (arith, far, length-append views (new_pass ∷ [])))),
   )
 
   -- a queue to which nothing was pushed keeps the rule
-  pub opens : IsJobHistoryOf {T = T} [] (newcomer ∷ [])
+  pub opens : IsJobHistoryOf {T = T} [] (new_pass ∷ [])
   opens = (
     [],
-    opening,
+    no_jobs,
     refl,
     refl,
     (λ by v e. ⊎_elim
         (λ (t : get_elem? (let none : List (JobView T) = [] in none) by ≡ some v). absurd
         (some-ne-none v (sym t)))
-        (λ (t : (by ≡ 0) × (newcomer ≡ v)). subst (λ (x : JobView T). FitsJobs [] by x) t.1
+        (λ (t : (by ≡ 0) × (new_pass ≡ v)). subst (λ (x : JobView T). FitsJobs [] by x) t.1
         (([], refl), refl))
-        (at_end [] newcomer v by e)),
+        (at_end [] new_pass v by e)),
     (λ by far. refl),
   )
 

@@ -6,17 +6,18 @@ use Rattle.atomic_table.specs.Table.{State, Me, Allows, Joins, keeps}
 use Rattle.atomic_table.proofs.Lists.{at_set}
 use Rattle.parallel_pool.specs.declared.latch.history.Call.{Call}
 use Rattle.parallel_pool.specs.declared.latch.history.View.{View}
+use Rattle.parallel_pool.specs.Histories.{Begins, Longer}
 use Rattle.parallel_pool.specs.LatchMoves.{unset, latched, phase_from, phase_after}
-use Rattle.parallel_pool.specs.LatchHistory.{view, newcomer, hearing, Begins, Fits, IsHistoryOf, Longer}
-use Rattle.parallel_pool.proofs.Beginnings.{longest}
+use Rattle.parallel_pool.specs.LatchHistory.{view, newcomer, hearing, FitsLatch, IsHistoryOf}
+use Rattle.parallel_pool.proofs.HistoryBeginnings.{longest}
 use Rattle.parallel_pool.proofs.LatchSteps.{phase_from-append, set_stays}
 
 -- the views of all seats, where one has changed
-all_set : (log : List Call) (views : List View) (id : ℕ) (w : View) → Fits log id w
-    → ((by : ℕ) (v : View) → get_elem? views by ≡ some v → Fits log by v) → (by : ℕ) (v : View)
-    → get_elem? (set views id w) by ≡ some v → Fits log by v
+all_set : (log : List Call) (views : List View) (id : ℕ) (w : View) → FitsLatch log id w
+    → ((by : ℕ) (v : View) → get_elem? views by ≡ some v → FitsLatch log by v) → (by : ℕ) (v : View)
+    → get_elem? (set views id w) by ≡ some v → FitsLatch log by v
 all_set log views id w mine others by v e = ⊎_elim
-    (λ (t : (by ≡ id) × (w ≡ v)). subst (λ (x : ℕ × View). Fits log x.0 x.1)
+    (λ (t : (by ≡ id) × (w ≡ v)). subst (λ (x : ℕ × View). FitsLatch log x.0 x.1)
     (λ i. (sym t.0 i, t.1 i)) mine)
     (λ (t : (by ≢ id) × (get_elem? views by ≡ some v)). others by v t.1)
     (at_set views id by w v e)
@@ -31,8 +32,8 @@ hears id v other w new s h at two at' =
     let views : List View = set s.views id both in
     let was : get_elem? s.views other ≡ some w =
     ⊎_elim (λ x. absurd (two x.0)) (λ x. x.1) (at_set s.views id other both w at') in
-    let mine : Fits log id v = h.2 id v at in
-    let theirs : Fits log other w = h.2 other w was in (
+    let mine : FitsLatch log id v = h.2 id v at in
+    let theirs : FitsLatch log other w = h.2 other w was in (
       log,
       h.1,
       all_set log views other newcomer ((log, refl), (log, refl), theirs.2 ∙ new)
@@ -51,7 +52,7 @@ pub learns : (slots id : ℕ) (me : Me (Unit {0}) View)
     × (after.1 ≡ me.1))
 learns slots id me s h homes at small =
     let log : List Call = h.0 in
-    let fits : Fits log id me.0 = h.2 id me.0 at in
+    let fits : FitsLatch log id me.0 = h.2 id me.0 at in
     let long = longest log me.0.seen me.0.heard fits.0 fits.1 in
     let w : View = view long.0 me.0.own in (
       w,

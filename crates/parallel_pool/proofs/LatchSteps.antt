@@ -1,6 +1,6 @@
 -- Each step of a core latch keeps its rule, and what a step found is the phase of its history.
 use Rattle.std.proofs.Common.{◌≡◌, ◌≢◌, ℕ, ◌<◌, ◌==◌, Bool, true, false, cond, List, [], ◌∷◌, ◌++◌, length, set, slice_index, refl, sym, ap, subst, ◌∙◌, ⊎_elim}
-use Rattle.std.proofs.Common.{append_assoc, append-nil, arith, eq-eqb, rules, ne_eqb, IsTrue, ◌↔◌, length-set, length-append}
+use Rattle.std.proofs.Common.{append-nil, arith, eq-eqb, rules, ne_eqb, IsTrue, ◌↔◌, length-set, length-append}
 use mathlib.Core.Option.{some, some-ne-none}
 use lib.ListN.{get_elem?}
 use prog.Atomic.{either}
@@ -11,8 +11,10 @@ use Rattle.parallel_pool.specs.declared.latch.history.Act.TheVariants.{GetSleepy
 use Rattle.parallel_pool.specs.declared.latch.history.Call.{Call}
 use Rattle.parallel_pool.specs.declared.latch.history.View.{View}
 use Rattle.parallel_pool.specs.LatchMoves.{Phase, unset, sleepy, sleeping, latched, word_of, moved, phase_from, phase_after, is_unset, is_sleepy, is_sleeping, is_latched}
-use Rattle.parallel_pool.proofs.Places.{within, at_end}
-use Rattle.parallel_pool.specs.LatchHistory.{call, view, newcomer, acts_of, Begins, Fits, IsHistoryOf, Called, HasSeenSet}
+use Rattle.parallel_pool.proofs.ListLookups.{within, at_end}
+use Rattle.parallel_pool.specs.Histories.{Begins}
+use Rattle.parallel_pool.specs.LatchHistory.{call, view, newcomer, acts_of, FitsLatch, IsHistoryOf, Called, HasSeenSet}
+use Rattle.parallel_pool.proofs.HistoryBeginnings.{begins_on}
 
 -- a history that goes on leads on
 pub phase_from-append : (phase : Phase) (xs ys : List Call)
@@ -56,10 +58,6 @@ acts_of-other by other act xs ne = acts_of-append other xs (call by act ∷ [])
     ∙ (ap (λ b. acts_of other xs ++ cond b (act ∷ []) []) (ne_eqb by other (λ e. ne (sym e)))
     ∙ append-nil (acts_of other xs))
 
--- a history that goes on begins with what the shorter one began with
-begins_on : (log seen more : List Call) → Begins log seen → Begins (log ++ more) seen
-begins_on log seen more b = (b.0 ++ more, ap (λ l. l ++ more) b.1 ∙ append_assoc seen b.0 more)
-
 -- a call by the seat `id` keeps the rule, and finds the word of its history's phase
 pub steps : (act : Act) (f : ℕ → ℕ) → ((p : Phase) → f (word_of p) ≡ word_of (moved act p))
     → (slots id : ℕ) (me : Me (Unit {0}) View)
@@ -67,7 +65,7 @@ pub steps : (act : Act) (f : ℕ → ℕ) → ((p : Phase) → f (word_of p) ≡
     (λ found after. Called act (λ phase. found ≡ word_of phase) me.0 after.0 × (after.1 ≡ me.1))
 steps act f moves slots id me s h homes at small =
     let log : List Call = h.0 in
-    let fits : Fits log id me.0 = h.2 id me.0 at in
+    let fits : FitsLatch log id me.0 = h.2 id me.0 at in
     let after : List Call = log ++ call id act ∷ [] in
     let own : acts_of id after ≡ me.0.own ++ act ∷ [] = acts_of-own id act log
     ∙ ap (λ l. l ++ act ∷ []) fits.2 in
@@ -81,10 +79,10 @@ steps act f moves slots id me s h homes at small =
             ∙ ap (λ n. n ∷ []) (moves (phase_after log)
             ∙ ap word_of (sym (phase_from-append unset log (call id act ∷ [])))),
         (λ by v e. ⊎_elim
-            (λ (t : (by ≡ id) × (w ≡ v)). subst (λ (x : ℕ × View). Fits after x.0 x.1)
+            (λ (t : (by ≡ id) × (w ≡ v)). subst (λ (x : ℕ × View). FitsLatch after x.0 x.1)
             (λ i. (sym t.0 i, t.1 i)) (([], sym (append-nil after)), (after, refl), own))
             (λ (t : (by ≢ id) × (get_elem? s.views by ≡ some v)).
-            let old : Fits log by v = h.2 by v t.1 in (
+            let old : FitsLatch log by v = h.2 by v t.1 in (
               begins_on log v.seen (call id act ∷ []) old.0,
               begins_on log v.heard (call id act ∷ []) old.1,
               acts_of-other id by act log t.0
@@ -120,7 +118,7 @@ seats id v new own heard less s h at =
           (λ (t : get_elem? views by ≡ some u). h.2 by u
           (subst (λ l. get_elem? l by ≡ some u) same t))
           (λ (t : (by ≡ length views) × (new ≡ u)).
-          subst (λ (x : View). Fits h.0 by x) t.1 (
+          subst (λ (x : View). FitsLatch h.0 by x) t.1 (
             less h.0 (h.2 id v at).0,
             subst (λ l. Begins h.0 l) (sym heard) (h.0, refl),
             h.3 by (let n : length views ≡ length s.views = ap length same in omega (arith, t.0))
@@ -141,7 +139,8 @@ enters slots s h homes small = (
     h.1,
     (λ by u e. ⊎_elim
         (λ (t : get_elem? s.views by ≡ some u). h.2 by u t)
-        (λ (t : (by ≡ length s.views) × (newcomer ≡ u)). subst (λ (x : View). Fits h.0 by x) t.1
+        (λ (t : (by ≡ length s.views) × (newcomer ≡ u)). subst
+        (λ (x : View). FitsLatch h.0 by x) t.1
         ((h.0, refl), (h.0, refl), h.3 by (omega (arith, t.0))))
         (at_end s.views newcomer u by e)),
     (λ by far. h.3 by (omega (arith, far, length-append s.views (newcomer ∷ [])))),
@@ -157,7 +156,7 @@ opens = (
   (λ by v e. ⊎_elim
       (λ (t : get_elem? (let none : List View = [] in none) by ≡ some v). absurd
       (some-ne-none v (sym t)))
-      (λ (t : (by ≡ 0) × (newcomer ≡ v)). subst (λ (x : View). Fits [] by x) t.1
+      (λ (t : (by ≡ 0) × (newcomer ≡ v)). subst (λ (x : View). FitsLatch [] by x) t.1
       (([], refl), ([], refl), refl))
       (at_end [] newcomer v by e)),
   (λ by far. refl),

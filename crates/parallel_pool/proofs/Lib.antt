@@ -1,5 +1,5 @@
-mod Places
-mod Beginnings
+mod ListLookups
+mod HistoryBeginnings
 mod LatchSteps
 mod LatchLearns
 mod CountSteps

@@ -1,15 +1,15 @@
 -- What a worker knows after it has taken or pushed a job, and how many it has called.
-use Rattle.std.proofs.Common.{◌≡◌, ℕ, ◌+◌, ◌<◌, ◌⊎◌, Bool, true, false, List, [], ◌∷◌, ◌++◌, length, set, get_or, zero, suc, arith, refl, ap, sym, subst, ◌∙◌}
-use Rattle.std.proofs.Common.{⊎_elim, inl, inr, Option, Some, None, Result, Ok, Err, MatchOption, MatchResult}
+use Rattle.std.proofs.Common.{◌≡◌, ℕ, ◌+◌, ◌<◌, true, List, [], ◌∷◌, ◌++◌, length, set, get_or, zero, suc, arith, refl, ap, subst, ◌∙◌}
+use Rattle.std.proofs.Common.{⊎_elim, inl, inr, Option, Some, None, MatchOption}
 use Rattle.parallel_pool.specs.declared.rayon.job_history.Deed.{Deed}
 use Rattle.parallel_pool.specs.declared.rayon.job_history.Deed.TheVariants.{TakeFirst, TakeLast}
 use Rattle.parallel_pool.specs.declared.rayon.job_history.Event.{Event}
 use Rattle.parallel_pool.specs.declared.rayon.job_history.JobView.{JobView}
 use Rattle.parallel_pool.specs.declared.rayon.queue.Queue.{Queue}
 use Rattle.parallel_pool.specs.declared.rayon.queue.Queue.TheVariants.{Injected, Broadcast, Deque}
-use Rattle.parallel_pool.specs.JobHistory.{newcomer, event, HasPushed, HasTaken}
+use Rattle.parallel_pool.specs.JobHistory.{new_pass, event, HasTaken}
 use Rattle.parallel_pool.specs.JobSeat.{SeatView, IsQueueOf, Does}
-use Rattle.parallel_pool.specs.WorkerThread.{WorkerView, one_call, called_in, called_by, seat_calls, calls_of, with_own, with_jobs, CallsOwn, CallsFirst, CallsOne, PushesOwn}
+use Rattle.parallel_pool.specs.WorkerThread.{WorkerView, called_in, called_by, seat_calls, calls_of, with_own, with_jobs, CallsOwn, CallsFirst, CallsOne}
 
 module _ {T : Type 0} where
   called-append : (xs ys : List (Event T)) → called_in (xs ++ ys) ≡ called_in xs + called_in ys
@@ -29,7 +29,7 @@ module _ {T : Type 0} where
 
   -- of several passes one has changed
   called_set : (l : List (JobView T)) (i : ℕ) (v : JobView T) → i < length l
-      → called_by (set l i v) + called_in (get_or l i newcomer).own ≡ called_by l + called_in v.own
+      → called_by (set l i v) + called_in (get_or l i new_pass).own ≡ called_by l + called_in v.own
   called_set [] i v less = absurd (omega (arith, less))
   called_set (x ∷ xs) zero v less = omega arith
   called_set (x ∷ xs) (suc i) v less =

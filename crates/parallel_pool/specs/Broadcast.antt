@@ -1,3 +1,4 @@
+-- What a broadcast tells its closure.
 use Rattle.std.specs.Prelude.{ℕ}
 use Rattle.parallel_pool.specs.declared.rayon.broadcast_context.BroadcastContext.{BroadcastContext}
 

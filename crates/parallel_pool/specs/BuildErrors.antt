@@ -1,4 +1,4 @@
--- which refusal of a call the error of a pool's build is
+-- Which refusal of a call the error of a pool's build is.
 use Rattle.parallel_fault.specs.declared.fault.Fault.{Fault}
 use Rattle.parallel_fault.specs.declared.fault.Fault.TheVariants.{Worker}
 use Rattle.parallel_fault.specs.declared.fault.Fault.TheVariants.{Memory as WantOfMemory}

@@ -1,8 +1,9 @@
 -- The history of a count latch: which shares were given, one after another.
-use Rattle.std.specs.Prelude.{◌≡◌, ℕ, ◌+◌, ◌-◌, ◌<◌, ◌≤◌, ◌⊎◌, ◌==◌, List, [], ◌∷◌, ◌++◌, length, sum_by, count_by}
+use Rattle.std.specs.Prelude.{◌≡◌, ℕ, ◌+◌, ◌-◌, ◌<◌, ◌≤◌, ◌==◌, List, [], ◌∷◌, ◌++◌, length, sum_by, count_by}
 use mathlib.Core.Option.{some}
 use lib.ListN.{get_elem?}
 use Rattle.parallel_pool.specs.declared.latch.count_share.ShareView.{ShareView}
+use Rattle.parallel_pool.specs.Histories.{Begins}
 
 -- what a share knows that may give so many of the latch's shares, and has seen these gives
 abbrev pub share_view : ℕ → ℕ → List ℕ → ShareView
@@ -21,12 +22,12 @@ abbrev pub one_share : ShareView → ShareView
 one_share v = share_view 1 v.of []
 
 -- what a new seat knows that tells which gives a share has seen
-abbrev pub telling : ShareView → ShareView
-telling v = share_view 0 0 v.seen
+abbrev pub telling_gives : ShareView → ShareView
+telling_gives v = share_view 0 0 v.seen
 
 -- what a share knows while it is told which gives another has seen
-abbrev pub hearing : ShareView → ShareView → ShareView
-hearing v w = record { unspent = v.unspent; of = v.of; seen = v.seen; heard = w.seen }
+abbrev pub hearing_gives : ShareView → ShareView → ShareView
+hearing_gives v w = record { unspent = v.unspent; of = v.of; seen = v.seen; heard = w.seen }
 
 -- a seat that has no share and has seen no give
 abbrev pub stranger : ShareView
@@ -36,14 +37,6 @@ stranger = share_view 0 0 []
 abbrev pub times_given : ℕ → List ℕ → ℕ
 times_given by log = count_by (λ other. other == by) log
 
--- the history of gives goes on from what was seen
-abbrev pub GoesOn : List ℕ → List ℕ → Type 0
-GoesOn log seen = (rest : List ℕ) × (log ≡ seen ++ rest)
-
--- of two beginnings of one history, a share has seen the longer
-abbrev pub Longer : List ℕ → List ℕ → List ℕ → Type 0
-Longer one other both = GoesOn both one × GoesOn both other × ((both ≡ one) ⊎ (both ≡ other))
-
 -- a share may be given as often as before, and is one of as many
 abbrev pub SameShare : ShareView → ShareView → Type 0
 SameShare old new = (new.unspent ≡ old.unspent) × (new.of ≡ old.of)
@@ -51,8 +44,8 @@ SameShare old new = (new.unspent ≡ old.unspent) × (new.of ≡ old.of)
 -- a share has seen a beginning of the history, as has whom it hears, and does not stand in it while
 -- it is unspent
 pub record FitsShare (n : ℕ) (log : List ℕ) (by : ℕ) (v : ShareView) : Type 0 where
-  pub seen : GoesOn log v.seen
-  pub heard : GoesOn log v.heard
+  pub seen : Begins log v.seen
+  pub heard : Begins log v.heard
   pub of : 0 < v.unspent → v.of ≡ n
   pub fresh : 0 < v.unspent → times_given by log ≡ 0
 
@@ -71,8 +64,8 @@ IsCountOf n words views = (log : List ℕ) × CountsAs n log words views
 
 -- one give of a share that had seen `old`: the history now seen is what came before it, which
 -- begins with all that the share had seen and does not have the share, and then the share
-pub record Gives (before : List ℕ) (by : ℕ) (old new : ShareView) : Type 0 where
-  pub begins : GoesOn before old.seen
+pub record GivesShare (before : List ℕ) (by : ℕ) (old new : ShareView) : Type 0 where
+  pub begins : Begins before old.seen
   pub ends : new.seen ≡ before ++ by ∷ []
   pub first : times_given by before ≡ 0
   pub once : (other : ℕ) → times_given other new.seen ≤ 1
@@ -80,12 +73,12 @@ pub record Gives (before : List ℕ) (by : ℕ) (old new : ShareView) : Type 0 w
 
 -- a give that found so many shares left, its own among them
 abbrev pub CountsFrom : ℕ → ShareView → ShareView → Type 0
-CountsFrom found old new = (before : List ℕ) × (by : ℕ) × Gives before by old new
+CountsFrom found old new = (before : List ℕ) × (by : ℕ) × GivesShare before by old new
     × (found + length before ≡ old.of) × (new.of ≡ old.of) × (0 < found)
 
 -- a share was given
 abbrev pub Given : ShareView → ShareView → Type 0
-Given old new = (before : List ℕ) × (by : ℕ) × Gives before by old new
+Given old new = (before : List ℕ) × (by : ℕ) × GivesShare before by old new
 
 -- a look that found so many shares left, of a latch of which `about` tells
 abbrev pub Sees : ℕ → ShareView → ShareView → Type 0

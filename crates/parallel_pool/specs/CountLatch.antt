@@ -5,13 +5,13 @@ use Rattle.parallel_pool.specs.declared.latch.count_share.CountShare.{CountShare
 use Rattle.parallel_pool.specs.declared.latch.count_share.ShareView.{ShareView}
 
 -- how many shares the latch was made of
-abbrev pub shares_of : CountLatch → ℕ
-shares_of latch = latch.table.shared.key
+abbrev pub share_count : CountLatch → ℕ
+share_count latch = latch.table.shared.key
 
 -- the share is one of this latch
 abbrev pub IsShareOf : CountLatch → CountShare → Type 0
 IsShareOf latch share = (share.seat.table_id ≡ latch.table.shared.table_id) × (share.seat.me.1 ≡ [])
-    × (share.seat.me.0.of ≡ shares_of latch)
+    × (share.seat.me.0.of ≡ share_count latch)
 
 -- what the share knows of its latch
 abbrev pub knows : CountShare → ShareView

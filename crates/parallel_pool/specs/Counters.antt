@@ -1,3 +1,4 @@
+-- The three counts of a pool's sleep.
 use Rattle.std.specs.Prelude.{ℕ}
 use Rattle.parallel_pool.specs.declared.sleep.counters.Counters.{Counters}
 

@@ -1,3 +1,4 @@
+-- What contracts read of an idle worker.
 use Rattle.std.specs.Prelude.{ℕ, Option}
 use Rattle.parallel_pool.specs.declared.sleep.idle_state.IdleState.{IdleState}
 

@@ -1,5 +1,4 @@
--- The history of a queue of jobs: which jobs were pushed and taken, under which numbers, one after
--- another.
+-- The history of a queue of jobs: which jobs were pushed and taken, under which numbers.
 use Rattle.std.specs.Prelude.{◌≡◌, ℕ, ◌+◌, ◌≤◌, ◌==◌, cond, Bool, false, List, [], ◌∷◌, ◌++◌, length, map}
 use mathlib.Core.Option.{some}
 use lib.ListN.{get_elem?}
@@ -7,6 +6,7 @@ use Rattle.parallel_pool.specs.declared.rayon.job_history.Deed.{Deed}
 use Rattle.parallel_pool.specs.declared.rayon.job_history.Deed.TheVariants.{Push, TakeFirst, TakeLast}
 use Rattle.parallel_pool.specs.declared.rayon.job_history.Event.{Event}
 use Rattle.parallel_pool.specs.declared.rayon.job_history.JobView.{JobView}
+use Rattle.parallel_pool.specs.Histories.{Begins}
 
 -- how a queue stands: the number of the next push, and the jobs in it with their numbers, first one
 -- first
@@ -37,48 +37,44 @@ module _ {T : Type 0} where
   job_view seen own = record { seen = seen; own = own }
 
   -- a pass that has seen nothing
-  abbrev pub newcomer : JobView T
-  newcomer = job_view [] []
+  abbrev pub new_pass : JobView T
+  new_pass = job_view [] []
 
   -- a queue to which nothing was pushed yet
-  abbrev pub opening : Lineup T
-  opening = record { next = 0; left = [] }
+  abbrev pub no_jobs : Lineup T
+  no_jobs = record { next = 0; left = [] }
 
   -- what a deed does to a queue: a push gives the next number, and a job is taken with its number
-  abbrev pub Moves : Deed → ℕ → T → Lineup T → Lineup T → Type 0
-  Moves Push number job s t = (number ≡ s.next) × (t.next ≡ s.next + 1)
+  abbrev pub DeedMoves : Deed → ℕ → T → Lineup T → Lineup T → Type 0
+  DeedMoves Push number job s t = (number ≡ s.next) × (t.next ≡ s.next + 1)
       × (t.left ≡ s.left ++ (number, job) ∷ [])
-  Moves TakeFirst number job s t = (t.next ≡ s.next) × (s.left ≡ (number, job) ∷ t.left)
-  Moves TakeLast number job s t = (t.next ≡ s.next) × (s.left ≡ t.left ++ (number, job) ∷ [])
+  DeedMoves TakeFirst number job s t = (t.next ≡ s.next) × (s.left ≡ (number, job) ∷ t.left)
+  DeedMoves TakeLast number job s t = (t.next ≡ s.next) × (s.left ≡ t.left ++ (number, job) ∷ [])
 
   -- a history leads a queue from one state to another
-  abbrev pub Leads : Lineup T → List (Event T) → Lineup T → Type 0
-  Leads s [] t = s ≡ t
-  Leads s (e ∷ es) t = (m : Lineup T) × Moves e.deed e.number e.job s m × Leads m es t
+  abbrev pub DeedsLead : Lineup T → List (Event T) → Lineup T → Type 0
+  DeedsLead s [] t = s ≡ t
+  DeedsLead s (e ∷ es) t = (m : Lineup T) × DeedMoves e.deed e.number e.job s m × DeedsLead m es t
 
   -- the deeds of one pass in a history
-  abbrev pub events_of : ℕ → List (Event T) → List (Event T)
-  events_of by [] = []
-  events_of by (e ∷ es) = cond (e.by == by) (e ∷ events_of by es) (events_of by es)
-
-  -- the history goes on from what was seen
-  abbrev pub Goes : List (Event T) → List (Event T) → Type 0
-  Goes log seen = (rest : List (Event T)) × (log ≡ seen ++ rest)
+  abbrev pub events_by : ℕ → List (Event T) → List (Event T)
+  events_by by [] = []
+  events_by by (e ∷ es) = cond (e.by == by) (e ∷ events_by by es) (events_by by es)
 
   -- a pass has seen a beginning of the history, and its own deeds are all that the history has of
   -- it
   abbrev pub FitsJobs : List (Event T) → ℕ → JobView T → Type 0
-  FitsJobs log by v = Goes log v.seen × (events_of by log ≡ v.own)
+  FitsJobs log by v = Begins log v.seen × (events_by by log ≡ v.own)
 
   -- there is one history, which leads to the jobs in the queue, fits each pass, and has the deeds
   -- of no others
   abbrev pub IsJobHistoryOf : List T → List (JobView T) → Type 0
   IsJobHistoryOf items views =
       (log : List (Event T)) × (now : Lineup T)
-      × Leads opening log now
+      × DeedsLead no_jobs log now
       × (map (λ (p : ℕ × T). p.1) now.left ≡ items)
       × ((by : ℕ) (v : JobView T) → get_elem? views by ≡ some v → FitsJobs log by v)
-      × ((by : ℕ) → length views ≤ by → events_of by log ≡ [])
+      × ((by : ℕ) → length views ≤ by → events_by by log ≡ [])
 
   -- how often the job of a number was pushed, and how often it was taken
   abbrev pub times_pushed : ℕ → List (Event T) → ℕ
@@ -100,11 +96,11 @@ module _ {T : Type 0} where
 -- queue, and ends with the deed; of the pass it has just this deed more
 pub record Extends {T : Type 0} (old : JobView T) (e : Event T) (new : JobView T) : Type 0 where
   pub before : List (Event T)
-  pub begins : Goes before old.seen
+  pub begins : Begins before old.seen
   pub ends : new.seen ≡ before ++ e ∷ []
-  pub legal : (now : Lineup T) × Leads opening new.seen now
+  pub legal : (now : Lineup T) × DeedsLead no_jobs new.seen now
   pub own : new.own ≡ old.own ++ e ∷ []
-  pub all : events_of e.by new.seen ≡ new.own
+  pub all : events_by e.by new.seen ≡ new.own
   pub once : IsEachOnce new.seen
 
 module _ {T : Type 0} where

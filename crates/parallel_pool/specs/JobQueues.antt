@@ -1,6 +1,7 @@
+-- The number of workers for which queues of jobs are.
 use Rattle.std.specs.Prelude.{ℕ, vec_len}
 use Rattle.parallel_pool.specs.declared.rayon.job_queues.JobQueues.{JobQueues}
 
 -- for how many workers the queues are
-abbrev pub workers_of : {T : Type 0} → JobQueues T → ℕ
-workers_of queues = vec_len queues.deques
+abbrev pub worker_count : {T : Type 0} → JobQueues T → ℕ
+worker_count queues = vec_len queues.deques

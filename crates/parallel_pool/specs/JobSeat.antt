@@ -3,7 +3,7 @@ use Rattle.std.specs.Prelude.{◌≡◌, ℕ, ◌+◌, ◌<◌, ⊤, List, [], �
 use Rattle.parallel_pool.specs.declared.rayon.job_history.JobView.{JobView}
 use Rattle.parallel_pool.specs.declared.rayon.queue.Queue.{Queue}
 use Rattle.parallel_pool.specs.declared.rayon.queue.Queue.TheVariants.{Injected, Broadcast, Deque}
-use Rattle.parallel_pool.specs.JobHistory.{newcomer, HasPushed}
+use Rattle.parallel_pool.specs.JobHistory.{new_pass, HasPushed}
 
 -- what a seat knows of the injected jobs, of each worker's broadcast queue and of each worker's
 -- deque
@@ -27,8 +27,8 @@ IsQueueOf (Deque i) seat = i < length seat.deques
 -- what the seat knows of a queue
 abbrev pub view_of : {T : Type 0} → Queue → SeatView T → JobView T
 view_of Injected seat = seat.injected
-view_of (Broadcast i) seat = slice_index_or seat.broadcasts i newcomer
-view_of (Deque i) seat = slice_index_or seat.deques i newcomer
+view_of (Broadcast i) seat = slice_index_or seat.broadcasts i new_pass
+view_of (Deque i) seat = slice_index_or seat.deques i new_pass
 
 -- the seat, knowing this of the queue and the same as before of all others
 abbrev pub with_view : {T : Type 0} → Queue → JobView T → SeatView T → SeatView T
@@ -55,11 +55,11 @@ Does {T} queue deed old new = (view : JobView T) × deed (view_of queue old) vie
 
 -- a seat of a pool of so many workers that has seen nothing
 pub record IsFreshSeat {T : Type 0} (workers : ℕ) (seat : SeatView T) : Type 0 where
-  pub injected : seat.injected ≡ newcomer
+  pub injected : seat.injected ≡ new_pass
   pub broadcasts : length seat.broadcasts ≡ workers
-  pub broadcasts_fresh : All (λ view. view ≡ newcomer) seat.broadcasts
+  pub broadcasts_fresh : All (λ view. view ≡ new_pass) seat.broadcasts
   pub deques : length seat.deques ≡ workers
-  pub deques_fresh : All (λ view. view ≡ newcomer) seat.deques
+  pub deques_fresh : All (λ view. view ≡ new_pass) seat.deques
 
 -- a seat pushed each job to the broadcast queue of one worker, from this worker on, in order, and
 -- did nothing else

@@ -5,8 +5,9 @@ use Rattle.parallel_pool.specs.declared.latch.latch_seat.LatchSeat.{LatchSeat}
 use Rattle.parallel_pool.specs.declared.latch.history.View.{View}
 
 -- the seat is one of this latch
-abbrev pub IsSeatOf : CoreLatch → LatchSeat → Type 0
-IsSeatOf latch seat = (seat.seat.table_id ≡ latch.table.shared.table_id) × (seat.seat.me.1 ≡ [])
+abbrev pub IsLatchSeatOf : CoreLatch → LatchSeat → Type 0
+IsLatchSeatOf latch seat =
+    (seat.seat.table_id ≡ latch.table.shared.table_id) × (seat.seat.me.1 ≡ [])
 
 -- what the seat knows of its latch
 abbrev pub known : LatchSeat → View

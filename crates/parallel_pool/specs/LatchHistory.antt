@@ -1,10 +1,11 @@
 -- The history of a core latch, what a seat has seen of it, and what a call says of both.
-use Rattle.std.specs.Prelude.{◌≡◌, ℕ, ◌≤◌, ◌⊎◌, ◌==◌, cond, List, [], ◌∷◌, ◌++◌, length}
+use Rattle.std.specs.Prelude.{◌≡◌, ℕ, ◌≤◌, ◌==◌, cond, List, [], ◌∷◌, ◌++◌, length}
 use mathlib.Core.Option.{some}
 use lib.ListN.{get_elem?}
 use Rattle.parallel_pool.specs.declared.latch.history.Act.{Act}
 use Rattle.parallel_pool.specs.declared.latch.history.Call.{Call}
 use Rattle.parallel_pool.specs.declared.latch.history.View.{View}
+use Rattle.parallel_pool.specs.Histories.{Begins, Longer}
 use Rattle.parallel_pool.specs.LatchMoves.{Phase, word_of, phase_after, latched}
 
 -- the call of a seat
@@ -32,14 +33,10 @@ abbrev pub acts_of : ℕ → List Call → List Act
 acts_of by [] = []
 acts_of by (c ∷ cs) = cond (c.by == by) (c.act ∷ acts_of by cs) (acts_of by cs)
 
--- the history goes on from what was seen
-abbrev pub Begins : List Call → List Call → Type 0
-Begins log seen = (rest : List Call) × (log ≡ seen ++ rest)
-
 -- a seat has seen a beginning of the history, as has whom it hears, and its own acts are all that
 -- the history has of it
-abbrev pub Fits : List Call → ℕ → View → Type 0
-Fits log by v = Begins log v.seen × Begins log v.heard × (acts_of by log ≡ v.own)
+abbrev pub FitsLatch : List Call → ℕ → View → Type 0
+FitsLatch log by v = Begins log v.seen × Begins log v.heard × (acts_of by log ≡ v.own)
 
 -- there is one history, whose phase is in the word: it fits each seat, and has the calls of no
 -- others
@@ -47,7 +44,7 @@ abbrev pub IsHistoryOf : List ℕ → List View → Type 0
 IsHistoryOf words views =
     (log : List Call)
     × (words ≡ word_of (phase_after log) ∷ [])
-    × ((by : ℕ) (v : View) → get_elem? views by ≡ some v → Fits log by v)
+    × ((by : ℕ) (v : View) → get_elem? views by ≡ some v → FitsLatch log by v)
     × ((by : ℕ) → length views ≤ by → acts_of by log ≡ [])
 
 -- one call of a seat: the history now seen is what came before it, which begins with all that the
@@ -63,10 +60,6 @@ pub record Makes (act : Act) (before : List Call) (by : ℕ) (old new : View) : 
 abbrev pub Called : Act → (Phase → Type 0) → View → View → Type 0
 Called act said old new = (before : List Call) × (by : ℕ) × Makes act before by old new
     × said (phase_after before)
-
--- of two beginnings of one history, a seat has seen the longer
-abbrev pub Longer : List Call → List Call → List Call → Type 0
-Longer one other both = Begins both one × Begins both other × ((both ≡ one) ⊎ (both ≡ other))
 
 -- a seat has learnt what another had seen, and did nothing else
 abbrev pub Learns : View → View → View → Type 0

@@ -1,9 +1,9 @@
 pub mod ThreadPool
 pub mod LatchMoves
+pub mod Histories
 pub mod LatchHistory
 pub mod Latch
-pub mod SpinLatch
-pub mod OnceLatch
+pub mod WorkerLatch
 pub mod CountHistory
 pub mod CountLatch
 pub mod Counters

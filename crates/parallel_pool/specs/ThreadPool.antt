@@ -1,3 +1,4 @@
+-- What contracts read of a pool.
 use Rattle.std.specs.Prelude.{ℕ}
 use Rattle.std.specs.NonZero.{non_zero_usize_get}
 use Rattle.parallel_pool.specs.declared.rayon.thread_pool.ThreadPool.{ThreadPool}

@@ -7,6 +7,7 @@ pub mod latch_seat;
 pub mod lock_latch;
 pub mod once_latch;
 pub mod spin_latch;
+pub mod worker_latch;
 
 pub use core_latch::CoreLatch;
 pub use count_latch::CountLatch;
@@ -15,3 +16,4 @@ pub use latch_seat::LatchSeat;
 pub use lock_latch::LockLatch;
 pub use once_latch::OnceLatch;
 pub use spin_latch::SpinLatch;
+pub use worker_latch::WorkerLatch;

@@ -6,7 +6,7 @@ ghost use Rattle.parallel_pool.specs.Counters.{sleeping_of, inactive_of};
 ghost use Rattle.parallel_pool.specs.IdleState.{worker_of, rounds_of, recorded_of};
 ghost use Rattle.parallel_pool.specs.LatchHistory.{Called, HasSeenSet};
 ghost use Rattle.parallel_pool.specs.declared.latch.history.Act.TheVariants.{Probe};
-ghost use Rattle.parallel_pool.specs.Latch.{IsSeatOf, known};
+ghost use Rattle.parallel_pool.specs.Latch.{IsLatchSeatOf, known};
 ghost use Rattle.parallel_pool.specs.SleepTries.{OnlyProbes, TriesToSleep};
 ghost use Rattle.parallel_pool.specs.Standings.{is_blocked, standing_at};
 ghost use Rattle.parallel_fault.specs.Trouble.{IsMemoryOnErr};
@@ -149,7 +149,7 @@ impl Sleep {
         seat: &mut LatchSeat,
         has_injected_jobs: F,
     )
-        requires seat { IsSeatOf latch.now seat.old }
+        requires seat { IsLatchSeatOf latch.now seat.old }
         requires callable { F.IsAlwaysCallable has_injected_jobs }
         ensures worker { worker_of idle.new ≡ worker_of idle.old }
         ensures yields { rounds_of idle.old < ROUNDS_UNTIL_SLEEPY
@@ -163,7 +163,7 @@ impl Sleep {
             → known seat.new ≡ known seat.old }
         ensures tries { ROUNDS_UNTIL_SLEEPING ≤ rounds_of idle.old
             → TriesToSleep (known seat.old) (known seat.new) }
-        ensures seat { IsSeatOf latch.now seat.new }
+        ensures seat { IsLatchSeatOf latch.now seat.new }
         ensures stays { HasSeenSet (known seat.old) → HasSeenSet (known seat.new) }
     {
         match idle.due() {
@@ -190,14 +190,14 @@ impl Sleep {
         seat: &mut LatchSeat,
         has_injected_jobs: F,
     )
-        requires seat { IsSeatOf latch.now seat.old }
+        requires seat { IsLatchSeatOf latch.now seat.old }
         requires callable { F.IsAlwaysCallable has_injected_jobs }
         ensures worker { worker_of idle.new ≡ worker_of idle.old }
         ensures rounds { (idle.new ≡ idle.old)
             ⊎ ((recorded_of idle.new ≡ None)
             × ((rounds_of idle.new ≡ 0) ⊎ (rounds_of idle.new ≡ ROUNDS_UNTIL_SLEEPY))) }
         ensures tries { TriesToSleep (known seat.old) (known seat.new) }
-        ensures seat { IsSeatOf latch.now seat.new }
+        ensures seat { IsLatchSeatOf latch.now seat.new }
         ensures stays { HasSeenSet (known seat.old) → HasSeenSet (known seat.new) }
     {
         if !latch.get_sleepy(seat) {
@@ -225,13 +225,13 @@ impl Sleep {
         latch: &CoreLatch,
         seat: &mut LatchSeat,
     )
-        requires seat { IsSeatOf latch.now seat.old }
+        requires seat { IsLatchSeatOf latch.now seat.old }
         ensures worker { worker_of idle.new ≡ worker_of idle.old }
         ensures awake { block ≢ Blocked → idle.new ≡ idle.old }
         ensures blocked { block ≡ Blocked → (rounds_of idle.new ≡ 0)
             × (recorded_of idle.new ≡ None) }
         ensures probes { OnlyProbes (known seat.old) (known seat.new) }
-        ensures seat { IsSeatOf latch.now seat.new }
+        ensures seat { IsLatchSeatOf latch.now seat.new }
         ensures stays { HasSeenSet (known seat.old) → HasSeenSet (known seat.new) }
     {
         if block == Block::Blocked {
@@ -249,9 +249,9 @@ impl Sleep {
         latch: &CoreLatch,
         seat: &mut LatchSeat,
     )
-        requires seat { IsSeatOf latch.now seat.old }
+        requires seat { IsLatchSeatOf latch.now seat.old }
         ensures probes { OnlyProbes (known seat.old) (known seat.new) }
-        ensures seat { IsSeatOf latch.now seat.new }
+        ensures seat { IsLatchSeatOf latch.now seat.new }
         ensures stays { HasSeenSet (known seat.old) → HasSeenSet (known seat.new) }
     {
         for _ in rt.forever() {
@@ -271,9 +271,9 @@ impl Sleep {
         latch: &CoreLatch,
         seat: &mut LatchSeat,
     ) -> bool
-        requires seat { IsSeatOf latch.now seat.old }
+        requires seat { IsLatchSeatOf latch.now seat.old }
         ensures probe { Called Probe (λ _. ⊤) (known seat.old) (known seat.new) }
-        ensures seat { IsSeatOf latch.now seat.new }
+        ensures seat { IsLatchSeatOf latch.now seat.new }
         ensures stays { HasSeenSet (known seat.old) → HasSeenSet (known seat.new) }
     {
         let is_set = latch.probe(seat);

@@ -11,7 +11,7 @@ use Rattle.parallel_shares.specs.Sizes.{Sizes, shares_of}
 use Rattle.parallel_shares.specs.Machine.{opening_words}
 use Rattle.parallel_shares.specs.Holders.{inside, in_word, in_ranges, same_number}
 use Rattle.parallel_shares.specs.Totals.{total, times}
-use Rattle.parallel_shares.specs.Sharing.{in_view, Kept, ranges_of}
+use Rattle.parallel_shares.specs.Sharing.{in_view, IsSharingOf, ranges_of}
 use Rattle.parallel_shares.specs.Seats.{known, index_of, claims_of, AreSeatsOf, IsPartition, AllDone, AllEmpty, EachCellOnce}
 use Rattle.parallel_shares.specs.Gathered.{HasAll}
 use Rattle.parallel_shares.proofs.Counts.{inside_nothing}
@@ -40,7 +40,7 @@ claimer_exists true workers share some_workers h = (some_workers, omega (arith, 
 claimer_exists false workers share some_workers h = (h, refl)
 
 module _ (shares : Shares) (seats : List Seat) (all : AreSeatsOf shares seats)
-    (s : State (Unit {0}) View) (k : Kept shares.plan s) (id : ℕ) (view : View)
+    (s : State (Unit {0}) View) (k : IsSharingOf shares.plan s) (id : ℕ) (view : View)
     (at : get_elem? s.views id ≡ some view) (has : HasAll view seats) where
   abbrev plan : Sizes
   plan = shares.plan

@@ -1,5 +1,4 @@
--- The opening shares: balanced ranges that cover the units, in order and with no gap, and the
--- machine that opens with them.
+-- The opening shares: balanced ranges that cover the units, in order and with no gap.
 use Rattle.std.proofs.Common.{◌≡◌, ℕ, zero, suc, ◌+◌, ◌*◌, ◌/◌, ◌%◌, ◌<◌, ◌≤◌, ◌⊎◌, inl, inr, min, cond, ltb, eqb, [], ◌∷◌, length, get_or, replicate, refl, ap, ◌∙◌, arith}
 use Rattle.std.proofs.lemmas.Bool.{cases_lt, cases_order, cond_both, eq-eqb, ne_eqb}
 use Rattle.std.proofs.lemmas.Bool.Decides.{nat_tests}

@@ -1,5 +1,4 @@
--- What fills and finishes do along a list of stretches, with one state that goes from each to the
--- next.
+-- What fills and finishes do along a list of stretches, with one state that goes through all.
 use Rattle.std.specs.Prelude.{◌≡◌, ℕ, ◌<◌, List, All, [], ◌∷◌, ◌++◌, Option, Some, None}
 use Rattle.std.specs.Borrow.{MutBor}
 use Rattle.std.specs.declared.ops.Range.{Range}
@@ -79,8 +78,9 @@ GoesOn {T = T} fill finish len more opened results state opened_after results_af
     → Underway fill finish len first (cells ++ more) opened_after results_after state_after
 
 -- the same by a piece, on rows of any length that it is a piece of
-abbrev pub GoesOnByPiece : {T R : Type 0} → (T → ℕ → Range ℕ → T → Type 0) → (T → ℕ → R → T → Type 0)
-    → Piece → Option Piece → List R → T → Option Piece → List R → T → Type 0
+abbrev pub GoesOnByPiece : {T R : Type 0} → (T → ℕ → Range ℕ → T → Type 0)
+    → (T → ℕ → R → T → Type 0) → Piece → Option Piece → List R → T → Option Piece → List R → T
+    → Type 0
 GoesOnByPiece fill finish piece opened results state opened_after results_after state_after =
     (len : ℕ) → IsPiece len piece
     → GoesOn fill finish len (piece_cells len piece) opened results state opened_after results_after

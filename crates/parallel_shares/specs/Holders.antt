@@ -1,5 +1,4 @@
--- Who holds each unit: a share that it is pending at, a seat that carries it, or a seat that has
--- claimed it. How units go from holder to holder, and when a machine shows them.
+-- Who holds each unit, how units go from holder to holder, and when a machine shows it.
 use Rattle.std.specs.Prelude.{◌≡◌, ◌≢◌, ℕ, suc, ◌+◌, ◌/◌, ◌<◌, ◌≤◌, false, cond, eqb, ltb, leb, List, [], ◌∷◌, Option, Some, None}
 use Rattle.std.specs.declared.ops.Range.{Range}
 use Rattle.parallel_shares.specs.Words.{start_of, end_of}
@@ -131,8 +130,8 @@ pub record Shows (sizes : Sizes) (machine : Machine) (holders : Holders) : Type 
   pub no_more : (c seat : ℕ) → sizes.cells ≤ c → in_ranges c (place_at machine seat).claims ≡ 0
 
 -- from any holders that the machine showed, moves lead to holders that it shows now
-abbrev pub Steps : Sizes → Machine → Machine → Type 0
-Steps sizes before after =
+abbrev pub StepsByMoves : Sizes → Machine → Machine → Type 0
+StepsByMoves sizes before after =
     (holders : Holders) → Shows sizes before holders → (moves : List Move) × (next : Holders)
     × Leads sizes moves holders next × Shows sizes after next
 

@@ -113,8 +113,8 @@ MeetsFront word before found after = (found ≡ word → after ≡ took_front be
     × (found ≢ word → after ≡ missed before found)
 
 -- so many exchanges more were tried, and so many steps more changed a word
-abbrev pub Steps : ℕ → ℕ → Seat → Seat → Type 0
-Steps exchanges changes before after =
+abbrev pub CountsSteps : ℕ → ℕ → Seat → Seat → Type 0
+CountsSteps exchanges changes before after =
     ((known after).exchanges ≡ (known before).exchanges + exchanges)
     × ((known after).changes ≡ (known before).changes + changes)
 
@@ -129,14 +129,14 @@ abbrev pub TriesClaim : Sizes → ℕ → Seat → Tried → Seat → Type 0
 TriesClaim sizes word before (Claimed cells) after =
     (¬ IsEmptyWord word) × ((known after).met ≡ word) × (cells ≡ claim_cells sizes word)
     × AreSomeCells sizes cells
-    × (claims_of after ≡ claims_of before ++ cells ∷ []) × Steps 1 1 before after
+    × (claims_of after ≡ claims_of before ++ cells ∷ []) × CountsSteps 1 1 before after
     × (has_emptied after ≡ has_emptied before)
 TriesClaim sizes word before Lost after =
     (¬ IsEmptyWord word) × ((known after).met ≢ word)
-    × (claims_of after ≡ claims_of before) × Steps 1 0 before after
+    × (claims_of after ≡ claims_of before) × CountsSteps 1 0 before after
     × (has_emptied after ≡ has_emptied before)
 TriesClaim sizes word before Empty after =
-    IsEmptyWord word × (claims_of after ≡ claims_of before) × Steps 0 0 before after
+    IsEmptyWord word × (claims_of after ≡ claims_of before) × CountsSteps 0 0 before after
     × (has_emptied after ≡ true)
 TriesClaim sizes word before Taken after = ⊥
 TriesClaim sizes word before Nothing after = ⊥

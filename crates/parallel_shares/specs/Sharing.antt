@@ -1,5 +1,4 @@
--- What the seats of shares know, and what words and seats keep together whatever the order of their
--- steps.
+-- What the seats of shares know, and what words and seats keep together in any order of steps.
 use Rattle.std.specs.Prelude.{◌≡◌, ◌≢◌, ℕ, ◌+◌, ◌-◌, ◌/◌, ◌<◌, ◌≤◌, ◌⊎◌, false, cond, eqb, List, [], ◌∷◌, ◌++◌, drop, take, length, replicate, slice_index, slice_set, Option, Some, None}
 use Rattle.std.specs.List.{range_with_len}
 use mathlib.Core.Option.{some}
@@ -76,7 +75,7 @@ SomeSplitPays sizes =
 -- seen empty is empty until that seat fills it; until a seat has changed a word, the words are
 -- those of the opening; and where no opening word's split pays, no word's does, and nothing is in
 -- transit
-pub record Kept (sizes : Sizes) (state : State (Unit {0}) View) : Type 0 where
+pub record IsSharingOf (sizes : Sizes) (state : State (Unit {0}) View) : Type 0 where
   pub shares : length state.words ≡ shares_of sizes
   pub within : (share : ℕ) → IsWithin sizes.units (slice_index state.words share)
   pub once : (c : ℕ) → c < sizes.cells
@@ -155,12 +154,17 @@ LooksOwn step before word after =
     IsWithin before.0.plan.units word × (after.0 ≡ looked_own before.0 step.word word)
     × (after.1 ≡ before.1)
 
--- an exchange claims the front of the word that was loaded, or finds another word and claims
--- nothing
+-- an exchange of a loaded word leaves its seat with one view where it finds that word, and takes
+-- nothing where it finds another
+abbrev pub Exchanges : Me (Unit {0}) View → ℕ → View → ℕ → Me (Unit {0}) View → Type 0
+Exchanges before loaded took word after =
+    (word ≡ loaded → after.0 ≡ took) × (word ≢ loaded → after.0 ≡ missed before.0 word)
+    × (after.1 ≡ before.1)
+
+-- an exchange claims the front of the word that was loaded
 abbrev pub TakesFront : Step (Unit {0}) → Me (Unit {0}) View → ℕ → Me (Unit {0}) View → Type 0
 TakesFront step before word after =
-    (word ≡ step.first → after.0 ≡ took_front before.0 step.first)
-    × (word ≢ step.first → after.0 ≡ missed before.0 word) × (after.1 ≡ before.1)
+    Exchanges before step.first (took_front before.0 step.first) word after
 
 -- a load of another share tells a range of units, whose split pays only where some opening word's
 -- does
@@ -169,12 +173,10 @@ LooksAt step before word after =
     IsWithin before.0.plan.units word × (Pays before.0.plan word → SomeSplitPays before.0.plan)
     × (after.0 ≡ looked before.0 step.word word) × (after.1 ≡ before.1)
 
--- an exchange takes the back half of the word that was loaded, or finds another word and takes
--- nothing
+-- an exchange takes the back half of the word that was loaded
 abbrev pub TakesBack : Step (Unit {0}) → Me (Unit {0}) View → ℕ → Me (Unit {0}) View → Type 0
 TakesBack step before word after =
-    (word ≡ step.first → after.0 ≡ took_back before.0 step.first)
-    × (word ≢ step.first → after.0 ≡ missed before.0 word) × (after.1 ≡ before.1)
+    Exchanges before step.first (took_back before.0 step.first) word after
 
 -- a store puts what is in transit down in the seat's own share
 abbrev pub PutsDown : Step (Unit {0}) → Me (Unit {0}) View → ℕ → Me (Unit {0}) View → Type 0

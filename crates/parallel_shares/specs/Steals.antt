@@ -1,5 +1,4 @@
--- What a try to steal tells: each other share was loaded, and which of the loaded words is the
--- victim.
+-- What a try to steal tells: which shares it loaded, and which of them is the victim.
 use Rattle.std.specs.Prelude.{◌≡◌, ◌≢◌, ℕ, ◌+◌, ◌<◌, ◌≤◌, ◌⊎◌, length, Option, [], ◌∷◌, ◌++◌, true, Some, None, IfSome, IsSomeAnd}
 use Rattle.parallel_shares.specs.declared.shares.rule.View.{View}
 use Rattle.parallel_shares.specs.declared.shares.seat.Seat.{Seat}
@@ -12,7 +11,7 @@ use Rattle.parallel_shares.specs.Words.{IsWithin, IsEmptyWord}
 use Rattle.parallel_shares.specs.Sizes.{Sizes, shares_of, share_of}
 use Rattle.parallel_shares.specs.Answers.{cells_in, Pays, claim_cells}
 use Rattle.parallel_shares.specs.Sharing.{SomeSplitPays, loaded_at, loads_at, back_half, took_back, missed}
-use Rattle.parallel_shares.specs.Seats.{plan_of, own_share, own_word, own_loads, known, index_of, transit_of, has_emptied, claims_of, AreSomeCells, IsSeatOf, LoadsGrow, Steps}
+use Rattle.parallel_shares.specs.Seats.{plan_of, own_share, own_word, own_loads, known, index_of, transit_of, has_emptied, claims_of, AreSomeCells, IsSeatOf, LoadsGrow, CountsSteps}
 
 -- a plan of whole rows never splits a word, nor does a plan in which no opening word's split pays
 abbrev pub NeverSplits : Sizes → Type 0
@@ -88,15 +87,15 @@ TriesSteal sizes before Taken after =
     (known after) victim
     × ((known after).met ≡ loaded_at (known after) victim)
     × (transit_of after ≡ Some (back_half (loaded_at (known after) victim)))
-    × Steps 1 1 before after
+    × CountsSteps 1 1 before after
 TriesSteal sizes before Lost after =
     (victim : ℕ) × IsVictim sizes (share_of sizes (index_of before)) (shares_of sizes)
     (known after) victim
     × ((known after).met ≢ loaded_at (known after) victim) × (transit_of after ≡ None)
-    × Steps 1 0 before after
+    × CountsSteps 1 0 before after
 TriesSteal sizes before Nothing after =
     NonePays sizes (share_of sizes (index_of before)) (shares_of sizes) (known after)
-    × (transit_of after ≡ None) × Steps 0 0 before after
+    × (transit_of after ≡ None) × CountsSteps 0 0 before after
 TriesSteal sizes before (Claimed cells) after = ⊥
 TriesSteal sizes before Empty after = ⊥
 

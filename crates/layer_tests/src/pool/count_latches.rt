@@ -1,6 +1,6 @@
 //! A latch of shares.
 ghost use Rattle.std.specs.Prelude.{◌≡◌, All, IfOk, IfSome, false, true};
-ghost use Rattle.parallel_pool.specs.CountLatch.{IsShareOf, shares_of, unspent};
+ghost use Rattle.parallel_pool.specs.CountLatch.{IsShareOf, share_count, unspent};
 
 use crate::same::same;
 use parallel_pool::latch::{CountLatch, CountShare};
@@ -37,7 +37,7 @@ fn give_three(
     second: &mut CountShare,
     third: &mut CountShare,
 ) -> (bool, bool, bool)
-    requires three { shares_of latch.now ≡ 3 }
+    requires three { share_count latch.now ≡ 3 }
     requires belong { IsShareOf latch.now first.old × IsShareOf latch.now second.old
         × IsShareOf latch.now third.old }
     requires unspent { (unspent first.old ≡ 1) × (unspent second.old ≡ 1)

@@ -1,8 +1,7 @@
 //! The core latch, and the latches that say which worker to wake.
 ghost use Rattle.std.specs.Prelude.{◌≡◌, true};
-ghost use Rattle.parallel_pool.specs.Latch.{IsSeatOf};
-ghost use Rattle.parallel_pool.specs.SpinLatch.{core_of as core_of_spin};
-ghost use Rattle.parallel_pool.specs.OnceLatch.{core_of as core_of_once};
+ghost use Rattle.parallel_pool.specs.Latch.{IsLatchSeatOf};
+ghost use Rattle.parallel_pool.specs.WorkerLatch.{core_of};
 
 use crate::same::same;
 use parallel_pool::latch::{CoreLatch, LatchSeat, OnceLatch, SpinLatch};
@@ -12,7 +11,7 @@ use std::process::Abort;
 
 // A latch with one seat.
 pub(crate) fn core_latch(rt: &impl Abort, alloc: Global) -> (CoreLatch, LatchSeat)
-    ensures { IsSeatOf result.0 result.1 }
+    ensures { IsLatchSeatOf result.0 result.1 }
 {
     let (latch, mut seats) = CoreLatch::new(alloc, NonZeroUsize::MIN).expect(rt, "memory");
     let seat = seats.pop().expect(rt, "a seat");
@@ -20,7 +19,7 @@ pub(crate) fn core_latch(rt: &impl Abort, alloc: Global) -> (CoreLatch, LatchSea
 }
 
 fn spin_latch(rt: &impl Abort, alloc: Global, target: usize) -> (SpinLatch, LatchSeat)
-    ensures { IsSeatOf (core_of_spin result.0) result.1 }
+    ensures { IsLatchSeatOf (core_of result.0) result.1 }
 {
     let (latch, mut seats) = SpinLatch::new(alloc, NonZeroUsize::MIN, target).expect(rt, "memory");
     let seat = seats.pop().expect(rt, "a seat");
@@ -28,7 +27,7 @@ fn spin_latch(rt: &impl Abort, alloc: Global, target: usize) -> (SpinLatch, Latc
 }
 
 fn once_latch(rt: &impl Abort, alloc: Global, target: usize) -> (OnceLatch, LatchSeat)
-    ensures { IsSeatOf (core_of_once result.0) result.1 }
+    ensures { IsLatchSeatOf (core_of result.0) result.1 }
 {
     let (latch, mut seats) = OnceLatch::new(alloc, NonZeroUsize::MIN, target).expect(rt, "memory");
     let seat = seats.pop().expect(rt, "a seat");
@@ -62,8 +61,8 @@ fn a_woken_worker_may_get_sleepy_again(rt: HostRuntime) {
 
 // Whoever has learnt what the setter has seen, finds the latch set.
 fn set_and_tell(latch: &CoreLatch, setter: &mut LatchSeat, prober: &mut LatchSeat) -> bool
-    requires setter { IsSeatOf latch.now setter.old }
-    requires prober { IsSeatOf latch.now prober.old }
+    requires setter { IsLatchSeatOf latch.now setter.old }
+    requires prober { IsLatchSeatOf latch.now prober.old }
     ensures { result ≡ true }
 {
     latch.set(setter);

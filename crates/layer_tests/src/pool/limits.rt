@@ -1,6 +1,6 @@
 //! Threads that sleep, which have to be woken within a limit of time.
 ghost use Rattle.std.specs.Prelude.{◌≡◌, All};
-ghost use Rattle.parallel_pool.specs.Latch.{IsSeatOf};
+ghost use Rattle.parallel_pool.specs.Latch.{IsLatchSeatOf};
 
 use crate::pool::latches::core_latch;
 use crate::pool::pools::becomes;
@@ -86,7 +86,7 @@ fn idle_with_a_job<R: Wait>(
     latch: &CoreLatch,
     mut seat: LatchSeat,
 ) -> bool
-    requires { IsSeatOf latch.now seat }
+    requires { IsLatchSeatOf latch.now seat }
 {
     let Some(mut idle) = sleep.start_looking(rt, 0) else {
         return false;
@@ -128,7 +128,7 @@ fn idle_before_a_job<R: Wait>(
     latch: &CoreLatch,
     mut seat: LatchSeat,
 ) -> bool
-    requires { IsSeatOf latch.now seat }
+    requires { IsLatchSeatOf latch.now seat }
 {
     let Some(mut idle) = sleep.start_looking(rt, 0) else {
         return false;

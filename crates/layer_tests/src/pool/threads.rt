@@ -1,7 +1,7 @@
 //! Threads that wait for one another.
 ghost use Rattle.std.specs.Prelude.{◌≡◌, All};
 ghost use Rattle.parallel_pool.specs.CountLatch.{IsShareOf, unspent};
-ghost use Rattle.parallel_pool.specs.Latch.{IsSeatOf};
+ghost use Rattle.parallel_pool.specs.Latch.{IsLatchSeatOf};
 
 use crate::pool::count_latches::give_one;
 use crate::pool::latches::core_latch;
@@ -63,7 +63,7 @@ fn idle_until_woken<R: Wait>(
     latch: &CoreLatch,
     mut seat: LatchSeat,
 ) -> bool
-    requires { IsSeatOf latch.now seat }
+    requires { IsLatchSeatOf latch.now seat }
 {
     let Some(mut idle) = sleep.start_looking(rt, 0) else {
         return false;

@@ -37,13 +37,13 @@ impl CoreLatch {
     ghost use Rattle.std.specs.Prelude.{◌≡◌, ◌↔◌, All, IfOk, IsTrue, false, vec_len, ⊤};
     ghost use Rattle.parallel_pool.specs.LatchMoves.{is_unset, is_sleepy, is_sleeping, is_latched};
     ghost use Rattle.parallel_pool.specs.LatchHistory.{newcomer, Called, HasSeenSet, Learns};
-    ghost use Rattle.parallel_pool.specs.Latch.{IsSeatOf, known};
+    ghost use Rattle.parallel_pool.specs.Latch.{IsLatchSeatOf, known};
     ghost use Rattle.parallel_pool.specs.declared.latch.history.Act.TheVariants.{GetSleepy, FallAsleep, WakeUp, Set, Probe};
 
     /// A latch that isn't set, and its seats, of which each has seen nothing yet.
     pub fn new(alloc: Global, seats: NonZeroUsize) -> Result<(CoreLatch, Vec<LatchSeat>), Fault>
         ensures count { IfOk result (λ made. vec_len made.1 ≡ non_zero_usize_get seats) }
-        ensures seats { IfOk result (λ made. All (IsSeatOf made.0) made.1.items) }
+        ensures seats { IfOk result (λ made. All (IsLatchSeatOf made.0) made.1.items) }
         ensures fresh { IfOk result (λ made. All (λ seat. known seat ≡ newcomer) made.1.items) }
         ensures fault { IsMemoryOnErr result }
     {
@@ -58,7 +58,8 @@ impl CoreLatch {
 
     // The latch, and its first seat.
     fn of_word(alloc: Global) -> Result<(CoreLatch, LatchSeat), Fault>
-        ensures made { IfOk result (λ made. IsSeatOf made.0 made.1 × (known made.1 ≡ newcomer)) }
+        ensures made { IfOk result
+            (λ made. IsLatchSeatOf made.0 made.1 × (known made.1 ≡ newcomer)) }
         ensures fault { IsMemoryOnErr result }
     {
         let (table, seat) = Table::of_words(alloc, &[UNSET], &())?;
@@ -67,9 +68,9 @@ impl CoreLatch {
 
     // A further seat.
     fn seat(&self, founder: &mut LatchSeat) -> LatchSeat
-        requires { IsSeatOf self.now founder.old }
-        ensures founder { IsSeatOf self.now founder.new }
-        ensures seat { IsSeatOf self.now result }
+        requires { IsLatchSeatOf self.now founder.old }
+        ensures founder { IsLatchSeatOf self.now founder.new }
+        ensures seat { IsLatchSeatOf self.now result }
         ensures fresh { known result ≡ newcomer }
     {
         LatchSeat {
@@ -79,7 +80,7 @@ impl CoreLatch {
 
     /// A further seat, which has seen no call. It is no call of the latch, and takes no memory.
     pub fn newcomer(&self) -> LatchSeat
-        ensures seat { IsSeatOf self.now result }
+        ensures seat { IsLatchSeatOf self.now result }
         ensures fresh { known result ≡ newcomer }
     {
         let (_, seat) = self.table.shared.load_new_seat::<Enters>(0);
@@ -88,11 +89,11 @@ impl CoreLatch {
 
     /// Makes an unset latch sleepy, and says whether it did.
     pub fn get_sleepy(&self, seat: &mut LatchSeat) -> bool
-        requires { IsSeatOf self.now seat.old }
+        requires { IsLatchSeatOf self.now seat.old }
         ensures call { Called GetSleepy (λ phase. result ≡ is_unset phase) (known seat.old)
             (known seat.new) }
         ensures stays { HasSeenSet (known seat.old) → HasSeenSet (known seat.new) }
-        ensures seat { IsSeatOf self.now seat.new }
+        ensures seat { IsLatchSeatOf self.now seat.new }
     {
         let found = self
             .table
@@ -103,11 +104,11 @@ impl CoreLatch {
 
     /// Lets a sleepy latch's worker fall asleep, and says whether it did.
     pub fn fall_asleep(&self, seat: &mut LatchSeat) -> bool
-        requires { IsSeatOf self.now seat.old }
+        requires { IsLatchSeatOf self.now seat.old }
         ensures call { Called FallAsleep (λ phase. result ≡ is_sleepy phase) (known seat.old)
             (known seat.new) }
         ensures stays { HasSeenSet (known seat.old) → HasSeenSet (known seat.new) }
-        ensures seat { IsSeatOf self.now seat.new }
+        ensures seat { IsLatchSeatOf self.now seat.new }
     {
         let found = self
             .table
@@ -118,10 +119,10 @@ impl CoreLatch {
 
     /// Makes a latch whose worker is asleep unset again. Any other latch stays as it is.
     pub fn wake_up(&self, seat: &mut LatchSeat)
-        requires { IsSeatOf self.now seat.old }
+        requires { IsLatchSeatOf self.now seat.old }
         ensures call { Called WakeUp (λ _. ⊤) (known seat.old) (known seat.new) }
         ensures stays { HasSeenSet (known seat.old) → HasSeenSet (known seat.new) }
-        ensures seat { IsSeatOf self.now seat.new }
+        ensures seat { IsLatchSeatOf self.now seat.new }
     {
         self.table
             .shared
@@ -130,24 +131,24 @@ impl CoreLatch {
 
     /// Sets the latch, for good, and says whether its worker was asleep.
     pub fn set(&self, seat: &mut LatchSeat) -> bool
-        requires { IsSeatOf self.now seat.old }
+        requires { IsLatchSeatOf self.now seat.old }
         ensures call { Called Set (λ phase. result ≡ is_sleeping phase) (known seat.old)
             (known seat.new) }
         ensures sees { HasSeenSet (known seat.new) }
         ensures again { HasSeenSet (known seat.old) → result ≡ false }
-        ensures seat { IsSeatOf self.now seat.new }
+        ensures seat { IsLatchSeatOf self.now seat.new }
     {
         self.table.shared.swap::<Sets>(&mut seat.seat, 0, SET) == SLEEPING
     }
 
     /// Says whether the latch is set.
     pub fn probe(&self, seat: &mut LatchSeat) -> bool
-        requires { IsSeatOf self.now seat.old }
+        requires { IsLatchSeatOf self.now seat.old }
         ensures call { Called Probe (λ phase. result ≡ is_latched phase) (known seat.old)
             (known seat.new) }
         ensures sees { IsTrue result ↔ HasSeenSet (known seat.new) }
         ensures stays { HasSeenSet (known seat.old) → IsTrue result }
-        ensures seat { IsSeatOf self.now seat.new }
+        ensures seat { IsLatchSeatOf self.now seat.new }
     {
         self.table.shared.load::<Probes>(&mut seat.seat, 0) == SET
     }
@@ -155,14 +156,14 @@ impl CoreLatch {
     /// Lets a seat learn what another has seen. There is one history: of two seats of one latch,
     /// what the one has seen begins what the other has. It is no call of the latch.
     pub fn learn(&self, seat: &mut LatchSeat, other: &mut LatchSeat)
-        requires seat { IsSeatOf self.now seat.old }
-        requires other { IsSeatOf self.now other.old }
+        requires seat { IsLatchSeatOf self.now seat.old }
+        requires other { IsLatchSeatOf self.now other.old }
         ensures learns { Learns (known seat.old) (known other.old) (known seat.new) }
         ensures stays { HasSeenSet (known seat.old) → HasSeenSet (known seat.new) }
         ensures told { HasSeenSet (known other.old) → HasSeenSet (known seat.new) }
         ensures same { known other.new ≡ known other.old }
-        ensures seat { IsSeatOf self.now seat.new }
-        ensures other { IsSeatOf self.now other.new }
+        ensures seat { IsLatchSeatOf self.now seat.new }
+        ensures other { IsLatchSeatOf self.now other.new }
     {
         let teller = self.table.shared.split_seat::<Telling>(&mut other.seat);
         self.table

@@ -20,7 +20,7 @@ const LOW: u64 = 0xffff_ffff;
 ///
 /// One word counts the shares that are left. What a give says, it says of the history of all gives:
 /// that begins with what the share had seen, and ends with the share. Contracts name the number of
-/// shares by `shares_of`.
+/// shares by `share_count`.
 #[derive(Drop)]
 pub struct CountLatch {
     pub(crate) table: Table<(), ShareView, u64, EachOnce, Global>,
@@ -29,15 +29,16 @@ pub struct CountLatch {
 
 impl CountLatch {
     ghost use Rattle.std.specs.Prelude.{◌≡◌, ◌≤◌, ◌-◌, ◌<◌, ℕ, ◌↔◌, All, IfOk, IsTrue, [], length, vec_len};
-    ghost use Rattle.parallel_pool.specs.CountHistory.{Given, Longer, times_given};
-    ghost use Rattle.parallel_pool.specs.CountLatch.{IsShareOf, shares_of, knows, unspent, gives_seen};
+    ghost use Rattle.parallel_pool.specs.CountHistory.{Given, times_given};
+    ghost use Rattle.parallel_pool.specs.Histories.{Longer};
+    ghost use Rattle.parallel_pool.specs.CountLatch.{IsShareOf, share_count, knows, unspent, gives_seen};
 
     /// A latch of `count` shares, and the shares, of which each has seen no give yet.
     pub fn with_count(
         alloc: Global,
         count: NonZeroUsize,
     ) -> Result<(CountLatch, Vec<CountShare>), Fault>
-        ensures shares { IfOk result (λ made. shares_of made.0 ≡ non_zero_usize_get count) }
+        ensures shares { IfOk result (λ made. share_count made.0 ≡ non_zero_usize_get count) }
         ensures count { IfOk result (λ made. vec_len made.1 ≡ non_zero_usize_get count) }
         ensures belong { IfOk result (λ made. All (IsShareOf made.0) made.1.items) }
         ensures unspent { IfOk result (λ made. All (λ share. unspent share ≡ 1) made.1.items) }
@@ -55,7 +56,7 @@ impl CountLatch {
 
     // The latch, and a seat that holds all shares.
     fn of_word(alloc: Global, count: usize) -> Result<(CountLatch, CountShare), Fault>
-        ensures made { IfOk result (λ made. IsShareOf made.0 made.1 × (shares_of made.0 ≡ count)
+        ensures made { IfOk result (λ made. IsShareOf made.0 made.1 × (share_count made.0 ≡ count)
             × (unspent made.1 ≡ count)) }
         ensures fault { IsMemoryOnErr result }
     {
@@ -87,8 +88,8 @@ impl CountLatch {
         requires belongs { IsShareOf self.now share.old }
         requires unspent { unspent share.old ≡ 1 }
         ensures given { Given (knows share.old) (knows share.new) }
-        ensures last { IsTrue result ↔ (length (gives_seen share.new) ≡ shares_of self.now) }
-        ensures at_most { length (gives_seen share.new) ≤ shares_of self.now }
+        ensures last { IsTrue result ↔ (length (gives_seen share.new) ≡ share_count self.now) }
+        ensures at_most { length (gives_seen share.new) ≤ share_count self.now }
         ensures spent { unspent share.new ≡ 0 }
         ensures belongs { IsShareOf self.now share.new }
     {
@@ -124,7 +125,7 @@ impl CountLatch {
 
     /// Waits until all shares were given. The answer is a spent share that has seen them all.
     pub fn wait<R: Wait>(&self, rt: &R) -> CountShare
-        ensures all { length (gives_seen result) ≡ shares_of self.now }
+        ensures all { length (gives_seen result) ≡ share_count self.now }
         ensures once { (by : ℕ) → times_given by (gives_seen result) ≤ 1 }
         ensures spent { unspent result ≡ 0 }
         ensures belongs { IsShareOf self.now result }

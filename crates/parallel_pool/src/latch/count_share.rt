@@ -50,20 +50,20 @@ impl Split<ShareView> for Sharing {
 pub(crate) struct Telling;
 
 impl Split<ShareView> for Telling {
-    ghost use Rattle.parallel_pool.specs.CountHistory.{telling};
+    ghost use Rattle.parallel_pool.specs.CountHistory.{telling_gives};
 
     ghost left = { λ v. v };
 
-    ghost right = { telling };
+    ghost right = { telling_gives };
 }
 
 /// A share hears which gives another has seen, which is dropped.
 pub(crate) struct Hearing;
 
 impl Join<ShareView> for Hearing {
-    ghost use Rattle.parallel_pool.specs.CountHistory.{hearing, stranger};
+    ghost use Rattle.parallel_pool.specs.CountHistory.{hearing_gives, stranger};
 
-    ghost both = { hearing };
+    ghost both = { hearing_gives };
 
     ghost spent = { stranger };
 }
@@ -73,7 +73,8 @@ pub(crate) struct Learning;
 
 impl Play<(), ShareView> for Learning {
     ghost use Rattle.std.specs.Prelude.{◌≡◌};
-    ghost use Rattle.parallel_pool.specs.CountHistory.{Longer, SameShare};
+    ghost use Rattle.parallel_pool.specs.CountHistory.{SameShare};
+    ghost use Rattle.parallel_pool.specs.Histories.{Longer};
 
     ghost then = { λ _ me found after. Longer me.0.seen me.0.heard after.0.seen
         × SameShare me.0 after.0 × (after.1 ≡ me.1) };

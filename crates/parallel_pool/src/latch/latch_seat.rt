@@ -60,7 +60,7 @@ pub(crate) struct Learning;
 
 impl Play<(), View> for Learning {
     ghost use Rattle.std.specs.Prelude.{◌≡◌};
-    ghost use Rattle.parallel_pool.specs.LatchHistory.{Longer};
+    ghost use Rattle.parallel_pool.specs.Histories.{Longer};
 
     ghost then = { λ _ me found after. Longer me.0.seen me.0.heard after.0.seen
         × (after.0.own ≡ me.0.own) × (after.1 ≡ me.1) };

@@ -1,73 +1,9 @@
 //! A core latch that wakes one worker, once.
-ghost use Rattle.std.specs.Prelude.{◌≡◌};
-ghost use Rattle.std.specs.NonZero.{non_zero_usize_get};
-ghost use Rattle.parallel_fault.specs.Trouble.{IsMemoryOnErr};
+use crate::latch::worker_latch::WorkerLatch;
 
-use crate::latch::core_latch::CoreLatch;
-use crate::latch::latch_seat::LatchSeat;
-use parallel_fault::Fault;
-use std::alloc::Global;
-use std::num::NonZeroUsize;
+/// The kind of a latch on which its worker sleeps.
+#[derive(Drop)]
+pub struct Once;
 
 /// A core latch and the index of the one worker that it wakes.
-///
-/// Contracts name the core latch by `core_of` and the index by `target_of`.
-#[derive(Drop)]
-pub struct OnceLatch {
-    pub(crate) core_latch: CoreLatch,
-    pub(crate) target_worker_index: usize,
-}
-
-impl OnceLatch {
-    ghost use Rattle.std.specs.Prelude.{◌≡◌, ◌↔◌, All, IfOk, IsTrue, None, Some, vec_len, if◌then◌else◌};
-    ghost use Rattle.parallel_pool.specs.LatchMoves.{is_sleeping, is_latched};
-    ghost use Rattle.parallel_pool.specs.LatchHistory.{newcomer, Called, HasSeenSet};
-    ghost use Rattle.parallel_pool.specs.Latch.{IsSeatOf, known};
-    ghost use Rattle.parallel_pool.specs.OnceLatch.{core_of, target_of};
-    ghost use Rattle.parallel_pool.specs.declared.latch.history.Act.TheVariants.{Set, Probe};
-
-    /// A latch that isn't set, for the worker of this index, and its seats, of which each has seen
-    /// nothing yet.
-    pub fn new(
-        alloc: Global,
-        seats: NonZeroUsize,
-        target_worker_index: usize,
-    ) -> Result<(OnceLatch, Vec<LatchSeat>), Fault>
-        ensures target { IfOk result (λ made. target_of made.0 ≡ target_worker_index) }
-        ensures count { IfOk result (λ made. vec_len made.1 ≡ non_zero_usize_get seats) }
-        ensures seats { IfOk result (λ made. All (IsSeatOf (core_of made.0)) made.1.items) }
-        ensures fresh { IfOk result (λ made. All (λ seat. known seat ≡ newcomer) made.1.items) }
-        ensures fault { IsMemoryOnErr result }
-    {
-        let (core_latch, seats) = CoreLatch::new(alloc, seats)?;
-        let latch = OnceLatch {
-            core_latch,
-            target_worker_index,
-        };
-        Ok((latch, seats))
-    }
-
-    /// The core latch, for whoever waits.
-    pub fn as_core_latch(&self) -> &CoreLatch
-        ensures { result.now ≡ core_of self.now }
-    {
-        &self.core_latch
-    }
-
-    /// Sets the latch, for good, and answers the index of the worker to wake, which is there
-    /// exactly where that worker was asleep.
-    pub fn set(&self, seat: &mut LatchSeat) -> Option<usize>
-        requires { IsSeatOf (core_of self.now) seat.old }
-        ensures call { Called Set (λ phase. result ≡ (if is_sleeping phase
-            then Some (target_of self.now) else None)) (known seat.old) (known seat.new) }
-        ensures sees { HasSeenSet (known seat.new) }
-        ensures again { HasSeenSet (known seat.old) → result ≡ None }
-        ensures seat { IsSeatOf (core_of self.now) seat.new }
-    {
-        if self.core_latch.set(seat) {
-            Some(self.target_worker_index)
-        } else {
-            None
-        }
-    }
-}
+pub type OnceLatch = WorkerLatch<Once>;

@@ -29,12 +29,12 @@ impl<T: Drop> Model for InletPort<T> {
 impl<T: Drop> InletPort<T> {
     ghost use Rattle.std.specs.Prelude.{◌≡◌, MatchOption, MatchResult};
     ghost use Rattle.crossbeam_deque.specs.Steals.{MatchSteal};
-    ghost use Rattle.parallel_pool.specs.JobHistory.{HasPushed, HasTaken, newcomer};
+    ghost use Rattle.parallel_pool.specs.JobHistory.{HasPushed, HasTaken, new_pass};
     ghost use Rattle.parallel_pool.specs.declared.rayon.job_history.Deed.TheVariants.{TakeFirst};
 
     /// A pass that has seen nothing of the queue.
     pub(crate) fn new(queue: Arc<Inlet<T>, Global>) -> InletPort<T>
-        ensures { result ≡ newcomer }
+        ensures { result ≡ new_pass }
     {
         let pass = queue.pass();
         InletPort { queue, pass }

@@ -29,12 +29,12 @@ impl<T: Drop> Model for JobDeque<T> {
 
 impl<T: Drop> JobDeque<T> {
     ghost use Rattle.std.specs.Prelude.{◌≡◌, IfOk, MatchOption, MatchResult, false, true};
-    ghost use Rattle.parallel_pool.specs.JobHistory.{HasPushed, HasTaken, newcomer};
+    ghost use Rattle.parallel_pool.specs.JobHistory.{HasPushed, HasTaken, new_pass};
     ghost use Rattle.parallel_pool.specs.declared.rayon.job_history.Deed.TheVariants.{TakeLast};
 
     /// A deque to which nothing was pushed yet, with room for 32 jobs before it has to grow.
     pub(crate) fn new(alloc: Global) -> Result<JobDeque<T>, AllocError>
-        ensures { IfOk result (λ deque. deque ≡ newcomer) }
+        ensures { IfOk result (λ deque. deque ≡ new_pass) }
     {
         let own = Worker::lifo_as(alloc, 32)?;
         Ok(JobDeque { own })

@@ -42,13 +42,13 @@ pub struct JobView<T> {
 pub struct Numbered;
 
 impl<T> Protocol<T, JobView<T>> for Numbered {
-    ghost use Rattle.parallel_pool.specs.JobHistory.{IsJobHistoryOf, newcomer};
+    ghost use Rattle.parallel_pool.specs.JobHistory.{IsJobHistoryOf, new_pass};
 
     ghost holds = { IsJobHistoryOf };
 
-    ghost first = { newcomer };
+    ghost first = { new_pass };
 
-    ghost guest = { newcomer };
+    ghost guest = { new_pass };
 }
 
 /// The step of a push.

@@ -1,6 +1,6 @@
 //! The queues of a pool, and how a thread comes to its views of them.
 ghost use Rattle.std.specs.Prelude.{◌≡◌, All, IfOk, length, vec_len};
-ghost use Rattle.parallel_pool.specs.JobHistory.{newcomer};
+ghost use Rattle.parallel_pool.specs.JobHistory.{new_pass};
 ghost use Rattle.parallel_fault.specs.Trouble.{IsMemoryOnErr};
 
 use crate::rayon::inlet_port::{Inlet, InletPort};
@@ -16,7 +16,7 @@ use std::sync::Arc;
 
 /// The queues of a pool: one for the injected jobs, and for each worker a broadcast queue and a
 /// deque of its own. Each is numbered for itself. Contracts name the number of workers by
-/// `workers_of`.
+/// `worker_count`.
 #[derive(Drop)]
 pub struct JobQueues<T: Drop = OwnedJob> {
     injected: Arc<Inlet<T>, Global>,
@@ -48,7 +48,7 @@ fn open_inlets<T: Drop>(alloc: Global, count: usize) -> Result<Vec<Arc<Inlet<T>,
 // So many empty deques.
 fn open_deques<T: Drop>(alloc: Global, count: usize) -> Result<Vec<JobDeque<T>>, Fault>
     ensures count { IfOk result (λ made. vec_len made ≡ count) }
-    ensures fresh { IfOk result (λ made. All (λ view. view ≡ newcomer) made.items) }
+    ensures fresh { IfOk result (λ made. All (λ view. view ≡ new_pass) made.items) }
     ensures fault { IsMemoryOnErr result }
 {
     let mut all = Vec::new(alloc);
@@ -76,7 +76,7 @@ fn passes<T: Drop>(
     queues: &[Arc<Inlet<T>, Global>],
 ) -> Result<Vec<InletPort<T>>, Fault>
     ensures count { IfOk result (λ made. vec_len made ≡ length queues.now) }
-    ensures fresh { IfOk result (λ made. All (λ view. view ≡ newcomer) made.items) }
+    ensures fresh { IfOk result (λ made. All (λ view. view ≡ new_pass) made.items) }
     ensures fault { IsMemoryOnErr result }
 {
     let mut all = Vec::new(alloc);
@@ -89,7 +89,7 @@ fn passes<T: Drop>(
 // A thief's pass of each deque.
 fn thief_passes<T: Drop>(alloc: Global, deques: &[Thief<T>]) -> Result<Vec<ThiefPort<T>>, Fault>
     ensures count { IfOk result (λ made. vec_len made ≡ length deques.now) }
-    ensures fresh { IfOk result (λ made. All (λ view. view ≡ newcomer) made.items) }
+    ensures fresh { IfOk result (λ made. All (λ view. view ≡ new_pass) made.items) }
     ensures fault { IsMemoryOnErr result }
 {
     let mut all = Vec::new(alloc);
@@ -101,7 +101,7 @@ fn thief_passes<T: Drop>(alloc: Global, deques: &[Thief<T>]) -> Result<Vec<Thief
 
 impl<T: Drop> JobQueues<T> {
     ghost use Rattle.std.specs.NonZero.{non_zero_usize_get};
-    ghost use Rattle.parallel_pool.specs.JobQueues.{workers_of};
+    ghost use Rattle.parallel_pool.specs.JobQueues.{worker_count};
     ghost use Rattle.parallel_pool.specs.JobSeat.{IsFreshSeat};
 
     /// Empty queues for so many workers, and the workers' own deques, in order.
@@ -109,9 +109,9 @@ impl<T: Drop> JobQueues<T> {
         alloc: Global,
         workers: NonZeroUsize,
     ) -> Result<(JobQueues<T>, Vec<JobDeque<T>>), Fault>
-        ensures workers { IfOk result (λ made. workers_of made.0 ≡ non_zero_usize_get workers) }
+        ensures workers { IfOk result (λ made. worker_count made.0 ≡ non_zero_usize_get workers) }
         ensures count { IfOk result (λ made. vec_len made.1 ≡ non_zero_usize_get workers) }
-        ensures fresh { IfOk result (λ made. All (λ view. view ≡ newcomer) made.1.items) }
+        ensures fresh { IfOk result (λ made. All (λ view. view ≡ new_pass) made.1.items) }
         ensures fault { IsMemoryOnErr result }
     {
         let injected = open_inlet(alloc)?;
@@ -129,7 +129,7 @@ impl<T: Drop> JobQueues<T> {
     /// A seat for one thread, which has seen nothing yet. No pool stands over the queues, so
     /// nothing is counted and nobody woken.
     pub fn seat(&self, alloc: Global) -> Result<JobSeat<T>, Fault>
-        ensures seat { IfOk result (λ seat. IsFreshSeat (workers_of self.now) seat) }
+        ensures seat { IfOk result (λ seat. IsFreshSeat (worker_count self.now) seat) }
         ensures fault { IsMemoryOnErr result }
     {
         let injected = InletPort::new(Arc::try_clone(&self.injected)?);

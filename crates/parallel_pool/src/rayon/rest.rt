@@ -1,7 +1,7 @@
 //! What a worker rests by: its parker, and the latch that ends it.
 ghost use Rattle.std.specs.Arc.{arc_value};
-ghost use Rattle.parallel_pool.specs.Latch.{IsSeatOf};
-ghost use Rattle.parallel_pool.specs.OnceLatch.{core_of};
+ghost use Rattle.parallel_pool.specs.Latch.{IsLatchSeatOf};
+ghost use Rattle.parallel_pool.specs.WorkerLatch.{core_of};
 ghost use Rattle.parallel_fault.specs.Trouble.{IsMemoryOnErr};
 
 use crate::latch::latch_seat::LatchSeat;
@@ -19,7 +19,7 @@ pub(crate) struct Rest {
     parker: Parker,
     terminate: Arc<OnceLatch, Global>,
     seat: LatchSeat,
-    ghost seated: { IsSeatOf (core_of (arc_value terminate)) seat },
+    ghost seated: { IsLatchSeatOf (core_of (arc_value terminate)) seat },
 }
 
 impl Rest {

@@ -30,12 +30,12 @@ impl<T: Drop> Model for ThiefPort<T> {
 impl<T: Drop> ThiefPort<T> {
     ghost use Rattle.std.specs.Prelude.{◌≡◌, MatchOption};
     ghost use Rattle.crossbeam_deque.specs.Steals.{MatchSteal};
-    ghost use Rattle.parallel_pool.specs.JobHistory.{HasTaken, newcomer};
+    ghost use Rattle.parallel_pool.specs.JobHistory.{HasTaken, new_pass};
     ghost use Rattle.parallel_pool.specs.declared.rayon.job_history.Deed.TheVariants.{TakeFirst};
 
     /// A pass that has seen nothing of the deque.
     pub(crate) fn new(thief: Thief<T>) -> ThiefPort<T>
-        ensures { result ≡ newcomer }
+        ensures { result ≡ new_pass }
     {
         let pass = thief.pass();
         ThiefPort { thief, pass }

@@ -3,7 +3,7 @@ ghost use Rattle.std.specs.Prelude.{◌≡◌, ◌≤◌, ◌↔◌, IfOk, OnErr
 ghost use Rattle.parallel_shares.specs.Words.{IsEmptyWord};
 ghost use Rattle.parallel_shares.specs.Machine.{IsStateOf};
 ghost use Rattle.parallel_shares.specs.Answers.{Answers, AddsClaim, LoadAnswers, ClaimAnswers, StealAnswers, RefillAnswers};
-ghost use Rattle.parallel_shares.specs.Holders.{Steps};
+ghost use Rattle.parallel_shares.specs.Holders.{StepsByMoves};
 ghost use Rattle.parallel_shares.specs.declared.machine.event.Event.TheVariants.{Claim};
 ghost use Rattle.parallel_fault.specs.Trouble.{IsMemoryOnErr};
 
@@ -16,15 +16,15 @@ use parallel_fault::Fault;
 /// Takes one event on a state of this plan.
 ///
 /// The outcome and the change are those of `Answers`: what the event needs, what it found, and what
-/// it leaves. Where its need is not met it is `Refused` and changes nothing. `Steps` says that the
-/// units go from holder to holder by a claim, a steal or a refill, or not at all. The one refusal
-/// of the call itself is `Fault::Memory`, where the list of a seat's claims could not be grown; the
-/// state is then as it was. It comes only of an event as `AddsClaim` says: a claim whose remembered
-/// word is still there and isn't empty.
+/// it leaves. Where its need is not met it is `Refused` and changes nothing. `StepsByMoves` says
+/// that the units go from holder to holder by a claim, a steal or a refill, or not at all. The one
+/// refusal of the call itself is `Fault::Memory`, where the list of a seat's claims could not be
+/// grown; the state is then as it was. It comes only of an event as `AddsClaim` says: a claim whose
+/// remembered word is still there and isn't empty.
 pub fn step(plan: &Plan, state: &mut State, event: Event) -> Result<Outcome, Fault>
     requires { IsStateOf plan.now state.old }
     ensures answers { IfOk result (λ outcome. Answers plan.now state.old event outcome state.new) }
-    ensures moves { Steps plan.now state.old state.new }
+    ensures moves { StepsByMoves plan.now state.old state.new }
     ensures belongs { IsStateOf plan.now state.new }
     ensures unchanged { OnErr result (state.new ≡ state.old) }
     ensures refused { OnErr result (AddsClaim plan.now state.old event) }

@@ -29,13 +29,13 @@ pub struct View {
     pub plan: Plan,
 }
 
-/// Each cell is in one place: in a word, in transit or in a claim. `Kept` says it whole.
+/// Each cell is in one place: in a word, in transit or in a claim. `IsSharingOf` says it whole.
 pub struct Partition;
 
 impl TableRule<(), View, Plan> for Partition {
-    ghost use Rattle.parallel_shares.specs.Sharing.{Kept, undealt};
+    ghost use Rattle.parallel_shares.specs.Sharing.{IsSharingOf, undealt};
 
-    ghost holds = { Kept };
+    ghost holds = { IsSharingOf };
 
     ghost first = { λ sizes. undealt sizes 0 };
 }

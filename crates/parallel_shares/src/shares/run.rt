@@ -23,13 +23,13 @@ impl Shares {
     /// each stretch of what it claimed, in order.
     ///
     /// The claims that the seat gained are fronts of words (`IsFront`), and are cut into stretches
-    /// as `Cutting` says (`Worked`). Each stretch is filled by calls of `fill` with its row and neighbouring
-    /// columns, and then `finish` answers its result; all calls are lent one state, which begins as
-    /// the one handed in (`Finished`). `fill` is asked for columns of cells that are there alone,
-    /// at least one, and `finish` for rows that have such cells. The seat ends as after a `claim`
-    /// that answers `None`. The one refusal is `Fault::Memory`, where the list of results could not
-    /// grow: the seat is still one of these shares, its claims have grown by what was claimed, and
-    /// some of that has no result. `rt` is the right to go on trying.
+    /// as `Cutting` says (`Worked`). Each stretch is filled by calls of `fill` with its row and
+    /// neighbouring columns, and then `finish` answers its result; all calls are lent one state,
+    /// which begins as the one handed in (`Finished`). `fill` is asked for columns of cells that
+    /// are there alone, at least one, and `finish` for rows that have such cells. The seat ends as
+    /// after a `claim` that answers `None`. The one refusal is `Fault::Memory`, where the list of
+    /// results could not grow: the seat is still one of these shares, its claims have grown by what
+    /// was claimed, and some of that has no result. `rt` is the right to go on trying.
     pub fn run<W: Wait, T, R: Drop, L: Fn(&mut T, usize, Range<usize>), N: Fn(&mut T, usize) -> R>(
         &self,
         rt: &W,

@@ -21,7 +21,7 @@ pub struct Victim {
 
 impl Shares {
     ghost use Rattle.parallel_shares.specs.Sharing.{SomeSplitPays, looked};
-    ghost use Rattle.parallel_shares.specs.Seats.{plan_of, known, index_of, claims_of, has_emptied, transit_of, own_share, own_word, IsSeatOf, IsSameSeat, Steps};
+    ghost use Rattle.parallel_shares.specs.Seats.{plan_of, known, index_of, claims_of, has_emptied, transit_of, own_share, own_word, IsSeatOf, IsSameSeat, CountsSteps};
     ghost use Rattle.parallel_shares.specs.Steals.{LoadsOthers, IsBest, OnlyLooks, MeetsBack, TriesSteal, NeverSplits};
     ghost use Rattle.parallel_shares.specs.declared.shares.seat.Tried.TheVariants.{Nothing};
 
@@ -71,7 +71,7 @@ impl Shares {
         ensures stored { IfSome (transit_of seat.old)
             (λ units. own_word self.now seat.new ≡ packed units.start units.end) }
         ensures loads { (known seat.new).loads ≡ (known seat.old).loads }
-        ensures steps { Steps 0 1 seat.old seat.new }
+        ensures steps { CountsSteps 0 1 seat.old seat.new }
     {
         let Some(units) = seat.in_transit() else {
             unreachable!()

@@ -1,6 +1,6 @@
 -- The seat that took the step is back in its place.
 use Rattle.std.proofs.Common.{rules}
-use Rattle.parallel_shares.proofs.Gatherings.{seats_stepped}
+use Rattle.parallel_shares.proofs.GatherSeats.{seats_stepped}
 use Rattle.layer_tests.proofs.shares.steal_at.Goals as goal
 
 pub returns : goal.returns

@@ -1,3 +1,4 @@
+-- Each turn takes an event off the history.
 use Rattle.std.proofs.Common.{length}
 use Rattle.parallel_policy.proofs.replay.+after_runs.Given as goal
 

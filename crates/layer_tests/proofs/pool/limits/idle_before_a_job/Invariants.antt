@@ -1,5 +1,5 @@
-use Rattle.parallel_pool.specs.Latch.{IsSeatOf}
+use Rattle.parallel_pool.specs.Latch.{IsLatchSeatOf}
 use Rattle.layer_tests.proofs.pool.limits.idle_before_a_job.Given as goal
 
 abbrev pub invariant-loop : goal.invariant-loop
-invariant-loop g l = IsSeatOf l.latch l.seat
+invariant-loop g l = IsLatchSeatOf l.latch l.seat

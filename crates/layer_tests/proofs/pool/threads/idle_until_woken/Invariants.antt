@@ -1,5 +1,5 @@
-use Rattle.parallel_pool.specs.Latch.{IsSeatOf}
+use Rattle.parallel_pool.specs.Latch.{IsLatchSeatOf}
 use Rattle.layer_tests.proofs.pool.threads.idle_until_woken.Given as goal
 
 abbrev pub invariant-loop : goal.invariant-loop
-invariant-loop g l = IsSeatOf l.latch l.seat
+invariant-loop g l = IsLatchSeatOf l.latch l.seat

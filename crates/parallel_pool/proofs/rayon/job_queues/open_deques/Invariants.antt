@@ -1,9 +1,10 @@
+-- There is a deque for each turn, and none has seen anything.
 use Rattle.std.proofs.Common.{◌≡◌, All, vec_len}
-use Rattle.parallel_pool.specs.JobHistory.{newcomer}
+use Rattle.parallel_pool.specs.JobHistory.{new_pass}
 use Rattle.parallel_pool.proofs.rayon.job_queues.open_deques.Given as goal
 
 abbrev pub invariant-loop : goal.invariant-loop
 invariant-loop g l = record {
   count : vec_len l.all ≡ l.counter;
-  fresh : All (λ view. view ≡ newcomer) l.all.items;
+  fresh : All (λ view. view ≡ new_pass) l.all.items;
 }

@@ -1,9 +1,10 @@
+-- There is a pass for each queue so far, and none has seen anything.
 use Rattle.std.proofs.Common.{◌≡◌, All, vec_len}
-use Rattle.parallel_pool.specs.JobHistory.{newcomer}
+use Rattle.parallel_pool.specs.JobHistory.{new_pass}
 use Rattle.parallel_pool.proofs.rayon.job_queues.thief_passes.Given as goal
 
 abbrev pub invariant-loop-place : goal.invariant-loop-place
 invariant-loop-place g l = record {
   count : vec_len l.all ≡ l.place;
-  fresh : All (λ view. view ≡ newcomer) l.all.items;
+  fresh : All (λ view. view ≡ new_pass) l.all.items;
 }

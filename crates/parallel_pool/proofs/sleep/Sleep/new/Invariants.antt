@@ -1,3 +1,4 @@
+-- There is a parker for each turn.
 use Rattle.std.proofs.Common.{◌≡◌, vec_len}
 use Rattle.parallel_pool.proofs.sleep.Sleep.new.Given as goal
 

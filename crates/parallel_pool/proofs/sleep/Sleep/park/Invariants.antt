@@ -1,4 +1,5 @@
-use Rattle.parallel_pool.specs.Latch.{IsSeatOf, known}
+-- The worker has only probed its latch, and still has a seat of it.
+use Rattle.parallel_pool.specs.Latch.{IsLatchSeatOf, known}
 use Rattle.parallel_pool.specs.LatchHistory.{HasSeenSet}
 use Rattle.parallel_pool.specs.SleepTries.{OnlyProbes}
 use Rattle.parallel_pool.proofs.sleep.Sleep.park.Given as goal
@@ -6,6 +7,6 @@ use Rattle.parallel_pool.proofs.sleep.Sleep.park.Given as goal
 abbrev pub invariant-loop : goal.invariant-loop
 invariant-loop g l = record {
   probes : OnlyProbes (known l.fn.seat) (known l.seat);
-  seat : IsSeatOf l.latch l.seat;
+  seat : IsLatchSeatOf l.latch l.seat;
   stays : HasSeenSet (known l.fn.seat) → HasSeenSet (known l.seat);
 }

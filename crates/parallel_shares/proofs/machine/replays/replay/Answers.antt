@@ -6,7 +6,7 @@ use Rattle.parallel_shares.specs.declared.machine.event.Event.TheVariants.{Load}
 use Rattle.parallel_shares.specs.Machine.{opening}
 use Rattle.parallel_shares.specs.Answers.{Replays}
 use Rattle.parallel_shares.proofs.Openings.{opening_is_state}
-use Rattle.parallel_shares.proofs.Runs.{replays_more, one_each, reached_first, replays_reach}
+use Rattle.parallel_shares.proofs.ReplaysReach.{replays_more, one_each, reached_first, replays_reach}
 use Rattle.parallel_shares.proofs.machine.replays.replay.Goals as goal
 use Rattle.parallel_shares.proofs.machine.replays.replay.Goals.{After-loop-event}
 

@@ -2,10 +2,10 @@
 use Rattle.parallel_shares.specs.declared.machine.event.Event.TheVariants.{Load, Claim, Steal, Refill}
 use Rattle.parallel_shares.specs.Machine.{IsStateOf}
 use Rattle.parallel_shares.specs.Answers.{ClaimAnswers}
-use Rattle.parallel_shares.specs.Holders.{Steps}
-use Rattle.parallel_shares.proofs.Kept.{answers_keep}
-use Rattle.parallel_shares.proofs.Moved.{answers_move, unmoved}
-use Rattle.parallel_shares.proofs.Runs.{either_way}
+use Rattle.parallel_shares.specs.Holders.{StepsByMoves}
+use Rattle.parallel_shares.proofs.EventsKeepState.{answers_keep}
+use Rattle.parallel_shares.proofs.EventsMoveUnits.{answers_move, unmoved}
+use Rattle.parallel_shares.proofs.ReplaysReach.{either_way}
 use Rattle.parallel_shares.proofs.machine.steps.step.Goals as goal
 
 pub returns-in-Load-clause-moves : goal.returns-in-Load-clause-moves
@@ -24,7 +24,7 @@ returns-in-Claim-clause-moves c =
     let old = c.args.state.now in
     let new = c.claim.new.state in
     either_way old new c.claim.result (λ o. ClaimAnswers plan old c.in-Claim.seat o new)
-    (λ m. Steps plan old m) c.claim.ensures.answers c.claim.ensures.unchanged
+    (λ m. StepsByMoves plan old m) c.claim.ensures.answers c.claim.ensures.unchanged
     (λ o a. answers_move plan old c.requires (Claim c.in-Claim.seat) o new a) (unmoved plan old)
 
 pub returns-in-Claim-clause-belongs : goal.returns-in-Claim-clause-belongs

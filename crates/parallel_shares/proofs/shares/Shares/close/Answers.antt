@@ -1,6 +1,6 @@
 -- The table was closed with a seat that has all that the seats had.
 use Rattle.std.proofs.Common.{◌∙◌, sym, subst}
-use Rattle.parallel_shares.specs.Sharing.{Kept}
+use Rattle.parallel_shares.specs.Sharing.{IsSharingOf}
 use Rattle.parallel_shares.specs.Seats.{IsPartition, AllEmpty}
 use Rattle.parallel_shares.proofs.Closings.{partition, empty, each_once, opening_stands}
 use Rattle.parallel_shares.proofs.shares.Shares.close.Goals as goal
@@ -11,7 +11,7 @@ returns-clause-partition c =
     let s = last.0 in
     let at = last.1.1 in
     let are = last.2 in
-    let k = subst (λ z. Kept z s) c.args.self.key last.1.0 in
+    let k = subst (λ z. IsSharingOf z s) c.args.self.key last.1.0 in
     subst (λ ws. IsPartition c.args.self.plan ws c.args.seats.items)
     (are ∙ sym c.final_words-words.ensures)
     (partition c.args.self c.args.seats.items c.requires s k c.gather-all.result.id
@@ -23,7 +23,7 @@ returns-clause-empty c done =
     let s = last.0 in
     let at = last.1.1 in
     let are = last.2 in
-    let k = subst (λ z. Kept z s) c.args.self.key last.1.0 in
+    let k = subst (λ z. IsSharingOf z s) c.args.self.key last.1.0 in
     subst AllEmpty (are ∙ sym c.final_words-words.ensures)
     (empty c.args.self c.args.seats.items c.requires s k c.gather-all.result.id
     c.gather-all.result.me.0 at c.gather-all.ensures.view done)
@@ -34,7 +34,7 @@ returns-clause-each_once c done =
     let s = last.0 in
     let at = last.1.1 in
     let are = last.2 in
-    let k = subst (λ z. Kept z s) c.args.self.key last.1.0 in
+    let k = subst (λ z. IsSharingOf z s) c.args.self.key last.1.0 in
     each_once c.args.self c.args.seats.items c.requires s k c.gather-all.result.id
     c.gather-all.result.me.0 at c.gather-all.ensures.view done
 
@@ -44,7 +44,7 @@ returns-clause-opening c none_of =
     let s = last.0 in
     let at = last.1.1 in
     let are = last.2 in
-    let k = subst (λ z. Kept z s) c.args.self.key last.1.0 in
+    let k = subst (λ z. IsSharingOf z s) c.args.self.key last.1.0 in
     c.final_words-words.ensures ∙ sym are
     ∙ opening_stands c.args.self c.args.seats.items c.requires s k c.gather-all.result.id
     c.gather-all.result.me.0 at c.gather-all.ensures.view none_of

@@ -2,8 +2,8 @@
 use Rattle.std.proofs.Common.{◌∙◌, ap, subst, sym, arith}
 use Rattle.parallel_shares.specs.Seats.{IsSeatOf}
 use Rattle.parallel_shares.proofs.Openings.{some_shares}
-use Rattle.parallel_shares.proofs.Keeping.{joins}
-use Rattle.parallel_shares.proofs.Gatherings.{Gathering, gathers_one, gathers_more, each_left, the_last}
+use Rattle.parallel_shares.proofs.DealingKeepsSharing.{joins}
+use Rattle.parallel_shares.proofs.GatherSeats.{Gathering, gathers_one, gathers_more, each_left, the_last}
 use Rattle.parallel_shares.proofs.shares.Shares.gather.Goals as goal
 
 pub loop-seat-init : goal.loop-seat-init

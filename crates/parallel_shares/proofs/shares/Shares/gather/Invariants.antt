@@ -2,7 +2,7 @@
 use Rattle.std.proofs.Common.{◌≡◌, ◌<◌, ℕ, length, get_or}
 use Rattle.parallel_shares.specs.declared.shares.seat.Seat.{Seat}
 use Rattle.parallel_shares.specs.Seats.{IsSeatOf}
-use Rattle.parallel_shares.proofs.Gatherings.{Gathering}
+use Rattle.parallel_shares.proofs.GatherSeats.{Gathering}
 use Rattle.parallel_shares.proofs.shares.Shares.gather.Given as goal
 
 abbrev pub invariant-loop-seat : goal.invariant-loop-seat

@@ -1,6 +1,6 @@
 -- The load keeps what words and seats keep together.
 use Rattle.std.proofs.Common.{arith}
-use Rattle.parallel_shares.proofs.Keeping.{looks_at}
+use Rattle.parallel_shares.proofs.StepsKeepSharing.{looks_at}
 use Rattle.parallel_shares.proofs.shares.Shares.look_at.Goals as goal
 
 pub load-requires : goal.load-requires

@@ -4,14 +4,14 @@ use Rattle.parallel_shares.specs.Sizes.{shares_of}
 use Rattle.parallel_shares.proofs.Openings.{length_opening}
 use Rattle.parallel_shares.proofs.shares.Shares.new.Goals.{In_ok-table}
 use Rattle.atomic_table.specs.Table.{opening}
-use Rattle.parallel_shares.specs.Sharing.{undealt, Kept}
-use Rattle.parallel_shares.proofs.Keeping.{opens}
+use Rattle.parallel_shares.specs.Sharing.{undealt, IsSharingOf}
+use Rattle.parallel_shares.proofs.DealingKeepsSharing.{opens}
 use Rattle.parallel_shares.proofs.shares.Shares.new.Goals as goal
 
 pub of_words-requires : goal.of_words-requires
 of_words-requires c =
     let plan = c.new-plan.result in
-    subst (λ ws. Kept plan (opening ws [] (undealt plan 0)))
+    subst (λ ws. IsSharingOf plan (opening ws [] (undealt plan 0)))
     (sym (c.deref.ensures.value ∙ c.in_ok-words.ensures.words))
     (opens plan c.new-plan.ensures.sound)
 

@@ -3,8 +3,8 @@ use Rattle.std.proofs.Common.{◌≡◌, ◌<◌, ◌∙◌, Some, [], ◌∷◌
 use Rattle.parallel_shares.specs.Sizes.{shares_of, share_of}
 use Rattle.parallel_shares.specs.Seats.{Carries}
 use Rattle.parallel_shares.specs.Sharing.{ranges_of}
-use Rattle.parallel_shares.proofs.Keeping.{puts_down}
-use Rattle.parallel_shares.proofs.Sharings.{share_exists}
+use Rattle.parallel_shares.proofs.StepsKeepSharing.{puts_down}
+use Rattle.parallel_shares.proofs.ShareOfSeat.{share_exists}
 use Rattle.parallel_shares.proofs.shares.Shares.refill.Goals as goal
 
 pub store-requires : goal.store-requires

@@ -5,8 +5,8 @@ use Rattle.parallel_shares.specs.Seats.{plan_of, claims_of}
 use Rattle.parallel_shares.specs.Fronts.{IsFront}
 use Rattle.parallel_shares.specs.Stretches.{all_cells}
 use Rattle.parallel_shares.proofs.Stretching.{cells_push}
-use Rattle.parallel_shares.proofs.Filling.{way_begins, way_ends}
-use Rattle.parallel_shares.proofs.Looks.{grows_from, found_since}
+use Rattle.parallel_shares.proofs.FillsUnderway.{way_begins, way_ends}
+use Rattle.parallel_shares.proofs.LoadCounts.{grows_from, found_since}
 use Rattle.parallel_shares.proofs.shares.Shares.run.Goals as goal
 
 pub loop-init : goal.loop-init

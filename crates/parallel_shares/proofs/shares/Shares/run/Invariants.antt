@@ -1,5 +1,4 @@
--- What the seat gained so far was cut, filled and finished, but for the open stretch, whose row may
--- be finished.
+-- What the seat gained so far was cut, filled and finished, but for the open stretch.
 use Rattle.std.proofs.Common.{◌≡◌, ℕ, List, ◌++◌, All, IfSome}
 use Rattle.std.specs.Borrow.{MutBor}
 use Rattle.std.specs.declared.ops.Range.{Range}

@@ -41,7 +41,8 @@ loop-at-preserved g c =
       begun = omega (arith, i.begun);
       within = omega (arith, i.begun, i.within, piece.ensures.within, c.loop-at-test.true);
       accepts = λ state. rw c.in_ok-fill_piece.ensures.row (c.requires.finish_accepts state
-          piece.result.row (omega (arith, piece.ensures.start, c.loop-at-test.true, piece.ensures.piece.0)));
+          piece.result.row
+          (omega (arith, piece.ensures.start, c.loop-at-test.true, piece.ensures.piece.0)));
       chain = λ first cells way.
           rw (← claim_more len cells start at piece.result i.begun piece.ensures.start)
           (c.in_ok-fill_piece.ensures.chain len piece.ensures.piece first

@@ -1,5 +1,4 @@
--- The cells of the claim so far were filled behind those from before, and the open row may be
--- finished.
+-- The cells of the claim so far were filled behind those from before.
 use Rattle.std.proofs.Common.{◌-◌, ◌≤◌, IfSome}
 use Rattle.std.specs.Borrow.{MutBor}
 use Rattle.std.specs.List.{range_with_len}
@@ -13,8 +12,8 @@ invariant-loop-at g l = record {
   accepts : IfSome l.opened
       (λ piece. (state : MutBor g.row.T.Denot) → goal.N-pre g l.finish state piece.row);
   chain : GoesOn (Fills (goal.L-post g l.fill)) (Gives (goal.N-post g l.finish)) l.len
-      (range_with_len l.claim.start (l.at - l.claim.start)) l.fn.opened l.fn.results.items l.fn.state
-      l.opened l.results.items l.state;
+      (range_with_len l.claim.start (l.at - l.claim.start)) l.fn.opened l.fn.results.items
+      l.fn.state l.opened l.results.items l.state;
 }
 
 abbrev pub decreases-loop-at : goal.decreases-loop-at

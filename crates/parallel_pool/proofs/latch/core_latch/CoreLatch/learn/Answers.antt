@@ -1,7 +1,7 @@
 -- A new seat tells what the other has seen, and the load brings both together.
 use Rattle.std.proofs.Common.{arith, refl, ap, ◌∙◌}
 use Rattle.parallel_pool.specs.LatchMoves.{phase_after}
-use Rattle.parallel_pool.specs.LatchHistory.{Longer}
+use Rattle.parallel_pool.specs.Histories.{Longer}
 use Rattle.parallel_pool.proofs.LatchSteps.{seats}
 use Rattle.parallel_pool.proofs.LatchLearns.{hears, learns, learns_set}
 use Rattle.parallel_pool.proofs.latch.core_latch.CoreLatch.learn.Goals as goal

@@ -1,12 +1,13 @@
+-- There is a seat of the latch for each turn, and none has seen a call.
 use Rattle.std.proofs.Common.{◌≡◌, All, vec_len}
 use Rattle.parallel_pool.specs.LatchHistory.{newcomer}
-use Rattle.parallel_pool.specs.Latch.{IsSeatOf, known}
+use Rattle.parallel_pool.specs.Latch.{IsLatchSeatOf, known}
 use Rattle.parallel_pool.proofs.latch.core_latch.CoreLatch.new.Given as goal
 
 abbrev pub invariant-loop : goal.invariant-loop
 invariant-loop l = record {
   count : vec_len l.all ≡ l.counter;
-  founder : IsSeatOf l.latch l.founder;
-  seats : All (IsSeatOf l.latch) l.all.items;
+  founder : IsLatchSeatOf l.latch l.founder;
+  seats : All (IsLatchSeatOf l.latch) l.all.items;
   fresh : All (λ seat. known seat ≡ newcomer) l.all.items;
 }

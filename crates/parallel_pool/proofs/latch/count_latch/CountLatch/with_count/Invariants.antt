@@ -1,11 +1,12 @@
+-- There is an unspent share for each turn, and the founder has those that are left.
 use Rattle.std.proofs.Common.{◌≡◌, ◌+◌, All, [], vec_len}
 use Rattle.std.specs.NonZero.{non_zero_usize_get}
-use Rattle.parallel_pool.specs.CountLatch.{IsShareOf, shares_of, unspent, gives_seen}
+use Rattle.parallel_pool.specs.CountLatch.{IsShareOf, share_count, unspent, gives_seen}
 use Rattle.parallel_pool.proofs.latch.count_latch.CountLatch.with_count.Given as goal
 
 abbrev pub invariant-loop : goal.invariant-loop
 invariant-loop l = record {
-  of : shares_of l.latch ≡ non_zero_usize_get l.fn.count;
+  of : share_count l.latch ≡ non_zero_usize_get l.fn.count;
   count : vec_len l.all ≡ l.counter;
   founder : IsShareOf l.latch l.founder;
   left : unspent l.founder + l.counter ≡ non_zero_usize_get l.fn.count;

@@ -1,7 +1,7 @@
 -- The pass of the queue has pushed, and no other did anything.
 use Rattle.std.proofs.Common.{◌≡◌, arith, ap, length}
 use Rattle.std.proofs.lemmas.List.{get_or_read_under}
-use Rattle.parallel_pool.specs.JobHistory.{newcomer, HasPushed}
+use Rattle.parallel_pool.specs.JobHistory.{new_pass, HasPushed}
 use Rattle.parallel_pool.specs.JobSeat.{SeatView}
 use Rattle.parallel_pool.specs.declared.rayon.queue.Queue.TheVariants.{Broadcast}
 use Rattle.parallel_pool.proofs.JobSeats.{after_push}
@@ -12,7 +12,7 @@ returns g c =
     let long : length c.self.inside.broadcasts.items ≡ length c.args.self.now.broadcasts =
     ap (λ (s : SeatView _). length s.broadcasts) c.self.view_is in
     let read =
-    get_or_read_under c.self.inside.broadcasts.items c.args.worker _ _ newcomer
+    get_or_read_under c.self.inside.broadcasts.items c.args.worker _ _ new_pass
     c.index_mut.ensures.value (omega (arith, c.requires, long, c.self.inside.broadcasts.ok.0))
     c.self.inside.broadcasts.ok.0 in
     after_push (Broadcast c.args.worker)

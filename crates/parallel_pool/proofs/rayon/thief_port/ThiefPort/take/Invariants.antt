@@ -1,3 +1,4 @@
+-- What was tried so far took nothing.
 use Rattle.std.proofs.Common.{◌≡◌}
 use Rattle.parallel_pool.proofs.rayon.thief_port.ThiefPort.take.Given as goal
 

@@ -1,5 +1,4 @@
--- The first unit begins before the cells end, so its cells do not run past the end of the last
--- one's.
+-- The first unit begins before the cells end, and its cells end no later than the last one's.
 use Rattle.std.proofs.Common.{◌≡◌, ap, sym, arith}
 use Rattle.std.proofs.lemmas.Nat.{mul-le}
 use Rattle.parallel_shares.specs.Sizes.{Sizes}

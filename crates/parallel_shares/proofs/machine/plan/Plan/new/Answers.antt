@@ -2,7 +2,7 @@
 use Rattle.std.proofs.Common.{rules, ◌≡◌, ◌*◌, subst, sym, arith}
 use Rattle.std.specs.Int.NonZero.{non_zero_usize_get}
 use Rattle.parallel_shares.specs.Sizes.{Work, Sizes, sizes_of, IsSound}
-use Rattle.parallel_shares.proofs.Sounds.{sizes_sound}
+use Rattle.parallel_shares.proofs.SoundSizes.{sizes_sound}
 use Rattle.parallel_shares.proofs.machine.plan.Plan.new.Goals as goal
 
 -- what the plan is made for

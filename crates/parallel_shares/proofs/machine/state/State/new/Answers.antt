@@ -1,5 +1,4 @@
--- The words and the places are those of the opening, which belongs to the plan and shows who holds
--- each unit at first.
+-- The words and the places are those of the opening, which belongs to the plan.
 use Rattle.std.proofs.Common.{rules, ◌≡◌, map, sym, subst}
 use Rattle.parallel_shares.specs.Cut.{BalancedCut}
 use Rattle.parallel_shares.specs.Words.{range_of}

@@ -1,5 +1,4 @@
--- Every event leads from holders that the machine showed to holders that it shows: by one move, or
--- by none.
+-- Every event leads from holders that the machine showed to holders that it shows.
 use Rattle.std.proofs.Common.{◌≡◌, ℕ, ◌+◌, ◌<◌, ◌≤◌, inl, inr, Bool, true, false, cond, [], ◌∷◌, length, Some, None, refl, sym, ap, ◌∙◌, arith}
 use Rattle.std.proofs.lemmas.Bool.{cases_eq}
 use Rattle.std.proofs.lemmas.List.{length-set}
@@ -13,34 +12,35 @@ use Rattle.parallel_shares.specs.Words.{start_of, end_of, packed, IsEmptyWord}
 use Rattle.parallel_shares.specs.Sizes.{Sizes, shares_of, share_of}
 use Rattle.parallel_shares.specs.Machine.{Machine, word_at, place_at, with_word, remembers, forgets, gains, carries, IsStateOf}
 use Rattle.parallel_shares.specs.Answers.{CanClaim, CanSteal, CanRefill, claim_stop, claim_cells, middle_of, Pays, LoadAnswers, ClaimAnswers, StealAnswers, RefillAnswers, Answers}
-use Rattle.parallel_shares.specs.Holders.{pending, carried, claimed, Holders, Claims, Steals, Refills, claim, steal, refill, inside, in_word, in_transit, in_ranges, same, Shows, Steps}
+use Rattle.parallel_shares.specs.Holders.{pending, carried, claimed, Holders, Claims, Steals, Refills, claim, steal, refill, inside, in_word, in_transit, in_ranges, same, Shows, StepsByMoves}
 use Rattle.parallel_shares.proofs.Words.{start_of_packed, end_of_packed}
 use Rattle.parallel_shares.proofs.Counts.{side, within, before, after, inside_within, inside_cut, inside_nothing, inside_cells, inside_no_cells}
-use Rattle.parallel_shares.proofs.Lists.{in_ranges_push}
-use Rattle.parallel_shares.proofs.Places.{word_there, word_elsewhere, remembers_transit, remembers_claims, forgets_transit, forgets_claims, gains_transit}
-use Rattle.parallel_shares.proofs.Places.{gains_there, gains_elsewhere, carries_claims, carries_there, carries_elsewhere, rememberer, carrier}
-use Rattle.parallel_shares.proofs.Kept.{remembered_within, carried_within, steal_cuts}
-use Rattle.parallel_shares.proofs.Shown.{same_self, same_holder, other_pending, other_carried, other_claimed, handed, gives, takes, keeps, hands_over, Changes, shows_handed, shows_still}
+use Rattle.parallel_shares.proofs.ListWrites.{in_ranges_push}
+use Rattle.parallel_shares.proofs.MachineChanges.{word_there, word_elsewhere, remembers_transit, remembers_claims, forgets_transit, forgets_claims, gains_transit}
+use Rattle.parallel_shares.proofs.MachineChanges.{gains_there, gains_elsewhere, carries_claims, carries_there, carries_elsewhere, rememberer, carrier}
+use Rattle.parallel_shares.proofs.EventsKeepState.{remembered_within, carried_within, steal_cuts}
+use Rattle.parallel_shares.proofs.UnitsHandedOver.{same_self, same_holder, other_pending, other_carried, other_claimed, handed, gives, takes, keeps, hands_over, Changes, shows_handed, shows_still}
 
 -- ---- no move
 
 -- a machine that shows what it showed before leads there by no move
 still : (sizes : Sizes) (old new : Machine) → ((share : ℕ) → word_at new share ≡ word_at old share)
     → ((seat : ℕ) → (place_at new seat).transit ≡ (place_at old seat).transit)
-    → ((seat : ℕ) → (place_at new seat).claims ≡ (place_at old seat).claims) → Steps sizes old new
+    → ((seat : ℕ) → (place_at new seat).claims ≡ (place_at old seat).claims)
+    → StepsByMoves sizes old new
 still sizes old new w t c holders s = ([], holders, refl, shows_still sizes old new holders w t c s)
 
-pub unmoved : (sizes : Sizes) (machine : Machine) → Steps sizes machine machine
+pub unmoved : (sizes : Sizes) (machine : Machine) → StepsByMoves sizes machine machine
 unmoved sizes machine = still sizes machine machine (λ _. refl) (λ _. refl) (λ _. refl)
 
 forgotten : (sizes : Sizes) (machine : Machine) (seat : ℕ)
-    → Steps sizes machine (forgets machine seat)
+    → StepsByMoves sizes machine (forgets machine seat)
 forgotten sizes machine seat =
     still sizes machine (forgets machine seat) (λ _. refl) (forgets_transit machine seat)
     (forgets_claims machine seat)
 
 remembered : (sizes : Sizes) (machine : Machine) (seat : ℕ) (load : Remembered)
-    → Steps sizes machine (remembers machine seat load)
+    → StepsByMoves sizes machine (remembers machine seat load)
 remembered sizes machine seat load =
     still sizes machine (remembers machine seat load) (λ _. refl)
     (remembers_transit machine seat load) (remembers_claims machine seat load)
@@ -177,7 +177,7 @@ module _ (sizes : Sizes) (old : Machine) (state : IsStateOf sizes old) (seat : �
         ];
       }
 
-  claims_move : Steps sizes old claimer
+  claims_move : StepsByMoves sizes old claimer
   claims_move holders s =
       let from : ℕ = start_of had in
       let to : ℕ = claim_stop sizes had in
@@ -271,7 +271,7 @@ module _ (sizes : Sizes) (old : Machine) (state : IsStateOf sizes old) (seat : �
             (carries_claims forgot seat (Some back) k ∙ forgets_claims old seat k);
       }
 
-  steals_move : Steps sizes old thief
+  steals_move : StepsByMoves sizes old thief
   steals_move holders s =
       let from : ℕ = middle_of loaded in
       let to : ℕ = end_of loaded in
@@ -363,7 +363,7 @@ module _ (sizes : Sizes) (old : Machine) (state : IsStateOf sizes old) (seat : �
         no_more = λ c k h. ap (λ rs. in_ranges c rs) (carries_claims old seat None k);
       }
 
-  refills_move : Steps sizes old filled
+  refills_move : StepsByMoves sizes old filled
   refills_move holders s =
       let from : ℕ = units.start in
       let to : ℕ = units.end in
@@ -398,14 +398,14 @@ module _ (sizes : Sizes) (old : Machine) (state : IsStateOf sizes old) (seat : �
 
 module _ (sizes : Sizes) (old : Machine) (state : IsStateOf sizes old) where
   load_moves : (seat share : ℕ) (outcome : Outcome) (new : Machine)
-      → LoadAnswers old seat share outcome new → Steps sizes old new
+      → LoadAnswers old seat share outcome new → StepsByMoves sizes old new
   load_moves seat share (Loaded word) new (can, w, e) =
       rw e (remembered sizes old seat (record { share = share; word = word }))
   load_moves seat share Refused new (_, e) = rw e (unmoved sizes old)
   load_moves seat share _ new a = absurd a
 
   claim_moves : (seat : ℕ) (outcome : Outcome) (new : Machine)
-      → ClaimAnswers sizes old seat outcome new → Steps sizes old new
+      → ClaimAnswers sizes old seat outcome new → StepsByMoves sizes old new
   claim_moves seat Empty new (word, can, empty, e) = rw e (forgotten sizes old seat)
   claim_moves seat Lost new (word, can, some, lost, e) = rw e (forgotten sizes old seat)
   claim_moves seat (Claimed cells) new (word, can, some, found, is, e) =
@@ -414,7 +414,7 @@ module _ (sizes : Sizes) (old : Machine) (state : IsStateOf sizes old) where
   claim_moves seat _ new a = absurd a
 
   steal_moves : (seat : ℕ) (outcome : Outcome) (new : Machine)
-      → StealAnswers sizes old seat outcome new → Steps sizes old new
+      → StealAnswers sizes old seat outcome new → StepsByMoves sizes old new
   steal_moves seat Nothing new (load, can, pays, e) = rw e (forgotten sizes old seat)
   steal_moves seat Lost new (load, can, pays, lost, e) = rw e (forgotten sizes old seat)
   steal_moves seat (Taken units) new (load, can, pays, found, is, e) =
@@ -423,14 +423,14 @@ module _ (sizes : Sizes) (old : Machine) (state : IsStateOf sizes old) where
   steal_moves seat _ new a = absurd a
 
   refill_moves : (seat : ℕ) (outcome : Outcome) (new : Machine)
-      → RefillAnswers sizes old seat outcome new → Steps sizes old new
+      → RefillAnswers sizes old seat outcome new → StepsByMoves sizes old new
   refill_moves seat (Refilled word) new (units, can, is, e) =
       rw (e, is) (refills_move sizes old state seat units can)
   refill_moves seat Refused new (_, e) = rw e (unmoved sizes old)
   refill_moves seat _ new a = absurd a
 
   pub answers_move : (event : Event) (outcome : Outcome) (new : Machine)
-      → Answers sizes old event outcome new → Steps sizes old new
+      → Answers sizes old event outcome new → StepsByMoves sizes old new
   answers_move (Load seat share) outcome new a = load_moves seat share outcome new a
   answers_move (Claim seat) outcome new a = claim_moves seat outcome new a
   answers_move (Steal seat) outcome new a = steal_moves seat outcome new a

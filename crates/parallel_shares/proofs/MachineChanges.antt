@@ -5,7 +5,7 @@ use Rattle.std.specs.declared.ops.Range.{Range}
 use Rattle.parallel_shares.specs.declared.machine.state.Place.{Place}
 use Rattle.parallel_shares.specs.declared.machine.state.Remembered.{Remembered}
 use Rattle.parallel_shares.specs.Machine.{Machine, fresh, word_at, place_at, with_word, remembers, forgets, gains, carries}
-use Rattle.parallel_shares.proofs.Lists.{set_same, stands}
+use Rattle.parallel_shares.proofs.ListWrites.{set_same, stands}
 
 pub word_there : (machine : Machine) (share word : ℕ) → share < length machine.words
     → word_at (with_word machine share word) share ≡ word

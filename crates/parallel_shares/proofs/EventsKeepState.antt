@@ -13,7 +13,7 @@ use Rattle.parallel_shares.specs.Sizes.{Sizes, shares_of, share_of}
 use Rattle.parallel_shares.specs.Machine.{Machine, fresh, place_at, with_word, with_place, remembers, forgets, gains, carries, IsPlaceOf, IsStateOf}
 use Rattle.parallel_shares.specs.Answers.{CanSteal, claim_stop, middle_of, LoadAnswers, ClaimAnswers, StealAnswers, RefillAnswers, Answers}
 use Rattle.parallel_shares.proofs.Words.{within_packed}
-use Rattle.parallel_shares.proofs.Lists.{each_set}
+use Rattle.parallel_shares.proofs.ListWrites.{each_set}
 
 -- only a cut plan has a share that a seat does not claim from
 not_whole : (whole : Bool) (workers share seat : ℕ) → share < cond whole 1 workers

@@ -1,5 +1,4 @@
--- The numbers of a plan are sound: units cover the cells, there are few enough of them, and each
--- worker has a claim.
+-- The numbers of a plan are sound: few units cover the cells, and each worker has a claim.
 use Rattle.std.proofs.Common.{◌≢◌, ℕ, suc, ◌+◌, ◌*◌, ◌/◌, ◌^◌, ◌<◌, ◌≤◌, inl, inr, min, IsFalse, refl, Bool, true, false, arith}
 use Rattle.std.specs.Int.{div_ceil}
 use Rattle.std.proofs.lemmas.Nat.{mul-le, le-div}

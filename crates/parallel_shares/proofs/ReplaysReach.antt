@@ -1,5 +1,4 @@
--- Whole replays: a step that may be refused, one more event, and the run from the opening to what a
--- replay shows.
+-- What a replay shows is reached by a run of moves from the opening.
 use Rattle.std.proofs.Common.{◌≡◌, suc, List, [], ◌∷◌, ◌++◌, length, Result, Ok, Err, IfOk, OnErr, refl, sym, ap, subst}
 use Rattle.parallel_fault.specs.declared.fault.Fault.{Fault}
 use Rattle.parallel_shares.specs.declared.machine.event.Event.{Event}
@@ -7,9 +6,9 @@ use Rattle.parallel_shares.specs.declared.machine.event.Outcome.{Outcome}
 use Rattle.parallel_shares.specs.Sizes.{Sizes, IsSound}
 use Rattle.parallel_shares.specs.Machine.{Machine, opening, IsStateOf}
 use Rattle.parallel_shares.specs.Answers.{Answers, Replays}
-use Rattle.parallel_shares.specs.Holders.{Holders, Move, Leads, Steps, Reached}
-use Rattle.parallel_shares.proofs.Kept.{answers_keep}
-use Rattle.parallel_shares.proofs.Moved.{answers_move}
+use Rattle.parallel_shares.specs.Holders.{Holders, Move, Leads, StepsByMoves, Reached}
+use Rattle.parallel_shares.proofs.EventsKeepState.{answers_keep}
+use Rattle.parallel_shares.proofs.EventsMoveUnits.{answers_move}
 use Rattle.parallel_shares.proofs.Openings.{first, first_is_opening, opening_shows}
 
 -- what holds after an answer, and where a refusal left the machine as it was, holds afterwards
@@ -60,7 +59,7 @@ reached_first sizes sound = (
 )
 
 -- what a machine reaches, an event leads on from
-reached_more : (sizes : Sizes) (old new : Machine) → Reached sizes old → Steps sizes old new
+reached_more : (sizes : Sizes) (old new : Machine) → Reached sizes old → StepsByMoves sizes old new
     → Reached sizes new
 reached_more sizes old new (moves, holders, run, shows) steps =
     let next = steps holders shows in
