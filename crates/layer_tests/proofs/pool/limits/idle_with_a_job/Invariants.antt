@@ -1,3 +1,4 @@
+-- The seat stays one of its latch.
 use Rattle.parallel_pool.specs.Latch.{IsLatchSeatOf}
 use Rattle.layer_tests.proofs.pool.limits.idle_with_a_job.Given as goal
 

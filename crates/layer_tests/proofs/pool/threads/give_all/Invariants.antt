@@ -1,3 +1,4 @@
+-- The shares stay those of the latch, each unspent.
 use Rattle.std.proofs.Common.{◌≡◌, All}
 use Rattle.parallel_pool.specs.CountLatch.{IsShareOf, unspent}
 use Rattle.layer_tests.proofs.pool.threads.give_all.Given as goal

@@ -1,3 +1,4 @@
+-- The seat stays one of its latch.
 use Rattle.parallel_pool.specs.Latch.{IsLatchSeatOf}
 use Rattle.layer_tests.proofs.pool.threads.idle_until_woken.Given as goal
 
