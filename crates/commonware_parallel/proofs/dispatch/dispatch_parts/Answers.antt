@@ -3,7 +3,7 @@ use Rattle.std.proofs.Common.{rules, ℕ, Ok, Err}
 use Rattle.commonware_parallel.specs.Answers.{OnParts}
 use Rattle.commonware_parallel.specs.Calls.{HasPick}
 use Rattle.commonware_parallel.specs.declared.call.Pick.{Pick}
-use Rattle.commonware_parallel.proofs.Settled.{parts_told}
+use Rattle.commonware_parallel.proofs.Picks.{parts_told}
 use Rattle.commonware_parallel.proofs.dispatch.dispatch_parts.Goals as goal
 
 pub returns-in-Ok-clause-answers : goal.returns-in-Ok-clause-answers

@@ -4,7 +4,7 @@ use Rattle.parallel_bridge.specs.declared.path.Path.{Path}
 use Rattle.commonware_parallel.specs.Answers.{OnPath}
 use Rattle.commonware_parallel.specs.Calls.{HasPick}
 use Rattle.commonware_parallel.specs.declared.call.Pick.{Pick}
-use Rattle.commonware_parallel.proofs.Settled.{path_told}
+use Rattle.commonware_parallel.proofs.Picks.{path_told}
 use Rattle.commonware_parallel.proofs.dispatch.dispatch_path.Goals as goal
 
 pub returns-in-Ok-clause-answers : goal.returns-in-Ok-clause-answers
