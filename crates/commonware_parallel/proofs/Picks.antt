@@ -1,10 +1,12 @@
--- Which path a pick is.
-use Rattle.std.proofs.Common.{◌≡◌, ◌∙◌, ℕ, zero, Bool, true, false, ap, refl}
+-- Which path a pick is, and what a body that is told one says.
+use Rattle.std.proofs.Common.{◌≡◌, ◌∙◌, ◌<◌, ◌≤◌, ℕ, zero, Bool, true, false, ap, refl}
 use Rattle.std.specs.Prelude.{nat_le, if◌then◌else◌}
 use Rattle.parallel_bridge.specs.declared.path.Path.{Path}
 use Rattle.parallel_bridge.specs.declared.path.Path.TheVariants.{Serial, Parallel}
 use Rattle.parallel_policy.specs.declared.Site.{Site}
-use Rattle.commonware_parallel.specs.Calls.{body_call, nth_path}
+use Rattle.commonware_parallel.specs.Answers.{OnParts, OnPath}
+use Rattle.commonware_parallel.specs.Calls.{AtSomePath, HasPick, body_call, nth_path}
+use Rattle.commonware_parallel.specs.declared.call.Call.{Call}
 use Rattle.commonware_parallel.specs.Explorers.{ExplorerTakes, picked, plans_of, rule_of}
 use Rattle.commonware_parallel.specs.declared.call.Pick.{Pick}
 use Rattle.commonware_parallel.specs.declared.call.Pick.TheVariants.{By, Into}
@@ -38,3 +40,16 @@ pub explored_serially : (explorer : Explorer) (site : Site) (len : ℕ) (path : 
 explored_serially explorer site len path rule takes =
     ap path_of (takes.0 ∙ ap (λ r. picked (plans_of explorer) r site (body_call len)) rule)
     ∙ serial_either_way (nat_le (plans_of explorer) 1)
+
+-- a fact of a body that is told a path, where the strategy tells a pick
+pub path_told : (call : Call) (takes : Pick → Type 0) (fact : Path → Type 0) (pick : Pick)
+    → HasPick call pick × takes pick → OnPath pick fact → AtSomePath takes fact
+path_told call takes fact (By path) has h = (path, has.1, h)
+path_told call takes fact (Into parts) has h = absurd h
+
+-- the same of a body that is told a number of parts
+pub parts_told : (call : Call) (takes : Pick → Type 0) (fact : ℕ → Type 0) (pick : Pick)
+    → HasPick call pick × takes pick → OnParts pick fact
+    → (parts : ℕ) × ((0 < parts) × (parts ≤ call.parts) × takes (Into parts)) × fact parts
+parts_told call takes fact (By path) has h = absurd h
+parts_told call takes fact (Into parts) has h = (parts, (has.0.1, has.0.2, has.1), h)

@@ -6,7 +6,7 @@ use Rattle.std.proofs.lemmas.List.Elements.{All-head, All-tail}
 use Rattle.std.proofs.lemmas.List.Sorted.{All-permutation}
 use Rattle.parallel_shares.specs.declared.shares.stretch.Stretch.{Stretch}
 use Rattle.commonware_parallel.specs.MergedRows.{stretches_in, results_in, MergesTo, TilesRow, RowValues, MergesRows, RespectsCuts, IsValueOf}
-use Rattle.commonware_parallel.proofs.Tagged.{All-front, All-back}
+use Rattle.commonware_parallel.proofs.NamedResults.{All-front, All-back}
 
 -- stretches that tile columns don't end before they begin
 tiles_up : (row a b : ℕ) (ss : List Stretch) → TilesRow row a b ss → a ≤ b

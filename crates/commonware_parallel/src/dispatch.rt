@@ -46,12 +46,7 @@ pub fn dispatch_path<S: Strategy, Rt: Wait, P: Place, R, E, B: FnOnce(Path) -> R
             Pick::Into(_) => unreachable!(),
         }
     };
-    // (each outcome by itself, so that its facts have a name in the proof)
-    match strategy.dispatch(rt, alloc, site, call, told) {
-        Ok(answer) => Ok(answer),
-        Err(Trouble::Closure(error)) => Err(Trouble::Closure(error)),
-        Err(Trouble::Fault(fault)) => Err(Trouble::Fault(fault)),
-    }
+    strategy.dispatch(rt, alloc, site, call, told)
 }
 
 /// An answer of a body in as many parts as the strategy takes for the call.
@@ -82,12 +77,7 @@ pub fn dispatch_parts<S: Strategy, Rt: Wait, P: Place, R, E, B: FnOnce(usize) ->
             Pick::Into(parts) => body(parts),
         }
     };
-    // (each outcome by itself, so that its facts have a name in the proof)
-    match strategy.dispatch(rt, alloc, site, call, told) {
-        Ok(answer) => Ok(answer),
-        Err(Trouble::Closure(error)) => Err(Trouble::Closure(error)),
-        Err(Trouble::Fault(fault)) => Err(Trouble::Fault(fault)),
-    }
+    strategy.dispatch(rt, alloc, site, call, told)
 }
 
 /// A path that the strategy takes for the call, with a meter of the run to come.

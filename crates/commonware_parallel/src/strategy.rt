@@ -75,7 +75,8 @@ use std::thread::Threads;
 /// gathered nor copied; an iterator's items are gathered where the strategy has to be asked by
 /// their number. A map's closure and a fold's step have to accept the items that may come
 /// (`Source::may`), at every value so far and every state where they have one, and no other;
-/// `identity`, `init`, `reduce_op` and `compare` have to accept every value of their argument types.
+/// `identity`, `init`, `reduce_op` and `compare` have to accept every value of their arguments'
+/// types.
 pub trait Strategy: Chooser {
     ghost use Rattle.commonware_parallel.specs.declared.batches.Batches.{Batches};
     ghost use Rattle.commonware_parallel.specs.declared.tiles.Tiles.{Tiles};
@@ -532,7 +533,6 @@ pub trait Strategy: Chooser {
         ensures along { UnlessRefused result
             (GoesByLength I.gives source Self.takes Self.threads self.now (P.site_of site) body_call
             (TryFoldedAs (ID.post identity) (F.post fold_op) (G.post reduce_op))) }
-        ensures fault { IsMemoryOnFault result }
     {
         if self.is_serial() {
             return try_fold_as_it_comes(source.into_items(), &identity, &fold_op);
@@ -568,7 +568,6 @@ pub trait Strategy: Chooser {
             (λ xs. TryMapOf (F.post map_op) xs (listed out))) }
         ensures asked { UnlessRefused result
             (λ _. AskedOver I.gives source (Self.takes self.now (P.site_of site)) body_call) }
-        ensures fault { IsMemoryOnFault result }
     {
         if self.is_serial() {
             return try_map_iter(alloc, source.into_items(), &map_op);

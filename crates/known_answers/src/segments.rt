@@ -3,7 +3,7 @@
 ghost use Rattle.std.specs.Prelude.{◌≡◌, ◌<◌, List, false, IfOk, IsOk};
 ghost use Rattle.std.specs.Borrow.{MutBor};
 ghost use Rattle.std.specs.Iterator.{IsFinite, Drains};
-ghost use Rattle.parallel_fault.specs.Trouble.{IsMemoryOnErr, IsMemoryOnFault};
+ghost use Rattle.parallel_fault.specs.Trouble.{IsMemoryOnErr};
 ghost use Rattle.parallel_bridge.specs.Outcomes.{UnlessRefused};
 ghost use Rattle.parallel_bridge.specs.Sources.{MayCome};
 ghost use Rattle.parallel_bridge.specs.States.{FoldInitSegment, FoldStep, MapStep, StateSegment, StatesAlong};
@@ -278,7 +278,6 @@ where
     requires reduce_accepts { G.IsAlwaysCallable reduce_op }
     ensures segment { UnlessRefused result (λ out. (xs : List I.Item) × Drains I.next_gives iter xs
         × TryFoldSegment (ID.post identity) (F.post fold_op) xs out) }
-    ensures fault { IsMemoryOnFault result }
 {
     Strategy::try_fold(
         strategy, rt, alloc, site, iter, identity, fold_op, reduce_op,
@@ -320,7 +319,6 @@ where
     ensures along { UnlessRefused result (λ out. (xs : List I.Item) × Drains I.next_gives iter xs
         × TryAlong (ID.post identity) (F.post fold_op)
         (G.post reduce_op) (shape_at strategy.now xs) out) }
-    ensures fault { IsMemoryOnFault result }
 {
     strategy.try_fold(rt, alloc, site, iter, identity, fold_op, reduce_op)
 }
@@ -357,7 +355,6 @@ where
     requires reduce_accepts { G.IsAlwaysCallable reduce_op }
     ensures segment { UnlessRefused result (λ out. (xs : List I.Item) × Drains I.next_gives iter xs
         × TryFoldSegment (ID.post identity) (F.post fold_op) xs out) }
-    ensures fault { IsMemoryOnFault result }
 {
     strategy.try_fold(rt, alloc, site, iter, identity, fold_op, reduce_op)
 }

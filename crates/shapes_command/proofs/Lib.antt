@@ -1,9 +1,9 @@
-mod Alongs
+mod SumsAlongShapes
 mod Ascending
 mod Drains
 mod Requests
 mod Roots
 mod Searches
-mod Spaced
+mod SpacedTexts
 mod Sums
 mod Words

@@ -62,7 +62,8 @@ module _ {X Y : Type 0} (allowed : ℕ × X → Result Y ℕ → Type 0) (passes
       let came : xs ≡ all = only xs (subst (λ p. gives p xs) is one) in
       let counted : length xs ≡ n - 0 = omega (arith, ap length came, long) in
       let from-zero : indices ≡ range_with_len 0 (n - 0) =
-      counting ∙ ap (λ k. range_with_len k (end - k)) zero ∙ ap (λ e. range_with_len 0 (e - 0)) whole in
+      counting ∙ ap (λ k. range_with_len k (end - k)) zero
+      ∙ ap (λ e. range_with_len 0 (e - 0)) whole in
       let numbers = numbered_both 0 (n - 0) indices xs zs from-zero counted same in
       subst (All passes) came
       (all_pass 0 xs ys.items (subst (λ l. EachOk allowed l ys.items) numbers h))
@@ -73,7 +74,8 @@ module _ {X Y : Type 0} (allowed : ℕ × X → Result Y ℕ → Type 0) (passes
       let came : xs ≡ all = only xs (subst (λ p. gives p xs) is one) in
       let counted : length xs ≡ n - 0 = omega (arith, ap length came, long) in
       let from-zero : indices ≡ range_with_len 0 (n - 0) =
-      counting ∙ ap (λ k. range_with_len k (end - k)) zero ∙ ap (λ e. range_with_len 0 (e - 0)) whole in
+      counting ∙ ap (λ k. range_with_len k (end - k)) zero
+      ∙ ap (λ e. range_with_len 0 (e - 0)) whole in
       let numbers = numbered_both 0 (n - 0) indices xs zs from-zero counted same in
       let (before, p, after, ys, split, each, failing) =
       subst (λ l. FirstErr allowed l e) numbers h in

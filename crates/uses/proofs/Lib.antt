@@ -1,6 +1,6 @@
-pub mod Astray
-pub mod Building
-pub mod Climbs
+pub mod CollidingNodes
+pub mod TreeConstruction
+pub mod ClimbSteps
 pub mod Counts
 pub mod Levels
 pub mod LongestWords

@@ -13,7 +13,7 @@ use Rattle.parallel_shares.specs.Stretches.{IsStretch}
 use Rattle.commonware_parallel.specs.Chains.{Chains, no_chain, more_chains}
 use Rattle.commonware_parallel.specs.MergedRows.{FillsRows, IsValueOf, RespectsCuts, results_in, stretches_in}
 use Rattle.commonware_parallel.proofs.RowLaws.{one_value}
-use Rattle.commonware_parallel.proofs.Tagged.{All-back, All-front}
+use Rattle.commonware_parallel.proofs.NamedResults.{All-back, All-front}
 
 -- a stretch of the grid
 abbrev Within : ℕ → ℕ → Stretch → Type 0
@@ -112,7 +112,8 @@ rows_of_kernel init fill finish merge rows len whole value so_far begins adds en
     let end = ends row a b h.0 h.1 r there some within (subst (so_far row a b) (sym h.2) so) h.3 in
     (end.0, λ next c. subst (so_far next c c) h.4 (end.1 next c)))
     merge whole values.items respects made)
-    (subst (λ m. IfOk result (λ values. FillsRows init (Fills fill) (Gives finish) merge rows m whole
+    (subst (λ m. IfOk result (λ values. FillsRows init (Fills fill) (Gives finish)
+    merge rows m whole
     values.items)) across
     (subst (λ n. IfOk result (λ values. FillsRows init (Fills fill) (Gives finish) merge n columns
     whole values.items)) here gave))

@@ -84,7 +84,8 @@ module _ (test : ℕ → Bool) (matrix : List ℕ) (len : ℕ) where
       → (answer ≡ p.now) × (q.now ≡ 0))
       → ((a b r : ℕ) → merge a b r → r ≡ (a + b) % 2 ^ 64)
       → IfOk result (λ values. values.items ≡ numbers_by_row test matrix rows len)
-  rows_counted rows whole small init fill finish merge there columns r c result gave begins adds ends
+  rows_counted rows whole small init fill finish merge there columns r c result gave
+      begins adds ends
       joins =
       rows_of_kernel init fill finish merge rows len whole number
       (λ row a b s. s ≡ number row a b % 2 ^ 64)

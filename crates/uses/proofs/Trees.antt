@@ -4,7 +4,7 @@ use Rattle.std.proofs.lemmas.List.{append-nil, get_or-map, length-map}
 use Rattle.std.specs.Int.{div_ceil}
 use Rattle.std.specs.Option.{option_and_then}
 use Rattle.uses.specs.Merkle.{IsTree, climb, first_node, level_above, levels_of, lowest, merkle_root, next_level, node_digest, one_up}
-use Rattle.uses.proofs.Climbs.{climb_end, climb_step}
+use Rattle.uses.proofs.ClimbSteps.{climb_end, climb_step}
 use Rattle.uses.proofs.Levels.{first_alone, length-next_level, root_at}
 
 module _ (levels : List (Vec (List ℕ) Global)) where
@@ -78,7 +78,8 @@ module _ {X : Type 0} (node : X → X → X) (d : X) (leaves : List X) (index : 
         inside = subst (λ xs. place / 2 < length xs) (sym up) (omega (arith, shorter, within));
         onward = λ more. subst (λ xs.
             climb node (length leaves) index (get_or leaves index d) ((steps ++ step ∷ []) ++ more)
-            ≡ climb node (length xs) (place / 2) (get_or xs (place / 2) d) more) (sym up) (led more);
+            ≡ climb node (length xs) (place / 2) (get_or xs (place / 2) d) more)
+            (sym up) (led more);
       }
 
   pub leads_end : (k place : ℕ) (steps : List (Option X)) → Leads k place steps

@@ -43,8 +43,8 @@ AddsWithin limit a x out =
 abbrev pub HasItsTag : (Bor (List ℕ) × List ℕ) → Type 0
 HasItsTag (message, tag) = sha256 message.now ≡ tag
 
--- an answer where the pair's tag is its message's, and an error, which is the pair's index, where it
--- isn't
+-- an answer where the pair's tag is its message's, and an error, which is the pair's index,
+-- where it isn't
 abbrev pub JudgesTag : (ℕ × (Bor (List ℕ) × List ℕ)) → Result ⊤ ℕ → Type 0
 JudgesTag item out =
     MatchResult out (λ _. HasItsTag item.1) (λ e. (e ≡ item.0) × (¬ HasItsTag item.1))

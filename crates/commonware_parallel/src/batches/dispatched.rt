@@ -1,12 +1,11 @@
 //! What the batch calls of a strategy stand on.
-ghost use Rattle.std.specs.Prelude.{◌≡◌, ◌/◌, ◌<◌, ◌≤◌, ℕ, IfOk, false, max, ⊤};
+ghost use Rattle.std.specs.Prelude.{◌≡◌, ◌/◌, ◌<◌, ◌≤◌, ℕ, IfOk, false, max};
 ghost use Rattle.std.specs.Int.NonZero.{non_zero_usize_get};
 ghost use Rattle.parallel_bridge.specs.Outcomes.{UnlessRefused};
 ghost use Rattle.parallel_fault.specs.Trouble.{IsMemoryOnErr};
 ghost use Rattle.parallel_fault.specs.declared.fault.Fault.{Fault};
 ghost use Rattle.parallel_fault.specs.declared.fault.Fault.TheVariants.{Memory};
 ghost use Rattle.parallel_fault.specs.declared.fault.Trouble.TheVariants.{Fault as OfFault};
-ghost use Rattle.commonware_parallel.specs.Answers.{UnlessFault};
 ghost use Rattle.commonware_parallel.specs.Batches.{IsBatch, OnBatch, OnSomeBatch, ranges_of};
 ghost use Rattle.commonware_parallel.specs.declared.batches.Batches.{Batches};
 ghost use Rattle.commonware_parallel.specs.Calls.{goes_by_path};
@@ -145,9 +144,8 @@ fn dispatch_settled<
         → S.takes strategy.now (P.site_of site) call (Into parts) → B.pre body parts }
     requires memory { (parts : ℕ) (fault : Fault) → B.post body parts (Err (OfFault fault))
         → fault ≡ Memory }
-    ensures answers { UnlessFault result ((parts : ℕ) × ((0 < parts) × (parts ≤ call.parts)
+    ensures { UnlessRefused result (λ _. (parts : ℕ) × ((0 < parts) × (parts ≤ call.parts)
         × S.takes strategy.now (P.site_of site) call (Into parts)) × B.post body parts result) }
-    ensures fault { UnlessRefused result (λ _. ⊤) }
 {
     match dispatch_parts(strategy, rt, alloc, site, call, body) {
         Ok(answer) => Ok(answer),

@@ -1,3 +1,4 @@
+-- Which answer was begun where the writer failed.
 use Rattle.std.proofs.Common.{Result, Ok, Err, OnErr, rules, inr}
 use Rattle.shapes_command.proofs.Requests.{in_range}
 use Rattle.shapes_command.proofs.command.Goals as goal
@@ -11,7 +12,8 @@ on_err (Ok _) met = tt
 on_err (Err _) met = met
 
 -- What a failed write of the answer leaves.
-pub returns-in_err-write_line-in-Ok-clause-unwritten : goal.returns-in_err-write_line-in-Ok-clause-unwritten
+pub returns-in_err-write_line-in-Ok-clause-unwritten :
+    goal.returns-in_err-write_line-in-Ok-clause-unwritten
 returns-in_err-write_line-in-Ok-clause-unwritten g c =
     let (text, answers, same) = c.in-Ok.ensures.line in
     let part = c.in_err-write_line-in-Ok.ensures.part in

@@ -3,7 +3,7 @@ use Rattle.std.proofs.Common.{rules}
 use Rattle.std.specs.Borrow.{MutBor}
 use Rattle.parallel_bridge.specs.States.{MapStep}
 use Rattle.parallel_bridge.specs.Ways.{MappedInitAs}
-use Rattle.commonware_parallel.proofs.Settled.{at_threads}
+use Rattle.commonware_parallel.proofs.ListCalls.{at_threads}
 use Rattle.commonware_parallel.proofs.list.map_init_through.Goals as goal
 
 pub returns-clause-answers : goal.returns-clause-answers

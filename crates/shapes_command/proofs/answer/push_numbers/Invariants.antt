@@ -1,3 +1,4 @@
+-- The numbers so far stand in the line.
 use Rattle.std.proofs.Common.{◌≡◌, ◌++◌, map, take, string_bytes}
 use Rattle.std.specs.Fmt.{decimal}
 use Rattle.shapes_command.specs.Answer.{spaced}

@@ -1,3 +1,4 @@
+-- The ranges so far stand in the line.
 use Rattle.std.proofs.Common.{◌≡◌, ◌++◌, map, take, string_bytes}
 use Rattle.shapes_command.specs.Answer.{spaced, range_text}
 use Rattle.shapes_command.proofs.answer.push_ranges.Given as goal

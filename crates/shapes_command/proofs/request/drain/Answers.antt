@@ -1,3 +1,4 @@
+-- Each word of a line `drain` writes its number.
 use Rattle.std.proofs.Common.{◌≡◌, List, ℕ, arith, codes}
 use Rattle.std.specs.NonZero.{non_zero_usize_get}
 use Rattle.std.specs.Str.Parse.{digits_value}

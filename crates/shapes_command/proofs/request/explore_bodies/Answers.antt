@@ -1,3 +1,4 @@
+-- The two words are those of the line `explore bodies`.
 use Rattle.std.proofs.Common.{arith, codes}
 use Rattle.shapes_command.proofs.Words.{has_form, is_text}
 use Rattle.shapes_command.proofs.request.explore_bodies.Goals as goal

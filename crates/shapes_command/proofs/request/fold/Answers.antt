@@ -1,3 +1,4 @@
+-- The words from the fourth on are the items of `fold serial`.
 use Rattle.std.proofs.Common.{◌≡◌, ◌≤◌, List, ℕ, length, refl, subst, arith, codes}
 use Rattle.std.specs.Str.Parse.{digits_value}
 use Rattle.shapes_command.specs.Number.{IsNumberUpTo}

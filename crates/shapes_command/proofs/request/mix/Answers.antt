@@ -1,3 +1,4 @@
+-- Each word of a line `mix` writes its number.
 use Rattle.std.proofs.Common.{◌≡◌, ◌-◌, ◌^◌, List, ℕ, arith, codes}
 use Rattle.std.specs.Str.Parse.{digits_value}
 use Rattle.shapes_command.specs.Number.{IsNumberUpTo}

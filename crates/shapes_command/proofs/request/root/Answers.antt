@@ -1,3 +1,4 @@
+-- The words behind the name are the items of `root`.
 use Rattle.std.proofs.Common.{◌≤◌, length, refl, subst, arith, codes}
 use Rattle.shapes_command.specs.Request.{AreItems}
 use Rattle.shapes_command.proofs.Words.{is_text, rest_from}

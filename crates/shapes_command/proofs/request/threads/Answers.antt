@@ -1,3 +1,4 @@
+-- The words of a line `threads` are a number, two texts and a number or none.
 use Rattle.std.proofs.Common.{◌≡◌, ◌-◌, ◌^◌, List, ℕ, arith, codes}
 use Rattle.std.specs.Str.Parse.{digits_value}
 use Rattle.shapes_command.specs.Number.{IsNumberUpTo, CountsOrNone, IsTextOrNone}

@@ -1,3 +1,4 @@
+-- Serially the fold is one chain, whose sum does not wrap around.
 use Rattle.std.proofs.Common.{rules, ◌≡◌, ◌+◌, Bor, String, Global, arith, sum_by, sym, subst, map, ap, length}
 use Rattle.std.specs.List.{All}
 use Rattle.std.proofs.lemmas.Result.{IfOk-weaker}

@@ -10,7 +10,7 @@ use Rattle.commonware_parallel.specs.Explorers.{pool_threads}
 use Rattle.shapes_command.specs.Answer.{SumsAlong}
 use Rattle.shapes_command.specs.Request.{IsItem, number_of}
 use Rattle.shapes_command.proofs.Sums.{drained}
-use Rattle.shapes_command.proofs.Alongs.{explored_in_parallel, along_shape, along_plain, depth_of_two, most_along}
+use Rattle.shapes_command.proofs.SumsAlongShapes.{explored_in_parallel, along_shape, along_plain, depth_of_two, most_along}
 use Rattle.shapes_command.proofs.sum.sum_along.Goals as goal
 
 pub returns-clause-sum : goal.returns-clause-sum

@@ -29,5 +29,6 @@ returns-clause-counted g c =
     (λ (a b r : ℕ). r ≡ (a + b) % 2 ^ 64)
     (rows_of c.args.tiles) (columns_of c.args.tiles) c.requires.there c.requires.columns
     c.fill_merge_collect_vec.result
-    (c.fill_merge_collect_vec.ensures.merges (λ none. c.requires.some (sym c.requires.columns ∙ none)))
+    (c.fill_merge_collect_vec.ensures.merges
+    (λ none. c.requires.some (sym c.requires.columns ∙ none)))
     (λ s k. k) (λ p q row columns k. k.1) (λ p q row answer k. k) (λ a b r k. k)

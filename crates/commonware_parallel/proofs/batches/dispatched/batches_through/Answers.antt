@@ -1,13 +1,12 @@
 -- The call that the strategy was asked about is the one of the clause, and the batch has its inner
 -- one.
-use Rattle.std.proofs.Common.{rules, ◌≡◌, ◌<◌, ◌≤◌, ap, ◌∙◌, subst}
+use Rattle.std.proofs.Common.{rules, ◌≡◌, ◌<◌, ◌≤◌, ap, ◌∙◌, subst, sym}
 use Rattle.std.specs.Int.NonZero.{non_zero_usize_get}
 use Rattle.commonware_parallel.specs.Calls.{IsInnerOf, batches_call}
 use Rattle.commonware_parallel.specs.Batches.{IsBatch, place_of, ranges_of, strategy_of}
 use Rattle.commonware_parallel.specs.declared.call.Call.{Call}
 use Rattle.commonware_parallel.specs.declared.call.Pick.TheVariants.{Into}
 use Rattle.commonware_parallel.specs.declared.batches.Batches.{Batches}
-use Rattle.commonware_parallel.proofs.Settled.{inner_of}
 use Rattle.commonware_parallel.proofs.batches.dispatched.batches_through.Goals as goal
 
 pub returns-in-Ok-clause-answers : goal.returns-in-Ok-clause-answers
@@ -31,8 +30,8 @@ returns-in-Ok-clause-answers g c =
       taken.2,
       v.0,
       v.1,
-      inner_of T.takes T.refuses T.plans T.threads T.starts c.args.strategy.now c.in_ok-inner.inner
-          (strategy_of v.0) v.2 c.in_ok-inner.ensures.inner,
+      subst (IsInnerOf T.takes T.refuses T.plans T.threads T.starts c.args.strategy.now) (sym v.2)
+          c.in_ok-inner.ensures.inner,
       v.3,
       v.4,
     )

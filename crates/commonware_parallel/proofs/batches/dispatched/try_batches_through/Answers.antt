@@ -1,15 +1,15 @@
 -- The call that the strategy was asked about is the one of the clause, and the batch has its inner
 -- one.
-use Rattle.std.proofs.Common.{rules, ◌≡◌, ◌<◌, ◌≤◌, ap, ◌∙◌, subst, Result}
+use Rattle.std.proofs.Common.{rules, ◌≡◌, ◌<◌, ◌≤◌, ap, ◌∙◌, subst, sym, Result}
 use Rattle.std.specs.Int.NonZero.{non_zero_usize_get}
 use Rattle.parallel_bridge.specs.Outcomes.{UnlessRefused}
 use Rattle.parallel_bridge.proofs.Outcomes.{unless_weaker}
-use Rattle.commonware_parallel.specs.Calls.{batches_call}
+use Rattle.commonware_parallel.specs.Calls.{IsInnerOf, batches_call}
 use Rattle.commonware_parallel.specs.Batches.{IsBatch, OnSomeBatch, place_of, ranges_of, strategy_of}
 use Rattle.commonware_parallel.specs.declared.call.Call.{Call}
 use Rattle.commonware_parallel.specs.declared.call.Pick.TheVariants.{Into}
 use Rattle.commonware_parallel.specs.declared.batches.Batches.{Batches}
-use Rattle.commonware_parallel.proofs.Settled.{inner_of, unless_told}
+use Rattle.commonware_parallel.proofs.Outcomes.{unless_told}
 use Rattle.commonware_parallel.proofs.batches.dispatched.try_batches_through.Goals as goal
 
 pub returns : goal.returns
@@ -27,8 +27,7 @@ returns g c =
     λ (out : Result g.row.R.Denot g.row.E.Denot). OnSomeBatch T.takes T.refuses T.plans
     T.threads T.starts g.P.Place.site_of c.args.strategy.now c.args.site c.args.len
     c.args.minimum c.args.multiplier (λ batches. post batches out) in
-    unless_told c.dispatch_settled.result _ says c.dispatch_settled.ensures.answers
-    c.dispatch_settled.ensures.fault (λ w.
+    unless_told c.dispatch_settled.result _ says c.dispatch_settled.ensures (λ w.
     let P : Call → Type 0 = λ call. (0 < w.0) × (w.0 ≤ call.parts)
     × T.takes c.args.strategy.now site call (Into w.0) in
     let taken = subst P same w.1 in
@@ -46,8 +45,8 @@ returns g c =
       taken.2,
       a.0,
       a.1,
-      inner_of T.takes T.refuses T.plans T.threads T.starts c.args.strategy.now
-          c.in_ok-inner.inner (strategy_of a.0) a.2 c.in_ok-inner.ensures.inner,
+      subst (IsInnerOf T.takes T.refuses T.plans T.threads T.starts c.args.strategy.now) (sym a.2)
+          c.in_ok-inner.ensures.inner,
       a.3,
       a.4,
     )) v)

@@ -5,7 +5,7 @@ use Rattle.parallel_bridge.specs.Lists.{of_segment}
 use Rattle.parallel_bridge.specs.Shapes.{cutdepth}
 use Rattle.parallel_bridge.specs.Ways.{FoldedAs}
 use Rattle.commonware_parallel.specs.Calls.{body_call}
-use Rattle.commonware_parallel.proofs.Settled.{at_serial}
+use Rattle.commonware_parallel.proofs.ListCalls.{at_serial}
 use Rattle.commonware_parallel.proofs.strategy.Strategy.fold.Goals as goal
 
 pub returns-then-is_serial-clause-brackets : goal.returns-then-is_serial-clause-brackets

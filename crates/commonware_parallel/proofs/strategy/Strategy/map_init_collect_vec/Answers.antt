@@ -7,7 +7,7 @@ use Rattle.parallel_bridge.specs.States.{MapStep}
 use Rattle.parallel_bridge.specs.Ways.{MappedInitAs}
 use Rattle.parallel_bridge.proofs.Statefuls.{stateful_from_segment}
 use Rattle.commonware_parallel.specs.Calls.{body_call}
-use Rattle.commonware_parallel.proofs.Settled.{at_serial}
+use Rattle.commonware_parallel.proofs.ListCalls.{at_serial}
 use Rattle.commonware_parallel.proofs.strategy.Strategy.map_init_collect_vec.Goals as goal
 
 pub returns-then-is_serial-clause-stateful : goal.returns-then-is_serial-clause-stateful

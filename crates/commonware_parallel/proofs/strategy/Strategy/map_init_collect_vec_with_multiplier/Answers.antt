@@ -8,7 +8,7 @@ use Rattle.parallel_bridge.specs.Ways.{MappedInitAs}
 use Rattle.parallel_bridge.proofs.Statefuls.{stateful_from_segment}
 use Rattle.commonware_parallel.specs.Calls.{multiplied_call}
 use Rattle.commonware_parallel.specs.declared.call.Call.{Call}
-use Rattle.commonware_parallel.proofs.Settled.{at_serial}
+use Rattle.commonware_parallel.proofs.ListCalls.{at_serial}
 use Rattle.commonware_parallel.proofs.strategy.Strategy.map_init_collect_vec_with_multiplier.Goals as goal
 
 pub returns-then-is_serial-clause-stateful : goal.returns-then-is_serial-clause-stateful

@@ -7,7 +7,7 @@ use Rattle.parallel_bridge.specs.Tries.{TryBracketing, TryFoldSegment, of_try_se
 use Rattle.parallel_bridge.specs.Ways.{TryFoldedAs}
 use Rattle.parallel_bridge.proofs.Outcomes.{unless_weaker}
 use Rattle.commonware_parallel.specs.Calls.{AtSomePath, body_call}
-use Rattle.commonware_parallel.proofs.Settled.{at_serial}
+use Rattle.commonware_parallel.proofs.ListCalls.{at_serial}
 use Rattle.commonware_parallel.proofs.strategy.Strategy.try_fold.Goals as goal
 
 pub returns-then-is_serial-clause-brackets : goal.returns-then-is_serial-clause-brackets

@@ -3,9 +3,9 @@ use Rattle.std.proofs.Common.{rules, ◌≡◌, ◌∙◌, inl, inr, false, [], 
 use Rattle.std.specs.Int.NonZero.{non_zero_usize_get}
 use Rattle.std.proofs.lemmas.List.Elements.{All-nil}
 use Rattle.commonware_parallel.specs.Rectangles.{IsWholeRow, whole_rows}
-use Rattle.commonware_parallel.proofs.Finishing.{some, rows_finished}
-use Rattle.commonware_parallel.proofs.Seatings.{chains_of_none, chains_of_one}
-use Rattle.commonware_parallel.proofs.Wholes.{no_rectangle, whole_rectangle, rows_are_whole}
+use Rattle.commonware_parallel.proofs.FilledRows.{positive, rows_finished}
+use Rattle.commonware_parallel.proofs.SeatResults.{chains_of_none, chains_of_one}
+use Rattle.commonware_parallel.proofs.WholeRowCuts.{no_rectangle, whole_rectangle, rows_are_whole}
 use Rattle.commonware_parallel.proofs.tiles.Tiles.fill_collect_vec.Goals as goal
 
 pub returns-then-is_empty-clause-fills : goal.returns-then-is_empty-clause-fills
@@ -24,7 +24,7 @@ returns-then-is_empty-clause-serial g c one r l =
 pub returns-then-is_serial-clause-fills : goal.returns-then-is_serial-clause-fills
 returns-then-is_serial-clause-fills g c =
     let self = c.args.self in
-    let wide = some self.len (c.is_empty.ensures.some_columns (search rules)) in (
+    let wide = positive self.len (c.is_empty.ensures.some_columns (search rules)) in (
       whole_rows self.len self.rows,
       whole_rectangle self.rows self.len wide,
       (λ _. rows_are_whole self.len self.rows),

@@ -6,7 +6,7 @@ use Rattle.commonware_parallel.specs.Chains.{no_chain}
 use Rattle.commonware_parallel.specs.MergedRows.{RowValues}
 use Rattle.commonware_parallel.specs.Rectangles.{IsWholeRow}
 use Rattle.commonware_parallel.proofs.RowMerges.{as_many_values}
-use Rattle.commonware_parallel.proofs.Wholes.{no_rectangle}
+use Rattle.commonware_parallel.proofs.WholeRowCuts.{no_rectangle}
 use Rattle.commonware_parallel.proofs.tiles.Tiles.fill_merge_collect_vec.Goals as goal
 
 pub returns-then-is_empty-clause-merges : goal.returns-then-is_empty-clause-merges
@@ -15,7 +15,11 @@ returns-then-is_empty-clause-merges g c wide =
     elim (c.is_empty.ensures.empty (search rules)) [
       | inl none ↦ (
         [],
-        (no_rectangle self.rows self.len (inl none), (λ _. All-nil (IsWholeRow self.len)), no_chain),
+        (
+          no_rectangle self.rows self.len (inl none),
+          (λ _. All-nil (IsWholeRow self.len)),
+          no_chain,
+        ),
         (
           [],
           IsPermutation-refl [],

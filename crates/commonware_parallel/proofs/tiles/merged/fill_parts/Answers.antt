@@ -9,7 +9,7 @@ use Rattle.commonware_parallel.specs.MergedRows.{results_in}
 use Rattle.commonware_parallel.specs.Noting.{BeginsNoting, FillsNoting, FinishesNaming}
 use Rattle.commonware_parallel.specs.Rectangles.{CutsRectangle, IsWholeRow}
 use Rattle.commonware_parallel.specs.declared.tiles.merged.Noting.{Noting}
-use Rattle.commonware_parallel.proofs.Tagged.{named_parts}
+use Rattle.commonware_parallel.proofs.NamedResults.{named_parts}
 use Rattle.commonware_parallel.proofs.tiles.merged.fill_parts.Goals as goal
 
 pub returns-clause-fills : goal.returns-clause-fills

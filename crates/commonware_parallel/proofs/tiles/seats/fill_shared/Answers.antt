@@ -1,8 +1,8 @@
 -- The seats are all back with nothing left to claim, so that each cell was claimed once.
 use Rattle.std.proofs.Common.{sym, subst}
 use Rattle.parallel_shares.specs.Seats.{AreSeatsOf, AllDone, EachCellOnce}
-use Rattle.commonware_parallel.proofs.Finishing.{some}
-use Rattle.commonware_parallel.proofs.Seatings.{all_came, seats_back, all_done, chains_of, rectangle}
+use Rattle.commonware_parallel.proofs.FilledRows.{positive}
+use Rattle.commonware_parallel.proofs.SeatResults.{all_came, seats_back, all_done, chains_of, rectangle}
 use Rattle.commonware_parallel.proofs.tiles.seats.fill_shared.Goals as goal
 
 pub close-words-requires : goal.close-words-requires
@@ -18,7 +18,7 @@ returns-clause-fills g c work same planned =
     let h = c.in_ok-worked.ensures.stateful in
     let all = c.in_ok-seats.ensures.results in
     let results = c.in_ok-seats.results.items in
-    let wide = some c.args.len c.requires.some_columns in
+    let wide = positive c.args.len c.requires.some_columns in
     let z = all_came _ _ _ _ _ h in
     let back = c.in_ok-seats.ensures.seats in
     let once = c.close-words.ensures.each_once

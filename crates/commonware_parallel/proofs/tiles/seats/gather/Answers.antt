@@ -2,7 +2,7 @@
 use Rattle.std.proofs.Common.{◌++◌, ◌∷◌, [], map, ap, sym, ◌∙◌}
 use Rattle.std.proofs.lemmas.List.{map-append}
 use Rattle.commonware_parallel.specs.Seated.{seat_of}
-use Rattle.commonware_parallel.proofs.Seatings.{results_push}
+use Rattle.commonware_parallel.proofs.SeatResults.{results_push}
 use Rattle.commonware_parallel.proofs.tiles.seats.gather.Goals as goal
 
 pub loop-part-preserved : goal.loop-part-preserved

@@ -3,7 +3,7 @@ use Rattle.std.proofs.Common.{◌≡◌, ◌∙◌, ◌-◌, ℕ, arith, length,
 use Rattle.std.proofs.lemmas.Result.{IfOk-weaker}
 use Rattle.parallel_bridge.proofs.OverLists.{map_of_list}
 use Rattle.uses.specs.Merkle.{next_level, node_at, node_digest}
-use Rattle.uses.proofs.Building.{by_indices}
+use Rattle.uses.proofs.TreeConstruction.{by_indices}
 use Rattle.uses.proofs.Levels.{length-next_level}
 use Rattle.uses.proofs.merkle.build.next_level.Goals as goal
 

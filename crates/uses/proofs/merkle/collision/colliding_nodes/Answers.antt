@@ -1,14 +1,14 @@
 -- Where two nodes differ and the nodes above them don't, the pairs below are a collision.
 use Rattle.std.proofs.Common.{◌≡◌, ◌≢◌, ◌≤◌, ◌<◌, ◌-◌, ◌/◌, [], arith, sym, subst, ◌∙◌, ap, length, get_or, None, Some, rules}
 use Rattle.uses.specs.Merkle.{level_above, levels_of, lowest, next_level, node_digest, one_up}
-use Rattle.uses.proofs.Climbs.{leads_nowhere, too_few}
+use Rattle.uses.proofs.ClimbSteps.{leads_nowhere, too_few}
 use Rattle.uses.proofs.Levels.{level_next, length-next_level}
 use Rattle.uses.proofs.Trees.{height}
-use Rattle.uses.proofs.Astray.{astray_begin, astray_end, astray_more, astray_nowhere}
+use Rattle.uses.proofs.CollidingNodes.{other_leaf, other_root, other_above, nowhere_is_no_root}
 use Rattle.uses.proofs.merkle.collision.colliding_nodes.Goals as goal
 
 pub loop-number-init : goal.loop-number-init
-loop-number-init c = astray_begin node_digest [] _ _ _ _ c.requires.inside c.requires.other
+loop-number-init c = other_leaf node_digest [] _ _ _ _ c.requires.inside c.requires.other
 
 pub returns-then-proof-number : goal.returns-then-proof-number
 returns-then-proof-number c =
@@ -17,9 +17,10 @@ returns-then-proof-number c =
     let several : 2 ≤ length (level_above node_digest c.loop-number.number leaves) =
     c.requires.tree.several c.loop-number.number (omega arith) in
     let top = length (levels_of c.args.levels.now) - 1 in
-    astray_nowhere node_digest [] leaves c.args.index c.args.digest c.args.proof.now top
+    nowhere_is_no_root node_digest [] leaves c.args.index c.args.digest c.args.proof.now top
     (omega (arith, c.requires.inside)) c.requires.tree.top
-    (too_few node_digest c.args.proof.now c.loop-number.number _ c.loop-number.place c.loop-number.reached
+    (too_few node_digest c.args.proof.now c.loop-number.number _ c.loop-number.place
+    c.loop-number.reached
     _ (omega arith) (omega (arith, several)) c.loop-number.invariant.onward)
 
 pub returns-in_err-above : goal.returns-in_err-above
@@ -30,12 +31,14 @@ returns-in_err-above c =
     let several : 2 ≤ length (level_above node_digest c.loop-number.number leaves) =
     c.requires.tree.several c.loop-number.number (omega arith) in
     let top = length (levels_of c.args.levels.now) - 1 in
-    let refused = subst (λ xs. None ≡ one_up node_digest (length xs) c.loop-number.place c.loop-number.reached
+    let refused = subst (λ xs. None ≡ one_up node_digest (length xs) c.loop-number.place
+    c.loop-number.reached
     (get_or c.args.proof.now c.loop-number.number None)) here c.in_err-above.ensures in
     rw c.from_residual.ensures
-    (astray_nowhere node_digest [] leaves c.args.index c.args.digest c.args.proof.now top
+    (nowhere_is_no_root node_digest [] leaves c.args.index c.args.digest c.args.proof.now top
     (omega (arith, c.requires.inside)) c.requires.tree.top
-    (leads_nowhere node_digest c.args.proof.now c.loop-number.number _ c.loop-number.place c.loop-number.reached
+    (leads_nowhere node_digest c.args.proof.now c.loop-number.number _ c.loop-number.place
+    c.loop-number.reached
     _ (omega arith) (omega (arith, several)) (sym refused) c.loop-number.invariant.onward))
 
 pub returns : goal.returns
@@ -44,7 +47,8 @@ returns c =
     let all = height c.args.levels.now in
     let last : length (levels_of c.args.levels.now) - 1 ≡ c.loop-number.number =
     omega (arith, all, c.loop-number-test.false, c.loop-number.auto.number-end) in
-    astray_end node_digest [] leaves c.args.index c.args.digest c.args.proof.now c.loop-number.number
+    other_root node_digest [] leaves c.args.index c.args.digest c.args.proof.now
+    c.loop-number.number
     c.loop-number.place c.loop-number.reached c.loop-number.invariant
     (subst (λ n. length (level_above node_digest n leaves) ≤ 1) last c.requires.tree.top)
     (omega (arith, c.requires.inside))
@@ -66,7 +70,8 @@ pairs-requires-clause-meet c =
     let next : c.level_at-next.result.now ≡ next_level node_digest level =
     c.level_at-next.ensures ∙ level_next node_digest c.loop-number.number leaves
     ∙ ap (next_level node_digest) (sym c.level_at-level.ensures) in
-    let same : above ≡ get_or c.level_at-next.result.now (c.loop-number.place / 2) [] = search rules in (
+    let same : above ≡ get_or c.level_at-next.result.now (c.loop-number.place / 2) [] =
+    search rules in (
       length level,
       above,
       sym c.in_ok-above.ensures,
@@ -84,7 +89,8 @@ loop-number-preserved c =
     (get_or c.args.proof.now c.loop-number.number None)) c.level_at-level.ensures
     c.in_ok-above.ensures in
     let apart : above ≢ get_or c.level_at-next.result.now (place / 2) [] = search rules in
-    astray_more node_digest [] leaves c.args.index c.args.digest c.args.proof.now c.loop-number.number
+    other_above node_digest [] leaves c.args.index c.args.digest c.args.proof.now
+    c.loop-number.number
     place c.loop-number.reached above c.loop-number.invariant (omega arith)
     (c.requires.tree.several c.loop-number.number (omega arith)) (sym went)
     (subst (λ xs. above ≢ get_or xs (place / 2) []) c.level_at-next.ensures apart)

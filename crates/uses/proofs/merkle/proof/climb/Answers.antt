@@ -1,7 +1,7 @@
 -- Each step leads on.
 use Rattle.std.proofs.Common.{sym, ◌∙◌, arith}
 use Rattle.uses.specs.Merkle.{node_digest}
-use Rattle.uses.proofs.Climbs.{ends, leads_nowhere, goes_on, too_few, too_many}
+use Rattle.uses.proofs.ClimbSteps.{ends, leads_nowhere, goes_on, too_few, too_many}
 use Rattle.uses.proofs.merkle.proof.climb.Goals as goal
 
 pub returns-then-nodes-le1 : goal.returns-then-nodes-le1
@@ -18,8 +18,10 @@ returns-in_err-reached c =
 pub loop-step-preserved : goal.loop-step-preserved
 loop-step-preserved c =
     let led = goes_on node_digest c.args.steps.now c.loop-step.step-index _ _ _ _ _ (omega arith)
-    (omega arith) (sym c.in_ok-reached.ensures) c.loop-step.invariant.0 in
-    (rw c.div_ceil-nodes.ensures led, omega (arith, c.loop-step.invariant.1, c.div_ceil-nodes.ensures))
+    (omega arith) (sym c.in_ok-reached.ensures) c.loop-step.invariant.0 in (
+      rw c.div_ceil-nodes.ensures led,
+      omega (arith, c.loop-step.invariant.1, c.div_ceil-nodes.ensures),
+    )
 
 pub returns-then-nodes-le1-2 : goal.returns-then-nodes-le1-2
 returns-then-nodes-le1-2 c =

@@ -1,7 +1,7 @@
 -- Each level that is pushed is the next of those so far, and the last one is the highest.
 use Rattle.std.proofs.Common.{◌≡◌, arith, ap, length, ◌∙◌}
 use Rattle.uses.specs.Merkle.{next_level, node_digest}
-use Rattle.uses.proofs.Building.{begun, pushed_last, pushed_level, pushed_next}
+use Rattle.uses.proofs.TreeConstruction.{begun, pushed_last, pushed_level, pushed_next}
 use Rattle.uses.proofs.Levels.{length-next_level}
 use Rattle.uses.proofs.merkle.tree.Tree.over.Goals as goal
 
@@ -16,7 +16,8 @@ levels-preserved g c =
     c.in_ok-next.ensures.next ∙ ap (next_level node_digest) c.deref.ensures.value in
     record {
       so_far = pushed_level c.args.leaves.items c.levels.levels.items _ c.levels.level
-          c.in_ok-push.ensures.items c.levels.invariant.so_far c.levels.invariant.here (omega arith);
+          c.in_ok-push.ensures.items c.levels.invariant.so_far c.levels.invariant.here
+          (omega arith);
       here = pushed_next c.args.leaves.items c.levels.levels.items _ c.levels.level
           c.in_ok-push.ensures.items c.levels.invariant.so_far c.levels.invariant.here _ above;
     }

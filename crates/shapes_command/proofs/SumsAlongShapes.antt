@@ -93,7 +93,8 @@ module _ {A B : Type 0} (v : A → B) (value : B → ℕ) (IsGood : B → Type 0
       let first = starts e begun in
       let second = starts a started in
       let sums = chain_plain xs good a b (omega (arith, second, small, few)) chain in
-      let both : r ≡ e + b = omega (arith, joins e b r joined, first, second, small, sums.1, few) in (
+      let both : r ≡ e + b =
+      omega (arith, joins e b r joined, first, second, small, sums.1, few) in (
         (e, b, first, (a, second, sums.0), both),
         omega (arith, both, first, second, small, sums.1, few),
       )

@@ -36,7 +36,8 @@ module _ {X : Type 0} (node : X → X → X) where
     -- the rest begins with a step
     opened : k < length steps
         → drop k steps ≡ get_or steps k None ∷ drop (k + 1) steps
-    opened h = drop-cons steps k None h ∙ ap (λ j. get_or steps k None ∷ drop j steps) (sym (add-one k))
+    opened h = drop-cons steps k None h
+        ∙ ap (λ j. get_or steps k None ∷ drop j steps) (sym (add-one k))
 
     pub ends : length steps ≤ k → count ≤ 1 → climb node count index own (drop k steps) ≡ whole
         → Some own ≡ whole
@@ -56,7 +57,8 @@ module _ {X : Type 0} (node : X → X → X) where
 
     pub leads_on : k < length steps → 1 < count
         → climb node count index own (drop k steps) ≡ whole
-        → option_and_then (λ next. climb node (div_ceil count 2) (index / 2) next (drop (k + 1) steps))
+        → option_and_then (λ next. climb node (div_ceil count 2) (index / 2) next
+        (drop (k + 1) steps))
         (one_up node count index own (get_or steps k None)) ≡ whole
     leads_on some more leads =
         sym (climb_step count index own (get_or steps k None) (drop (k + 1) steps) more)

@@ -7,9 +7,9 @@ use Rattle.commonware_parallel.specs.Chains.{WholeRows}
 use Rattle.commonware_parallel.specs.Rectangles.{whole_row, whole_rows}
 
 -- a number that is not 0
-pub some : (n : ℕ) → n ≢ 0 → 0 < n
-some zero h = absurd (h refl)
-some (suc n) h = omega arith
+pub positive : (n : ℕ) → n ≢ 0 → 0 < n
+positive zero h = absurd (h refl)
+positive (suc n) h = omega arith
 
 module _ {T R : Type 0} (fill : T → ℕ → Range ℕ → T → Type 0)
     (finish : T → ℕ → R → T → Type 0) where
@@ -30,7 +30,7 @@ module _ {T R : Type 0} (fill : T → ℕ → Range ℕ → T → Type 0)
       → Finished fill finish first (whole_rows len (row + 1)) after t
   row_more len first s u t row before after r wide done fills gives more =
       let filled : Filled fill row s 0 len u =
-      last_fill s s u 0 0 len (no_fill s s 0 0 refl refl) (some len wide) fills in
+      last_fill s s u 0 0 len (no_fill s s 0 0 refl refl) (positive len wide) fills in
       rw (add-one row, more) (finished_append first s t (whole_rows len row)
       (whole_row len row ∷ []) before (r ∷ []) done (t, (u, filled, gives), refl))
 

@@ -4,7 +4,7 @@ use Rattle.std.proofs.Common.{◌≡◌, ◌≢◌, ℕ, zero, suc, ◌+◌, ◌
 use Rattle.std.proofs.lemmas.Bool.{cases_lt}
 use Rattle.std.specs.Int.{div_ceil}
 use Rattle.uses.specs.Merkle.{climb, level_above, merkle_root, next_level, one_up}
-use Rattle.uses.proofs.Climbs.{ends, goes_on, too_many}
+use Rattle.uses.proofs.ClimbSteps.{ends, goes_on, too_many}
 use Rattle.uses.proofs.Levels.{first_alone, length-next_level, root_at}
 
 module _ {X : Type 0} (node : X → X → X) (d : X) (leaves : List X) (index : ℕ) (digest : X)
@@ -13,30 +13,33 @@ module _ {X : Type 0} (node : X → X → X) (d : X) (leaves : List X) (index : 
   whole = climb node (length leaves) index digest proof
 
   -- the steps so far lead to another node than the tree has at the place of the level
-  pub record Astray (k place : ℕ) (reached : X) : Type 0 where
+  pub record ReachesOtherNode (k place : ℕ) (reached : X) : Type 0 where
     pub inside : place < length (level_above node k leaves)
     pub apart : reached ≢ get_or (level_above node k leaves) place d
     pub onward : climb node (length (level_above node k leaves)) place reached (drop k proof)
         ≡ climb node (length leaves) index digest proof
 
-  pub astray_begin : index < length leaves → digest ≢ get_or leaves index d → Astray 0 index digest
+  pub other_leaf : index < length leaves → digest ≢ get_or leaves index d
+      → ReachesOtherNode 0 index digest
   unfolding level_above
-  astray_begin h other = record { inside = h; apart = other; onward = refl }
+  other_leaf h other = record { inside = h; apart = other; onward = refl }
 
-  pub astray_more : (k place : ℕ) (reached above : X) → Astray k place reached → k < length proof
+  pub other_above : (k place : ℕ) (reached above : X) → ReachesOtherNode k place reached
+      → k < length proof
       → 2 ≤ length (level_above node k leaves)
       → one_up node (length (level_above node k leaves)) place reached (get_or proof k None)
       ≡ Some above → above ≢ get_or (level_above node (k + 1) leaves) (place / 2) d
-      → Astray (k + 1) (place / 2) above
+      → ReachesOtherNode (k + 1) (place / 2) above
   unfolding level_above
-  astray_more k place reached above so_far some several went other =
+  other_above k place reached above so_far some several went other =
       let here = level_above node k leaves in
       let next = next_level node here in
       let shorter : length next ≡ div_ceil (length here) 2 = length-next_level node here in
       let up : level_above node (k + 1) leaves ≡ next =
       ap (λ n. level_above node n leaves) (add-one k) in
       let within : place < length here = so_far.inside in
-      let led : climb node (div_ceil (length here) 2) (place / 2) above (drop (k + 1) proof) ≡ whole =
+      let led : climb node (div_ceil (length here) 2) (place / 2) above (drop (k + 1) proof)
+      ≡ whole =
       goes_on node proof k (length here) place reached whole above some (omega arith) went
       so_far.onward in
       let counted : length (level_above node (k + 1) leaves) ≡ div_ceil (length here) 2 =
@@ -56,20 +59,20 @@ module _ {X : Type 0} (node : X → X → X) (d : X) (leaves : List X) (index : 
       omega (arith, some_above k h, length-next_level node (level_above node k leaves))
 
   -- a way that leads nowhere doesn't lead to the root
-  pub astray_nowhere : (k : ℕ) → 0 < length leaves → length (level_above node k leaves) ≤ 1
+  pub nowhere_is_no_root : (k : ℕ) → 0 < length leaves → length (level_above node k leaves) ≤ 1
       → None ≡ whole → whole ≢ merkle_root node leaves
-  astray_nowhere k some top nowhere same =
+  nowhere_is_no_root k some top nowhere same =
       let root : merkle_root node leaves ≡ Some (get_or (level_above node k leaves) 0 d) =
       root_at node k leaves top
       ∙ first_alone node d (level_above node k leaves) 0 top (some_above k some) in
       cc
 
   -- past the highest level no step is left, or a step too many
-  last_step : (k place : ℕ) (reached : X) → Astray k place reached
+  last_step : (k place : ℕ) (reached : X) → ReachesOtherNode k place reached
       → length (level_above node k leaves) ≤ 1 → 0 < length leaves
       → (k < length proof) ⊎ (length proof ≤ k) → whole ≢ merkle_root node leaves
   last_step k place reached all top some (inl long) same =
-      astray_nowhere k some top
+      nowhere_is_no_root k some top
       (too_many node proof k (length (level_above node k leaves)) place reached whole long top
       all.onward) same
   last_step k place reached all top some (inr short) same =
@@ -81,7 +84,7 @@ module _ {X : Type 0} (node : X → X → X) (d : X) (leaves : List X) (index : 
       let one : reached ≡ get_or here place d = cc in
       all.apart one
 
-  pub astray_end : (k place : ℕ) (reached : X) → Astray k place reached
+  pub other_root : (k place : ℕ) (reached : X) → ReachesOtherNode k place reached
       → length (level_above node k leaves) ≤ 1 → 0 < length leaves → whole ≢ merkle_root node leaves
-  astray_end k place reached all top some =
+  other_root k place reached all top some =
       last_step k place reached all top some (cases_lt k (length proof))

@@ -15,7 +15,8 @@ by_indices d xs n counted =
     let long : length (map (λ i. get_or xs i d) (range_with_len 0 n)) ≡ n =
     length-map-range_with_len (λ i. get_or xs i d) 0 n in
     ext_get_or d _ xs (long ∙ counted)
-    (λ i h. get_or-map-range_with_len (λ j. get_or xs j d) 0 n i i d (omega (arith, long)) (omega arith))
+    (λ i h. get_or-map-range_with_len (λ j. get_or xs j d) 0 n i i d (omega (arith, long))
+    (omega arith))
 
 -- a number below one more than another is below it, or the other itself
 below_or : (n k : ℕ) → k < n + 1 → (k < n) ⊎ (n ≤ k) → (k < n) ⊎ (k ≡ n)
@@ -28,13 +29,15 @@ module _ (leaves : List (List ℕ)) where
   first_level = record { each = λ k h. absurd (omega arith); several = λ k h. absurd (omega arith) }
 
   pub begun : (levels : List (Vec (List ℕ) Global)) → levels ≡ []
-      → AreLevels leaves (levels_of levels) × (leaves ≡ level_above node_digest (length levels) leaves)
+      → AreLevels leaves (levels_of levels)
+      × (leaves ≡ level_above node_digest (length levels) leaves)
   unfolding level_above
   begun levels none =
       subst (λ all. AreLevels leaves (levels_of all)
       × (leaves ≡ level_above node_digest (length all) leaves)) (sym none) (first_level, refl)
 
-  module _ (levels : List (List (List ℕ))) (level : List (List ℕ)) (so_far : AreLevels leaves levels)
+  module _ (levels : List (List (List ℕ))) (level : List (List ℕ))
+      (so_far : AreLevels leaves levels)
       (here : level ≡ level_above node_digest (length levels) leaves) where
     -- each level, with one more
     each_with : (k : ℕ) → (k < length levels) ⊎ (k ≡ length levels)
@@ -50,7 +53,8 @@ module _ (leaves : List (List ℕ)) where
         subst (λ n. 2 ≤ length (level_above node_digest n leaves)) (sym last)
         (subst (λ xs. 2 ≤ length xs) here long)
 
-    which_of : (k : ℕ) → k < length (levels ++ level ∷ []) → (k < length levels) ⊎ (k ≡ length levels)
+    which_of : (k : ℕ) → k < length (levels ++ level ∷ [])
+        → (k < length levels) ⊎ (k ≡ length levels)
     which_of k h = below_or (length levels) k (omega (arith, h, length_push levels level))
         (cases_lt k (length levels))
 

@@ -23,9 +23,9 @@ use Rattle.commonware_parallel.specs.declared.tiles.seats.Worked.{Worked}
 use Rattle.commonware_parallel.specs.Chains.{Chains, no_chain, more_chains}
 use Rattle.commonware_parallel.specs.Rectangles.{CutsRectangle, IsWholeRow}
 use Rattle.commonware_parallel.specs.Seated.{seat_of, WorksFrom, AllResults}
-use Rattle.commonware_parallel.proofs.Finishing.{finished_append}
+use Rattle.commonware_parallel.proofs.FilledRows.{finished_append}
 use Rattle.commonware_parallel.proofs.Rectangles.{times_all, cut_append, apart_each, cuts}
-use Rattle.commonware_parallel.proofs.Wholes.{fronts_cut}
+use Rattle.commonware_parallel.proofs.WholeRowCuts.{fronts_cut}
 
 -- ---- chains
 
