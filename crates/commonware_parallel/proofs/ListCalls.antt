@@ -8,7 +8,6 @@ use Rattle.parallel_bridge.specs.Shapes.{cutdepth}
 use Rattle.parallel_bridge.specs.Sources.{GivesSome}
 use Rattle.parallel_bridge.specs.declared.path.Path.{Path}
 use Rattle.parallel_bridge.specs.declared.path.Path.TheVariants.{Serial}
-use Rattle.commonware_parallel.specs.Answers.{UnlessFault}
 use Rattle.commonware_parallel.specs.Calls.{AtSomePath}
 use Rattle.commonware_parallel.specs.declared.call.Call.{Call}
 use Rattle.commonware_parallel.specs.declared.call.Pick.{Pick}
@@ -27,20 +26,20 @@ pub outcome_at_threads : {Q X R E : Type 0} (gives : Q → List X → Type 0) (p
     (takes : Pick → Type 0) (fact : ℕ → Path → List X → Result R E → Type 0) (taken threads : ℕ)
     → taken ≡ threads
     → (result : Result R (Trouble E)) (answered : Path → Type 0)
-    → UnlessFault result (AtSomePath takes answered) → UnlessRefused result (λ _. Unit {0})
+    → UnlessRefused result (λ _. AtSomePath takes answered)
     → ((path : Path) → answered path → UnlessRefused result
     (λ out. GivesSome gives parts (λ xs. fact (cutdepth taken) path xs out)))
     → UnlessRefused result (λ out. GivesSome gives parts
     (λ xs. AtSomePath takes (λ path. fact (cutdepth threads) path xs out)))
-outcome_at_threads gives parts takes fact taken threads same (Ok r) answered w fault says =
+outcome_at_threads gives parts takes fact taken threads same (Ok r) answered w says =
     at_threads gives parts takes (λ depth path xs. fact depth path xs (Ok r)) taken threads same w.0
     w.1 (says w.0 w.2)
 outcome_at_threads gives parts takes fact taken threads same
-    (Err (Closure e)) answered w fault says =
+    (Err (Closure e)) answered w says =
     at_threads gives parts takes (λ depth path xs. fact depth path xs (Err e)) taken threads same
     w.0 w.1 (says w.0 w.2)
 outcome_at_threads gives parts takes fact taken threads same
-    (Err (OfFault f)) answered w fault says = fault
+    (Err (OfFault f)) answered w says = w
 
 -- what holds of the list that came of a source's iterator holds of one of the source, serially
 pub at_serial : {S I X : Type 0} (comes_of : S → List X → Type 0) (iter : S)

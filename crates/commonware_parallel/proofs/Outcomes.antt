@@ -5,18 +5,10 @@ use Rattle.parallel_fault.specs.declared.fault.Fault.TheVariants.{Memory}
 use Rattle.parallel_fault.specs.declared.fault.Trouble.{Trouble}
 use Rattle.parallel_fault.specs.declared.fault.Trouble.TheVariants.{Closure}
 use Rattle.parallel_fault.specs.declared.fault.Trouble.TheVariants.{Fault as OfFault}
-use Rattle.parallel_fault.specs.Trouble.{IsMemoryOnFault}
 use Rattle.parallel_bridge.specs.Outcomes.{UnlessRefused}
 use Rattle.commonware_parallel.specs.Answers.{AnswersAs, UnlessFaulty}
 
--- an outcome whose refusals are want of memory has no other fault
-pub memory_on_fault : {R E : Type 0} (result : Result R (Trouble E)) (P : Result R E → Type 0)
-    → UnlessRefused result P → IsMemoryOnFault result
-memory_on_fault (Ok r) P h = tt
-memory_on_fault (Err (Closure e)) P h = tt
-memory_on_fault (Err (OfFault x)) P h = h
-
--- what follows from a fact of such an outcome
+-- what follows from a fact of an outcome whose refusals are want of memory
 pub unless_told : {R E : Type 0} (result : Result R (Trouble E)) (told : Type 0)
     (says : Result R E → Type 0) → UnlessRefused result (λ _. told)
     → (told → UnlessRefused result says) → UnlessRefused result says

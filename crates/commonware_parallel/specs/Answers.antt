@@ -37,12 +37,6 @@ abbrev pub OnParts : Pick → (ℕ → Type 0) → Type 0
 OnParts (By path) fact = ⊥
 OnParts (Into parts) fact = fact parts
 
--- a fact, where the answer isn't a refusal
-abbrev pub UnlessFault : {R E : Type 0} → Result R (Trouble E) → Type 0 → Type 0
-UnlessFault (Ok r) P = P
-UnlessFault (Err (Closure e)) P = P
-UnlessFault (Err (OfFault f)) P = Unit {0}
-
 -- allowed holds of the answer, or of the closure's error, and refused of a refusal
 abbrev pub UnlessFaulty : {R E : Type 0} → Result R (Trouble E) → (Result R E → Type 0)
     → (Fault → Type 0) → Type 0

@@ -4,7 +4,7 @@
 //! These functions are generic in the parts and not in the source, and write the bodies that go to
 //! the strategy: the checker refuses a closure over parts whose type is a source's ("what is passed
 //! does not fit the bound").
-ghost use Rattle.std.specs.Prelude.{◌≡◌, ◌<◌, List, IfOk, length, ⊤};
+ghost use Rattle.std.specs.Prelude.{◌≡◌, ◌<◌, List, IfOk, length};
 ghost use Rattle.std.specs.Borrow.{MutBor};
 ghost use Rattle.parallel_bridge.specs.Lists.{MapOf};
 ghost use Rattle.parallel_bridge.specs.Outcomes.{UnlessRefused, listed};
@@ -17,7 +17,6 @@ ghost use Rattle.parallel_fault.specs.Trouble.{IsMemoryOnErr};
 ghost use Rattle.parallel_fault.specs.declared.fault.Fault.{Fault};
 ghost use Rattle.parallel_fault.specs.declared.fault.Fault.TheVariants.{Memory};
 ghost use Rattle.parallel_fault.specs.declared.fault.Trouble.TheVariants.{Fault as OfFault};
-ghost use Rattle.commonware_parallel.specs.Answers.{UnlessFault};
 ghost use Rattle.commonware_parallel.specs.Calls.{AtSomePath, body_call, multiplied_call};
 ghost use Rattle.commonware_parallel.specs.ListCalls.{GoesBy, GoesOver};
 ghost use Rattle.commonware_parallel.specs.declared.call.Kind.TheVariants.{Body};
@@ -103,9 +102,8 @@ pub fn dispatch_fallible<
         → B.pre body path }
     requires memory { (path : Path) (fault : Fault) → B.post body path (Err (OfFault fault))
         → fault ≡ Memory }
-    ensures answers { UnlessFault result (AtSomePath (S.takes strategy.now (P.site_of site) call)
+    ensures { UnlessRefused result (λ _. AtSomePath (S.takes strategy.now (P.site_of site) call)
         (λ path. B.post body path result)) }
-    ensures fault { UnlessRefused result (λ _. ⊤) }
 {
     match dispatch_path(strategy, rt, alloc, site, call, body) {
         Ok(answer) => Ok(answer),
@@ -147,6 +145,7 @@ pub fn map_through<
             (λ xs. MapOf (F.post map_op.entry.now) xs ys.items)) }
         ensures fault { IsMemoryOnErr result }
     { map_by(rt, alloc, threads, path, parts, map_op) };
+    // (bound before it is handed on, here and below, so that its facts have a name in the proof)
     let answers = dispatch_call(strategy, rt, alloc, site, call, body)?;
     Ok(answers)
 }

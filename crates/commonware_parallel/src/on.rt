@@ -9,7 +9,7 @@ ghost use Rattle.parallel_bridge.specs.Sources.{GivesSome};
 ghost use Rattle.parallel_bridge.specs.States.{FoldInitSegment, FoldStep, MapStep, Stateful};
 ghost use Rattle.parallel_bridge.specs.Tries.{TryBracketing, TryMapOf};
 ghost use Rattle.parallel_bridge.specs.Ways.{FoldedAs, FoldedInitAs, MappedInitAs, TryFoldedAs};
-ghost use Rattle.parallel_fault.specs.Trouble.{IsMemoryOnErr};
+ghost use Rattle.parallel_fault.specs.Trouble.{IsMemoryOnErr, IsMemoryOnFault};
 ghost use Rattle.commonware_parallel.specs.Calls.{body_call, join_call};
 ghost use Rattle.commonware_parallel.specs.ListCalls.{Asked};
 ghost use Rattle.commonware_parallel.specs.OnePlace.{AskedOn, GoesOn};
@@ -188,6 +188,7 @@ impl<'s, Rt: Threads + Wait + Sync, S: Strategy, P: Place> On<'s, Rt, S, P> {
         ensures along { UnlessRefused result
             (GoesOn I.gives source S.takes S.threads P.site_of self.now
             (TryFoldedAs (ID.post identity) (F.post fold_op) (G.post reduce_op))) }
+        ensures fault { IsMemoryOnFault result }
     {
         self.strategy.try_fold(
             self.rt, self.alloc, self.site, source, identity, fold_op, reduce_op,
@@ -208,6 +209,7 @@ impl<'s, Rt: Threads + Wait + Sync, S: Strategy, P: Place> On<'s, Rt, S, P> {
             (λ xs. TryMapOf (F.post map_op) xs (listed out))) }
         ensures asked { UnlessRefused result
             (λ _. AskedOn I.gives source S.takes P.site_of self.now) }
+        ensures fault { IsMemoryOnFault result }
     {
         self.strategy
             .try_map_collect_vec(self.rt, self.alloc, self.site, source, map_op)

@@ -332,6 +332,8 @@ pub trait Strategy: Chooser {
             (AskedOver I.gives source (Self.takes self.now (P.site_of site)) body_call) }
         ensures fault { IsMemoryOnErr result }
     {
+        // (each answer is bound before it is handed on, here and below: so its facts have a name in
+        // the proof)
         if self.is_serial() {
             let answers = map_iter(alloc, source.into_items(), &map_op)?;
             return Ok(answers);
@@ -533,6 +535,7 @@ pub trait Strategy: Chooser {
         ensures along { UnlessRefused result
             (GoesByLength I.gives source Self.takes Self.threads self.now (P.site_of site) body_call
             (TryFoldedAs (ID.post identity) (F.post fold_op) (G.post reduce_op))) }
+        ensures fault { IsMemoryOnFault result }
     {
         if self.is_serial() {
             return try_fold_as_it_comes(source.into_items(), &identity, &fold_op);
@@ -568,6 +571,7 @@ pub trait Strategy: Chooser {
             (λ xs. TryMapOf (F.post map_op) xs (listed out))) }
         ensures asked { UnlessRefused result
             (λ _. AskedOver I.gives source (Self.takes self.now (P.site_of site)) body_call) }
+        ensures fault { IsMemoryOnFault result }
     {
         if self.is_serial() {
             return try_map_iter(alloc, source.into_items(), &map_op);

@@ -2,7 +2,6 @@
 use Rattle.std.proofs.Common.{rules, arith}
 use Rattle.std.proofs.lemmas.Result.{IfOk-weaker}
 use Rattle.parallel_bridge.proofs.OverLists.{if_ok, if_err}
-use Rattle.commonware_parallel.proofs.Outcomes.{memory_on_fault}
 use Rattle.uses.proofs.Verdicts.{summed}
 use Rattle.uses.proofs.verifier.add_all.Goals as goal
 
@@ -29,6 +28,3 @@ returns-clause-first g c =
     c.try_fold.ensures.brackets (λ e k. search rules) c.requires.adds
     (λ a b r k. search rules) in
     if_err _ _ c.try_fold.result all
-
-pub returns-clause-fault : goal.returns-clause-fault
-returns-clause-fault g c = memory_on_fault c.try_fold.result _ c.try_fold.ensures.brackets

@@ -1,6 +1,5 @@
 -- The first index that fails is that of the first item that does.
 use Rattle.parallel_bridge.proofs.OverLists.{if_ok, if_err}
-use Rattle.commonware_parallel.proofs.Outcomes.{memory_on_fault}
 use Rattle.uses.proofs.Verdicts.{verified}
 use Rattle.uses.proofs.verifier.judge_all.Goals as goal
 
@@ -15,7 +14,3 @@ returns-clause-first g c = if_err _ _ c.try_map_collect_vec.result
     (verified c.args.items.now (λ x b. goal.C-post g c.args.check.now x b)
     (λ i out. goal.F-post g c.args.verdict i out) c.try_map_collect_vec.result
     c.try_map_collect_vec.ensures.answers c.requires.judges)
-
-pub returns-clause-fault : goal.returns-clause-fault
-returns-clause-fault g c =
-    memory_on_fault c.try_map_collect_vec.result _ c.try_map_collect_vec.ensures.answers

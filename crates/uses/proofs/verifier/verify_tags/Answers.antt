@@ -1,6 +1,5 @@
 -- The first pair whose tag isn't its message's is the first item that fails.
 use Rattle.parallel_bridge.proofs.OverLists.{if_err, if_ok}
-use Rattle.commonware_parallel.proofs.Outcomes.{memory_on_fault}
 use Rattle.uses.proofs.Verdicts.{tagged}
 use Rattle.uses.proofs.verifier.verify_tags.Goals as goal
 
@@ -15,7 +14,3 @@ returns-clause-first g c = if_err _ _ c.try_map_collect_vec.result
     (tagged c.args.messages c.args.tags c.new.result.pairs.right c.new.result.pairs.left.start
     c.new.result.pairs.left.end c.new.ensures.list c.new.ensures.start c.new.ensures.end
     c.try_map_collect_vec.result c.try_map_collect_vec.ensures.answers)
-
-pub returns-clause-fault : goal.returns-clause-fault
-returns-clause-fault g c =
-    memory_on_fault c.try_map_collect_vec.result _ c.try_map_collect_vec.ensures.answers

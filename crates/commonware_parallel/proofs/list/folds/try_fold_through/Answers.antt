@@ -18,6 +18,5 @@ returns g c =
           (g.S.Chooser.takes c.args.strategy.now (g.P.Place.site_of c.args.site) c.args.call)
           (λ depth path xs out. TryFoldedAs identity step reduce depth path xs out) _ _
           c.thread_number-threads.ensures.number c.dispatch_fallible.result _
-          c.dispatch_fallible.ensures.answers c.dispatch_fallible.ensures.fault
-          (λ path answered. search rules);
+          c.dispatch_fallible.ensures (λ path answered. search rules);
     }

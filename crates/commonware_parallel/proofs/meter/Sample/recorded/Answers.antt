@@ -2,5 +2,8 @@
 use Rattle.std.proofs.Common.{rules}
 use Rattle.commonware_parallel.proofs.meter.Sample.recorded.Goals as goal
 
+pub returns-in-Inline : goal.returns-in-Inline
+returns-in-Inline c = search rules
+
 pub returns-in-Offloaded : goal.returns-in-Offloaded
 returns-in-Offloaded c = search rules
