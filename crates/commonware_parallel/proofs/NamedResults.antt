@@ -1,5 +1,5 @@
 -- Chains whose results name their stretches, by a state that notes where a stretch began.
-use Rattle.std.proofs.Common.{◌≡◌, ℕ, ◌<◌, ◌⊎◌, inl, inr, List, [], ◌∷◌, ◌++◌, All, Option, Some, None, map, refl, sym, ap, subst, ◌∙◌, arith}
+use Rattle.std.proofs.Common.{◌≡◌, ℕ, ◌⊎◌, inl, inr, List, [], ◌∷◌, ◌++◌, All, Option, Some, None, refl, sym, ap, subst, ◌∙◌, arith}
 use Rattle.std.specs.Borrow.{MutBor}
 use Rattle.std.specs.Option.{unwrap_or}
 use Rattle.std.specs.declared.ops.Range.{Range}

@@ -2,7 +2,7 @@
 use Rattle.std.proofs.Common.{◌≡◌, ◌∙◌, ◌<◌, ◌≤◌, ℕ, zero, Bool, true, false, ap, refl}
 use Rattle.std.specs.Prelude.{nat_le, if◌then◌else◌}
 use Rattle.parallel_bridge.specs.declared.path.Path.{Path}
-use Rattle.parallel_bridge.specs.declared.path.Path.TheVariants.{Serial, Parallel}
+use Rattle.parallel_bridge.specs.declared.path.Path.TheVariants.{Serial}
 use Rattle.parallel_policy.specs.declared.Site.{Site}
 use Rattle.commonware_parallel.specs.Answers.{OnParts, OnPath}
 use Rattle.commonware_parallel.specs.Calls.{AtSomePath, HasPick, body_call, nth_path}

@@ -1,6 +1,6 @@
 -- Claims of whole rows are cut into whole rows.
 use Rattle.std.proofs.Common.{◌≡◌, ℕ, zero, suc, ◌+◌, ◌-◌, ◌*◌, ◌<◌, ◌≤◌, min, ◌⊎◌, inl, inr, List, [], ◌∷◌, ◌++◌, All, length, get_or, true, refl, sym, ap}
-use Rattle.std.proofs.Common.{subst, ◌∙◌, append-nil, append_assoc, arith}
+use Rattle.std.proofs.Common.{◌∙◌, append-nil, append_assoc, arith}
 use Rattle.std.specs.List.{range_with_len}
 use Rattle.std.specs.Int.{div_ceil}
 use Rattle.std.specs.declared.ops.Range.{Range}
@@ -10,9 +10,9 @@ use Rattle.std.proofs.lemmas.List.{append_cancel_left}
 use Rattle.std.proofs.lemmas.List.Elements.{All-nil, All-cons, All-head, All-tail, All-append, All-push}
 use Rattle.std.proofs.lemmas.Nat.{same_from_place, row_fits}
 use Rattle.parallel_shares.specs.declared.shares.stretch.Stretch.{Stretch}
-use Rattle.parallel_shares.specs.Answers.{claim_cells, claim_stop}
+use Rattle.parallel_shares.specs.Answers.{claim_stop}
 use Rattle.parallel_shares.specs.Fronts.{IsFront}
-use Rattle.parallel_shares.specs.Sizes.{Sizes, Work, sizes_of}
+use Rattle.parallel_shares.specs.Sizes.{Work, sizes_of}
 use Rattle.parallel_shares.specs.Stretches.{IsStretch, AreApart, Cutting, all_cells, cut_cells, range_cells, stretch_cells}
 use Rattle.parallel_shares.specs.Words.{start_of}
 use Rattle.parallel_shares.proofs.Stretching.{numbers_cut}

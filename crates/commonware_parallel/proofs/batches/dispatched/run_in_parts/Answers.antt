@@ -1,5 +1,4 @@
 -- The batch that the closure was given has as many ranges as were told.
-use Rattle.std.proofs.Common.{rules}
 use Rattle.commonware_parallel.proofs.batches.dispatched.run_in_parts.Goals as goal
 
 pub returns-in-Ok : goal.returns-in-Ok

@@ -1,5 +1,5 @@
 -- The bytes are mixed in one after another, between the seed and the place.
-use Rattle.std.proofs.Common.{rules, ◌≡◌, ◌∙◌, ℕ, List, take, length, refl, sym, ap, subst, ◌∷◌, [], ◌++◌}
+use Rattle.std.proofs.Common.{rules, ◌≡◌, ◌∙◌, ℕ, take, length, ap, ◌∷◌, [], ◌++◌}
 use Rattle.std.proofs.lemmas.List.{take_all}
 use Rattle.commonware_parallel.specs.Mixes.{mixed_in, mixed_all}
 use Rattle.commonware_parallel.proofs.Hashes.{one_more, three_more}

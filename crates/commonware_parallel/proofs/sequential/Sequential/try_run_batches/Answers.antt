@@ -1,5 +1,4 @@
 -- The batch that the closure was given is the whole one.
-use Rattle.std.proofs.Common.{rules}
 use Rattle.commonware_parallel.proofs.sequential.Sequential.try_run_batches.Goals as goal
 
 pub returns-in-Ok : goal.returns-in-Ok

@@ -1,5 +1,5 @@
 -- What cuts the grid are the stretches that the results name.
-use Rattle.std.proofs.Common.{◌≡◌, ℕ, All, sym, subst}
+use Rattle.std.proofs.Common.{ℕ, All, sym, subst}
 use Rattle.std.specs.Borrow.{MutBor}
 use Rattle.std.specs.declared.ops.Range.{Range}
 use Rattle.parallel_shares.specs.declared.shares.stretch.Stretch.{Stretch}
