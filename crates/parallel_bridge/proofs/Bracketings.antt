@@ -1,6 +1,6 @@
 -- What goes along the shape of a list is a reduction of neighbouring segments.
-use Rattle.parallel_bridge.proofs.Calls.{Path, Serial, Parallel, FoldSegment, Brackets, of_segment, of_parts, Bracketing, Cut, segment, halves, cut_items, Shape, AlongLeaves, Along, FoldsAs}
-use Rattle.std.proofs.Common.{ℕ, List, [], refl, subst}
+use Rattle.parallel_bridge.proofs.Common.{Path, Serial, Parallel, FoldSegment, Brackets, of_segment, of_parts, Bracketing, Cut, segment, halves, cut_items, Shape, AlongLeaves, Along, FoldsAs, ℕ, List}
+use Rattle.parallel_bridge.proofs.Common.{[], refl, subst}
 use Rattle.parallel_bridge.proofs.Shapes.{Shape-items}
 
 module _ {X R : Type 0} (identity : R → Type 0) (allowed : List X → R → Type 0)

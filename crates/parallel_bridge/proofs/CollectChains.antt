@@ -1,11 +1,10 @@
 -- What a chain of `into_iter`, `map` and `collect` gives, where the closure has a relation only.
 use Rattle.parallel_bridge.proofs.Common.{◌≡◌, List, [], ◌∷◌, ◌++◌, refl, Option, None, Some, length, sym, subst, ◌∙◌, All, AllByRecursion, AllZip, recursion_from_All, Called, Yields, Drains}
-use Rattle.parallel_bridge.proofs.Common.{DrainsIf, AlwaysYields, HoldsAlong, CallableAtEachTurn, map_source, map_callee, map_steps, serves_by, YieldsList}
+use Rattle.parallel_bridge.proofs.Common.{DrainsIf, AlwaysYields, HoldsAlong, CallableAtEachTurn, map_source, map_callee, map_steps, serves_by, YieldsList, Chain}
 use Rattle.std.specs.declared.iter.Map.{Map}
 use Rattle.std.specs.declared.vec.IntoIter.{IntoIter}
 use Rattle.std.specs.Vec.Iter.{into_iter_items, into_iter_len, into_iter_steps}
 use Rattle.std.proofs.lemmas.Iterator.Adapters.{YieldsList-from_vec}
-use Rattle.parallel_bridge.specs.Lists.{Chain}
 use denote.Param.Members.{Mut}
 
 module _ {S A B F : Type 0} (steps : S → Option A → S → Type 0) (g : Mut F (A × Unit {0}) B)

@@ -1,15 +1,9 @@
 -- What the bridge gives along a list's shape, by the consumers that are driven along it.
-use Rattle.std.proofs.Common.{◌≡◌, ℕ, List, [], ◌∷◌, ◌++◌, Result, Ok, Err, Option, IfOk, refl, sym, ◌∙◌, ap, subst, inl, inr}
-use Rattle.parallel_fault.specs.declared.fault.Trouble.{Trouble}
-use Rattle.parallel_fault.specs.declared.fault.Fault.{Fault}
-use Rattle.parallel_bridge.specs.Lists.{MapOf, FoldSegment}
-use Rattle.parallel_bridge.specs.Shapes.{Cut, segment, halves, cut_items, Shape, AlongCut, AlongLeaves}
+use Rattle.parallel_bridge.proofs.Common.{◌≡◌, ℕ, List, [], ◌∷◌, ◌++◌, Result, Ok, Err, Option, IfOk, refl, sym, ◌∙◌, ap, subst, inl, inr, Trouble, Fault, MapOf, FoldSegment, Cut, segment, halves}
+use Rattle.parallel_bridge.proofs.Common.{cut_items, Shape, AlongCut, AlongLeaves, IsListed, UnlessRefused, joined, listed, TryAlongCut, OnlyOk, TryFoldSegment, TryReducedSegment, TryAlongLeaves}
+use Rattle.parallel_bridge.proofs.Common.{TryMapOf, EachOk, PartitionOf, ReducesTo}
 use Rattle.std.specs.declared.vec.Vec.{Vec}
 use Rattle.std.specs.declared.alloc.Global.{Global}
-use Rattle.parallel_bridge.specs.Outcomes.{IsListed, UnlessRefused, joined, listed}
-use Rattle.parallel_bridge.specs.Tries.{TryAlongCut, OnlyOk, TryFoldSegment, TryReducedSegment, TryAlongLeaves, TryMapOf, EachOk}
-use Rattle.parallel_bridge.specs.Parts.{PartitionOf}
-use Rattle.parallel_bridge.specs.Onto.{ReducesTo}
 use Rattle.parallel_bridge.proofs.Shapes.{Shape-items, map_along_shape, MapOf-append}
 use Rattle.parallel_bridge.proofs.TryShapes.{try_along_wider}
 use Rattle.parallel_bridge.proofs.FoldersAppend.{joined-append, onto_append, PartitionOf-append}

@@ -1,6 +1,6 @@
 -- The first failing index of a map over indices whose closure may fail.
 use Rattle.parallel_bridge.proofs.Common.{◌≡◌, ℕ, zero, suc, ◌+◌, ◌-◌, ◌<◌, ◌≤◌, List, [], ◌∷◌, ◌++◌, Result, Ok, Err, Vec, Global, arith, subst, inl, inr, MatchResult, range_with_len, cases_lt}
-use Rattle.parallel_bridge.proofs.Calls.{Trouble, Closure, OfFault, UnlessRefused, listed, TryMapOf, EachOk, FirstErr}
+use Rattle.parallel_bridge.proofs.Common.{Trouble, Closure, OfFault, UnlessRefused, listed, TryMapOf, EachOk, FirstErr}
 use Rattle.parallel_fault.specs.Trouble.{IfClosure}
 
 -- every index passes; or one fails by the error, and each below it passes

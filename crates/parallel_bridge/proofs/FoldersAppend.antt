@@ -1,13 +1,9 @@
 -- For folders: taking some items, and then more, is taking all of them.
-use Rattle.std.proofs.Common.{◌≡◌, List, [], ◌∷◌, ◌++◌, Result, Ok, Err, Option, Some, None, refl, sym, ◌∙◌, ap, subst, append_assoc, inl, inr, IsTrue, is_err}
+use Rattle.parallel_bridge.proofs.Common.{◌≡◌, List, [], ◌∷◌, ◌++◌, Result, Ok, Err, Option, Some, None, refl, sym, ◌∙◌, ap, subst, append_assoc, inl, inr, IsTrue, is_err, joined, Chain, EachOk}
+use Rattle.parallel_bridge.proofs.Common.{OnlyOk, TryChain, TryMapOf, PartitionOf, keys_in, keys_of, values_in, values_of, TryMapOnto, TryMapBehind, PartitionOnto, TryContinues}
 use Rattle.std.proofs.lemmas.List.{append-nil}
 use Rattle.std.specs.declared.vec.Vec.{Vec}
 use Rattle.std.specs.declared.alloc.Global.{Global}
-use Rattle.parallel_bridge.specs.Outcomes.{joined}
-use Rattle.parallel_bridge.specs.Lists.{Chain}
-use Rattle.parallel_bridge.specs.Tries.{EachOk, OnlyOk, TryChain, TryMapOf}
-use Rattle.parallel_bridge.specs.Parts.{PartitionOf, keys_in, keys_of, values_in, values_of}
-use Rattle.parallel_bridge.specs.Onto.{TryMapOnto, TryMapBehind, PartitionOnto, TryContinues}
 use Rattle.parallel_bridge.proofs.Shapes.{MapOf-append}
 
 module _ {X R : Type 0} (step : R → X → R → Type 0) where
@@ -158,10 +154,10 @@ keys_in-append (p ∷ ps) qs = ap (λ l. p.1.items ++ l) (keys_in-append ps qs)
     ∙ sym (append_assoc p.1.items (keys_in ps) (keys_in qs))
 
 -- the values and the keys of lists of pairs that are put one after another
-pub pairs_joined : {K U : Type 0} (all left right : List (Vec U Global × Vec K Global))
+pub lists_joined : {K U : Type 0} (all left right : List (Vec U Global × Vec K Global))
     → all ≡ left ++ right → (values_in all ≡ values_in left ++ values_in right)
     × (keys_in all ≡ keys_in left ++ keys_in right)
-pairs_joined all left right same = (
+lists_joined all left right same = (
   ap (λ l. values_in l) same ∙ values_in-append left right,
   ap (λ l. keys_in l) same ∙ keys_in-append left right,
 )

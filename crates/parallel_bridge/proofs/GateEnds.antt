@@ -1,8 +1,8 @@
 -- Who stands for all seats of a gate knows of all that was told.
 use Rattle.parallel_bridge.proofs.Common.{◌≡◌, ℕ, ◌+◌, ◌≤◌, ◌<◌, ◌⊎◌, List, [], ◌∷◌, ◌++◌, All, Contains, length, set, sum_by, sym, ap, subst, ◌∙◌, ⊎_elim, inl, inr, arith, All-weaker, All-contains}
 use Rattle.parallel_bridge.proofs.Common.{All-contains_itself, Contains-append_left, Contains-append_right, Contains-append_cases, Contains-push, Contains-push_cases, sum_by_push, some}
-use Rattle.parallel_bridge.proofs.Common.{some-injective, get_elem?, dite, ℕ_discrete}
-use Rattle.parallel_bridge.proofs.Gates.{set_else, GateView, GateSeat, greatest, newcomer, gathered, WasTold, FitsGate, KeepsGate, IsGateOf, known, stands_for, ToldByOne, IsAtMost}
+use Rattle.parallel_bridge.proofs.Common.{some-injective, get_elem?, dite, ℕ_discrete, set_else, GateView, GateSeat, greatest, newcomer, gathered, WasTold, FitsGate, KeepsGate, IsGateOf, known}
+use Rattle.parallel_bridge.proofs.Common.{stands_for, ToldByOne, IsAtMost}
 use Rattle.parallel_bridge.proofs.GateSteps.{held, held_set, one_of}
 
 -- the word, seen by who stands for all seats

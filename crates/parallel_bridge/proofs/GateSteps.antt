@@ -1,9 +1,8 @@
 -- Each step of a gate keeps its rule.
 use Rattle.parallel_bridge.proofs.Common.{◌≡◌, ℕ, ◌+◌, ◌≤◌, ◌<◌, ◌⊎◌, min, List, [], ◌∷◌, ◌++◌, All, Contains, set, get_or, slice_index, sum_by, zero, suc, refl, sym, ap, subst, ◌∙◌, ⊎_elim, inl, inr}
 use Rattle.parallel_bridge.proofs.Common.{arith, All-nil, All-append, All-push, All-weaker, Contains-append_left, Contains-append_right, Contains-push, sum_by-set, sum_by_push, get_or-le-sum_by, some}
-use Rattle.parallel_bridge.proofs.Common.{some-injective, get_elem?, dite, ℕ_discrete, dec_le}
-use Rattle.parallel_bridge.proofs.Gates.{at_set, set_here, set_else, at_longer, GateView, greatest, newcomer, one_less, front_half, back_half, gathered, telling, looking, WasTold, FitsGate, KeepsGate}
-use Rattle.parallel_bridge.proofs.Gates.{IsGateOf}
+use Rattle.parallel_bridge.proofs.Common.{some-injective, get_elem?, dite, ℕ_discrete, dec_le, at_set, set_here, set_else, at_longer, GateView, greatest, newcomer, one_less, front_half, back_half}
+use Rattle.parallel_bridge.proofs.Common.{gathered, telling, looking, WasTold, FitsGate, KeepsGate, IsGateOf}
 use Rattle.atomic_table.specs.Table.{State, Me, Allows, Splits, Joins, keeps}
 use Rattle.parallel_bridge.proofs.ViewPlaces.{there, each_set, each_more}
 

@@ -1,8 +1,7 @@
 -- For `consume_iter` of `GatedFolder`: folding some items under the eye of a gate, and then more,
 -- is folding all of them.
-use Rattle.parallel_bridge.proofs.Gates.{Halt, Failed, Stopped, GateWatch, IsWatching, SameWatch, known, Begins, HaltsOnward, TellsAs, halting}
-use Rattle.std.proofs.Common.{List, [], ◌++◌, Result, Ok, Err, IsTrue, is_err, refl, sym, subst, ◌∙◌}
-use Rattle.parallel_bridge.specs.Tries.{OnlyOk, TryChain, TryFoldSegment, TryReducedSegment}
+use Rattle.parallel_bridge.proofs.Common.{Halt, Failed, Stopped, GateWatch, IsWatching, SameWatch, known, Begins, HaltsOnward, TellsAs, halting, List, [], ◌++◌, Result, Ok, Err, IsTrue, is_err, refl}
+use Rattle.parallel_bridge.proofs.Common.{sym, subst, ◌∙◌, OnlyOk, TryChain, TryFoldSegment, TryReducedSegment}
 use Rattle.parallel_bridge.proofs.FoldersAppend.{try_chain_append}
 
 module _ {X R E : Type 0} (step : R → X → Result R E → Type 0) where

@@ -1,9 +1,7 @@
 -- What the seats of two neighbouring parts say, joined.
 use Rattle.parallel_bridge.proofs.Common.{◌≡◌, ℕ, ◌+◌, ◌-◌, ◌/◌, ◌≤◌, ◌<◌, List, [], ◌∷◌, ◌++◌, All, Contains, Option, Some, None, Result, Ok, Err, sym, subst, arith, All-nil, All-append, All-cons}
-use Rattle.parallel_bridge.proofs.Common.{All-weaker, All-contains}
-use Rattle.parallel_bridge.proofs.Calls.{Trouble, Closure, OfFault, PutTogether, UnlessRefused}
-use Rattle.parallel_bridge.proofs.Gates.{Halt, Failed, Stopped, GateSeat, GateView, greatest, gathered, newcomer, IsSeatOf, known, stands_for, EndsAs, IsKeptOf, JoinsKept, KeptEnds, NotStopped}
-use Rattle.parallel_bridge.proofs.Gates.{SeatAfter, TellsAs}
+use Rattle.parallel_bridge.proofs.Common.{All-weaker, All-contains, Trouble, Closure, OfFault, PutTogether, UnlessRefused, Halt, Failed, Stopped, GateSeat, GateView, greatest, gathered, newcomer}
+use Rattle.parallel_bridge.proofs.Common.{IsSeatOf, known, stands_for, EndsAs, IsKeptOf, JoinsKept, KeptEnds, NotStopped, SeatAfter, TellsAs}
 use Rattle.parallel_bridge.specs.declared.gate.Gate.{Gate}
 
 -- who told nothing told no start in front of anything

@@ -1,6 +1,6 @@
 -- The outcomes of two halves of a list, put together, go along the shape of the list.
 use Rattle.parallel_bridge.proofs.Common.{◌≡◌, ℕ, zero, ◌-◌, ◌/◌, ◌<◌, ◌≤◌, List, ◌++◌, length, take, drop, Result, Ok, Err, refl, sym, subst, arith, inl, inr, ◌⊎◌, take-append_seam, drop-append_seam}
-use Rattle.parallel_bridge.proofs.Calls.{Trouble, Closure, OfFault, PutTogether, UnlessRefused, Shape, halves, Driven, GivesSome, TryAlongCut}
+use Rattle.parallel_bridge.proofs.Common.{Trouble, Closure, OfFault, PutTogether, UnlessRefused, Shape, halves, Driven, GivesSome, TryAlongCut}
 use Rattle.parallel_bridge.proofs.Outcomes.{unless_weaker}
 use Rattle.parallel_bridge.proofs.TryShapes.{try_along_leaf, try_along_wider, try_along_node}
 

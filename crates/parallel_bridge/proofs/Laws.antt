@@ -1,7 +1,6 @@
 -- Under the laws of `FoldLaws` a fold by segments is the plain fold from the left.
 use Rattle.parallel_bridge.proofs.Common.{◌≡◌, Bool, IsTrue, List, [], ◌∷◌, ◌++◌, refl, sym, ◌∙◌, ap, subst, fold, map, All, Contains, fold-append, All-nil, All-cons, All-head, All-tail}
-use Rattle.parallel_bridge.proofs.Common.{All-contains_itself}
-use Rattle.parallel_bridge.proofs.Calls.{MapOf, Chain, FoldSegment, Brackets, of_segment, of_parts, Bracketing, StateChain, FoldInitSegment, AnyState, FoldLaws, IsPlainFold}
+use Rattle.parallel_bridge.proofs.Common.{All-contains_itself, MapOf, Chain, FoldSegment, Brackets, of_segment, of_parts, Bracketing, StateChain, FoldInitSegment, AnyState, FoldLaws, IsPlainFold}
 
 -- what holds of all items of two parts holds of each part's
 all_left : {X : Type 0} (P : X → Type 0) (xs ys : List X) → All P (xs ++ ys) → All P xs

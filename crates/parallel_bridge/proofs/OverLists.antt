@@ -1,7 +1,6 @@
 -- What the clause of a list call says where its source gives one list alone: a fact of that list.
 use Rattle.parallel_bridge.proofs.Common.{◌≡◌, ℕ, Bool, List, [], ◌∷◌, Option, Result, Ok, Err, Vec, Global, refl, ◌∙◌, ap, subst, map, fold, MatchResult, IfOk, IfErr, Contains, Drains, Bor}
-use Rattle.parallel_bridge.proofs.Common.{YieldsList, IfOk-weaker}
-use Rattle.parallel_bridge.proofs.Calls.{Path, Serial, Trouble, Closure, OfFault, MapOf, Bracketing, FoldLaws, UnlessRefused, FoldsAs}
+use Rattle.parallel_bridge.proofs.Common.{YieldsList, IfOk-weaker, Path, Serial, Trouble, Closure, OfFault, MapOf, Bracketing, FoldLaws, UnlessRefused, FoldsAs}
 use Rattle.parallel_bridge.proofs.IteratorItems.{came_as_it_is}
 use Rattle.parallel_bridge.proofs.Laws.{map_is_function, plain_from_bracketing}
 

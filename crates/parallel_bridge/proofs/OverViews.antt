@@ -1,8 +1,7 @@
 -- What the clause of a list call says of lists of which the items show values: of borrows, and of
 -- pairs.
-use Rattle.parallel_bridge.proofs.Common.{◌≡◌, List, [], ◌∷◌, Result, Ok, Err, Vec, Global, refl, ap, subst, ◌∙◌, map, map-id, IfOk, Bor, zip, map-append, IfOk-weaker}
-use Rattle.parallel_bridge.proofs.Calls.{Trouble, Closure, OfFault, MapOf, UnlessRefused, listed, TryMapOf}
-use Rattle.parallel_bridge.specs.Zips.{PairsOf, both}
+use Rattle.parallel_bridge.proofs.Common.{◌≡◌, List, [], ◌∷◌, Result, Ok, Err, Vec, Global, refl, ap, subst, ◌∙◌, map, map-id, IfOk, Bor, zip, map-append, IfOk-weaker, Trouble, Closure, OfFault}
+use Rattle.parallel_bridge.proofs.Common.{MapOf, UnlessRefused, listed, TryMapOf, PairsOf, both}
 
 module _ {X A : Type 0} (view : X → A) where
   -- a map of items is one of what they show

@@ -2,10 +2,9 @@
 use Rattle.parallel_bridge.proofs.Common.{◌≡◌, ℕ, zero, suc, min, ◌≤◌, ◌<◌, ◌+◌, ◌-◌, ◌*◌, List, ◌∷◌, ◌++◌, length, map, take, drop, refl, sym, ap, subst, ◌∙◌, arith, inl, inr, suc-mul}
 use Rattle.parallel_bridge.proofs.Common.{mul-le-mul_right, add-mul, length-take, length-drop, take-take, drop-drop, take_all, zero-add, zero-mul, take-append_seam, drop-append_seam, cases_lt}
 use Rattle.parallel_bridge.proofs.Common.{div_ceil_times, drop_all, drop-take, length-map, map-append, take_rest, Contains-append_left, Contains-append_right, YieldsList, Bor, div_ceil, Contains}
-use Rattle.parallel_bridge.proofs.Common.{AlwaysYields}
+use Rattle.parallel_bridge.proofs.Common.{AlwaysYields, chunks_of, pieces_of}
 use Rattle.std.specs.Slice.Iter.{chunks_rest, chunks_size, chunks_steps}
 use Rattle.std.specs.declared.slice.Chunks.{Chunks}
-use Rattle.parallel_bridge.specs.Chunks.{chunks_of, pieces_of}
 
 -- so many parts of size k hold n items, and one part less doesn't
 abbrev Holds : ℕ → ℕ → ℕ → Type 0

@@ -1,7 +1,7 @@
 -- The lengths of the segments that a list is cut into: their sum, and how many there are.
 use Rattle.parallel_bridge.proofs.Common.{◌≡◌, ℕ, zero, suc, ◌-◌, ◌*◌, ◌/◌, ◌^◌, ◌<◌, ◌≤◌, List, [], ◌∷◌, ◌++◌, length, take, drop, nat_lt, sum, refl, sym, ◌∙◌, ap, subst, append_assoc, arith}
-use Rattle.parallel_bridge.proofs.Common.{length-take, length-drop, length-append, cond-false, cond_both, le-ltb, ltb-false, sum_by-append, leading_top, pow_pos, pow-succ'}
-use Rattle.parallel_bridge.specs.Shapes.{Shape, leaf_lengths, halved_lengths, cutdepth}
+use Rattle.parallel_bridge.proofs.Common.{length-take, length-drop, length-append, cond-false, cond_both, le-ltb, ltb-false, sum_by-append, leading_top, pow_pos, pow-succ', Shape, leaf_lengths}
+use Rattle.parallel_bridge.proofs.Common.{halved_lengths, cutdepth}
 
 -- only the length of a list matters for the lengths of its segments
 pub shape_lengths : {X : Type 0} (k : ℕ) (xs : List X)

@@ -1,6 +1,6 @@
 -- Facts on the shape of a list, and on what goes along it.
-use Rattle.parallel_bridge.proofs.Common.{◌≡◌, ℕ, zero, suc, ◌-◌, ◌/◌, ◌<◌, ◌≤◌, List, [], ◌∷◌, ◌++◌, length, take, drop, refl, sym, ◌∙◌, ap, subst, arith, take-append-drop}
-use Rattle.parallel_bridge.proofs.Calls.{MapOf, Cut, segment, halves, cut_items, Shape, AlongCut}
+use Rattle.parallel_bridge.proofs.Common.{◌≡◌, ℕ, zero, suc, ◌-◌, ◌/◌, ◌<◌, ◌≤◌, List, [], ◌∷◌, ◌++◌, length, take, drop, refl, sym, ◌∙◌, ap, subst, arith, take-append-drop, MapOf, Cut, segment}
+use Rattle.parallel_bridge.proofs.Common.{halves, cut_items, Shape, AlongCut}
 
 -- the segments of a list's shape are the list
 pub Shape-items : {X : Type 0} (k : ℕ) (xs : List X) → cut_items (Shape k xs) ≡ xs

@@ -1,8 +1,8 @@
 -- What goes along the shape of a list comes from neighbouring segments, also where segments may
 -- fail or have a state.
-use Rattle.parallel_bridge.proofs.Calls.{Path, Serial, Parallel, Brackets, of_segment, of_parts, Cut, segment, halves, cut_items, Shape, AlongLeaves, FoldsAs, FoldInitSegment, TryFoldSegment}
-use Rattle.parallel_bridge.proofs.Calls.{TryBrackets, of_try_segment, of_values, of_left_error, of_right_error, TryBracketing, TryAlongLeaves, TryAlong, TryFoldsAs}
-use Rattle.std.proofs.Common.{ℕ, List, [], ◌++◌, Result, Ok, Err, refl, sym, subst, inl, inr}
+use Rattle.parallel_bridge.proofs.Common.{Path, Serial, Parallel, Brackets, of_segment, of_parts, Cut, segment, halves, cut_items, Shape, AlongLeaves, FoldsAs, FoldInitSegment, TryFoldSegment}
+use Rattle.parallel_bridge.proofs.Common.{TryBrackets, of_try_segment, of_values, of_left_error, of_right_error, TryBracketing, TryAlongLeaves, TryAlong, TryFoldsAs, ℕ, List, [], ◌++◌, Result, Ok}
+use Rattle.parallel_bridge.proofs.Common.{Err, refl, sym, subst, inl, inr}
 use Rattle.parallel_bridge.proofs.Shapes.{Shape-items}
 
 -- as in `brackets_from_leaves`, where an identity is the answer of the empty list once some segment

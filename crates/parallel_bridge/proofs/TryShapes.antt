@@ -1,6 +1,6 @@
 -- Facts on what goes along a cut where segments may fail.
-use Rattle.parallel_bridge.proofs.Calls.{Trouble, Closure, OfFault, Cut, segment, halves, Shape, AlongCut, UnlessRefused, TryAlongCut, OnlyOk}
-use Rattle.std.proofs.Common.{◌≡◌, ℕ, zero, suc, ◌-◌, ◌/◌, ◌<◌, ◌≤◌, List, length, take, drop, Result, Ok, Err, sym, ◌∙◌, ap, subst, arith, inl, inr, ◌⊎◌}
+use Rattle.parallel_bridge.proofs.Common.{Trouble, Closure, OfFault, Cut, segment, halves, Shape, AlongCut, UnlessRefused, TryAlongCut, OnlyOk, ◌≡◌, ℕ, zero, suc, ◌-◌, ◌/◌, ◌<◌, ◌≤◌, List, length}
+use Rattle.parallel_bridge.proofs.Common.{take, drop, Result, Ok, Err, sym, ◌∙◌, ap, subst, arith, inl, inr, ◌⊎◌}
 use Rattle.parallel_bridge.proofs.Shapes.{Shape-leaf, Shape-node}
 
 -- what goes along a cut still does where segments and parts allow more

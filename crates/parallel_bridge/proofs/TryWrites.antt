@@ -1,7 +1,6 @@
 -- Values that are written one after another into a window, up to the first error.
-use Rattle.parallel_bridge.proofs.Common.{ℕ, List, [], ◌∷◌, ◌++◌, Result, Ok, Err, IfOk, refl, sym, subst, inl, inr, Global, Vec}
-use Rattle.parallel_bridge.proofs.Calls.{Trouble, Closure, OfFault, UnlessRefused, listed, Driven, GivesSome, Cut, segment, halves, cut_items, Shape, EachOk, FirstErr, TryAlongCut, TryMapOf}
-use Rattle.parallel_bridge.specs.Fills.{Answered, OneAfterAnother}
+use Rattle.parallel_bridge.proofs.Common.{ℕ, List, [], ◌∷◌, ◌++◌, Result, Ok, Err, IfOk, refl, sym, subst, inl, inr, Global, Vec, Trouble, Closure, OfFault, UnlessRefused, listed, Driven, GivesSome}
+use Rattle.parallel_bridge.proofs.Common.{Cut, segment, halves, cut_items, Shape, EachOk, FirstErr, TryAlongCut, TryMapOf, Answered, OneAfterAnother}
 use Rattle.parallel_bridge.proofs.FoldersAppend.{onto_append}
 use Rattle.parallel_bridge.proofs.Shapes.{MapOf-append, Shape-items}
 use Rattle.parallel_bridge.proofs.TryShapes.{try_along_wider}

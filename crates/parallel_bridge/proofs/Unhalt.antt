@@ -1,8 +1,6 @@
 -- For `unhalt`: an outcome that is no stop goes along the shape as if there were no gate.
-use Rattle.parallel_bridge.proofs.Calls.{Trouble, Closure, OfFault, Cut, segment, halves, Shape, Driven, OnlyOk, TryAlongCut}
-use Rattle.parallel_bridge.proofs.Gates.{Halt, Failed, Stopped, halting, IsUnhalted, IsUnhaltedLost, NotStopped}
-use Rattle.parallel_bridge.proofs.Windows.{written, View}
-use Rattle.std.proofs.Common.{ℕ, List, Result, Ok, Err, refl, sym, subst, inl, inr}
+use Rattle.parallel_bridge.proofs.Common.{Trouble, Closure, OfFault, Cut, segment, halves, Shape, Driven, OnlyOk, TryAlongCut, Halt, Failed, Stopped, halting, IsUnhalted, IsUnhaltedLost, NotStopped}
+use Rattle.parallel_bridge.proofs.Common.{written, View, ℕ, List, Result, Ok, Err, refl, sym, subst, inl, inr}
 
 module _ {X R E : Type 0} (leaf : List X → Result R E → Type 0)
     (node : R → R → Result R E → Type 0) (meeting : R → R → Result R (Halt E) → Type 0)

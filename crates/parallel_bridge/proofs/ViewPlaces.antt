@@ -1,7 +1,6 @@
 -- What stands at a place of a list, where one place has changed or one has come.
 use Rattle.parallel_bridge.proofs.Common.{◌≡◌, ◌≢◌, ℕ, ◌<◌, ◌⊎◌, List, [], ◌∷◌, ◌++◌, length, set, refl, sym, ap, subst, ⊎_elim, inl, inr, zero, suc, arith, some, some-injective, some-ne-none}
-use Rattle.parallel_bridge.proofs.Common.{get_elem?}
-use Rattle.atomic_table.proofs.Lists.{at_set}
+use Rattle.parallel_bridge.proofs.Common.{get_elem?, at_set}
 
 module _ {A : Type 0} where
   -- what stands at a place stands within the list

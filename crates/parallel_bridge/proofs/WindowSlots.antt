@@ -1,7 +1,6 @@
 -- Empty places, items and empty places in a row, and what each step makes of them.
 use Rattle.parallel_bridge.proofs.Common.{◌≡◌, ℕ, zero, suc, ◌+◌, ◌-◌, ◌<◌, ◌≤◌, List, [], ◌∷◌, ◌++◌, map, length, take, drop, set, replicate, refl, sym, ap, ◌∙◌, arith, ◌⊎◌, inl, inr, append-nil}
-use Rattle.parallel_bridge.proofs.Common.{Option, Some, None, get_or, length-append, length-replicate, length-take, length-drop}
-use Rattle.parallel_bridge.proofs.Windows.{laid, values, IsRow}
+use Rattle.parallel_bridge.proofs.Common.{Option, Some, None, get_or, length-append, length-replicate, length-take, length-drop, laid, values, IsRow}
 use denote.RawPtr.{Ptr}
 
 module _ {X : Type 0} where
@@ -179,12 +178,12 @@ no_items [] e = refl
 no_items (x ∷ xs) e = absurd (omega arith)
 
 -- a list with a first, or a last, item
-pub first_of : {X : Type 0} (xs : List X) → 0 < length xs → (x : X)
+first_of : {X : Type 0} (xs : List X) → 0 < length xs → (x : X)
     × ((ys : List X) × (xs ≡ x ∷ ys))
 first_of [] some = absurd (omega arith)
 first_of (x ∷ xs) some = (x, (xs, refl))
 
-pub last_of : {X : Type 0} (xs : List X) → 0 < length xs → (x : X)
+last_of : {X : Type 0} (xs : List X) → 0 < length xs → (x : X)
     × ((ys : List X) × (xs ≡ ys ++ x ∷ []))
 last_of [] some = absurd (omega arith)
 last_of (x ∷ []) some = (x, ([], refl))

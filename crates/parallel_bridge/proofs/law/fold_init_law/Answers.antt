@@ -1,7 +1,5 @@
 -- The law, at the relations of the four closures.
-use Rattle.std.specs.Borrow.{MutBor}
-use Rattle.parallel_bridge.specs.States.{FoldStep}
-use Rattle.parallel_bridge.proofs.Laws.{plain_from_states}
+use Rattle.parallel_bridge.proofs.{MutBor, FoldStep, plain_from_states}
 use Rattle.parallel_bridge.proofs.law.fold_init_law.Goals as goal
 
 pub returns : goal.returns

@@ -1,5 +1,5 @@
 -- The law, at the relations of the three closures.
-use Rattle.parallel_bridge.proofs.Laws.{plain_from_bracketing}
+use Rattle.parallel_bridge.proofs.{plain_from_bracketing}
 use Rattle.parallel_bridge.proofs.law.fold_law.Goals as goal
 
 pub returns : goal.returns

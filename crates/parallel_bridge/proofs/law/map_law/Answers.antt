@@ -1,5 +1,5 @@
 -- The law, at the relation of the closure.
-use Rattle.parallel_bridge.proofs.Laws.{map_is_function}
+use Rattle.parallel_bridge.proofs.{map_is_function}
 use Rattle.parallel_bridge.proofs.law.map_law.Goals as goal
 
 pub returns : goal.returns

@@ -1,8 +1,5 @@
 -- One pair less is left, and the folder has taken it.
-use Rattle.std.proofs.Common.{arith, ◌++◌, ◌∙◌, sym, subst}
-use Rattle.parallel_bridge.specs.Pairs.{pairs_of}
-use Rattle.parallel_bridge.proofs.Neighbours.{no_pair}
-use Rattle.parallel_bridge.proofs.TakenFromFront.{others_of}
+use Rattle.parallel_bridge.proofs.{arith, ◌++◌, ◌∙◌, sym, subst, pairs_of, no_pair, others_of}
 use Rattle.parallel_bridge.proofs.pairs.feed_pairs.Goals as goal
 
 pub loop-alloc-preserved : goal.loop-alloc-preserved

@@ -1,7 +1,5 @@
 -- The next pair stands in the list of pairs, and there is a place for its answer.
-use Rattle.parallel_bridge.proofs.Common.{◌++◌, ◌∷◌, [], arith, ap, length, subst, ◌∙◌, sym, length-append}
-use Rattle.parallel_bridge.proofs.TakenFromFront.{between, one_taken}
-use Rattle.parallel_bridge.specs.Pairs.{pairs_of}
+use Rattle.parallel_bridge.proofs.{◌++◌, ◌∷◌, [], arith, ap, length, subst, ◌∙◌, sym, length-append, between, one_taken, pairs_of}
 use Rattle.parallel_bridge.proofs.pairs.write_pairs_watched.Goals as goal
 
 pub answer-requires : goal.answer-requires

@@ -1,6 +1,5 @@
 -- One item less is left, and the folder has taken it.
-use Rattle.parallel_bridge.proofs.Common.{common_steps, arith, ◌++◌, ◌∙◌, sym, subst}
-use Rattle.parallel_bridge.proofs.TakenFromFront.{others_of}
+use Rattle.parallel_bridge.proofs.{common_steps, arith, ◌++◌, ◌∙◌, sym, subst, others_of}
 use Rattle.parallel_bridge.proofs.segment.feed_window.Goals as goal
 
 pub loop-alloc-preserved : goal.loop-alloc-preserved

@@ -1,8 +1,5 @@
 -- A list that is not split is one segment.
-use Rattle.parallel_bridge.proofs.Common.{List, Result, [], ◌++◌, IfOk, subst, append-nil}
-use Rattle.parallel_bridge.specs.Sources.{GivesSome}
-use Rattle.parallel_bridge.proofs.Halves.{driven_leaf}
-use Rattle.parallel_bridge.proofs.Outcomes.{unless_weaker}
+use Rattle.parallel_bridge.proofs.{List, Result, [], ◌++◌, IfOk, subst, append-nil, GivesSome, driven_leaf, unless_weaker}
 use Rattle.parallel_bridge.proofs.bridge.HandingTask.run.Goals as goal
 
 pub returns-in-Ok-fed : goal.returns-in-Ok-fed

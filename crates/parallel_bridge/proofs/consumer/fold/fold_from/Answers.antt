@@ -1,7 +1,6 @@
 -- The closure may be called at each item that comes, and one turn is one step more of the chain
 -- over the items that came.
-use Rattle.std.proofs.Common.{rules}
-use Rattle.parallel_bridge.proofs.CollectChains.{chain_push, next_has}
+use Rattle.parallel_bridge.proofs.{rules, chain_push, next_has}
 use Rattle.parallel_bridge.proofs.consumer.fold.fold_from.Goals as goal
 
 pub fold_op-value-requires : goal.fold_op-value-requires

@@ -1,5 +1,5 @@
 -- what is folded so far is reached by a chain over the items that came
-use Rattle.parallel_bridge.specs.Lists.{Chain}
+use Rattle.parallel_bridge.proofs.{Chain}
 use Rattle.parallel_bridge.proofs.consumer.fold.fold_from.Given as goal
 
 abbrev pub invariant-loop-item : goal.invariant-loop-item

@@ -1,8 +1,6 @@
 -- The closure may be called at each item that comes, and one turn is one step more of the chain
 -- over the items that came.
-use Rattle.parallel_bridge.proofs.Common.{rules, ◌∷◌, [], sym, subst, append_assoc, MutBor}
-use Rattle.parallel_bridge.specs.States.{FoldStep, StateChain}
-use Rattle.parallel_bridge.proofs.CollectChains.{next_has}
+use Rattle.parallel_bridge.proofs.{rules, ◌∷◌, [], sym, subst, append_assoc, MutBor, FoldStep, StateChain, next_has}
 use Rattle.parallel_bridge.proofs.consumer.fold_init.fold_init_from.Goals as goal
 
 pub fold_op-value-requires : goal.fold_op-value-requires

@@ -1,6 +1,5 @@
 -- a chain from here over more items is one from the start over the items so far, and more
-use Rattle.std.proofs.Common.{List, ◌++◌}
-use Rattle.parallel_bridge.specs.States.{FoldStep, StateChain}
+use Rattle.parallel_bridge.proofs.{List, ◌++◌, FoldStep, StateChain}
 use Rattle.parallel_bridge.proofs.consumer.fold_init.fold_init_from.Given as goal
 
 abbrev pub invariant-loop-item : goal.invariant-loop-item

@@ -1,7 +1,5 @@
 -- The closure may be called at each item that comes; one turn is one step more, or the end stands.
-use Rattle.std.proofs.Common.{rules, ◌∷◌, [], ◌∙◌, arith, refl}
-use Rattle.parallel_bridge.proofs.CollectChains.{next_has}
-use Rattle.parallel_bridge.proofs.GatedFolds.{halts_onward, halts_rests}
+use Rattle.parallel_bridge.proofs.{rules, ◌∷◌, [], ◌∙◌, arith, refl, next_has, halts_onward, halts_rests}
 use Rattle.parallel_bridge.proofs.consumer.gated_fold.gated_onward.Goals as goal
 
 pub loop-item-init : goal.loop-item-init

@@ -1,6 +1,5 @@
 -- what is folded so far is reached from the start over the items that came
-use Rattle.parallel_bridge.proofs.Gates.{IsWatching, SameWatch, known, stands_for, HaltsOnward, TellsAs}
-use Rattle.std.proofs.Common.{◌<◌}
+use Rattle.parallel_bridge.proofs.{IsWatching, SameWatch, known, stands_for, HaltsOnward, TellsAs, ◌<◌}
 use Rattle.parallel_bridge.proofs.consumer.gated_fold.gated_onward.Given as goal
 
 abbrev pub invariant-loop-item : goal.invariant-loop-item

@@ -1,7 +1,5 @@
 -- One turn is one step more of the states.
-use Rattle.parallel_bridge.proofs.Common.{rules, ◌≡◌, ◌∷◌, ◌++◌, [], sym, subst, append_assoc, ap, ◌∙◌, MutBor}
-use Rattle.parallel_bridge.specs.States.{MapStep, StatesFrom}
-use Rattle.parallel_bridge.proofs.CollectChains.{next_has}
+use Rattle.parallel_bridge.proofs.{rules, ◌≡◌, ◌∷◌, ◌++◌, [], sym, subst, append_assoc, ap, ◌∙◌, MutBor, MapStep, StatesFrom, next_has}
 use Rattle.parallel_bridge.proofs.consumer.map_init.map_init_from.Goals as goal
 
 pub map_op-requires : goal.map_op-requires

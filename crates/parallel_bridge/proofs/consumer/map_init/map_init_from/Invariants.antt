@@ -1,6 +1,5 @@
 -- answers from here for more items are, behind those so far, answers from the start
-use Rattle.std.proofs.Common.{List, ◌++◌}
-use Rattle.parallel_bridge.specs.States.{MapStep, StatesFrom}
+use Rattle.parallel_bridge.proofs.{List, ◌++◌, MapStep, StatesFrom}
 use Rattle.parallel_bridge.proofs.consumer.map_init.map_init_from.Given as goal
 
 abbrev pub invariant-loop-item : goal.invariant-loop-item

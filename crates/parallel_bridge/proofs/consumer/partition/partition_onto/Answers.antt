@@ -1,8 +1,5 @@
 -- One turn is one value or one key more.
-use Rattle.std.proofs.Common.{rules, ◌∷◌, [], Option, refl}
-use Rattle.parallel_bridge.proofs.CollectChains.{next_has}
-use Rattle.parallel_bridge.proofs.FoldersAppend.{part_append}
-use Rattle.parallel_bridge.proofs.LoopSteps.{part_end, part_one_value, part_one_key}
+use Rattle.parallel_bridge.proofs.{rules, ◌∷◌, [], Option, refl, next_has, part_append, part_end, part_one_value, part_one_key}
 use Rattle.parallel_bridge.proofs.consumer.partition.partition_onto.Goals as goal
 
 pub loop-item-init : goal.loop-item-init

@@ -1,5 +1,5 @@
 -- the lists have what the items so far put behind those of the start
-use Rattle.parallel_bridge.specs.Onto.{PartitionOnto}
+use Rattle.parallel_bridge.proofs.{PartitionOnto}
 use Rattle.parallel_bridge.proofs.consumer.partition.partition_onto.Given as goal
 
 abbrev pub invariant-loop-item : goal.invariant-loop-item

@@ -1,7 +1,5 @@
 -- The closure may be called at each item that comes; a turn is one step more, or the error stands.
-use Rattle.std.proofs.Common.{rules, ◌∷◌, []}
-use Rattle.parallel_bridge.proofs.CollectChains.{next_has}
-use Rattle.parallel_bridge.proofs.FoldersAppend.{try_onward, try_rests}
+use Rattle.parallel_bridge.proofs.{rules, ◌∷◌, [], next_has, try_onward, try_rests}
 use Rattle.parallel_bridge.proofs.consumer.try_fold.try_fold_onward.Goals as goal
 
 pub loop-item-init : goal.loop-item-init

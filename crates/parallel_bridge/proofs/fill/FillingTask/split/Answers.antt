@@ -1,8 +1,6 @@
 -- The halves' places follow one another, their outcomes go along the shape, and of two errors the
 -- left one stands.
-use Rattle.parallel_bridge.proofs.Common.{◌≡◌, ◌+◌, ◌-◌, ◌/◌, arith, refl, rules, sym, ap, subst, ◌∙◌, FitsInBlock}
-use Rattle.parallel_bridge.proofs.Windows.{Answered, OneAfterAnother, written, shifted}
-use Rattle.parallel_bridge.proofs.Halves.{driven_node}
+use Rattle.parallel_bridge.proofs.{◌≡◌, ◌+◌, ◌-◌, ◌/◌, arith, refl, rules, sym, ap, subst, ◌∙◌, FitsInBlock, Answered, OneAfterAnother, written, shifted, driven_node}
 use Rattle.parallel_bridge.proofs.fill.FillingTask.split.Goals as goal
 
 pub returns-clause-meet : goal.returns-clause-meet

@@ -1,7 +1,5 @@
 -- One turn is one answer more, and there are as many items as places.
-use Rattle.parallel_bridge.proofs.Common.{◌≡◌, ◌++◌, ◌∷◌, [], length, sym, ap, subst, ◌∙◌, arith, append-nil, length-append}
-use Rattle.parallel_bridge.proofs.WriteIter.{all_of, all_with, none_left}
-use Rattle.parallel_bridge.proofs.CollectChains.{next_has, yields_push}
+use Rattle.parallel_bridge.proofs.{◌≡◌, ◌++◌, ◌∷◌, [], length, sym, ap, subst, ◌∙◌, arith, append-nil, length-append, all_of, all_with, none_left, next_has, yields_push}
 use Rattle.parallel_bridge.proofs.fill.watched.write_iter_watched.Goals as goal
 
 pub answer-requires : goal.answer-requires

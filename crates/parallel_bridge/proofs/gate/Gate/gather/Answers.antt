@@ -1,7 +1,5 @@
 -- Each seat that is taken in adds what it has.
-use Rattle.std.proofs.Common.{arith, sym, subst}
-use Rattle.parallel_bridge.specs.Gates.{IsSeatOf}
-use Rattle.parallel_bridge.proofs.GateEnds.{Gathering, gathers_one, gathers_more, gathers_all, all_before, still_within}
+use Rattle.parallel_bridge.proofs.{arith, sym, subst, IsSeatOf, Gathering, gathers_one, gathers_more, gathers_all, all_before, still_within}
 use Rattle.parallel_bridge.proofs.gate.Gate.gather.Goals as goal
 
 pub loop-seat-init : goal.loop-seat-init

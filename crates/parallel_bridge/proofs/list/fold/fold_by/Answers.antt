@@ -1,8 +1,5 @@
 -- One segment serially, the list's shape in parallel; either way a reduction of neighbours.
-use Rattle.parallel_bridge.proofs.Calls.{Fault, cutdepth}
-use Rattle.std.proofs.Common.{rules}
-use Rattle.parallel_bridge.proofs.Serials.{answered_else, answered_serially}
-use Rattle.parallel_bridge.proofs.Paths.{folded_serially, folded_along}
+use Rattle.parallel_bridge.proofs.{Fault, cutdepth, rules, answered_else, answered_serially, folded_serially, folded_along}
 use Rattle.parallel_bridge.proofs.list.fold.fold_by.Goals as goal
 
 pub returns-in-Serial-clause-folds : goal.returns-in-Serial-clause-folds

@@ -1,7 +1,5 @@
 -- The value of each segment is reduced behind an identity.
-use Rattle.parallel_bridge.proofs.Calls.{Infallible, FoldSegment, Shape, cutdepth, Along, GivesSome, TryAlongCut, OnlyOk}
-use Rattle.std.proofs.Common.{◌∷◌, []}
-use Rattle.parallel_bridge.proofs.Drivers.{driven, fold_driven}
+use Rattle.parallel_bridge.proofs.{Infallible, FoldSegment, Shape, cutdepth, Along, GivesSome, TryAlongCut, OnlyOk, ◌∷◌, [], driven, fold_driven}
 use Rattle.parallel_bridge.proofs.list.fold.fold_parallel.Goals as goal
 
 pub returns-clause-along : goal.returns-clause-along

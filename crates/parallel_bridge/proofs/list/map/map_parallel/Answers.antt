@@ -1,8 +1,5 @@
 -- What was written into the segments' rooms, side by side, are the answers for the list.
-use Rattle.parallel_bridge.proofs.Calls.{Infallible, MapOf, Shape, Driven, GivesSome, TryAlongCut}
-use Rattle.std.proofs.Common.{Ok, subst, sym}
-use Rattle.parallel_bridge.specs.Fills.{Answered, OneAfterAnother, written}
-use Rattle.parallel_bridge.proofs.Writes.{filled_shape}
+use Rattle.parallel_bridge.proofs.{Infallible, MapOf, Shape, Driven, GivesSome, TryAlongCut, Ok, subst, sym, Answered, OneAfterAnother, written, filled_shape}
 use Rattle.parallel_bridge.proofs.list.map.map_parallel.Goals as goal
 
 pub returns-in-Ok-clause-maps : goal.returns-in-Ok-clause-maps

@@ -1,9 +1,6 @@
 -- Each segment has a fresh state, and the answers of two parts are one after another.
-use Rattle.parallel_bridge.proofs.Common.{List, Ok, [], ◌≡◌, ◌++◌, refl, subst, sym, append-nil, MutBor}
-use Rattle.parallel_bridge.proofs.Calls.{Infallible, Shape, Driven, GivesSome, MapStep, StatesFrom, StateSegment, StatesAlong, TryAlongCut}
-use Rattle.parallel_bridge.specs.Fills.{Answered, OneAfterAnother, written}
-use Rattle.parallel_bridge.proofs.TryShapes.{along_unfailing}
-use Rattle.parallel_bridge.proofs.Writes.{answers_along}
+use Rattle.parallel_bridge.proofs.{List, Ok, [], ◌≡◌, ◌++◌, refl, subst, sym, append-nil, MutBor, Infallible, Shape, Driven, GivesSome, MapStep, StatesFrom, StateSegment, StatesAlong, TryAlongCut}
+use Rattle.parallel_bridge.proofs.{Answered, OneAfterAnother, written, along_unfailing, answers_along}
 use Rattle.parallel_bridge.proofs.list.map_init.map_init_parallel.Goals as goal
 
 pub returns-in-Ok-clause-along : goal.returns-in-Ok-clause-along

@@ -1,13 +1,7 @@
 -- The values and the keys of the segments, joined, are those of the list.
-use Rattle.std.proofs.Common.{Option, ◌≡◌, ◌++◌, Ok}
+use Rattle.parallel_bridge.proofs.{Option, ◌≡◌, ◌++◌, Ok, Infallible, PartitionOf, keys_in, values_in, Shape, cutdepth, GivesSome, TryAlongCut, OnlyOk, driven, parted, partition_shape}
 use Rattle.std.specs.declared.alloc.Global.{Global}
-use Rattle.std.specs.declared.convert.Infallible.{Infallible}
 use Rattle.std.specs.declared.vec.Vec.{Vec}
-use Rattle.parallel_bridge.specs.Parts.{PartitionOf, keys_in, values_in}
-use Rattle.parallel_bridge.specs.Shapes.{Shape, cutdepth}
-use Rattle.parallel_bridge.specs.Sources.{GivesSome}
-use Rattle.parallel_bridge.specs.Tries.{TryAlongCut, OnlyOk}
-use Rattle.parallel_bridge.proofs.Drivers.{driven, parted, partition_shape}
 use Rattle.parallel_bridge.proofs.list.partition.partition_parallel.Goals as goal
 
 pub returns-clause-parts : goal.returns-clause-parts

@@ -1,5 +1,5 @@
 -- The two sorted halves, joined, are a permutation of the list, and so is what is sorted from them.
-use Rattle.parallel_bridge.proofs.Sorting.{joined_permutation}
+use Rattle.parallel_bridge.proofs.{joined_permutation}
 use Rattle.parallel_bridge.proofs.list.sort.+halves.Goals as goal
 use Rattle.parallel_bridge.proofs.list.sort.+halves.Goals.{sort_shared-then-threads-gt1+then-items-ge-LEAST, sort_shared-else-threads-gt1}
 

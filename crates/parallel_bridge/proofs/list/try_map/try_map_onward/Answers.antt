@@ -1,8 +1,5 @@
 -- One turn is one value more, or the error.
-use Rattle.std.proofs.Common.{rules, ◌∷◌, []}
-use Rattle.parallel_bridge.specs.Outcomes.{ended}
-use Rattle.parallel_bridge.proofs.CollectChains.{next_has}
-use Rattle.parallel_bridge.proofs.FoldersAppend.{behind_append, behind_rests}
+use Rattle.parallel_bridge.proofs.{rules, ◌∷◌, [], ended, next_has, behind_append, behind_rests}
 use Rattle.parallel_bridge.proofs.list.try_map.try_map_onward.Goals as goal
 
 pub loop-item-init : goal.loop-item-init

@@ -1,5 +1,5 @@
 -- the values and errors so far stand behind those of the start
-use Rattle.parallel_bridge.proofs.Calls.{TryMapBehind, ended}
+use Rattle.parallel_bridge.proofs.{TryMapBehind, ended}
 use Rattle.parallel_bridge.proofs.list.try_map.try_map_onward.Given as goal
 
 abbrev pub invariant-loop-item : goal.invariant-loop-item

@@ -1,6 +1,5 @@
 -- The indices of the front, and behind them those of the back.
-use Rattle.parallel_bridge.proofs.Common.{length, ◌∙◌, ap, ◌-◌, ◌+◌, arith, length-range_with_len}
-use Rattle.parallel_bridge.proofs.Ranges.{indices_split}
+use Rattle.parallel_bridge.proofs.{length, ◌∙◌, ap, ◌-◌, ◌+◌, arith, length-range_with_len, indices_split}
 use Rattle.parallel_bridge.proofs.producer.IndicesProducer.split_at.Goals as goal
 
 pub returns-clause-joined : goal.returns-clause-joined

@@ -1,7 +1,5 @@
 -- What comes are the vector's items, in order.
-use Rattle.parallel_bridge.proofs.Common.{◌∙◌, YieldsList-from_first}
-use Rattle.parallel_bridge.specs.Producers.{drain_rest}
-use Rattle.parallel_bridge.proofs.IteratorItems.{came_as_it_is, stands_in}
+use Rattle.parallel_bridge.proofs.{◌∙◌, YieldsList-from_first, drain_rest, came_as_it_is, stands_in}
 use Rattle.parallel_bridge.proofs.source.VecSourceByVec.into_items.Goals as goal
 
 pub returns-clause-gives : goal.returns-clause-gives

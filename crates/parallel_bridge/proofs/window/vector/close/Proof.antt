@@ -1,4 +1,5 @@
 -- `close` gives a vector a row of places as its block. Assumes `Logic`.
+use Rattle.parallel_bridge.proofs.{Places, Start, mark, mark_had, start_had, plainly, stored_within, block_in}
 use Rattle.parallel_bridge.proofs.Walks.{proved_at, ◌≡◌, refl, sym, ap, subst, ◌∙◌, ℕ, ◌-◌, ◌*◌, ◌≤◌, ◌<◌, ◌^◌, List, [], ◌∷◌, ◌++◌, map, length, replicate, Ura, full_share, Fn, w64, inst_fn, Val}
 use Rattle.parallel_bridge.proofs.Walks.{vunit, vint, vptr, SProp, ent, never, id⊢, ftrue, fat, flft, Memory, Routine, Env, WpFn, Tables, Logic, ◌⊑◌, Fun, fact, tables, tables_of, ‵, raw, ◌⊛◌, at_ret}
 use Rattle.parallel_bridge.proofs.Walks.{◌$◌, ◌∵◌, !, qed, move, keep, drop, use2, split, split3, join, rewrite, fsplit, fsplit3, fjoin3, feq_i, feq_l, flt_l, suffices, done, whole, sub, store_in}
@@ -7,8 +8,6 @@ use Rattle.parallel_bridge.proofs.Walks.{give_at, through, sets, env, yes, no, R
 use Rattle.parallel_bridge.proofs.Walks.{Stays, stay_dropped, stay_ref, walk_of, ends_at, Goes-dropped, Goes-ref, Option, Some, None, Goes-blank, token, has_block, word, word-Good, Blk, vec_opens⁰}
 use Rattle.parallel_bridge.proofs.Walks.{vec_closes⁰, after, slots, cells_own, deed_owns, values}
 use Rattle.std_alloc.proofs.VecSteps.El.{El, args, el_x, el_d, R, P, Vr, Hd, sz}
-use Rattle.parallel_bridge.proofs.RowMemory.{Places, Start, mark, mark_had, start_had}
-use Rattle.parallel_bridge.proofs.Blocks.{plainly, stored_within, block_in}
 use Rattle.parallel_bridge.specs.contracts.window.cells.Deed as deeds
 use Rattle.parallel_bridge.specs.contracts.window.vector.close as F
 use Rattle.parallel_bridge.specs.contracts.window.vector.close.Key.{name as #self}

@@ -1,10 +1,6 @@
 -- A list that is not split is one segment.
-use Rattle.parallel_bridge.proofs.Common.{Ok, Err, IfOk, List, Result, [], ◌++◌, ◌∙◌, ◌<◌, refl, subst, append-nil}
-use Rattle.parallel_bridge.proofs.Calls.{Infallible, Closure, GivesSome, OnlyOk, TryFoldSegment, TryReducedSegment}
-use Rattle.parallel_bridge.proofs.Gates.{GateWatch, Halt, IsSeatOf, IsWatching, known, stands_for, HaltsOnward, TellsAs, halting}
-use Rattle.parallel_bridge.proofs.Halves.{driven_leaf}
-use Rattle.parallel_bridge.proofs.Halts.{leaf_ends, leaf_halts}
-use Rattle.parallel_bridge.proofs.GatedFolds.{Comes, folded_halt, folded_value, halts_rests}
+use Rattle.parallel_bridge.proofs.{Ok, Err, IfOk, List, Result, [], ◌++◌, ◌∙◌, ◌<◌, refl, subst, append-nil, Infallible, Closure, GivesSome, OnlyOk, TryFoldSegment, TryReducedSegment, GateWatch, Halt}
+use Rattle.parallel_bridge.proofs.{IsSeatOf, IsWatching, known, stands_for, HaltsOnward, TellsAs, halting, driven_leaf, leaf_ends, leaf_halts, Comes, folded_halt, folded_value, halts_rests}
 use Rattle.parallel_bridge.proofs.bridge.gated.GatedFoldingTask.run.Given.{Over}
 use Rattle.parallel_bridge.proofs.bridge.gated.GatedFoldingTask.run.Goals.{In-Ok}
 use Rattle.parallel_bridge.proofs.bridge.gated.GatedFoldingTask.run.Goals as goal

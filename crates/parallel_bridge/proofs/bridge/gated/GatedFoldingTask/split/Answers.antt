@@ -1,10 +1,6 @@
 -- The outcomes of the halves go along the shape, of two errors the left one stands, and their seats
 -- are joined.
-use Rattle.parallel_bridge.proofs.Gates.{stands_for, IsKeptOf, KeptEnds, halting}
-use Rattle.std.proofs.Common.{◌/◌, Result, arith, refl, rules, subst}
-use Rattle.parallel_bridge.specs.Tries.{OnlyOk, TryFoldSegment, TryReducedSegment}
-use Rattle.parallel_bridge.proofs.Halves.{driven_node}
-use Rattle.parallel_bridge.proofs.Halts.{kept_joined, kept_of}
+use Rattle.parallel_bridge.proofs.{stands_for, IsKeptOf, KeptEnds, halting, ◌/◌, Result, arith, refl, rules, subst, OnlyOk, TryFoldSegment, TryReducedSegment, driven_node, kept_joined, kept_of}
 use Rattle.parallel_bridge.proofs.bridge.gated.GatedFoldingTask.split.Goals as goal
 
 pub returns-clause-meet : goal.returns-clause-meet

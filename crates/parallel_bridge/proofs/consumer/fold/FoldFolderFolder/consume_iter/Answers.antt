@@ -1,5 +1,5 @@
 -- A chain over the items and one over more are one chain.
-use Rattle.parallel_bridge.proofs.FoldersAppend.{chain_append}
+use Rattle.parallel_bridge.proofs.{chain_append}
 use Rattle.parallel_bridge.proofs.consumer.fold.FoldFolderFolder.consume_iter.Goals as goal
 
 pub returns-clause-gives : goal.returns-clause-gives

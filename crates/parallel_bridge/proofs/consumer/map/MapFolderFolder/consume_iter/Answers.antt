@@ -1,7 +1,5 @@
 -- The closure may be called at each item that comes, and what was handed on are its answers.
-use Rattle.parallel_bridge.proofs.Common.{rules, ◌++◌, map_steps}
-use Rattle.parallel_bridge.proofs.CollectChains.{mapped_from, serves_along}
-use Rattle.parallel_bridge.proofs.Shapes.{MapOf-append}
+use Rattle.parallel_bridge.proofs.{rules, ◌++◌, map_steps, mapped_from, serves_along, MapOf-append}
 use Rattle.parallel_bridge.proofs.consumer.map.MapFolderFolder.consume_iter.Goals as goal
 
 pub consume_iter-requires-clause-can : goal.consume_iter-requires-clause-can

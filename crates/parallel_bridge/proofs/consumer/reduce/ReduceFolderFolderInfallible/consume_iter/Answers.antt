@@ -1,5 +1,5 @@
 -- A chain over the items and one over more are one chain.
-use Rattle.parallel_bridge.proofs.FoldersAppend.{chain_only}
+use Rattle.parallel_bridge.proofs.{chain_only}
 use Rattle.parallel_bridge.proofs.consumer.reduce.ReduceFolderFolderInfallible.consume_iter.Goals as goal
 
 pub returns-clause-gives : goal.returns-clause-gives

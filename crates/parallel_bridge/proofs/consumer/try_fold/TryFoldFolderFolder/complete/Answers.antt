@@ -1,8 +1,5 @@
 -- The base takes the outcome.
-use Rattle.std.proofs.Common.{Result, ◌∷◌, []}
-use Rattle.parallel_bridge.specs.Onto.{TryContinues}
-use Rattle.parallel_bridge.proofs.Outcomes.{unless_weaker}
-use Rattle.parallel_bridge.proofs.FoldersAppend.{try_rests}
+use Rattle.parallel_bridge.proofs.{Result, ◌∷◌, [], TryContinues, unless_weaker, try_rests}
 use Rattle.parallel_bridge.proofs.consumer.try_fold.TryFoldFolderFolder.complete.Goals as goal
 
 pub returns : goal.returns

@@ -1,6 +1,5 @@
 -- What comes behind the items comes behind all of it.
-use Rattle.std.proofs.Common.{Result}
-use Rattle.parallel_bridge.proofs.FoldersAppend.{try_onward}
+use Rattle.parallel_bridge.proofs.{Result, try_onward}
 use Rattle.parallel_bridge.proofs.consumer.try_fold.TryFoldFolderFolder.consume_iter.Goals as goal
 
 pub returns-clause-gives : goal.returns-clause-gives

@@ -1,7 +1,5 @@
 -- One turn is one reduction more, or the error stands.
-use Rattle.std.proofs.Common.{rules, ◌∷◌, []}
-use Rattle.parallel_bridge.specs.Onto.{ReducesTo}
-use Rattle.parallel_bridge.proofs.FoldersAppend.{try_onward, try_rests}
+use Rattle.parallel_bridge.proofs.{rules, ◌∷◌, [], ReducesTo, try_onward, try_rests}
 use Rattle.parallel_bridge.proofs.consumer.try_reduce.TryReduceFolderFolderResult.consume_iter.Goals as goal
 
 pub loop-item-init : goal.loop-item-init

@@ -1,5 +1,5 @@
 -- what is reduced so far is reached from the start over the outcomes that came
-use Rattle.parallel_bridge.specs.Onto.{ReducesTo, TryContinues}
+use Rattle.parallel_bridge.proofs.{ReducesTo, TryContinues}
 use Rattle.parallel_bridge.proofs.consumer.try_reduce.TryReduceFolderFolderResult.consume_iter.Given as goal
 
 abbrev pub invariant-loop-item : goal.invariant-loop-item

@@ -1,10 +1,5 @@
 -- A list that is not split is one segment.
-use Rattle.parallel_bridge.proofs.Calls.{Closure, GivesSome}
-use Rattle.parallel_bridge.proofs.Gates.{IsSeatOf, stands_for, TellsAs, halting}
-use Rattle.std.proofs.Common.{Ok, Err, IfOk, List, subst}
-use Rattle.parallel_bridge.specs.Fills.{Answered, IsFull, OneAfterAnother, kept}
-use Rattle.parallel_bridge.proofs.Halves.{driven_leaf}
-use Rattle.parallel_bridge.proofs.Halts.{leaf_ends, leaf_halts}
+use Rattle.parallel_bridge.proofs.{Closure, GivesSome, IsSeatOf, stands_for, TellsAs, halting, Ok, Err, IfOk, List, subst, Answered, IsFull, OneAfterAnother, kept, driven_leaf, leaf_ends, leaf_halts}
 use Rattle.parallel_bridge.proofs.fill.gated.GatedFillingTask.run.Goals as goal
 
 pub returns-in-Ok : goal.returns-in-Ok

@@ -1,10 +1,7 @@
 -- The halves' places follow one another, their outcomes go along the shape, of two errors the left
 -- one stands, and their seats are joined.
-use Rattle.parallel_bridge.proofs.Common.{◌≡◌, ◌+◌, ◌-◌, ◌/◌, arith, refl, rules, sym, ap, subst, ◌∙◌, FitsInBlock}
-use Rattle.parallel_bridge.proofs.Gates.{IsSeatOf, stands_for, halting}
-use Rattle.parallel_bridge.proofs.Windows.{Answered, OneAfterAnother, written, shifted}
-use Rattle.parallel_bridge.proofs.Halves.{driven_node}
-use Rattle.parallel_bridge.proofs.Halts.{ends_joined}
+use Rattle.parallel_bridge.proofs.{◌≡◌, ◌+◌, ◌-◌, ◌/◌, arith, refl, rules, sym, ap, subst, ◌∙◌, FitsInBlock, IsSeatOf, stands_for, halting, Answered, OneAfterAnother, written, shifted, driven_node}
+use Rattle.parallel_bridge.proofs.{ends_joined}
 use Rattle.parallel_bridge.proofs.fill.gated.GatedFillingTask.split.Goals as goal
 
 pub returns-clause-meet : goal.returns-clause-meet

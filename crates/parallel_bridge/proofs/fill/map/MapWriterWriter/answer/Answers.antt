@@ -1,6 +1,5 @@
 -- One answer more.
-use Rattle.std.proofs.Common.{[], ◌∷◌}
-use Rattle.parallel_bridge.proofs.Shapes.{MapOf-append}
+use Rattle.parallel_bridge.proofs.{[], ◌∷◌, MapOf-append}
 use Rattle.parallel_bridge.proofs.fill.map.MapWriterWriter.answer.Goals as goal
 
 pub returns-clause-next : goal.returns-clause-next

@@ -1,6 +1,5 @@
 -- One value more.
-use Rattle.std.proofs.Common.{Result}
-use Rattle.parallel_bridge.proofs.TryWrites.{one_value}
+use Rattle.parallel_bridge.proofs.{Result, one_value}
 use Rattle.parallel_bridge.proofs.fill.try_map.TryMapWriterWriter.answer.Goals as goal
 
 pub returns-clause-next : goal.returns-clause-next

@@ -1,4 +1,5 @@
 -- `read` moves an item out, whose place is empty then. Assumes `Logic`.
+use Rattle.parallel_bridge.proofs.{Places, Start, Place, sz, start_had, item_out, says_two, has_index, Others, place_out, place_in}
 use Rattle.parallel_bridge.proofs.Walks.{proved_at, ◌≡◌, refl, sym, subst, ◌∙◌, ℕ, ◌+◌, ◌*◌, ◌<◌, ◌^◌, arith, List, [], ◌∷◌, ◌++◌, length, set, get_or, length-set, Ura, full_share, Fn, w64, inst_fn}
 use Rattle.parallel_bridge.proofs.Walks.{Val, vptr, vint, SProp, ent, never, id⊢, ftrue, fat, froom, flft, Memory, Routine, Env, WpFn, Tables, Logic, ◌⊑◌, Fun, fact, tables, tables_of, ‵, raw, ◌⊛◌}
 use Rattle.parallel_bridge.proofs.Walks.{some, given, pick, learn, at_ret, ◌$◌, ◌∵◌, !, qed, move, keep, drop, use1, use2, split, split3, join, rewrite, fsplit, fsplit3, fjoin, fjoin3, feq_i, feq_l}
@@ -6,7 +7,6 @@ use Rattle.parallel_bridge.proofs.Walks.{flt_l, flt_i, suffices, done, whole, su
 use Rattle.parallel_bridge.proofs.Walks.{look_at, get, get_in, take_at, give_at, through, sets, sets_last, env, yes, no, owns, usize, layout, Ptr, in_a_block, plain, types_at, heard, nothing, opens}
 use Rattle.parallel_bridge.proofs.Walks.{closes, Clauses, Ended, Stays, stay_dropped, stay_ref, walk_of, ends_at, Goes-dropped, Goes-ref, None, El, R, args, elτ, times_below, one_below, as_raw, Good}
 use Rattle.parallel_bridge.proofs.Walks.{word, word-Good, after, IsFilled, slot, slots, cells_own}
-use Rattle.parallel_bridge.proofs.RowMemory.{Places, Start, Place, sz, start_had, item_out, says_two, has_index, Others, place_out, place_in}
 use Rattle.parallel_bridge.specs.contracts.window.cells.Cells.read as F
 use Rattle.parallel_bridge.specs.contracts.window.cells.Cells.read.Key.{name as #self}
 use Rattle.parallel_bridge.proofs.window.cells.Cells.read.Statement as stated

@@ -1,4 +1,5 @@
 -- `split` cuts a row in two. Assumes `Logic`.
+use Rattle.parallel_bridge.proofs.{Places, Start, Mark, Place, sz, mark, mark_from, mark_had, start_had, start_made, triple, triple_made, cut_at}
 use Rattle.parallel_bridge.proofs.Walks.{proved_at, ◌≡◌, refl, sym, ap, subst, ◌∙◌, ℕ, ◌+◌, ◌*◌, ◌<◌, ◌≤◌, ◌^◌, arith, List, [], ◌∷◌, ◌++◌, length, take, from, length-take, length-drop, Ura}
 use Rattle.parallel_bridge.proofs.Walks.{full_share, Fn, w64, inst_fn, Val, vint, SProp, ent, never, id⊢, ftrue, fat, flft, Memory, Routine, Env, WpFn, Tables, Logic, ◌⊑◌, Fun, fact, tables}
 use Rattle.parallel_bridge.proofs.Walks.{tables_of, ‵, raw, ◌⊛◌, at_ret, ◌$◌, ◌∵◌, !, qed, move, keep, drop, use0, use1, use3, split, join, rewrite, fsplit, fjoin, fjoin3, feq_l, flt_l, flt_i}
@@ -7,7 +8,6 @@ use Rattle.parallel_bridge.proofs.Walks.{look_at, get, get_in, take_at, give_at,
 use Rattle.parallel_bridge.proofs.Walks.{nothing, Tuple, Clauses, Ended, says, Stays, stay_dropped, walk_of, ends_at, Goes-dropped, Goes-blank, El, R, args, times_below, Good, word, word-Good, after}
 use Rattle.parallel_bridge.proofs.Walks.{shifted, slots, cells_own}
 use Rattle.core.proofs.slots.Leases.{uncapped}
-use Rattle.parallel_bridge.proofs.RowMemory.{Places, Start, Mark, Place, sz, mark, mark_from, mark_had, start_had, start_made, triple, triple_made, cut_at}
 use Rattle.parallel_bridge.specs.contracts.window.cells.Cells.split as F
 use Rattle.parallel_bridge.specs.contracts.window.cells.Cells.split.Key.{name as #self}
 use Rattle.parallel_bridge.proofs.window.cells.Cells.split.Statement as stated

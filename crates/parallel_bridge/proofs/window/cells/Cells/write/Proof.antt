@@ -1,4 +1,5 @@
 -- `write` fills an empty place. Assumes `Logic`.
+use Rattle.parallel_bridge.proofs.{Places, Start, Place, sz, start_had, item_had, item_in, Others, place_out, place_in}
 use Rattle.parallel_bridge.proofs.Walks.{proved_at, ◌≡◌, refl, sym, subst, ◌∙◌, ℕ, ◌+◌, ◌*◌, ◌<◌, ◌^◌, arith, List, [], ◌∷◌, ◌++◌, length, set, get_or, length-set, Ura, full_share, Fn, w64, inst_fn}
 use Rattle.parallel_bridge.proofs.Walks.{Val, vptr, vint, vunit, SProp, ent, never, id⊢, ftrue, fat, flft, Memory, Routine, Env, WpFn, Tables, Logic, ◌⊑◌, Fun, fact, tables, tables_of, ‵, raw, ◌⊛◌}
 use Rattle.parallel_bridge.proofs.Walks.{at_ret, ◌$◌, ◌∵◌, !, qed, move, keep, drop, use1, use2, split, split3, join, rewrite, fsplit, fsplit3, fjoin, fjoin3, feq_i, feq_l, flt_l, flt_i, suffices}
@@ -6,7 +7,6 @@ use Rattle.parallel_bridge.proofs.Walks.{done, whole, sub, init, stop, fld, bin,
 use Rattle.parallel_bridge.proofs.Walks.{get, get_in, take_at, give_at, through, sets, env, yes, no, owns, usize, layout, Ptr, in_a_block, plain, types_at, heard, nothing, opens, closes, Clauses}
 use Rattle.parallel_bridge.proofs.Walks.{Ended, says, Stays, stay_dropped, stay_ref, walk_of, ends_at, Goes-dropped, Goes-ref, Some, None, El, R, args, elτ, times_below, one_below, as_written, word}
 use Rattle.parallel_bridge.proofs.Walks.{word-Good, after, slot, slots, cells_own}
-use Rattle.parallel_bridge.proofs.RowMemory.{Places, Start, Place, sz, start_had, item_had, item_in, Others, place_out, place_in}
 use Rattle.parallel_bridge.specs.contracts.window.cells.Cells.write as F
 use Rattle.parallel_bridge.specs.contracts.window.cells.Cells.write.Key.{name as #self}
 use Rattle.parallel_bridge.proofs.window.cells.Cells.write.Statement as stated

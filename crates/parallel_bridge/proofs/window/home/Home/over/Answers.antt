@@ -1,7 +1,5 @@
 -- The block is cut behind its first places.
-use Rattle.parallel_bridge.proofs.Windows.{values, IsRow, part}
-use Rattle.std.proofs.Common.{◌≡◌, ◌≤◌, ◌<◌, ◌-◌, ◌^◌, length, take, drop, replicate, None, refl, sym, ap, subst, ◌∙◌}
-use Rattle.parallel_bridge.proofs.WindowSlots.{opened_rows}
+use Rattle.parallel_bridge.proofs.{values, IsRow, part, ◌≡◌, ◌≤◌, ◌<◌, ◌-◌, ◌^◌, length, take, drop, replicate, None, refl, sym, ap, subst, ◌∙◌, opened_rows}
 use Rattle.parallel_bridge.proofs.window.home.Home.over.Goals as goal
 use Rattle.parallel_bridge.proofs.window.home.Home.over.Given.{Over}
 use Rattle.parallel_bridge.proofs.window.home.Home.over.Goals.{After-split-cells}

@@ -1,7 +1,5 @@
 -- The row of the items with the empty places behind it is the whole block.
-use Rattle.parallel_bridge.proofs.Windows.{laid, values, IsRow}
-use Rattle.std.proofs.Common.{◌≡◌, ◌≤◌, ◌-◌, ◌++◌, length, sym, ap, subst, ◌∙◌}
-use Rattle.parallel_bridge.proofs.WindowSlots.{closed_rows}
+use Rattle.parallel_bridge.proofs.{laid, values, IsRow, ◌≡◌, ◌≤◌, ◌-◌, ◌++◌, length, sym, ap, subst, ◌∙◌, closed_rows}
 use Rattle.parallel_bridge.proofs.window.part.Window.into_vec.Goals as goal
 use Rattle.parallel_bridge.proofs.window.part.Window.into_vec.Given.{Over}
 use Rattle.parallel_bridge.proofs.window.part.Window.into_vec.Goals.{After-join-all}

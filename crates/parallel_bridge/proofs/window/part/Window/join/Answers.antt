@@ -1,7 +1,5 @@
 -- Two rows side by side as one.
-use Rattle.parallel_bridge.proofs.Common.{◌≡◌, ◌+◌, ◌++◌, length, sym, ap, subst, ◌∙◌, ◌⊎◌, inl, inr, FitsInBlock, param}
-use Rattle.parallel_bridge.proofs.Windows.{shifted, values, Adjoins, IsRow, part}
-use Rattle.parallel_bridge.proofs.WindowSlots.{row_length, two_rows}
+use Rattle.parallel_bridge.proofs.{◌≡◌, ◌+◌, ◌++◌, length, sym, ap, subst, ◌∙◌, ◌⊎◌, inl, inr, FitsInBlock, param, shifted, values, Adjoins, IsRow, part, row_length, two_rows}
 use Rattle.parallel_bridge.proofs.window.part.Window.join.Goals as goal
 use Rattle.parallel_bridge.proofs.window.part.Window.join.Given.{Over}
 use Rattle.parallel_bridge.proofs.window.part.Window.join.Goals.{After-join}

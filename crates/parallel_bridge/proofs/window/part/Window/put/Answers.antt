@@ -1,7 +1,5 @@
 -- The items with one more, in the place behind them.
-use Rattle.parallel_bridge.proofs.Windows.{values, IsRow, part}
-use Rattle.std.proofs.Common.{◌+◌, ◌<◌, ◌++◌, ◌∷◌, [], length, sym, ap, subst, ◌∙◌}
-use Rattle.parallel_bridge.proofs.WindowSlots.{put_row}
+use Rattle.parallel_bridge.proofs.{values, IsRow, part, ◌+◌, ◌<◌, ◌++◌, ◌∷◌, [], length, sym, ap, subst, ◌∙◌, put_row}
 use Rattle.parallel_bridge.proofs.window.part.Window.put.Goals as goal
 
 pub write-requires : goal.write-requires

@@ -1,7 +1,5 @@
 -- The first places, and the rest.
-use Rattle.parallel_bridge.proofs.Common.{◌≡◌, ◌-◌, ◌≤◌, take, drop, sym, ap, subst, ◌∙◌, arith, ◌⊎◌, inl, inr, param}
-use Rattle.parallel_bridge.proofs.Windows.{shifted, values, IsRow, part}
-use Rattle.parallel_bridge.proofs.WindowSlots.{in_row, front_row, back_rows}
+use Rattle.parallel_bridge.proofs.{◌≡◌, ◌-◌, ◌≤◌, take, drop, sym, ap, subst, ◌∙◌, arith, ◌⊎◌, inl, inr, param, shifted, values, IsRow, part, in_row, front_row, back_rows}
 use Rattle.parallel_bridge.proofs.window.part.Window.split.Goals as goal
 use Rattle.parallel_bridge.proofs.window.part.Window.split.Given.{Over}
 use Rattle.parallel_bridge.proofs.window.part.Window.split.Goals.{After-split-front, then-len-index, else-len-index}

@@ -1,7 +1,5 @@
 -- The items without the last.
-use Rattle.parallel_bridge.proofs.Windows.{values, IsRow}
-use Rattle.std.proofs.Common.{◌-◌, ◌<◌, ◌++◌, ◌∷◌, [], length, sym, ap, subst, ◌∙◌}
-use Rattle.parallel_bridge.proofs.WindowSlots.{back_row, some_same}
+use Rattle.parallel_bridge.proofs.{values, IsRow, ◌-◌, ◌<◌, ◌++◌, ◌∷◌, [], length, sym, ap, subst, ◌∙◌, back_row, some_same}
 use Rattle.parallel_bridge.proofs.window.part.Window.take_back.Goals as goal
 
 pub read-item-requires : goal.read-item-requires
