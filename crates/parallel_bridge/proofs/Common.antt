@@ -37,13 +37,13 @@ pub use Rattle.std.proofs.Common.{append_assoc, arith, drop, drop-drop, false, f
 pub use Rattle.std.proofs.Common.{ltb-false, ltb-true, map, map-id, min, mul-le-mul_right, nat_lt, pow_pos, refl, replicate, rules, set, slice_index, subst, suc, suc-mul, sum, sum_by, sym, take}
 pub use Rattle.std.proofs.Common.{take-append-drop, take-take, take_all, vec_len, zero, zip, ℕ, ⊎_elim, ◌%◌, ◌*◌, ◌++◌, ◌+◌, ◌-◌, ◌/◌, ◌<◌, ◌^◌, ◌∙◌, ◌∷◌, ◌≡◌, ◌≢◌, ◌≤◌, ◌⊎◌}
 pub use Rattle.std.proofs.Math.Nat.{add-mod-mod, mod-add-mod, mod-eq_of_lt, pow-succ', zero-add, zero-mul}
-pub use Rattle.std.proofs.Math.Seq.{drop-append_seam, take-append_seam}
+pub use Rattle.std.proofs.Math.Seq.{drop-append_seam, get_or-append_seam, set-append_seam, take-append_seam}
 pub use Rattle.std.proofs.lemmas.Bool.{cases_lt, cond-false, cond_both, false≢true}
 pub use Rattle.std.proofs.lemmas.Fn.{answers_by, serves_by}
 pub use Rattle.std.proofs.lemmas.Grind.{common_steps, div_ceil_times}
 pub use Rattle.std.proofs.lemmas.Iterator.{YieldsList, YieldsList-from_range, YieldsList-from_slice, items_from_drains}
 pub use Rattle.std.proofs.lemmas.Iterator.Consumers.{YieldsList-from_copied, YieldsList-from_first}
-pub use Rattle.std.proofs.lemmas.List.{drop-take, drop_all, length-map, length-replicate, map-append, take_rest}
+pub use Rattle.std.proofs.lemmas.List.{drop-replicate, drop-take, drop_all, length-map, length-replicate, map-append, take_rest, replicate-append-replicate, take-replicate}
 pub use Rattle.std.proofs.lemmas.List.Elements.{All-append, All-cons, All-contains, All-contains_itself, All-from_recursion, All-head, All-nil, All-push, All-tail, All-weaker, Contains-append_cases}
 pub use Rattle.std.proofs.lemmas.List.Elements.{Contains-append_left, Contains-append_right, Contains-push, Contains-push_cases, recursion_from_All}
 pub use Rattle.std.proofs.lemmas.List.FromFn.{length-range_with_len}
