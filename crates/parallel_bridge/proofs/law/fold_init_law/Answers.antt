@@ -6,6 +6,5 @@ pub returns : goal.returns
 returns g c xs r h =
     plain_from_states (λ s. g.N.Fn.post c.args.init.now tt s)
     (λ e. g.I.Fn.post c.args.identity.now tt e)
-    (FoldStep (λ (a : g.row.R.Denot) (p : MutBor g.row.S.Denot) (x : g.row.X.Denot)
-    (b : g.row.R.Denot) (q : MutBor g.row.S.Denot). goal.F-post g c.args.fold_op.now a p x b q))
+    (FoldStep (goal.F-post g c.args.fold_op.now))
     (λ p q v. g.G.Fn.post c.args.reduce_op.now (p, (q, tt)) v) xs r h

@@ -11,5 +11,5 @@ fold_op-value-requires g c = next_has g.I.Iterator.next_gives
 
 pub loop-item-preserved : goal.loop-item-preserved
 loop-item-preserved g c =
-    chain_push (λ a x r. goal.F-post g c.args.fold_op.now a x r) _ c.loop-item.yielded _ _ _
+    chain_push (goal.F-post g c.args.fold_op.now) _ c.loop-item.yielded _ _ _
     c.loop-item.invariant (search rules)

@@ -4,6 +4,6 @@ use Rattle.parallel_bridge.proofs.consumer.fold_init.fold_init_from.Given as goa
 
 abbrev pub invariant-loop-item : goal.invariant-loop-item
 invariant-loop-item g l = (more : List g.row.I-Item.Denot) (b : g.row.R.Denot)
-    → StateChain (FoldStep (λ a p x r q. goal.F-post g l.fold_op a p x r q)) l.state l.value more b
-    → StateChain (FoldStep (λ a p x r q. goal.F-post g l.fold_op a p x r q)) l.initial.state
+    → StateChain (FoldStep (goal.F-post g l.fold_op)) l.state l.value more b
+    → StateChain (FoldStep (goal.F-post g l.fold_op)) l.initial.state
     l.initial.value (l.yielded ++ more) b

@@ -5,7 +5,7 @@ use Rattle.parallel_bridge.proofs.consumer.gated_fold.gated_onward.Goals as goal
 pub loop-item-init : goal.loop-item-init
 loop-item-init g c =
     record {
-      reached = halts_rests (λ a x o. goal.F-post g c.args.fold_op.now a x o) c.args.control;
+      reached = halts_rests (goal.F-post g c.args.fold_op.now) c.args.control;
       watching = c.requires.watching;
       stands = c.requires.stands;
       same = (refl, refl, refl);
@@ -23,7 +23,7 @@ loop-item-preserved g c =
     let i = c.loop-item.invariant in
     record {
       reached =
-          halts_onward (λ a x o. goal.F-post g c.args.fold_op.now a x o) c.args.control
+          halts_onward (goal.F-post g c.args.fold_op.now) c.args.control
           c.loop-item.control c.gated_step-control.result c.loop-item.yielded
           (c.in-Some.item ∷ []) i.reached c.gated_step-control.ensures.onward;
       watching = c.gated_step-control.ensures.watching;

@@ -11,9 +11,7 @@ map_op-requires g c = next_has g.I.Iterator.next_gives
 pub loop-item-preserved : goal.loop-item-preserved
 loop-item-preserved g c more zs h =
     let y = c.map_op.result in
-    let step =
-    MapStep (λ (p : MutBor g.row.S.Denot) (x : g.row.I-Item.Denot) (y : g.row.T.Denot)
-    (q : MutBor g.row.S.Denot). goal.F-post g c.args.map_op.now p x y q) in
+    let step = MapStep (goal.F-post g c.args.map_op.now) in
     let before = c.loop-item.answers.items in
     let item = c.in-Some.item in
     let more_answers : c.push.new.self.items ++ zs ≡ before ++ (y ∷ zs) =

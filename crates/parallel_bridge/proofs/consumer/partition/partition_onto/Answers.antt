@@ -4,7 +4,7 @@ use Rattle.parallel_bridge.proofs.consumer.partition.partition_onto.Goals as goa
 
 pub loop-item-init : goal.loop-item-init
 loop-item-init g c =
-    part_end (λ x p. goal.F-post g c.args.map_op.now x p) c.args.values.items c.args.keys.items []
+    part_end (goal.F-post g c.args.map_op.now) c.args.values.items c.args.keys.items []
     refl
 
 pub map_op-key-requires : goal.map_op-key-requires
@@ -15,9 +15,7 @@ map_op-key-requires g c = next_has g.I.Iterator.next_gives
 
 pub loop-item-preserved-in-Some-value : goal.loop-item-preserved-in-Some-value
 loop-item-preserved-in-Some-value g c =
-    let allowed =
-    λ (x : g.row.I-Item.Denot) (p : g.row.K.Denot × Option g.row.U.Denot). goal.F-post g
-    c.args.map_op.now x p in
+    let allowed = goal.F-post g c.args.map_op.now in
     let values = c.loop-item.values.items in
     let keys = c.loop-item.keys.items in
     part_append allowed c.args.values.items values c.push.new.self.items c.args.keys.items keys keys
@@ -27,9 +25,7 @@ loop-item-preserved-in-Some-value g c =
 
 pub loop-item-preserved : goal.loop-item-preserved
 loop-item-preserved g c =
-    let allowed =
-    λ (x : g.row.I-Item.Denot) (p : g.row.K.Denot × Option g.row.U.Denot). goal.F-post g
-    c.args.map_op.now x p in
+    let allowed = goal.F-post g c.args.map_op.now in
     let values = c.loop-item.values.items in
     let keys = c.loop-item.keys.items in
     part_append allowed c.args.values.items values values c.args.keys.items keys

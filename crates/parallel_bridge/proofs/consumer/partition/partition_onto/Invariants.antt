@@ -4,5 +4,5 @@ use Rattle.parallel_bridge.proofs.consumer.partition.partition_onto.Given as goa
 
 abbrev pub invariant-loop-item : goal.invariant-loop-item
 invariant-loop-item g l = PartitionOnto
-    (λ x p. goal.F-post g l.map_op x p) l.initial.values.items l.initial.keys.items l.yielded
+    (goal.F-post g l.map_op) l.initial.values.items l.initial.keys.items l.yielded
     l.values.items l.keys.items

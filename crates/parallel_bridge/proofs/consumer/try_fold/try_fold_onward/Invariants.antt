@@ -4,4 +4,4 @@ use Rattle.parallel_bridge.proofs.consumer.try_fold.try_fold_onward.Given as goa
 
 abbrev pub invariant-loop-item : goal.invariant-loop-item
 invariant-loop-item g l =
-    TryContinues (λ a x o. goal.F-post g l.fold_op a x o) l.initial.control l.yielded l.control
+    TryContinues (goal.F-post g l.fold_op) l.initial.control l.yielded l.control

@@ -4,13 +4,9 @@ use Rattle.parallel_bridge.proofs.list.fold.fold_parallel.Goals as goal
 
 pub returns-clause-along : goal.returns-clause-along
 returns-clause-along g c =
-    let identity = λ (e : g.row.R.Denot). g.ID.Fn.post c.args.identity.now tt e in
-    let step =
-    λ (a : g.row.R.Denot) (x : g.row.P-Item.Denot) (b : g.row.R.Denot). g.F.Fn.post
-    c.args.fold_op.now (a, (x, tt)) b in
-    let reduce =
-    λ (a : g.row.R.Denot) (b : g.row.R.Denot) (r : g.row.R.Denot). g.G.Fn.post
-    c.args.reduce_op.now (a, (b, tt)) r in
+    let identity = goal.ID-post g c.args.identity.now in
+    let step = goal.F-post g c.args.fold_op.now in
+    let reduce = goal.G-post g c.args.reduce_op.now in
     let k = cutdepth c.args.threads.value in
     let gives = g.P.Parts.gives in
     driven c.bridge.result c.unfailing.result

@@ -4,15 +4,10 @@ use Rattle.parallel_bridge.proofs.list.fold_init.fold_init_parallel.Goals as goa
 
 pub returns-clause-along : goal.returns-clause-along
 returns-clause-along g c =
-    let init = λ (s : g.row.S.Denot). g.N.Fn.post c.args.init.now tt s in
-    let identity = λ (e : g.row.R.Denot). g.ID.Fn.post c.args.identity.now tt e in
-    let step =
-    FoldStep (λ (a : g.row.R.Denot) (p : MutBor g.row.S.Denot) (x : g.row.P-Item.Denot)
-    (b : g.row.R.Denot) (q : MutBor g.row.S.Denot). goal.F-post g c.args.fold_op.now a p x b q)
-    in
-    let reduce =
-    λ (a : g.row.R.Denot) (b : g.row.R.Denot) (r : g.row.R.Denot). g.G.Fn.post
-    c.args.reduce_op.now (a, (b, tt)) r in
+    let init = goal.N-post g c.args.init.now in
+    let identity = goal.ID-post g c.args.identity.now in
+    let step = FoldStep (goal.F-post g c.args.fold_op.now) in
+    let reduce = goal.G-post g c.args.reduce_op.now in
     let k = cutdepth c.args.threads.value in
     let gives = g.P.Parts.gives in
     driven c.bridge.result c.unfailing.result

@@ -4,8 +4,7 @@ use Rattle.parallel_bridge.proofs.list.map.map_parallel.Goals as goal
 
 pub returns-in-Ok-clause-maps : goal.returns-in-Ok-clause-maps
 returns-in-Ok-clause-maps g c =
-    let allowed =
-    λ (x : g.row.P-Item.Denot) (y : g.row.T.Denot). g.F.Fn.post c.args.map_op.now (x, tt) y in
+    let allowed = goal.F-post g c.args.map_op.now in
     let leaf = Answered {S = Unit {0}} {E = Infallible} (λ l s ys. MapOf allowed l ys) (λ l e. ⊥) in
     let gives = g.P.Parts.gives in
     let depth = c.depth_of-depth.result in

@@ -4,10 +4,8 @@ use Rattle.parallel_bridge.proofs.list.map_init.map_init_iter.Goals as goal
 
 pub returns-clause-one_state : goal.returns-clause-one_state
 returns-clause-one_state g c =
-    let step =
-    MapStep (λ (p : MutBor g.row.S.Denot) (x : g.row.I-Item.Denot) (y : g.row.T.Denot)
-    (q : MutBor g.row.S.Denot). goal.F-post g c.args.map_op.now p x y q) in
-    let init = λ (s : g.row.S.Denot). g.N.Fn.post c.args.init.now tt s in
+    let step = MapStep (goal.F-post g c.args.map_op.now) in
+    let init = goal.N-post g c.args.init.now in
     let s = c.init-state.result in
     let comes = Drains g.I.Iterator.next_gives in
     IfOk-weaker c.map_init_from.result

@@ -5,10 +5,8 @@ use Rattle.parallel_bridge.proofs.list.map_init.map_init_parallel.Goals as goal
 
 pub returns-in-Ok-clause-along : goal.returns-in-Ok-clause-along
 returns-in-Ok-clause-along g c =
-    let init = λ (s : g.row.S.Denot). g.N.Fn.post c.args.init.now tt s in
-    let step =
-    MapStep (λ (p : MutBor g.row.S.Denot) (x : g.row.P-Item.Denot) (y : g.row.T.Denot)
-    (q : MutBor g.row.S.Denot). goal.F-post g c.args.map_op.now p x y q) in
+    let init = goal.N-post g c.args.init.now in
+    let step = MapStep (goal.F-post g c.args.map_op.now) in
     let so_far =
     λ (l : List g.row.P-Item.Denot) (s : g.row.S.Denot) (ys : List g.row.T.Denot). (more : List
     g.row.P-Item.Denot) (zs : List g.row.T.Denot) → StatesFrom step s more zs

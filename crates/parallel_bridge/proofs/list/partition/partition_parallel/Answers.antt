@@ -6,9 +6,7 @@ use Rattle.parallel_bridge.proofs.list.partition.partition_parallel.Goals as goa
 
 pub returns-clause-parts : goal.returns-clause-parts
 returns-clause-parts g c =
-    let allowed =
-    λ (x : g.row.P-Item.Denot) (p : g.row.K.Denot × Option g.row.U.Denot). g.F.Fn.post
-    c.args.map_op.now (x, tt) p in
+    let allowed = goal.F-post g c.args.map_op.now in
     let k = cutdepth c.args.threads.value in
     let gives = g.P.Parts.gives in
     let lists = c.in_ok-lists.lists in

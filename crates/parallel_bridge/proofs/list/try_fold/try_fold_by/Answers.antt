@@ -5,13 +5,9 @@ use Rattle.parallel_bridge.proofs.list.try_fold.try_fold_by.Goals as goal
 
 pub returns-in-Ok : goal.returns-in-Ok
 returns-in-Ok g c =
-    let identity = λ (e : g.row.R.Denot). g.ID.Fn.post c.args.identity.now tt e in
-    let step =
-    λ (a : g.row.R.Denot) (x : g.row.P-Item.Denot)
-    (o : Result g.row.R.Denot g.row.E.Denot). g.F.Fn.post c.args.fold_op.now (a, (x, tt)) o in
-    let reduce =
-    λ (a : g.row.R.Denot) (b : g.row.R.Denot) (r : g.row.R.Denot). g.G.Fn.post
-    c.args.reduce_op.now (a, (b, tt)) r in
+    let identity = goal.ID-post g c.args.identity.now in
+    let step = goal.F-post g c.args.fold_op.now in
+    let reduce = goal.G-post g c.args.reduce_op.now in
     let w = c.try_fold_iter.ensures in
     let h : TryFoldSegment identity step w.0 (Ok c.in-Ok.value) =
     subst (TryFoldSegment identity step w.0) c.in-Ok.is w.2 in
@@ -27,13 +23,9 @@ returns-in-Ok g c =
 
 pub returns-in-Err : goal.returns-in-Err
 returns-in-Err g c =
-    let identity = λ (e : g.row.R.Denot). g.ID.Fn.post c.args.identity.now tt e in
-    let step =
-    λ (a : g.row.R.Denot) (x : g.row.P-Item.Denot)
-    (o : Result g.row.R.Denot g.row.E.Denot). g.F.Fn.post c.args.fold_op.now (a, (x, tt)) o in
-    let reduce =
-    λ (a : g.row.R.Denot) (b : g.row.R.Denot) (r : g.row.R.Denot). g.G.Fn.post
-    c.args.reduce_op.now (a, (b, tt)) r in
+    let identity = goal.ID-post g c.args.identity.now in
+    let step = goal.F-post g c.args.fold_op.now in
+    let reduce = goal.G-post g c.args.reduce_op.now in
     let w = c.try_fold_iter.ensures in
     let h : TryFoldSegment identity step w.0 (Err c.in-Err.error) =
     subst (TryFoldSegment identity step w.0) c.in-Err.is w.2 in
@@ -49,13 +41,9 @@ returns-in-Err g c =
 
 pub returns-in-Parallel : goal.returns-in-Parallel
 returns-in-Parallel g c =
-    let identity = λ (e : g.row.R.Denot). g.ID.Fn.post c.args.identity.now tt e in
-    let step =
-    λ (a : g.row.R.Denot) (x : g.row.P-Item.Denot)
-    (o : Result g.row.R.Denot g.row.E.Denot). g.F.Fn.post c.args.fold_op.now (a, (x, tt)) o in
-    let reduce =
-    λ (a : g.row.R.Denot) (b : g.row.R.Denot) (r : g.row.R.Denot). g.G.Fn.post
-    c.args.reduce_op.now (a, (b, tt)) r in
+    let identity = goal.ID-post g c.args.identity.now in
+    let step = goal.F-post g c.args.fold_op.now in
+    let reduce = goal.G-post g c.args.reduce_op.now in
     let k = cutdepth c.args.threads.value in
     let gives = g.P.Parts.gives in
     record {

@@ -37,13 +37,9 @@ unhalt-requires g c =
 
 pub returns-in-Some : goal.returns-in-Some
 returns-in-Some g c =
-    let identity = λ (e : g.row.R.Denot). g.ID.Fn.post c.args.identity.now tt e in
-    let step =
-    λ (a : g.row.R.Denot) (x : g.row.P-Item.Denot)
-    (o : Result g.row.R.Denot g.row.E.Denot). g.F.Fn.post c.args.fold_op.now (a, (x, tt)) o in
-    let reduce =
-    λ (a : g.row.R.Denot) (b : g.row.R.Denot) (r : g.row.R.Denot). g.G.Fn.post
-    c.args.reduce_op.now (a, (b, tt)) r in
+    let identity = goal.ID-post g c.args.identity.now in
+    let step = goal.F-post g c.args.fold_op.now in
+    let reduce = goal.G-post g c.args.reduce_op.now in
     let gives = g.P.Parts.gives in
     record {
       along = subst (λ k. UnlessRefused c.unhalt.result (λ out. GivesSome gives c.args.parts
@@ -56,13 +52,9 @@ returns-in-Some g c =
 
 pub returns-in-None : goal.returns-in-None
 returns-in-None g c =
-    let identity = λ (e : g.row.R.Denot). g.ID.Fn.post c.args.identity.now tt e in
-    let step =
-    λ (a : g.row.R.Denot) (x : g.row.P-Item.Denot)
-    (o : Result g.row.R.Denot g.row.E.Denot). g.F.Fn.post c.args.fold_op.now (a, (x, tt)) o in
-    let reduce =
-    λ (a : g.row.R.Denot) (b : g.row.R.Denot) (r : g.row.R.Denot). g.G.Fn.post
-    c.args.reduce_op.now (a, (b, tt)) r in
+    let identity = goal.ID-post g c.args.identity.now in
+    let step = goal.F-post g c.args.fold_op.now in
+    let reduce = goal.G-post g c.args.reduce_op.now in
     let gives = g.P.Parts.gives in
     record {
       along = subst (λ k. UnlessRefused c.unhalt_lost.result (λ out. GivesSome gives c.args.parts

@@ -3,5 +3,5 @@ use Rattle.parallel_bridge.proofs.{TryMapBehind, ended}
 use Rattle.parallel_bridge.proofs.list.try_map.try_map_onward.Given as goal
 
 abbrev pub invariant-loop-item : goal.invariant-loop-item
-invariant-loop-item g l = TryMapBehind (λ x o. goal.F-post g l.map_op x o)
+invariant-loop-item g l = TryMapBehind (goal.F-post g l.map_op)
     (ended l.fn.values.items l.fn.failed) l.yielded (ended l.values.items l.failed)

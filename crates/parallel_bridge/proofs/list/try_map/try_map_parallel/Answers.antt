@@ -30,9 +30,7 @@ unhalt-requires g c =
 
 pub returns-in-Ok : goal.returns-in-Ok
 returns-in-Ok g c =
-    let allowed =
-    λ (x : g.row.P-Item.Denot) (o : Result g.row.T.Denot g.row.E.Denot). g.F.Fn.post
-    c.args.map_op.now (x, tt) o in
+    let allowed = goal.F-post g c.args.map_op.now in
     let leaf = Answered {S = Unit {0}} (λ l s ys. EachOk allowed l ys) (FirstErr allowed) in
     let gives = g.P.Parts.gives in
     let depth = c.depth_of-depth.result in
@@ -59,9 +57,7 @@ returns-in-Ok g c =
 
 pub returns-in-Err : goal.returns-in-Err
 returns-in-Err g c =
-    let allowed =
-    λ (x : g.row.P-Item.Denot) (o : Result g.row.T.Denot g.row.E.Denot). g.F.Fn.post
-    c.args.map_op.now (x, tt) o in
+    let allowed = goal.F-post g c.args.map_op.now in
     let leaf = Answered {S = Unit {0}} (λ l s ys. EachOk allowed l ys) (FirstErr allowed) in
     let gives = g.P.Parts.gives in
     let depth = c.depth_of-depth.result in

@@ -31,16 +31,13 @@ fed_all g c =
     subst (λ d. IfOk d (λ f. GivesSome g.S.Segment.gives c.args.self.parts
     (λ xs. (more : List g.row.X.Denot)
     (out : Result (Result g.row.R.Denot (Halt g.row.E.Denot) × GateWatch) Infallible)
-    → OnlyOk (λ e. Comes (λ (v : g.row.R.Denot) (x : g.row.X.Denot)
-    (o : Result g.row.R.Denot g.row.E.Denot). g.F.Fn.post f.fold_op.now (v, (x, tt)) o)
+    → OnlyOk (λ e. Comes (goal.F-post g f.fold_op.now)
     f.control f.watch more e.0 e.1) out
-    → OnlyOk (λ e. Comes (λ (v : g.row.R.Denot) (x : g.row.X.Denot)
-    (o : Result g.row.R.Denot g.row.E.Denot). g.F.Fn.post first.fold_op.now (v, (x, tt)) o)
+    → OnlyOk (λ e. Comes (goal.F-post g first.fold_op.now)
     first.control first.watch (xs ++ more) e.0 e.1) out))) c.in-Ok.is c.feed-fed.ensures.gives in
     let at_end =
     fed.2 [] (Ok (last.control, last.watch)) (
-      halts_rests (λ (v : g.row.R.Denot) (x : g.row.X.Denot)
-          (o : Result g.row.R.Denot g.row.E.Denot). g.F.Fn.post last.fold_op.now (v, (x, tt)) o)
+      halts_rests (goal.F-post g last.fold_op.now)
           last.control,
       (refl, refl, refl),
       ready.0,
@@ -49,11 +46,9 @@ fed_all g c =
     in (
       fed.0,
       fed.1,
-      subst (λ w. Comes (λ (v : g.row.R.Denot) (x : g.row.X.Denot)
-          (o : Result g.row.R.Denot g.row.E.Denot). g.F.Fn.post w.now (v, (x, tt)) o)
+      subst (λ w. Comes (goal.F-post g w.now)
           first.control first.watch fed.0 last.control last.watch) c.begin-folder.ensures.fold_op
-          (subst (λ l. Comes (λ (v : g.row.R.Denot) (x : g.row.X.Denot)
-          (o : Result g.row.R.Denot g.row.E.Denot). g.F.Fn.post first.fold_op.now (v, (x, tt)) o)
+          (subst (λ l. Comes (goal.F-post g first.fold_op.now)
           first.control first.watch l last.control last.watch) (append-nil fed.0) at_end),
     )
 

@@ -27,13 +27,9 @@ returns-clause-node g c depth a b all above left right together =
     let watches = c.split-left_watch.result in
     let half = c.len-len.result / 2 in
     let counted = c.len-len.ensures.counted in
-    let identity = λ (e : g.row.R.Denot). g.ID.Fn.post self.identity.now tt e in
-    let step =
-    λ (v : g.row.R.Denot) (x : g.row.X.Denot)
-    (o : Result g.row.R.Denot g.row.E.Denot). g.F.Fn.post self.fold_op.now (v, (x, tt)) o in
-    let reduce =
-    λ (p : g.row.R.Denot) (q : g.row.R.Denot) (r : g.row.R.Denot). g.G.Fn.post
-    self.reduce_op.now (p, (q, tt)) r in
+    let identity = goal.ID-post g self.identity.now in
+    let step = goal.F-post g self.fold_op.now in
+    let reduce = goal.G-post g self.reduce_op.now in
     let leaf = halting (TryReducedSegment identity (TryFoldSegment identity step) reduce) in
     let node = λ (p : g.row.R.Denot) (q : g.row.R.Denot). OnlyOk (reduce p q) in (
       driven_node S.gives self.parts c.in-Ok.halves.0 c.in-Ok.halves.1 leaf leaf leaf

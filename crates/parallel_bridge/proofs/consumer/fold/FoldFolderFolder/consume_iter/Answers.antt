@@ -4,9 +4,7 @@ use Rattle.parallel_bridge.proofs.consumer.fold.FoldFolderFolder.consume_iter.Go
 
 pub returns-clause-gives : goal.returns-clause-gives
 returns-clause-gives g c =
-    let step =
-    λ (a : g.row.U.Denot) (x : g.row.X.Denot) (b : g.row.U.Denot). g.F.Fn.post
-    c.args.self.fold_op.now (a, (x, tt)) b in
+    let step = goal.F-post g c.args.self.fold_op.now in
     let w = c.fold_from-value.ensures in (
       w.0,
       w.1,

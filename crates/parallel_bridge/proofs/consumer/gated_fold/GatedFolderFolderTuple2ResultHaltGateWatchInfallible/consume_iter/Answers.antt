@@ -5,9 +5,7 @@ use Rattle.parallel_bridge.proofs.consumer.gated_fold.GatedFolderFolderTuple2Res
 pub returns-clause-gives : goal.returns-clause-gives
 returns-clause-gives g c =
     let self = c.args.self in
-    let step =
-    λ (a : g.row.T.Denot) (x : g.row.X.Denot) (o : Result g.row.T.Denot g.row.E.Denot). g.F.Fn.post
-    self.fold_op.now (a, (x, tt)) o in
+    let step = goal.F-post g self.fold_op.now in
     let made = c.gated_onward-control in
     let w = made.ensures.onward in (
       w.0,

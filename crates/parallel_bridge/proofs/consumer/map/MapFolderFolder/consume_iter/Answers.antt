@@ -12,8 +12,7 @@ consume_iter-requires-clause-can g c = (
 
 pub returns-clause-gives : goal.returns-clause-gives
 returns-clause-gives g c =
-    let allowed =
-    λ (x : g.row.X.Denot) (y : g.row.T.Denot). g.F.Fn.post c.args.self.map_op.now (x, tt) y in
+    let allowed = goal.F-post g c.args.self.map_op.now in
     let handed = c.in_ok-base.ensures.gives in
     let u = handed.1.0 in
     let w = mapped_from g.I.Iterator.next_gives

@@ -4,9 +4,7 @@ use Rattle.parallel_bridge.proofs.consumer.reduce.ReduceFolderFolderInfallible.c
 
 pub returns-clause-gives : goal.returns-clause-gives
 returns-clause-gives g c =
-    let step =
-    λ (a : g.row.T.Denot) (x : g.row.T.Denot) (b : g.row.T.Denot). g.G.Fn.post
-    c.args.self.reduce_op.now (a, (x, tt)) b in
+    let step = goal.G-post g c.args.self.reduce_op.now in
     let w = c.fold_from-value.ensures in (
       w.0,
       w.1,

@@ -5,6 +5,6 @@ use Rattle.parallel_bridge.proofs.consumer.try_reduce.TryReduceFolderFolderResul
 abbrev pub invariant-loop-item : goal.invariant-loop-item
 invariant-loop-item g l = record {
   accepts : goal.G-IsAlwaysCallable g l.reduce_op;
-  reached : TryContinues (ReducesTo (λ a b c. goal.G-post g l.reduce_op a b c)) l.initial.control
+  reached : TryContinues (ReducesTo (goal.G-post g l.reduce_op)) l.initial.control
       l.yielded l.control;
 }
