@@ -1,7 +1,7 @@
 -- Empty places, items and empty places in a row, and what each step makes of them.
 use Rattle.parallel_bridge.proofs.Common.{◌≡◌, ℕ, zero, suc, ◌+◌, ◌-◌, ◌<◌, ◌≤◌, List, [], ◌∷◌, ◌++◌, map, length, take, drop, set, replicate, refl, sym, ap, ◌∙◌, arith, ◌⊎◌, inl, inr, append-nil}
 use Rattle.parallel_bridge.proofs.Common.{Option, Some, None, get_or, length-append, length-replicate, length-take, length-drop, length-map, map-append, append_assoc, get_or-append_seam}
-use Rattle.parallel_bridge.proofs.Common.{set-append_seam, replicate-append-replicate, take-replicate, drop-replicate, take_all, drop_all, laid, values, IsRow}
+use Rattle.parallel_bridge.proofs.Common.{set-append_seam, replicate-append-replicate, take-replicate, drop-replicate, take_all, drop_all, laid, values, subst, View, part, IsRow}
 use denote.RawPtr.{Ptr}
 
 module _ {X : Type 0} where
@@ -93,6 +93,12 @@ module _ {X : Type 0} where
       let rest : r ≡ room - (b + n) = omega arith in
       ((a, long ∙ sym (ap length is), omega arith, e ∙ (λ i. laid b (sym is i) (rest i))), is)
 
+-- a row that is named anew
+pub moved : {X : Type 0} {at start p : Ptr} {slots cs : List (Option X)} {room n : ℕ} (b : ℕ) → p ≡ at
+    → cs ≡ slots → IsRow at start slots room b n → IsRow p start cs room b n
+moved {X = X} {start = start} {room = room} {n = n} b e f row = subst
+    (λ (x : Ptr × List (Option X)). IsRow x.0 start x.1 room b n) (λ i. (sym e i, sym f i)) row
+
 pub some_same : {X : Type 0} {x y : X} → Some x ≡ Some y → x ≡ y
 some_same e = cc
 
@@ -124,11 +130,14 @@ module _ {X : Type 0} (at start : Ptr) (slots : List (Option X)) (room b n : ℕ
   left = room - (b + n)
 
   -- one more item, in the place behind the others
-  pub put_row : (x : X) → b + n < room → (b + n < length slots) × (get_or slots (b + n) None ≡ None)
+  pub put_row : {v : View X} (x : X) → part start room b items ≡ v → v.before + length v.items < v.room
+      → (b + n < length slots) × (get_or slots (b + n) None ≡ None)
       × IsRow at start (set slots (b + n) (Some x)) room b (n + 1)
       × (values (set slots (b + n) (Some x)) ≡ items ++ x ∷ [])
-  put_row x lt =
+  put_row x is lt =
       let long : n ≡ length items = row.1 in
+      let fits : b + length items < room =
+      subst (λ (u : View X). u.before + length u.items < u.room) (sym is) lt in
       let laid_long = length_laid b items left in
       let same : length slots ≡ length (laid b items left) = ap length row.3 in
       let more : left ≡ suc (left - 1) = omega arith in
@@ -141,12 +150,12 @@ module _ {X : Type 0} (at start : Ptr) (slots : List (Option X)) (room b n : ℕ
       (omega arith) in (omega arith, put.0, is.0, is.1)
 
   -- the items without the first
-  pub take_row : 0 < n → (x : X)
+  pub take_row : {v : View X} → part start room b items ≡ v → 0 < length v.items → (x : X)
       × ((get_or slots b None ≡ Some x) × IsRow at start (set slots b None) room (b + 1) (n - 1)
       × (items ≡ x ∷ values (set slots b None)))
-  take_row some =
+  take_row is has =
       let long : n ≡ length items = row.1 in
-      let first = first_of items (omega arith) in
+      let first = first_of items (subst (λ (u : View X). 0 < length u.items) (sym is) has) in
       let x = first.0 in
       let ys = first.1.0 in
       let shorter : length items ≡ suc (length ys) = ap length first.1.1 in
@@ -159,13 +168,13 @@ module _ {X : Type 0} (at start : Ptr) (slots : List (Option X)) (room b n : ℕ
       (x, (out.0, is.0, first.1.1 ∙ ap (λ zs. x ∷ zs) (sym is.1)))
 
   -- the items without the last
-  pub back_row : 0 < n → (x : X)
+  pub back_row : {v : View X} → part start room b items ≡ v → 0 < length v.items → (x : X)
       × ((get_or slots (b + n - 1) None ≡ Some x)
       × IsRow at start (set slots (b + n - 1) None) room b (n - 1)
       × (items ≡ values (set slots (b + n - 1) None) ++ x ∷ []))
-  back_row some =
+  back_row is has =
       let long : n ≡ length items = row.1 in
-      let last = last_of items (omega arith) in
+      let last = last_of items (subst (λ (u : View X). 0 < length u.items) (sym is) has) in
       let x = last.0 in
       let ys = last.1.0 in
       let shorter : length items ≡ length (ys ++ x ∷ []) = ap length last.1.1 in

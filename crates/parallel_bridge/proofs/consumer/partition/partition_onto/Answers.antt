@@ -1,5 +1,5 @@
 -- One turn is one value or one key more.
-use Rattle.parallel_bridge.proofs.{rules, ◌∷◌, [], Option, refl, next_has, part_append, part_end, part_one_value, part_one_key}
+use Rattle.parallel_bridge.proofs.{rules, ◌∷◌, [], refl, next_has, part_append, part_end, part_one_value, part_one_key}
 use Rattle.parallel_bridge.proofs.consumer.partition.partition_onto.Goals as goal
 
 pub loop-item-init : goal.loop-item-init

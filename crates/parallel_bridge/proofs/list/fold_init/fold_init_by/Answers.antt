@@ -1,5 +1,5 @@
 -- One segment serially, the list's shape in parallel; either way a reduction of neighbours.
-use Rattle.parallel_bridge.proofs.{rules, MutBor, Fault, cutdepth, FoldStep, answered_else, answered_serially, folded_init_serially, folded_init_along}
+use Rattle.parallel_bridge.proofs.{rules, Fault, cutdepth, FoldStep, answered_else, answered_serially, folded_init_serially, folded_init_along}
 use Rattle.parallel_bridge.proofs.list.fold_init.fold_init_by.Goals as goal
 
 pub returns-in-Serial-clause-folds : goal.returns-in-Serial-clause-folds

@@ -1,5 +1,5 @@
 -- The chain from the fresh state and the identity.
-use Rattle.parallel_bridge.proofs.{[], refl, subst, append-nil, MutBor, FoldStep, StateChain}
+use Rattle.parallel_bridge.proofs.{[], refl, subst, append-nil, FoldStep, StateChain}
 use Rattle.parallel_bridge.proofs.list.fold_init.fold_init_iter.Goals as goal
 
 pub returns : goal.returns

@@ -1,5 +1,5 @@
 -- The value of each segment is reduced behind an identity.
-use Rattle.parallel_bridge.proofs.{◌∷◌, [], MutBor, Infallible, FoldSegment, AlongLeaves, Shape, cutdepth, GivesSome, FoldStep, FoldInitSegment, TryAlongCut, OnlyOk, driven, fold_driven}
+use Rattle.parallel_bridge.proofs.{◌∷◌, [], Infallible, FoldSegment, AlongLeaves, Shape, cutdepth, GivesSome, FoldStep, FoldInitSegment, TryAlongCut, OnlyOk, driven, fold_driven}
 use Rattle.parallel_bridge.proofs.list.fold_init.fold_init_parallel.Goals as goal
 
 pub returns-clause-along : goal.returns-clause-along

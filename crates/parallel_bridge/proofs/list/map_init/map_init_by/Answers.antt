@@ -1,5 +1,5 @@
 -- One state serially, one for each segment in parallel; either way the answers fall into segments.
-use Rattle.parallel_bridge.proofs.{rules, MutBor, cutdepth, MapStep, mapped_init_serially, mapped_init_along}
+use Rattle.parallel_bridge.proofs.{rules, cutdepth, MapStep, mapped_init_serially, mapped_init_along}
 use Rattle.parallel_bridge.proofs.list.map_init.map_init_by.Goals as goal
 
 pub returns-in_ok-answers-in-Serial-clause-maps : goal.returns-in_ok-answers-in-Serial-clause-maps

@@ -1,5 +1,5 @@
 -- The answers from the fresh state.
-use Rattle.parallel_bridge.proofs.{List, ◌++◌, [], refl, subst, append-nil, IfOk-weaker, MutBor, Drains, GivesSome, MapStep, StatesFrom, StateSegment}
+use Rattle.parallel_bridge.proofs.{List, ◌++◌, [], refl, subst, append-nil, IfOk-weaker, Drains, GivesSome, MapStep, StatesFrom, StateSegment}
 use Rattle.parallel_bridge.proofs.list.map_init.map_init_iter.Goals as goal
 
 pub returns-clause-one_state : goal.returns-clause-one_state

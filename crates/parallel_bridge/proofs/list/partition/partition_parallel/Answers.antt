@@ -1,5 +1,5 @@
 -- The values and the keys of the segments, joined, are those of the list.
-use Rattle.parallel_bridge.proofs.{Option, ◌≡◌, ◌++◌, Ok, Infallible, PartitionOf, keys_in, values_in, Shape, cutdepth, GivesSome, TryAlongCut, OnlyOk, driven, parted, partition_shape}
+use Rattle.parallel_bridge.proofs.{◌≡◌, ◌++◌, Ok, Infallible, PartitionOf, keys_in, values_in, Shape, cutdepth, GivesSome, TryAlongCut, OnlyOk, driven, parted, partition_shape}
 use Rattle.std.specs.declared.alloc.Global.{Global}
 use Rattle.std.specs.declared.vec.Vec.{Vec}
 use Rattle.parallel_bridge.proofs.list.partition.partition_parallel.Goals as goal

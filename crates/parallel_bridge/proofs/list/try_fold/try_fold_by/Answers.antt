@@ -1,5 +1,5 @@
 -- One segment serially, the list's shape in parallel; either way a reduction of neighbours.
-use Rattle.parallel_bridge.proofs.{Shape, cutdepth, GivesSome, TryAlong, TryFoldSegment, TryFoldedAs, rules, Result, Ok, Err, subst, unless_weaker, error_serially, unrefused_else, value_serially}
+use Rattle.parallel_bridge.proofs.{Shape, cutdepth, GivesSome, TryAlong, TryFoldSegment, TryFoldedAs, rules, Ok, Err, subst, unless_weaker, error_serially, unrefused_else, value_serially}
 use Rattle.parallel_bridge.proofs.{try_folded_serially, try_folded_along}
 use Rattle.parallel_bridge.proofs.list.try_fold.try_fold_by.Goals as goal
 

@@ -1,7 +1,7 @@
 -- The outcome of each segment is reduced behind an identity, unless it is an error, and no stop
 -- stands.
-use Rattle.parallel_bridge.proofs.{UnlessRefused, Shape, GivesSome, OnlyOk, TryAlong, TryFoldSegment, TryReducedSegment, stands_for, KeptEnds, Result, subst, sym, ap, ◌∙◌, arith, fresh_watch}
-use Rattle.parallel_bridge.proofs.{never_stopped, driven_lost, driven_unhalted, ok_meets}
+use Rattle.parallel_bridge.proofs.{UnlessRefused, Shape, GivesSome, OnlyOk, TryAlong, TryFoldSegment, TryReducedSegment, stands_for, KeptEnds, subst, sym, ap, ◌∙◌, arith, fresh_watch, never_stopped}
+use Rattle.parallel_bridge.proofs.{driven_lost, driven_unhalted, ok_meets}
 use Rattle.parallel_bridge.proofs.list.try_fold.try_fold_parallel.Goals as goal
 
 pub fold_gated-done-requires-clause-watch : goal.fold_gated-done-requires-clause-watch

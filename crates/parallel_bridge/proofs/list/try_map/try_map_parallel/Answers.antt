@@ -1,6 +1,6 @@
 -- What was written into the segments' rooms, side by side, or the leftmost error, which is no stop.
-use Rattle.parallel_bridge.proofs.{Shape, Driven, GivesSome, EachOk, FirstErr, TryAlongCut, TryMapOf, Result, Ok, ◌≡◌, ◌++◌, List, subst, sym, ap, ◌∙◌, arith, Answered, OneAfterAnother, written}
-use Rattle.parallel_bridge.proofs.{stands_for, fresh_watch, never_stopped, tried_error, tried_shape, driven_unhalted, ok_meets, written_not_stopped, written_unhalted}
+use Rattle.parallel_bridge.proofs.{Shape, Driven, GivesSome, EachOk, FirstErr, TryAlongCut, TryMapOf, Ok, ◌≡◌, ◌++◌, List, subst, sym, ap, ◌∙◌, arith, Answered, OneAfterAnother, written, stands_for}
+use Rattle.parallel_bridge.proofs.{fresh_watch, never_stopped, tried_error, tried_shape, driven_unhalted, ok_meets, written_not_stopped, written_unhalted}
 use Rattle.parallel_bridge.proofs.list.try_map.try_map_parallel.Goals as goal
 
 pub fill_gated-values-requires-clause-watch : goal.fill_gated-values-requires-clause-watch

@@ -1,5 +1,5 @@
 -- The item fails.
-use Rattle.parallel_bridge.proofs.{rules, Result, first_fails}
+use Rattle.parallel_bridge.proofs.{rules, first_fails}
 use Rattle.parallel_bridge.proofs.list.try_map.try_map_step.Goals as goal
 
 pub returns-in-Err-clause-gives : goal.returns-in-Err-clause-gives

@@ -1,6 +1,6 @@
 -- The outcomes of the halves go along the shape, of two errors the left one stands, and their seats
 -- are joined.
-use Rattle.parallel_bridge.proofs.{stands_for, IsKeptOf, KeptEnds, halting, ◌/◌, Result, arith, refl, rules, subst, OnlyOk, TryFoldSegment, TryReducedSegment, driven_node, kept_joined, kept_of}
+use Rattle.parallel_bridge.proofs.{stands_for, IsKeptOf, KeptEnds, halting, ◌/◌, arith, refl, rules, subst, OnlyOk, TryFoldSegment, TryReducedSegment, driven_node, kept_joined, kept_of}
 use Rattle.parallel_bridge.proofs.bridge.gated.GatedFoldingTask.split.Goals as goal
 
 pub returns-clause-meet : goal.returns-clause-meet

@@ -1,5 +1,5 @@
 -- What comes behind the items comes behind all of it.
-use Rattle.parallel_bridge.proofs.{Result, comes_onward, only_weaker}
+use Rattle.parallel_bridge.proofs.{comes_onward, only_weaker}
 use Rattle.parallel_bridge.proofs.consumer.gated_fold.GatedFolderFolderTuple2ResultHaltGateWatchInfallible.consume_iter.Goals as goal
 
 pub returns-clause-gives : goal.returns-clause-gives

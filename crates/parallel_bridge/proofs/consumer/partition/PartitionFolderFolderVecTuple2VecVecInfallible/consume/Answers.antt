@@ -1,5 +1,5 @@
 -- What comes behind the item comes behind all of it.
-use Rattle.parallel_bridge.proofs.{Ok, Err, Option, ◌∷◌, [], refl, keys_in, keys_of, values_in, values_of, part_append}
+use Rattle.parallel_bridge.proofs.{Ok, Err, ◌∷◌, [], refl, keys_in, keys_of, values_in, values_of, part_append}
 use Rattle.parallel_bridge.proofs.consumer.partition.PartitionFolderFolderVecTuple2VecVecInfallible.consume.Goals as goal
 
 pub returns-clause-gives : goal.returns-clause-gives

@@ -1,5 +1,5 @@
 -- What comes behind the items comes behind all of it.
-use Rattle.parallel_bridge.proofs.{Option, part_only}
+use Rattle.parallel_bridge.proofs.{part_only}
 use Rattle.parallel_bridge.proofs.consumer.partition.PartitionFolderFolderVecTuple2VecVecInfallible.consume_iter.Goals as goal
 
 pub returns-clause-gives : goal.returns-clause-gives

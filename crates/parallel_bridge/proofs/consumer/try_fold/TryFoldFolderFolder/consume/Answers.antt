@@ -1,5 +1,5 @@
 -- A chain over the items and one over more are one chain.
-use Rattle.parallel_bridge.proofs.{Result, ◌∷◌, [], try_onward}
+use Rattle.parallel_bridge.proofs.{◌∷◌, [], try_onward}
 use Rattle.parallel_bridge.proofs.consumer.try_fold.TryFoldFolderFolder.consume.Goals as goal
 
 pub returns-clause-gives : goal.returns-clause-gives

@@ -1,5 +1,5 @@
 -- What comes behind the items comes behind all of it.
-use Rattle.parallel_bridge.proofs.{Result, try_onward}
+use Rattle.parallel_bridge.proofs.{try_onward}
 use Rattle.parallel_bridge.proofs.consumer.try_fold.TryFoldFolderFolder.consume_iter.Goals as goal
 
 pub returns-clause-gives : goal.returns-clause-gives

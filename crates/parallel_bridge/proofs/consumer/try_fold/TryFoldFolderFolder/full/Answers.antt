@@ -1,5 +1,5 @@
 -- An error stands, whatever comes.
-use Rattle.parallel_bridge.proofs.{rules, Result, try_stands}
+use Rattle.parallel_bridge.proofs.{rules, try_stands}
 use Rattle.parallel_bridge.proofs.consumer.try_fold.TryFoldFolderFolder.full.Goals as goal
 
 pub returns : goal.returns

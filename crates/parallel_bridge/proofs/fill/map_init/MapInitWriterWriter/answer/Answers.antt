@@ -1,5 +1,5 @@
 -- One step more of the states.
-use Rattle.parallel_bridge.proofs.{rules, ◌++◌, ◌∷◌, [], sym, subst, append_assoc, MutBor, MapStep, StateSegment}
+use Rattle.parallel_bridge.proofs.{rules, ◌++◌, ◌∷◌, [], sym, subst, append_assoc, MapStep, StateSegment}
 use Rattle.parallel_bridge.proofs.fill.map_init.MapInitWriterWriter.answer.Goals as goal
 
 pub returns-clause-next : goal.returns-clause-next

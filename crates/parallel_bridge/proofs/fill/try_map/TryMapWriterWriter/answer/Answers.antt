@@ -1,5 +1,5 @@
 -- One value more.
-use Rattle.parallel_bridge.proofs.{Result, one_value}
+use Rattle.parallel_bridge.proofs.{one_value}
 use Rattle.parallel_bridge.proofs.fill.try_map.TryMapWriterWriter.answer.Goals as goal
 
 pub returns-clause-next : goal.returns-clause-next

@@ -1,5 +1,5 @@
 -- Two rows side by side as one.
-use Rattle.parallel_bridge.proofs.{◌≡◌, ◌+◌, ◌++◌, length, sym, ap, subst, ◌∙◌, ◌⊎◌, inl, inr, FitsInBlock, param, shifted, values, Adjoins, IsRow, part, row_length, two_rows}
+use Rattle.parallel_bridge.proofs.{◌≡◌, ◌+◌, ◌++◌, length, sym, ap, subst, ◌∙◌, ◌⊎◌, inl, inr, FitsInBlock, param, shifted, values, Adjoins, IsRow, part, row_length, two_rows, moved}
 use Rattle.parallel_bridge.proofs.window.part.Window.join.Goals as goal
 use Rattle.parallel_bridge.proofs.window.part.Window.join.Given.{Over}
 use Rattle.parallel_bridge.proofs.window.part.Window.join.Goals.{After-join}
@@ -49,13 +49,8 @@ as_one g c =
 
 pub invariant_of-result : goal.invariant_of-result
 invariant_of-result g c =
-    let w = c.self.inside in
-    let v = c.into_parts-more_room.result in
-    let two = as_one g (goal.at.invariant_of-result g c).After-join in
-    let e = c.join.ensures in
-    subst (λ p. IsRow p w.base.ptr c.join.result.slots (w.room + v.1) w.before (w.len + v.3))
-    (sym e.0) (subst (λ cs. IsRow w.cells.at w.base.ptr cs (w.room + v.1) w.before
-    (w.len + v.3)) (sym e.1) two.0)
+    moved c.self.inside.before c.join.ensures.0 c.join.ensures.1
+    (as_one g (goal.at.invariant_of-result g c).After-join).0
 
 pub returns : goal.returns
 returns g c =

@@ -1,5 +1,5 @@
 -- The first places, and the rest.
-use Rattle.parallel_bridge.proofs.{◌≡◌, ◌-◌, ◌≤◌, take, drop, sym, ap, subst, ◌∙◌, arith, ◌⊎◌, inl, inr, param, shifted, values, IsRow, part, in_row, front_row, back_rows}
+use Rattle.parallel_bridge.proofs.{◌≡◌, ◌-◌, ◌≤◌, take, drop, sym, ap, subst, ◌∙◌, arith, ◌⊎◌, inl, inr, param, shifted, values, IsRow, part, in_row, front_row, back_rows, moved}
 use Rattle.parallel_bridge.proofs.window.part.Window.split.Goals as goal
 use Rattle.parallel_bridge.proofs.window.part.Window.split.Given.{Over}
 use Rattle.parallel_bridge.proofs.window.part.Window.split.Goals.{After-split-front, then-len-index, else-len-index}
@@ -26,22 +26,17 @@ pub split-front-requires : goal.split-front-requires
 split-front-requires g c =
     let inv = c.self.invariant in
     let w = c.self.inside in
-    let none = ap (λ v. v.before) c.self.view_is ∙ c.requires.0 in
-    let le = subst (λ v. c.args.index ≤ v.room) (sym c.self.view_is) c.requires.1 in (
-      sym inv.0,
-      in_row w.cells.at w.base.ptr w.cells.slots w.room w.before w.len inv c.args.index
-          none le,
-    )
+    (sym inv.0, in_row w.cells.at w.base.ptr w.cells.slots w.room w.before w.len inv c.args.index
+    (ap (λ v. v.before) c.self.view_is ∙ c.requires.0)
+    (subst (λ v. c.args.index ≤ v.room) (sym c.self.view_is) c.requires.1))
 
 pub invariant_of-left : goal.invariant_of-left
 invariant_of-left g c =
     let s = (goal.at.invariant_of-left g c).After-split-front in let inv = c.self.invariant in
     let w = c.self.inside in let m = c.if-len-index.filled in let i = c.args.index in
     let e = c.split-front.ensures in
-    subst (λ p. IsRow p w.base.ptr c.split-front.result.0.slots i 0 m) (sym e.0)
-    (subst (λ cs. IsRow w.cells.at w.base.ptr cs i 0 m) (sym e.1)
-    (front_row w.cells.at w.base.ptr w.cells.slots w.room w.before w.len inv i
-    (nothing_before g s) (within g s) m (in_front g s)).0)
+    moved 0 e.0 e.1 (front_row w.cells.at w.base.ptr w.cells.slots w.room w.before w.len inv i
+    (nothing_before g s) (within g s) m (in_front g s)).0
 
 pub invariant_of-right : goal.invariant_of-right
 invariant_of-right g c =
