@@ -135,7 +135,6 @@ module _ {X : Type 0} (at start : Ptr) (slots : List (Option X)) (room b n : ℕ
       × IsRow at start (set slots (b + n) (Some x)) room b (n + 1)
       × (values (set slots (b + n) (Some x)) ≡ items ++ x ∷ [])
   put_row x is lt =
-      let long : n ≡ length items = row.1 in
       let fits : b + length items < room =
       subst (λ (u : View X). u.before + length u.items < u.room) (sym is) lt in
       let laid_long = length_laid b items left in
@@ -154,7 +153,6 @@ module _ {X : Type 0} (at start : Ptr) (slots : List (Option X)) (room b n : ℕ
       × ((get_or slots b None ≡ Some x) × IsRow at start (set slots b None) room (b + 1) (n - 1)
       × (items ≡ x ∷ values (set slots b None)))
   take_row is has =
-      let long : n ≡ length items = row.1 in
       let first = first_of items (subst (λ (u : View X). 0 < length u.items) (sym is) has) in
       let x = first.0 in
       let ys = first.1.0 in
@@ -173,7 +171,6 @@ module _ {X : Type 0} (at start : Ptr) (slots : List (Option X)) (room b n : ℕ
       × IsRow at start (set slots (b + n - 1) None) room b (n - 1)
       × (items ≡ values (set slots (b + n - 1) None) ++ x ∷ []))
   back_row is has =
-      let long : n ≡ length items = row.1 in
       let last = last_of items (subst (λ (u : View X). 0 < length u.items) (sym is) has) in
       let x = last.0 in
       let ys = last.1.0 in
@@ -193,7 +190,6 @@ module _ {X : Type 0} (at start : Ptr) (slots : List (Option X)) (room b n : ℕ
 
     pub in_row : i ≤ length slots
     in_row =
-        let long : n ≡ length items = row.1 in
         let laid_long = length_laid 0 items left in
         let same : length slots ≡ length (laid 0 items left) = ap length from_items in
         omega arith
@@ -221,8 +217,6 @@ module _ {X : Type 0} (at start : Ptr) (slots : List (Option X)) (room b n : ℕ
 
   pub row_length : length slots ≡ room
   row_length =
-      let long : n ≡ length items = row.1 in
-      let within : b + n ≤ room = row.2 in
       let laid_long = length_laid b items left in
       let same : length slots ≡ length (laid b items left) = ap length row.3 in
       omega arith
@@ -246,10 +240,6 @@ module _ {X : Type 0} (at start : Ptr) (slots : List (Option X)) (room b n : ℕ
       (omega arith) (omega arith)
   two_rows {slots' = slots'} {room' = room'} {b' = b'} {n' = n'} other (inr none) =
       let xs = values slots' in
-      let long : n ≡ length items = row.1 in
-      let more : n' ≡ length xs = other.1 in
-      let within = other.2 in
-      let inside = row.2 in
       let nothing : xs ≡ [] = no_items xs (omega arith) in
       let rest = room' - (b' + n') in
       let sum = length-append items xs in
@@ -265,8 +255,6 @@ module _ {X : Type 0} (at start : Ptr) (slots : List (Option X)) (room b n : ℕ
   -- a row without items is all room
   pub rewound_row : n ≡ 0 → IsRow at start slots room 0 0 × (items ≡ [])
   rewound_row none =
-      let long : n ≡ length items = row.1 in
-      let within : b + n ≤ room = row.2 in
       let no : items ≡ [] = no_items items (omega arith) in
       let all : b + left ≡ room = omega arith in
       let now : slots ≡ laid 0 [] room = row.3 ∙ ap (λ xs. laid b xs left) no

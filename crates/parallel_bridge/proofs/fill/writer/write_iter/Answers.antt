@@ -15,7 +15,6 @@ loop-room-preserved g c =
     let x = c.in-Some.item in let y = c.in-Ok.answer in let items = c.loop-room.room.items in
     let longer : length c.put.new.self.items ≡ length (items ++ y ∷ []) =
     ap (λ v. length v.items) c.put.ensures in
-    let count : length items ≡ length came.0 = came.3 in
     let one = length-append items (y ∷ []) in let other = length-append came.0 (x ∷ []) in
     let on = c.in-Some.ensures.goes.on so_far.ends in
     record {
@@ -55,11 +54,6 @@ returns-clause-full g c =
     let all = c.requires.enough (came.0 ++ more.0)
     (all_of g.I.Iterator.next_gives came.0 more.0 c.args.iter c.loop-room.iter came.1 more.1) in
     let long = length-append came.0 more.0 in
-    let over = c.loop-room-test.false in
-    let len = c.len.ensures in
-    let room = c.room.ensures in
-    let count = came.3 in
-    let places = so_far.place.1 in
     (so_far.first, omega arith)
 
 pub returns-clause-gives : goal.returns-clause-gives
@@ -69,11 +63,6 @@ returns-clause-gives g c =
     let more = c.pass_over-2.ensures in
     let drains =
     all_of g.I.Iterator.next_gives came.0 more.0 c.args.iter c.loop-room.iter came.1 more.1 in
-    let over = c.loop-room-test.false in
-    let len = c.len.ensures in
-    let room = c.room.ensures in
-    let count = came.3 in
-    let places = so_far.place.1 in
     let same : came.0 ++ more.0 ≡ came.0 = ap (λ l. came.0 ++ l)
     (none_left came.0 more.0 c.args.room.now.room (c.requires.enough (came.0 ++ more.0) drains)
     (omega arith)) ∙ append-nil came.0 in (
