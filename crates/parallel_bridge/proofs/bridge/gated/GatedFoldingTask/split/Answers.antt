@@ -39,9 +39,9 @@ returns-clause-node g c depth a b all above left right together =
           (λ xs out h. h) (λ xs out h. h) (λ a b out h. h) (λ a b out h. h) (λ a b out h. h)
           a.0 b.0 all.0 left.0 right.0 together.0,
       together.1 self.parts (parts.rests a.1 b.1 left.1 right.1),
-      kept_joined node (λ p q none. none) self.watch.gate.now self.watch.start half
-          (S.count self.parts) (stands_for self.watch.seat) (omega (arith, counted))
-          (omega (arith, c.requires.long, counted))
+      kept_joined node (λ p q none. none) self.watch.start half (S.count self.parts)
+          (stands_for self.watch.seat) (omega (arith, counted))
+          (omega (arith, c.requires.long, counted)) self.watch.gate.now
           a.2 b.2 all.2 a.0 b.0 all.0
           (watches.0.start, S.count c.in-Ok.halves.0, stands_for watches.0.seat)
           (watches.1.start, S.count c.in-Ok.halves.1, stands_for watches.1.seat)
