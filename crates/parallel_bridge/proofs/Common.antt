@@ -20,7 +20,7 @@ pub use Rattle.parallel_bridge.specs.States.{AnyState, FoldInitSegment, FoldStep
 pub use Rattle.parallel_bridge.specs.Tries.{EachOk, FirstErr, OnlyOk, TryAlong, TryAlongCut, TryAlongLeaves, TryBracketing, TryBrackets, TryChain, TryFoldSegment, TryFoldsAs, TryMapOf}
 pub use Rattle.parallel_bridge.specs.Tries.{TryReducedSegment, of_left_error, of_right_error, of_try_segment, of_values, unless_full}
 pub use Rattle.parallel_bridge.specs.Ways.{FoldedAs, FoldedInitAs, MappedInitAs, TryFoldedAs}
-pub use Rattle.parallel_bridge.specs.Windows.{Adjoins, IsRow, View, part}
+pub use Rattle.parallel_bridge.specs.Windows.{Adjoins, Follows, IsRow, View, part}
 pub use Rattle.parallel_bridge.specs.Zips.{PairsOf, both, zipped_steps}
 pub use Rattle.parallel_bridge.specs.declared.gate.seat.GateSeat.{GateSeat}
 pub use Rattle.parallel_bridge.specs.declared.gate.seat.GateView.{GateView}

@@ -1,6 +1,7 @@
 -- The outcomes of two halves of a list, put together, go along the shape of the list.
 use Rattle.parallel_bridge.proofs.Common.{◌≡◌, ℕ, zero, ◌-◌, ◌/◌, ◌<◌, ◌≤◌, List, ◌++◌, length, take, drop, Result, Ok, Err, refl, sym, subst, arith, inl, inr, ◌⊎◌, take-append_seam, drop-append_seam}
-use Rattle.parallel_bridge.proofs.Common.{Trouble, Closure, OfFault, PutTogether, UnlessRefused, Shape, halves, Driven, GivesSome, TryAlongCut}
+use Rattle.parallel_bridge.proofs.Common.{Trouble, Closure, OfFault, PutTogether, UnlessRefused, Shape, halves, Driven, GivesSome, TryAlongCut, ◌+◌, ◌∙◌, SamePlaces, Follows, View, part, shifted}
+use denote.RattleType.{RattleType}
 use Rattle.parallel_bridge.proofs.Outcomes.{unless_weaker}
 use Rattle.parallel_bridge.proofs.TryShapes.{try_along_leaf, try_along_wider, try_along_node}
 
@@ -79,3 +80,15 @@ driven_leaf gives all leaf node depth result short h =
     unless_weaker result (λ out. GivesSome gives all (λ xs. leaf xs out))
     (λ out. GivesSome gives all (λ xs. TryAlongCut leaf node (Shape depth xs) out))
     (λ out k. (k.0, k.1, try_along_leaf leaf node depth k.0 out (short k.0 k.1) k.2)) h
+
+-- the halves of a room that stay where they are lie side by side, and are all of it
+pub halved_room : {X : Type 0} (R : RattleType) (room l r : View X) (half : ℕ) (xs ys : List X)
+    → l ≡ part room.start half 0 xs → r ≡ part (shifted R room.start half) (room.room - half) 0 ys
+    → half ≤ room.room → (a b : View X) → SamePlaces l a → SamePlaces r b
+    → Follows R a b × (a.start ≡ room.start) × (a.room + b.room ≡ room.room)
+halved_room R room l r half xs ys is_l is_r within a b left right =
+    let start : a.start ≡ room.start = left.0 ∙ (λ i. (is_l i).start) in
+    let front : a.room ≡ half = left.1 ∙ (λ i. (is_l i).room) in
+    let back : b.room ≡ room.room - half = right.1 ∙ (λ i. (is_r i).room) in
+    let next : b.start ≡ shifted R room.start half = right.0 ∙ (λ i. (is_r i).start) in
+    (next ∙ sym (λ i. shifted R (start i) (front i)), start, omega arith)

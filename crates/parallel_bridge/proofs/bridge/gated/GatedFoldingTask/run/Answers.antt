@@ -5,20 +5,9 @@ use Rattle.parallel_bridge.proofs.bridge.gated.GatedFoldingTask.run.Given.{Over}
 use Rattle.parallel_bridge.proofs.bridge.gated.GatedFoldingTask.run.Goals.{In-Ok}
 use Rattle.parallel_bridge.proofs.bridge.gated.GatedFoldingTask.run.Goals as goal
 
--- what the closures may answer
-abbrev identity : (g : Over) → In-Ok g → g.row.R.Denot → Type 0
-identity g c e = g.ID.Fn.post c.args.self.identity.now tt e
-
-abbrev step : (g : Over) → In-Ok g → g.row.R.Denot → g.row.X.Denot
-    → Result g.row.R.Denot g.row.E.Denot → Type 0
-step g c v x o = g.F.Fn.post c.args.self.fold_op.now (v, (x, tt)) o
-
-abbrev reduce : (g : Over) → In-Ok g → g.row.R.Denot → g.row.R.Denot → g.row.R.Denot → Type 0
-reduce g c p q r = g.G.Fn.post c.args.self.reduce_op.now (p, (q, tt)) r
-
 -- what the folder came to with a list of the part
 fed_all : (g : Over) (c : In-Ok g) → GivesSome g.S.Segment.gives c.args.self.parts
-    (λ xs. Comes (step g c) c.begin-folder.result.control c.begin-folder.result.watch xs
+    (λ xs. Comes (goal.F-post g c.args.self.fold_op.now) c.begin-folder.result.control c.begin-folder.result.watch xs
     c.in-Ok.folder.control c.in-Ok.folder.watch)
 fed_all g c =
     let first = c.begin-folder.result in
@@ -54,23 +43,24 @@ fed_all g c =
 
 pub returns-in-Ok-control : goal.returns-in-Ok-control
 returns-in-Ok-control g c depth short =
-    let i = (goal.at.returns-in-Ok-control g c).In-Ok in
     let self = c.args.self in
-    let leaf = halting (TryReducedSegment (identity g i) (TryFoldSegment (identity g i) (step g i))
-    (reduce g i)) in
-    let node = λ (p : g.row.R.Denot) (q : g.row.R.Denot). OnlyOk (reduce g i p q) in
+    let identity = goal.ID-post g self.identity.now in
+    let step = goal.F-post g self.fold_op.now in
+    let reduce = goal.G-post g self.reduce_op.now in
+    let leaf = halting (TryReducedSegment identity (TryFoldSegment identity step) reduce) in
+    let node = λ (p : g.row.R.Denot) (q : g.row.R.Denot). OnlyOk (reduce p q) in
     let first = c.begin-folder.result in
     let begun = c.begin-folder.ensures in
     let last = c.in-Ok.folder in
-    let fed = fed_all g i in
+    let fed = fed_all g (goal.at.returns-in-Ok-control g c).In-Ok in
     let all = fed.2 in
     let told : TellsAs self.watch.start last.watch.seat.seat.me.0 last.control =
     subst (λ n. TellsAs n last.watch.seat.seat.me.0 last.control) begun.same.1 all.3 in
-    let onward = subst (HaltsOnward (step g i) first.control fed.0) c.in-Ok-control.is all.0 in (
+    let onward = subst (HaltsOnward step first.control fed.0) c.in-Ok-control.is all.0 in (
       driven_leaf g.S.Segment.gives self.parts leaf node depth (Ok c.reduce_op-value.result) short (
         fed.0,
         fed.1,
-        folded_value (identity g i) (step g i) (reduce g i) first.control fed.0
+        folded_value identity step reduce first.control fed.0
             c.identity.result c.in-Ok-control.value c.reduce_op-value.result begun.begins onward
             c.identity.ensures c.reduce_op-value.ensures,
       ),
@@ -86,24 +76,25 @@ returns-in-Ok-control g c depth short =
 
 pub returns-in-Err-control : goal.returns-in-Err-control
 returns-in-Err-control g c depth short =
-    let i = (goal.at.returns-in-Err-control g c).In-Ok in
     let self = c.args.self in
-    let leaf = halting (TryReducedSegment (identity g i) (TryFoldSegment (identity g i) (step g i))
-    (reduce g i)) in
-    let node = λ (p : g.row.R.Denot) (q : g.row.R.Denot). OnlyOk (reduce g i p q) in
+    let identity = goal.ID-post g self.identity.now in
+    let step = goal.F-post g self.fold_op.now in
+    let reduce = goal.G-post g self.reduce_op.now in
+    let leaf = halting (TryReducedSegment identity (TryFoldSegment identity step) reduce) in
+    let node = λ (p : g.row.R.Denot) (q : g.row.R.Denot). OnlyOk (reduce p q) in
     let first = c.begin-folder.result in
     let begun = c.begin-folder.ensures in
     let last = c.in-Ok.folder in
-    let fed = fed_all g i in
+    let fed = fed_all g (goal.at.returns-in-Err-control g c).In-Ok in
     let all = fed.2 in
     let told : TellsAs self.watch.start last.watch.seat.seat.me.0 last.control =
     subst (λ n. TellsAs n last.watch.seat.seat.me.0 last.control) begun.same.1 all.3 in
-    let onward = subst (HaltsOnward (step g i) first.control fed.0) c.in-Err-control.is all.0 in (
+    let onward = subst (HaltsOnward step first.control fed.0) c.in-Err-control.is all.0 in (
       driven_leaf g.S.Segment.gives self.parts leaf node depth
           (Err (Closure c.in-Err-control.halt)) short (
             fed.0,
             fed.1,
-            folded_halt (identity g i) (step g i) (reduce g i) first.control fed.0
+            folded_halt identity step reduce first.control fed.0
                 c.in-Err-control.halt begun.begins onward,
           ),
       c.feed-fed.ensures.rest,
