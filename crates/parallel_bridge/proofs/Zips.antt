@@ -1,6 +1,6 @@
 -- Two lists pair by pair, and a list with its indices: a cut of them, and what may come of a part.
-use Rattle.parallel_bridge.proofs.Common.{◌≡◌, ℕ, ◌+◌, ◌-◌, min, List, [], ◌∷◌, ◌++◌, Option, length, map, refl, sym, ap, subst, ◌∙◌, arith, Drains, HoldsAlong, Yields, All, AllByRecursion}
-use Rattle.parallel_bridge.proofs.Common.{enumerate_from, range_with_len, zip, All-from_recursion, recursion_from_All, PairsOf, zipped_steps}
+use Rattle.parallel_bridge.proofs.Common.{◌≡◌, ℕ, ◌+◌, min, List, [], ◌∷◌, ◌++◌, Option, length, map, refl, sym, ap, subst, ◌∙◌, arith, Drains, HoldsAlong, Yields, All, AllByRecursion, enumerate_from}
+use Rattle.parallel_bridge.proofs.Common.{range_with_len, zip, All-from_recursion, recursion_from_All, PairsOf, zipped_steps}
 use Rattle.std.proofs.lemmas.Slice.Zip.{length-zip}
 use Rattle.parallel_bridge.specs.declared.zipped.ZippedIter.{ZippedIter}
 

@@ -1,5 +1,5 @@
 -- One pair less is left, and the folder has taken it.
-use Rattle.parallel_bridge.proofs.{arith, ◌++◌, ◌∙◌, sym, subst, pairs_of, no_pair, others_of}
+use Rattle.parallel_bridge.proofs.{rules, arith, ◌++◌, sym, subst, pairs_of, no_pair, others_of}
 use Rattle.parallel_bridge.proofs.pairs.feed_pairs.Goals as goal
 
 pub loop-alloc-preserved : goal.loop-alloc-preserved
@@ -17,11 +17,7 @@ loop-alloc-preserved g c =
       gives = λ more out h. so_far.gives more out
           (subst (λ l. g.F.Folder.gives c.loop-alloc.folder (l ++ more) out) (sym front)
           (fed.gives (rest ++ more) out h));
-      place = (
-        c.take_pair-pair.ensures.place.0 ∙ so_far.place.0,
-        c.take_pair-pair.ensures.place.1
-            ∙ so_far.place.1,
-      );
+      place = search rules;
     }
 
 pub returns-clause-gives : goal.returns-clause-gives

@@ -1,5 +1,5 @@
 -- One item less is left, and the folder has taken it.
-use Rattle.parallel_bridge.proofs.{common_steps, arith, ◌++◌, ◌∙◌, sym, subst, others_of}
+use Rattle.parallel_bridge.proofs.{rules, common_steps, arith, ◌++◌, sym, subst, others_of}
 use Rattle.parallel_bridge.proofs.segment.feed_window.Goals as goal
 
 pub loop-alloc-preserved : goal.loop-alloc-preserved
@@ -16,11 +16,7 @@ loop-alloc-preserved g c =
       gives = λ more out h. so_far.gives more out
           (subst (λ l. g.F.Folder.gives c.loop-alloc.folder (l ++ more) out) (sym front)
           (fed.gives (rest ++ more) out h));
-      place = (
-        c.take-item.ensures.place.0 ∙ so_far.place.0,
-        c.take-item.ensures.place.1
-            ∙ so_far.place.1,
-      );
+      place = search rules;
     }
 
 pub returns-clause-gives : goal.returns-clause-gives

@@ -1,6 +1,6 @@
 -- The halves' places follow one another, their outcomes go along the shape, and of two errors the
 -- left one stands.
-use Rattle.parallel_bridge.proofs.{◌≡◌, ◌-◌, ◌/◌, arith, refl, rules, sym, subst, ◌∙◌, FitsInBlock, Answered, OneAfterAnother, written, driven_node, halved_room}
+use Rattle.parallel_bridge.proofs.{◌≡◌, ◌/◌, arith, refl, rules, sym, subst, ◌∙◌, FitsInBlock, Answered, OneAfterAnother, written, driven_node, halved_room}
 use Rattle.parallel_bridge.proofs.fill.FillingTask.split.Goals as goal
 
 pub returns-clause-meet : goal.returns-clause-meet

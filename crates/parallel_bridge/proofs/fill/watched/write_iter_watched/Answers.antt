@@ -1,5 +1,5 @@
 -- One turn is one answer more, and there are as many items as places.
-use Rattle.parallel_bridge.proofs.{◌≡◌, ◌++◌, ◌∷◌, [], length, sym, ap, subst, ◌∙◌, arith, append-nil, length-append, all_of, all_with, none_left, next_has, yields_push}
+use Rattle.parallel_bridge.proofs.{rules, ◌≡◌, ◌++◌, ◌∷◌, [], length, sym, ap, subst, ◌∙◌, arith, append-nil, length-append, all_of, all_with, none_left, next_has, yields_push}
 use Rattle.parallel_bridge.proofs.fill.watched.write_iter_watched.Goals as goal
 
 pub answer-requires : goal.answer-requires
@@ -17,7 +17,6 @@ loop-room-preserved g c =
     ap (λ v. length v.items) c.put.ensures in
     let one = length-append items (y ∷ []) in let other = length-append came.0 (x ∷ []) in
     let on = c.in-Some.ensures.goes.on so_far.ends in
-    let looked = c.stopped.ensures in
     record {
       came = (
         came.0 ++ x ∷ [],
@@ -30,22 +29,10 @@ loop-room-preserved g c =
       );
       can = on.0;
       ends = on.1;
-      place = (
-        ap (λ v. v.start) c.put.ensures ∙ so_far.place.0,
-        ap (λ v. v.room) c.put.ensures
-            ∙ so_far.place.1,
-      );
-      first = ap (λ v. v.before) c.put.ensures ∙ so_far.first;
-      watch = (
-        looked.watching,
-        omega (arith, looked.same.2, so_far.watch.1),
-        looked.told ∙ so_far.watch.2,
-      );
-      same = (
-        looked.same.0 ∙ so_far.same.0,
-        looked.same.1 ∙ so_far.same.1,
-        looked.same.2 ∙ so_far.same.2,
-      );
+      place = search rules;
+      first = search rules;
+      watch = search rules;
+      same = search rules;
     }
 
 pub returns-in-Err-clause-gives : goal.returns-in-Err-clause-gives

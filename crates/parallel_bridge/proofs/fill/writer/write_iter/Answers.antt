@@ -1,5 +1,5 @@
 -- One turn is one answer more, and there are as many items as places.
-use Rattle.parallel_bridge.proofs.{◌≡◌, ◌++◌, ◌∷◌, [], length, sym, ap, subst, ◌∙◌, arith, append-nil, length-append, all_of, all_with, none_left, next_has, yields_push}
+use Rattle.parallel_bridge.proofs.{rules, ◌≡◌, ◌++◌, ◌∷◌, [], length, sym, ap, subst, ◌∙◌, arith, append-nil, length-append, all_of, all_with, none_left, next_has, yields_push}
 use Rattle.parallel_bridge.proofs.fill.writer.write_iter.Goals as goal
 
 pub answer-requires : goal.answer-requires
@@ -29,12 +29,8 @@ loop-room-preserved g c =
       );
       can = on.0;
       ends = on.1;
-      place = (
-        ap (λ v. v.start) c.put.ensures ∙ so_far.place.0,
-        ap (λ v. v.room) c.put.ensures
-            ∙ so_far.place.1,
-      );
-      first = ap (λ v. v.before) c.put.ensures ∙ so_far.first;
+      place = search rules;
+      first = search rules;
     }
 
 pub returns-in-Err-clause-gives : goal.returns-in-Err-clause-gives

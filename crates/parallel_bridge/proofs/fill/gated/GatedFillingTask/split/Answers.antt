@@ -1,7 +1,6 @@
 -- The halves' places follow one another, their outcomes go along the shape, of two errors the left
 -- one stands, and their seats are joined.
-use Rattle.parallel_bridge.proofs.{◌≡◌, ◌-◌, ◌/◌, arith, refl, rules, sym, subst, ◌∙◌, FitsInBlock, IsSeatOf, stands_for, halting, Answered, OneAfterAnother, written, driven_node, halved_room}
-use Rattle.parallel_bridge.proofs.{ends_joined}
+use Rattle.parallel_bridge.proofs.{◌≡◌, ◌/◌, arith, refl, rules, sym, subst, ◌∙◌, FitsInBlock, IsSeatOf, stands_for, halting, Answered, OneAfterAnother, written, driven_node, halved_room, ends_joined}
 use Rattle.parallel_bridge.proofs.fill.gated.GatedFillingTask.split.Goals as goal
 
 pub returns-clause-meet : goal.returns-clause-meet

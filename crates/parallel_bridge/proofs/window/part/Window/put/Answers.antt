@@ -1,5 +1,5 @@
 -- The items with one more, in the place behind them.
-use Rattle.parallel_bridge.proofs.{values, part, ◌+◌, ◌++◌, ◌∷◌, [], sym, ap, ◌∙◌, put_row, moved}
+use Rattle.parallel_bridge.proofs.{values, part, ◌++◌, ◌∷◌, [], sym, ap, ◌∙◌, put_row, moved}
 use Rattle.parallel_bridge.proofs.window.part.Window.put.Goals as goal
 
 pub write-requires : goal.write-requires

@@ -1,5 +1,5 @@
 -- The items without the first.
-use Rattle.parallel_bridge.proofs.{values, ◌+◌, ◌-◌, ◌∷◌, sym, ap, ◌∙◌, take_row, moved, some_same}
+use Rattle.parallel_bridge.proofs.{values, ◌+◌, ◌∷◌, sym, ap, ◌∙◌, take_row, moved, some_same}
 use Rattle.parallel_bridge.proofs.window.part.Window.take.Goals as goal
 
 pub read-item-requires : goal.read-item-requires

@@ -1,5 +1,5 @@
 -- The items without the last.
-use Rattle.parallel_bridge.proofs.{values, ◌-◌, ◌++◌, ◌∷◌, [], sym, ap, ◌∙◌, back_row, moved, some_same}
+use Rattle.parallel_bridge.proofs.{values, ◌++◌, ◌∷◌, [], sym, ap, ◌∙◌, back_row, moved, some_same}
 use Rattle.parallel_bridge.proofs.window.part.Window.take_back.Goals as goal
 
 pub read-item-requires : goal.read-item-requires
