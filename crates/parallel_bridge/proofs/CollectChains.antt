@@ -14,8 +14,7 @@ module _ {S A B F : Type 0} (steps : S → Option A → S → Type 0) (g : Mut F
     -- the items of a mapped chain are allowed for the items of its source, place by place
     pub mapped_items : (xs : List A) (s : Map S F) (ys : List B) → map_callee s ≡ f
         → AlwaysYields steps (λ x. x) (map_source s) xs
-        → DrainsIf (map_steps steps g) (Unit {0}) s ys
-        → AllZip allowed xs ys
+        → DrainsIf (map_steps steps g) (Unit {0}) s ys → AllZip allowed xs ys
     mapped_items [] s [] same road (t, gave, ends) = tt
     mapped_items [] s (y ∷ ys) same road (t, (j, (x, step, call), rest), ends) =
         absurd (road x (map_source j) step)
@@ -105,8 +104,7 @@ pub serves_along : {S A P : Type 0} {steps : S → Option A → S → Type 0} {R
     → CallableAtEachTurn steps R Q s p
 serves_along {steps = steps} {R = R} {Q = Q} {s = s} {p = p} K along same asks =
     serves_by R (λ _ q. q ≡ p) (λ xs q x v e r. same x v (subst (λ w. R w x v) e r)) steps Q s p
-    refl
-    (λ xs t q x u led step e. subst (λ w. Q w x) (sym e)
+    refl (λ xs t q x u led step e. subst (λ w. Q w x) (sym e)
     (asks x (all_last K xs x (along (xs ++ (x ∷ [])) u (yields_push steps s xs t x u led step)))))
 
 -- what an owned list gives, also where the iterator over it is named through an equation

@@ -56,8 +56,7 @@ module _ {X Y V : Type 0} (E : Type 0) (list : V → List Y) where
 -- the value of a segment is reduced behind an identity
 module _ {X R : Type 0} (E : Type 0) (identity : R → Type 0) (allowed : List X → R → Type 0)
     (reduce : R → R → R → Type 0) where
-  pub fold_driven : (cut : Cut X) (r : R)
-      → TryAlongCut {E = E} (λ l out. (b : R) × allowed l b
+  pub fold_driven : (cut : Cut X) (r : R) → TryAlongCut {E = E} (λ l out. (b : R) × allowed l b
       × OnlyOk (λ v. FoldSegment identity reduce (b ∷ []) v) out)
       (λ a b out. OnlyOk (λ v. reduce a b v) out) cut (Ok r)
       → AlongLeaves identity allowed reduce cut r
@@ -85,8 +84,7 @@ module _ {X R E : Type 0} (identity : R → Type 0) (allowed : List X → Result
       × TryFoldSegment identity (ReducesTo reduce) (v ∷ []) o)
       (λ a b o. OnlyOk (λ c. reduce a b c) o) cut out
       → TryAlongLeaves identity allowed reduce cut out
-  try_fold_driven cut out h = try_along_wider
-      (λ l o. (v : Result R E) × allowed l v
+  try_fold_driven cut out h = try_along_wider (λ l o. (v : Result R E) × allowed l v
       × TryFoldSegment identity (ReducesTo reduce) (v ∷ []) o)
       (TryReducedSegment identity allowed reduce) (λ a b o. OnlyOk (λ c. reduce a b c) o)
       (λ a b. OnlyOk (reduce a b))
@@ -131,8 +129,7 @@ module _ {X K U V : Type 0} (E : Type 0) (values : V → List U) (keys : V → L
   partition_driven (halves p q) r (inl (a, b, h, i, n)) =
       subst (λ us. PartitionOf allowed (cut_items p ++ cut_items q) us (keys r)) (sym n.0)
       (subst (λ ks. PartitionOf allowed (cut_items p ++ cut_items q) (values a ++ values b) ks)
-      (sym n.1)
-      (PartitionOf-append allowed (cut_items p)
+      (sym n.1) (PartitionOf-append allowed (cut_items p)
       (cut_items q) (values a) (values b) (keys a) (keys b) (partition_driven p a h)
       (partition_driven q b i)))
   partition_driven (halves p q) r (inr (inl (e, same, h))) = absurd (cc same)

@@ -58,8 +58,7 @@ module _ {X Y E : Type 0} (allowed : X → Result Y E → Type 0) where
         bad,
         after,
         new ++ vs,
-        ap (λ l. xs ++ l) at'
-            ∙ sym (append_assoc xs front (bad ∷ after)),
+        ap (λ l. xs ++ l) at' ∙ sym (append_assoc xs front (bad ∷ after)),
         MapOf-append (λ x y. allowed x (Ok y)) xs front new vs each each',
         fails,
       )
@@ -171,8 +170,7 @@ values_in-push ps p = values_in-append ps (p ∷ [])
 -- and its keys
 pub keys_in-push : {K U : Type 0} (ps : List (Vec U Global × Vec K Global))
     (p : Vec U Global × Vec K Global) → keys_in (ps ++ p ∷ []) ≡ keys_in ps ++ p.1.items
-keys_in-push ps p = keys_in-append ps (p ∷ [])
-    ∙ ap (λ l. keys_in ps ++ l) (append-nil p.1.items)
+keys_in-push ps p = keys_in-append ps (p ∷ []) ∙ ap (λ l. keys_in ps ++ l) (append-nil p.1.items)
 
 -- the items of lists of lists one after another
 pub joined-append : {T : Type 0} (vs ws : List (Vec T Global))

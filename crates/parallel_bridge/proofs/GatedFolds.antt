@@ -59,8 +59,7 @@ module _ {X R E : Type 0} (identity : R → Type 0) (step : R → X → Result R
 -- what a segment's outcome and its watch are, where more was folded
 module _ {X R E : Type 0} (step : R → X → Result R E → Type 0) where
   -- what a folder may come to, with its watch
-  abbrev pub Comes : Result R (Halt E) → GateWatch → List X → Result R (Halt E) → GateWatch
-      → Type 0
+  abbrev pub Comes : Result R (Halt E) → GateWatch → List X → Result R (Halt E) → GateWatch → Type 0
   Comes control watch xs out end = HaltsOnward step control xs out × SameWatch watch end
       × IsWatching end × TellsAs watch.start (known end.seat) out
 

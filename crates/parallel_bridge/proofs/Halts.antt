@@ -50,8 +50,7 @@ module _ {R E : Type 0} (node : R → R → Result R (Halt E) → Type 0)
           (All-weaker (λ told. start + half ≤ told) (λ told. at ≤ told) (λ told h. omega arith)
           w.told beyond),
     )
-    left_stands (OfFault f) left beyond =
-        All-append (λ told. start < told) v.told w.told left
+    left_stands (OfFault f) left beyond = All-append (λ told. start < told) v.told w.told left
         (All-weaker (λ told. start + half ≤ told) (λ told. start < told) (λ told h. omega arith)
         w.told beyond)
 

@@ -58,17 +58,14 @@ module _ {P X R E : Type 0} (gives : P → List X → Type 0) (all front back : 
   driven_node (Err (OfFault f)) second result h k is =
       subst (Driven gives all leaf node depth) (sym is) h
   driven_node (Ok a) (Err (Closure e)) result (xs, gx, h) (ys, gy, k) is =
-      subst (Driven gives all leaf node depth) (sym is)
-      (both xs ys (Err e) gx gy (inr
+      subst (Driven gives all leaf node depth) (sym is) (both xs ys (Err e) gx gy (inr
       (inr (a, e, refl, wide_left xs (Ok a) h, wide_right ys (Err e) k))))
   driven_node (Ok a) (Err (OfFault f)) result h k is =
       subst (Driven gives all leaf node depth) (sym is) k
-  driven_node (Ok a) (Ok b) result (xs, gx, h) (ys, gy, k) is =
-      unless_weaker result (reduce a b)
+  driven_node (Ok a) (Ok b) result (xs, gx, h) (ys, gy, k) is = unless_weaker result (reduce a b)
       (λ out. GivesSome gives all (λ zs. TryAlongCut leaf node (Shape depth zs) out))
       (λ out n. both xs ys out gx gy
-      (inl (a, b, wide_left xs (Ok a) h, wide_right ys (Ok b) k, reduced a b out n)))
-      is
+      (inl (a, b, wide_left xs (Ok a) h, wide_right ys (Ok b) k, reduced a b out n))) is
 
 -- the outcome of a list that is not split
 pub driven_leaf : {P X R E : Type 0} (gives : P → List X → Type 0) (all : P)

@@ -41,8 +41,7 @@ module _ {S A : Type 0} (steps : S → Option A → S → Type 0) (s : S) where
   may_each before t [] u led rest = tt
   may_each before t (x ∷ xs) u led (j, step, rest) = (
     (before, t, j, led, step),
-    may_each (before ++ (x ∷ [])) j xs u
-        (yields_push steps s before t x j led step) rest,
+    may_each (before ++ (x ∷ [])) j xs u (yields_push steps s before t x j led step) rest,
   )
 
   -- each item that came may come

@@ -60,11 +60,9 @@ module _ {X R : Type 0} (identity : R → Type 0) (step : R → X → R → Type
       subst (λ v. IsTrue (good v)) (sym p_is) (fold_good xs in_left unit laws.good_unit) in
       let q_good : IsTrue (good q) =
       subst (λ v. IsTrue (good v)) (sym q_is) (fold_good ys in_right unit laws.good_unit) in
-      laws.reduces p q r p_good q_good reduced
-      ∙ ap (λ v. g p v) q_is
+      laws.reduces p q r p_good q_good reduced ∙ ap (λ v. g p v) q_is
       ∙ fold_out ys in_right p unit p_good laws.good_unit
-      ∙ ap (λ v. fold f v ys) (laws.neutral p p_good ∙ p_is)
-      ∙ sym (fold-append f unit xs ys)
+      ∙ ap (λ v. fold f v ys) (laws.neutral p p_good ∙ p_is) ∙ sym (fold-append f unit xs ys)
       ∙ ap (fold f unit) (sym split)
 
 module _ {X R : Type 0} (identity : R → Type 0) (step : R → X → R → Type 0)

@@ -20,8 +20,7 @@ module _ {T : Type 0} where
   -- the first two items are the first pair
   pub two_taken : (all mid rest : List T) (x y : T) → all ≡ x ∷ mid → mid ≡ y ∷ rest
       → pairs_of all ≡ (x, y) ∷ pairs_of rest
-  two_taken all mid rest x y first second =
-      ap pairs_of (first ∙ ap (λ l. x ∷ l) second)
+  two_taken all mid rest x y first second = ap pairs_of (first ∙ ap (λ l. x ∷ l) second)
 
   -- the pairs of two lists, of which the front one has an even number of items
   pub pairs_append : (xs ys : List T) (n : ℕ) → length xs ≡ 2 * n
@@ -49,8 +48,7 @@ module _ {T : Type 0} where
 
   -- the last item taken of an odd number of them
   pub odd_pop : (all front : List T) (out : Option T) → all ≡ front ++ option_to_list out
-      → IsSome out → length all % 2 ≡ 1
-      → (odd_of all ≡ out) × (pairs_of all ≡ pairs_of front)
+      → IsSome out → length all % 2 ≡ 1 → (odd_of all ≡ out) × (pairs_of all ≡ pairs_of front)
   odd_pop all front None at some odd = absurd (false≢true some)
   odd_pop all front (Some z) at some odd =
       let long = ap length at ∙ length-append front (z ∷ []) in

@@ -24,8 +24,7 @@ pub map_of_list : {A B E : Type 0} (all : List A) (allowed : A → B → Type 0)
     → IfOk result (λ ys. (xs : List A) × (xs ≡ all) × MapOf allowed xs ys.items)
     → ((x : A) (y : B) → Contains all x → allowed x y → y ≡ f x)
     → IfOk result (λ ys. ys.items ≡ map f all)
-map_of_list all allowed f result gave one =
-    IfOk-weaker result _ (λ ys. ys.items ≡ map f all)
+map_of_list all allowed f result gave one = IfOk-weaker result _ (λ ys. ys.items ≡ map f all)
     (λ ys h. map_is_function allowed all ys.items
     (subst (λ xs. MapOf allowed xs ys.items) h.1 h.2) f one) gave
 
@@ -44,8 +43,7 @@ pub map_of_slice : {A B E : Type 0} (all : List A) (allowed : Bor A → B → Ty
     → IfOk result (λ ys. (xs : List (Bor A)) × (map (λ (x : Bor A). x.now) xs ≡ all)
     × MapOf allowed xs ys.items) → ((x : Bor A) (y : B) → allowed x y → y ≡ f x.now)
     → IfOk result (λ ys. ys.items ≡ map f all)
-map_of_slice all allowed f result gave one =
-    IfOk-weaker result _ (λ ys. ys.items ≡ map f all)
+map_of_slice all allowed f result gave one = IfOk-weaker result _ (λ ys. ys.items ≡ map f all)
     (λ ys h. borrowed_map allowed f one h.0 ys.items h.2 ∙ ap (map f) h.1) gave
 
 -- a map by a function, over an iterator every run of which gives one list

@@ -95,8 +95,7 @@ module _ {A B : Type 0} (left : List A) (right : List B) where
   -- those of two lists that come as they are, as of two `Copies`
   pub zip_of_lists : (zs : List (A × B)) → PairsOf (λ xs. xs ≡ left) (λ ys. ys ≡ right) zs
       → zs ≡ zip left right
-  zip_of_lists zs (xs, ys, one, two, same) =
-      same ∙ ap (λ l. zip l ys) one ∙ ap (zip left) two
+  zip_of_lists zs (xs, ys, one, two, same) = same ∙ ap (λ l. zip l ys) one ∙ ap (zip left) two
 
   -- those of a slice and of a list that comes as it is
   pub zip_of_slice_and_list : (zs : List (Bor A × B))

@@ -49,8 +49,7 @@ length-halved_items zero n some = omega arith
 length-halved_items (suc k) n some =
     let joined = length-append (halved_lengths k (n / 2)) (halved_lengths k (n - n / 2)) in
     cond_both (nat_lt n 2) (n ∷ []) (halved_lengths k (n / 2) ++ halved_lengths k (n - n / 2))
-    (λ l. length l ≤ n) (λ _. omega arith)
-    (λ e. let long : 2 ≤ n = ltb-false n 2 e in
+    (λ l. length l ≤ n) (λ _. omega arith) (λ e. let long : 2 ≤ n = ltb-false n 2 e in
     let left = length-halved_items k (n / 2) (omega arith) in
     let right = length-halved_items k (n - n / 2) (omega arith) in
     omega (arith, left, right, joined))
@@ -74,8 +73,7 @@ halved_more done after (suc k) n some long e =
     let one = halved_lengths k (n / 2) in
     let two = halved_lengths k (n - n / 2) in
     let e' : after ≡ done ++ one = subst (λ m. after ≡ done ++ halved_lengths m (n / 2)) less e in
-    ap (λ m. after ++ halved_lengths m (n - n / 2)) less
-    ∙ ap (λ l. l ++ two) e'
+    ap (λ m. after ++ halved_lengths m (n - n / 2)) less ∙ ap (λ l. l ++ two) e'
     ∙ append_assoc done one two
     ∙ ap (λ l. done ++ l) (sym (cond-false (nat_lt n 2) (n ∷ []) (one ++ two) (le-ltb n 2 long)))
 

@@ -11,8 +11,7 @@ Shape-items (suc k) (x ∷ (y ∷ xs)) =
     let zs = x ∷ (y ∷ xs) in
     let n = length zs / 2 in
     ap (λ l. l ++ cut_items (Shape k (drop n zs))) (Shape-items k (take n zs))
-    ∙ ap (λ l. take n zs ++ l) (Shape-items k (drop n zs))
-    ∙ take-append-drop n zs
+    ∙ ap (λ l. take n zs ++ l) (Shape-items k (drop n zs)) ∙ take-append-drop n zs
 
 -- a list of fewer than two items, or at depth 0, is one segment
 pub Shape-leaf : {X : Type 0} (k : ℕ) (xs : List X) → length xs < 2 → Shape k xs ≡ segment xs

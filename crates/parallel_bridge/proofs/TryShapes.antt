@@ -28,8 +28,7 @@ shape_halves (suc k) half xs front back positive long at left right =
     ap (λ m. halves (Shape m front) (Shape m back)) less
     ∙ ap (λ l. halves (Shape k l) (Shape k back)) (left ∙ ap (λ n. take n xs) at)
     ∙ ap (λ l. halves (Shape k (take (length xs / 2) xs)) (Shape k l))
-    (right ∙ ap (λ n. drop n xs) at)
-    ∙ sym (Shape-node k xs long)
+    (right ∙ ap (λ n. drop n xs) at) ∙ sym (Shape-node k xs long)
 
 -- the outcome of two parts that were split at half the length, for a list that is to be split
 module _ {X R E : Type 0} (leaf : List X → Result R E → Type 0)

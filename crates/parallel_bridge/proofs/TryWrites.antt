@@ -55,8 +55,7 @@ module _ {X Y E : Type 0} (allowed : X → Result Y E → Type 0) where
   -- an error is an error of values in a vector too
   pub tried_error : {P : Type 0} (gives : P → List X → Type 0) (parts : P) (k : ℕ) (t : Trouble E)
       → Driven gives parts (Answered {S = Unit {0}} (λ xs s ys. EachOk allowed xs ys)
-      (FirstErr allowed)) OneAfterAnother k (Err t)
-      → UnlessRefused {R = Vec Y Global} (Err t)
+      (FirstErr allowed)) OneAfterAnother k (Err t) → UnlessRefused {R = Vec Y Global} (Err t)
       (λ out. GivesSome gives parts (λ xs. TryMapOf allowed xs (listed out)))
   tried_error gives parts k (Closure e) (xs, came, h) = (xs, came, tried_shape k xs (Err e) h)
   tried_error gives parts k (OfFault f) h = h

@@ -42,8 +42,7 @@ module _ {X R E : Type 0} (leaf : List X → Result R E → Type 0)
       two_values p q a b out (along_unhalted p (Ok a) h) (along_unhalted q (Ok b) i)
       (meets a b out n)
   along_unhalted (halves p q) out (inr (inl (e, same, h))) =
-      subst (halting Along (halves p q)) (sym same)
-      (left_error p q e (along_unhalted p (Err e) h))
+      subst (halting Along (halves p q)) (sym same) (left_error p q e (along_unhalted p (Err e) h))
   along_unhalted (halves p q) out (inr (inr (a, e, same, h, i))) =
       subst (halting Along (halves p q)) (sym same)
       (right_error p q a e (along_unhalted p (Ok a) h) (along_unhalted q (Err e) i))

@@ -22,8 +22,7 @@ module _ {A : Type 0} where
   pub each_set : (F : A → Type 0) (l : List A) (i : ℕ) (a : A) → F a
       → ((j : ℕ) (b : A) → get_elem? l j ≡ some b → F b) → (j : ℕ) (b : A)
       → get_elem? (set l i a) j ≡ some b → F b
-  each_set F l i a new old j b e = ⊎_elim
-      (λ (t : (j ≡ i) × (a ≡ b)). subst F t.1 new)
+  each_set F l i a new old j b e = ⊎_elim (λ (t : (j ≡ i) × (a ≡ b)). subst F t.1 new)
       (λ (t : (j ≢ i) × (get_elem? l j ≡ some b)). old j b t.1)
       (at_set l i j a b e)
 
@@ -31,7 +30,6 @@ module _ {A : Type 0} where
   pub each_more : (F : A → Type 0) (l : List A) (a : A) → F a
       → ((j : ℕ) (b : A) → get_elem? l j ≡ some b → F b) → (j : ℕ) (b : A)
       → get_elem? (l ++ a ∷ []) j ≡ some b → F b
-  each_more F l a new old j b e = ⊎_elim
-      (λ (t : get_elem? l j ≡ some b). old j b t)
+  each_more F l a new old j b e = ⊎_elim (λ (t : get_elem? l j ≡ some b). old j b t)
       (λ (t : (j ≡ length l) × (a ≡ b)). subst F t.1 new)
       (one_more l a b j e)

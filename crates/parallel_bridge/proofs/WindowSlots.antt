@@ -80,8 +80,7 @@ module _ {X : Type 0} where
       (simp append_assoc)
 
   -- a row that begins with its items goes on a row that ends with its items
-  then_more : (b : ℕ) (xs ys : List X) (s : ℕ)
-      → laid b xs 0 ++ laid 0 ys s ≡ laid b (xs ++ ys) s
+  then_more : (b : ℕ) (xs ys : List X) (s : ℕ) → laid b xs 0 ++ laid 0 ys s ≡ laid b (xs ++ ys) s
   then_more b xs ys s = simp (append_assoc, append-nil, map-append)
 
   -- what is laid out so is a row of these items
@@ -107,8 +106,7 @@ no_items [] e = refl
 no_items (x ∷ xs) e = absurd (omega arith)
 
 -- a list with a first, or a last, item
-first_of : {X : Type 0} (xs : List X) → 0 < length xs → (x : X)
-    × ((ys : List X) × (xs ≡ x ∷ ys))
+first_of : {X : Type 0} (xs : List X) → 0 < length xs → (x : X) × ((ys : List X) × (xs ≡ x ∷ ys))
 first_of [] some = absurd (omega arith)
 first_of (x ∷ xs) some = (x, (xs, refl))
 
@@ -274,8 +272,7 @@ opened_rows at start slots c i n xs a e long le lc =
     let back = ap (drop i) e ∙ back_of i xs (c - length xs) (c - i) (omega arith)
     ∙ ap (λ l. laid 0 l (c - i)) (drop_all i xs (omega arith)) in (
       omega arith,
-      is_row at start (take i slots) i 0 n xs (i - length xs) a front long
-          (omega arith),
+      is_row at start (take i slots) i 0 n xs (i - length xs) a front long (omega arith),
       back,
     )
 

@@ -84,8 +84,7 @@ module _ {S T A B : Type 0} (steps : S → Option A → S → Type 0)
     pub both_along : (s : ZippedIter S T) → HoldsAlong steps s.left (All P)
         → HoldsAlong others s.right (All Q)
         → HoldsAlong (zipped_steps steps others) s (All (λ z. P z.0 × Q z.1))
-    both_along s one two zs t run = All-from_recursion (λ z. P z.0 × Q z.1) zs
-        (of_both zs
+    both_along s one two zs t run = All-from_recursion (λ z. P z.0 × Q z.1) zs (of_both zs
         (recursion_from_All P (map (λ z. z.0) zs)
         (one (map (λ z. z.0) zs) t.left (left_run zs s t run)))
         (recursion_from_All Q (map (λ z. z.1) zs)
@@ -100,7 +99,6 @@ module _ {A : Type 0} where
 
   -- indices and items that were gone through side by side
   pub numbered_both : (start n : ℕ) (xs : List ℕ) (ys : List A) (zs : List (ℕ × A))
-      → xs ≡ range_with_len start n → length ys ≡ n → zs ≡ zip xs ys
-      → zs ≡ enumerate_from start ys
+      → xs ≡ range_with_len start n → length ys ≡ n → zs ≡ zip xs ys → zs ≡ enumerate_from start ys
   numbered_both start n xs ys zs indices long same = same ∙ ap (λ l. zip l ys) indices
       ∙ ap (λ k. zip (range_with_len start k) ys) (sym long) ∙ zip_numbers start ys

@@ -27,8 +27,7 @@ loop-items-preserved g c =
         one_taken (pairs_of c.args.items.now.items) xs (pairs_of c.loop-items.items.items)
             (pairs_of pair.new.window.items) pair.result so_far.taken.1 pair.ensures.items,
         subst (λ l. g.W.Writer.so_far c.args.writer.now (xs ++ pair.result ∷ [])
-            c.answer.new.state l) (sym placed)
-            (c.in_ok-answer.ensures.next xs room so_far.taken.2),
+            c.answer.new.state l) (sym placed) (c.in_ok-answer.ensures.next xs room so_far.taken.2),
         ap length placed ∙ omega (arith, more, longer, count),
       );
       from = search rules;

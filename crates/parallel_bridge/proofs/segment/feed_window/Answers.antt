@@ -10,8 +10,7 @@ loop-alloc-preserved g c =
     let fed = c.in_ok-folder.ensures in
     record {
       ready = fed.ready;
-      takes =
-          λ x within. fed.takes x (so_far.takes x
+      takes = λ x within. fed.takes x (so_far.takes x
           (others_of c.loop-alloc.window.items rest c.take-item.result x front within));
       gives = λ more out h. so_far.gives more out
           (subst (λ l. g.F.Folder.gives c.loop-alloc.folder (l ++ more) out) (sym front)

@@ -8,8 +8,7 @@ returns-in-Ok-fed g c depth short =
     let gives = g.S.Segment.gives in
     let leaf = g.C.Consumer.leaf_gives self.consumer in
     let folds = g.C.Folder.Folder.gives in
-    let fed =
-    subst (λ d. IfOk d (λ f. GivesSome gives self.parts
+    let fed = subst (λ d. IfOk d (λ f. GivesSome gives self.parts
     (λ xs. (more : List g.row.X.Denot) (out : Result g.row.C-Result.Denot g.row.C-Error.Denot)
     → folds f more out → folds c.in-Ok.folder (xs ++ more) out))) c.in-Ok-fed.is
     c.feed-fed.ensures.gives in (

@@ -10,6 +10,5 @@ fold_op-value-requires g c = next_has g.I.Iterator.next_gives
     c.requires.accepts (search rules) (search rules) _
 
 pub loop-item-preserved : goal.loop-item-preserved
-loop-item-preserved g c =
-    chain_push (goal.F-post g c.args.fold_op.now) _ c.loop-item.yielded _ _ _
+loop-item-preserved g c = chain_push (goal.F-post g c.args.fold_op.now) _ c.loop-item.yielded _ _ _
     c.loop-item.invariant (search rules)

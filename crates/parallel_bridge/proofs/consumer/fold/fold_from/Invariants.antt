@@ -3,5 +3,4 @@ use Rattle.parallel_bridge.proofs.{Chain}
 use Rattle.parallel_bridge.proofs.consumer.fold.fold_from.Given as goal
 
 abbrev pub invariant-loop-item : goal.invariant-loop-item
-invariant-loop-item g l =
-    Chain (goal.F-post g l.fold_op) l.initial.value l.yielded l.value
+invariant-loop-item g l = Chain (goal.F-post g l.fold_op) l.initial.value l.yielded l.value

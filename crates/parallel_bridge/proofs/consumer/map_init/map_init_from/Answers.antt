@@ -19,5 +19,4 @@ loop-item-preserved g c more zs h =
     subst (λ l. StatesFrom step c.args.state.now l (c.push.new.self.items ++ zs))
     (sym (append_assoc c.loop-item.yielded (item ∷ []) more))
     (subst (λ l. StatesFrom step c.args.state.now (c.loop-item.yielded ++ (item ∷ more)) l)
-    (sym more_answers)
-    (c.loop-item.invariant (item ∷ more) (y ∷ zs) (_, search rules, h)))
+    (sym more_answers) (c.loop-item.invariant (item ∷ more) (y ∷ zs) (_, search rules, h)))

@@ -4,8 +4,7 @@ use Rattle.parallel_bridge.proofs.consumer.partition.partition_onto.Goals as goa
 
 pub loop-item-init : goal.loop-item-init
 loop-item-init g c =
-    part_end (goal.F-post g c.args.map_op.now) c.args.values.items c.args.keys.items []
-    refl
+    part_end (goal.F-post g c.args.map_op.now) c.args.values.items c.args.keys.items [] refl
 
 pub map_op-key-requires : goal.map_op-key-requires
 map_op-key-requires g c = next_has g.I.Iterator.next_gives

@@ -12,7 +12,6 @@ try_fold_step-control-requires g c = next_has g.I.Iterator.next_gives
     c.requires.accepts (search rules) (search rules)
 
 pub loop-item-preserved : goal.loop-item-preserved
-loop-item-preserved g c =
-    try_onward (goal.F-post g c.args.fold_op.now) c.args.control
+loop-item-preserved g c = try_onward (goal.F-post g c.args.fold_op.now) c.args.control
     c.loop-item.control c.try_fold_step-control.result c.loop-item.yielded
     (c.in-Some.item ∷ []) c.loop-item.invariant c.try_fold_step-control.ensures

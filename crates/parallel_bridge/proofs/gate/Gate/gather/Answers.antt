@@ -18,8 +18,7 @@ loop-seat-init c =
     }
 
 pub join-requires-clause-other : goal.join-requires-clause-other
-join-requires-clause-other c =
-    (all_before (IsSeatOf c.args.self.now) c.loop-seat.seats.items
+join-requires-clause-other c = (all_before (IsSeatOf c.args.self.now) c.loop-seat.seats.items
     c.pop-in-loop-seat.new.self.items c.in-Some-pop.seat c.in-Some-pop.ensures.items
     c.loop-seat.invariant.each).1
 

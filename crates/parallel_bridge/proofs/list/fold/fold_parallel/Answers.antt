@@ -9,8 +9,7 @@ returns-clause-along g c =
     let reduce = goal.G-post g c.args.reduce_op.now in
     let k = cutdepth c.args.threads.value in
     let gives = g.P.Parts.gives in
-    driven c.bridge.result c.unfailing.result
-    (λ o. GivesSome gives c.args.parts
+    driven c.bridge.result c.unfailing.result (λ o. GivesSome gives c.args.parts
     (λ xs. TryAlongCut {E = Infallible}
     (λ l out. (b : g.row.R.Denot) × FoldSegment identity step l b
     × OnlyOk (λ v. FoldSegment identity reduce (b ∷ []) v) out)
@@ -19,7 +18,6 @@ returns-clause-along g c =
     (λ r h. (
       h.0,
       h.1,
-      fold_driven Infallible identity (FoldSegment identity step) reduce
-          (Shape k h.0) r h.2,
+      fold_driven Infallible identity (FoldSegment identity step) reduce (Shape k h.0) r h.2,
     ))
     c.unfailing.ensures.same c.bridge.ensures.along

@@ -10,13 +10,11 @@ returns-clause-along g c =
     let reduce = goal.G-post g c.args.reduce_op.now in
     let k = cutdepth c.args.threads.value in
     let gives = g.P.Parts.gives in
-    driven c.bridge.result c.unfailing.result
-    (λ o. GivesSome gives c.args.parts
+    driven c.bridge.result c.unfailing.result (λ o. GivesSome gives c.args.parts
     (λ xs. TryAlongCut {E = Infallible}
     (λ l out. (b : g.row.R.Denot) × FoldInitSegment init identity step l b
     × OnlyOk (λ v. FoldSegment identity reduce (b ∷ []) v) out)
-    (λ a b out. OnlyOk (λ v. reduce a b v) out) (Shape k xs) o))
-    (λ r. GivesSome gives c.args.parts
+    (λ a b out. OnlyOk (λ v. reduce a b v) out) (Shape k xs) o)) (λ r. GivesSome gives c.args.parts
     (λ xs. AlongLeaves identity (FoldInitSegment init identity step) reduce (Shape k xs) r))
     (λ r h. (
       h.0,

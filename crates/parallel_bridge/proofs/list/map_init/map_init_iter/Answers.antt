@@ -8,8 +8,7 @@ returns-clause-one_state g c =
     let init = goal.N-post g c.args.init.now in
     let s = c.init-state.result in
     let comes = Drains g.I.Iterator.next_gives in
-    IfOk-weaker c.map_init_from.result
-    (λ ys. GivesSome comes c.args.iter
+    IfOk-weaker c.map_init_from.result (λ ys. GivesSome comes c.args.iter
     (λ xs. (more : List g.row.I-Item.Denot) (zs : List g.row.T.Denot)
     → StatesFrom step c.map_init_from.new.state more zs
     → StatesFrom step s (xs ++ more) (ys.items ++ zs)))

@@ -12,8 +12,7 @@ returns-clause-parts g c =
     let lists = c.in_ok-lists.lists in
     parted c.put_in_one.result (values_in lists.items) (keys_in lists.items)
     (λ us ks. GivesSome gives c.args.parts (λ xs. PartitionOf allowed xs us ks))
-    (driven c.bridge.result (Ok lists)
-    (λ out. GivesSome gives c.args.parts (λ xs. TryAlongCut
+    (driven c.bridge.result (Ok lists) (λ out. GivesSome gives c.args.parts (λ xs. TryAlongCut
     {R = Vec (Vec g.row.U.Denot Global × Vec g.row.K.Denot Global) Global} {E = Infallible}
     (λ l o. OnlyOk (λ v. PartitionOf allowed l (values_in v.items) (keys_in v.items)) o)
     (λ a b o. OnlyOk (λ c. (values_in c.items ≡ values_in a.items ++ values_in b.items)

@@ -47,16 +47,14 @@ returns-in-Parallel g c =
     let k = cutdepth c.args.threads.value in
     let gives = g.P.Parts.gives in
     record {
-      folds = unless_weaker c.try_fold_parallel.result
-          (λ out. GivesSome gives c.args.parts
+      folds = unless_weaker c.try_fold_parallel.result (λ out. GivesSome gives c.args.parts
           (λ xs. TryAlong identity step reduce (Shape k xs) out))
           (λ out. GivesSome gives c.args.parts
           (λ xs. TryFoldedAs identity step reduce k c.args.path xs out))
           (λ out h. (
             h.0,
             h.1,
-            try_folded_along identity step reduce k h.0 out c.args.path
-                (search rules) h.2,
+            try_folded_along identity step reduce k h.0 out c.args.path (search rules) h.2,
           ))
           c.try_fold_parallel.ensures.along;
       serial = unrefused_else (search rules) c.try_fold_parallel.result;

@@ -8,6 +8,5 @@ returns-clause-gives g c xs drains = came_as_it_is xs drains
     (YieldsList-from_slice c.args.self.slice.now (search rules)))
 
 pub returns-clause-may : goal.returns-clause-may
-returns-clause-may g c =
-    stands_in (YieldsList-from_copied {s = c.copied.result}
+returns-clause-may g c = stands_in (YieldsList-from_copied {s = c.copied.result}
     (YieldsList-from_slice c.args.self.slice.now (search rules)))

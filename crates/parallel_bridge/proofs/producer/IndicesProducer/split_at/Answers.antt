@@ -8,6 +8,5 @@ returns-clause-joined c xs ys front back =
     (omega (arith, c.requires)) front back
 
 pub returns-clause-front : goal.returns-clause-front
-returns-clause-front c xs front = ap length front
-    ∙ (length-range_with_len c.args.self.start
+returns-clause-front c xs front = ap length front ∙ (length-range_with_len c.args.self.start
     (c.args.self.start + c.args.index - c.args.self.start) ∙ omega arith)

@@ -8,6 +8,5 @@ returns-clause-gives g c xs drains = came_as_it_is xs drains
     (c.drain.ensures ∙ c.from_vec.ensures))
 
 pub returns-clause-may : goal.returns-clause-may
-returns-clause-may g c =
-    stands_in (YieldsList-from_first (λ x. x) drain_rest c.args.self.items
+returns-clause-may g c = stands_in (YieldsList-from_first (λ x. x) drain_rest c.args.self.items
     (c.drain.ensures ∙ c.from_vec.ensures))

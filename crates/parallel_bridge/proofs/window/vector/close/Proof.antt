@@ -96,8 +96,7 @@ module _ (E : El) where
         let le : n ≤ c = stored_within n c xs long (ap length (sym is_row.3) ∙ is_row.1) in
         suffices ! (Run us) (subst (λ (ws : List Val). ent 𝓤 (Run us) (Run ws))
         (sym (λ i. e₀ i ++ (e₁ i ++ (e₂ i ++ (e₃ i ++ (e₄ i ++ (e₅ i ++ [])))))))
-        (id⊢ 𝓤 (Run us))) $
-        enter ! 𝓣.C 𝓣.Λ here us Post $ alloc_all !
+        (id⊢ 𝓤 (Run us))) $ enter ! 𝓣.C 𝓣.Λ here us Post $ alloc_all !
         (λ l. pass_all ! refl (
           (tt, tt),
           (
@@ -134,8 +133,7 @@ module _ (E : El) where
         rewrite ! 0 (λ (g : Hd E). ‵ (deed_owns (R E) (token E.al g) p c)) is_right.2 refl $
         move ! (1 ∷ 0 ∷ []) $
         use2 𝓛 (‵ (Blk E a b o n c xs)) (block_in E 𝓛 a b o n c xs (has_block c) long) $
-        move ! (1 ∷ 2 ∷ 3 ∷ []) $
-        vec_opens⁰ E ! tt h rb ro (λ b' o' hv at' fl' fc' fit'. drop ! $
+        move ! (1 ∷ 2 ∷ 3 ∷ []) $ vec_opens⁰ E ! tt h rb ro (λ b' o' hv at' fl' fc' fit'. drop ! $
         -- [the words; the open borrow; obs; auth; the block; T's token; A's token]
         sets ! (addr ! (through ! refl (stop !))) refl (tt, tt) $
         sets ! (of_opd ! (get ! refl)) refl (tt, tt) $ first ! $ blocks ! $

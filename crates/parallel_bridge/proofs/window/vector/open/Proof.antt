@@ -116,11 +116,9 @@ module _ (E : El) where
         fjoin ! $ start_made ! p $ move ! (0 ∷ 2 ∷ 1 ∷ []) $
         use3 𝓛 (‵ (Three.own_val (begin, row, deed) (out ∷ [])))
         (triple_made 𝓛 (Start (plainly E)) (Places (plainly E)) Deeds begin row deed
-        (word p) mark mark) $
-        nothing ! $ move ! (0 ∷ 2 ∷ 3 ∷ 4 ∷ 5 ∷ []) $
+        (word p) mark mark) $ nothing ! $ move ! (0 ∷ 2 ∷ 3 ∷ 4 ∷ 5 ∷ []) $
         vec_closes⁰ E ! tt new b o 0 0 [] rb ro (at_b, refl, refl, refl) (lit< tt) (lit< tt)
-        (omega arith) $
-        returns ! (look_at ! 0 refl) $ free_all ! refl $
+        (omega arith) $ returns ! (look_at ! 0 refl) $ free_all ! refl $
         suffices ! _ (ends_at 𝓛 ended stayed held z out (begin, row, deed) (new, tt) (tt, tt)) $
         says_three ! (
           sym at_b,

@@ -12,22 +12,17 @@ fed_all : (g : Over) (c : In-Ok g) → GivesSome g.S.Segment.gives c.args.self.p
 fed_all g c =
     let first = c.begin-folder.result in
     let last = c.in-Ok.folder in
-    let ready =
-    subst (λ d. IfOk d (λ f. IsWatching f.watch × (0 < stands_for f.watch.seat)
-    × TellsAs f.watch.start (known f.watch.seat) f.control))
-    c.in-Ok.is c.feed-fed.ensures.ready in
-    let fed =
-    subst (λ d. IfOk d (λ f. GivesSome g.S.Segment.gives c.args.self.parts
+    let ready = subst (λ d. IfOk d (λ f. IsWatching f.watch × (0 < stands_for f.watch.seat)
+    × TellsAs f.watch.start (known f.watch.seat) f.control)) c.in-Ok.is c.feed-fed.ensures.ready in
+    let fed = subst (λ d. IfOk d (λ f. GivesSome g.S.Segment.gives c.args.self.parts
     (λ xs. (more : List g.row.X.Denot)
     (out : Result (Result g.row.R.Denot (Halt g.row.E.Denot) × GateWatch) Infallible)
-    → OnlyOk (λ e. Comes (goal.F-post g f.fold_op.now)
-    f.control f.watch more e.0 e.1) out
+    → OnlyOk (λ e. Comes (goal.F-post g f.fold_op.now) f.control f.watch more e.0 e.1) out
     → OnlyOk (λ e. Comes (goal.F-post g first.fold_op.now)
     first.control first.watch (xs ++ more) e.0 e.1) out))) c.in-Ok.is c.feed-fed.ensures.gives in
     let at_end =
     fed.2 [] (Ok (last.control, last.watch)) (
-      halts_rests (goal.F-post g last.fold_op.now)
-          last.control,
+      halts_rests (goal.F-post g last.fold_op.now) last.control,
       (refl, refl, refl),
       ready.0,
       ready.2,

@@ -41,8 +41,7 @@ returns-clause-node g c depth a b all above left right together =
       together.1 self.parts (parts.rests a.1 b.1 left.1 right.1),
       kept_joined node (λ p q none. none) self.watch.start half (S.count self.parts)
           (stands_for self.watch.seat) (omega (arith, counted))
-          (omega (arith, c.requires.long, counted)) self.watch.gate.now
-          a.2 b.2 all.2 a.0 b.0 all.0
+          (omega (arith, c.requires.long, counted)) self.watch.gate.now a.2 b.2 all.2 a.0 b.0 all.0
           (watches.0.start, S.count c.in-Ok.halves.0, stands_for watches.0.seat)
           (watches.1.start, S.count c.in-Ok.halves.1, stands_for watches.1.seat)
           (λ i. (made.start.0 i, parts.counts.0 i, (made.front i).seats))
@@ -50,6 +49,5 @@ returns-clause-node g c depth a b all above left right together =
           (subst (λ w. KeptEnds w.now watches.0.start (S.count c.in-Ok.halves.0)
           (stands_for watches.0.seat) a.2 a.0) made.gate.0 left.2)
           (subst (λ w. KeptEnds w.now watches.1.start (S.count c.in-Ok.halves.1)
-          (stands_for watches.1.seat) b.2 b.0) made.gate.1 right.2)
-          together.0 together.2,
+          (stands_for watches.1.seat) b.2 b.0) made.gate.1 right.2) together.0 together.2,
     )

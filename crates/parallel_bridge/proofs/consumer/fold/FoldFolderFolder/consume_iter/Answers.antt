@@ -10,8 +10,7 @@ returns-clause-gives g c =
       w.1,
       λ more out h. (
         h.0,
-        chain_append step c.args.self.item w.0 more
-            c.fold_from-value.result h.0 w.2 h.1,
+        chain_append step c.args.self.item w.0 more c.fold_from-value.result h.0 w.2 h.1,
         h.2,
       ),
     )

@@ -12,6 +12,5 @@ returns-clause-gives g c =
       w.1,
       λ more out h. only_weaker _ _
           (λ d k. comes_onward step self.control made.result d.0 self.watch made.new.watch d.1
-          w.0 more w.2 made.ensures.same k)
-          out h,
+          w.0 more w.2 made.ensures.same k) out h,
     )

@@ -17,8 +17,7 @@ returns-clause-gives g c =
     let u = handed.1.0 in
     let w = mapped_from g.I.Iterator.next_gives
     (map_steps g.I.Iterator.next_gives _) _ c.args.iter c.map.result handed.0
-    c.map.ensures.closure c.map.ensures.source
-    (handed.1.1.0, handed.1.1.1, λ _. (u, handed.1.1.2))
+    c.map.ensures.closure c.map.ensures.source (handed.1.1.0, handed.1.1.1, λ _. (u, handed.1.1.2))
     (λ v x y. g.F.Fn.post v.0.now (x, tt) y) (λ s t y k. (k.0, k.1, search rules, search rules))
     (λ s t k. k.0) in (
       w.0,

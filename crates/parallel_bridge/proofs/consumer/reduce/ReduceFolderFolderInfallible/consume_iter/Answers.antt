@@ -8,6 +8,5 @@ returns-clause-gives g c =
     let w = c.fold_from-value.ensures in (
       w.0,
       w.1,
-      λ more out h. chain_only step c.args.self.item w.0 more c.fold_from-value.result out
-          w.2 h,
+      λ more out h. chain_only step c.args.self.item w.0 more c.fold_from-value.result out w.2 h,
     )

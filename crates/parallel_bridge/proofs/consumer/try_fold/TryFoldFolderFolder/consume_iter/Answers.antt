@@ -11,8 +11,7 @@ returns-clause-gives g c =
       w.1,
       λ more out h. (
         h.0,
-        try_onward step self.control c.try_fold_onward-control.result h.0
-            w.0 more w.2 h.1,
+        try_onward step self.control c.try_fold_onward-control.result h.0 w.0 more w.2 h.1,
         h.2,
       ),
     )

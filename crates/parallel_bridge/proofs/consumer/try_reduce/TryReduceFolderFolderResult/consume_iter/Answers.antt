@@ -13,8 +13,7 @@ loop-item-init g c =
 pub loop-item-preserved : goal.loop-item-preserved
 loop-item-preserved g c = record {
   accepts = search rules;
-  reached =
-      try_onward (ReducesTo (goal.G-post g c.args.self.reduce_op.now))
+  reached = try_onward (ReducesTo (goal.G-post g c.args.self.reduce_op.now))
       c.args.self.control c.loop-item.control c.try_reduce_step-control.result c.loop-item.yielded
       (c.in-Some.item ∷ []) c.loop-item.invariant.reached c.try_reduce_step-control.ensures;
 }

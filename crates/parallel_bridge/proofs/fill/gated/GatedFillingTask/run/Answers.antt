@@ -44,7 +44,6 @@ returns-in-Err g c depth short =
       written.rest,
       subst (λ b. IsSeatOf b.now watch.seat) written.same.0 written.watching,
       leaf_halts (Unit {0}) (List g.row.W-Answer.Denot) self.watch.start (g.S.Segment.count self.parts)
-          (stands_for self.watch.seat) watch.seat.seat.me.0 c.in-Err.halt
-          written.same.2
+          (stands_for self.watch.seat) watch.seat.seat.me.0 c.in-Err.halt written.same.2
           (subst (TellsAs self.watch.start watch.seat.seat.me.0) c.in-Err.is written.told),
     )

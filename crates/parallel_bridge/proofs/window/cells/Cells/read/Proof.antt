@@ -51,8 +51,7 @@ module _ (E : El) where
         move ! (1 ∷ []) $ split ! $ drop ! $ heard ! Asked (λ asked.
         split ! $ split3 ! $ move ! (3 ∷ []) $ fsplit ! $ fsplit3 ! $
         feq_l ! (λ e₀. move ! (2 ∷ []) $ fsplit ! $
-        start_had ! base.ptr vss.1.0 (λ e₁. fsplit ! $ fsplit ! $
-        feq_l ! (λ e₂. flt_l ! (λ fits.
+        start_had ! base.ptr vss.1.0 (λ e₁. fsplit ! $ fsplit ! $ feq_l ! (λ e₂. flt_l ! (λ fits.
         keep ! (1 ∷ 2 ∷ 3 ∷ 4 ∷ []) $
         -- [obs; the borrow; its token; T's token]
         let us : List Val = vptr rb ro ∷ word base.ptr ∷ vint w64 i ∷ [] in
@@ -85,8 +84,7 @@ module _ (E : El) where
         rewrite ! 0 (λ (c : Place E). ‵ (slot (R E) b (i * s + o) c)) asked.1.1 refl $
         use1 𝓛 (some (λ (v : Val). given (Good (elτ E) v)
         (‵ (fat full_share (elτ E) b (i * s + o) v) ⊛ ‵ ((R E).own_val x (v ∷ [])))))
-        (item_out E 𝓛 b x (i * s + o)) $
-        pick ! (λ v. learn ! (λ good. split ! $
+        (item_out E 𝓛 b x (i * s + o)) $ pick ! (λ v. learn ! (λ good. split ! $
         -- [the place; what the item owns; the other places; the mark; its cell; the open borrow;
         -- obs; auth; T's token]
         sets_last ! (of_opd ! (load ! (through ! refl (stop !)) (look ! 0 refl))) refl good $
@@ -98,8 +96,7 @@ module _ (E : El) where
         flt_i ! (length new.slots * s) (2 ^ 63)
         (subst (λ k. k * s < 2 ^ 63) (sym (length-set d.slots i None)) small) $ fjoin ! $
         rewrite ! 0 (λ (p : Ptr). ‵ (cells_own (R E) p new.slots)) (sym e) refl $
-        move ! (1 ∷ 0 ∷ []) $ fjoin ! $ move ! (1 ∷ 0 ∷ []) $
-        closes ! tt (Places E) new vs rb ro $
+        move ! (1 ∷ 0 ∷ []) $ fjoin ! $ move ! (1 ∷ 0 ∷ []) $ closes ! tt (Places E) new vs rb ro $
         returns ! (look_at ! 0 refl) $ free_all ! refl $
         suffices ! _ (ends_at 𝓛 ended stayed held z v x (new, (tt, (tt, tt))) (tt, (tt, (tt, tt))))
         $ says_two ! asked.1.1 (refl, refl) $

@@ -54,8 +54,7 @@ module _ (E : El) where
         move ! (1 ∷ []) $ split ! $ drop ! $ heard ! Asked (λ asked.
         split ! $ split ! $ move ! (2 ∷ []) $ fsplit ! $ fsplit ! $
         mark_had ! E vss.0 (λ e₀. move ! (1 ∷ []) $ fsplit ! $
-        start_had ! base.ptr vss.1.0 (λ e₁. fsplit ! $ fsplit ! $
-        feq_l ! (λ e₂. flt_l ! (λ fits.
+        start_had ! base.ptr vss.1.0 (λ e₁. fsplit ! $ fsplit ! $ feq_l ! (λ e₂. flt_l ! (λ fits.
         keep ! (1 ∷ 2 ∷ []) $
         -- [the places; T's token]
         let us : List Val = mark ∷ word base.ptr ∷ vint w64 i ∷ [] in
@@ -94,18 +93,15 @@ module _ (E : El) where
         sets ! (agg ! (and_then ! (get ! refl) (no_more !))) refl (tt, (tt, tt)) $
         sets ! (of_opd ! (get ! refl)) refl (tt, (tt, tt)) $
         sets ! (of_opd ! (get ! refl)) refl (word-Good [] p) $
-        sets ! (of_opd ! (get ! refl)) refl (tt, (tt, tt)) $
-        sets ! (agg ! (and_then ! (get ! refl)
+        sets ! (of_opd ! (get ! refl)) refl (tt, (tt, tt)) $ sets ! (agg ! (and_then ! (get ! refl)
         (and_then ! (get ! refl) (and_then ! (get ! refl) (no_more !))))) refl typed $
         use1 𝓛 (‵ (slots (R E) b o front.slots) ⊛ ‵ (slots (R E) b (i * s + o) back.slots))
-        (cut_at E 𝓛 b o cs i asked.1) $ split ! $
-        flt_i ! (length front.slots * s) (2 ^ 63)
+        (cut_at E 𝓛 b o cs i asked.1) $ split ! $ flt_i ! (length front.slots * s) (2 ^ 63)
         (times_below (length front.slots) (length cs) s (2 ^ 63)
         (omega (arith, length-take i cs)) small) $ fjoin ! $
         rewrite ! 0 (λ (c : Ptr). ‵ (cells_own (R E) c front.slots)) (sym e) refl $
         use0 𝓛 (‵ ((Mark E).own_val (tt, tt) (mark ∷ []))) (mark_from E 𝓛) $ fjoin ! $
-        move ! (1 ∷ []) $
-        flt_i ! (length back.slots * s) (2 ^ 63)
+        move ! (1 ∷ []) $ flt_i ! (length back.slots * s) (2 ^ 63)
         (times_below (length back.slots) (length cs) s (2 ^ 63)
         (omega (arith, length-drop i cs)) small) $ fjoin ! $
         use0 𝓛 (‵ ((Mark E).own_val (tt, tt) (mark ∷ []))) (mark_from E 𝓛) $ fjoin ! $

@@ -56,8 +56,7 @@ module _ (E : El) where
         move ! (1 ∷ []) $ split ! $ drop ! $ heard ! Asked (λ asked.
         split ! $ split3 ! $ move ! (3 ∷ []) $ fsplit ! $ fsplit3 ! $
         feq_l ! (λ e₀. move ! (2 ∷ []) $ fsplit ! $
-        start_had ! base.ptr vss.1.0 (λ e₁. fsplit ! $ fsplit ! $
-        feq_l ! (λ e₂. flt_l ! (λ fits.
+        start_had ! base.ptr vss.1.0 (λ e₁. fsplit ! $ fsplit ! $ feq_l ! (λ e₂. flt_l ! (λ fits.
         fsplit ! $ item_had E ! x vss.1.1.1.0 (λ v e₃ good. keep ! (2 ∷ 3 ∷ 4 ∷ 5 ∷ 0 ∷ []) $
         -- [obs; the borrow; its token; T's token; what the item owns]
         let us : List Val = vptr rb ro ∷ word base.ptr ∷ vint w64 i ∷ v ∷ [] in
@@ -87,8 +86,7 @@ module _ (E : El) where
         use1 𝓛 (‵ (slot (R E) b (i * s + o) (get_or d.slots i None)) ⊛ ‵ (Others E 𝓛 b o d.slots i))
         (place_out E 𝓛 b o d.slots i asked.1) $ split ! $
         rewrite ! 0 (λ (c : Place E). ‵ (slot (R E) b (i * s + o) c)) asked.2 refl $
-        as_written ! (elτ E) b (i * s + o) $
-        sets ! (of_opd ! (get ! refl)) refl good $
+        as_written ! (elτ E) b (i * s + o) $ sets ! (of_opd ! (get ! refl)) refl good $
         assigns_last ! (of_opd ! (get ! refl)) (through ! refl (stop !)) (init ! 0 refl good) $
         exec ! 𝓣.C 𝓣.Λ En (after 1 here.body) (at_ret En Post) $
         sets ! (of_opd ! (unit_lit !)) refl (tt, tt) $
@@ -100,8 +98,7 @@ module _ (E : El) where
         flt_i ! (length new.slots * s) (2 ^ 63)
         (subst (λ k. k * s < 2 ^ 63) (sym (length-set d.slots i (Some x))) small) $ fjoin ! $
         rewrite ! 0 (λ (p : Ptr). ‵ (cells_own (R E) p new.slots)) (sym e) refl $
-        move ! (1 ∷ 0 ∷ []) $ fjoin ! $ move ! (1 ∷ 0 ∷ []) $
-        closes ! tt (Places E) new vs rb ro $
+        move ! (1 ∷ 0 ∷ []) $ fjoin ! $ move ! (1 ∷ 0 ∷ []) $ closes ! tt (Places E) new vs rb ro $
         returns ! (look_at ! 0 refl) $ free_all ! refl $
         suffices ! _ (ends_at 𝓛 ended stayed held z vunit tt (new, (tt, (tt, (tt, tt))))
         (tt, (tt, (tt, (tt, tt))))) $ says ! (refl, refl) $

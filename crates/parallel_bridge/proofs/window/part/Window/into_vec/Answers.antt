@@ -9,8 +9,7 @@ as_block : (g : Over) (c : After-join-all g)
     → (length (c.into_parts-len.result.4.slots ++ c.home.inside.tail.slots)
     ≡ c.home.inside.capacity)
     × (length (values (c.into_parts-len.result.4.slots ++ c.home.inside.tail.slots))
-    ≡ c.into_parts-len.result.3)
-    × (c.into_parts-len.result.4.slots ++ c.home.inside.tail.slots
+    ≡ c.into_parts-len.result.3) × (c.into_parts-len.result.4.slots ++ c.home.inside.tail.slots
     ≡ laid 0 (values (c.into_parts-len.result.4.slots ++ c.home.inside.tail.slots))
     (c.home.inside.capacity - c.into_parts-len.result.3))
     × (values (c.into_parts-len.result.4.slots ++ c.home.inside.tail.slots)
@@ -42,8 +41,7 @@ close-requires-clause-cells g c =
       e.0 ∙ is.row.0 ∙ begins,
       ap length e.1 ∙ all.0,
       ap (λ cs. length (values cs)) e.1 ∙ all.1,
-      e.1
-          ∙ all.2 ∙ ap (λ cs. laid 0 (values cs) (h.capacity - v.3)) (sym e.1),
+      e.1 ∙ all.2 ∙ ap (λ cs. laid 0 (values cs) (h.capacity - v.3)) (sym e.1),
     )
 
 pub returns : goal.returns

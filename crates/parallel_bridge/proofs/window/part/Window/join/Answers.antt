@@ -41,15 +41,13 @@ as_one g c =
     let beside : ((w.before + w.len ≡ w.room) × (v.2 ≡ 0)) ⊎ (v.3 ≡ 0) =
     elim adjoins [
       | inl h ↦ inl (ap (λ n. w.before + n) c.self.invariant.1 ∙ h.0, h.1)
-      | inr h ↦
-          inr (is.row.1 ∙ ap length h)
+      | inr h ↦ inr (is.row.1 ∙ ap length h)
     ] in
     two_rows w.cells.at w.base.ptr w.cells.slots w.room w.before w.len c.self.invariant is.row
     beside
 
 pub invariant_of-result : goal.invariant_of-result
-invariant_of-result g c =
-    moved c.self.inside.before c.join.ensures.0 c.join.ensures.1
+invariant_of-result g c = moved c.self.inside.before c.join.ensures.0 c.join.ensures.1
     (as_one g (goal.at.invariant_of-result g c).After-join).0
 
 pub returns : goal.returns
