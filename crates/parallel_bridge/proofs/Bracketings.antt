@@ -1,6 +1,6 @@
 -- What goes along the shape of a list is a reduction of neighbouring segments.
-use Rattle.parallel_bridge.proofs.Common.{Path, Serial, Parallel, FoldSegment, Brackets, of_segment, of_parts, Bracketing, Cut, segment, halves, cut_items, Shape, AlongLeaves, Along, FoldsAs, ℕ, List}
-use Rattle.parallel_bridge.proofs.Common.{[], refl, subst}
+use Rattle.parallel_bridge.proofs.Common.{Path, Serial, Parallel, FoldSegment, Brackets, of_segment, of_parts, Bracketing, Cut, segment, halves, cut_items, Shape, AlongLeaves, FoldsAs, ℕ, List, []}
+use Rattle.parallel_bridge.proofs.Common.{refl, subst}
 use Rattle.parallel_bridge.proofs.Shapes.{Shape-items}
 
 module _ {X R : Type 0} (identity : R → Type 0) (allowed : List X → R → Type 0)
@@ -23,12 +23,6 @@ module _ {X R : Type 0} (identity : R → Type 0) (allowed : List X → R → Ty
 
 module _ {X R : Type 0} (identity : R → Type 0) (step : R → X → R → Type 0)
     (reduce : R → R → R → Type 0) where
-  -- the same of folds by steps along a cut
-  pub bracketing_from_along : (cut : Cut X) (r : R) → Along identity step reduce cut r
-      → Bracketing identity step reduce (cut_items cut) r
-  bracketing_from_along cut r h =
-      brackets_from_leaves identity (FoldSegment identity step) reduce (λ e i. (e, i, refl)) cut r h
-
   -- the same of folds by steps, whichever way they are carried out
   pub bracketing_from_folds : (depth : ℕ) (path : Path) (xs : List X) (r : R)
       → FoldsAs identity (FoldSegment identity step) reduce depth path xs r

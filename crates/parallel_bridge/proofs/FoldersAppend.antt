@@ -1,6 +1,6 @@
 -- For folders: taking some items, and then more, is taking all of them.
-use Rattle.parallel_bridge.proofs.Common.{◌≡◌, List, [], ◌∷◌, ◌++◌, Result, Ok, Err, Option, Some, None, refl, sym, ◌∙◌, ap, subst, append_assoc, inl, inr, IsTrue, is_err, joined, Chain, EachOk}
-use Rattle.parallel_bridge.proofs.Common.{OnlyOk, TryChain, TryMapOf, PartitionOf, keys_in, keys_of, values_in, values_of, TryMapOnto, TryMapBehind, PartitionOnto, TryContinues}
+use Rattle.parallel_bridge.proofs.Common.{◌≡◌, List, [], ◌∷◌, ◌++◌, Result, Ok, Err, Option, Some, None, refl, sym, ◌∙◌, ap, subst, append_assoc, inl, inr, IsTrue, is_err, Chain, OnlyOk, TryChain}
+use Rattle.parallel_bridge.proofs.Common.{PartitionOf, keys_in, keys_of, values_in, values_of, TryMapOnto, TryMapBehind, PartitionOnto, TryContinues}
 use Rattle.std.proofs.lemmas.List.{append-nil}
 use Rattle.std.specs.declared.vec.Vec.{Vec}
 use Rattle.std.specs.declared.alloc.Global.{Global}
@@ -84,12 +84,6 @@ module _ {X Y E : Type 0} (allowed : X → Result Y E → Type 0) where
   behind_rests (Ok before) = ([], sym (append-nil before), tt)
   behind_rests (Err e) = refl
 
-  -- behind nothing stand the values of the items
-  pub behind_none : (xs : List X) (out : Result (List Y) E) → TryMapOnto allowed [] xs out
-      → TryMapOf allowed xs out
-  behind_none xs (Ok zs) (new, at, each) = subst (λ l. EachOk allowed xs l) (sym at) each
-  behind_none xs (Err e) h = h
-
 -- the values and keys of two parts one after another
 pub values_of-append : {K U : Type 0} (ps qs : List (K × Option U))
     → values_of (ps ++ qs) ≡ values_of ps ++ values_of qs
@@ -171,10 +165,3 @@ values_in-push ps p = values_in-append ps (p ∷ [])
 pub keys_in-push : {K U : Type 0} (ps : List (Vec U Global × Vec K Global))
     (p : Vec U Global × Vec K Global) → keys_in (ps ++ p ∷ []) ≡ keys_in ps ++ p.1.items
 keys_in-push ps p = keys_in-append ps (p ∷ []) ∙ ap (λ l. keys_in ps ++ l) (append-nil p.1.items)
-
--- the items of lists of lists one after another
-pub joined-append : {T : Type 0} (vs ws : List (Vec T Global))
-    → joined (vs ++ ws) ≡ joined vs ++ joined ws
-joined-append [] ws = refl
-joined-append (v ∷ vs) ws = ap (λ l. v.items ++ l) (joined-append vs ws)
-    ∙ sym (append_assoc v.items (joined vs) (joined ws))

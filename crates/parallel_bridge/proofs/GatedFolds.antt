@@ -1,7 +1,7 @@
 -- For `consume_iter` of `GatedFolder`: folding some items under the eye of a gate, and then more,
 -- is folding all of them.
-use Rattle.parallel_bridge.proofs.Common.{Halt, Failed, Stopped, GateWatch, IsWatching, SameWatch, known, Begins, HaltsOnward, TellsAs, halting, List, [], ◌++◌, Result, Ok, Err, IsTrue, is_err, refl}
-use Rattle.parallel_bridge.proofs.Common.{sym, subst, ◌∙◌, OnlyOk, TryChain, TryFoldSegment, TryReducedSegment}
+use Rattle.parallel_bridge.proofs.Common.{Halt, Failed, Stopped, GateWatch, IsWatching, SameWatch, known, Begins, HaltsOnward, TellsAs, halting, List, [], ◌++◌, Result, Ok, Err, refl, sym, subst, ◌∙◌}
+use Rattle.parallel_bridge.proofs.Common.{OnlyOk, TryChain, TryFoldSegment, TryReducedSegment}
 use Rattle.parallel_bridge.proofs.FoldersAppend.{try_chain_append}
 
 module _ {X R E : Type 0} (step : R → X → Result R E → Type 0) where
@@ -29,12 +29,6 @@ module _ {X R E : Type 0} (step : R → X → Result R E → Type 0) where
   pub halts_rests : (control : Result R (Halt E)) → HaltsOnward step control [] control
   halts_rests (Ok a) = refl
   halts_rests (Err halt) = refl
-
-  -- an end stands, whatever comes
-  pub halts_stands : (control : Result R (Halt E)) (xs ys : List X) (v : Result R (Halt E))
-      → IsTrue (is_err control) → HaltsOnward step control xs v → HaltsOnward step control ys v
-  halts_stands (Ok a) xs ys v full h = absurd (cc full)
-  halts_stands (Err halt) xs ys v full h = h
 
 module _ {X R E : Type 0} (identity : R → Type 0) (step : R → X → Result R E → Type 0)
     (reduce : R → R → R → Type 0) where

@@ -1,8 +1,8 @@
 -- What goes along the shape of a list comes from neighbouring segments, also where segments may
 -- fail or have a state.
 use Rattle.parallel_bridge.proofs.Common.{Path, Serial, Parallel, Brackets, of_segment, of_parts, Cut, segment, halves, cut_items, Shape, AlongLeaves, FoldsAs, FoldInitSegment, TryFoldSegment}
-use Rattle.parallel_bridge.proofs.Common.{TryBrackets, of_try_segment, of_values, of_left_error, of_right_error, TryBracketing, TryAlongLeaves, TryAlong, TryFoldsAs, ℕ, List, [], ◌++◌, Result, Ok}
-use Rattle.parallel_bridge.proofs.Common.{Err, refl, sym, subst, inl, inr}
+use Rattle.parallel_bridge.proofs.Common.{TryBrackets, of_try_segment, of_values, of_left_error, of_right_error, TryBracketing, TryAlongLeaves, TryFoldsAs, ℕ, List, [], ◌++◌, Result, Ok, Err, refl}
+use Rattle.parallel_bridge.proofs.Common.{sym, subst, inl, inr}
 use Rattle.parallel_bridge.proofs.Shapes.{Shape-items}
 
 -- as in `brackets_from_leaves`, where an identity is the answer of the empty list once some segment
@@ -81,14 +81,6 @@ module _ {X R E : Type 0} (identity : R → Type 0) (allowed : List X → Result
 
 module _ {X R E : Type 0} (identity : R → Type 0) (step : R → X → Result R E → Type 0)
     (reduce : R → R → R → Type 0) where
-  -- the same of folds by steps that may fail, along the shape of a list
-  pub try_bracketing_from_along : (depth : ℕ) (xs : List X) (out : Result R E)
-      → TryAlong identity step reduce (Shape depth xs) out
-      → TryBracketing identity step reduce xs out
-  try_bracketing_from_along depth xs out h = subst (λ l. TryBracketing identity step reduce l out)
-      (Shape-items depth xs) (try_brackets_from_leaves identity
-      (TryFoldSegment identity step) reduce (λ e i. (e, i, refl)) (Shape depth xs) out h)
-
   -- the same, whichever way they are carried out
   pub try_bracketing_from_folds : (depth : ℕ) (path : Path) (xs : List X) (out : Result R E)
       → TryFoldsAs identity (TryFoldSegment identity step) reduce depth path xs out
