@@ -2,6 +2,7 @@
 -- pairs.
 use Rattle.parallel_bridge.proofs.Common.{◌≡◌, List, [], ◌∷◌, Result, Ok, Err, Vec, Global, refl, ap, subst, ◌∙◌, map, map-id, IfOk, Bor, zip, map-append, IfOk-weaker, Trouble, Closure, OfFault}
 use Rattle.parallel_bridge.proofs.Common.{MapOf, UnlessRefused, listed, TryMapOf, PairsOf, both}
+use Rattle.parallel_bridge.proofs.Laws.{map_is_function}
 
 module _ {X A : Type 0} (view : X → A) where
   -- a map of items is one of what they show
@@ -35,11 +36,8 @@ module _ {X A : Type 0} (view : X → A) where
   functional : {Y : Type 0} (allowed : X → Y → Type 0) (f : A → Y)
       → ((x : X) (y : Y) → allowed x y → y ≡ f (view x)) → (xs : List X) (ys : List Y)
       → MapOf allowed xs ys → ys ≡ map f (map view xs)
-  functional allowed f one [] [] h = refl
-  functional allowed f one [] (y ∷ ys) h = absurd h
-  functional allowed f one (x ∷ xs) [] h = absurd h
-  functional allowed f one (x ∷ xs) (y ∷ ys) h =
-      ap (λ v. v ∷ ys) (one x y h.0) ∙ ap (λ l. f (view x) ∷ l) (functional allowed f one xs ys h.1)
+  functional allowed f one xs ys h = map_is_function (λ a y. y ≡ f a) (map view xs) ys
+      (map_shown allowed (λ a y. y ≡ f a) one xs ys h) f (λ a y within same. same)
 
   -- a map by a function of what items show, over a source all of whose lists show one list
   pub map_of_shown : {B E : Type 0} (gives : List X → Type 0) (all : List A)
