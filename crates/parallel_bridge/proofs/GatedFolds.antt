@@ -44,11 +44,10 @@ module _ {X R E : Type 0} (identity : R → Type 0) (step : R → X → Result R
   pub folded_halt : (start : Result R (Halt E)) (xs : List X) (halt : Halt E)
       → Begins identity start → HaltsOnward step start xs (Err halt)
       → halting (TryReducedSegment identity (TryFoldSegment identity step) reduce) xs (Err halt)
+  folded_halt start xs Stopped begins onward = tt
   folded_halt (Ok a) xs (Failed e) begins onward = (a, begins, onward)
-  folded_halt (Ok a) xs Stopped begins onward = tt
   folded_halt (Err (Failed e)) xs halt begins onward = absurd begins
   folded_halt (Err Stopped) xs (Failed e) begins onward = absurd (cc onward)
-  folded_halt (Err Stopped) xs Stopped begins onward = tt
 
 -- what a segment's outcome and its watch are, where more was folded
 module _ {X R E : Type 0} (step : R → X → Result R E → Type 0) where

@@ -115,8 +115,7 @@ module _ {R E : Type 0} (node : R → R → Result R (Halt E) → Type 0)
     ends_joined (known x) (known y) (known z) a b c l r l_is r_is left.1 right.1 is joins.1,
   )
   kept_joined gate x y None a b c l r l_is r_is left right is joins = tt
-  kept_joined gate None y (Some z) a b c l r l_is r_is left right is joins = absurd joins
-  kept_joined gate (Some x) None (Some z) a b c l r l_is r_is left right is joins = absurd joins
+  kept_joined gate u v t a b c l r l_is r_is left right is joins = absurd joins
 
 -- ---- the whole list
 
@@ -125,15 +124,13 @@ pub never_stopped : {R E : Type 0} (count seats word : ℕ) (v : GateView)
     (outcome : Result R (Trouble (Halt E))) → count ≤ greatest → EndsAs 0 count seats v outcome
     → ((start : ℕ) → start ≤ greatest → v.least < start → (word < start) × Contains v.told word)
     → NotStopped outcome
-never_stopped count seats word v (Ok r) small ends closed = tt
-never_stopped count seats word v (Err (Closure (Failed e))) small ends closed = tt
 never_stopped count seats word v (Err (Closure Stopped)) small (same, from, (at, near, less, beyond))
     closed =
     let end = closed at (omega arith) less in
     let far : at ≤ word = All-contains (λ told. at ≤ told) v.told word beyond end.1 in
     let under = end.0 in
     omega arith
-never_stopped count seats word v (Err (OfFault f)) small ends closed = tt
+never_stopped count seats word v u small ends closed = tt
 
 -- a seat that stands for all of a gate that was just opened may watch so many items, from the first
 -- one on

@@ -101,11 +101,10 @@ module _ {X Y : Type 0} (allowed : X → Y → Type 0) (f : X → Y) (all : List
   map_within : (xs : List X) (ys : List Y) → All (Contains all) xs → MapOf allowed xs ys
       → ys ≡ map f xs
   map_within [] [] within h = refl
-  map_within [] (y ∷ ys) within h = absurd h
-  map_within (x ∷ xs) [] within h = absurd h
   map_within (x ∷ xs) (y ∷ ys) within h =
       ap (λ v. v ∷ ys) (one x y (All-head (Contains all) x xs within) h.0)
       ∙ ap (λ l. f x ∷ l) (map_within xs ys (All-tail (Contains all) x xs within) h.1)
+  map_within u v within h = absurd h
 
 -- the same of the whole list
 pub map_is_function : {X Y : Type 0} (allowed : X → Y → Type 0) (xs : List X) (ys : List Y)

@@ -6,16 +6,14 @@ use Rattle.std.specs.Option.{option_to_list}
 module _ {T : Type 0} where
   -- half as many pairs as items
   pub length_pairs : (xs : List T) → length (pairs_of xs) ≡ length xs / 2
-  length_pairs [] = refl
-  length_pairs (x ∷ []) = refl
   length_pairs (x ∷ (y ∷ xs)) =
       let rest = length_pairs xs in omega (arith, rest)
+  length_pairs u = refl
 
   -- too few items for a pair
   pub no_pair : (xs : List T) → length xs < 2 → pairs_of xs ≡ []
-  no_pair [] few = refl
-  no_pair (x ∷ []) few = refl
   no_pair (x ∷ (y ∷ xs)) few = absurd (omega (arith, few))
+  no_pair u few = refl
 
   -- the first two items are the first pair
   pub two_taken : (all mid rest : List T) (x y : T) → all ≡ x ∷ mid → mid ≡ y ∷ rest
@@ -26,10 +24,9 @@ module _ {T : Type 0} where
   pub pairs_append : (xs ys : List T) (n : ℕ) → length xs ≡ 2 * n
       → pairs_of (xs ++ ys) ≡ pairs_of xs ++ pairs_of ys
   pairs_append [] ys n even = refl
-  pairs_append (x ∷ []) ys n even = absurd (omega (arith, even))
-  pairs_append (x ∷ (y ∷ xs)) ys zero even = absurd (omega (arith, even))
   pairs_append (x ∷ (y ∷ xs)) ys (suc n) even =
       ap (λ l. (x, y) ∷ l) (pairs_append xs ys n (omega (arith, even)))
+  pairs_append u ys v even = absurd (omega (arith, even))
 
   -- an even number of items has no odd one
   pub no_odd : (xs : List T) → length xs % 2 ≡ 0 → odd_of xs ≡ None

@@ -10,10 +10,9 @@ module _ {X A : Type 0} (view : X → A) where
       → ((x : X) (y : Y) → allowed x y → plain (view x) y) → (xs : List X) (ys : List Y)
       → MapOf allowed xs ys → MapOf plain (map view xs) ys
   map_shown allowed plain one [] [] h = tt
-  map_shown allowed plain one [] (y ∷ ys) h = absurd h
-  map_shown allowed plain one (x ∷ xs) [] h = absurd h
   map_shown allowed plain one (x ∷ xs) (y ∷ ys) h =
       (one x y h.0, map_shown allowed plain one xs ys h.1)
+  map_shown allowed plain one u v h = absurd h
 
   -- and so is one that may fail
   pub try_map_shown : {Y E : Type 0} (allowed : X → Result Y E → Type 0)
@@ -68,9 +67,8 @@ module _ {X A : Type 0} (view : X → A) where
 module _ {X Y A B : Type 0} (v : X → A) (w : Y → B) where
   shown_zip : (xs : List X) (ys : List Y)
       → map (λ (z : X × Y). (v z.0, w z.1)) (zip xs ys) ≡ zip (map v xs) (map w ys)
-  shown_zip [] ys = refl
-  shown_zip (x ∷ xs) [] = refl
   shown_zip (x ∷ xs) (y ∷ ys) = ap (λ l. (v x, w y) ∷ l) (shown_zip xs ys)
+  shown_zip u v = refl
 
   -- the pairs of two sides, of each of which all lists show one list
   pub pairs_shown : (left : List A) (right : List B) (P : List X → Type 0) (Q : List Y → Type 0)

@@ -6,9 +6,6 @@ use Rattle.parallel_bridge.proofs.Common.{halved_lengths, cutdepth}
 -- only the length of a list matters for the lengths of its segments
 pub shape_lengths : {X : Type 0} (k : ℕ) (xs : List X)
     → leaf_lengths (Shape k xs) ≡ halved_lengths k (length xs)
-shape_lengths zero xs = refl
-shape_lengths (suc k) [] = refl
-shape_lengths (suc k) (x ∷ []) = refl
 shape_lengths (suc k) (x ∷ (y ∷ xs)) =
     let zs = x ∷ (y ∷ xs) in
     let n = length zs / 2 in
@@ -20,6 +17,7 @@ shape_lengths (suc k) (x ∷ (y ∷ xs)) =
     ∙ ap (λ l. halved_lengths k n ++ l) (shape_lengths k (drop n zs) ∙ ap (halved_lengths k) right)
     ∙ sym (cond-false (nat_lt (length zs) 2) (length zs ∷ [])
     (halved_lengths k n ++ halved_lengths k (length zs - n)) (le-ltb (length zs) 2 long))
+shape_lengths u v = refl
 
 -- the segments are the whole list
 pub sum-halved : (k n : ℕ) → sum (halved_lengths k n) ≡ n

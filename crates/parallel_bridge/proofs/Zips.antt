@@ -9,10 +9,9 @@ module _ {A B : Type 0} where
   pub zip_append : (xs more : List A) (ys others : List B) → length xs ≡ length ys
       → zip (xs ++ more) (ys ++ others) ≡ zip xs ys ++ zip more others
   zip_append [] more [] others same = refl
-  zip_append [] more (y ∷ ys) others same = absurd (omega (arith, same))
-  zip_append (x ∷ xs) more [] others same = absurd (omega (arith, same))
   zip_append (x ∷ xs) more (y ∷ ys) others same =
       ap (λ l. (x, y) ∷ l) (zip_append xs more ys others (omega (arith, same)))
+  zip_append u more v others same = absurd (omega (arith, same))
 
   -- so many pairs as each list has items
   pub pairs_long : (n m : ℕ) (P : List A → Type 0) (Q : List B → Type 0) (zs : List (A × B))
