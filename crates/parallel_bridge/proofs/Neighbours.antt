@@ -1,5 +1,5 @@
 -- Neighbouring pairs of a list: how many there are, a cut of them, one pair taken, the odd item.
-use Rattle.parallel_bridge.proofs.Common.{◌≡◌, ℕ, zero, suc, ◌*◌, ◌/◌, ◌%◌, ◌<◌, ◌≤◌, List, [], ◌∷◌, ◌++◌, length, take, drop, Option, Some, None, IsSome, refl, sym, ap, subst, ◌∙◌, arith, Contains}
+use Rattle.parallel_bridge.proofs.Common.{◌≡◌, ℕ, suc, ◌*◌, ◌/◌, ◌%◌, ◌<◌, ◌≤◌, List, [], ◌∷◌, ◌++◌, length, take, drop, Option, Some, None, IsSome, refl, sym, ap, subst, ◌∙◌, arith, Contains}
 use Rattle.parallel_bridge.proofs.Common.{length-append, length-take-le, take-append-drop, false≢true, Contains-append_left, Contains-append_right, odd_of, pairs_of}
 use Rattle.std.specs.Option.{option_to_list}
 

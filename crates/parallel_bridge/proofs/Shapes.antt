@@ -1,5 +1,5 @@
 -- Facts on the shape of a list, and on what goes along it.
-use Rattle.parallel_bridge.proofs.Common.{◌≡◌, ℕ, zero, suc, ◌/◌, ◌<◌, ◌≤◌, List, [], ◌∷◌, ◌++◌, length, take, drop, refl, ◌∙◌, ap, arith, take-append-drop, MapOf, segment, halves, cut_items, Shape}
+use Rattle.parallel_bridge.proofs.Common.{◌≡◌, ℕ, suc, ◌/◌, ◌<◌, ◌≤◌, List, [], ◌∷◌, ◌++◌, length, take, drop, refl, ◌∙◌, ap, arith, take-append-drop, MapOf, segment, halves, cut_items, Shape}
 
 -- the segments of a list's shape are the list
 pub Shape-items : {X : Type 0} (k : ℕ) (xs : List X) → cut_items (Shape k xs) ≡ xs
@@ -27,5 +27,4 @@ pub MapOf-append : {X Y : Type 0} (allowed : X → Y → Type 0) (xs xs' : List 
     → MapOf allowed xs ys → MapOf allowed xs' ys' → MapOf allowed (xs ++ xs') (ys ++ ys')
 MapOf-append allowed [] xs' [] ys' h i = i
 MapOf-append allowed (x ∷ xs) xs' (y ∷ ys) ys' h i = (h.0, MapOf-append allowed xs xs' ys ys' h.1 i)
-
 MapOf-append allowed u xs' v ys' h i = absurd h
