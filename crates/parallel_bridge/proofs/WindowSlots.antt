@@ -36,7 +36,8 @@ module _ {X : Type 0} where
       → slots ≡ front b xs ++ y ∷ l → i ≡ b + length xs
       → (get_or slots i None ≡ y) × (set slots i z ≡ front b xs ++ z ∷ l)
   next_place b xs y z l slots i is e =
-      let at : i ≡ length (front b xs) = e ∙ sym (simp (length-append, length-replicate, length-map)) in (
+      let at : i ≡ length (front b xs) =
+      e ∙ sym (simp (length-append, length-replicate, length-map)) in (
         (λ k. get_or (is k) (at k) None) ∙ get_or-append_seam (front b xs) y l None,
         (λ k. set (is k) (at k) z) ∙ set-append_seam (front b xs) y l z,
       )
@@ -128,8 +129,8 @@ module _ {X : Type 0} (at start : Ptr) (slots : List (Option X)) (room b n : ℕ
   left = room - (b + n)
 
   -- one more item, in the place behind the others
-  pub put_row : {v : View X} (x : X) → part start room b items ≡ v → v.before + length v.items < v.room
-      → (b + n < length slots) × (get_or slots (b + n) None ≡ None)
+  pub put_row : {v : View X} (x : X) → part start room b items ≡ v
+      → v.before + length v.items < v.room → (b + n < length slots) × (get_or slots (b + n) None ≡ None)
       × IsRow at start (set slots (b + n) (Some x)) room b (n + 1)
       × (values (set slots (b + n) (Some x)) ≡ items ++ x ∷ [])
   put_row x is lt =
