@@ -80,15 +80,13 @@ module _ (E : El) {M : Type 1} {𝓤 : Ura M} (𝓛 : Logic 𝓤) (a : Hd E) (b 
       (of_room (plainly E) 𝓛 b (c - n) (o + n * sz E)) $ move ! (1 ∷ 0 ∷ []) $
       use2 𝓛 (‵ Whole) (glue (plainly E) 𝓛 b (map Some xs) (replicate (c - n) None) o (o + n * sz E)
       (behind long)) $ done !)
-  block_out false none le long =
-      qed 𝓛 (‵ ftrue ∷ []) ∵ nothing ! $
+  block_out false none le long = qed 𝓛 (‵ ftrue ∷ []) ∵ nothing ! $
       rewrite ! 0 (λ (l : List (Option (el_x E))). ‵ (slots (R E) b o l))
       (sym (stored_none n c xs long le (none tt))) refl $ done !
 
   pub block_in : (y : Bool) → n ≡ length xs
       → ent 𝓤 (sep 𝓤 (sem 𝓛 Whole) (sem 𝓛 (Right y))) (sem 𝓛 (Block y))
-  block_in true long =
-      qed 𝓛 (‵ Whole ∷ ‵ (Right true) ∷ []) ∵
+  block_in true long = qed 𝓛 (‵ Whole ∷ ‵ (Right true) ∷ []) ∵
       use1 𝓛 (‵ (slots (R E) b o (map Some xs))
       ⊛ ‵ (slots (R E) b (o + n * sz E) (replicate (c - n) None)))
       (cut (plainly E) 𝓛 b (map Some xs) (replicate (c - n) None) o (o + n * sz E)

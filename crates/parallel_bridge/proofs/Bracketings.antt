@@ -1,16 +1,17 @@
 -- What goes along the shape of a list is a reduction of neighbouring segments.
-use Rattle.parallel_bridge.proofs.Calls.{Path, Serial, Parallel, FoldSegment, Brackets, of_segment, of_parts, Bracketing, Cut, segment, halves, cut_items, Shape, AlongLeaves, Along, FoldsAs}
-use Rattle.std.proofs.Common.{ℕ, List, [], refl, subst}
+use Rattle.parallel_bridge.proofs.Common.{Path, Serial, Parallel, FoldSegment, Brackets, of_segment, of_parts, Bracketing, Cut, segment, halves, cut_items, Shape, AlongLeaves, FoldsAs, ℕ, List, []}
+use Rattle.parallel_bridge.proofs.Common.{refl, subst}
 use Rattle.parallel_bridge.proofs.Shapes.{Shape-items}
 
 module _ {X R : Type 0} (identity : R → Type 0) (allowed : List X → R → Type 0)
-    (reduce : R → R → R → Type 0) (fresh : (e : R) → identity e → allowed [] e) where
+    (reduce : R → R → R → Type 0) (fresh : (e : R) (xs : List X) (b : R) → identity e → allowed xs b
+    → allowed [] e) where
   -- an identity is the answer of an empty segment, so what goes along a cut comes by reductions of
   -- neighbours
   pub brackets_from_leaves : (cut : Cut X) (r : R) → AlongLeaves identity allowed reduce cut r
       → Brackets allowed reduce (cut_items cut) r
   brackets_from_leaves (segment xs) r (e, b, h, i, n) =
-      of_parts {xs = []} {ys = xs} refl (of_segment (fresh e h)) (of_segment i) n
+      of_parts {xs = []} {ys = xs} refl (of_segment (fresh e xs b h i)) (of_segment i) n
   brackets_from_leaves (halves p q) r (a, b, h, i, n) =
       of_parts refl (brackets_from_leaves p a h) (brackets_from_leaves q b i) n
 
@@ -23,15 +24,9 @@ module _ {X R : Type 0} (identity : R → Type 0) (allowed : List X → R → Ty
 
 module _ {X R : Type 0} (identity : R → Type 0) (step : R → X → R → Type 0)
     (reduce : R → R → R → Type 0) where
-  -- the same of folds by steps along a cut
-  pub bracketing_from_along : (cut : Cut X) (r : R) → Along identity step reduce cut r
-      → Bracketing identity step reduce (cut_items cut) r
-  bracketing_from_along cut r h =
-      brackets_from_leaves identity (FoldSegment identity step) reduce (λ e i. (e, i, refl)) cut r h
-
   -- the same of folds by steps, whichever way they are carried out
   pub bracketing_from_folds : (depth : ℕ) (path : Path) (xs : List X) (r : R)
       → FoldsAs identity (FoldSegment identity step) reduce depth path xs r
       → Bracketing identity step reduce xs r
   bracketing_from_folds depth path xs r h = brackets_from_folds identity
-      (FoldSegment identity step) reduce (λ e i. (e, i, refl)) depth path xs r h
+      (FoldSegment identity step) reduce (λ e xs b i h. (e, i, refl)) depth path xs r h

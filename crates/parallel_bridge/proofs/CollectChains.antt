@@ -1,34 +1,10 @@
 -- What a chain of `into_iter`, `map` and `collect` gives, where the closure has a relation only.
-use Rattle.parallel_bridge.proofs.Common.{◌≡◌, List, [], ◌∷◌, ◌++◌, refl, Option, None, Some, length, sym, subst, ◌∙◌, All, AllByRecursion, AllZip, recursion_from_All, Called, Yields, Drains}
-use Rattle.parallel_bridge.proofs.Common.{DrainsIf, AlwaysYields, HoldsAlong, CallableAtEachTurn, map_source, map_callee, map_steps, serves_by, YieldsList}
+use Rattle.parallel_bridge.proofs.Common.{◌≡◌, List, [], ◌∷◌, ◌++◌, refl, Option, None, Some, length, sym, subst, ◌∙◌, All, AllByRecursion, AllZip, recursion_from_All, Yields, Drains, DrainsIf}
+use Rattle.parallel_bridge.proofs.Common.{HoldsAlong, CallableAtEachTurn, map_source, map_callee, serves_by, YieldsList, Chain}
 use Rattle.std.specs.declared.iter.Map.{Map}
 use Rattle.std.specs.declared.vec.IntoIter.{IntoIter}
 use Rattle.std.specs.Vec.Iter.{into_iter_items, into_iter_len, into_iter_steps}
 use Rattle.std.proofs.lemmas.Iterator.Adapters.{YieldsList-from_vec}
-use Rattle.parallel_bridge.specs.Lists.{Chain}
-use denote.Param.Members.{Mut}
-
-module _ {S A B F : Type 0} (steps : S → Option A → S → Type 0) (g : Mut F (A × Unit {0}) B)
-    (allowed : A → B → Type 0) (f : F)
-    (calls : (x : A) (y : B) (after : F) → Called g f (x, tt) y after → allowed x y × (after ≡ f))
-  where
-    -- the items of a mapped chain are allowed for the items of its source, place by place
-    pub mapped_items : (xs : List A) (s : Map S F) (ys : List B) → map_callee s ≡ f
-        → AlwaysYields steps (λ x. x) (map_source s) xs
-        → DrainsIf (map_steps steps g) (Unit {0}) s ys
-        → AllZip allowed xs ys
-    mapped_items [] s [] same road (t, gave, ends) = tt
-    mapped_items [] s (y ∷ ys) same road (t, (j, (x, step, call), rest), ends) =
-        absurd (road x (map_source j) step)
-    mapped_items (x ∷ xs) s [] same road (t, gave, ends) =
-        let e = ends tt in
-        absurd (road.0 (map_source e.0)
-        (subst (λ v. steps (map_source v) None (map_source e.0)) (sym gave) e.1.0))
-    mapped_items (x ∷ xs) s (y ∷ ys) same road (t, (j, (x', step, call), rest), ends) =
-        let next = road.1 x' (map_source j) step in
-        let one =
-        calls x' y (map_callee j) (subst (λ v. Called g v (x', tt) y (map_callee j)) same call) in
-        (subst (λ v. allowed v y) next.0 one.0, mapped_items xs j ys one.1 next.1 (t, rest, ends))
 
 module _ {S A B F : Type 0} (steps : S → Option A → S → Type 0)
     (mapped : Map S F → Option B → Map S F → Type 0) (allowed : F → A → B → Type 0)
@@ -106,8 +82,7 @@ pub serves_along : {S A P : Type 0} {steps : S → Option A → S → Type 0} {R
     → CallableAtEachTurn steps R Q s p
 serves_along {steps = steps} {R = R} {Q = Q} {s = s} {p = p} K along same asks =
     serves_by R (λ _ q. q ≡ p) (λ xs q x v e r. same x v (subst (λ w. R w x v) e r)) steps Q s p
-    refl
-    (λ xs t q x u led step e. subst (λ w. Q w x) (sym e)
+    refl (λ xs t q x u led step e. subst (λ w. Q w x) (sym e)
     (asks x (all_last K xs x (along (xs ++ (x ∷ [])) u (yields_push steps s xs t x u led step)))))
 
 -- what an owned list gives, also where the iterator over it is named through an equation
@@ -115,16 +90,6 @@ pub vec_yields : {A Z : Type 0} (xs : List A) (s t : IntoIter A Z) → t ≡ s �
     → into_iter_len s ≡ length xs → YieldsList (into_iter_steps {X = A} {Z = Z}) (λ y. y) t xs
 vec_yields xs s t same items long = subst (λ v. YieldsList into_iter_steps (λ y. y) v xs) (sym same)
     (YieldsList-from_vec xs items long)
-
--- the same, with what the closure answers last
-pub mapped_list : {S A B F : Type 0} (steps : S → Option A → S → Type 0)
-    (g : Mut F (A × Unit {0}) B) (f : F) (allowed : A → B → Type 0) (xs : List A) (s : Map S F)
-    (ys : List B) → DrainsIf (map_steps steps g) (Unit {0}) s ys → map_callee s ≡ f
-    → YieldsList steps (λ x. x) (map_source s) xs
-    → ((x : A) (y : B) (after : F) → Called g f (x, tt) y after → allowed x y × (after ≡ f))
-    → AllZip allowed xs ys
-mapped_list steps g f allowed xs s ys gave same road calls =
-    mapped_items steps g allowed f calls xs s ys same road.runs gave
 
 -- one step more at the end of a chain
 pub chain_push : {X R : Type 0} (step : R → X → R → Type 0) (a : R) (xs : List X) (m : R) (x : X)

@@ -1,6 +1,6 @@
 -- The first failing index of a map over indices whose closure may fail.
 use Rattle.parallel_bridge.proofs.Common.{◌≡◌, ℕ, zero, suc, ◌+◌, ◌-◌, ◌<◌, ◌≤◌, List, [], ◌∷◌, ◌++◌, Result, Ok, Err, Vec, Global, arith, subst, inl, inr, MatchResult, range_with_len, cases_lt}
-use Rattle.parallel_bridge.proofs.Calls.{Trouble, Closure, OfFault, UnlessRefused, listed, TryMapOf, EachOk, FirstErr}
+use Rattle.parallel_bridge.proofs.Common.{Trouble, Closure, OfFault, UnlessRefused, listed, TryMapOf, EachOk, FirstErr}
 use Rattle.parallel_fault.specs.Trouble.{IfClosure}
 
 -- every index passes; or one fails by the error, and each below it passes
@@ -47,8 +47,7 @@ module _ {Y E : Type 0} (allowed : ℕ → Result Y E → Type 0) (passes : ℕ 
   -- what came of a map over the indices below n
   pub first_failing : (n : ℕ) (result : Result (Vec Y Global) (Trouble E))
       → UnlessRefused result (λ out. (xs : List ℕ) × (xs ≡ range_with_len 0 (n - 0))
-      × TryMapOf allowed xs (listed out))
-      → MatchResult result (λ _. (i : ℕ) → i < n → passes i)
+      × TryMapOf allowed xs (listed out)) → MatchResult result (λ _. (i : ℕ) → i < n → passes i)
       (λ trouble. IfClosure trouble (FailsFirst allowed passes n))
   first_failing n (Ok ys) gave = λ i high.
       all_pass 0 (n - 0) ys.items (subst (λ l. EachOk allowed l ys.items) gave.1 gave.2) i

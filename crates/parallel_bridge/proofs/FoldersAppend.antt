@@ -1,13 +1,9 @@
 -- For folders: taking some items, and then more, is taking all of them.
-use Rattle.std.proofs.Common.{◌≡◌, List, [], ◌∷◌, ◌++◌, Result, Ok, Err, Option, Some, None, refl, sym, ◌∙◌, ap, subst, append_assoc, inl, inr, IsTrue, is_err}
+use Rattle.parallel_bridge.proofs.Common.{◌≡◌, List, [], ◌∷◌, ◌++◌, Result, Ok, Err, Option, Some, None, refl, sym, ◌∙◌, ap, subst, append_assoc, inl, inr, IsTrue, is_err, Chain, OnlyOk, TryChain}
+use Rattle.parallel_bridge.proofs.Common.{PartitionOf, keys_in, keys_of, values_in, values_of, TryMapOnto, TryMapBehind, PartitionOnto, TryContinues}
 use Rattle.std.proofs.lemmas.List.{append-nil}
 use Rattle.std.specs.declared.vec.Vec.{Vec}
 use Rattle.std.specs.declared.alloc.Global.{Global}
-use Rattle.parallel_bridge.specs.Outcomes.{joined}
-use Rattle.parallel_bridge.specs.Lists.{Chain}
-use Rattle.parallel_bridge.specs.Tries.{EachOk, OnlyOk, TryChain, TryMapOf}
-use Rattle.parallel_bridge.specs.Parts.{PartitionOf, keys_in, keys_of, values_in, values_of}
-use Rattle.parallel_bridge.specs.Onto.{TryMapOnto, TryMapBehind, PartitionOnto, TryContinues}
 use Rattle.parallel_bridge.proofs.Shapes.{MapOf-append}
 
 module _ {X R : Type 0} (step : R → X → R → Type 0) where
@@ -62,8 +58,7 @@ module _ {X Y E : Type 0} (allowed : X → Result Y E → Type 0) where
         bad,
         after,
         new ++ vs,
-        ap (λ l. xs ++ l) at'
-            ∙ sym (append_assoc xs front (bad ∷ after)),
+        ap (λ l. xs ++ l) at' ∙ sym (append_assoc xs front (bad ∷ after)),
         MapOf-append (λ x y. allowed x (Ok y)) xs front new vs each each',
         fails,
       )
@@ -88,12 +83,6 @@ module _ {X Y E : Type 0} (allowed : X → Result Y E → Type 0) where
   pub behind_rests : (start : Result (List Y) E) → TryMapBehind allowed start [] start
   behind_rests (Ok before) = ([], sym (append-nil before), tt)
   behind_rests (Err e) = refl
-
-  -- behind nothing stand the values of the items
-  pub behind_none : (xs : List X) (out : Result (List Y) E) → TryMapOnto allowed [] xs out
-      → TryMapOf allowed xs out
-  behind_none xs (Ok zs) (new, at, each) = subst (λ l. EachOk allowed xs l) (sym at) each
-  behind_none xs (Err e) h = h
 
 -- the values and keys of two parts one after another
 pub values_of-append : {K U : Type 0} (ps qs : List (K × Option U))
@@ -158,10 +147,10 @@ keys_in-append (p ∷ ps) qs = ap (λ l. p.1.items ++ l) (keys_in-append ps qs)
     ∙ sym (append_assoc p.1.items (keys_in ps) (keys_in qs))
 
 -- the values and the keys of lists of pairs that are put one after another
-pub pairs_joined : {K U : Type 0} (all left right : List (Vec U Global × Vec K Global))
+pub lists_joined : {K U : Type 0} (all left right : List (Vec U Global × Vec K Global))
     → all ≡ left ++ right → (values_in all ≡ values_in left ++ values_in right)
     × (keys_in all ≡ keys_in left ++ keys_in right)
-pairs_joined all left right same = (
+lists_joined all left right same = (
   ap (λ l. values_in l) same ∙ values_in-append left right,
   ap (λ l. keys_in l) same ∙ keys_in-append left right,
 )
@@ -175,12 +164,4 @@ values_in-push ps p = values_in-append ps (p ∷ [])
 -- and its keys
 pub keys_in-push : {K U : Type 0} (ps : List (Vec U Global × Vec K Global))
     (p : Vec U Global × Vec K Global) → keys_in (ps ++ p ∷ []) ≡ keys_in ps ++ p.1.items
-keys_in-push ps p = keys_in-append ps (p ∷ [])
-    ∙ ap (λ l. keys_in ps ++ l) (append-nil p.1.items)
-
--- the items of lists of lists one after another
-pub joined-append : {T : Type 0} (vs ws : List (Vec T Global))
-    → joined (vs ++ ws) ≡ joined vs ++ joined ws
-joined-append [] ws = refl
-joined-append (v ∷ vs) ws = ap (λ l. v.items ++ l) (joined-append vs ws)
-    ∙ sym (append_assoc v.items (joined vs) (joined ws))
+keys_in-push ps p = keys_in-append ps (p ∷ []) ∙ ap (λ l. keys_in ps ++ l) (append-nil p.1.items)

@@ -1,16 +1,15 @@
 -- Who stands for all seats of a gate knows of all that was told.
 use Rattle.parallel_bridge.proofs.Common.{◌≡◌, ℕ, ◌+◌, ◌≤◌, ◌<◌, ◌⊎◌, List, [], ◌∷◌, ◌++◌, All, Contains, length, set, sum_by, sym, ap, subst, ◌∙◌, ⊎_elim, inl, inr, arith, All-weaker, All-contains}
 use Rattle.parallel_bridge.proofs.Common.{All-contains_itself, Contains-append_left, Contains-append_right, Contains-append_cases, Contains-push, Contains-push_cases, sum_by_push, some}
-use Rattle.parallel_bridge.proofs.Common.{some-injective, get_elem?, dite, ℕ_discrete}
-use Rattle.parallel_bridge.proofs.Gates.{set_else, GateView, GateSeat, greatest, newcomer, gathered, WasTold, FitsGate, KeepsGate, IsGateOf, known, stands_for, ToldByOne, IsAtMost}
+use Rattle.parallel_bridge.proofs.Common.{some-injective, get_elem?, dite, ℕ_discrete, set_else, GateView, GateSeat, greatest, newcomer, gathered, WasTold, FitsGate, KeepsGate, IsGateOf, known}
+use Rattle.parallel_bridge.proofs.Common.{stands_for, ToldByOne, IsAtMost}
 use Rattle.parallel_bridge.proofs.GateSteps.{held, held_set, one_of}
 
 -- the word, seen by who stands for all seats
 pub final_told : (n word : ℕ) (views : List GateView) (id : ℕ) (v : GateView)
     → KeepsGate n word views → get_elem? views id ≡ some v → v.seats ≡ n
     → (word ≡ greatest) ⊎ Contains v.told word
-final_told n word views id v kept at all = ⊎_elim
-    (λ (e : word ≡ greatest). inl e)
+final_told n word views id v kept at all = ⊎_elim (λ (e : word ≡ greatest). inl e)
     (λ (t : WasTold word views). inr (own t))
     kept.source
   where
@@ -32,8 +31,7 @@ final_at_most word v fits = (fits.told, fits.seen)
 
 -- the word that a gate is closed with is one that keeps the rule
 pub final_keeps : (n result : ℕ) (words ws : List ℕ) (views : List GateView)
-    → IsGateOf n words views → words ≡ ws → get_elem? ws 0 ≡ some result
-    → KeepsGate n result views
+    → IsGateOf n words views → words ≡ ws → get_elem? ws 0 ≡ some result → KeepsGate n result views
 final_keeps n result words ws views h are is =
     let e : some h.0 ≡ some result =
     ap (λ l. get_elem? l 0) (sym h.1) ∙ ap (λ l. get_elem? l 0) are ∙ is in
@@ -42,8 +40,7 @@ final_keeps n result words ws views h are is =
 -- whoever saw a word less than its start has a start greater than the word at the end, which was
 -- told
 pub final_stopped : (word start : ℕ) (v : GateView) → (word ≡ greatest) ⊎ Contains v.told word
-    → IsAtMost word v → start ≤ greatest → v.least < start
-    → (word < start) × Contains v.told word
+    → IsAtMost word v → start ≤ greatest → v.least < start → (word < start) × Contains v.told word
 final_stopped word start v told at_most small less = ⊎_elim
     (λ (e : word ≡ greatest). absurd (omega (arith, at_most.1)))
     (λ (has : Contains v.told word). (omega (arith, at_most.1), has))
@@ -80,8 +77,7 @@ gathers_more view old rest all x has one e = record {
       (Contains-append_cases view.told (known x).told start within);
   at_most = λ word h seat within.
       let each : (k : ℕ) → Contains (view.told ++ (known x).told) k → word ≤ k =
-      λ k within. All-contains (λ start. word ≤ start) (view.told ++ (known x).told) k h.0
-      within in
+      λ k within. All-contains (λ start. word ≤ start) (view.told ++ (known x).told) k h.0 within in
       let left : IsAtMost word view = (
         All-weaker (Contains view.told) (λ start. word ≤ start)
             (λ k within. each k (Contains-append_left view.told (known x).told k within)) view.told
@@ -96,8 +92,7 @@ gathers_more view old rest all x has one e = record {
       ) in
       ⊎_elim (λ still. ⊎_elim (λ before. inl before)
       (λ same. inr (subst (λ s. IsAtMost word (known s)) same right))
-      (Contains-push_cases rest x seat (subst (λ l. Contains l seat) e still)))
-      (λ done. inr done)
+      (Contains-push_cases rest x seat (subst (λ l. Contains l seat) e still))) (λ done. inr done)
       (has.at_most word left seat within);
 }
 
@@ -106,8 +101,7 @@ pub all_before : (P : GateSeat → Type 0) (old rest : List GateSeat) (x : GateS
     → old ≡ rest ++ x ∷ [] → All P old → All P rest × P x
 all_before P old rest x e all =
     let each = subst (All P) e all in (
-      All-weaker (Contains rest) P
-          (λ y within. All-contains P (rest ++ x ∷ []) y each
+      All-weaker (Contains rest) P (λ y within. All-contains P (rest ++ x ∷ []) y each
           (Contains-append_left rest (x ∷ []) y within)) rest (All-contains_itself rest),
       All-contains P (rest ++ x ∷ []) x each (Contains-push rest x),
     )
@@ -128,9 +122,7 @@ pub gathers_all : (view : GateView) (rest all : List GateSeat) → Gathering vie
     → length rest ≡ 0 → (word : ℕ) → IsAtMost word view
     → All (λ seat. IsAtMost word (known seat)) all
 gathers_all view rest all has none word h = All-weaker (Contains all)
-    (λ seat. IsAtMost word (known seat))
-    (λ seat within. ⊎_elim
+    (λ seat. IsAtMost word (known seat)) (λ seat within. ⊎_elim
     (λ (left : Contains rest seat). let far = left.1 in absurd (omega arith))
     (λ (done : IsAtMost word (known seat)). done)
-    (has.at_most word h seat within))
-    all (All-contains_itself all)
+    (has.at_most word h seat within)) all (All-contains_itself all)

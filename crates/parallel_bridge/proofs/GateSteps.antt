@@ -1,9 +1,8 @@
 -- Each step of a gate keeps its rule.
 use Rattle.parallel_bridge.proofs.Common.{◌≡◌, ℕ, ◌+◌, ◌≤◌, ◌<◌, ◌⊎◌, min, List, [], ◌∷◌, ◌++◌, All, Contains, set, get_or, slice_index, sum_by, zero, suc, refl, sym, ap, subst, ◌∙◌, ⊎_elim, inl, inr}
 use Rattle.parallel_bridge.proofs.Common.{arith, All-nil, All-append, All-push, All-weaker, Contains-append_left, Contains-append_right, Contains-push, sum_by-set, sum_by_push, get_or-le-sum_by, some}
-use Rattle.parallel_bridge.proofs.Common.{some-injective, get_elem?, dite, ℕ_discrete, dec_le}
-use Rattle.parallel_bridge.proofs.Gates.{at_set, set_here, set_else, at_longer, GateView, greatest, newcomer, one_less, front_half, back_half, gathered, telling, looking, WasTold, FitsGate, KeepsGate}
-use Rattle.parallel_bridge.proofs.Gates.{IsGateOf}
+use Rattle.parallel_bridge.proofs.Common.{some-injective, get_elem?, dite, ℕ_discrete, dec_le, at_set, set_here, set_else, at_longer, GateView, greatest, newcomer, one_less, front_half, back_half}
+use Rattle.parallel_bridge.proofs.Common.{gathered, telling, looking, WasTold, FitsGate, KeepsGate, IsGateOf}
 use Rattle.atomic_table.specs.Table.{State, Me, Allows, Splits, Joins, keeps}
 use Rattle.parallel_bridge.proofs.ViewPlaces.{there, each_set, each_more}
 
@@ -61,8 +60,7 @@ still_told views id v w start at stays (by, u, here, has) = dite (ℕ_discrete b
 -- and where a view has come
 told_longer : (views : List GateView) (w : GateView) (start : ℕ) → WasTold start views
     → WasTold start (views ++ w ∷ [])
-told_longer views w start (by, u, here, has) =
-    (by, u, at_longer views (w ∷ []) by u here, has)
+told_longer views w start (by, u, here, has) = (by, u, at_longer views (w ∷ []) by u here, has)
 
 -- a step of one seat, which stands for as many seats as before
 changes : (n word next : ℕ) (views : List GateView) (id : ℕ) (v w : GateView)
@@ -73,12 +71,9 @@ changes : (n word next : ℕ) (views : List GateView) (id : ℕ) (v w : GateView
 changes n word next views id v w kept at less same fits from stays = record {
   small = omega (arith, kept.small);
   seats = omega (arith, kept.seats, held_set views id v w at, same);
-  source = ⊎_elim
-      (λ (e : next ≡ word). ⊎_elim
-      (λ (none : word ≡ greatest). inl (e ∙ none))
+  source = ⊎_elim (λ (e : next ≡ word). ⊎_elim (λ (none : word ≡ greatest). inl (e ∙ none))
       (λ (told : WasTold word views). inr (subst (λ k. WasTold k (set views id w)) (sym e)
-      (still_told views id v w word at (stays word) told)))
-      kept.source)
+      (still_told views id v w word at (stays word) told))) kept.source)
       (λ (has : Contains w.told next).
       inr (id, w, set_here views id w (there views id v at), has))
       from;
@@ -89,8 +84,7 @@ changes n word next views id v w kept at less same fits from stays = record {
 -- a start that is told by a seat that stands for some
 pub tells : (n slots id start : ℕ) (me : Me (Unit {0}) GateView) → 0 < me.0.seats
     → Allows (λ (s : State (Unit {0}) GateView). IsGateOf n s.words s.views) slots id me 0
-    (λ k. min k start)
-    (λ found after. (after.0 ≡ telling me.0 found start) × (after.1 ≡ me.1))
+    (λ k. min k start) (λ found after. (after.0 ≡ telling me.0 found start) × (after.1 ≡ me.1))
 tells n slots id start me stands s h homes at small =
     let word : ℕ = h.0 in
     let kept : KeepsGate n word s.views = h.2 in
@@ -126,8 +120,7 @@ tells n slots id start me stands s h homes at small =
 -- a look
 pub looks : (n slots id : ℕ) (me : Me (Unit {0}) GateView)
     → Allows (λ (s : State (Unit {0}) GateView). IsGateOf n s.words s.views) slots id me 0
-    (λ k. k)
-    (λ found after. (after.0 ≡ looking me.0 found) × (after.1 ≡ me.1))
+    (λ k. k) (λ found after. (after.0 ≡ looking me.0 found) × (after.1 ≡ me.1))
 looks n slots id me s h homes at small =
     let word : ℕ = h.0 in
     let kept : KeepsGate n word s.views = h.2 in
@@ -252,8 +245,7 @@ joins n id v other w s h at two at' =
     -- what the two had told, the one has told
     taken_in : (views : List GateView) (id : ℕ) (v w : GateView) (other word : ℕ)
         → get_elem? views id ≡ some v → get_elem? views other ≡ some w → ¬ (other ≡ id)
-        → WasTold word views
-        → WasTold word (set (set views id (gathered v w)) other (newcomer 0))
+        → WasTold word views → WasTold word (set (set views id (gathered v w)) other (newcomer 0))
     taken_in views id v w other word at was two (by, u, here, has) =
         let both : GateView = gathered v w in
         let apart : ¬ (id ≡ other) = λ e. two (sym e) in

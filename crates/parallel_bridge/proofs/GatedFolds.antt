@@ -1,8 +1,7 @@
 -- For `consume_iter` of `GatedFolder`: folding some items under the eye of a gate, and then more,
 -- is folding all of them.
-use Rattle.parallel_bridge.proofs.Gates.{Halt, Failed, Stopped, GateWatch, IsWatching, SameWatch, known, Begins, HaltsOnward, TellsAs, halting}
-use Rattle.std.proofs.Common.{List, [], ◌++◌, Result, Ok, Err, IsTrue, is_err, refl, sym, subst, ◌∙◌}
-use Rattle.parallel_bridge.specs.Tries.{OnlyOk, TryChain, TryFoldSegment, TryReducedSegment}
+use Rattle.parallel_bridge.proofs.Common.{Halt, Failed, Stopped, GateWatch, IsWatching, SameWatch, known, Begins, HaltsOnward, TellsAs, halting, List, [], ◌++◌, Result, Ok, Err, refl, sym, subst, ◌∙◌}
+use Rattle.parallel_bridge.proofs.Common.{OnlyOk, TryChain, TryFoldSegment, TryReducedSegment}
 use Rattle.parallel_bridge.proofs.FoldersAppend.{try_chain_append}
 
 module _ {X R E : Type 0} (step : R → X → Result R E → Type 0) where
@@ -31,12 +30,6 @@ module _ {X R E : Type 0} (step : R → X → Result R E → Type 0) where
   halts_rests (Ok a) = refl
   halts_rests (Err halt) = refl
 
-  -- an end stands, whatever comes
-  pub halts_stands : (control : Result R (Halt E)) (xs ys : List X) (v : Result R (Halt E))
-      → IsTrue (is_err control) → HaltsOnward step control xs v → HaltsOnward step control ys v
-  halts_stands (Ok a) xs ys v full h = absurd (cc full)
-  halts_stands (Err halt) xs ys v full h = h
-
 module _ {X R E : Type 0} (identity : R → Type 0) (step : R → X → Result R E → Type 0)
     (reduce : R → R → R → Type 0) where
   -- a segment that began with an identity, and ended with a value
@@ -51,17 +44,15 @@ module _ {X R E : Type 0} (identity : R → Type 0) (step : R → X → Result R
   pub folded_halt : (start : Result R (Halt E)) (xs : List X) (halt : Halt E)
       → Begins identity start → HaltsOnward step start xs (Err halt)
       → halting (TryReducedSegment identity (TryFoldSegment identity step) reduce) xs (Err halt)
+  folded_halt start xs Stopped begins onward = tt
   folded_halt (Ok a) xs (Failed e) begins onward = (a, begins, onward)
-  folded_halt (Ok a) xs Stopped begins onward = tt
   folded_halt (Err (Failed e)) xs halt begins onward = absurd begins
   folded_halt (Err Stopped) xs (Failed e) begins onward = absurd (cc onward)
-  folded_halt (Err Stopped) xs Stopped begins onward = tt
 
 -- what a segment's outcome and its watch are, where more was folded
 module _ {X R E : Type 0} (step : R → X → Result R E → Type 0) where
   -- what a folder may come to, with its watch
-  abbrev pub Comes : Result R (Halt E) → GateWatch → List X → Result R (Halt E) → GateWatch
-      → Type 0
+  abbrev pub Comes : Result R (Halt E) → GateWatch → List X → Result R (Halt E) → GateWatch → Type 0
   Comes control watch xs out end = HaltsOnward step control xs out × SameWatch watch end
       × IsWatching end × TellsAs watch.start (known end.seat) out
 

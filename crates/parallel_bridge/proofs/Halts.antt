@@ -1,9 +1,7 @@
 -- What the seats of two neighbouring parts say, joined.
 use Rattle.parallel_bridge.proofs.Common.{◌≡◌, ℕ, ◌+◌, ◌-◌, ◌/◌, ◌≤◌, ◌<◌, List, [], ◌∷◌, ◌++◌, All, Contains, Option, Some, None, Result, Ok, Err, sym, subst, arith, All-nil, All-append, All-cons}
-use Rattle.parallel_bridge.proofs.Common.{All-weaker, All-contains}
-use Rattle.parallel_bridge.proofs.Calls.{Trouble, Closure, OfFault, PutTogether, UnlessRefused}
-use Rattle.parallel_bridge.proofs.Gates.{Halt, Failed, Stopped, GateSeat, GateView, greatest, gathered, newcomer, IsSeatOf, known, stands_for, EndsAs, IsKeptOf, JoinsKept, KeptEnds, NotStopped}
-use Rattle.parallel_bridge.proofs.Gates.{SeatAfter, TellsAs}
+use Rattle.parallel_bridge.proofs.Common.{All-weaker, All-contains, Trouble, Closure, OfFault, PutTogether, UnlessRefused, Halt, Failed, Stopped, GateSeat, GateView, greatest, gathered, newcomer}
+use Rattle.parallel_bridge.proofs.Common.{IsSeatOf, known, stands_for, EndsAs, IsKeptOf, JoinsKept, KeptEnds, NotStopped, SeatAfter, TellsAs}
 use Rattle.parallel_bridge.specs.declared.gate.Gate.{Gate}
 
 -- who told nothing told no start in front of anything
@@ -37,86 +35,87 @@ leaf_halts R S start count seats v Stopped same stopped = (
 
 module _ {R E : Type 0} (node : R → R → Result R (Halt E) → Type 0)
     (unstopped : (a b : R) → node a b (Err Stopped) → ⊥)
-    (start half count seats : ℕ) (within : half ≤ count) (positive : 0 < half)
-    (v w : GateView) where
-  -- the left one's outcome stands
-  left_stands : (t : Trouble (Halt E)) → SeatAfter {R = R} start half v (Err t)
-      → All (λ told. start + half ≤ told) w.told
-      → SeatAfter {R = R} start count (gathered v w) (Err t)
-  left_stands (Closure (Failed e)) left beyond = tt
-  left_stands (Closure Stopped) (at, near, less, none) beyond = (
-    at,
-    omega arith,
-    omega arith,
-    All-append (λ told. at ≤ told) v.told w.told none
-        (All-weaker (λ told. start + half ≤ told) (λ told. at ≤ told) (λ told h. omega arith)
-        w.told beyond),
+    (start half count seats : ℕ) (within : half ≤ count) (positive : 0 < half) where
+  module _ (v w : GateView) where
+    -- the left one's outcome stands
+    left_stands : (t : Trouble (Halt E)) → SeatAfter {R = R} start half v (Err t)
+        → All (λ told. start + half ≤ told) w.told
+        → SeatAfter {R = R} start count (gathered v w) (Err t)
+    left_stands (Closure (Failed e)) left beyond = tt
+    left_stands (Closure Stopped) (at, near, less, none) beyond = (
+      at,
+      omega arith,
+      omega arith,
+      All-append (λ told. at ≤ told) v.told w.told none
+          (All-weaker (λ told. start + half ≤ told) (λ told. at ≤ told) (λ told h. omega arith)
+          w.told beyond),
+    )
+    left_stands (OfFault f) left beyond = All-append (λ told. start < told) v.told w.told left
+        (All-weaker (λ told. start + half ≤ told) (λ told. start < told) (λ told h. omega arith)
+        w.told beyond)
+
+    -- behind a value the right one's outcome stands
+    right_stands : (t : Trouble (Halt E)) → v.told ≡ []
+        → SeatAfter {R = R} (start + half) (count - half) w (Err t)
+        → SeatAfter {R = R} start count (gathered v w) (Err t)
+    right_stands (Closure (Failed e)) none right = tt
+    right_stands (Closure Stopped) none (at, near, less, beyond) = (
+      at,
+      omega arith,
+      omega arith,
+      All-append (λ told. at ≤ told) v.told w.told (silent (λ told. at ≤ told) v.told none) beyond,
+    )
+    right_stands (OfFault f) none right =
+        All-append (λ told. start < told) v.told w.told (silent (λ told. start < told) v.told none)
+        (All-weaker (λ told. start + half < told) (λ told. start < told) (λ told h. omega arith)
+        w.told right)
+
+    -- two values
+    both_stand : (a b : R) (c : Result R (Trouble (Halt E))) → v.told ≡ [] → w.told ≡ []
+        → UnlessRefused c (λ out. node a b out) → SeatAfter start count (gathered v w) c
+    both_stand a b (Ok r) left right n = λ i. left i ++ right i
+    both_stand a b (Err (Closure (Failed e))) left right n = tt
+    both_stand a b (Err (Closure Stopped)) left right n = absurd (unstopped a b n)
+    both_stand a b (Err (OfFault f)) left right n =
+        silent (λ told. start < told) (v.told ++ w.told) (λ i. left i ++ right i)
+
+    seat_together : (a b c : Result R (Trouble (Halt E))) → SeatAfter start half v a
+        → SeatAfter (start + half) (count - half) w b → All (λ told. start + half ≤ told) w.told
+        → PutTogether node a b c → SeatAfter start count (gathered v w) c
+    seat_together (Err t) b c left right beyond is =
+        subst (SeatAfter start count (gathered v w)) (sym is) (left_stands t left beyond)
+    seat_together (Ok a) (Err t) c left right beyond is =
+        subst (SeatAfter start count (gathered v w)) (sym is) (right_stands t left right)
+    seat_together (Ok a) (Ok b) c left right beyond is = both_stand a b c left right is
+
+    -- the seats of both, joined; what they begin with and have is told by equations
+    pub ends_joined : (z : GateView) (a b c : Result R (Trouble (Halt E))) (l r : ℕ × ℕ × ℕ)
+        → l ≡ (start, half, seats / 2) → r ≡ (start + half, count - half, seats - seats / 2)
+        → EndsAs l.0 l.1 l.2 v a → EndsAs r.0 r.1 r.2 w b → PutTogether node a b c
+        → z ≡ gathered v w → EndsAs start count seats z c
+    ends_joined z a b c l r l_is r_is left right is same =
+        let one = subst (λ (x : ℕ × ℕ × ℕ). EndsAs x.0 x.1 x.2 v a) l_is left in
+        let two = subst (λ (x : ℕ × ℕ × ℕ). EndsAs x.0 x.1 x.2 w b) r_is right in
+        subst (λ u. EndsAs start count seats u c) (sym same) (
+          omega (arith, one.0, two.0),
+          All-append (λ told. start ≤ told) v.told w.told one.1
+              (All-weaker (λ told. start + half ≤ told) (λ told. start ≤ told)
+              (λ told h. omega arith) w.told two.1),
+          seat_together a b c one.2 two.2 two.1 is,
+        )
+
+  -- two neighbours' seats joined, unless one was lost
+  pub kept_joined : (gate : Gate) (x y z : Option GateSeat) (a b c : Result R (Trouble (Halt E)))
+      (l r : ℕ × ℕ × ℕ) → l ≡ (start, half, seats / 2)
+      → r ≡ (start + half, count - half, seats - seats / 2) → KeptEnds gate l.0 l.1 l.2 x a
+      → KeptEnds gate r.0 r.1 r.2 y b → PutTogether node a b c → JoinsKept gate x y z
+      → KeptEnds gate start count seats z c
+  kept_joined gate (Some x) (Some y) (Some z) a b c l r l_is r_is left right is joins = (
+    joins.0,
+    ends_joined (known x) (known y) (known z) a b c l r l_is r_is left.1 right.1 is joins.1,
   )
-  left_stands (OfFault f) left beyond =
-      All-append (λ told. start < told) v.told w.told left
-      (All-weaker (λ told. start + half ≤ told) (λ told. start < told) (λ told h. omega arith)
-      w.told beyond)
-
-  -- behind a value the right one's outcome stands
-  right_stands : (t : Trouble (Halt E)) → v.told ≡ []
-      → SeatAfter {R = R} (start + half) (count - half) w (Err t)
-      → SeatAfter {R = R} start count (gathered v w) (Err t)
-  right_stands (Closure (Failed e)) none right = tt
-  right_stands (Closure Stopped) none (at, near, less, beyond) = (
-    at,
-    omega arith,
-    omega arith,
-    All-append (λ told. at ≤ told) v.told w.told (silent (λ told. at ≤ told) v.told none) beyond,
-  )
-  right_stands (OfFault f) none right =
-      All-append (λ told. start < told) v.told w.told (silent (λ told. start < told) v.told none)
-      (All-weaker (λ told. start + half < told) (λ told. start < told) (λ told h. omega arith)
-      w.told right)
-
-  -- two values
-  both_stand : (a b : R) (c : Result R (Trouble (Halt E))) → v.told ≡ [] → w.told ≡ []
-      → UnlessRefused c (λ out. node a b out) → SeatAfter start count (gathered v w) c
-  both_stand a b (Ok r) left right n = λ i. left i ++ right i
-  both_stand a b (Err (Closure (Failed e))) left right n = tt
-  both_stand a b (Err (Closure Stopped)) left right n = absurd (unstopped a b n)
-  both_stand a b (Err (OfFault f)) left right n =
-      silent (λ told. start < told) (v.told ++ w.told) (λ i. left i ++ right i)
-
-  seat_together : (a b c : Result R (Trouble (Halt E))) → SeatAfter start half v a
-      → SeatAfter (start + half) (count - half) w b → All (λ told. start + half ≤ told) w.told
-      → PutTogether node a b c → SeatAfter start count (gathered v w) c
-  seat_together (Err t) b c left right beyond is =
-      subst (SeatAfter start count (gathered v w)) (sym is) (left_stands t left beyond)
-  seat_together (Ok a) (Err t) c left right beyond is =
-      subst (SeatAfter start count (gathered v w)) (sym is) (right_stands t left right)
-  seat_together (Ok a) (Ok b) c left right beyond is = both_stand a b c left right is
-
-  -- the seats of both, joined
-  pub ends_together : (a b c : Result R (Trouble (Halt E))) (z : GateView)
-      → EndsAs start half (seats / 2) v a
-      → EndsAs (start + half) (count - half) (seats - seats / 2) w b
-      → PutTogether node a b c → z ≡ gathered v w → EndsAs start count seats z c
-  ends_together a b c z left right is same =
-      subst (λ u. EndsAs start count seats u c) (sym same) (
-        omega (arith, left.0, right.0),
-        All-append (λ told. start ≤ told) v.told w.told left.1
-            (All-weaker (λ told. start + half ≤ told) (λ told. start ≤ told)
-            (λ told h. omega arith) w.told right.1),
-        seat_together a b c left.2 right.2 right.1 is,
-      )
-
--- the same, where what the parts begin with and have is told by equations
-pub ends_joined : {R E : Type 0} (node : R → R → Result R (Halt E) → Type 0)
-    → ((a b : R) → node a b (Err Stopped) → ⊥) → (start half count seats : ℕ) → half ≤ count
-    → 0 < half → (v w z : GateView) (a b c : Result R (Trouble (Halt E))) (l r : ℕ × ℕ × ℕ)
-    → l ≡ (start, half, seats / 2) → r ≡ (start + half, count - half, seats - seats / 2)
-    → EndsAs l.0 l.1 l.2 v a → EndsAs r.0 r.1 r.2 w b → PutTogether node a b c
-    → z ≡ gathered v w → EndsAs start count seats z c
-ends_joined node unstopped start half count seats within positive v w z a b c l r left_is right_is left right
-    is same =
-    ends_together node unstopped start half count seats within positive v w a b c z
-    (subst (λ (x : ℕ × ℕ × ℕ). EndsAs x.0 x.1 x.2 v a) left_is left)
-    (subst (λ (x : ℕ × ℕ × ℕ). EndsAs x.0 x.1 x.2 w b) right_is right) is same
+  kept_joined gate x y None a b c l r l_is r_is left right is joins = tt
+  kept_joined gate u v t a b c l r l_is r_is left right is joins = absurd joins
 
 -- ---- the whole list
 
@@ -125,15 +124,13 @@ pub never_stopped : {R E : Type 0} (count seats word : ℕ) (v : GateView)
     (outcome : Result R (Trouble (Halt E))) → count ≤ greatest → EndsAs 0 count seats v outcome
     → ((start : ℕ) → start ≤ greatest → v.least < start → (word < start) × Contains v.told word)
     → NotStopped outcome
-never_stopped count seats word v (Ok r) small ends closed = tt
-never_stopped count seats word v (Err (Closure (Failed e))) small ends closed = tt
 never_stopped count seats word v (Err (Closure Stopped)) small (same, from, (at, near, less, beyond))
     closed =
     let end = closed at (omega arith) less in
     let far : at ≤ word = All-contains (λ told. at ≤ told) v.told word beyond end.1 in
     let under = end.0 in
     omega arith
-never_stopped count seats word v (Err (OfFault f)) small ends closed = tt
+never_stopped count seats word v u small ends closed = tt
 
 -- a seat that stands for all of a gate that was just opened may watch so many items, from the first
 -- one on
@@ -147,31 +144,6 @@ fresh_watch gate seat n count belongs fresh positive enough small =
       omega (arith, seats),
       omega arith,
     )
-
--- two neighbours' seats joined, unless one was lost
-pub kept_joined : {R E : Type 0} (node : R → R → Result R (Halt E) → Type 0)
-    → ((a b : R) → node a b (Err Stopped) → ⊥) → (gate : Gate) (start half count seats : ℕ)
-    → half ≤ count → 0 < half → (x y z : Option GateSeat) (a b c : Result R (Trouble (Halt E)))
-    (l r : ℕ × ℕ × ℕ) → l ≡ (start, half, seats / 2)
-    → r ≡ (start + half, count - half, seats - seats / 2)
-    → KeptEnds gate l.0 l.1 l.2 x a → KeptEnds gate r.0 r.1 r.2 y b → PutTogether node a b c
-    → JoinsKept gate x y z → KeptEnds gate start count seats z c
-kept_joined node unstopped gate start half count seats within positive (Some x) (Some y) (Some z) a b c l r
-    left_is right_is left right is joins = (
-      joins.0,
-      ends_joined node unstopped start half count seats within positive (known x) (known y) (known z) a b c
-          l r left_is right_is left.1 right.1 is joins.1,
-    )
-kept_joined node unstopped gate start half count seats within positive (Some x) (Some y) None a b c l r
-    left_is right_is left right is joins = tt
-kept_joined node unstopped gate start half count seats within positive None y None a b c l r
-    left_is right_is left right is joins = tt
-kept_joined node unstopped gate start half count seats within positive None y (Some z) a b c l r
-    left_is right_is left right is joins = absurd joins
-kept_joined node unstopped gate start half count seats within positive (Some x) None None a b c l r
-    left_is right_is left right is joins = tt
-kept_joined node unstopped gate start half count seats within positive (Some x) None (Some z) a b c l r
-    left_is right_is left right is joins = absurd joins
 
 -- a seat that comes back is one of the gate
 pub kept_of : {R E : Type 0} (gate : Gate) (start count seats : ℕ) (x : Option GateSeat)

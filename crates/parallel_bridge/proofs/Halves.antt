@@ -1,6 +1,7 @@
 -- The outcomes of two halves of a list, put together, go along the shape of the list.
 use Rattle.parallel_bridge.proofs.Common.{◌≡◌, ℕ, zero, ◌-◌, ◌/◌, ◌<◌, ◌≤◌, List, ◌++◌, length, take, drop, Result, Ok, Err, refl, sym, subst, arith, inl, inr, ◌⊎◌, take-append_seam, drop-append_seam}
-use Rattle.parallel_bridge.proofs.Calls.{Trouble, Closure, OfFault, PutTogether, UnlessRefused, Shape, halves, Driven, GivesSome, TryAlongCut}
+use Rattle.parallel_bridge.proofs.Common.{Trouble, Closure, OfFault, PutTogether, UnlessRefused, Shape, halves, Driven, GivesSome, TryAlongCut, ◌+◌, ◌∙◌, SamePlaces, Follows, View, part, shifted}
+use denote.RattleType.{RattleType}
 use Rattle.parallel_bridge.proofs.Outcomes.{unless_weaker}
 use Rattle.parallel_bridge.proofs.TryShapes.{try_along_leaf, try_along_wider, try_along_node}
 
@@ -57,17 +58,14 @@ module _ {P X R E : Type 0} (gives : P → List X → Type 0) (all front back : 
   driven_node (Err (OfFault f)) second result h k is =
       subst (Driven gives all leaf node depth) (sym is) h
   driven_node (Ok a) (Err (Closure e)) result (xs, gx, h) (ys, gy, k) is =
-      subst (Driven gives all leaf node depth) (sym is)
-      (both xs ys (Err e) gx gy (inr
+      subst (Driven gives all leaf node depth) (sym is) (both xs ys (Err e) gx gy (inr
       (inr (a, e, refl, wide_left xs (Ok a) h, wide_right ys (Err e) k))))
   driven_node (Ok a) (Err (OfFault f)) result h k is =
       subst (Driven gives all leaf node depth) (sym is) k
-  driven_node (Ok a) (Ok b) result (xs, gx, h) (ys, gy, k) is =
-      unless_weaker result (reduce a b)
+  driven_node (Ok a) (Ok b) result (xs, gx, h) (ys, gy, k) is = unless_weaker result (reduce a b)
       (λ out. GivesSome gives all (λ zs. TryAlongCut leaf node (Shape depth zs) out))
       (λ out n. both xs ys out gx gy
-      (inl (a, b, wide_left xs (Ok a) h, wide_right ys (Ok b) k, reduced a b out n)))
-      is
+      (inl (a, b, wide_left xs (Ok a) h, wide_right ys (Ok b) k, reduced a b out n))) is
 
 -- the outcome of a list that is not split
 pub driven_leaf : {P X R E : Type 0} (gives : P → List X → Type 0) (all : P)
@@ -79,3 +77,15 @@ driven_leaf gives all leaf node depth result short h =
     unless_weaker result (λ out. GivesSome gives all (λ xs. leaf xs out))
     (λ out. GivesSome gives all (λ xs. TryAlongCut leaf node (Shape depth xs) out))
     (λ out k. (k.0, k.1, try_along_leaf leaf node depth k.0 out (short k.0 k.1) k.2)) h
+
+-- the halves of a room that stay where they are lie side by side, and are all of it
+pub halved_room : {X : Type 0} (R : RattleType) (room l r : View X) (half : ℕ) (xs ys : List X)
+    → l ≡ part room.start half 0 xs → r ≡ part (shifted R room.start half) (room.room - half) 0 ys
+    → half ≤ room.room → (a b : View X) → SamePlaces l a → SamePlaces r b
+    → Follows R a b × (a.start ≡ room.start) × (a.room + b.room ≡ room.room)
+halved_room R room l r half xs ys is_l is_r within a b left right =
+    let start : a.start ≡ room.start = left.0 ∙ (λ i. (is_l i).start) in
+    let front : a.room ≡ half = left.1 ∙ (λ i. (is_l i).room) in
+    let back : b.room ≡ room.room - half = right.1 ∙ (λ i. (is_r i).room) in
+    let next : b.start ≡ shifted R room.start half = right.0 ∙ (λ i. (is_r i).start) in
+    (next ∙ sym (λ i. shifted R (start i) (front i)), start, omega arith)

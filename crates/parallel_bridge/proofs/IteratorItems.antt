@@ -1,8 +1,7 @@
 -- Which list comes of an iterator, and which items may.
 use Rattle.parallel_bridge.proofs.Common.{◌≡◌, List, [], ◌∷◌, ◌++◌, Option, refl, sym, ap, ◌∙◌, subst, map, All, AllByRecursion, Contains, Yields, AlwaysYields, Drains, HoldsAlong, All-from_recursion}
-use Rattle.parallel_bridge.proofs.Common.{recursion_from_All, All-contains_itself, All-contains, YieldsList, items_from_drains, map-id, Bor}
+use Rattle.parallel_bridge.proofs.Common.{recursion_from_All, All-contains_itself, All-contains, YieldsList, items_from_drains, map-id, Bor, MayCome}
 use Rattle.parallel_bridge.proofs.CollectChains.{yields_push}
-use Rattle.parallel_bridge.specs.Sources.{MayCome}
 
 -- what came of a run, as v reads it, is the list that every run gives
 pub came : {S A B : Type 0} {steps : S → Option A → S → Type 0} {v : A → B} {s : S} {all : List B}
@@ -42,8 +41,7 @@ module _ {S A : Type 0} (steps : S → Option A → S → Type 0) (s : S) where
   may_each before t [] u led rest = tt
   may_each before t (x ∷ xs) u led (j, step, rest) = (
     (before, t, j, led, step),
-    may_each (before ++ (x ∷ [])) j xs u
-        (yields_push steps s before t x j led step) rest,
+    may_each (before ++ (x ∷ [])) j xs u (yields_push steps s before t x j led step) rest,
   )
 
   -- each item that came may come

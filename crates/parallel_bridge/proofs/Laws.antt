@@ -1,7 +1,6 @@
 -- Under the laws of `FoldLaws` a fold by segments is the plain fold from the left.
 use Rattle.parallel_bridge.proofs.Common.{◌≡◌, Bool, IsTrue, List, [], ◌∷◌, ◌++◌, refl, sym, ◌∙◌, ap, subst, fold, map, All, Contains, fold-append, All-nil, All-cons, All-head, All-tail}
-use Rattle.parallel_bridge.proofs.Common.{All-contains_itself}
-use Rattle.parallel_bridge.proofs.Calls.{MapOf, Chain, FoldSegment, Brackets, of_segment, of_parts, Bracketing, StateChain, FoldInitSegment, AnyState, FoldLaws, IsPlainFold}
+use Rattle.parallel_bridge.proofs.Common.{All-contains_itself, MapOf, Chain, FoldSegment, Brackets, of_segment, of_parts, Bracketing, StateChain, FoldInitSegment, AnyState, FoldLaws, IsPlainFold}
 
 -- what holds of all items of two parts holds of each part's
 all_left : {X : Type 0} (P : X → Type 0) (xs ys : List X) → All P (xs ++ ys) → All P xs
@@ -61,11 +60,9 @@ module _ {X R : Type 0} (identity : R → Type 0) (step : R → X → R → Type
       subst (λ v. IsTrue (good v)) (sym p_is) (fold_good xs in_left unit laws.good_unit) in
       let q_good : IsTrue (good q) =
       subst (λ v. IsTrue (good v)) (sym q_is) (fold_good ys in_right unit laws.good_unit) in
-      laws.reduces p q r p_good q_good reduced
-      ∙ ap (λ v. g p v) q_is
+      laws.reduces p q r p_good q_good reduced ∙ ap (λ v. g p v) q_is
       ∙ fold_out ys in_right p unit p_good laws.good_unit
-      ∙ ap (λ v. fold f v ys) (laws.neutral p p_good ∙ p_is)
-      ∙ sym (fold-append f unit xs ys)
+      ∙ ap (λ v. fold f v ys) (laws.neutral p p_good ∙ p_is) ∙ sym (fold-append f unit xs ys)
       ∙ ap (fold f unit) (sym split)
 
 module _ {X R : Type 0} (identity : R → Type 0) (step : R → X → R → Type 0)
@@ -104,11 +101,10 @@ module _ {X Y : Type 0} (allowed : X → Y → Type 0) (f : X → Y) (all : List
   map_within : (xs : List X) (ys : List Y) → All (Contains all) xs → MapOf allowed xs ys
       → ys ≡ map f xs
   map_within [] [] within h = refl
-  map_within [] (y ∷ ys) within h = absurd h
-  map_within (x ∷ xs) [] within h = absurd h
   map_within (x ∷ xs) (y ∷ ys) within h =
       ap (λ v. v ∷ ys) (one x y (All-head (Contains all) x xs within) h.0)
       ∙ ap (λ l. f x ∷ l) (map_within xs ys (All-tail (Contains all) x xs within) h.1)
+  map_within u v within h = absurd h
 
 -- the same of the whole list
 pub map_is_function : {X Y : Type 0} (allowed : X → Y → Type 0) (xs : List X) (ys : List Y)

@@ -1,8 +1,5 @@
 mod Common
 mod Walks
-mod Calls
-mod Gates
-mod Windows
 pub mod Shapes
 pub mod Bracketings
 pub mod CollectChains
@@ -42,3 +39,43 @@ pub mod Zips
 pub mod Serials
 pub mod Pieces
 pub mod OverViews
+pub use Common.*
+pub use Blocks.*
+pub use Bracketings.*
+pub use CollectChains.*
+pub use Drivers.*
+pub use FirstFailing.*
+pub use FoldersAppend.*
+pub use GateEnds.*
+pub use GateSteps.*
+pub use GatedFolds.*
+pub use Halts.*
+pub use Halves.*
+pub use IteratorItems.*
+pub use Laws.*
+pub use LoopSteps.*
+pub use Neighbours.*
+pub use Outcomes.*
+pub use OverLists.*
+pub use OverViews.*
+pub use Paths.*
+pub use Pieces.*
+pub use Ranges.*
+pub use RowMemory.*
+pub use SegmentLengths.*
+pub use SendSync.*
+pub use Serials.*
+pub use Shapes.*
+pub use Sorting.*
+pub use Statefuls.*
+pub use TakenFromFront.*
+pub use TryBracketings.*
+pub use TryShapes.*
+pub use TryWrites.*
+pub use Unhalt.*
+pub use ViewPlaces.*
+pub use WindowSlots.*
+pub use WrappingSums.*
+pub use WriteIter.*
+pub use Writes.*
+pub use Zips.*

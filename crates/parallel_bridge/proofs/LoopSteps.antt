@@ -1,6 +1,5 @@
 -- One step of a loop over items that come, over plain variables.
-use Rattle.parallel_bridge.proofs.Common.{◌≡◌, List, [], ◌∷◌, ◌++◌, Result, Err, Option, Some, None, false, is_some, refl, sym, subst, append-nil}
-use Rattle.parallel_bridge.proofs.Calls.{TryMapBehind, TryMapOnto, PartitionOnto, ended}
+use Rattle.parallel_bridge.proofs.Common.{◌≡◌, List, [], ◌∷◌, ◌++◌, Result, Err, Option, Some, None, false, is_some, refl, sym, subst, append-nil, TryMapBehind, TryMapOnto, PartitionOnto, ended}
 
 module _ {X Y E : Type 0} (allowed : X → Result Y E → Type 0) where
   -- the first item that is left fails

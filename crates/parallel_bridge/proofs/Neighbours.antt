@@ -1,37 +1,32 @@
 -- Neighbouring pairs of a list: how many there are, a cut of them, one pair taken, the odd item.
-use Rattle.parallel_bridge.proofs.Common.{◌≡◌, ℕ, zero, suc, ◌*◌, ◌/◌, ◌%◌, ◌<◌, ◌≤◌, List, [], ◌∷◌, ◌++◌, length, take, drop, Option, Some, None, IsSome, refl, sym, ap, subst, ◌∙◌, arith, Contains}
-use Rattle.parallel_bridge.proofs.Common.{length-append, length-take-le, take-append-drop, false≢true, Contains-append_left, Contains-append_right}
+use Rattle.parallel_bridge.proofs.Common.{◌≡◌, ℕ, suc, ◌*◌, ◌/◌, ◌%◌, ◌<◌, ◌≤◌, List, [], ◌∷◌, ◌++◌, length, take, drop, Option, Some, None, IsSome, refl, sym, ap, subst, ◌∙◌, arith, Contains}
+use Rattle.parallel_bridge.proofs.Common.{length-append, length-take-le, take-append-drop, false≢true, Contains-append_left, Contains-append_right, odd_of, pairs_of}
 use Rattle.std.specs.Option.{option_to_list}
-use Rattle.parallel_bridge.specs.Pairs.{odd_of, pairs_of}
 
 module _ {T : Type 0} where
   -- half as many pairs as items
   pub length_pairs : (xs : List T) → length (pairs_of xs) ≡ length xs / 2
-  length_pairs [] = refl
-  length_pairs (x ∷ []) = refl
   length_pairs (x ∷ (y ∷ xs)) =
       let rest = length_pairs xs in omega (arith, rest)
+  length_pairs u = refl
 
   -- too few items for a pair
   pub no_pair : (xs : List T) → length xs < 2 → pairs_of xs ≡ []
-  no_pair [] few = refl
-  no_pair (x ∷ []) few = refl
   no_pair (x ∷ (y ∷ xs)) few = absurd (omega (arith, few))
+  no_pair u few = refl
 
   -- the first two items are the first pair
   pub two_taken : (all mid rest : List T) (x y : T) → all ≡ x ∷ mid → mid ≡ y ∷ rest
       → pairs_of all ≡ (x, y) ∷ pairs_of rest
-  two_taken all mid rest x y first second =
-      ap pairs_of (first ∙ ap (λ l. x ∷ l) second)
+  two_taken all mid rest x y first second = ap pairs_of (first ∙ ap (λ l. x ∷ l) second)
 
   -- the pairs of two lists, of which the front one has an even number of items
   pub pairs_append : (xs ys : List T) (n : ℕ) → length xs ≡ 2 * n
       → pairs_of (xs ++ ys) ≡ pairs_of xs ++ pairs_of ys
   pairs_append [] ys n even = refl
-  pairs_append (x ∷ []) ys n even = absurd (omega (arith, even))
-  pairs_append (x ∷ (y ∷ xs)) ys zero even = absurd (omega (arith, even))
   pairs_append (x ∷ (y ∷ xs)) ys (suc n) even =
       ap (λ l. (x, y) ∷ l) (pairs_append xs ys n (omega (arith, even)))
+  pairs_append u ys v even = absurd (omega (arith, even))
 
   -- an even number of items has no odd one
   pub no_odd : (xs : List T) → length xs % 2 ≡ 0 → odd_of xs ≡ None
@@ -50,8 +45,7 @@ module _ {T : Type 0} where
 
   -- the last item taken of an odd number of them
   pub odd_pop : (all front : List T) (out : Option T) → all ≡ front ++ option_to_list out
-      → IsSome out → length all % 2 ≡ 1
-      → (odd_of all ≡ out) × (pairs_of all ≡ pairs_of front)
+      → IsSome out → length all % 2 ≡ 1 → (odd_of all ≡ out) × (pairs_of all ≡ pairs_of front)
   odd_pop all front None at some odd = absurd (false≢true some)
   odd_pop all front (Some z) at some odd =
       let long = ap length at ∙ length-append front (z ∷ []) in

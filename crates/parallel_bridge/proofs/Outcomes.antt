@@ -1,6 +1,5 @@
 -- Facts on outcomes.
-use Rattle.parallel_bridge.proofs.Calls.{Trouble, Closure, OfFault, UnlessRefused}
-use Rattle.std.proofs.Common.{Result, Ok, Err}
+use Rattle.parallel_bridge.proofs.Common.{Trouble, Closure, OfFault, UnlessRefused, Result, Ok, Err}
 
 -- what holds of each outcome that is allowed holds of this one
 pub unless_weaker : {R E : Type 0} (result : Result R (Trouble E)) (P Q : Result R E → Type 0)

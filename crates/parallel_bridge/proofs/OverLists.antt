@@ -1,8 +1,8 @@
 -- What the clause of a list call says where its source gives one list alone: a fact of that list.
-use Rattle.parallel_bridge.proofs.Common.{◌≡◌, ℕ, Bool, List, [], ◌∷◌, Option, Result, Ok, Err, Vec, Global, refl, ◌∙◌, ap, subst, map, fold, MatchResult, IfOk, IfErr, Contains, Drains, Bor}
-use Rattle.parallel_bridge.proofs.Common.{YieldsList, IfOk-weaker}
-use Rattle.parallel_bridge.proofs.Calls.{Path, Serial, Trouble, Closure, OfFault, MapOf, Bracketing, FoldLaws, UnlessRefused, FoldsAs}
+use Rattle.parallel_bridge.proofs.Common.{◌≡◌, ℕ, Bool, List, Option, Result, Ok, Err, Vec, Global, subst, map, fold, MatchResult, IfOk, IfErr, Contains, Drains, Bor, YieldsList, IfOk-weaker, Path}
+use Rattle.parallel_bridge.proofs.Common.{Serial, Trouble, Closure, OfFault, MapOf, Bracketing, FoldLaws, UnlessRefused, FoldsAs}
 use Rattle.parallel_bridge.proofs.IteratorItems.{came_as_it_is}
+use Rattle.parallel_bridge.proofs.OverViews.{map_of_shown}
 use Rattle.parallel_bridge.proofs.Laws.{map_is_function, plain_from_bracketing}
 
 -- a fact of the list that came is one of the list
@@ -25,19 +25,9 @@ pub map_of_list : {A B E : Type 0} (all : List A) (allowed : A → B → Type 0)
     → IfOk result (λ ys. (xs : List A) × (xs ≡ all) × MapOf allowed xs ys.items)
     → ((x : A) (y : B) → Contains all x → allowed x y → y ≡ f x)
     → IfOk result (λ ys. ys.items ≡ map f all)
-map_of_list all allowed f result gave one =
-    IfOk-weaker result _ (λ ys. ys.items ≡ map f all)
+map_of_list all allowed f result gave one = IfOk-weaker result _ (λ ys. ys.items ≡ map f all)
     (λ ys h. map_is_function allowed all ys.items
     (subst (λ xs. MapOf allowed xs ys.items) h.1 h.2) f one) gave
-
-borrowed_map : {A B : Type 0} (allowed : Bor A → B → Type 0) (f : A → B)
-    (one : (x : Bor A) (y : B) → allowed x y → y ≡ f x.now) (xs : List (Bor A)) (ys : List B)
-    → MapOf allowed xs ys → ys ≡ map f (map (λ x. x.now) xs)
-borrowed_map allowed f one [] [] h = refl
-borrowed_map allowed f one [] (y ∷ ys) h = absurd h
-borrowed_map allowed f one (x ∷ xs) [] h = absurd h
-borrowed_map allowed f one (x ∷ xs) (y ∷ ys) h = ap (λ v. v ∷ ys) (one x y h.0)
-    ∙ ap (λ l. f x.now ∷ l) (borrowed_map allowed f one xs ys h.1)
 
 -- a map by a function, over a slice whose items are borrowed
 pub map_of_slice : {A B E : Type 0} (all : List A) (allowed : Bor A → B → Type 0) (f : A → B)
@@ -45,9 +35,8 @@ pub map_of_slice : {A B E : Type 0} (all : List A) (allowed : Bor A → B → Ty
     → IfOk result (λ ys. (xs : List (Bor A)) × (map (λ (x : Bor A). x.now) xs ≡ all)
     × MapOf allowed xs ys.items) → ((x : Bor A) (y : B) → allowed x y → y ≡ f x.now)
     → IfOk result (λ ys. ys.items ≡ map f all)
-map_of_slice all allowed f result gave one =
-    IfOk-weaker result _ (λ ys. ys.items ≡ map f all)
-    (λ ys h. borrowed_map allowed f one h.0 ys.items h.2 ∙ ap (map f) h.1) gave
+map_of_slice {A = A} all allowed f result gave one = map_of_shown (λ (x : Bor A). x.now)
+    (λ xs. map (λ (x : Bor A). x.now) xs ≡ all) all allowed f result gave (λ xs h. h) one
 
 -- a map by a function, over an iterator every run of which gives one list
 pub map_of_iterator : {S A B E : Type 0} {steps : S → Option A → S → Type 0} {s : S} (all : List A)

@@ -1,8 +1,8 @@
 -- What the clause of a list call says of lists of which the items show values: of borrows, and of
 -- pairs.
-use Rattle.parallel_bridge.proofs.Common.{◌≡◌, List, [], ◌∷◌, Result, Ok, Err, Vec, Global, refl, ap, subst, ◌∙◌, map, map-id, IfOk, Bor, zip, map-append, IfOk-weaker}
-use Rattle.parallel_bridge.proofs.Calls.{Trouble, Closure, OfFault, MapOf, UnlessRefused, listed, TryMapOf}
-use Rattle.parallel_bridge.specs.Zips.{PairsOf, both}
+use Rattle.parallel_bridge.proofs.Common.{◌≡◌, List, [], ◌∷◌, Result, Ok, Err, Vec, Global, refl, ap, subst, ◌∙◌, map, map-id, IfOk, Bor, zip, map-append, IfOk-weaker, Trouble, Closure, OfFault}
+use Rattle.parallel_bridge.proofs.Common.{MapOf, UnlessRefused, listed, TryMapOf, PairsOf, both}
+use Rattle.parallel_bridge.proofs.Laws.{map_is_function}
 
 module _ {X A : Type 0} (view : X → A) where
   -- a map of items is one of what they show
@@ -10,10 +10,9 @@ module _ {X A : Type 0} (view : X → A) where
       → ((x : X) (y : Y) → allowed x y → plain (view x) y) → (xs : List X) (ys : List Y)
       → MapOf allowed xs ys → MapOf plain (map view xs) ys
   map_shown allowed plain one [] [] h = tt
-  map_shown allowed plain one [] (y ∷ ys) h = absurd h
-  map_shown allowed plain one (x ∷ xs) [] h = absurd h
   map_shown allowed plain one (x ∷ xs) (y ∷ ys) h =
       (one x y h.0, map_shown allowed plain one xs ys h.1)
+  map_shown allowed plain one u v h = absurd h
 
   -- and so is one that may fail
   pub try_map_shown : {Y E : Type 0} (allowed : X → Result Y E → Type 0)
@@ -36,11 +35,8 @@ module _ {X A : Type 0} (view : X → A) where
   functional : {Y : Type 0} (allowed : X → Y → Type 0) (f : A → Y)
       → ((x : X) (y : Y) → allowed x y → y ≡ f (view x)) → (xs : List X) (ys : List Y)
       → MapOf allowed xs ys → ys ≡ map f (map view xs)
-  functional allowed f one [] [] h = refl
-  functional allowed f one [] (y ∷ ys) h = absurd h
-  functional allowed f one (x ∷ xs) [] h = absurd h
-  functional allowed f one (x ∷ xs) (y ∷ ys) h =
-      ap (λ v. v ∷ ys) (one x y h.0) ∙ ap (λ l. f (view x) ∷ l) (functional allowed f one xs ys h.1)
+  functional allowed f one xs ys h = map_is_function (λ a y. y ≡ f a) (map view xs) ys
+      (map_shown allowed (λ a y. y ≡ f a) one xs ys h) f (λ a y within same. same)
 
   -- a map by a function of what items show, over a source all of whose lists show one list
   pub map_of_shown : {B E : Type 0} (gives : List X → Type 0) (all : List A)
@@ -71,9 +67,8 @@ module _ {X A : Type 0} (view : X → A) where
 module _ {X Y A B : Type 0} (v : X → A) (w : Y → B) where
   shown_zip : (xs : List X) (ys : List Y)
       → map (λ (z : X × Y). (v z.0, w z.1)) (zip xs ys) ≡ zip (map v xs) (map w ys)
-  shown_zip [] ys = refl
-  shown_zip (x ∷ xs) [] = refl
   shown_zip (x ∷ xs) (y ∷ ys) = ap (λ l. (v x, w y) ∷ l) (shown_zip xs ys)
+  shown_zip u v = refl
 
   -- the pairs of two sides, of each of which all lists show one list
   pub pairs_shown : (left : List A) (right : List B) (P : List X → Type 0) (Q : List Y → Type 0)
@@ -96,8 +91,7 @@ module _ {A B : Type 0} (left : List A) (right : List B) where
   -- those of two lists that come as they are, as of two `Copies`
   pub zip_of_lists : (zs : List (A × B)) → PairsOf (λ xs. xs ≡ left) (λ ys. ys ≡ right) zs
       → zs ≡ zip left right
-  zip_of_lists zs (xs, ys, one, two, same) =
-      same ∙ ap (λ l. zip l ys) one ∙ ap (zip left) two
+  zip_of_lists zs (xs, ys, one, two, same) = same ∙ ap (λ l. zip l ys) one ∙ ap (zip left) two
 
   -- those of a slice and of a list that comes as it is
   pub zip_of_slice_and_list : (zs : List (Bor A × B))

@@ -1,7 +1,6 @@
 -- What a list call answers serially, and in parallel.
-use Rattle.parallel_bridge.proofs.Calls.{Path, Serial, Parallel, FoldSegment, of_segment, Along, AlongLeaves, Shape, FoldInitSegment, StateSegment, StatesAlong, TryAlong, TryFoldSegment}
-use Rattle.parallel_bridge.proofs.Calls.{of_try_segment, FoldedAs, FoldedInitAs, TryFoldedAs, MappedInitAs}
-use Rattle.std.proofs.Common.{◌≡◌, ℕ, List, Result}
+use Rattle.parallel_bridge.proofs.Common.{Path, Serial, Parallel, FoldSegment, of_segment, Along, AlongLeaves, Shape, FoldInitSegment, StateSegment, StatesAlong, TryAlong, TryFoldSegment}
+use Rattle.parallel_bridge.proofs.Common.{of_try_segment, FoldedAs, FoldedInitAs, TryFoldedAs, MappedInitAs, ◌≡◌, ℕ, List, Result}
 use Rattle.parallel_bridge.proofs.Bracketings.{bracketing_from_folds}
 use Rattle.parallel_bridge.proofs.Statefuls.{stateful_from_states}
 use Rattle.parallel_bridge.proofs.TryBracketings.{fold_init_from_folds, try_bracketing_from_folds}

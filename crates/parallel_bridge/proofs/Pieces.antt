@@ -2,10 +2,9 @@
 use Rattle.parallel_bridge.proofs.Common.{◌≡◌, ℕ, zero, suc, min, ◌≤◌, ◌<◌, ◌+◌, ◌-◌, ◌*◌, List, ◌∷◌, ◌++◌, length, map, take, drop, refl, sym, ap, subst, ◌∙◌, arith, inl, inr, suc-mul}
 use Rattle.parallel_bridge.proofs.Common.{mul-le-mul_right, add-mul, length-take, length-drop, take-take, drop-drop, take_all, zero-add, zero-mul, take-append_seam, drop-append_seam, cases_lt}
 use Rattle.parallel_bridge.proofs.Common.{div_ceil_times, drop_all, drop-take, length-map, map-append, take_rest, Contains-append_left, Contains-append_right, YieldsList, Bor, div_ceil, Contains}
-use Rattle.parallel_bridge.proofs.Common.{AlwaysYields}
+use Rattle.parallel_bridge.proofs.Common.{AlwaysYields, chunks_of, pieces_of}
 use Rattle.std.specs.Slice.Iter.{chunks_rest, chunks_size, chunks_steps}
 use Rattle.std.specs.declared.slice.Chunks.{Chunks}
-use Rattle.parallel_bridge.specs.Chunks.{chunks_of, pieces_of}
 
 -- so many parts of size k hold n items, and one part less doesn't
 abbrev Holds : ℕ → ℕ → ℕ → Type 0
@@ -90,8 +89,7 @@ module _ {A : Type 0} where
       let one = take-take size m xs (omega (arith, within, far)) in
       let whole : m ≡ size + (m - size) = omega (arith, within, far) in
       let rest : drop size (take m xs) ≡ take (m - size) (drop size xs) =
-      ap (λ k. drop size (take k xs)) whole
-      ∙ drop-take size (m - size) xs in
+      ap (λ k. drop size (take k xs)) whole ∙ drop-take size (m - size) xs in
       ap (λ l. l ∷ pieces_of n size (drop size (take m xs))) one
       ∙ ap (λ l. take size xs ∷ pieces_of n size l) rest
       ∙ ap (λ l. take size xs ∷ l) (in_front n (m - size) size (drop size xs)
@@ -103,8 +101,7 @@ module _ {A : Type 0} where
     pub front_count : div_ceil (length (take m xs)) size ≡ i
     front_count =
         let long : length (take m xs) ≡ m = length-take m xs ∙ omega (arith, cut) in
-        ap (λ n. div_ceil n size) long
-        ∙ count_front (length xs) size some i m within cut
+        ap (λ n. div_ceil n size) long ∙ count_front (length xs) size some i m within cut
 
     pub back_count : div_ceil (length (drop m xs)) size ≡ div_ceil (length xs) size - i
     back_count = ap (λ n. div_ceil n size) (length-drop m xs)
@@ -119,8 +116,7 @@ module _ {A : Type 0} where
         ∙ ap (λ l. pieces_of i size l ++ pieces_of rest size (drop m xs))
         (take_least (i * size) m xs cut)
         ∙ ap (λ l. pieces_of i size (take (i * size) xs) ++ pieces_of rest size l)
-        (drop_least (i * size) m xs cut)
-        ∙ ap (λ l. l ++ pieces_of rest size (drop (i * size) xs))
+        (drop_least (i * size) m xs cut) ∙ ap (λ l. l ++ pieces_of rest size (drop (i * size) xs))
         (in_front i (i * size) size xs (omega arith))
         ∙ more_pieces i rest size xs ∙ ap (λ n. pieces_of n size xs) all
 
@@ -130,8 +126,7 @@ module _ {A : Type 0} where
         → map (λ (x : Bor (List A)). x.now) back
         ≡ chunks_of size (take (length xs - m) (drop m xs))
         → map (λ (x : Bor (List A)). x.now) (front ++ back) ≡ chunks_of size xs
-    chunks_joined front back one two =
-        map-append (λ (x : Bor (List A)). x.now) front back
+    chunks_joined front back one two = map-append (λ (x : Bor (List A)). x.now) front back
         ∙ ap (λ l. l ++ map (λ (x : Bor (List A)). x.now) back) one
         ∙ ap (λ l. chunks_of size (take m xs) ++ l) (two ∙ ap (chunks_of size) (take_rest xs m))
         ∙ chunks_cut
@@ -183,8 +178,7 @@ module _ {A : Type 0} where
 
   -- std's iterator gives the pieces
   pub chunks_come : (size : ℕ) (s : Chunks A) (xs : List A) → chunks_size s ≡ size
-      → chunks_rest s ≡ xs → 0 < size
-      → YieldsList chunks_steps (λ x. x.now) s (chunks_of size xs)
+      → chunks_rest s ≡ xs → 0 < size → YieldsList chunks_steps (λ x. x.now) s (chunks_of size xs)
   chunks_come size s xs same rest some = record {
     runs = each_chunk (div_ceil (length xs) size) size s xs same rest some
         (div_ceil_times (length xs) size some);

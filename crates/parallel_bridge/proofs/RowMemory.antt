@@ -50,8 +50,7 @@ module _ {M : Type 1} {𝓤 : Ura M} {𝓛 : Logic 𝓤} {K : Type 0} {Γ : List
   where
     pub start_had : K → (p : Ptr) (vs : List Val) → (vs ≡ word p ∷ [] → Seq K 𝓛 Γ G)
         → Seq K 𝓛 (‵ ((Struct pointer).own_val (p, tt) vs) ∷ Γ) G
-    start_had t p vs k =
-        fpick t (λ vss. fsplit t $ feq_l t
+    start_had t p vs k = fpick t (λ vss. fsplit t $ feq_l t
         (λ whole. fsplit t $ feq_l t (λ inside. leave t $
         k (subst (λ (ws : List Val). vs ≡ vstruct (of_list (ws ++ [])) ∷ []) inside whole))))
 
@@ -65,8 +64,7 @@ module _ {M : Type 1} {𝓤 : Ura M} {𝓛 : Logic 𝓤} {K : Type 0} {Γ : List
 
     pub mark_had : K → (E : El) (vs : List Val) → (vs ≡ mark ∷ [] → Seq K 𝓛 Γ G)
         → Seq K 𝓛 (‵ ((Mark E).own_val (tt, tt) vs) ∷ Γ) G
-    mark_had t E vs k =
-        fpick t (λ vss. fsplit t $ feq_l t
+    mark_had t E vs k = fpick t (λ vss. fsplit t $ feq_l t
         (λ whole. fsplit t $ fpick t (λ uss. fsplit t $ feq_l t (λ inside. leave t $ leave t $
         k (subst (λ (ws : List Val). vs ≡ vstruct (of_list (ws ++ [])) ∷ []) inside whole)))))
 
@@ -84,8 +82,7 @@ module _ {M : Type 1} {𝓤 : Ura M} {𝓛 : Logic 𝓤} {K : Type 0} {Γ : List
   pub says_three : K → {φ ψ χ : Type 0} {P : SProp 𝓤} → φ → ψ → χ
       → Step K 𝓛 Γ (prop P) Γ (prop (sep 𝓤 P (sep 𝓤 (fact 𝓤 φ) (sep 𝓤 (fact 𝓤 ψ) (fact 𝓤 χ)))))
   says_three t {φ} {ψ} {χ} {P} x y z = step (λ s. record {
-    prf =
-        via 𝓤 P s.prf (qed 𝓛 (raw P ∷ [])
+    prf = via 𝓤 P s.prf (qed 𝓛 (raw P ∷ [])
         {P = sep 𝓤 P (sep 𝓤 (fact 𝓤 φ) (sep 𝓤 (fact 𝓤 ψ) (fact 𝓤 χ)))} (
         frame ! $ use0 𝓛 (raw (fact 𝓤 χ)) (fact_i 𝓤 χ (emp 𝓤) z) $
         use0 𝓛 (raw (fact 𝓤 ψ)) (fact_i 𝓤 ψ (emp 𝓤) y) $
@@ -120,8 +117,7 @@ module _ (E : El) {M : Type 1} {𝓤 : Ura M} {𝓛 : Logic 𝓤} {K : Type 0} {
   pub item_had : K → (x : el_x E) (vs : List Val)
       → ((v : Val) → vs ≡ v ∷ [] → Good (elτ E) v → Seq K 𝓛 (‵ ((R E).own_val x (v ∷ [])) ∷ Γ) G)
       → Seq K 𝓛 (‵ ((R E).own_val x vs) ∷ Γ) G
-  item_had t x vs k =
-      peeks t (R E) (Is (R E)) (shows 𝓛 (R E)) x vs (λ is.
+  item_had t x vs k = peeks t (R E) (Is (R E)) (shows 𝓛 (R E)) x vs (λ is.
       let one = only_one (elτ E) vs (((param_laws 0 E.row E.laws).lawful 𝓛).typed x vs is) in
       rewrite t 0 (λ (us : List Val). ‵ ((R E).own_val x us)) one.1.0 refl $
       k one.0 one.1.0 one.1.1)
@@ -142,8 +138,7 @@ module _ (E : El) {M : Type 1} {𝓤 : Ura M} (𝓛 : Logic 𝓤) (b : ℕ) wher
   At = slots (R E) b
 
   -- an item in memory is one machine value
-  pub item_out : (x : el_x E) (o : ℕ)
-      → ent 𝓤 (sem 𝓛 (slot (R E) b o (Some x)))
+  pub item_out : (x : el_x E) (o : ℕ) → ent 𝓤 (sem 𝓛 (slot (R E) b o (Some x)))
       (ex 𝓤 (λ (v : Val). guard 𝓤 (Good (elτ E) v)
       (sep 𝓤 (H.at full_share (elτ E) b o v) (sem 𝓛 ((R E).own_val x (v ∷ []))))))
   item_out x o = qed 𝓛 (‵ (slot (R E) b o (Some x)) ∷ []) ∵

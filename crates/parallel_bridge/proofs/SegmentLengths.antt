@@ -1,14 +1,11 @@
 -- The lengths of the segments that a list is cut into: their sum, and how many there are.
 use Rattle.parallel_bridge.proofs.Common.{◌≡◌, ℕ, zero, suc, ◌-◌, ◌*◌, ◌/◌, ◌^◌, ◌<◌, ◌≤◌, List, [], ◌∷◌, ◌++◌, length, take, drop, nat_lt, sum, refl, sym, ◌∙◌, ap, subst, append_assoc, arith}
-use Rattle.parallel_bridge.proofs.Common.{length-take, length-drop, length-append, cond-false, cond_both, le-ltb, ltb-false, sum_by-append, leading_top, pow_pos, pow-succ'}
-use Rattle.parallel_bridge.specs.Shapes.{Shape, leaf_lengths, halved_lengths, cutdepth}
+use Rattle.parallel_bridge.proofs.Common.{length-take, length-drop, length-append, cond-false, cond_both, le-ltb, ltb-false, sum_by-append, leading_top, pow_pos, pow-succ', Shape, leaf_lengths}
+use Rattle.parallel_bridge.proofs.Common.{halved_lengths, cutdepth}
 
 -- only the length of a list matters for the lengths of its segments
 pub shape_lengths : {X : Type 0} (k : ℕ) (xs : List X)
     → leaf_lengths (Shape k xs) ≡ halved_lengths k (length xs)
-shape_lengths zero xs = refl
-shape_lengths (suc k) [] = refl
-shape_lengths (suc k) (x ∷ []) = refl
 shape_lengths (suc k) (x ∷ (y ∷ xs)) =
     let zs = x ∷ (y ∷ xs) in
     let n = length zs / 2 in
@@ -20,6 +17,7 @@ shape_lengths (suc k) (x ∷ (y ∷ xs)) =
     ∙ ap (λ l. halved_lengths k n ++ l) (shape_lengths k (drop n zs) ∙ ap (halved_lengths k) right)
     ∙ sym (cond-false (nat_lt (length zs) 2) (length zs ∷ [])
     (halved_lengths k n ++ halved_lengths k (length zs - n)) (le-ltb (length zs) 2 long))
+shape_lengths u v = refl
 
 -- the segments are the whole list
 pub sum-halved : (k n : ℕ) → sum (halved_lengths k n) ≡ n
@@ -49,8 +47,7 @@ length-halved_items zero n some = omega arith
 length-halved_items (suc k) n some =
     let joined = length-append (halved_lengths k (n / 2)) (halved_lengths k (n - n / 2)) in
     cond_both (nat_lt n 2) (n ∷ []) (halved_lengths k (n / 2) ++ halved_lengths k (n - n / 2))
-    (λ l. length l ≤ n) (λ _. omega arith)
-    (λ e. let long : 2 ≤ n = ltb-false n 2 e in
+    (λ l. length l ≤ n) (λ _. omega arith) (λ e. let long : 2 ≤ n = ltb-false n 2 e in
     let left = length-halved_items k (n / 2) (omega arith) in
     let right = length-halved_items k (n - n / 2) (omega arith) in
     omega (arith, left, right, joined))
@@ -74,8 +71,7 @@ halved_more done after (suc k) n some long e =
     let one = halved_lengths k (n / 2) in
     let two = halved_lengths k (n - n / 2) in
     let e' : after ≡ done ++ one = subst (λ m. after ≡ done ++ halved_lengths m (n / 2)) less e in
-    ap (λ m. after ++ halved_lengths m (n - n / 2)) less
-    ∙ ap (λ l. l ++ two) e'
+    ap (λ m. after ++ halved_lengths m (n - n / 2)) less ∙ ap (λ l. l ++ two) e'
     ∙ append_assoc done one two
     ∙ ap (λ l. done ++ l) (sym (cond-false (nat_lt n 2) (n ∷ []) (one ++ two) (le-ltb n 2 long)))
 

@@ -1,6 +1,5 @@
 -- What a list call answers serially, and that nothing is said of it in parallel.
-use Rattle.parallel_bridge.proofs.Calls.{Trouble, Closure, Path, Serial, Parallel}
-use Rattle.std.proofs.Common.{◌≡◌, Result, Ok, Err, subst, sym}
+use Rattle.parallel_bridge.proofs.Common.{Trouble, Closure, Path, Serial, Parallel, ◌≡◌, Result, Ok, Err, subst, sym}
 use Rattle.parallel_bridge.specs.Serials.{AnsweredSerially, UnrefusedSerially}
 
 module _ {path : Path} where

@@ -19,11 +19,9 @@ module _ {F S X : Type 0} (g : Mut F (Bor X × (Bor X × Unit {0})) Ordering)
     (through : (s : S) (a : Bor X × (Bor X × Unit {0})) (r : Ordering) (t : S)
     → Called h s a r t → Called g (inner s) a r (inner s) × (inner t ≡ inner s)) where
   pub compares_through : (lt : X → X → Bool) (s : S) → ComparesAs g lt (inner s) → ComparesAs h lt s
-  compares_through lt s says = answers_by h _ (λ t. inner t ≡ inner s)
-      (λ t a r u called is.
+  compares_through lt s says = answers_by h _ (λ t. inner t ≡ inner s) (λ t a r u called is.
       let step = through t a r u called in
-      (((says.at (a ∷ [])) r (inner s) (rw is at step.0)).0, step.1 ∙ is))
-      s refl
+      (((says.at (a ∷ [])) r (inner s) (rw is at step.0)).0, step.1 ∙ is)) s refl
 
   pub sorted_through : (s : S) (xs : List X) → IsSortedByClosure h s xs
       → IsSortedByClosure g (inner s) xs

@@ -1,6 +1,6 @@
 -- Whichever way states go along a list, its answers fall into segments, each from a fresh state.
-use Rattle.parallel_bridge.proofs.Common.{ℕ, List, [], ◌∷◌, ◌++◌, sym, ◌∙◌, ap, subst, append_assoc, append-nil}
-use Rattle.parallel_bridge.proofs.Calls.{Path, Serial, Parallel, Cut, segment, halves, cut_items, Shape, StateSegment, Stateful, no_segment, more_segments, StatesAlong, StatesAs}
+use Rattle.parallel_bridge.proofs.Common.{ℕ, List, [], ◌∷◌, ◌++◌, sym, ◌∙◌, ap, subst, append_assoc, append-nil, Path, Serial, Parallel, Cut, segment, halves, cut_items, Shape, StateSegment, Stateful}
+use Rattle.parallel_bridge.proofs.Common.{no_segment, more_segments, StatesAlong, StatesAs}
 use Rattle.parallel_bridge.proofs.Shapes.{Shape-items}
 
 module _ {S X Y : Type 0} (init : S → Type 0) (step : S → X → Y → S → Type 0) where

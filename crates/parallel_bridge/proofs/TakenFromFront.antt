@@ -3,7 +3,7 @@ use Rattle.parallel_bridge.proofs.Common.{◌≡◌, List, [], ◌∷◌, ◌++�
 
 module _ {X : Type 0} where
   -- the front item stands in the list
-  pub first_of : (all rest : List X) (x : X) → all ≡ x ∷ rest → Contains all x
+  first_of : (all rest : List X) (x : X) → all ≡ x ∷ rest → Contains all x
   first_of all rest x at =
       subst (λ l. Contains l x) (sym at) (Contains-append_left (x ∷ []) rest x (Contains-push [] x))
 

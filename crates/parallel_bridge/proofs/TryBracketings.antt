@@ -1,27 +1,9 @@
 -- What goes along the shape of a list comes from neighbouring segments, also where segments may
 -- fail or have a state.
-use Rattle.parallel_bridge.proofs.Calls.{Path, Serial, Parallel, Brackets, of_segment, of_parts, Cut, segment, halves, cut_items, Shape, AlongLeaves, FoldsAs, FoldInitSegment, TryFoldSegment}
-use Rattle.parallel_bridge.proofs.Calls.{TryBrackets, of_try_segment, of_values, of_left_error, of_right_error, TryBracketing, TryAlongLeaves, TryAlong, TryFoldsAs}
-use Rattle.std.proofs.Common.{ℕ, List, [], ◌++◌, Result, Ok, Err, refl, sym, subst, inl, inr}
+use Rattle.parallel_bridge.proofs.Common.{Path, Serial, Parallel, Brackets, Cut, segment, halves, cut_items, Shape, FoldsAs, FoldInitSegment, TryFoldSegment, TryBrackets, of_try_segment, of_values}
+use Rattle.parallel_bridge.proofs.Common.{of_left_error, of_right_error, TryBracketing, TryAlongLeaves, TryFoldsAs, ℕ, List, [], ◌++◌, Result, Ok, Err, refl, sym, subst, inl, inr}
 use Rattle.parallel_bridge.proofs.Shapes.{Shape-items}
-
--- as in `brackets_from_leaves`, where an identity is the answer of the empty list once some segment
--- was answered
-module _ {X R : Type 0} (identity : R → Type 0) (allowed : List X → R → Type 0)
-    (reduce : R → R → R → Type 0) (fresh : (e : R) (xs : List X) (b : R) → identity e → allowed xs b
-    → allowed [] e) where
-  pub segments_from_leaves : (cut : Cut X) (r : R) → AlongLeaves identity allowed reduce cut r
-      → Brackets allowed reduce (cut_items cut) r
-  segments_from_leaves (segment xs) r (e, b, h, i, n) =
-      of_parts {xs = []} {ys = xs} refl (of_segment (fresh e xs b h i)) (of_segment i) n
-  segments_from_leaves (halves p q) r (a, b, h, i, n) =
-      of_parts refl (segments_from_leaves p a h) (segments_from_leaves q b i) n
-
-  pub segments_from_folds : (depth : ℕ) (path : Path) (xs : List X) (r : R)
-      → FoldsAs identity allowed reduce depth path xs r → Brackets allowed reduce xs r
-  segments_from_folds depth Serial xs r h = of_segment h
-  segments_from_folds depth Parallel xs r h = subst (λ l. Brackets allowed reduce l r)
-      (Shape-items depth xs) (segments_from_leaves (Shape depth xs) r h)
+use Rattle.parallel_bridge.proofs.Bracketings.{brackets_from_folds}
 
 module _ {S X R : Type 0} (init : S → Type 0) (identity : R → Type 0)
     (step : S → R → X → R → S → Type 0) (reduce : R → R → R → Type 0) where
@@ -30,26 +12,11 @@ module _ {S X R : Type 0} (init : S → Type 0) (identity : R → Type 0)
       → FoldInitSegment init identity step xs b → FoldInitSegment init identity step [] e
   fold_init_fresh e xs b h (s, a, made, first, chain) = (s, e, made, h, refl)
 
-  -- folds with a state, along a cut
-  pub fold_init_from_along : (cut : Cut X) (r : R)
-      → AlongLeaves identity (FoldInitSegment init identity step) reduce cut r
-      → Brackets (FoldInitSegment init identity step) reduce (cut_items cut) r
-  fold_init_from_along cut r h = segments_from_leaves identity
-      (FoldInitSegment init identity step) reduce fold_init_fresh cut r h
-
-  -- the same along the shape of a list
-  pub fold_init_along_shape : (depth : ℕ) (xs : List X) (r : R)
-      → AlongLeaves identity (FoldInitSegment init identity step) reduce (Shape depth xs) r
-      → Brackets (FoldInitSegment init identity step) reduce xs r
-  fold_init_along_shape depth xs r h = subst
-      (λ l. Brackets (FoldInitSegment init identity step) reduce l r) (Shape-items depth xs)
-      (fold_init_from_along (Shape depth xs) r h)
-
   -- folds with a state, whichever way they are carried out
   pub fold_init_from_folds : (depth : ℕ) (path : Path) (xs : List X) (r : R)
       → FoldsAs identity (FoldInitSegment init identity step) reduce depth path xs r
       → Brackets (FoldInitSegment init identity step) reduce xs r
-  fold_init_from_folds depth path xs r h = segments_from_folds identity
+  fold_init_from_folds depth path xs r h = brackets_from_folds identity
       (FoldInitSegment init identity step) reduce fold_init_fresh depth path xs r h
 
 module _ {X R E : Type 0} (identity : R → Type 0) (allowed : List X → Result R E → Type 0)
@@ -81,14 +48,6 @@ module _ {X R E : Type 0} (identity : R → Type 0) (allowed : List X → Result
 
 module _ {X R E : Type 0} (identity : R → Type 0) (step : R → X → Result R E → Type 0)
     (reduce : R → R → R → Type 0) where
-  -- the same of folds by steps that may fail, along the shape of a list
-  pub try_bracketing_from_along : (depth : ℕ) (xs : List X) (out : Result R E)
-      → TryAlong identity step reduce (Shape depth xs) out
-      → TryBracketing identity step reduce xs out
-  try_bracketing_from_along depth xs out h = subst (λ l. TryBracketing identity step reduce l out)
-      (Shape-items depth xs) (try_brackets_from_leaves identity
-      (TryFoldSegment identity step) reduce (λ e i. (e, i, refl)) (Shape depth xs) out h)
-
   -- the same, whichever way they are carried out
   pub try_bracketing_from_folds : (depth : ℕ) (path : Path) (xs : List X) (out : Result R E)
       → TryFoldsAs identity (TryFoldSegment identity step) reduce depth path xs out

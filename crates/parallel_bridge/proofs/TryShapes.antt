@@ -1,6 +1,6 @@
 -- Facts on what goes along a cut where segments may fail.
-use Rattle.parallel_bridge.proofs.Calls.{Trouble, Closure, OfFault, Cut, segment, halves, Shape, AlongCut, UnlessRefused, TryAlongCut, OnlyOk}
-use Rattle.std.proofs.Common.{◌≡◌, ℕ, zero, suc, ◌-◌, ◌/◌, ◌<◌, ◌≤◌, List, length, take, drop, Result, Ok, Err, sym, ◌∙◌, ap, subst, arith, inl, inr, ◌⊎◌}
+use Rattle.parallel_bridge.proofs.Common.{Cut, segment, halves, Shape, AlongCut, TryAlongCut, OnlyOk, ◌≡◌, ℕ, zero, suc, ◌-◌, ◌/◌, ◌<◌, ◌≤◌, List, length, take, drop, Result, Ok, Err, sym, ◌∙◌, ap}
+use Rattle.parallel_bridge.proofs.Common.{subst, arith, inl, inr, ◌⊎◌}
 use Rattle.parallel_bridge.proofs.Shapes.{Shape-leaf, Shape-node}
 
 -- what goes along a cut still does where segments and parts allow more
@@ -28,8 +28,7 @@ shape_halves (suc k) half xs front back positive long at left right =
     ap (λ m. halves (Shape m front) (Shape m back)) less
     ∙ ap (λ l. halves (Shape k l) (Shape k back)) (left ∙ ap (λ n. take n xs) at)
     ∙ ap (λ l. halves (Shape k (take (length xs / 2) xs)) (Shape k l))
-    (right ∙ ap (λ n. drop n xs) at)
-    ∙ sym (Shape-node k xs long)
+    (right ∙ ap (λ n. drop n xs) at) ∙ sym (Shape-node k xs long)
 
 -- the outcome of two parts that were split at half the length, for a list that is to be split
 module _ {X R E : Type 0} (leaf : List X → Result R E → Type 0)
@@ -41,13 +40,6 @@ module _ {X R E : Type 0} (leaf : List X → Result R E → Type 0)
   try_along_node depth half xs front back out positive long at left right h = subst
       (λ s. TryAlongCut leaf node s out)
       (shape_halves depth half xs front back positive long at left right) h
-
--- where each error of the left is one of the right
-pub unless_error : {A B E : Type 0} (t : Trouble E) (P : Result A E → Type 0)
-    (Q : Result B E → Type 0) → ((e : E) → P (Err e) → Q (Err e)) → UnlessRefused {R = A} (Err t) P
-    → UnlessRefused {R = B} (Err t) Q
-unless_error (Closure e) P Q f h = f e h
-unless_error (OfFault x) P Q f h = h
 
 -- where nothing fails, the answers go along the cut
 module _ {X R : Type 0} (E : Type 0) (leaf : List X → R → Type 0) (node : R → R → R → Type 0) where

@@ -1,7 +1,6 @@
 -- Values that are written one after another into a window, up to the first error.
-use Rattle.parallel_bridge.proofs.Common.{ℕ, List, [], ◌∷◌, ◌++◌, Result, Ok, Err, IfOk, refl, sym, subst, inl, inr, Global, Vec}
-use Rattle.parallel_bridge.proofs.Calls.{Trouble, Closure, OfFault, UnlessRefused, listed, Driven, GivesSome, Cut, segment, halves, cut_items, Shape, EachOk, FirstErr, TryAlongCut, TryMapOf}
-use Rattle.parallel_bridge.specs.Fills.{Answered, OneAfterAnother}
+use Rattle.parallel_bridge.proofs.Common.{ℕ, List, [], ◌∷◌, ◌++◌, Result, Ok, Err, IfOk, refl, sym, subst, inl, inr, Global, Vec, Trouble, Closure, OfFault, UnlessRefused, listed, Driven, GivesSome}
+use Rattle.parallel_bridge.proofs.Common.{Cut, segment, halves, cut_items, Shape, EachOk, FirstErr, TryAlongCut, TryMapOf, Answered, OneAfterAnother}
 use Rattle.parallel_bridge.proofs.FoldersAppend.{onto_append}
 use Rattle.parallel_bridge.proofs.Shapes.{MapOf-append, Shape-items}
 use Rattle.parallel_bridge.proofs.TryShapes.{try_along_wider}
@@ -56,8 +55,7 @@ module _ {X Y E : Type 0} (allowed : X → Result Y E → Type 0) where
   -- an error is an error of values in a vector too
   pub tried_error : {P : Type 0} (gives : P → List X → Type 0) (parts : P) (k : ℕ) (t : Trouble E)
       → Driven gives parts (Answered {S = Unit {0}} (λ xs s ys. EachOk allowed xs ys)
-      (FirstErr allowed)) OneAfterAnother k (Err t)
-      → UnlessRefused {R = Vec Y Global} (Err t)
+      (FirstErr allowed)) OneAfterAnother k (Err t) → UnlessRefused {R = Vec Y Global} (Err t)
       (λ out. GivesSome gives parts (λ xs. TryMapOf allowed xs (listed out)))
   tried_error gives parts k (Closure e) (xs, came, h) = (xs, came, tried_shape k xs (Err e) h)
   tried_error gives parts k (OfFault f) h = h

@@ -1,8 +1,6 @@
 -- For `unhalt`: an outcome that is no stop goes along the shape as if there were no gate.
-use Rattle.parallel_bridge.proofs.Calls.{Trouble, Closure, OfFault, Cut, segment, halves, Shape, Driven, OnlyOk, TryAlongCut}
-use Rattle.parallel_bridge.proofs.Gates.{Halt, Failed, Stopped, halting, IsUnhalted, IsUnhaltedLost, NotStopped}
-use Rattle.parallel_bridge.proofs.Windows.{written, View}
-use Rattle.std.proofs.Common.{ℕ, List, Result, Ok, Err, refl, sym, subst, inl, inr}
+use Rattle.parallel_bridge.proofs.Common.{Trouble, Closure, OfFault, Cut, segment, halves, Shape, Driven, OnlyOk, TryAlongCut, Halt, Failed, Stopped, halting, IsUnhalted, IsUnhaltedLost, NotStopped}
+use Rattle.parallel_bridge.proofs.Common.{written, View, ℕ, List, Result, Ok, Err, refl, sym, subst, inl, inr}
 
 module _ {X R E : Type 0} (leaf : List X → Result R E → Type 0)
     (node : R → R → Result R E → Type 0) (meeting : R → R → Result R (Halt E) → Type 0)
@@ -16,9 +14,8 @@ module _ {X R E : Type 0} (leaf : List X → Result R E → Type 0)
   -- two values
   two_values : (p q : Cut X) (a b : R) (out : Result R (Halt E)) → Along p (Ok a) → Along q (Ok b)
       → halting (node a) b out → halting Along (halves p q) out
-  two_values p q a b (Ok r) h i n = inl (a, b, h, i, n)
-  two_values p q a b (Err (Failed e)) h i n = inl (a, b, h, i, n)
   two_values p q a b (Err Stopped) h i n = tt
+  two_values p q a b out h i n = inl (a, b, h, i, n)
 
   -- an error of the left part, or of the right one
   left_error : (p q : Cut X) (e : Halt E) → halting Along p (Err e)
@@ -33,9 +30,8 @@ module _ {X R E : Type 0} (leaf : List X → Result R E → Type 0)
 
   one_segment : (xs : List X) (out : Result R (Halt E)) → halting leaf xs out
       → halting Along (segment xs) out
-  one_segment xs (Ok r) h = h
-  one_segment xs (Err (Failed e)) h = h
   one_segment xs (Err Stopped) h = tt
+  one_segment xs out h = h
 
   pub along_unhalted : (cut : Cut X) (out : Result R (Halt E)) → Halting cut out
       → halting Along cut out
@@ -44,8 +40,7 @@ module _ {X R E : Type 0} (leaf : List X → Result R E → Type 0)
       two_values p q a b out (along_unhalted p (Ok a) h) (along_unhalted q (Ok b) i)
       (meets a b out n)
   along_unhalted (halves p q) out (inr (inl (e, same, h))) =
-      subst (halting Along (halves p q)) (sym same)
-      (left_error p q e (along_unhalted p (Err e) h))
+      subst (halting Along (halves p q)) (sym same) (left_error p q e (along_unhalted p (Err e) h))
   along_unhalted (halves p q) out (inr (inr (a, e, same, h, i))) =
       subst (halting Along (halves p q)) (sym same)
       (right_error p q a e (along_unhalted p (Ok a) h) (along_unhalted q (Err e) i))
@@ -70,14 +65,10 @@ module _ {X R E : Type 0} (leaf : List X → Result R E → Type 0)
       (outcome : Result R (Trouble (Halt E))) (result : Result R (Trouble E))
       → Driven gives parts (halting leaf) meeting depth outcome → IsUnhaltedLost outcome result
       → Driven gives parts leaf node depth result
-  driven_lost gives parts depth (Ok r) result h is =
-      driven_unhalted gives parts depth (Ok r) result h is
-  driven_lost gives parts depth (Err (Closure (Failed e))) result h is =
-      driven_unhalted gives parts depth (Err (Closure (Failed e))) result h is
   driven_lost gives parts depth (Err (Closure Stopped)) result h is =
       subst (Driven gives parts leaf node depth) (sym is) refl
-  driven_lost gives parts depth (Err (OfFault f)) result h is =
-      driven_unhalted gives parts depth (Err (OfFault f)) result h is
+  driven_lost gives parts depth outcome result h is =
+      driven_unhalted gives parts depth outcome result h is
 
 -- the values don't matter to what an outcome is
 pub written_not_stopped : {T E : Type 0} (window : View T)
@@ -89,13 +80,9 @@ written_not_stopped window (Err t) h = h
 pub written_unhalted : {T E : Type 0} (window : View T)
     (done : Result (Unit {0}) (Trouble (Halt E))) (result : Result (Unit {0}) (Trouble E))
     → IsUnhalted done result → IsUnhalted (written window done) (written window result)
-written_unhalted window (Ok u) result is =
-    subst (λ r. IsUnhalted (Ok window.items) (written window r)) (sym is) refl
-written_unhalted window (Err (Closure (Failed e))) result is =
-    subst (λ r. IsUnhalted (Err (Closure (Failed e))) (written window r)) (sym is) refl
 written_unhalted window (Err (Closure Stopped)) result is = is
-written_unhalted window (Err (OfFault f)) result is =
-    subst (λ r. IsUnhalted (Err (OfFault f)) (written window r)) (sym is) refl
+written_unhalted window done result is =
+    subst (λ r. IsUnhalted (written window done) (written window r)) (sym is) refl
 
 -- two values that are put together to a value alone are so under the eye of a gate
 pub ok_meets : {R E : Type 0} (allowed : R → R → R → Type 0) (a b : R)

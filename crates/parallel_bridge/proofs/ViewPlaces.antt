@@ -1,7 +1,6 @@
 -- What stands at a place of a list, where one place has changed or one has come.
 use Rattle.parallel_bridge.proofs.Common.{◌≡◌, ◌≢◌, ℕ, ◌<◌, ◌⊎◌, List, [], ◌∷◌, ◌++◌, length, set, refl, sym, ap, subst, ⊎_elim, inl, inr, zero, suc, arith, some, some-injective, some-ne-none}
-use Rattle.parallel_bridge.proofs.Common.{get_elem?}
-use Rattle.atomic_table.proofs.Lists.{at_set}
+use Rattle.parallel_bridge.proofs.Common.{get_elem?, at_set}
 
 module _ {A : Type 0} where
   -- what stands at a place stands within the list
@@ -23,8 +22,7 @@ module _ {A : Type 0} where
   pub each_set : (F : A → Type 0) (l : List A) (i : ℕ) (a : A) → F a
       → ((j : ℕ) (b : A) → get_elem? l j ≡ some b → F b) → (j : ℕ) (b : A)
       → get_elem? (set l i a) j ≡ some b → F b
-  each_set F l i a new old j b e = ⊎_elim
-      (λ (t : (j ≡ i) × (a ≡ b)). subst F t.1 new)
+  each_set F l i a new old j b e = ⊎_elim (λ (t : (j ≡ i) × (a ≡ b)). subst F t.1 new)
       (λ (t : (j ≢ i) × (get_elem? l j ≡ some b)). old j b t.1)
       (at_set l i j a b e)
 
@@ -32,7 +30,6 @@ module _ {A : Type 0} where
   pub each_more : (F : A → Type 0) (l : List A) (a : A) → F a
       → ((j : ℕ) (b : A) → get_elem? l j ≡ some b → F b) → (j : ℕ) (b : A)
       → get_elem? (l ++ a ∷ []) j ≡ some b → F b
-  each_more F l a new old j b e = ⊎_elim
-      (λ (t : get_elem? l j ≡ some b). old j b t)
+  each_more F l a new old j b e = ⊎_elim (λ (t : get_elem? l j ≡ some b). old j b t)
       (λ (t : (j ≡ length l) × (a ≡ b)). subst F t.1 new)
       (one_more l a b j e)

@@ -1,7 +1,7 @@
 -- Empty places, items and empty places in a row, and what each step makes of them.
 use Rattle.parallel_bridge.proofs.Common.{◌≡◌, ℕ, zero, suc, ◌+◌, ◌-◌, ◌<◌, ◌≤◌, List, [], ◌∷◌, ◌++◌, map, length, take, drop, set, replicate, refl, sym, ap, ◌∙◌, arith, ◌⊎◌, inl, inr, append-nil}
-use Rattle.parallel_bridge.proofs.Common.{Option, Some, None, get_or, length-append, length-replicate, length-take, length-drop}
-use Rattle.parallel_bridge.proofs.Windows.{laid, values, IsRow}
+use Rattle.parallel_bridge.proofs.Common.{Option, Some, None, get_or, length-append, length-replicate, length-take, length-drop, length-map, map-append, append_assoc, get_or-append_seam}
+use Rattle.parallel_bridge.proofs.Common.{set-append_seam, replicate-append-replicate, take-replicate, drop-replicate, take_all, drop_all, laid, values, subst, View, part, IsRow}
 use denote.RawPtr.{Ptr}
 
 module _ {X : Type 0} where
@@ -20,102 +20,42 @@ module _ {X : Type 0} where
   values_laid zero xs r = values_items xs r
   values_laid (suc b) xs r = values_laid b xs r
 
-  abbrev vacant : Option X
-  vacant = None
-
-  length_items : (xs : List X) (r : ℕ) → length (map Some xs ++ empty r) ≡ length xs + r
-  length_items [] r = let e = length-replicate r vacant in omega arith
-  length_items (x ∷ xs) r =
-      let e = length_items xs r in
-      let goal : suc (length (map Some xs ++ empty r)) ≡ suc (length xs) + r = omega arith in
-      goal
-
   pub length_laid : (b : ℕ) (xs : List X) (r : ℕ) → length (laid b xs r) ≡ b + (length xs + r)
-  length_laid zero xs r = let e = length_items xs r in omega arith
-  length_laid (suc b) xs r =
-      let e = length_laid b xs r in
-      let goal : suc (length (laid b xs r)) ≡ suc b + (length xs + r) = omega arith in
-      goal
+  length_laid b xs r = simp (length-append, length-replicate, length-map)
 
-  none_there : (r i : ℕ) → get_or (empty r) i None ≡ None
-  none_there zero i = refl
-  none_there (suc r) zero = refl
-  none_there (suc r) (suc i) = none_there r i
+  -- the places up to the last item of those in front
+  abbrev front : ℕ → List X → List (Option X)
+  front b xs = empty b ++ map Some xs
 
-  -- the place behind the items is empty, and an item is put there
-  pub at_next : (b : ℕ) (xs : List X) (r i : ℕ) → i ≡ b + length xs
-      → get_or (laid b xs r) i None ≡ None
-  at_next zero [] r i e = none_there r i
-  at_next zero (x ∷ xs) r zero e = let more : 0 ≡ 0 + suc (length xs) = e in absurd (omega arith)
-  at_next zero (x ∷ xs) r (suc i) e =
-      let more : suc i ≡ 0 + suc (length xs) = e in
-      at_next zero xs r i (omega arith)
-  at_next (suc b) xs r zero e = absurd (omega arith)
-  at_next (suc b) xs r (suc i) e = at_next b xs r i (omega arith)
+  then_on : (b : ℕ) (xs ys : List X) (r : ℕ)
+      → laid b (xs ++ ys) r ≡ front b xs ++ (map Some ys ++ empty r)
+  then_on b xs ys r = simp (map-append, append_assoc)
 
-  pub next_put : (b : ℕ) (xs : List X) (r i : ℕ) (x : X) → i ≡ b + length xs
-      → set (laid b xs (suc r)) i (Some x) ≡ laid b (xs ++ x ∷ []) r
-  next_put zero [] r zero x e = refl
-  next_put zero [] r (suc i) x e = let none : suc i ≡ 0 + 0 = e in absurd (omega arith)
-  next_put zero (y ∷ xs) r zero x e = let more : 0 ≡ 0 + suc (length xs) = e in absurd (omega arith)
-  next_put zero (y ∷ xs) r (suc i) x e =
-      let more : suc i ≡ 0 + suc (length xs) = e in
-      ap (λ l. Some y ∷ l) (next_put zero xs r i x (omega arith))
-  next_put (suc b) xs r zero x e = absurd (omega arith)
-  next_put (suc b) xs r (suc i) x e = ap (λ l. None ∷ l) (next_put b xs r i x (omega arith))
+  -- the place behind those is read, and written
+  next_place : (b : ℕ) (xs : List X) (y z : Option X) (l slots : List (Option X)) (i : ℕ)
+      → slots ≡ front b xs ++ y ∷ l → i ≡ b + length xs
+      → (get_or slots i None ≡ y) × (set slots i z ≡ front b xs ++ z ∷ l)
+  next_place b xs y z l slots i is e =
+      let at : i ≡ length (front b xs) =
+      e ∙ sym (simp (length-append, length-replicate, length-map)) in (
+        (λ k. get_or (is k) (at k) None) ∙ get_or-append_seam (front b xs) y l None,
+        (λ k. set (is k) (at k) z) ∙ set-append_seam (front b xs) y l z,
+      )
 
-  -- the first item is moved out
-  pub at_first : (b : ℕ) (x : X) (xs : List X) (r : ℕ) → get_or (laid b (x ∷ xs) r) b None ≡ Some x
-  at_first zero x xs r = refl
-  at_first (suc b) x xs r = at_first b x xs r
-
-  pub first_out : (b : ℕ) (x : X) (xs : List X) (r : ℕ)
-      → set (laid b (x ∷ xs) r) b None ≡ laid (suc b) xs r
-  first_out zero x xs r = refl
-  first_out (suc b) x xs r = ap (λ l. None ∷ l) (first_out b x xs r)
-
-  -- the last item is moved out
-  pub at_last : (b : ℕ) (xs : List X) (x : X) (r i : ℕ) → i ≡ b + length xs
-      → get_or (laid b (xs ++ x ∷ []) r) i None ≡ Some x
-  at_last zero [] x r zero e = refl
-  at_last zero [] x r (suc i) e = let none : suc i ≡ 0 + 0 = e in absurd (omega arith)
-  at_last zero (y ∷ xs) x r zero e = let more : 0 ≡ 0 + suc (length xs) = e in absurd (omega arith)
-  at_last zero (y ∷ xs) x r (suc i) e =
-      let more : suc i ≡ 0 + suc (length xs) = e in
-      at_last zero xs x r i (omega arith)
-  at_last (suc b) xs x r zero e = absurd (omega arith)
-  at_last (suc b) xs x r (suc i) e = at_last b xs x r i (omega arith)
-
-  pub last_out : (b : ℕ) (xs : List X) (x : X) (r i : ℕ) → i ≡ b + length xs
-      → set (laid b (xs ++ x ∷ []) r) i None ≡ laid b xs (suc r)
-  last_out zero [] x r zero e = refl
-  last_out zero [] x r (suc i) e = let none : suc i ≡ 0 + 0 = e in absurd (omega arith)
-  last_out zero (y ∷ xs) x r zero e = let more : 0 ≡ 0 + suc (length xs) = e in absurd (omega arith)
-  last_out zero (y ∷ xs) x r (suc i) e =
-      let more : suc i ≡ 0 + suc (length xs) = e in
-      ap (λ l. Some y ∷ l) (last_out zero xs x r i (omega arith))
-  last_out (suc b) xs x r zero e = absurd (omega arith)
-  last_out (suc b) xs x r (suc i) e = ap (λ l. None ∷ l) (last_out b xs x r i (omega arith))
+  -- a place that is empty in front of the items
+  pub first_out : (b : ℕ) (l : List (Option X)) → front b [] ++ None ∷ l ≡ empty (suc b) ++ l
+  first_out zero l = refl
+  first_out (suc b) l = ap (λ m. None ∷ m) (first_out b l)
 
   -- a row that begins with its items is cut at an index
-  take_empty : (i r k : ℕ) → k ≡ i → i ≤ r → take i (empty r) ≡ empty k
-  take_empty zero r k e le = ap empty (sym e)
-  take_empty (suc i) zero k e le = absurd (omega arith)
-  take_empty (suc i) (suc r) k e le = ap (λ l. None ∷ l) (take_empty i r i refl (omega arith))
-      ∙ ap empty (sym e)
-
-  drop_empty : (i r k : ℕ) → k ≡ r - i → drop i (empty r) ≡ empty k
-  drop_empty zero r k e = let same : r ≡ k = omega arith in ap empty same
-  drop_empty (suc i) zero k e = let none : 0 ≡ k = omega arith in ap empty none
-  drop_empty (suc i) (suc r) k e = drop_empty i r k (omega arith)
-
   pub front_of : (i : ℕ) (xs : List X) (r k : ℕ) → k ≡ i - length xs → i ≤ length xs + r
       → take i (laid 0 xs r) ≡ laid 0 (take i xs) k
   front_of zero xs r k e le = let none : 0 ≡ k = omega arith in ap empty none
   front_of (suc i) [] r k e le =
       let more : k ≡ suc i - 0 = e in
+      let same : suc i ≡ k = omega arith in
       let within : suc i ≤ 0 + r = le in
-      take_empty (suc i) r k (omega arith) (omega arith)
+      take-replicate (suc i) r None (omega arith) ∙ ap empty same
   front_of (suc i) (x ∷ xs) r k e le =
       let more : k ≡ suc i - suc (length xs) = e in
       let within : suc i ≤ suc (length xs) + r = le in
@@ -126,41 +66,23 @@ module _ {X : Type 0} where
   back_of zero xs r k e = let same : r ≡ k = omega arith in ap (λ n. map Some xs ++ empty n) same
   back_of (suc i) [] r k e =
       let more : k ≡ r - (suc i - 0) = e in
-      drop_empty (suc i) r k (omega arith)
+      let same : r - suc i ≡ k = omega arith in
+      drop-replicate (suc i) r None ∙ ap empty same
   back_of (suc i) (x ∷ xs) r k e =
       let more : k ≡ r - (suc i - suc (length xs)) = e in
       back_of i xs r k (omega arith)
 
   -- a row without items goes on a row
-  empty_empty : (n m k : ℕ) → k ≡ n + m → empty n ++ empty m ≡ empty k
-  empty_empty zero m k e = let same : m ≡ k = omega arith in ap empty same
-  empty_empty (suc n) m zero e = absurd (omega arith)
-  empty_empty (suc n) m (suc k) e = ap (λ l. None ∷ l) (empty_empty n m k (omega arith))
-
-  items_empty : (xs : List X) (r m k : ℕ) → k ≡ r + m
-      → (map Some xs ++ empty r) ++ empty m ≡ map Some xs ++ empty k
-  items_empty [] r m k e = empty_empty r m k e
-  items_empty (x ∷ xs) r m k e = ap (λ l. Some x ∷ l) (items_empty xs r m k e)
-
-  laid_empty : (b : ℕ) (xs : List X) (r m k : ℕ) → k ≡ r + m → laid b xs r ++ empty m ≡ laid b xs k
-  laid_empty zero xs r m k e = items_empty xs r m k e
-  laid_empty (suc b) xs r m k e = ap (λ l. None ∷ l) (laid_empty b xs r m k e)
-
   pub then_none : (b : ℕ) (xs : List X) (r c s k : ℕ) → k ≡ r + (c + s)
       → laid b xs r ++ laid c [] s ≡ laid b xs k
-  then_none b xs r c s k e = ap (λ l. laid b xs r ++ l) (empty_empty c s (c + s) refl)
-      ∙ laid_empty b xs r (c + s) k e
+  then_none b xs r c s k e =
+      let none : Option X = None in
+      rw (e, ← replicate-append-replicate r (c + s) none, ← replicate-append-replicate c s none)
+      (simp append_assoc)
 
   -- a row that begins with its items goes on a row that ends with its items
-  items_items : (xs ys : List X) (s : ℕ)
-      → (map Some xs ++ []) ++ (map Some ys ++ empty s) ≡ map Some (xs ++ ys) ++ empty s
-  items_items [] ys s = refl
-  items_items (x ∷ xs) ys s = ap (λ l. Some x ∷ l) (items_items xs ys s)
-
-  pub then_more : (b : ℕ) (xs ys : List X) (s : ℕ)
-      → laid b xs 0 ++ laid 0 ys s ≡ laid b (xs ++ ys) s
-  then_more zero xs ys s = items_items xs ys s
-  then_more (suc b) xs ys s = ap (λ l. None ∷ l) (then_more b xs ys s)
+  then_more : (b : ℕ) (xs ys : List X) (s : ℕ) → laid b xs 0 ++ laid 0 ys s ≡ laid b (xs ++ ys) s
+  then_more b xs ys s = simp (append_assoc, append-nil, map-append)
 
   -- what is laid out so is a row of these items
   pub is_row : (at start : Ptr) (slots : List (Option X)) (room b n : ℕ) (xs : List X) (r : ℕ)
@@ -171,6 +93,12 @@ module _ {X : Type 0} where
       let rest : r ≡ room - (b + n) = omega arith in
       ((a, long ∙ sym (ap length is), omega arith, e ∙ (λ i. laid b (sym is i) (rest i))), is)
 
+-- a row that is named anew
+pub moved : {X : Type 0} {at start p : Ptr} {slots cs : List (Option X)} {room n : ℕ} (b : ℕ) → p ≡ at
+    → cs ≡ slots → IsRow at start slots room b n → IsRow p start cs room b n
+moved {X = X} {start = start} {room = room} {n = n} b e f row = subst
+    (λ (x : Ptr × List (Option X)). IsRow x.0 start x.1 room b n) (λ i. (sym e i, sym f i)) row
+
 pub some_same : {X : Type 0} {x y : X} → Some x ≡ Some y → x ≡ y
 some_same e = cc
 
@@ -179,12 +107,11 @@ no_items [] e = refl
 no_items (x ∷ xs) e = absurd (omega arith)
 
 -- a list with a first, or a last, item
-pub first_of : {X : Type 0} (xs : List X) → 0 < length xs → (x : X)
-    × ((ys : List X) × (xs ≡ x ∷ ys))
+first_of : {X : Type 0} (xs : List X) → 0 < length xs → (x : X) × ((ys : List X) × (xs ≡ x ∷ ys))
 first_of [] some = absurd (omega arith)
 first_of (x ∷ xs) some = (x, (xs, refl))
 
-pub last_of : {X : Type 0} (xs : List X) → 0 < length xs → (x : X)
+last_of : {X : Type 0} (xs : List X) → 0 < length xs → (x : X)
     × ((ys : List X) × (xs ≡ ys ++ x ∷ []))
 last_of [] some = absurd (omega arith)
 last_of (x ∷ []) some = (x, ([], refl))
@@ -202,76 +129,58 @@ module _ {X : Type 0} (at start : Ptr) (slots : List (Option X)) (room b n : ℕ
   left = room - (b + n)
 
   -- one more item, in the place behind the others
-  pub put_row : (x : X) → b + n < room → (b + n < length slots) × (get_or slots (b + n) None ≡ None)
+  pub put_row : {v : View X} (x : X) → part start room b items ≡ v
+      → v.before + length v.items < v.room → (b + n < length slots) × (get_or slots (b + n) None ≡ None)
       × IsRow at start (set slots (b + n) (Some x)) room b (n + 1)
       × (values (set slots (b + n) (Some x)) ≡ items ++ x ∷ [])
-  put_row x lt =
-      let long : n ≡ length items = row.1 in
+  put_row x is lt =
+      let fits : b + length items < room =
+      subst (λ (u : View X). u.before + length u.items < u.room) (sym is) lt in
       let laid_long = length_laid b items left in
       let same : length slots ≡ length (laid b items left) = ap length row.3 in
       let more : left ≡ suc (left - 1) = omega arith in
-      let put : set slots (b + n) (Some x) ≡ laid b (items ++ x ∷ []) (left - 1) = ap
-      (λ l. set l (b + n) (Some x)) (row.3 ∙ ap (laid b items) more)
-      ∙ next_put b items (left - 1) (b + n) x (omega arith) in
+      let put = next_place b items None (Some x) (empty (left - 1)) slots (b + n)
+      (row.3 ∙ ap (laid b items) more
+      ∙ sym (append_assoc (empty b) (map Some items) (empty (suc (left - 1))))) (omega arith) in
       let longer = length-append items (x ∷ []) in
       let is = is_row at start (set slots (b + n) (Some x)) room b (n + 1) (items ++ x ∷ [])
-      (left - 1) row.0 put (omega arith) (omega arith) in (
-        omega arith,
-        ap (λ l. get_or l (b + n) None) row.3
-            ∙ at_next b items left (b + n) (omega arith),
-        is.0,
-        is.1,
-      )
+      (left - 1) row.0 (put.1 ∙ sym (then_on b items (x ∷ []) (left - 1))) (omega arith)
+      (omega arith) in (omega arith, put.0, is.0, is.1)
 
   -- the items without the first
-  pub take_row : 0 < n → (x : X)
+  pub take_row : {v : View X} → part start room b items ≡ v → 0 < length v.items → (x : X)
       × ((get_or slots b None ≡ Some x) × IsRow at start (set slots b None) room (b + 1) (n - 1)
       × (items ≡ x ∷ values (set slots b None)))
-  take_row some =
-      let long : n ≡ length items = row.1 in
-      let first = first_of items (omega arith) in
+  take_row is has =
+      let first = first_of items (subst (λ (u : View X). 0 < length u.items) (sym is) has) in
       let x = first.0 in
       let ys = first.1.0 in
       let shorter : length items ≡ suc (length ys) = ap length first.1.1 in
       let on : suc b ≡ b + 1 = omega arith in
-      let now : slots ≡ laid b (x ∷ ys) left = row.3 ∙ ap (λ zs. laid b zs left) first.1.1 in
-      let gone : set slots b None ≡ laid (b + 1) ys left = ap (λ l. set l b None) now
-      ∙ first_out b x ys left ∙ ap (λ k. laid k ys left) on in
+      let out = next_place b [] (Some x) None (map Some ys ++ empty left) slots b
+      (row.3 ∙ ap (λ zs. laid b zs left) first.1.1 ∙ then_on b [] (x ∷ ys) left) (omega arith) in
+      let gone = out.1 ∙ first_out b (map Some ys ++ empty left) ∙ ap (λ k. laid k ys left) on in
       let is = is_row at start (set slots b None) room (b + 1) (n - 1) ys left row.0 gone
-      (omega arith) (omega arith) in (
-        x,
-        (
-          ap (λ l. get_or l b None) now ∙ at_first b x ys left,
-          is.0,
-          first.1.1
-              ∙ ap (λ zs. x ∷ zs) (sym is.1),
-        ),
-      )
+      (omega arith) (omega arith) in
+      (x, (out.0, is.0, first.1.1 ∙ ap (λ zs. x ∷ zs) (sym is.1)))
 
   -- the items without the last
-  pub back_row : 0 < n → (x : X)
+  pub back_row : {v : View X} → part start room b items ≡ v → 0 < length v.items → (x : X)
       × ((get_or slots (b + n - 1) None ≡ Some x)
       × IsRow at start (set slots (b + n - 1) None) room b (n - 1)
       × (items ≡ values (set slots (b + n - 1) None) ++ x ∷ []))
-  back_row some =
-      let long : n ≡ length items = row.1 in
-      let last = last_of items (omega arith) in
+  back_row is has =
+      let last = last_of items (subst (λ (u : View X). 0 < length u.items) (sym is) has) in
       let x = last.0 in
       let ys = last.1.0 in
       let shorter : length items ≡ length (ys ++ x ∷ []) = ap length last.1.1 in
       let one = length-append ys (x ∷ []) in
-      let now : slots ≡ laid b (ys ++ x ∷ []) left = row.3 ∙ ap (λ zs. laid b zs left) last.1.1 in
-      let gone : set slots (b + n - 1) None ≡ laid b ys (suc left) =
-      ap (λ l. set l (b + n - 1) None) now ∙ last_out b ys x left (b + n - 1) (omega arith) in
-      let is = is_row at start (set slots (b + n - 1) None) room b (n - 1) ys (suc left) row.0 gone
-      (omega arith) (omega arith) in (
-        x,
-        (
-          ap (λ l. get_or l (b + n - 1) None) now ∙ at_last b ys x left (b + n - 1) (omega arith),
-          is.0,
-          last.1.1 ∙ ap (λ zs. zs ++ x ∷ []) (sym is.1),
-        ),
-      )
+      let out = next_place b ys (Some x) None (empty left) slots (b + n - 1)
+      (row.3 ∙ ap (λ zs. laid b zs left) last.1.1 ∙ then_on b ys (x ∷ []) left) (omega arith) in
+      let is = is_row at start (set slots (b + n - 1) None) room b (n - 1) ys (suc left) row.0
+      (out.1 ∙ append_assoc (empty b) (map Some ys) (empty (suc left))) (omega arith)
+      (omega arith) in
+      (x, (out.0, is.0, last.1.1 ∙ ap (λ zs. zs ++ x ∷ []) (sym is.1)))
 
   -- the first i places of a row that begins with its items, and the rest
   module _ (i : ℕ) (none : b ≡ 0) (le : i ≤ room) where
@@ -280,7 +189,6 @@ module _ {X : Type 0} (at start : Ptr) (slots : List (Option X)) (room b n : ℕ
 
     pub in_row : i ≤ length slots
     in_row =
-        let long : n ≡ length items = row.1 in
         let laid_long = length_laid 0 items left in
         let same : length slots ≡ length (laid 0 items left) = ap length from_items in
         omega arith
@@ -308,8 +216,6 @@ module _ {X : Type 0} (at start : Ptr) (slots : List (Option X)) (room b n : ℕ
 
   pub row_length : length slots ≡ room
   row_length =
-      let long : n ≡ length items = row.1 in
-      let within : b + n ≤ room = row.2 in
       let laid_long = length_laid b items left in
       let same : length slots ≡ length (laid b items left) = ap length row.3 in
       omega arith
@@ -333,10 +239,6 @@ module _ {X : Type 0} (at start : Ptr) (slots : List (Option X)) (room b n : ℕ
       (omega arith) (omega arith)
   two_rows {slots' = slots'} {room' = room'} {b' = b'} {n' = n'} other (inr none) =
       let xs = values slots' in
-      let long : n ≡ length items = row.1 in
-      let more : n' ≡ length xs = other.1 in
-      let within = other.2 in
-      let inside = row.2 in
       let nothing : xs ≡ [] = no_items xs (omega arith) in
       let rest = room' - (b' + n') in
       let sum = length-append items xs in
@@ -352,28 +254,11 @@ module _ {X : Type 0} (at start : Ptr) (slots : List (Option X)) (room b n : ℕ
   -- a row without items is all room
   pub rewound_row : n ≡ 0 → IsRow at start slots room 0 0 × (items ≡ [])
   rewound_row none =
-      let long : n ≡ length items = row.1 in
-      let within : b + n ≤ room = row.2 in
       let no : items ≡ [] = no_items items (omega arith) in
+      let all : b + left ≡ room = omega arith in
       let now : slots ≡ laid 0 [] room = row.3 ∙ ap (λ xs. laid b xs left) no
-      ∙ empty_empty b left room (omega arith) in
+      ∙ replicate-append-replicate b left None ∙ ap empty all in
       ((is_row at start slots room 0 0 [] room row.0 now refl (omega arith)).0, no)
-
-take_past : {X : Type 0} (i : ℕ) (xs : List X) → length xs ≤ i → take i xs ≡ xs
-take_past zero [] le = refl
-take_past zero (x ∷ xs) le = let more : suc (length xs) ≤ 0 = le in absurd (omega arith)
-take_past (suc i) [] le = refl
-take_past (suc i) (x ∷ xs) le =
-    let more : suc (length xs) ≤ suc i = le in
-    ap (λ l. x ∷ l) (take_past i xs (omega arith))
-
-drop_past : {X : Type 0} (i : ℕ) (xs : List X) → length xs ≤ i → drop i xs ≡ []
-drop_past zero [] le = refl
-drop_past zero (x ∷ xs) le = let more : suc (length xs) ≤ 0 = le in absurd (omega arith)
-drop_past (suc i) [] le = refl
-drop_past (suc i) (x ∷ xs) le =
-    let more : suc (length xs) ≤ suc i = le in
-    drop_past i xs (omega arith)
 
 -- a block that begins with its items, cut behind them
 pub opened_rows : {X : Type 0} (at start : Ptr) (slots : List (Option X)) (c i n : ℕ) (xs : List X)
@@ -384,12 +269,11 @@ opened_rows at start slots c i n xs a e long le lc =
     let all = length_laid 0 xs (c - length xs) in
     let same : length slots ≡ length (laid 0 xs (c - length xs)) = ap length e in
     let front = ap (take i) e ∙ front_of i xs (c - length xs) (i - length xs) refl (omega arith)
-    ∙ ap (λ l. laid 0 l (i - length xs)) (take_past i xs (omega arith)) in
+    ∙ ap (λ l. laid 0 l (i - length xs)) (take_all i xs (omega arith)) in
     let back = ap (drop i) e ∙ back_of i xs (c - length xs) (c - i) (omega arith)
-    ∙ ap (λ l. laid 0 l (c - i)) (drop_past i xs (omega arith)) in (
+    ∙ ap (λ l. laid 0 l (c - i)) (drop_all i xs (omega arith)) in (
       omega arith,
-      is_row at start (take i slots) i 0 n xs (i - length xs) a front long
-          (omega arith),
+      is_row at start (take i slots) i 0 n xs (i - length xs) a front long (omega arith),
       back,
     )
 

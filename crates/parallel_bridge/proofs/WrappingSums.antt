@@ -1,7 +1,6 @@
 -- Folds that add up and wrap around at m.
 use Rattle.parallel_bridge.proofs.Common.{◌≡◌, ℕ, ◌+◌, ◌%◌, ◌<◌, List, [], ◌∷◌, Result, nat_lt, sym, ◌∙◌, ap, fold, sum_by, arith, IfOk, ltb-true, lt-ltb, mod_below, sum_by-cons, IfOk-weaker}
-use Rattle.parallel_bridge.proofs.Common.{mod-add-mod, add-mod-mod, mod-eq_of_lt}
-use Rattle.parallel_bridge.proofs.Calls.{Bracketing, FoldLaws}
+use Rattle.parallel_bridge.proofs.Common.{mod-add-mod, add-mod-mod, mod-eq_of_lt, Bracketing, FoldLaws}
 use Rattle.parallel_bridge.proofs.OverLists.{fold_of_list}
 
 -- a sum and what the next item adds

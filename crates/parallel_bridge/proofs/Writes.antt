@@ -1,7 +1,5 @@
 -- Answers that are written one after another into a window.
-use Rattle.parallel_bridge.proofs.Calls.{MapOf, Cut, segment, halves, cut_items, Shape, TryAlongCut, OnlyOk}
-use Rattle.std.proofs.Common.{ℕ, List, ◌++◌, Result, Ok, Err, sym, subst, inl, inr}
-use Rattle.parallel_bridge.specs.Fills.{Answered, OneAfterAnother}
+use Rattle.parallel_bridge.proofs.Common.{MapOf, Cut, segment, halves, cut_items, Shape, TryAlongCut, OnlyOk, ℕ, List, ◌++◌, Result, Ok, Err, sym, subst, inl, inr, Answered, OneAfterAnother}
 use Rattle.parallel_bridge.proofs.Shapes.{MapOf-append, Shape-items}
 use Rattle.parallel_bridge.proofs.TryShapes.{try_along_wider}
 

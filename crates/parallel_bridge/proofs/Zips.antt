@@ -1,8 +1,7 @@
 -- Two lists pair by pair, and a list with its indices: a cut of them, and what may come of a part.
-use Rattle.parallel_bridge.proofs.Common.{◌≡◌, ℕ, suc, ◌≤◌, ◌<◌, ◌+◌, ◌-◌, min, List, [], ◌∷◌, ◌++◌, Option, length, map, refl, sym, ap, subst, ◌∙◌, arith, Drains, HoldsAlong, Yields, All}
-use Rattle.parallel_bridge.proofs.Common.{AllByRecursion, enumerate_from, range_with_len, zip, All-from_recursion, recursion_from_All}
+use Rattle.parallel_bridge.proofs.Common.{◌≡◌, ℕ, ◌+◌, min, List, [], ◌∷◌, ◌++◌, Option, length, map, refl, sym, ap, subst, ◌∙◌, arith, Drains, HoldsAlong, Yields, All, AllByRecursion, enumerate_from}
+use Rattle.parallel_bridge.proofs.Common.{range_with_len, zip, All-from_recursion, recursion_from_All, PairsOf, zipped_steps}
 use Rattle.std.proofs.lemmas.Slice.Zip.{length-zip}
-use Rattle.parallel_bridge.specs.Zips.{PairsOf, zipped_steps}
 use Rattle.parallel_bridge.specs.declared.zipped.ZippedIter.{ZippedIter}
 
 module _ {A B : Type 0} where
@@ -10,10 +9,9 @@ module _ {A B : Type 0} where
   pub zip_append : (xs more : List A) (ys others : List B) → length xs ≡ length ys
       → zip (xs ++ more) (ys ++ others) ≡ zip xs ys ++ zip more others
   zip_append [] more [] others same = refl
-  zip_append [] more (y ∷ ys) others same = absurd (omega (arith, same))
-  zip_append (x ∷ xs) more [] others same = absurd (omega (arith, same))
   zip_append (x ∷ xs) more (y ∷ ys) others same =
       ap (λ l. (x, y) ∷ l) (zip_append xs more ys others (omega (arith, same)))
+  zip_append u more v others same = absurd (omega (arith, same))
 
   -- so many pairs as each list has items
   pub pairs_long : (n m : ℕ) (P : List A → Type 0) (Q : List B → Type 0) (zs : List (A × B))
@@ -85,8 +83,7 @@ module _ {S T A B : Type 0} (steps : S → Option A → S → Type 0)
     pub both_along : (s : ZippedIter S T) → HoldsAlong steps s.left (All P)
         → HoldsAlong others s.right (All Q)
         → HoldsAlong (zipped_steps steps others) s (All (λ z. P z.0 × Q z.1))
-    both_along s one two zs t run = All-from_recursion (λ z. P z.0 × Q z.1) zs
-        (of_both zs
+    both_along s one two zs t run = All-from_recursion (λ z. P z.0 × Q z.1) zs (of_both zs
         (recursion_from_All P (map (λ z. z.0) zs)
         (one (map (λ z. z.0) zs) t.left (left_run zs s t run)))
         (recursion_from_All Q (map (λ z. z.1) zs)
@@ -101,7 +98,6 @@ module _ {A : Type 0} where
 
   -- indices and items that were gone through side by side
   pub numbered_both : (start n : ℕ) (xs : List ℕ) (ys : List A) (zs : List (ℕ × A))
-      → xs ≡ range_with_len start n → length ys ≡ n → zs ≡ zip xs ys
-      → zs ≡ enumerate_from start ys
+      → xs ≡ range_with_len start n → length ys ≡ n → zs ≡ zip xs ys → zs ≡ enumerate_from start ys
   numbered_both start n xs ys zs indices long same = same ∙ ap (λ l. zip l ys) indices
       ∙ ap (λ k. zip (range_with_len start k) ys) (sym long) ∙ zip_numbers start ys

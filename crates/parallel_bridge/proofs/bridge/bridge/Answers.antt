@@ -1,7 +1,5 @@
 -- The list is cut into few segments.
-use Rattle.std.proofs.Common.{arith}
-use Rattle.parallel_bridge.specs.Shapes.{cutdepth}
-use Rattle.parallel_bridge.proofs.SegmentLengths.{shape_by_threads, shape_by_items}
+use Rattle.parallel_bridge.proofs.{arith, cutdepth, shape_by_threads, shape_by_items}
 use Rattle.parallel_bridge.proofs.bridge.bridge.Goals as goal
 
 pub returns-clause-by_threads : goal.returns-clause-by_threads

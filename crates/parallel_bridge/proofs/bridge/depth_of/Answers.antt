@@ -1,6 +1,5 @@
 -- The number of digits is the least power of 2 above the number.
-use Rattle.std.proofs.Common.{◌≡◌, arith, rules}
-use Rattle.parallel_bridge.proofs.SegmentLengths.{cutdepth_bounds}
+use Rattle.parallel_bridge.proofs.{◌≡◌, arith, rules, cutdepth_bounds}
 use Rattle.parallel_bridge.proofs.bridge.depth_of.Goals as goal
 
 pub returns-clause-enough : goal.returns-clause-enough

@@ -1,6 +1,6 @@
 -- a task is above its two halves, these above their closures, and the closures above the tasks that
 -- they are given
-use Rattle.std.proofs.Common.{◌+◌, ◌*◌}
+use Rattle.parallel_bridge.proofs.{◌+◌, ◌*◌}
 use Rattle.parallel_bridge.proofs.drive.+halves.Given as goal
 
 abbrev pub decreases-drive : goal.decreases-drive

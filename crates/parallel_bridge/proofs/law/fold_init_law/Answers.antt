@@ -1,13 +1,8 @@
 -- The law, at the relations of the four closures.
-use Rattle.std.specs.Borrow.{MutBor}
-use Rattle.parallel_bridge.specs.States.{FoldStep}
-use Rattle.parallel_bridge.proofs.Laws.{plain_from_states}
+use Rattle.parallel_bridge.proofs.{FoldStep, plain_from_states}
 use Rattle.parallel_bridge.proofs.law.fold_init_law.Goals as goal
 
 pub returns : goal.returns
-returns g c xs r h =
-    plain_from_states (λ s. g.N.Fn.post c.args.init.now tt s)
-    (λ e. g.I.Fn.post c.args.identity.now tt e)
-    (FoldStep (λ (a : g.row.R.Denot) (p : MutBor g.row.S.Denot) (x : g.row.X.Denot)
-    (b : g.row.R.Denot) (q : MutBor g.row.S.Denot). goal.F-post g c.args.fold_op.now a p x b q))
-    (λ p q v. g.G.Fn.post c.args.reduce_op.now (p, (q, tt)) v) xs r h
+returns g c xs r h = plain_from_states (goal.N-post g c.args.init.now)
+    (goal.I-post g c.args.identity.now) (FoldStep (goal.F-post g c.args.fold_op.now))
+    (goal.G-post g c.args.reduce_op.now) xs r h

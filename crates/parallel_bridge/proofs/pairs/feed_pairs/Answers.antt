@@ -1,8 +1,5 @@
 -- One pair less is left, and the folder has taken it.
-use Rattle.std.proofs.Common.{arith, ◌++◌, ◌∙◌, sym, subst}
-use Rattle.parallel_bridge.specs.Pairs.{pairs_of}
-use Rattle.parallel_bridge.proofs.Neighbours.{no_pair}
-use Rattle.parallel_bridge.proofs.TakenFromFront.{others_of}
+use Rattle.parallel_bridge.proofs.{rules, arith, ◌++◌, sym, subst, pairs_of, no_pair, others_of}
 use Rattle.parallel_bridge.proofs.pairs.feed_pairs.Goals as goal
 
 pub loop-alloc-preserved : goal.loop-alloc-preserved
@@ -13,18 +10,13 @@ loop-alloc-preserved g c =
     let fed = c.in_ok-folder.ensures in
     record {
       ready = fed.ready;
-      takes =
-          λ x within. fed.takes x (so_far.takes x
+      takes = λ x within. fed.takes x (so_far.takes x
           (others_of (pairs_of c.loop-alloc.window.items) rest c.take_pair-pair.result x front
           within));
       gives = λ more out h. so_far.gives more out
           (subst (λ l. g.F.Folder.gives c.loop-alloc.folder (l ++ more) out) (sym front)
           (fed.gives (rest ++ more) out h));
-      place = (
-        c.take_pair-pair.ensures.place.0 ∙ so_far.place.0,
-        c.take_pair-pair.ensures.place.1
-            ∙ so_far.place.1,
-      );
+      place = search rules;
     }
 
 pub returns-clause-gives : goal.returns-clause-gives

@@ -1,7 +1,5 @@
 -- what the folder may answer behind the pairs that are left, the first one may answer behind all
-use Rattle.parallel_bridge.proofs.Common.{List, Result, ◌++◌, length, Contains}
-use Rattle.parallel_bridge.specs.Fills.{SamePlaces}
-use Rattle.parallel_bridge.specs.Pairs.{pairs_of}
+use Rattle.parallel_bridge.proofs.{List, Result, ◌++◌, length, Contains, SamePlaces, pairs_of}
 use Rattle.parallel_bridge.proofs.pairs.feed_pairs.Given as goal
 
 abbrev pub invariant-loop-alloc : goal.invariant-loop-alloc

@@ -1,5 +1,5 @@
 -- The first two items are the first pair.
-use Rattle.parallel_bridge.proofs.Neighbours.{two_taken}
+use Rattle.parallel_bridge.proofs.{two_taken}
 use Rattle.parallel_bridge.proofs.pairs.take_pair.Goals as goal
 
 pub returns-clause-items : goal.returns-clause-items

@@ -1,7 +1,5 @@
 -- The next pair stands in the list of pairs, and there is a place for its answer.
-use Rattle.parallel_bridge.proofs.Common.{◌++◌, ◌∷◌, [], arith, ap, length, subst, ◌∙◌, sym, length-append}
-use Rattle.parallel_bridge.proofs.TakenFromFront.{between, one_taken}
-use Rattle.parallel_bridge.specs.Pairs.{pairs_of}
+use Rattle.parallel_bridge.proofs.{rules, ◌++◌, ◌∷◌, [], arith, ap, length, subst, ◌∙◌, sym, length-append, between, one_taken, pairs_of}
 use Rattle.parallel_bridge.proofs.pairs.write_pairs.Goals as goal
 
 pub answer-requires : goal.answer-requires
@@ -29,14 +27,10 @@ loop-items-preserved g c =
         one_taken (pairs_of c.args.items.now.items) xs (pairs_of c.loop-items.items.items)
             (pairs_of pair.new.window.items) pair.result so_far.taken.1 pair.ensures.items,
         subst (λ l. g.W.Writer.so_far c.args.writer.now (xs ++ pair.result ∷ [])
-            c.answer.new.state l) (sym placed)
-            (c.in_ok-answer.ensures.next xs room so_far.taken.2),
+            c.answer.new.state l) (sym placed) (c.in_ok-answer.ensures.next xs room so_far.taken.2),
         ap length placed ∙ omega (arith, more, longer, count),
       );
-      from = (pair.ensures.place.0 ∙ so_far.from.0, pair.ensures.place.1 ∙ so_far.from.1);
-      place = (
-        ap (λ w. w.start) c.put.ensures ∙ so_far.place.0,
-        ap (λ w. w.room) c.put.ensures ∙ so_far.place.1,
-      );
-      first = ap (λ w. w.before) c.put.ensures ∙ so_far.first;
+      from = search rules;
+      place = search rules;
+      first = search rules;
     }

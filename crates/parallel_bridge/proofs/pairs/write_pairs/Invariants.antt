@@ -1,7 +1,5 @@
 -- the pairs that were taken, and an answer for each of them
-use Rattle.std.proofs.Common.{◌≡◌, ◌++◌, List, length}
-use Rattle.parallel_bridge.specs.Fills.{SamePlaces}
-use Rattle.parallel_bridge.specs.Pairs.{pairs_of}
+use Rattle.parallel_bridge.proofs.{◌≡◌, ◌++◌, List, length, SamePlaces, pairs_of}
 use Rattle.parallel_bridge.proofs.pairs.write_pairs.Given as goal
 
 abbrev pub invariant-loop-items : goal.invariant-loop-items

@@ -1,7 +1,5 @@
 -- The next pair stands in the list of pairs, and there is a place for its answer.
-use Rattle.parallel_bridge.proofs.Common.{◌++◌, ◌∷◌, [], arith, ap, length, subst, ◌∙◌, sym, length-append}
-use Rattle.parallel_bridge.proofs.TakenFromFront.{between, one_taken}
-use Rattle.parallel_bridge.specs.Pairs.{pairs_of}
+use Rattle.parallel_bridge.proofs.{rules, ◌++◌, ◌∷◌, [], arith, ap, length, subst, ◌∙◌, sym, length-append, between, one_taken, pairs_of}
 use Rattle.parallel_bridge.proofs.pairs.write_pairs_watched.Goals as goal
 
 pub answer-requires : goal.answer-requires
@@ -23,31 +21,18 @@ loop-watch-preserved g c =
     let more = length-append room (y ∷ []) in
     let longer = length-append xs (pair.result ∷ []) in
     let count = so_far.taken.3 in
-    let looked = c.stopped.ensures in
     record {
       taken = (
         xs ++ pair.result ∷ [],
         one_taken (pairs_of c.args.items.now.items) xs (pairs_of c.loop-watch.items.items)
             (pairs_of pair.new.window.items) pair.result so_far.taken.1 pair.ensures.items,
         subst (λ l. g.W.Writer.so_far c.args.writer.now (xs ++ pair.result ∷ [])
-            c.answer.new.state l) (sym placed)
-            (c.in-Ok.ensures.next xs room so_far.taken.2),
+            c.answer.new.state l) (sym placed) (c.in-Ok.ensures.next xs room so_far.taken.2),
         ap length placed ∙ omega (arith, more, longer, count),
       );
-      from = (pair.ensures.place.0 ∙ so_far.from.0, pair.ensures.place.1 ∙ so_far.from.1);
-      place = (
-        ap (λ w. w.start) c.put.ensures ∙ so_far.place.0,
-        ap (λ w. w.room) c.put.ensures ∙ so_far.place.1,
-      );
-      first = ap (λ w. w.before) c.put.ensures ∙ so_far.first;
-      watch = (
-        looked.watching,
-        omega (arith, looked.same.2, so_far.watch.1),
-        looked.told ∙ so_far.watch.2,
-      );
-      same = (
-        looked.same.0 ∙ so_far.same.0,
-        looked.same.1 ∙ so_far.same.1,
-        looked.same.2 ∙ so_far.same.2,
-      );
+      from = search rules;
+      place = search rules;
+      first = search rules;
+      watch = search rules;
+      same = search rules;
     }

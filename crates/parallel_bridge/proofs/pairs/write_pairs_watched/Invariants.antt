@@ -1,8 +1,5 @@
 -- the pairs that were taken, and an answer for each of them; nothing was told
-use Rattle.std.proofs.Common.{◌≡◌, ◌++◌, List, length}
-use Rattle.parallel_bridge.specs.Fills.{SamePlaces}
-use Rattle.parallel_bridge.specs.Gates.{MayTell, SameWatch}
-use Rattle.parallel_bridge.specs.Pairs.{pairs_of}
+use Rattle.parallel_bridge.proofs.{◌≡◌, ◌++◌, List, length, SamePlaces, MayTell, SameWatch, pairs_of}
 use Rattle.parallel_bridge.proofs.pairs.write_pairs_watched.Given as goal
 
 abbrev pub invariant-loop-watch : goal.invariant-loop-watch

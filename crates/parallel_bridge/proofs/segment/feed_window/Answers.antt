@@ -1,6 +1,5 @@
 -- One item less is left, and the folder has taken it.
-use Rattle.parallel_bridge.proofs.Common.{common_steps, arith, ◌++◌, ◌∙◌, sym, subst}
-use Rattle.parallel_bridge.proofs.TakenFromFront.{others_of}
+use Rattle.parallel_bridge.proofs.{rules, common_steps, arith, ◌++◌, sym, subst, others_of}
 use Rattle.parallel_bridge.proofs.segment.feed_window.Goals as goal
 
 pub loop-alloc-preserved : goal.loop-alloc-preserved
@@ -11,17 +10,12 @@ loop-alloc-preserved g c =
     let fed = c.in_ok-folder.ensures in
     record {
       ready = fed.ready;
-      takes =
-          λ x within. fed.takes x (so_far.takes x
+      takes = λ x within. fed.takes x (so_far.takes x
           (others_of c.loop-alloc.window.items rest c.take-item.result x front within));
       gives = λ more out h. so_far.gives more out
           (subst (λ l. g.F.Folder.gives c.loop-alloc.folder (l ++ more) out) (sym front)
           (fed.gives (rest ++ more) out h));
-      place = (
-        c.take-item.ensures.place.0 ∙ so_far.place.0,
-        c.take-item.ensures.place.1
-            ∙ so_far.place.1,
-      );
+      place = search rules;
     }
 
 pub returns-clause-gives : goal.returns-clause-gives

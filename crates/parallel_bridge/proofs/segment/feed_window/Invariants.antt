@@ -1,6 +1,5 @@
 -- what the folder may answer behind the items that are left, the first one may answer behind all
-use Rattle.parallel_bridge.proofs.Common.{List, Result, ◌++◌, length, Contains}
-use Rattle.parallel_bridge.specs.Fills.{SamePlaces}
+use Rattle.parallel_bridge.proofs.{List, Result, ◌++◌, length, Contains, SamePlaces}
 use Rattle.parallel_bridge.proofs.segment.feed_window.Given as goal
 
 abbrev pub invariant-loop-alloc : goal.invariant-loop-alloc

@@ -1,7 +1,5 @@
 -- The lengths of both halves are those of the list.
-use Rattle.parallel_bridge.proofs.Common.{◌≡◌, ◌++◌, ◌-◌, ◌/◌, ◌∙◌, arith, IfOk-weaker}
-use Rattle.parallel_bridge.specs.Shapes.{halved_lengths}
-use Rattle.parallel_bridge.proofs.SegmentLengths.{halved_more}
+use Rattle.parallel_bridge.proofs.{◌≡◌, ◌++◌, ◌-◌, ◌/◌, ◌∙◌, arith, IfOk-weaker, halved_lengths, halved_more}
 use Rattle.parallel_bridge.proofs.segments.+push_halves.Goals as goal
 
 pub returns-clause-lengths : goal.returns-clause-lengths

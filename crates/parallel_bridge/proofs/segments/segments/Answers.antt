@@ -1,7 +1,6 @@
 -- What was pushed on an empty list are the lengths of the segments.
-use Rattle.std.proofs.Common.{◌≡◌, ◌++◌, ◌∙◌, ◌*◌, ◌^◌, ◌≤◌, length, sum, sym, ap, arith}
-use Rattle.parallel_bridge.specs.Shapes.{halved_lengths, cutdepth}
-use Rattle.parallel_bridge.proofs.SegmentLengths.{shape_lengths, sum-halved, length-halved_depth, length-halved_items, cutdepth_bounds}
+use Rattle.parallel_bridge.proofs.{◌≡◌, ◌++◌, ◌∙◌, ◌*◌, ◌^◌, ◌≤◌, length, sum, sym, ap, arith, halved_lengths, cutdepth, shape_lengths, sum-halved, length-halved_depth, length-halved_items}
+use Rattle.parallel_bridge.proofs.{cutdepth_bounds}
 use Rattle.parallel_bridge.proofs.segments.segments.Goals as goal
 
 -- what was pushed

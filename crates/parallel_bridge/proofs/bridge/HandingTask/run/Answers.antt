@@ -1,8 +1,5 @@
 -- A list that is not split is one segment.
-use Rattle.parallel_bridge.proofs.Common.{List, Result, [], ◌++◌, IfOk, subst, append-nil}
-use Rattle.parallel_bridge.specs.Sources.{GivesSome}
-use Rattle.parallel_bridge.proofs.Halves.{driven_leaf}
-use Rattle.parallel_bridge.proofs.Outcomes.{unless_weaker}
+use Rattle.parallel_bridge.proofs.{List, Result, [], ◌++◌, IfOk, subst, append-nil, GivesSome, driven_leaf, unless_weaker}
 use Rattle.parallel_bridge.proofs.bridge.HandingTask.run.Goals as goal
 
 pub returns-in-Ok-fed : goal.returns-in-Ok-fed
@@ -11,8 +8,7 @@ returns-in-Ok-fed g c depth short =
     let gives = g.S.Segment.gives in
     let leaf = g.C.Consumer.leaf_gives self.consumer in
     let folds = g.C.Folder.Folder.gives in
-    let fed =
-    subst (λ d. IfOk d (λ f. GivesSome gives self.parts
+    let fed = subst (λ d. IfOk d (λ f. GivesSome gives self.parts
     (λ xs. (more : List g.row.X.Denot) (out : Result g.row.C-Result.Denot g.row.C-Error.Denot)
     → folds f more out → folds c.in-Ok.folder (xs ++ more) out))) c.in-Ok-fed.is
     c.feed-fed.ensures.gives in (

@@ -1,6 +1,5 @@
 -- The outcomes of the halves go along the shape, and of two errors the left one stands.
-use Rattle.std.proofs.Common.{rules, ◌/◌, arith, refl}
-use Rattle.parallel_bridge.proofs.Halves.{driven_node}
+use Rattle.parallel_bridge.proofs.{rules, ◌/◌, arith, refl, driven_node}
 use Rattle.parallel_bridge.proofs.bridge.HandingTask.split.Goals as goal
 
 pub returns-clause-meet : goal.returns-clause-meet

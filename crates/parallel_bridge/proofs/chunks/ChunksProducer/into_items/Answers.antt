@@ -1,7 +1,5 @@
 -- What comes are the slice's pieces, in order.
-use Rattle.parallel_bridge.proofs.Common.{◌∙◌, subst, ◌<◌, non_zero_usize_get}
-use Rattle.parallel_bridge.proofs.IteratorItems.{came, stands_in}
-use Rattle.parallel_bridge.proofs.Pieces.{chunks_come}
+use Rattle.parallel_bridge.proofs.{◌∙◌, subst, ◌<◌, non_zero_usize_get, came, stands_in, chunks_come}
 use Rattle.parallel_bridge.proofs.chunks.ChunksProducer.into_items.Goals as goal
 
 pub returns-clause-gives : goal.returns-clause-gives

@@ -1,6 +1,5 @@
 -- As many as the slice has pieces.
-use Rattle.parallel_bridge.proofs.Common.{length, sym, ap, ◌∙◌, div_ceil, non_zero_usize_get, length-map}
-use Rattle.parallel_bridge.proofs.Pieces.{length_pieces}
+use Rattle.parallel_bridge.proofs.{length, sym, ap, ◌∙◌, div_ceil, non_zero_usize_get, length-map, length_pieces}
 use Rattle.parallel_bridge.proofs.chunks.ChunksProducer.len.Goals as goal
 
 pub returns-clause-each : goal.returns-clause-each

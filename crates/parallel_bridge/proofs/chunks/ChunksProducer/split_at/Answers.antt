@@ -1,8 +1,6 @@
 -- A cut behind so many pieces of the slice.
-use Rattle.parallel_bridge.proofs.Common.{◌-◌, length, drop, take, ap, ◌∙◌, div_ceil, non_zero_usize_get, take_rest}
-use Rattle.parallel_bridge.specs.Chunks.{chunks_of}
-use Rattle.parallel_bridge.proofs.IteratorItems.{some_borrows}
-use Rattle.parallel_bridge.proofs.Pieces.{back_count, chunk_of_back, chunk_of_front, chunks_joined, front_count, front_long}
+use Rattle.parallel_bridge.proofs.{◌-◌, length, drop, take, ap, ◌∙◌, div_ceil, non_zero_usize_get, take_rest, chunks_of, some_borrows, back_count, chunk_of_back, chunk_of_front, chunks_joined}
+use Rattle.parallel_bridge.proofs.{front_count, front_long}
 use Rattle.parallel_bridge.proofs.chunks.ChunksProducer.split_at.Goals as goal
 
 pub returns-clause-joined : goal.returns-clause-joined

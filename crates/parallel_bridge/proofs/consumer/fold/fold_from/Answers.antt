@@ -1,7 +1,6 @@
 -- The closure may be called at each item that comes, and one turn is one step more of the chain
 -- over the items that came.
-use Rattle.std.proofs.Common.{rules}
-use Rattle.parallel_bridge.proofs.CollectChains.{chain_push, next_has}
+use Rattle.parallel_bridge.proofs.{rules, chain_push, next_has}
 use Rattle.parallel_bridge.proofs.consumer.fold.fold_from.Goals as goal
 
 pub fold_op-value-requires : goal.fold_op-value-requires
@@ -11,6 +10,5 @@ fold_op-value-requires g c = next_has g.I.Iterator.next_gives
     c.requires.accepts (search rules) (search rules) _
 
 pub loop-item-preserved : goal.loop-item-preserved
-loop-item-preserved g c =
-    chain_push (λ a x r. goal.F-post g c.args.fold_op.now a x r) _ c.loop-item.yielded _ _ _
+loop-item-preserved g c = chain_push (goal.F-post g c.args.fold_op.now) _ c.loop-item.yielded _ _ _
     c.loop-item.invariant (search rules)

@@ -1,7 +1,6 @@
 -- what is folded so far is reached by a chain over the items that came
-use Rattle.parallel_bridge.specs.Lists.{Chain}
+use Rattle.parallel_bridge.proofs.{Chain}
 use Rattle.parallel_bridge.proofs.consumer.fold.fold_from.Given as goal
 
 abbrev pub invariant-loop-item : goal.invariant-loop-item
-invariant-loop-item g l =
-    Chain (λ a x r. goal.F-post g l.fold_op a x r) l.initial.value l.yielded l.value
+invariant-loop-item g l = Chain (goal.F-post g l.fold_op) l.initial.value l.yielded l.value

@@ -1,8 +1,6 @@
 -- The closure may be called at each item that comes, and one turn is one step more of the chain
 -- over the items that came.
-use Rattle.parallel_bridge.proofs.Common.{rules, ◌∷◌, [], sym, subst, append_assoc, MutBor}
-use Rattle.parallel_bridge.specs.States.{FoldStep, StateChain}
-use Rattle.parallel_bridge.proofs.CollectChains.{next_has}
+use Rattle.parallel_bridge.proofs.{rules, ◌∷◌, [], sym, subst, append_assoc, MutBor, FoldStep, StateChain, next_has}
 use Rattle.parallel_bridge.proofs.consumer.fold_init.fold_init_from.Goals as goal
 
 pub fold_op-value-requires : goal.fold_op-value-requires
@@ -14,10 +12,7 @@ fold_op-value-requires g c = next_has g.I.Iterator.next_gives
 
 pub loop-item-preserved : goal.loop-item-preserved
 loop-item-preserved g c more b h =
-    let step =
-    FoldStep (λ (a : g.row.R.Denot) (p : MutBor g.row.S.Denot) (x : g.row.I-Item.Denot)
-    (b : g.row.R.Denot) (q : MutBor g.row.S.Denot). goal.F-post g c.args.fold_op.now a p x b
-    q) in
+    let step = FoldStep (goal.F-post g c.args.fold_op.now) in
     let item = c.in-Some.item in
     subst (λ l. StateChain step c.args.state.now c.args.start l b)
     (sym (append_assoc c.loop-item.yielded (item ∷ []) more))

@@ -1,10 +1,9 @@
 -- a chain from here over more items is one from the start over the items so far, and more
-use Rattle.std.proofs.Common.{List, ◌++◌}
-use Rattle.parallel_bridge.specs.States.{FoldStep, StateChain}
+use Rattle.parallel_bridge.proofs.{List, ◌++◌, FoldStep, StateChain}
 use Rattle.parallel_bridge.proofs.consumer.fold_init.fold_init_from.Given as goal
 
 abbrev pub invariant-loop-item : goal.invariant-loop-item
 invariant-loop-item g l = (more : List g.row.I-Item.Denot) (b : g.row.R.Denot)
-    → StateChain (FoldStep (λ a p x r q. goal.F-post g l.fold_op a p x r q)) l.state l.value more b
-    → StateChain (FoldStep (λ a p x r q. goal.F-post g l.fold_op a p x r q)) l.initial.state
+    → StateChain (FoldStep (goal.F-post g l.fold_op)) l.state l.value more b
+    → StateChain (FoldStep (goal.F-post g l.fold_op)) l.initial.state
     l.initial.value (l.yielded ++ more) b

@@ -1,13 +1,11 @@
 -- The closure may be called at each item that comes; one turn is one step more, or the end stands.
-use Rattle.std.proofs.Common.{rules, ◌∷◌, [], ◌∙◌, arith, refl}
-use Rattle.parallel_bridge.proofs.CollectChains.{next_has}
-use Rattle.parallel_bridge.proofs.GatedFolds.{halts_onward, halts_rests}
+use Rattle.parallel_bridge.proofs.{rules, ◌∷◌, [], arith, refl, next_has, halts_onward, halts_rests}
 use Rattle.parallel_bridge.proofs.consumer.gated_fold.gated_onward.Goals as goal
 
 pub loop-item-init : goal.loop-item-init
 loop-item-init g c =
     record {
-      reached = halts_rests (λ a x o. goal.F-post g c.args.fold_op.now a x o) c.args.control;
+      reached = halts_rests (goal.F-post g c.args.fold_op.now) c.args.control;
       watching = c.requires.watching;
       stands = c.requires.stands;
       same = (refl, refl, refl);
@@ -24,16 +22,11 @@ pub loop-item-preserved : goal.loop-item-preserved
 loop-item-preserved g c =
     let i = c.loop-item.invariant in
     record {
-      reached =
-          halts_onward (λ a x o. goal.F-post g c.args.fold_op.now a x o) c.args.control
+      reached = halts_onward (goal.F-post g c.args.fold_op.now) c.args.control
           c.loop-item.control c.gated_step-control.result c.loop-item.yielded
           (c.in-Some.item ∷ []) i.reached c.gated_step-control.ensures.onward;
       watching = c.gated_step-control.ensures.watching;
       stands = omega (arith, c.gated_step-control.ensures.same.2, i.stands);
-      same = (
-        c.gated_step-control.ensures.same.0 ∙ i.same.0,
-        c.gated_step-control.ensures.same.1 ∙ i.same.1,
-        c.gated_step-control.ensures.same.2 ∙ i.same.2,
-      );
+      same = search rules;
       told = search rules;
     }

@@ -1,10 +1,9 @@
 -- answers from here for more items are, behind those so far, answers from the start
-use Rattle.std.proofs.Common.{List, ◌++◌}
-use Rattle.parallel_bridge.specs.States.{MapStep, StatesFrom}
+use Rattle.parallel_bridge.proofs.{List, ◌++◌, MapStep, StatesFrom}
 use Rattle.parallel_bridge.proofs.consumer.map_init.map_init_from.Given as goal
 
 abbrev pub invariant-loop-item : goal.invariant-loop-item
 invariant-loop-item g l = (more : List g.row.I-Item.Denot) (zs : List g.row.T.Denot)
-    → StatesFrom (MapStep (λ p x y q. goal.F-post g l.map_op p x y q)) l.state more zs
-    → StatesFrom (MapStep (λ p x y q. goal.F-post g l.map_op p x y q)) l.initial.state
+    → StatesFrom (MapStep (goal.F-post g l.map_op)) l.state more zs
+    → StatesFrom (MapStep (goal.F-post g l.map_op)) l.initial.state
     (l.yielded ++ more) (l.answers.items ++ zs)

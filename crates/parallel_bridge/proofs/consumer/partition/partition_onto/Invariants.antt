@@ -1,8 +1,8 @@
 -- the lists have what the items so far put behind those of the start
-use Rattle.parallel_bridge.specs.Onto.{PartitionOnto}
+use Rattle.parallel_bridge.proofs.{PartitionOnto}
 use Rattle.parallel_bridge.proofs.consumer.partition.partition_onto.Given as goal
 
 abbrev pub invariant-loop-item : goal.invariant-loop-item
 invariant-loop-item g l = PartitionOnto
-    (λ x p. goal.F-post g l.map_op x p) l.initial.values.items l.initial.keys.items l.yielded
+    (goal.F-post g l.map_op) l.initial.values.items l.initial.keys.items l.yielded
     l.values.items l.keys.items

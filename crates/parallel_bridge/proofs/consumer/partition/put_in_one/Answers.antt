@@ -1,6 +1,5 @@
 -- One pair more comes behind the others.
-use Rattle.std.proofs.Common.{sym, ◌∙◌, ap, ◌++◌}
-use Rattle.parallel_bridge.proofs.FoldersAppend.{keys_in-push, values_in-push}
+use Rattle.parallel_bridge.proofs.{sym, ◌∙◌, ap, ◌++◌, keys_in-push, values_in-push}
 use Rattle.parallel_bridge.proofs.consumer.partition.put_in_one.Goals as goal
 
 pub loop-more_values-preserved : goal.loop-more_values-preserved

@@ -1,6 +1,5 @@
 -- the lists have what the pairs so far have
-use Rattle.std.proofs.Common.{◌≡◌}
-use Rattle.parallel_bridge.specs.Parts.{keys_in, values_in}
+use Rattle.parallel_bridge.proofs.{◌≡◌, keys_in, values_in}
 use Rattle.parallel_bridge.proofs.consumer.partition.put_in_one.Given as goal
 
 abbrev pub invariant-loop-more_values : goal.invariant-loop-more_values

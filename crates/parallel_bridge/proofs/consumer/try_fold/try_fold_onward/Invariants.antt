@@ -1,7 +1,7 @@
 -- what is folded so far is reached from the start over the items that came
-use Rattle.parallel_bridge.specs.Onto.{TryContinues}
+use Rattle.parallel_bridge.proofs.{TryContinues}
 use Rattle.parallel_bridge.proofs.consumer.try_fold.try_fold_onward.Given as goal
 
 abbrev pub invariant-loop-item : goal.invariant-loop-item
 invariant-loop-item g l =
-    TryContinues (λ a x o. goal.F-post g l.fold_op a x o) l.initial.control l.yielded l.control
+    TryContinues (goal.F-post g l.fold_op) l.initial.control l.yielded l.control

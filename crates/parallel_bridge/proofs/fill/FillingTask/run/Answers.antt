@@ -1,8 +1,5 @@
 -- A list that is not split is one segment.
-use Rattle.parallel_bridge.proofs.Calls.{Closure, GivesSome}
-use Rattle.std.proofs.Common.{Ok, Err, IfOk, subst}
-use Rattle.parallel_bridge.specs.Fills.{Answered, IsFull, OneAfterAnother, kept}
-use Rattle.parallel_bridge.proofs.Halves.{driven_leaf}
+use Rattle.parallel_bridge.proofs.{Closure, GivesSome, Ok, Err, IfOk, subst, Answered, IsFull, OneAfterAnother, kept, driven_leaf}
 use Rattle.parallel_bridge.proofs.fill.FillingTask.run.Goals as goal
 
 pub returns-in-Ok : goal.returns-in-Ok

@@ -1,7 +1,5 @@
 -- One turn is one answer more, and there are as many items as places.
-use Rattle.parallel_bridge.proofs.Common.{◌≡◌, ◌++◌, ◌∷◌, [], length, sym, ap, subst, ◌∙◌, arith, append-nil, length-append}
-use Rattle.parallel_bridge.proofs.WriteIter.{all_of, all_with, none_left}
-use Rattle.parallel_bridge.proofs.CollectChains.{next_has, yields_push}
+use Rattle.parallel_bridge.proofs.{rules, ◌≡◌, ◌++◌, ◌∷◌, [], length, sym, ap, subst, ◌∙◌, arith, append-nil, length-append, all_of, all_with, none_left, next_has, yields_push}
 use Rattle.parallel_bridge.proofs.fill.watched.write_iter_watched.Goals as goal
 
 pub answer-requires : goal.answer-requires
@@ -17,10 +15,8 @@ loop-room-preserved g c =
     let x = c.in-Some.item in let y = c.in-Ok.answer in let items = c.loop-room.room.items in
     let longer : length c.put.new.self.items ≡ length (items ++ y ∷ []) =
     ap (λ v. length v.items) c.put.ensures in
-    let count : length items ≡ length came.0 = came.3 in
     let one = length-append items (y ∷ []) in let other = length-append came.0 (x ∷ []) in
     let on = c.in-Some.ensures.goes.on so_far.ends in
-    let looked = c.stopped.ensures in
     record {
       came = (
         came.0 ++ x ∷ [],
@@ -33,22 +29,10 @@ loop-room-preserved g c =
       );
       can = on.0;
       ends = on.1;
-      place = (
-        ap (λ v. v.start) c.put.ensures ∙ so_far.place.0,
-        ap (λ v. v.room) c.put.ensures
-            ∙ so_far.place.1,
-      );
-      first = ap (λ v. v.before) c.put.ensures ∙ so_far.first;
-      watch = (
-        looked.watching,
-        omega (arith, looked.same.2, so_far.watch.1),
-        looked.told ∙ so_far.watch.2,
-      );
-      same = (
-        looked.same.0 ∙ so_far.same.0,
-        looked.same.1 ∙ so_far.same.1,
-        looked.same.2 ∙ so_far.same.2,
-      );
+      place = search rules;
+      first = search rules;
+      watch = search rules;
+      same = search rules;
     }
 
 pub returns-in-Err-clause-gives : goal.returns-in-Err-clause-gives
@@ -84,11 +68,6 @@ returns-clause-full g c =
     let all = c.requires.enough (came.0 ++ more.0)
     (all_of g.I.Iterator.next_gives came.0 more.0 c.args.iter c.loop-room.iter came.1 more.1) in
     let long = length-append came.0 more.0 in
-    let over = c.loop-room-test.false in
-    let len = c.len.ensures in
-    let room = c.room.ensures in
-    let count = came.3 in
-    let places = so_far.place.1 in
     (so_far.first, omega arith)
 
 pub returns-clause-gives : goal.returns-clause-gives
@@ -98,11 +77,6 @@ returns-clause-gives g c =
     let more = c.pass_over-2.ensures in
     let drains =
     all_of g.I.Iterator.next_gives came.0 more.0 c.args.iter c.loop-room.iter came.1 more.1 in
-    let over = c.loop-room-test.false in
-    let len = c.len.ensures in
-    let room = c.room.ensures in
-    let count = came.3 in
-    let places = so_far.place.1 in
     let same : came.0 ++ more.0 ≡ came.0 = ap (λ l. came.0 ++ l)
     (none_left came.0 more.0 c.args.room.now.room (c.requires.enough (came.0 ++ more.0) drains)
     (omega arith)) ∙ append-nil came.0 in (

@@ -1,7 +1,5 @@
 -- an answer for each item that came; nothing was told
-use Rattle.parallel_bridge.proofs.Common.{◌≡◌, ◌-◌, List, length, IsFinite, Yields}
-use Rattle.parallel_bridge.specs.Fills.{SamePlaces}
-use Rattle.parallel_bridge.specs.Gates.{MayTell, SameWatch}
+use Rattle.parallel_bridge.proofs.{◌≡◌, ◌-◌, List, length, IsFinite, Yields, SamePlaces, MayTell, SameWatch}
 use Rattle.parallel_bridge.proofs.fill.watched.write_iter_watched.Given as goal
 
 abbrev pub invariant-loop-room : goal.invariant-loop-room

@@ -1,5 +1,5 @@
 -- The next item stands in the list.
-use Rattle.parallel_bridge.proofs.TakenFromFront.{between}
+use Rattle.parallel_bridge.proofs.{between}
 use Rattle.parallel_bridge.proofs.fill.watched.write_window_watched.Goals as goal
 
 pub answer-requires : goal.answer-requires

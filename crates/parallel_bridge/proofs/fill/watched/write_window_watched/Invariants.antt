@@ -1,7 +1,5 @@
 -- the items that were taken, and an answer for each of them; nothing was told
-use Rattle.std.proofs.Common.{◌≡◌, ◌++◌, List, length}
-use Rattle.parallel_bridge.specs.Fills.{SamePlaces}
-use Rattle.parallel_bridge.specs.Gates.{MayTell, SameWatch}
+use Rattle.parallel_bridge.proofs.{◌≡◌, ◌++◌, List, length, SamePlaces, MayTell, SameWatch}
 use Rattle.parallel_bridge.proofs.fill.watched.write_window_watched.Given as goal
 
 abbrev pub invariant-loop-watch : goal.invariant-loop-watch

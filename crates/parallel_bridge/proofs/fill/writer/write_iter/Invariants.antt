@@ -1,6 +1,5 @@
 -- an answer for each item that came
-use Rattle.parallel_bridge.proofs.Common.{◌≡◌, ◌-◌, List, length, IsFinite, Yields}
-use Rattle.parallel_bridge.specs.Fills.{SamePlaces}
+use Rattle.parallel_bridge.proofs.{◌≡◌, ◌-◌, List, length, IsFinite, Yields, SamePlaces}
 use Rattle.parallel_bridge.proofs.fill.writer.write_iter.Given as goal
 
 abbrev pub invariant-loop-room : goal.invariant-loop-room

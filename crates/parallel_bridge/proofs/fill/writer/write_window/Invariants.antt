@@ -1,6 +1,5 @@
 -- the items that were taken, and an answer for each of them
-use Rattle.std.proofs.Common.{◌≡◌, ◌++◌, List, length}
-use Rattle.parallel_bridge.specs.Fills.{SamePlaces}
+use Rattle.parallel_bridge.proofs.{◌≡◌, ◌++◌, List, length, SamePlaces}
 use Rattle.parallel_bridge.proofs.fill.writer.write_window.Given as goal
 
 abbrev pub invariant-loop-items : goal.invariant-loop-items

@@ -1,5 +1,5 @@
 -- The seat that stands for all knows of all that was told.
-use Rattle.parallel_bridge.proofs.GateEnds.{final_keeps, final_told, final_at_most, final_stopped}
+use Rattle.parallel_bridge.proofs.{final_keeps, final_told, final_at_most, final_stopped}
 use Rattle.parallel_bridge.proofs.gate.Gate.close_joined.Goals as goal
 
 pub returns-clause-told : goal.returns-clause-told

@@ -1,7 +1,5 @@
 -- Each seat that is taken in adds what it has.
-use Rattle.std.proofs.Common.{arith, sym, subst}
-use Rattle.parallel_bridge.specs.Gates.{IsSeatOf}
-use Rattle.parallel_bridge.proofs.GateEnds.{Gathering, gathers_one, gathers_more, gathers_all, all_before, still_within}
+use Rattle.parallel_bridge.proofs.{arith, sym, subst, IsSeatOf, Gathering, gathers_one, gathers_more, gathers_all, all_before, still_within}
 use Rattle.parallel_bridge.proofs.gate.Gate.gather.Goals as goal
 
 pub loop-seat-init : goal.loop-seat-init
@@ -20,8 +18,7 @@ loop-seat-init c =
     }
 
 pub join-requires-clause-other : goal.join-requires-clause-other
-join-requires-clause-other c =
-    (all_before (IsSeatOf c.args.self.now) c.loop-seat.seats.items
+join-requires-clause-other c = (all_before (IsSeatOf c.args.self.now) c.loop-seat.seats.items
     c.pop-in-loop-seat.new.self.items c.in-Some-pop.seat c.in-Some-pop.ensures.items
     c.loop-seat.invariant.each).1
 

@@ -1,7 +1,5 @@
 -- the one seat, and those that are left
-use Rattle.parallel_bridge.proofs.Gates.{GateSeat, IsSeatOf, known}
-use Rattle.std.proofs.Common.{All, Contains, length}
-use Rattle.parallel_bridge.proofs.GateEnds.{Gathering}
+use Rattle.parallel_bridge.proofs.{GateSeat, IsSeatOf, known, All, Contains, length, Gathering}
 use Rattle.parallel_bridge.proofs.gate.Gate.gather.Given as goal
 
 abbrev pub invariant-loop-seat : goal.invariant-loop-seat

@@ -1,6 +1,5 @@
 -- One seat for two keeps the rule.
-use Rattle.std.proofs.Common.{arith}
-use Rattle.parallel_bridge.proofs.GateSteps.{joins}
+use Rattle.parallel_bridge.proofs.{arith, joins}
 use Rattle.parallel_bridge.proofs.gate.Gate.join.Goals as goal
 
 pub join_seat-requires : goal.join_seat-requires

@@ -1,6 +1,5 @@
 -- the seats so far, and what the first one is left with
-use Rattle.parallel_bridge.proofs.Gates.{newcomer, IsSeatOf, known, seats_of, stands_for}
-use Rattle.std.proofs.Common.{◌≡◌, ◌+◌, All, [], vec_len}
+use Rattle.parallel_bridge.proofs.{newcomer, IsSeatOf, known, seats_of, stands_for, ◌≡◌, ◌+◌, All, [], vec_len}
 use Rattle.std.specs.NonZero.{non_zero_usize_get}
 use Rattle.parallel_bridge.proofs.gate.Gate.new.Given as goal
 

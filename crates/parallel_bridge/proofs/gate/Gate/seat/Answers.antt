@@ -1,6 +1,5 @@
 -- A seat cut off keeps the rule.
-use Rattle.std.proofs.Common.{arith}
-use Rattle.parallel_bridge.proofs.GateSteps.{seats}
+use Rattle.parallel_bridge.proofs.{arith, seats}
 use Rattle.parallel_bridge.proofs.gate.Gate.seat.Goals as goal
 
 pub split_seat-requires : goal.split_seat-requires

@@ -1,6 +1,5 @@
 -- Two seats for one keep the rule.
-use Rattle.std.proofs.Common.{arith}
-use Rattle.parallel_bridge.proofs.GateSteps.{splits}
+use Rattle.parallel_bridge.proofs.{arith, splits}
 use Rattle.parallel_bridge.proofs.gate.Gate.split.Goals as goal
 
 pub split_seat-requires : goal.split_seat-requires

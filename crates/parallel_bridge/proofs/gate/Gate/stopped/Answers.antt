@@ -1,6 +1,5 @@
 -- A look keeps the rule.
-use Rattle.std.proofs.Common.{arith}
-use Rattle.parallel_bridge.proofs.GateSteps.{looks}
+use Rattle.parallel_bridge.proofs.{arith, looks}
 use Rattle.parallel_bridge.proofs.gate.Gate.stopped.Goals as goal
 
 pub load-requires : goal.load-requires

@@ -1,6 +1,5 @@
 -- A start that is told keeps the rule.
-use Rattle.std.proofs.Common.{arith}
-use Rattle.parallel_bridge.proofs.GateSteps.{tells}
+use Rattle.parallel_bridge.proofs.{arith, tells}
 use Rattle.parallel_bridge.proofs.gate.Gate.tell.Goals as goal
 
 pub fetch_min-requires : goal.fetch_min-requires

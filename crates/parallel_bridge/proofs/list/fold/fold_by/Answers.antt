@@ -1,19 +1,12 @@
 -- One segment serially, the list's shape in parallel; either way a reduction of neighbours.
-use Rattle.parallel_bridge.proofs.Calls.{Fault, cutdepth}
-use Rattle.std.proofs.Common.{rules}
-use Rattle.parallel_bridge.proofs.Serials.{answered_else, answered_serially}
-use Rattle.parallel_bridge.proofs.Paths.{folded_serially, folded_along}
+use Rattle.parallel_bridge.proofs.{Fault, cutdepth, rules, answered_else, answered_serially, folded_serially, folded_along}
 use Rattle.parallel_bridge.proofs.list.fold.fold_by.Goals as goal
 
 pub returns-in-Serial-clause-folds : goal.returns-in-Serial-clause-folds
 returns-in-Serial-clause-folds g c =
-    let identity = λ (e : g.row.R.Denot). g.ID.Fn.post c.args.identity.now tt e in
-    let step =
-    λ (a : g.row.R.Denot) (x : g.row.P-Item.Denot) (b : g.row.R.Denot). g.F.Fn.post
-    c.args.fold_op.now (a, (x, tt)) b in
-    let reduce =
-    λ (a : g.row.R.Denot) (b : g.row.R.Denot) (r : g.row.R.Denot). g.G.Fn.post
-    c.args.reduce_op.now (a, (b, tt)) r in
+    let identity = goal.ID-post g c.args.identity.now in
+    let step = goal.F-post g c.args.fold_op.now in
+    let reduce = goal.G-post g c.args.reduce_op.now in
     let w = c.fold_iter.ensures in (
       w.0,
       c.into_items.ensures.gives w.0 w.1,
@@ -23,13 +16,9 @@ returns-in-Serial-clause-folds g c =
 
 pub returns-in_ok-answer-in-Parallel-clause-folds : goal.returns-in_ok-answer-in-Parallel-clause-folds
 returns-in_ok-answer-in-Parallel-clause-folds g c =
-    let identity = λ (e : g.row.R.Denot). g.ID.Fn.post c.args.identity.now tt e in
-    let step =
-    λ (a : g.row.R.Denot) (x : g.row.P-Item.Denot) (b : g.row.R.Denot). g.F.Fn.post
-    c.args.fold_op.now (a, (x, tt)) b in
-    let reduce =
-    λ (a : g.row.R.Denot) (b : g.row.R.Denot) (r : g.row.R.Denot). g.G.Fn.post
-    c.args.reduce_op.now (a, (b, tt)) r in
+    let identity = goal.ID-post g c.args.identity.now in
+    let step = goal.F-post g c.args.fold_op.now in
+    let reduce = goal.G-post g c.args.reduce_op.now in
     let w = c.in_ok-answer-in-Parallel.ensures.along in (
       w.0,
       w.1,

@@ -1,22 +1,15 @@
 -- The value of each segment is reduced behind an identity.
-use Rattle.parallel_bridge.proofs.Calls.{Infallible, FoldSegment, Shape, cutdepth, Along, GivesSome, TryAlongCut, OnlyOk}
-use Rattle.std.proofs.Common.{◌∷◌, []}
-use Rattle.parallel_bridge.proofs.Drivers.{driven, fold_driven}
+use Rattle.parallel_bridge.proofs.{Infallible, FoldSegment, Shape, cutdepth, Along, GivesSome, TryAlongCut, OnlyOk, ◌∷◌, [], driven, fold_driven}
 use Rattle.parallel_bridge.proofs.list.fold.fold_parallel.Goals as goal
 
 pub returns-clause-along : goal.returns-clause-along
 returns-clause-along g c =
-    let identity = λ (e : g.row.R.Denot). g.ID.Fn.post c.args.identity.now tt e in
-    let step =
-    λ (a : g.row.R.Denot) (x : g.row.P-Item.Denot) (b : g.row.R.Denot). g.F.Fn.post
-    c.args.fold_op.now (a, (x, tt)) b in
-    let reduce =
-    λ (a : g.row.R.Denot) (b : g.row.R.Denot) (r : g.row.R.Denot). g.G.Fn.post
-    c.args.reduce_op.now (a, (b, tt)) r in
+    let identity = goal.ID-post g c.args.identity.now in
+    let step = goal.F-post g c.args.fold_op.now in
+    let reduce = goal.G-post g c.args.reduce_op.now in
     let k = cutdepth c.args.threads.value in
     let gives = g.P.Parts.gives in
-    driven c.bridge.result c.unfailing.result
-    (λ o. GivesSome gives c.args.parts
+    driven c.bridge.result c.unfailing.result (λ o. GivesSome gives c.args.parts
     (λ xs. TryAlongCut {E = Infallible}
     (λ l out. (b : g.row.R.Denot) × FoldSegment identity step l b
     × OnlyOk (λ v. FoldSegment identity reduce (b ∷ []) v) out)
@@ -25,7 +18,6 @@ returns-clause-along g c =
     (λ r h. (
       h.0,
       h.1,
-      fold_driven Infallible identity (FoldSegment identity step) reduce
-          (Shape k h.0) r h.2,
+      fold_driven Infallible identity (FoldSegment identity step) reduce (Shape k h.0) r h.2,
     ))
     c.unfailing.ensures.same c.bridge.ensures.along

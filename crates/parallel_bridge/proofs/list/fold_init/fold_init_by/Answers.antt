@@ -1,21 +1,13 @@
 -- One segment serially, the list's shape in parallel; either way a reduction of neighbours.
-use Rattle.parallel_bridge.proofs.Common.{rules, MutBor}
-use Rattle.parallel_bridge.proofs.Calls.{Fault, cutdepth, FoldStep}
-use Rattle.parallel_bridge.proofs.Serials.{answered_else, answered_serially}
-use Rattle.parallel_bridge.proofs.Paths.{folded_init_serially, folded_init_along}
+use Rattle.parallel_bridge.proofs.{rules, Fault, cutdepth, FoldStep, answered_else, answered_serially, folded_init_serially, folded_init_along}
 use Rattle.parallel_bridge.proofs.list.fold_init.fold_init_by.Goals as goal
 
 pub returns-in-Serial-clause-folds : goal.returns-in-Serial-clause-folds
 returns-in-Serial-clause-folds g c =
-    let init = λ (s : g.row.S.Denot). g.N.Fn.post c.args.init.now tt s in
-    let identity = λ (e : g.row.R.Denot). g.ID.Fn.post c.args.identity.now tt e in
-    let step =
-    FoldStep (λ (a : g.row.R.Denot) (p : MutBor g.row.S.Denot) (x : g.row.P-Item.Denot)
-    (b : g.row.R.Denot) (q : MutBor g.row.S.Denot). goal.F-post g c.args.fold_op.now a p x b q)
-    in
-    let reduce =
-    λ (a : g.row.R.Denot) (b : g.row.R.Denot) (r : g.row.R.Denot). g.G.Fn.post
-    c.args.reduce_op.now (a, (b, tt)) r in
+    let init = goal.N-post g c.args.init.now in
+    let identity = goal.ID-post g c.args.identity.now in
+    let step = FoldStep (goal.F-post g c.args.fold_op.now) in
+    let reduce = goal.G-post g c.args.reduce_op.now in
     let w = c.fold_init_iter.ensures in (
       w.0,
       c.into_items.ensures.gives w.0 w.1,
@@ -26,15 +18,10 @@ returns-in-Serial-clause-folds g c =
 
 pub returns-in_ok-answer-in-Parallel-clause-folds : goal.returns-in_ok-answer-in-Parallel-clause-folds
 returns-in_ok-answer-in-Parallel-clause-folds g c =
-    let init = λ (s : g.row.S.Denot). g.N.Fn.post c.args.init.now tt s in
-    let identity = λ (e : g.row.R.Denot). g.ID.Fn.post c.args.identity.now tt e in
-    let step =
-    FoldStep (λ (a : g.row.R.Denot) (p : MutBor g.row.S.Denot) (x : g.row.P-Item.Denot)
-    (b : g.row.R.Denot) (q : MutBor g.row.S.Denot). goal.F-post g c.args.fold_op.now a p x b q)
-    in
-    let reduce =
-    λ (a : g.row.R.Denot) (b : g.row.R.Denot) (r : g.row.R.Denot). g.G.Fn.post
-    c.args.reduce_op.now (a, (b, tt)) r in
+    let init = goal.N-post g c.args.init.now in
+    let identity = goal.ID-post g c.args.identity.now in
+    let step = FoldStep (goal.F-post g c.args.fold_op.now) in
+    let reduce = goal.G-post g c.args.reduce_op.now in
     let w = c.in_ok-answer-in-Parallel.ensures.along in (
       w.0,
       w.1,

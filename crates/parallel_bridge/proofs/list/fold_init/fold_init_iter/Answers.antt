@@ -1,14 +1,10 @@
 -- The chain from the fresh state and the identity.
-use Rattle.parallel_bridge.proofs.Common.{[], refl, subst, append-nil, MutBor}
-use Rattle.parallel_bridge.specs.States.{FoldStep, StateChain}
+use Rattle.parallel_bridge.proofs.{[], refl, subst, append-nil, FoldStep, StateChain}
 use Rattle.parallel_bridge.proofs.list.fold_init.fold_init_iter.Goals as goal
 
 pub returns : goal.returns
 returns g c =
-    let step =
-    FoldStep (λ (a : g.row.R.Denot) (p : MutBor g.row.S.Denot) (x : g.row.I-Item.Denot)
-    (b : g.row.R.Denot) (q : MutBor g.row.S.Denot). goal.F-post g c.args.fold_op.now a p x b q)
-    in
+    let step = FoldStep (goal.F-post g c.args.fold_op.now) in
     let s = c.init-state.result in
     let a = c.identity.result in
     let r = c.fold_init_from.result in

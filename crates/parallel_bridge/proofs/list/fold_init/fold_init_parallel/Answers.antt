@@ -1,29 +1,20 @@
 -- The value of each segment is reduced behind an identity.
-use Rattle.parallel_bridge.proofs.Common.{◌∷◌, [], MutBor}
-use Rattle.parallel_bridge.proofs.Calls.{Infallible, FoldSegment, AlongLeaves, Shape, cutdepth, GivesSome, FoldStep, FoldInitSegment, TryAlongCut, OnlyOk}
-use Rattle.parallel_bridge.proofs.Drivers.{driven, fold_driven}
+use Rattle.parallel_bridge.proofs.{◌∷◌, [], Infallible, FoldSegment, AlongLeaves, Shape, cutdepth, GivesSome, FoldStep, FoldInitSegment, TryAlongCut, OnlyOk, driven, fold_driven}
 use Rattle.parallel_bridge.proofs.list.fold_init.fold_init_parallel.Goals as goal
 
 pub returns-clause-along : goal.returns-clause-along
 returns-clause-along g c =
-    let init = λ (s : g.row.S.Denot). g.N.Fn.post c.args.init.now tt s in
-    let identity = λ (e : g.row.R.Denot). g.ID.Fn.post c.args.identity.now tt e in
-    let step =
-    FoldStep (λ (a : g.row.R.Denot) (p : MutBor g.row.S.Denot) (x : g.row.P-Item.Denot)
-    (b : g.row.R.Denot) (q : MutBor g.row.S.Denot). goal.F-post g c.args.fold_op.now a p x b q)
-    in
-    let reduce =
-    λ (a : g.row.R.Denot) (b : g.row.R.Denot) (r : g.row.R.Denot). g.G.Fn.post
-    c.args.reduce_op.now (a, (b, tt)) r in
+    let init = goal.N-post g c.args.init.now in
+    let identity = goal.ID-post g c.args.identity.now in
+    let step = FoldStep (goal.F-post g c.args.fold_op.now) in
+    let reduce = goal.G-post g c.args.reduce_op.now in
     let k = cutdepth c.args.threads.value in
     let gives = g.P.Parts.gives in
-    driven c.bridge.result c.unfailing.result
-    (λ o. GivesSome gives c.args.parts
+    driven c.bridge.result c.unfailing.result (λ o. GivesSome gives c.args.parts
     (λ xs. TryAlongCut {E = Infallible}
     (λ l out. (b : g.row.R.Denot) × FoldInitSegment init identity step l b
     × OnlyOk (λ v. FoldSegment identity reduce (b ∷ []) v) out)
-    (λ a b out. OnlyOk (λ v. reduce a b v) out) (Shape k xs) o))
-    (λ r. GivesSome gives c.args.parts
+    (λ a b out. OnlyOk (λ v. reduce a b v) out) (Shape k xs) o)) (λ r. GivesSome gives c.args.parts
     (λ xs. AlongLeaves identity (FoldInitSegment init identity step) reduce (Shape k xs) r))
     (λ r h. (
       h.0,

@@ -1,6 +1,5 @@
 -- The closure may be called at each item that comes, and what was collected are its answers.
-use Rattle.parallel_bridge.proofs.Common.{rules, map_steps}
-use Rattle.parallel_bridge.proofs.CollectChains.{mapped_from, serves_along}
+use Rattle.parallel_bridge.proofs.{rules, map_steps, mapped_from, serves_along}
 use Rattle.parallel_bridge.proofs.list.map.map_iter.Goals as goal
 
 pub collect-requires-clause-can : goal.collect-requires-clause-can

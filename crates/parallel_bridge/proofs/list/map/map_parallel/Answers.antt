@@ -1,14 +1,10 @@
 -- What was written into the segments' rooms, side by side, are the answers for the list.
-use Rattle.parallel_bridge.proofs.Calls.{Infallible, MapOf, Shape, Driven, GivesSome, TryAlongCut}
-use Rattle.std.proofs.Common.{Ok, subst, sym}
-use Rattle.parallel_bridge.specs.Fills.{Answered, OneAfterAnother, written}
-use Rattle.parallel_bridge.proofs.Writes.{filled_shape}
+use Rattle.parallel_bridge.proofs.{Infallible, MapOf, Shape, Driven, GivesSome, TryAlongCut, Ok, subst, sym, Answered, OneAfterAnother, written, filled_shape}
 use Rattle.parallel_bridge.proofs.list.map.map_parallel.Goals as goal
 
 pub returns-in-Ok-clause-maps : goal.returns-in-Ok-clause-maps
 returns-in-Ok-clause-maps g c =
-    let allowed =
-    λ (x : g.row.P-Item.Denot) (y : g.row.T.Denot). g.F.Fn.post c.args.map_op.now (x, tt) y in
+    let allowed = goal.F-post g c.args.map_op.now in
     let leaf = Answered {S = Unit {0}} {E = Infallible} (λ l s ys. MapOf allowed l ys) (λ l e. ⊥) in
     let gives = g.P.Parts.gives in
     let depth = c.depth_of-depth.result in

@@ -1,15 +1,11 @@
 -- One state serially, one for each segment in parallel; either way the answers fall into segments.
-use Rattle.parallel_bridge.proofs.Common.{rules, MutBor}
-use Rattle.parallel_bridge.proofs.Calls.{cutdepth, MapStep}
-use Rattle.parallel_bridge.proofs.Paths.{mapped_init_serially, mapped_init_along}
+use Rattle.parallel_bridge.proofs.{rules, cutdepth, MapStep, mapped_init_serially, mapped_init_along}
 use Rattle.parallel_bridge.proofs.list.map_init.map_init_by.Goals as goal
 
 pub returns-in_ok-answers-in-Serial-clause-maps : goal.returns-in_ok-answers-in-Serial-clause-maps
 returns-in_ok-answers-in-Serial-clause-maps g c =
-    let step =
-    MapStep (λ (p : MutBor g.row.S.Denot) (x : g.row.P-Item.Denot) (y : g.row.T.Denot)
-    (q : MutBor g.row.S.Denot). goal.F-post g c.args.map_op.now p x y q) in
-    let init = λ (s : g.row.S.Denot). g.N.Fn.post c.args.init.now tt s in
+    let step = MapStep (goal.F-post g c.args.map_op.now) in
+    let init = goal.N-post g c.args.init.now in
     let w = c.in_ok-answers-in-Serial.ensures.one_state in (
       w.0,
       c.into_items.ensures.gives w.0 w.1,
@@ -19,10 +15,8 @@ returns-in_ok-answers-in-Serial-clause-maps g c =
 
 pub returns-in_ok-answers-in-Parallel-clause-maps : goal.returns-in_ok-answers-in-Parallel-clause-maps
 returns-in_ok-answers-in-Parallel-clause-maps g c =
-    let step =
-    MapStep (λ (p : MutBor g.row.S.Denot) (x : g.row.P-Item.Denot) (y : g.row.T.Denot)
-    (q : MutBor g.row.S.Denot). goal.F-post g c.args.map_op.now p x y q) in
-    let init = λ (s : g.row.S.Denot). g.N.Fn.post c.args.init.now tt s in
+    let step = MapStep (goal.F-post g c.args.map_op.now) in
+    let init = goal.N-post g c.args.init.now in
     let w = c.in_ok-answers-in-Parallel.ensures.along in (
       w.0,
       w.1,

@@ -1,18 +1,14 @@
 -- The answers from the fresh state.
-use Rattle.parallel_bridge.proofs.Common.{List, ◌++◌, [], refl, subst, append-nil, IfOk-weaker, MutBor, Drains}
-use Rattle.parallel_bridge.proofs.Calls.{GivesSome, MapStep, StatesFrom, StateSegment}
+use Rattle.parallel_bridge.proofs.{List, ◌++◌, [], refl, subst, append-nil, IfOk-weaker, Drains, GivesSome, MapStep, StatesFrom, StateSegment}
 use Rattle.parallel_bridge.proofs.list.map_init.map_init_iter.Goals as goal
 
 pub returns-clause-one_state : goal.returns-clause-one_state
 returns-clause-one_state g c =
-    let step =
-    MapStep (λ (p : MutBor g.row.S.Denot) (x : g.row.I-Item.Denot) (y : g.row.T.Denot)
-    (q : MutBor g.row.S.Denot). goal.F-post g c.args.map_op.now p x y q) in
-    let init = λ (s : g.row.S.Denot). g.N.Fn.post c.args.init.now tt s in
+    let step = MapStep (goal.F-post g c.args.map_op.now) in
+    let init = goal.N-post g c.args.init.now in
     let s = c.init-state.result in
     let comes = Drains g.I.Iterator.next_gives in
-    IfOk-weaker c.map_init_from.result
-    (λ ys. GivesSome comes c.args.iter
+    IfOk-weaker c.map_init_from.result (λ ys. GivesSome comes c.args.iter
     (λ xs. (more : List g.row.I-Item.Denot) (zs : List g.row.T.Denot)
     → StatesFrom step c.map_init_from.new.state more zs
     → StatesFrom step s (xs ++ more) (ys.items ++ zs)))

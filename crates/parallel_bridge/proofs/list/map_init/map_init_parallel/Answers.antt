@@ -1,17 +1,12 @@
 -- Each segment has a fresh state, and the answers of two parts are one after another.
-use Rattle.parallel_bridge.proofs.Common.{List, Ok, [], ◌≡◌, ◌++◌, refl, subst, sym, append-nil, MutBor}
-use Rattle.parallel_bridge.proofs.Calls.{Infallible, Shape, Driven, GivesSome, MapStep, StatesFrom, StateSegment, StatesAlong, TryAlongCut}
-use Rattle.parallel_bridge.specs.Fills.{Answered, OneAfterAnother, written}
-use Rattle.parallel_bridge.proofs.TryShapes.{along_unfailing}
-use Rattle.parallel_bridge.proofs.Writes.{answers_along}
+use Rattle.parallel_bridge.proofs.{List, Ok, [], ◌≡◌, ◌++◌, refl, subst, sym, append-nil, Infallible, Shape, Driven, GivesSome, MapStep, StatesFrom, StateSegment, StatesAlong, TryAlongCut, Answered}
+use Rattle.parallel_bridge.proofs.{OneAfterAnother, written, along_unfailing, answers_along}
 use Rattle.parallel_bridge.proofs.list.map_init.map_init_parallel.Goals as goal
 
 pub returns-in-Ok-clause-along : goal.returns-in-Ok-clause-along
 returns-in-Ok-clause-along g c =
-    let init = λ (s : g.row.S.Denot). g.N.Fn.post c.args.init.now tt s in
-    let step =
-    MapStep (λ (p : MutBor g.row.S.Denot) (x : g.row.P-Item.Denot) (y : g.row.T.Denot)
-    (q : MutBor g.row.S.Denot). goal.F-post g c.args.map_op.now p x y q) in
+    let init = goal.N-post g c.args.init.now in
+    let step = MapStep (goal.F-post g c.args.map_op.now) in
     let so_far =
     λ (l : List g.row.P-Item.Denot) (s : g.row.S.Denot) (ys : List g.row.T.Denot). (more : List
     g.row.P-Item.Denot) (zs : List g.row.T.Denot) → StatesFrom step s more zs

@@ -1,27 +1,18 @@
 -- The values and the keys of the segments, joined, are those of the list.
-use Rattle.std.proofs.Common.{Option, ◌≡◌, ◌++◌, Ok}
+use Rattle.parallel_bridge.proofs.{◌≡◌, ◌++◌, Ok, Infallible, PartitionOf, keys_in, values_in, Shape, cutdepth, GivesSome, TryAlongCut, OnlyOk, driven, parted, partition_shape}
 use Rattle.std.specs.declared.alloc.Global.{Global}
-use Rattle.std.specs.declared.convert.Infallible.{Infallible}
 use Rattle.std.specs.declared.vec.Vec.{Vec}
-use Rattle.parallel_bridge.specs.Parts.{PartitionOf, keys_in, values_in}
-use Rattle.parallel_bridge.specs.Shapes.{Shape, cutdepth}
-use Rattle.parallel_bridge.specs.Sources.{GivesSome}
-use Rattle.parallel_bridge.specs.Tries.{TryAlongCut, OnlyOk}
-use Rattle.parallel_bridge.proofs.Drivers.{driven, parted, partition_shape}
 use Rattle.parallel_bridge.proofs.list.partition.partition_parallel.Goals as goal
 
 pub returns-clause-parts : goal.returns-clause-parts
 returns-clause-parts g c =
-    let allowed =
-    λ (x : g.row.P-Item.Denot) (p : g.row.K.Denot × Option g.row.U.Denot). g.F.Fn.post
-    c.args.map_op.now (x, tt) p in
+    let allowed = goal.F-post g c.args.map_op.now in
     let k = cutdepth c.args.threads.value in
     let gives = g.P.Parts.gives in
     let lists = c.in_ok-lists.lists in
     parted c.put_in_one.result (values_in lists.items) (keys_in lists.items)
     (λ us ks. GivesSome gives c.args.parts (λ xs. PartitionOf allowed xs us ks))
-    (driven c.bridge.result (Ok lists)
-    (λ out. GivesSome gives c.args.parts (λ xs. TryAlongCut
+    (driven c.bridge.result (Ok lists) (λ out. GivesSome gives c.args.parts (λ xs. TryAlongCut
     {R = Vec (Vec g.row.U.Denot Global × Vec g.row.K.Denot Global) Global} {E = Infallible}
     (λ l o. OnlyOk (λ v. PartitionOf allowed l (values_in v.items) (keys_in v.items)) o)
     (λ a b o. OnlyOk (λ c. (values_in c.items ≡ values_in a.items ++ values_in b.items)

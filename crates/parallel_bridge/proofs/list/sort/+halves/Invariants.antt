@@ -1,6 +1,6 @@
 -- a list is above its two halves, these above their closures, and a closure above the half that it
 -- is given
-use Rattle.std.proofs.Common.{◌+◌, ◌*◌}
+use Rattle.parallel_bridge.proofs.{◌+◌, ◌*◌}
 use Rattle.parallel_bridge.proofs.list.sort.+halves.Given as goal
 
 abbrev pub decreases-sort_shared : goal.decreases-sort_shared

@@ -1,6 +1,5 @@
 -- What is sorted by the closure that calls `compare` is sorted by `compare`.
-use Rattle.parallel_bridge.proofs.Common.{rules, on_ok_weaker}
-use Rattle.parallel_bridge.proofs.Sorting.{sorted_through, stable_through}
+use Rattle.parallel_bridge.proofs.{rules, on_ok_weaker, sorted_through, stable_through}
 use Rattle.parallel_bridge.proofs.list.sort.sort_parallel.Goals as goal
 
 pub returns-clause-sorted : goal.returns-clause-sorted

@@ -1,20 +1,13 @@
 -- One segment serially, the list's shape in parallel; either way a reduction of neighbours.
-use Rattle.parallel_bridge.proofs.Calls.{Shape, cutdepth, GivesSome, TryAlong, TryFoldSegment, TryFoldedAs}
-use Rattle.std.proofs.Common.{rules, Result, Ok, Err, subst}
-use Rattle.parallel_bridge.proofs.Outcomes.{unless_weaker}
-use Rattle.parallel_bridge.proofs.Serials.{error_serially, unrefused_else, value_serially}
-use Rattle.parallel_bridge.proofs.Paths.{try_folded_serially, try_folded_along}
+use Rattle.parallel_bridge.proofs.{Shape, cutdepth, GivesSome, TryAlong, TryFoldSegment, TryFoldedAs, rules, Ok, Err, subst, unless_weaker, error_serially, unrefused_else, value_serially}
+use Rattle.parallel_bridge.proofs.{try_folded_serially, try_folded_along}
 use Rattle.parallel_bridge.proofs.list.try_fold.try_fold_by.Goals as goal
 
 pub returns-in-Ok : goal.returns-in-Ok
 returns-in-Ok g c =
-    let identity = λ (e : g.row.R.Denot). g.ID.Fn.post c.args.identity.now tt e in
-    let step =
-    λ (a : g.row.R.Denot) (x : g.row.P-Item.Denot)
-    (o : Result g.row.R.Denot g.row.E.Denot). g.F.Fn.post c.args.fold_op.now (a, (x, tt)) o in
-    let reduce =
-    λ (a : g.row.R.Denot) (b : g.row.R.Denot) (r : g.row.R.Denot). g.G.Fn.post
-    c.args.reduce_op.now (a, (b, tt)) r in
+    let identity = goal.ID-post g c.args.identity.now in
+    let step = goal.F-post g c.args.fold_op.now in
+    let reduce = goal.G-post g c.args.reduce_op.now in
     let w = c.try_fold_iter.ensures in
     let h : TryFoldSegment identity step w.0 (Ok c.in-Ok.value) =
     subst (TryFoldSegment identity step w.0) c.in-Ok.is w.2 in
@@ -30,13 +23,9 @@ returns-in-Ok g c =
 
 pub returns-in-Err : goal.returns-in-Err
 returns-in-Err g c =
-    let identity = λ (e : g.row.R.Denot). g.ID.Fn.post c.args.identity.now tt e in
-    let step =
-    λ (a : g.row.R.Denot) (x : g.row.P-Item.Denot)
-    (o : Result g.row.R.Denot g.row.E.Denot). g.F.Fn.post c.args.fold_op.now (a, (x, tt)) o in
-    let reduce =
-    λ (a : g.row.R.Denot) (b : g.row.R.Denot) (r : g.row.R.Denot). g.G.Fn.post
-    c.args.reduce_op.now (a, (b, tt)) r in
+    let identity = goal.ID-post g c.args.identity.now in
+    let step = goal.F-post g c.args.fold_op.now in
+    let reduce = goal.G-post g c.args.reduce_op.now in
     let w = c.try_fold_iter.ensures in
     let h : TryFoldSegment identity step w.0 (Err c.in-Err.error) =
     subst (TryFoldSegment identity step w.0) c.in-Err.is w.2 in
@@ -52,26 +41,20 @@ returns-in-Err g c =
 
 pub returns-in-Parallel : goal.returns-in-Parallel
 returns-in-Parallel g c =
-    let identity = λ (e : g.row.R.Denot). g.ID.Fn.post c.args.identity.now tt e in
-    let step =
-    λ (a : g.row.R.Denot) (x : g.row.P-Item.Denot)
-    (o : Result g.row.R.Denot g.row.E.Denot). g.F.Fn.post c.args.fold_op.now (a, (x, tt)) o in
-    let reduce =
-    λ (a : g.row.R.Denot) (b : g.row.R.Denot) (r : g.row.R.Denot). g.G.Fn.post
-    c.args.reduce_op.now (a, (b, tt)) r in
+    let identity = goal.ID-post g c.args.identity.now in
+    let step = goal.F-post g c.args.fold_op.now in
+    let reduce = goal.G-post g c.args.reduce_op.now in
     let k = cutdepth c.args.threads.value in
     let gives = g.P.Parts.gives in
     record {
-      folds = unless_weaker c.try_fold_parallel.result
-          (λ out. GivesSome gives c.args.parts
+      folds = unless_weaker c.try_fold_parallel.result (λ out. GivesSome gives c.args.parts
           (λ xs. TryAlong identity step reduce (Shape k xs) out))
           (λ out. GivesSome gives c.args.parts
           (λ xs. TryFoldedAs identity step reduce k c.args.path xs out))
           (λ out h. (
             h.0,
             h.1,
-            try_folded_along identity step reduce k h.0 out c.args.path
-                (search rules) h.2,
+            try_folded_along identity step reduce k h.0 out c.args.path (search rules) h.2,
           ))
           c.try_fold_parallel.ensures.along;
       serial = unrefused_else (search rules) c.try_fold_parallel.result;

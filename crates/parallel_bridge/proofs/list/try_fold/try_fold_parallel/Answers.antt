@@ -1,10 +1,7 @@
 -- The outcome of each segment is reduced behind an identity, unless it is an error, and no stop
 -- stands.
-use Rattle.parallel_bridge.proofs.Calls.{UnlessRefused, Shape, GivesSome, OnlyOk, TryAlong, TryFoldSegment, TryReducedSegment}
-use Rattle.parallel_bridge.proofs.Gates.{stands_for, KeptEnds}
-use Rattle.std.proofs.Common.{Result, subst, sym, ap, ◌∙◌, arith}
-use Rattle.parallel_bridge.proofs.Halts.{fresh_watch, never_stopped}
-use Rattle.parallel_bridge.proofs.Unhalt.{driven_lost, driven_unhalted, ok_meets}
+use Rattle.parallel_bridge.proofs.{UnlessRefused, Shape, GivesSome, OnlyOk, TryAlong, TryFoldSegment, TryReducedSegment, stands_for, KeptEnds, subst, sym, ap, ◌∙◌, arith, fresh_watch, never_stopped}
+use Rattle.parallel_bridge.proofs.{driven_lost, driven_unhalted, ok_meets}
 use Rattle.parallel_bridge.proofs.list.try_fold.try_fold_parallel.Goals as goal
 
 pub fold_gated-done-requires-clause-watch : goal.fold_gated-done-requires-clause-watch
@@ -40,13 +37,9 @@ unhalt-requires g c =
 
 pub returns-in-Some : goal.returns-in-Some
 returns-in-Some g c =
-    let identity = λ (e : g.row.R.Denot). g.ID.Fn.post c.args.identity.now tt e in
-    let step =
-    λ (a : g.row.R.Denot) (x : g.row.P-Item.Denot)
-    (o : Result g.row.R.Denot g.row.E.Denot). g.F.Fn.post c.args.fold_op.now (a, (x, tt)) o in
-    let reduce =
-    λ (a : g.row.R.Denot) (b : g.row.R.Denot) (r : g.row.R.Denot). g.G.Fn.post
-    c.args.reduce_op.now (a, (b, tt)) r in
+    let identity = goal.ID-post g c.args.identity.now in
+    let step = goal.F-post g c.args.fold_op.now in
+    let reduce = goal.G-post g c.args.reduce_op.now in
     let gives = g.P.Parts.gives in
     record {
       along = subst (λ k. UnlessRefused c.unhalt.result (λ out. GivesSome gives c.args.parts
@@ -59,13 +52,9 @@ returns-in-Some g c =
 
 pub returns-in-None : goal.returns-in-None
 returns-in-None g c =
-    let identity = λ (e : g.row.R.Denot). g.ID.Fn.post c.args.identity.now tt e in
-    let step =
-    λ (a : g.row.R.Denot) (x : g.row.P-Item.Denot)
-    (o : Result g.row.R.Denot g.row.E.Denot). g.F.Fn.post c.args.fold_op.now (a, (x, tt)) o in
-    let reduce =
-    λ (a : g.row.R.Denot) (b : g.row.R.Denot) (r : g.row.R.Denot). g.G.Fn.post
-    c.args.reduce_op.now (a, (b, tt)) r in
+    let identity = goal.ID-post g c.args.identity.now in
+    let step = goal.F-post g c.args.fold_op.now in
+    let reduce = goal.G-post g c.args.reduce_op.now in
     let gives = g.P.Parts.gives in
     record {
       along = subst (λ k. UnlessRefused c.unhalt_lost.result (λ out. GivesSome gives c.args.parts

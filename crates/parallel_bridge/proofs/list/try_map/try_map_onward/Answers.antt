@@ -1,12 +1,9 @@
 -- One turn is one value more, or the error.
-use Rattle.std.proofs.Common.{rules, ◌∷◌, []}
-use Rattle.parallel_bridge.specs.Outcomes.{ended}
-use Rattle.parallel_bridge.proofs.CollectChains.{next_has}
-use Rattle.parallel_bridge.proofs.FoldersAppend.{behind_append, behind_rests}
+use Rattle.parallel_bridge.proofs.{rules, ◌∷◌, [], ended, next_has, behind_append, behind_rests}
 use Rattle.parallel_bridge.proofs.list.try_map.try_map_onward.Goals as goal
 
 pub loop-item-init : goal.loop-item-init
-loop-item-init g c = behind_rests (λ x o. goal.F-post g c.args.map_op.now x o)
+loop-item-init g c = behind_rests (goal.F-post g c.args.map_op.now)
     (ended c.args.values.now.items c.args.failed.now)
 
 pub try_map_step-requires : goal.try_map_step-requires
@@ -16,7 +13,7 @@ try_map_step-requires g c = next_has g.I.Iterator.next_gives
     (search rules) (search rules)
 
 pub loop-item-preserved : goal.loop-item-preserved
-loop-item-preserved g c = behind_append (λ x o. goal.F-post g c.args.map_op.now x o)
+loop-item-preserved g c = behind_append (goal.F-post g c.args.map_op.now)
     (ended c.args.values.now.items c.args.failed.now)
     (ended c.loop-item.values.items c.loop-item.failed)
     (ended c.try_map_step.new.values.items c.try_map_step.new.failed) c.loop-item.yielded

@@ -1,11 +1,6 @@
 -- What was written into the segments' rooms, side by side, or the leftmost error, which is no stop.
-use Rattle.parallel_bridge.proofs.Calls.{Shape, Driven, GivesSome, EachOk, FirstErr, TryAlongCut, TryMapOf}
-use Rattle.std.proofs.Common.{Result, Ok, ◌≡◌, ◌++◌, List, subst, sym, ap, ◌∙◌, arith}
-use Rattle.parallel_bridge.specs.Fills.{Answered, OneAfterAnother, written}
-use Rattle.parallel_bridge.specs.Gates.{stands_for}
-use Rattle.parallel_bridge.proofs.Halts.{fresh_watch, never_stopped}
-use Rattle.parallel_bridge.proofs.TryWrites.{tried_error, tried_shape}
-use Rattle.parallel_bridge.proofs.Unhalt.{driven_unhalted, ok_meets, written_not_stopped, written_unhalted}
+use Rattle.parallel_bridge.proofs.{Shape, Driven, GivesSome, EachOk, FirstErr, TryAlongCut, TryMapOf, Ok, ◌≡◌, ◌++◌, List, subst, sym, ap, ◌∙◌, arith, Answered, OneAfterAnother, written, stands_for}
+use Rattle.parallel_bridge.proofs.{fresh_watch, never_stopped, tried_error, tried_shape, driven_unhalted, ok_meets, written_not_stopped, written_unhalted}
 use Rattle.parallel_bridge.proofs.list.try_map.try_map_parallel.Goals as goal
 
 pub fill_gated-values-requires-clause-watch : goal.fill_gated-values-requires-clause-watch
@@ -35,9 +30,7 @@ unhalt-requires g c =
 
 pub returns-in-Ok : goal.returns-in-Ok
 returns-in-Ok g c =
-    let allowed =
-    λ (x : g.row.P-Item.Denot) (o : Result g.row.T.Denot g.row.E.Denot). g.F.Fn.post
-    c.args.map_op.now (x, tt) o in
+    let allowed = goal.F-post g c.args.map_op.now in
     let leaf = Answered {S = Unit {0}} (λ l s ys. EachOk allowed l ys) (FirstErr allowed) in
     let gives = g.P.Parts.gives in
     let depth = c.depth_of-depth.result in
@@ -64,9 +57,7 @@ returns-in-Ok g c =
 
 pub returns-in-Err : goal.returns-in-Err
 returns-in-Err g c =
-    let allowed =
-    λ (x : g.row.P-Item.Denot) (o : Result g.row.T.Denot g.row.E.Denot). g.F.Fn.post
-    c.args.map_op.now (x, tt) o in
+    let allowed = goal.F-post g c.args.map_op.now in
     let leaf = Answered {S = Unit {0}} (λ l s ys. EachOk allowed l ys) (FirstErr allowed) in
     let gives = g.P.Parts.gives in
     let depth = c.depth_of-depth.result in

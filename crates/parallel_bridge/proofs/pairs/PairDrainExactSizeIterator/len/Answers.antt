@@ -1,6 +1,5 @@
 -- Half as many pairs as items.
-use Rattle.std.proofs.Common.{arith}
-use Rattle.parallel_bridge.proofs.Neighbours.{length_pairs}
+use Rattle.parallel_bridge.proofs.{arith, length_pairs}
 use Rattle.parallel_bridge.proofs.pairs.PairDrainExactSizeIterator.len.Goals as goal
 
 pub returns-clause-value : goal.returns-clause-value

@@ -1,7 +1,5 @@
 -- A cut of the items at twice the index is a cut of their pairs at the index.
-use Rattle.parallel_bridge.proofs.Common.{◌++◌, ◌∙◌, ap, length, subst, Contains}
-use Rattle.parallel_bridge.specs.Pairs.{pairs_of}
-use Rattle.parallel_bridge.proofs.Neighbours.{pair_in_back, pair_in_front, pairs_cut, pairs_front}
+use Rattle.parallel_bridge.proofs.{◌++◌, ◌∙◌, ap, length, subst, Contains, pairs_of, pair_in_back, pair_in_front, pairs_cut, pairs_front}
 use Rattle.parallel_bridge.proofs.pairs.PairSegmentSegmentTuple2.split_at.Goals as goal
 
 pub returns-clause-joined : goal.returns-clause-joined

@@ -1,6 +1,5 @@
 -- There is a place for each pair.
-use Rattle.std.proofs.Common.{sym, ◌∙◌}
-use Rattle.parallel_bridge.proofs.Neighbours.{length_pairs}
+use Rattle.parallel_bridge.proofs.{sym, ◌∙◌, length_pairs}
 use Rattle.parallel_bridge.proofs.pairs.PairSegmentSegmentTuple2.write.Goals as goal
 
 pub write_pairs-written-requires-clause-enough : goal.write_pairs-written-requires-clause-enough

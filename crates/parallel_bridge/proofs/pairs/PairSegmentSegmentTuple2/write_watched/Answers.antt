@@ -1,6 +1,5 @@
 -- There is a place for each pair.
-use Rattle.std.proofs.Common.{sym, ◌∙◌}
-use Rattle.parallel_bridge.proofs.Neighbours.{length_pairs}
+use Rattle.parallel_bridge.proofs.{sym, ◌∙◌, length_pairs}
 use Rattle.parallel_bridge.proofs.pairs.PairSegmentSegmentTuple2.write_watched.Goals as goal
 
 pub write_pairs_watched-written-requires-clause-enough : goal.write_pairs_watched-written-requires-clause-enough

@@ -1,7 +1,5 @@
 -- The last item of an odd number of them is in no pair.
-use Rattle.std.proofs.Common.{arith, ap, sym, ◌∙◌}
-use Rattle.parallel_bridge.specs.Pairs.{pairs_of}
-use Rattle.parallel_bridge.proofs.Neighbours.{no_odd, odd_pop}
+use Rattle.parallel_bridge.proofs.{arith, ap, sym, ◌∙◌, pairs_of, no_odd, odd_pop}
 use Rattle.parallel_bridge.proofs.pairs.Pairs.new.Goals as goal
 use Rattle.parallel_bridge.proofs.pairs.Pairs.new.Goals.{then-len-eq1, else-len-eq1}
 

@@ -1,7 +1,5 @@
 -- What comes are the pairs of the items, in order.
-use Rattle.parallel_bridge.proofs.Common.{ap, YieldsList-from_first}
-use Rattle.parallel_bridge.specs.Pairs.{pair_items, pair_rest, pairs_of}
-use Rattle.parallel_bridge.proofs.IteratorItems.{came_as_it_is, stands_in}
+use Rattle.parallel_bridge.proofs.{ap, YieldsList-from_first, pair_items, pair_rest, pairs_of, came_as_it_is, stands_in}
 use Rattle.parallel_bridge.proofs.pairs.PairsParts.into_items.Goals as goal
 
 pub returns-clause-gives : goal.returns-clause-gives

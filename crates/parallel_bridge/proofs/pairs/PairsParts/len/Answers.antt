@@ -1,6 +1,5 @@
 -- Half as many pairs as items.
-use Rattle.std.proofs.Common.{arith, ap, length}
-use Rattle.parallel_bridge.proofs.Neighbours.{length_pairs}
+use Rattle.parallel_bridge.proofs.{arith, ap, length, length_pairs}
 use Rattle.parallel_bridge.proofs.pairs.PairsParts.len.Goals as goal
 
 pub returns-clause-each : goal.returns-clause-each

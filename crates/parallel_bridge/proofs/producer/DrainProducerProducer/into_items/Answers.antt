@@ -1,7 +1,5 @@
 -- What comes are the owned items, in order.
-use Rattle.std.proofs.lemmas.Iterator.Consumers.{YieldsList-from_first}
-use Rattle.parallel_bridge.specs.Producers.{drain_items, drain_rest}
-use Rattle.parallel_bridge.proofs.IteratorItems.{came_as_it_is, stands_in}
+use Rattle.parallel_bridge.proofs.{YieldsList-from_first, drain_items, drain_rest, came_as_it_is, stands_in}
 use Rattle.parallel_bridge.proofs.producer.DrainProducerProducer.into_items.Goals as goal
 
 pub returns-clause-gives : goal.returns-clause-gives

@@ -1,5 +1,5 @@
 -- Told, so that a body which breaks these is refused with no further search.
-use Rattle.parallel_bridge.proofs.Common.{common_steps, rules, arith}
+use Rattle.parallel_bridge.proofs.{common_steps, rules, arith}
 use Rattle.parallel_bridge.proofs.producer.DrainProducerProducer.split_at.Goals as goal
 
 pub returns-clause-joined : goal.returns-clause-joined

@@ -1,7 +1,5 @@
 -- What comes are the indices, in order.
-use Rattle.parallel_bridge.proofs.Common.{ℕ, ◌≤◌, ◌<◌, ◌-◌, refl, YieldsList-from_range}
-use Rattle.parallel_bridge.proofs.IteratorItems.{came_as_it_is, each_that_comes}
-use Rattle.parallel_bridge.proofs.Ranges.{indices_between}
+use Rattle.parallel_bridge.proofs.{ℕ, ◌≤◌, ◌<◌, ◌-◌, refl, YieldsList-from_range, came_as_it_is, each_that_comes, indices_between}
 use Rattle.parallel_bridge.proofs.producer.IndicesProducer.into_items.Goals as goal
 
 pub returns-clause-gives : goal.returns-clause-gives

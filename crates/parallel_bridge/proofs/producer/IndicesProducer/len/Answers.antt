@@ -1,5 +1,5 @@
 -- As many indices as the end is behind the start.
-use Rattle.parallel_bridge.proofs.Common.{length, ◌∙◌, ap, ◌-◌, arith, length-range_with_len}
+use Rattle.parallel_bridge.proofs.{length, ◌∙◌, ap, ◌-◌, arith, length-range_with_len}
 use Rattle.parallel_bridge.proofs.producer.IndicesProducer.len.Goals as goal
 
 pub returns-clause-each : goal.returns-clause-each

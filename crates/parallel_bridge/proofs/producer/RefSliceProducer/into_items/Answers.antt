@@ -1,6 +1,5 @@
 -- What comes are borrows of the slice's items, in order.
-use Rattle.parallel_bridge.proofs.Common.{rules, YieldsList-from_slice}
-use Rattle.parallel_bridge.proofs.IteratorItems.{came, stands_in}
+use Rattle.parallel_bridge.proofs.{rules, YieldsList-from_slice, came, stands_in}
 use Rattle.parallel_bridge.proofs.producer.RefSliceProducer.into_items.Goals as goal
 
 pub returns-clause-gives : goal.returns-clause-gives

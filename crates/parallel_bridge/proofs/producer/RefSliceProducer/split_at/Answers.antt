@@ -1,6 +1,5 @@
 -- A list of borrows comes of the back part.
-use Rattle.std.proofs.Common.{◌-◌, length, take, drop}
-use Rattle.parallel_bridge.proofs.IteratorItems.{some_borrows}
+use Rattle.parallel_bridge.proofs.{◌-◌, length, take, drop, some_borrows}
 use Rattle.parallel_bridge.proofs.producer.RefSliceProducer.split_at.Goals as goal
 
 pub returns-clause-some : goal.returns-clause-some

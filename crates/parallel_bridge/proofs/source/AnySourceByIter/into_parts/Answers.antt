@@ -1,6 +1,5 @@
 -- Each item that was gathered may come.
-use Rattle.parallel_bridge.proofs.Common.{rules, subst, Contains}
-use Rattle.parallel_bridge.proofs.IteratorItems.{may_of}
+use Rattle.parallel_bridge.proofs.{rules, subst, Contains, may_of}
 use Rattle.parallel_bridge.proofs.source.AnySourceByIter.into_parts.Goals as goal
 
 pub returns-clause-may : goal.returns-clause-may

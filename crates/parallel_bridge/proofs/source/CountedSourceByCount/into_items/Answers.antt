@@ -1,5 +1,5 @@
 -- Each item that comes may come.
-use Rattle.parallel_bridge.proofs.IteratorItems.{may_along}
+use Rattle.parallel_bridge.proofs.{may_along}
 use Rattle.parallel_bridge.proofs.source.CountedSourceByCount.into_items.Goals as goal
 
 pub returns-clause-may : goal.returns-clause-may

@@ -1,7 +1,5 @@
 -- What comes are the vector's items, in order.
-use Rattle.parallel_bridge.proofs.Common.{◌∙◌, YieldsList-from_first}
-use Rattle.parallel_bridge.specs.Producers.{drain_rest}
-use Rattle.parallel_bridge.proofs.IteratorItems.{came_as_it_is, stands_in}
+use Rattle.parallel_bridge.proofs.{◌∙◌, YieldsList-from_first, drain_rest, came_as_it_is, stands_in}
 use Rattle.parallel_bridge.proofs.source.VecSourceByVec.into_items.Goals as goal
 
 pub returns-clause-gives : goal.returns-clause-gives
@@ -10,6 +8,5 @@ returns-clause-gives g c xs drains = came_as_it_is xs drains
     (c.drain.ensures ∙ c.from_vec.ensures))
 
 pub returns-clause-may : goal.returns-clause-may
-returns-clause-may g c =
-    stands_in (YieldsList-from_first (λ x. x) drain_rest c.args.self.items
+returns-clause-may g c = stands_in (YieldsList-from_first (λ x. x) drain_rest c.args.self.items
     (c.drain.ensures ∙ c.from_vec.ensures))

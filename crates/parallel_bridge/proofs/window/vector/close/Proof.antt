@@ -1,4 +1,5 @@
 -- `close` gives a vector a row of places as its block. Assumes `Logic`.
+use Rattle.parallel_bridge.proofs.{Places, Start, mark, mark_had, start_had, plainly, stored_within, block_in}
 use Rattle.parallel_bridge.proofs.Walks.{proved_at, ◌≡◌, refl, sym, ap, subst, ◌∙◌, ℕ, ◌-◌, ◌*◌, ◌≤◌, ◌<◌, ◌^◌, List, [], ◌∷◌, ◌++◌, map, length, replicate, Ura, full_share, Fn, w64, inst_fn, Val}
 use Rattle.parallel_bridge.proofs.Walks.{vunit, vint, vptr, SProp, ent, never, id⊢, ftrue, fat, flft, Memory, Routine, Env, WpFn, Tables, Logic, ◌⊑◌, Fun, fact, tables, tables_of, ‵, raw, ◌⊛◌, at_ret}
 use Rattle.parallel_bridge.proofs.Walks.{◌$◌, ◌∵◌, !, qed, move, keep, drop, use2, split, split3, join, rewrite, fsplit, fsplit3, fjoin3, feq_i, feq_l, flt_l, suffices, done, whole, sub, store_in}
@@ -7,8 +8,6 @@ use Rattle.parallel_bridge.proofs.Walks.{give_at, through, sets, env, yes, no, R
 use Rattle.parallel_bridge.proofs.Walks.{Stays, stay_dropped, stay_ref, walk_of, ends_at, Goes-dropped, Goes-ref, Option, Some, None, Goes-blank, token, has_block, word, word-Good, Blk, vec_opens⁰}
 use Rattle.parallel_bridge.proofs.Walks.{vec_closes⁰, after, slots, cells_own, deed_owns, values}
 use Rattle.std_alloc.proofs.VecSteps.El.{El, args, el_x, el_d, R, P, Vr, Hd, sz}
-use Rattle.parallel_bridge.proofs.RowMemory.{Places, Start, mark, mark_had, start_had}
-use Rattle.parallel_bridge.proofs.Blocks.{plainly, stored_within, block_in}
 use Rattle.parallel_bridge.specs.contracts.window.cells.Deed as deeds
 use Rattle.parallel_bridge.specs.contracts.window.vector.close as F
 use Rattle.parallel_bridge.specs.contracts.window.vector.close.Key.{name as #self}
@@ -97,8 +96,7 @@ module _ (E : El) where
         let le : n ≤ c = stored_within n c xs long (ap length (sym is_row.3) ∙ is_row.1) in
         suffices ! (Run us) (subst (λ (ws : List Val). ent 𝓤 (Run us) (Run ws))
         (sym (λ i. e₀ i ++ (e₁ i ++ (e₂ i ++ (e₃ i ++ (e₄ i ++ (e₅ i ++ [])))))))
-        (id⊢ 𝓤 (Run us))) $
-        enter ! 𝓣.C 𝓣.Λ here us Post $ alloc_all !
+        (id⊢ 𝓤 (Run us))) $ enter ! 𝓣.C 𝓣.Λ here us Post $ alloc_all !
         (λ l. pass_all ! refl (
           (tt, tt),
           (
@@ -135,8 +133,7 @@ module _ (E : El) where
         rewrite ! 0 (λ (g : Hd E). ‵ (deed_owns (R E) (token E.al g) p c)) is_right.2 refl $
         move ! (1 ∷ 0 ∷ []) $
         use2 𝓛 (‵ (Blk E a b o n c xs)) (block_in E 𝓛 a b o n c xs (has_block c) long) $
-        move ! (1 ∷ 2 ∷ 3 ∷ []) $
-        vec_opens⁰ E ! tt h rb ro (λ b' o' hv at' fl' fc' fit'. drop ! $
+        move ! (1 ∷ 2 ∷ 3 ∷ []) $ vec_opens⁰ E ! tt h rb ro (λ b' o' hv at' fl' fc' fit'. drop ! $
         -- [the words; the open borrow; obs; auth; the block; T's token; A's token]
         sets ! (addr ! (through ! refl (stop !))) refl (tt, tt) $
         sets ! (of_opd ! (get ! refl)) refl (tt, tt) $ first ! $ blocks ! $

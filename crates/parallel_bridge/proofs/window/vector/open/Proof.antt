@@ -1,4 +1,5 @@
 -- `open` takes a vector's block out as a row of places with the right to free it. Assumes `Logic`.
+use Rattle.parallel_bridge.proofs.{Places, Start, Mark, mark, mark_from, start_made, says_three, triple, triple_made, plainly, stored, stored_length, block_out}
 use Rattle.parallel_bridge.proofs.Walks.{proved_at, ◌≡◌, refl, sym, ap, subst, ℕ, ◌-◌, ◌*◌, ◌<◌, ◌^◌, zero-mul, arith, List, [], ◌∷◌, ◌++◌, map, lit<, length, replicate, Ura, Fn, ty_array, inst_fn}
 use Rattle.parallel_bridge.proofs.Walks.{bare, Val, vptr, SProp, ent, id⊢, ftrue, flft, Memory, Routine, Env, WpFn, Tables, Logic, Fun, tables, tables_of, ‵, raw, ◌⊛◌, at_ret, ◌$◌, ◌∵◌, !, qed, move}
 use Rattle.parallel_bridge.proofs.Walks.{keep, drop, use0, use1, use3, split, split3, join, fsplit, fsplit3, fjoin, fjoin3, feq_i, feq_l, flt_i, suffices, done, whole, sub, agg, look_in, store_in}
@@ -6,8 +7,6 @@ use Rattle.parallel_bridge.proofs.Walks.{addr, stop, fld, load, lit, of_opd, no_
 use Rattle.parallel_bridge.proofs.Walks.{sets, sets_last, env, RattleType, owns, layout, Ptr, block_ptr, plain, types_at, nothing, Tuple, Clauses, Ended, Stays, stay_ref, walk_of, ends_at, Goes-ref}
 use Rattle.parallel_bridge.proofs.Walks.{Option, Some, None, token, owns_if, has_block, Good, word, word-Good, not_live, vec_opens⁰, vec_closes⁰, after, slots}
 use Rattle.std_alloc.proofs.VecSteps.El.{El, args, el_x, el_d, elτ, R, P, Vr, Hd, sz}
-use Rattle.parallel_bridge.proofs.RowMemory.{Places, Start, Mark, mark, mark_from, start_made, says_three, triple, triple_made}
-use Rattle.parallel_bridge.proofs.Blocks.{plainly, stored, stored_length, block_out}
 use Rattle.parallel_bridge.specs.contracts.window.cells.Deed as deeds
 use Rattle.parallel_bridge.specs.contracts.window.vector.open as F
 use Rattle.parallel_bridge.specs.contracts.window.vector.open.Key.{name as #self}
@@ -117,11 +116,9 @@ module _ (E : El) where
         fjoin ! $ start_made ! p $ move ! (0 ∷ 2 ∷ 1 ∷ []) $
         use3 𝓛 (‵ (Three.own_val (begin, row, deed) (out ∷ [])))
         (triple_made 𝓛 (Start (plainly E)) (Places (plainly E)) Deeds begin row deed
-        (word p) mark mark) $
-        nothing ! $ move ! (0 ∷ 2 ∷ 3 ∷ 4 ∷ 5 ∷ []) $
+        (word p) mark mark) $ nothing ! $ move ! (0 ∷ 2 ∷ 3 ∷ 4 ∷ 5 ∷ []) $
         vec_closes⁰ E ! tt new b o 0 0 [] rb ro (at_b, refl, refl, refl) (lit< tt) (lit< tt)
-        (omega arith) $
-        returns ! (look_at ! 0 refl) $ free_all ! refl $
+        (omega arith) $ returns ! (look_at ! 0 refl) $ free_all ! refl $
         suffices ! _ (ends_at 𝓛 ended stayed held z out (begin, row, deed) (new, tt) (tt, tt)) $
         says_three ! (
           sym at_b,

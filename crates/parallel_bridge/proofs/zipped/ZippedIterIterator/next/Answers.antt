@@ -1,5 +1,5 @@
 -- Where one side ends, the other one is gone through.
-use Rattle.std.proofs.Common.{[], ◌∷◌, refl}
+use Rattle.parallel_bridge.proofs.{[], ◌∷◌, refl}
 use Rattle.parallel_bridge.proofs.zipped.ZippedIterIterator.next.Goals as goal
 
 pub returns-in-None-next-clause-steps : goal.returns-in-None-next-clause-steps

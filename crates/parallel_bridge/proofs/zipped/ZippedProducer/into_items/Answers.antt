@@ -1,5 +1,5 @@
 -- Both sides are gone through, each in its order.
-use Rattle.parallel_bridge.proofs.Zips.{both_along, both_drained}
+use Rattle.parallel_bridge.proofs.{both_along, both_drained}
 use Rattle.parallel_bridge.proofs.zipped.ZippedProducer.into_items.Goals as goal
 
 pub returns-clause-gives : goal.returns-clause-gives

@@ -1,6 +1,5 @@
 -- As many pairs as either side has items.
-use Rattle.std.proofs.Common.{◌∙◌, sym}
-use Rattle.parallel_bridge.proofs.Zips.{pairs_long}
+use Rattle.parallel_bridge.proofs.{◌∙◌, sym, pairs_long}
 use Rattle.parallel_bridge.proofs.zipped.ZippedProducer.len.Goals as goal
 
 pub returns-clause-each : goal.returns-clause-each

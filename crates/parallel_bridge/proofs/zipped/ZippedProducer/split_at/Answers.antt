@@ -1,6 +1,5 @@
 -- A cut of both sides at the index is a cut of their pairs.
-use Rattle.parallel_bridge.proofs.Common.{refl, arith, zip}
-use Rattle.parallel_bridge.proofs.Zips.{pairs_joined, pairs_long}
+use Rattle.parallel_bridge.proofs.{refl, arith, zip, pairs_long, pairs_joined}
 use Rattle.parallel_bridge.proofs.zipped.ZippedProducer.split_at.Goals as goal
 
 pub returns-clause-joined : goal.returns-clause-joined

@@ -1,51 +1,28 @@
 -- A list that is not split is one segment.
-use Rattle.parallel_bridge.proofs.Common.{Ok, Err, IfOk, List, Result, [], ◌++◌, ◌∙◌, ◌<◌, refl, subst, append-nil}
-use Rattle.parallel_bridge.proofs.Calls.{Infallible, Closure, GivesSome, OnlyOk, TryFoldSegment, TryReducedSegment}
-use Rattle.parallel_bridge.proofs.Gates.{GateWatch, Halt, IsSeatOf, IsWatching, known, stands_for, HaltsOnward, TellsAs, halting}
-use Rattle.parallel_bridge.proofs.Halves.{driven_leaf}
-use Rattle.parallel_bridge.proofs.Halts.{leaf_ends, leaf_halts}
-use Rattle.parallel_bridge.proofs.GatedFolds.{Comes, folded_halt, folded_value, halts_rests}
+use Rattle.parallel_bridge.proofs.{Ok, Err, IfOk, List, Result, [], ◌++◌, ◌∙◌, ◌<◌, refl, subst, append-nil, Infallible, Closure, GivesSome, OnlyOk, TryFoldSegment, TryReducedSegment, GateWatch, Halt}
+use Rattle.parallel_bridge.proofs.{IsSeatOf, IsWatching, known, stands_for, HaltsOnward, TellsAs, halting, driven_leaf, leaf_ends, leaf_halts, Comes, folded_halt, folded_value, halts_rests}
 use Rattle.parallel_bridge.proofs.bridge.gated.GatedFoldingTask.run.Given.{Over}
 use Rattle.parallel_bridge.proofs.bridge.gated.GatedFoldingTask.run.Goals.{In-Ok}
 use Rattle.parallel_bridge.proofs.bridge.gated.GatedFoldingTask.run.Goals as goal
 
--- what the closures may answer
-abbrev identity : (g : Over) → In-Ok g → g.row.R.Denot → Type 0
-identity g c e = g.ID.Fn.post c.args.self.identity.now tt e
-
-abbrev step : (g : Over) → In-Ok g → g.row.R.Denot → g.row.X.Denot
-    → Result g.row.R.Denot g.row.E.Denot → Type 0
-step g c v x o = g.F.Fn.post c.args.self.fold_op.now (v, (x, tt)) o
-
-abbrev reduce : (g : Over) → In-Ok g → g.row.R.Denot → g.row.R.Denot → g.row.R.Denot → Type 0
-reduce g c p q r = g.G.Fn.post c.args.self.reduce_op.now (p, (q, tt)) r
-
 -- what the folder came to with a list of the part
 fed_all : (g : Over) (c : In-Ok g) → GivesSome g.S.Segment.gives c.args.self.parts
-    (λ xs. Comes (step g c) c.begin-folder.result.control c.begin-folder.result.watch xs
+    (λ xs. Comes (goal.F-post g c.args.self.fold_op.now) c.begin-folder.result.control c.begin-folder.result.watch xs
     c.in-Ok.folder.control c.in-Ok.folder.watch)
 fed_all g c =
     let first = c.begin-folder.result in
     let last = c.in-Ok.folder in
-    let ready =
-    subst (λ d. IfOk d (λ f. IsWatching f.watch × (0 < stands_for f.watch.seat)
-    × TellsAs f.watch.start (known f.watch.seat) f.control))
-    c.in-Ok.is c.feed-fed.ensures.ready in
-    let fed =
-    subst (λ d. IfOk d (λ f. GivesSome g.S.Segment.gives c.args.self.parts
+    let ready = subst (λ d. IfOk d (λ f. IsWatching f.watch × (0 < stands_for f.watch.seat)
+    × TellsAs f.watch.start (known f.watch.seat) f.control)) c.in-Ok.is c.feed-fed.ensures.ready in
+    let fed = subst (λ d. IfOk d (λ f. GivesSome g.S.Segment.gives c.args.self.parts
     (λ xs. (more : List g.row.X.Denot)
     (out : Result (Result g.row.R.Denot (Halt g.row.E.Denot) × GateWatch) Infallible)
-    → OnlyOk (λ e. Comes (λ (v : g.row.R.Denot) (x : g.row.X.Denot)
-    (o : Result g.row.R.Denot g.row.E.Denot). g.F.Fn.post f.fold_op.now (v, (x, tt)) o)
-    f.control f.watch more e.0 e.1) out
-    → OnlyOk (λ e. Comes (λ (v : g.row.R.Denot) (x : g.row.X.Denot)
-    (o : Result g.row.R.Denot g.row.E.Denot). g.F.Fn.post first.fold_op.now (v, (x, tt)) o)
+    → OnlyOk (λ e. Comes (goal.F-post g f.fold_op.now) f.control f.watch more e.0 e.1) out
+    → OnlyOk (λ e. Comes (goal.F-post g first.fold_op.now)
     first.control first.watch (xs ++ more) e.0 e.1) out))) c.in-Ok.is c.feed-fed.ensures.gives in
     let at_end =
     fed.2 [] (Ok (last.control, last.watch)) (
-      halts_rests (λ (v : g.row.R.Denot) (x : g.row.X.Denot)
-          (o : Result g.row.R.Denot g.row.E.Denot). g.F.Fn.post last.fold_op.now (v, (x, tt)) o)
-          last.control,
+      halts_rests (goal.F-post g last.fold_op.now) last.control,
       (refl, refl, refl),
       ready.0,
       ready.2,
@@ -53,33 +30,32 @@ fed_all g c =
     in (
       fed.0,
       fed.1,
-      subst (λ w. Comes (λ (v : g.row.R.Denot) (x : g.row.X.Denot)
-          (o : Result g.row.R.Denot g.row.E.Denot). g.F.Fn.post w.now (v, (x, tt)) o)
+      subst (λ w. Comes (goal.F-post g w.now)
           first.control first.watch fed.0 last.control last.watch) c.begin-folder.ensures.fold_op
-          (subst (λ l. Comes (λ (v : g.row.R.Denot) (x : g.row.X.Denot)
-          (o : Result g.row.R.Denot g.row.E.Denot). g.F.Fn.post first.fold_op.now (v, (x, tt)) o)
+          (subst (λ l. Comes (goal.F-post g first.fold_op.now)
           first.control first.watch l last.control last.watch) (append-nil fed.0) at_end),
     )
 
 pub returns-in-Ok-control : goal.returns-in-Ok-control
 returns-in-Ok-control g c depth short =
-    let i = (goal.at.returns-in-Ok-control g c).In-Ok in
     let self = c.args.self in
-    let leaf = halting (TryReducedSegment (identity g i) (TryFoldSegment (identity g i) (step g i))
-    (reduce g i)) in
-    let node = λ (p : g.row.R.Denot) (q : g.row.R.Denot). OnlyOk (reduce g i p q) in
+    let identity = goal.ID-post g self.identity.now in
+    let step = goal.F-post g self.fold_op.now in
+    let reduce = goal.G-post g self.reduce_op.now in
+    let leaf = halting (TryReducedSegment identity (TryFoldSegment identity step) reduce) in
+    let node = λ (p : g.row.R.Denot) (q : g.row.R.Denot). OnlyOk (reduce p q) in
     let first = c.begin-folder.result in
     let begun = c.begin-folder.ensures in
     let last = c.in-Ok.folder in
-    let fed = fed_all g i in
+    let fed = fed_all g (goal.at.returns-in-Ok-control g c).In-Ok in
     let all = fed.2 in
     let told : TellsAs self.watch.start last.watch.seat.seat.me.0 last.control =
     subst (λ n. TellsAs n last.watch.seat.seat.me.0 last.control) begun.same.1 all.3 in
-    let onward = subst (HaltsOnward (step g i) first.control fed.0) c.in-Ok-control.is all.0 in (
+    let onward = subst (HaltsOnward step first.control fed.0) c.in-Ok-control.is all.0 in (
       driven_leaf g.S.Segment.gives self.parts leaf node depth (Ok c.reduce_op-value.result) short (
         fed.0,
         fed.1,
-        folded_value (identity g i) (step g i) (reduce g i) first.control fed.0
+        folded_value identity step reduce first.control fed.0
             c.identity.result c.in-Ok-control.value c.reduce_op-value.result begun.begins onward
             c.identity.ensures c.reduce_op-value.ensures,
       ),
@@ -95,24 +71,25 @@ returns-in-Ok-control g c depth short =
 
 pub returns-in-Err-control : goal.returns-in-Err-control
 returns-in-Err-control g c depth short =
-    let i = (goal.at.returns-in-Err-control g c).In-Ok in
     let self = c.args.self in
-    let leaf = halting (TryReducedSegment (identity g i) (TryFoldSegment (identity g i) (step g i))
-    (reduce g i)) in
-    let node = λ (p : g.row.R.Denot) (q : g.row.R.Denot). OnlyOk (reduce g i p q) in
+    let identity = goal.ID-post g self.identity.now in
+    let step = goal.F-post g self.fold_op.now in
+    let reduce = goal.G-post g self.reduce_op.now in
+    let leaf = halting (TryReducedSegment identity (TryFoldSegment identity step) reduce) in
+    let node = λ (p : g.row.R.Denot) (q : g.row.R.Denot). OnlyOk (reduce p q) in
     let first = c.begin-folder.result in
     let begun = c.begin-folder.ensures in
     let last = c.in-Ok.folder in
-    let fed = fed_all g i in
+    let fed = fed_all g (goal.at.returns-in-Err-control g c).In-Ok in
     let all = fed.2 in
     let told : TellsAs self.watch.start last.watch.seat.seat.me.0 last.control =
     subst (λ n. TellsAs n last.watch.seat.seat.me.0 last.control) begun.same.1 all.3 in
-    let onward = subst (HaltsOnward (step g i) first.control fed.0) c.in-Err-control.is all.0 in (
+    let onward = subst (HaltsOnward step first.control fed.0) c.in-Err-control.is all.0 in (
       driven_leaf g.S.Segment.gives self.parts leaf node depth
           (Err (Closure c.in-Err-control.halt)) short (
             fed.0,
             fed.1,
-            folded_halt (identity g i) (step g i) (reduce g i) first.control fed.0
+            folded_halt identity step reduce first.control fed.0
                 c.in-Err-control.halt begun.begins onward,
           ),
       c.feed-fed.ensures.rest,

@@ -1,10 +1,6 @@
 -- The outcomes of the halves go along the shape, of two errors the left one stands, and their seats
 -- are joined.
-use Rattle.parallel_bridge.proofs.Gates.{stands_for, IsKeptOf, KeptEnds, halting}
-use Rattle.std.proofs.Common.{◌/◌, Result, arith, refl, rules, subst}
-use Rattle.parallel_bridge.specs.Tries.{OnlyOk, TryFoldSegment, TryReducedSegment}
-use Rattle.parallel_bridge.proofs.Halves.{driven_node}
-use Rattle.parallel_bridge.proofs.Halts.{kept_joined, kept_of}
+use Rattle.parallel_bridge.proofs.{stands_for, IsKeptOf, KeptEnds, halting, ◌/◌, arith, refl, rules, subst, OnlyOk, TryFoldSegment, TryReducedSegment, driven_node, kept_joined, kept_of}
 use Rattle.parallel_bridge.proofs.bridge.gated.GatedFoldingTask.split.Goals as goal
 
 pub returns-clause-meet : goal.returns-clause-meet
@@ -31,13 +27,9 @@ returns-clause-node g c depth a b all above left right together =
     let watches = c.split-left_watch.result in
     let half = c.len-len.result / 2 in
     let counted = c.len-len.ensures.counted in
-    let identity = λ (e : g.row.R.Denot). g.ID.Fn.post self.identity.now tt e in
-    let step =
-    λ (v : g.row.R.Denot) (x : g.row.X.Denot)
-    (o : Result g.row.R.Denot g.row.E.Denot). g.F.Fn.post self.fold_op.now (v, (x, tt)) o in
-    let reduce =
-    λ (p : g.row.R.Denot) (q : g.row.R.Denot) (r : g.row.R.Denot). g.G.Fn.post
-    self.reduce_op.now (p, (q, tt)) r in
+    let identity = goal.ID-post g self.identity.now in
+    let step = goal.F-post g self.fold_op.now in
+    let reduce = goal.G-post g self.reduce_op.now in
     let leaf = halting (TryReducedSegment identity (TryFoldSegment identity step) reduce) in
     let node = λ (p : g.row.R.Denot) (q : g.row.R.Denot). OnlyOk (reduce p q) in (
       driven_node S.gives self.parts c.in-Ok.halves.0 c.in-Ok.halves.1 leaf leaf leaf
@@ -47,10 +39,9 @@ returns-clause-node g c depth a b all above left right together =
           (λ xs out h. h) (λ xs out h. h) (λ a b out h. h) (λ a b out h. h) (λ a b out h. h)
           a.0 b.0 all.0 left.0 right.0 together.0,
       together.1 self.parts (parts.rests a.1 b.1 left.1 right.1),
-      kept_joined node (λ p q none. none) self.watch.gate.now self.watch.start half
-          (S.count self.parts) (stands_for self.watch.seat) (omega (arith, counted))
-          (omega (arith, c.requires.long, counted))
-          a.2 b.2 all.2 a.0 b.0 all.0
+      kept_joined node (λ p q none. none) self.watch.start half (S.count self.parts)
+          (stands_for self.watch.seat) (omega (arith, counted))
+          (omega (arith, c.requires.long, counted)) self.watch.gate.now a.2 b.2 all.2 a.0 b.0 all.0
           (watches.0.start, S.count c.in-Ok.halves.0, stands_for watches.0.seat)
           (watches.1.start, S.count c.in-Ok.halves.1, stands_for watches.1.seat)
           (λ i. (made.start.0 i, parts.counts.0 i, (made.front i).seats))
@@ -58,6 +49,5 @@ returns-clause-node g c depth a b all above left right together =
           (subst (λ w. KeptEnds w.now watches.0.start (S.count c.in-Ok.halves.0)
           (stands_for watches.0.seat) a.2 a.0) made.gate.0 left.2)
           (subst (λ w. KeptEnds w.now watches.1.start (S.count c.in-Ok.halves.1)
-          (stands_for watches.1.seat) b.2 b.0) made.gate.1 right.2)
-          together.0 together.2,
+          (stands_for watches.1.seat) b.2 b.0) made.gate.1 right.2) together.0 together.2,
     )

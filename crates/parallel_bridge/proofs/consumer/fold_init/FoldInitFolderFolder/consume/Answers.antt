@@ -1,5 +1,5 @@
 -- One step more, from the state that this one left.
-use Rattle.std.proofs.Common.{rules}
+use Rattle.parallel_bridge.proofs.{rules}
 use Rattle.parallel_bridge.proofs.consumer.fold_init.FoldInitFolderFolder.consume.Goals as goal
 
 pub returns-clause-gives : goal.returns-clause-gives

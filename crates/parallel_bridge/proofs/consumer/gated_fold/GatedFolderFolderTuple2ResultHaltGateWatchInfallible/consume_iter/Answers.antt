@@ -1,20 +1,16 @@
 -- What comes behind the items comes behind all of it.
-use Rattle.std.proofs.Common.{Result}
-use Rattle.parallel_bridge.proofs.GatedFolds.{comes_onward, only_weaker}
+use Rattle.parallel_bridge.proofs.{comes_onward, only_weaker}
 use Rattle.parallel_bridge.proofs.consumer.gated_fold.GatedFolderFolderTuple2ResultHaltGateWatchInfallible.consume_iter.Goals as goal
 
 pub returns-clause-gives : goal.returns-clause-gives
 returns-clause-gives g c =
     let self = c.args.self in
-    let step =
-    λ (a : g.row.T.Denot) (x : g.row.X.Denot) (o : Result g.row.T.Denot g.row.E.Denot). g.F.Fn.post
-    self.fold_op.now (a, (x, tt)) o in
+    let step = goal.F-post g self.fold_op.now in
     let made = c.gated_onward-control in
     let w = made.ensures.onward in (
       w.0,
       w.1,
       λ more out h. only_weaker _ _
           (λ d k. comes_onward step self.control made.result d.0 self.watch made.new.watch d.1
-          w.0 more w.2 made.ensures.same k)
-          out h,
+          w.0 more w.2 made.ensures.same k) out h,
     )

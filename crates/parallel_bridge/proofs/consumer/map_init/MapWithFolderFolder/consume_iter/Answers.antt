@@ -1,7 +1,5 @@
 -- The answers of the items, and behind them those of more.
-use Rattle.std.proofs.Common.{◌++◌, refl, ◌∙◌, subst}
-use Rattle.parallel_bridge.proofs.CollectChains.{vec_yields}
-use Rattle.parallel_bridge.proofs.IteratorItems.{came_as_it_is}
+use Rattle.parallel_bridge.proofs.{◌++◌, refl, ◌∙◌, subst, vec_yields, came_as_it_is}
 use Rattle.parallel_bridge.proofs.consumer.map_init.MapWithFolderFolder.consume_iter.Goals as goal
 
 pub returns-clause-gives : goal.returns-clause-gives

@@ -1,14 +1,11 @@
 -- What comes behind the items comes behind all of it.
-use Rattle.std.proofs.Common.{Option}
-use Rattle.parallel_bridge.proofs.FoldersAppend.{part_only}
+use Rattle.parallel_bridge.proofs.{part_only}
 use Rattle.parallel_bridge.proofs.consumer.partition.PartitionFolderFolderVecTuple2VecVecInfallible.consume_iter.Goals as goal
 
 pub returns-clause-gives : goal.returns-clause-gives
 returns-clause-gives g c =
     let self = c.args.self in
-    let allowed =
-    λ (x : g.row.X.Denot) (p : g.row.K.Denot × Option g.row.U.Denot). g.F.Fn.post
-    self.map_op.now (x, tt) p in
+    let allowed = goal.F-post g self.map_op.now in
     let w = c.in_ok-values.ensures.gives in (
       w.0,
       w.1,

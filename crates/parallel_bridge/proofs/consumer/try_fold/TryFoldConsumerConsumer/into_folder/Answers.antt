@@ -1,5 +1,5 @@
 -- The chain from the identity.
-use Rattle.std.proofs.Common.{◌∷◌, []}
+use Rattle.parallel_bridge.proofs.{◌∷◌, []}
 use Rattle.parallel_bridge.proofs.consumer.try_fold.TryFoldConsumerConsumer.into_folder.Goals as goal
 
 pub returns-clause-gives : goal.returns-clause-gives

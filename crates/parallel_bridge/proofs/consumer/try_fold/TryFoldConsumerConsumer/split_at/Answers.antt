@@ -1,5 +1,5 @@
 -- What a half gives by its base, the whole gives by its own.
-use Rattle.std.proofs.Common.{◌∷◌, []}
+use Rattle.parallel_bridge.proofs.{◌∷◌, []}
 use Rattle.parallel_bridge.proofs.consumer.try_fold.TryFoldConsumerConsumer.split_at.Goals as goal
 
 pub returns-clause-left_leaf : goal.returns-clause-left_leaf

@@ -1,16 +1,11 @@
 -- The base takes the outcome.
-use Rattle.std.proofs.Common.{Result, ◌∷◌, []}
-use Rattle.parallel_bridge.specs.Onto.{TryContinues}
-use Rattle.parallel_bridge.proofs.Outcomes.{unless_weaker}
-use Rattle.parallel_bridge.proofs.FoldersAppend.{try_rests}
+use Rattle.parallel_bridge.proofs.{Result, ◌∷◌, [], TryContinues, unless_weaker, try_rests}
 use Rattle.parallel_bridge.proofs.consumer.try_fold.TryFoldFolderFolder.complete.Goals as goal
 
 pub returns : goal.returns
 returns g c =
     let self = c.args.self in
-    let step =
-    λ (a : g.row.T.Denot) (x : g.row.X.Denot) (o : Result g.row.T.Denot g.row.E.Denot). g.F.Fn.post
-    self.fold_op.now (a, (x, tt)) o in
+    let step = goal.F-post g self.fold_op.now in
     unless_weaker c.complete.result (g.C.Folder.gives c.in_ok-base.base [])
     (λ out. (v : Result g.row.T.Denot g.row.E.Denot) × TryContinues step self.control [] v
     × g.C.Folder.gives self.base (v ∷ []) out)

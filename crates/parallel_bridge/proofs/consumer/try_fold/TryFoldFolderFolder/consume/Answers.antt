@@ -1,14 +1,11 @@
 -- A chain over the items and one over more are one chain.
-use Rattle.std.proofs.Common.{Result, ◌∷◌, []}
-use Rattle.parallel_bridge.proofs.FoldersAppend.{try_onward}
+use Rattle.parallel_bridge.proofs.{◌∷◌, [], try_onward}
 use Rattle.parallel_bridge.proofs.consumer.try_fold.TryFoldFolderFolder.consume.Goals as goal
 
 pub returns-clause-gives : goal.returns-clause-gives
 returns-clause-gives g c xs out (v, chain, gives) =
     let self = c.args.self in
-    let step =
-    λ (a : g.row.T.Denot) (x : g.row.X.Denot) (o : Result g.row.T.Denot g.row.E.Denot). g.F.Fn.post
-    self.fold_op.now (a, (x, tt)) o in (
+    let step = goal.F-post g self.fold_op.now in (
       v,
       try_onward step self.control c.try_fold_step-control.result v
           (c.args.item ∷ []) xs c.try_fold_step-control.ensures chain,

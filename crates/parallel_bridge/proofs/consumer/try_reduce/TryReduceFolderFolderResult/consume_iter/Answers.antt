@@ -1,7 +1,5 @@
 -- One turn is one reduction more, or the error stands.
-use Rattle.std.proofs.Common.{rules, ◌∷◌, []}
-use Rattle.parallel_bridge.specs.Onto.{ReducesTo}
-use Rattle.parallel_bridge.proofs.FoldersAppend.{try_onward, try_rests}
+use Rattle.parallel_bridge.proofs.{rules, ◌∷◌, [], ReducesTo, try_onward, try_rests}
 use Rattle.parallel_bridge.proofs.consumer.try_reduce.TryReduceFolderFolderResult.consume_iter.Goals as goal
 
 pub loop-item-init : goal.loop-item-init
@@ -9,14 +7,13 @@ loop-item-init g c =
     record {
       accepts = search rules;
       reached = try_rests
-          (ReducesTo (λ a b r. goal.G-post g c.args.self.reduce_op.now a b r)) c.args.self.control;
+          (ReducesTo (goal.G-post g c.args.self.reduce_op.now)) c.args.self.control;
     }
 
 pub loop-item-preserved : goal.loop-item-preserved
 loop-item-preserved g c = record {
   accepts = search rules;
-  reached =
-      try_onward (ReducesTo (λ a b r. goal.G-post g c.args.self.reduce_op.now a b r))
+  reached = try_onward (ReducesTo (goal.G-post g c.args.self.reduce_op.now))
       c.args.self.control c.loop-item.control c.try_reduce_step-control.result c.loop-item.yielded
       (c.in-Some.item ∷ []) c.loop-item.invariant.reached c.try_reduce_step-control.ensures;
 }
@@ -25,7 +22,7 @@ pub returns-clause-gives : goal.returns-clause-gives
 returns-clause-gives g c = (
   c.loop-item.yielded,
   search rules,
-  λ more out h. try_onward (ReducesTo (λ a b r. goal.G-post g c.args.self.reduce_op.now a b r))
+  λ more out h. try_onward (ReducesTo (goal.G-post g c.args.self.reduce_op.now))
       c.args.self.control c.loop-item.control out c.loop-item.yielded more
       c.loop-item.invariant.reached h,
 )

@@ -1,6 +1,5 @@
 -- what the folder gives from here, the one of the start gives for the items so far and more
-use Rattle.std.proofs.Common.{List, ◌++◌, Option, Result}
-use Rattle.parallel_bridge.specs.Tries.{unless_full}
+use Rattle.parallel_bridge.proofs.{List, ◌++◌, Option, Result, unless_full}
 use Rattle.parallel_bridge.proofs.consumer.while_some.WhileSomeFolderFolderOption.consume_iter.Given as goal
 
 abbrev pub invariant-loop-item : goal.invariant-loop-item

@@ -1,10 +1,5 @@
 -- A list that is not split is one segment.
-use Rattle.parallel_bridge.proofs.Calls.{Closure, GivesSome}
-use Rattle.parallel_bridge.proofs.Gates.{IsSeatOf, stands_for, TellsAs, halting}
-use Rattle.std.proofs.Common.{Ok, Err, IfOk, List, subst}
-use Rattle.parallel_bridge.specs.Fills.{Answered, IsFull, OneAfterAnother, kept}
-use Rattle.parallel_bridge.proofs.Halves.{driven_leaf}
-use Rattle.parallel_bridge.proofs.Halts.{leaf_ends, leaf_halts}
+use Rattle.parallel_bridge.proofs.{Closure, GivesSome, IsSeatOf, stands_for, TellsAs, halting, Ok, Err, IfOk, List, subst, Answered, IsFull, OneAfterAnother, kept, driven_leaf, leaf_ends, leaf_halts}
 use Rattle.parallel_bridge.proofs.fill.gated.GatedFillingTask.run.Goals as goal
 
 pub returns-in-Ok : goal.returns-in-Ok
@@ -49,7 +44,6 @@ returns-in-Err g c depth short =
       written.rest,
       subst (λ b. IsSeatOf b.now watch.seat) written.same.0 written.watching,
       leaf_halts (Unit {0}) (List g.row.W-Answer.Denot) self.watch.start (g.S.Segment.count self.parts)
-          (stands_for self.watch.seat) watch.seat.seat.me.0 c.in-Err.halt
-          written.same.2
+          (stands_for self.watch.seat) watch.seat.seat.me.0 c.in-Err.halt written.same.2
           (subst (TellsAs self.watch.start watch.seat.seat.me.0) c.in-Err.is written.told),
     )

@@ -1,30 +1,21 @@
 -- The halves' places follow one another, their outcomes go along the shape, of two errors the left
 -- one stands, and their seats are joined.
-use Rattle.parallel_bridge.proofs.Common.{◌≡◌, ◌+◌, ◌-◌, ◌/◌, arith, refl, rules, sym, ap, subst, ◌∙◌, FitsInBlock}
-use Rattle.parallel_bridge.proofs.Gates.{IsSeatOf, stands_for, halting}
-use Rattle.parallel_bridge.proofs.Windows.{Answered, OneAfterAnother, written, shifted}
-use Rattle.parallel_bridge.proofs.Halves.{driven_node}
-use Rattle.parallel_bridge.proofs.Halts.{ends_joined}
+use Rattle.parallel_bridge.proofs.{◌≡◌, ◌/◌, arith, refl, rules, sym, subst, ◌∙◌, FitsInBlock, IsSeatOf, stands_for, halting, Answered, OneAfterAnother, written, driven_node, halved_room, ends_joined}
 use Rattle.parallel_bridge.proofs.fill.gated.GatedFillingTask.split.Goals as goal
 
 pub returns-clause-meet : goal.returns-clause-meet
 returns-clause-meet g c depth a b left right =
     let self = c.args.self in
-    let rooms = c.split-left.ensures in
     let R = g.row.W-Answer in
-    let half = c.len-len.result / 2 in
-    let start : a.0.start ≡ self.room.start = left.0.0.0 ∙ ap (λ w. w.start) rooms.left in
-    let front : a.0.room ≡ half = left.0.0.1 ∙ ap (λ w. w.room) rooms.left in
-    let next : b.0.start ≡ shifted R self.room.start half = right.0.0.0
-    ∙ ap (λ w. w.start) rooms.right in
-    let back : b.0.room ≡ self.room.room - half = right.0.0.1 ∙ ap (λ w. w.room) rooms.right in
     let long : self.room.room ≡ g.S.Segment.count self.parts = search rules in
     let counted = c.len-len.ensures.counted in
-    let whole : a.0.room + b.0.room ≡ self.room.room = omega (arith, front, back, long, counted) in
+    let rooms = c.split-left.ensures in
+    let at = halved_room g.row.W-Answer self.room _ _ (c.len-len.result / 2) _ _ rooms.left
+    rooms.right (omega (arith, long, counted)) a.0 b.0 left.0.0 right.0.0 in
     let fits : FitsInBlock R self.room.room = search rules in
     let gates = c.split-left_watch.ensures.gate in (
-      next ∙ sym (λ i. shifted R (start i) (front i)),
-      subst (FitsInBlock R) (sym whole) fits,
+      at.0,
+      subst (FitsInBlock R) (sym at.2) fits,
       left.0.1,
       right.0.1,
       (self.parts, c.in-Ok.ensures.rests a.2 b.2 left.1 right.1),
@@ -37,19 +28,17 @@ returns-clause-node g c depth a b all above left right together =
     let S = g.S.Segment in
     let self = c.args.self in
     let parts = c.in-Ok.ensures in
-    let rooms = c.split-left.ensures in
     let watches = c.split-left_watch.ensures in
     let half = c.len-len.result / 2 in
-    let start : a.0.start ≡ self.room.start = left.0.0.0 ∙ ap (λ w. w.start) rooms.left in
-    let front : a.0.room ≡ half = left.0.0.1 ∙ ap (λ w. w.room) rooms.left in
-    let back : b.0.room ≡ self.room.room - half = right.0.0.1 ∙ ap (λ w. w.room) rooms.right in
     let long : self.room.room ≡ S.count self.parts = search rules in
     let counted = c.len-len.ensures.counted in
-    let whole : a.0.room + b.0.room ≡ self.room.room = omega (arith, front, back, long, counted) in
+    let rooms = c.split-left.ensures in
+    let at = halved_room g.row.W-Answer self.room _ _ (c.len-len.result / 2) _ _ rooms.left
+    rooms.right (omega (arith, long, counted)) a.0 b.0 left.0.0 right.0.0 in
     let leaf =
     halting (Answered (g.W.Writer.so_far self.writer.now) (g.W.Writer.fails self.writer.now)) in (
       (
-        (together.0 ∙ start, together.1 ∙ whole),
+        (together.0 ∙ at.1, together.1 ∙ at.2),
         together.2,
         driven_node S.gives self.parts c.in-Ok.halves.0 c.in-Ok.halves.1 leaf leaf leaf
             OneAfterAnother OneAfterAnother OneAfterAnother OneAfterAnother

@@ -1,9 +1,7 @@
 -- One answer more.
-use Rattle.std.proofs.Common.{[], ◌∷◌}
-use Rattle.parallel_bridge.proofs.Shapes.{MapOf-append}
+use Rattle.parallel_bridge.proofs.{[], ◌∷◌, MapOf-append}
 use Rattle.parallel_bridge.proofs.fill.map.MapWriterWriter.answer.Goals as goal
 
 pub returns-clause-next : goal.returns-clause-next
-returns-clause-next g c xs ys each = MapOf-append
-    (λ (x : g.row.X.Denot) (y : g.row.T.Denot). g.F.Fn.post c.args.self.now.map_op.now (x, tt) y) xs
+returns-clause-next g c xs ys each = MapOf-append (goal.F-post g c.args.self.now.map_op.now) xs
     (c.args.item ∷ []) ys (c.map_op.result ∷ []) each (c.map_op.ensures, tt)

@@ -1,16 +1,13 @@
 -- One step more of the states.
-use Rattle.parallel_bridge.proofs.Common.{rules, ◌++◌, ◌∷◌, [], sym, subst, append_assoc, MutBor}
-use Rattle.parallel_bridge.specs.States.{MapStep, StateSegment}
+use Rattle.parallel_bridge.proofs.{rules, ◌++◌, ◌∷◌, [], sym, subst, append_assoc, MapStep, StateSegment}
 use Rattle.parallel_bridge.proofs.fill.map_init.MapInitWriterWriter.answer.Goals as goal
 
 pub returns-clause-next : goal.returns-clause-next
 returns-clause-next g c xs ys so_far more zs steps =
     let item = c.args.item in
     let answer = c.map_op.result in
-    let init = λ (s : g.row.S.Denot). g.N.Fn.post c.args.self.now.init.now tt s in
-    let step =
-    MapStep (λ (p : MutBor g.row.S.Denot) (x : g.row.X.Denot) (y : g.row.T.Denot)
-    (q : MutBor g.row.S.Denot). goal.F-post g c.args.self.now.map_op.now p x y q) in
+    let init = goal.N-post g c.args.self.now.init.now in
+    let step = MapStep (goal.F-post g c.args.self.now.map_op.now) in
     subst (λ l. StateSegment init step l ((ys ++ answer ∷ []) ++ zs))
     (sym (append_assoc xs (item ∷ []) more))
     (subst (λ l. StateSegment init step (xs ++ (item ∷ more)) l)

@@ -1,7 +1,5 @@
 -- The whole block is one row.
-use Rattle.std.proofs.Common.{rules, sym, subst, ◌∙◌}
-use Rattle.parallel_bridge.specs.Windows.{IsRow, part}
-use Rattle.parallel_bridge.proofs.WindowSlots.{whole_row}
+use Rattle.parallel_bridge.proofs.{rules, sym, subst, ◌∙◌, IsRow, part, whole_row}
 use Rattle.parallel_bridge.proofs.window.block.Block.from_vec.Goals as goal
 
 pub invariant_of-window : goal.invariant_of-window

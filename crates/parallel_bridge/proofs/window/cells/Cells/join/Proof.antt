@@ -1,11 +1,10 @@
 -- `join` makes one row of two that lie side by side. Assumes `Logic`.
+use Rattle.parallel_bridge.proofs.{FitsInBlock, Places, Mark, Place, sz, mark, mark_from, mark_had, glue}
 use Rattle.parallel_bridge.proofs.Walks.{proved_at, ◌≡◌, refl, sym, ap, subst, ◌∙◌, ℕ, ◌+◌, ◌*◌, ◌<◌, ◌^◌, List, [], ◌∷◌, ◌++◌, length, length-append, Ura, Fn, inst_fn, Val, SProp, ent, never, id⊢}
 use Rattle.parallel_bridge.proofs.Walks.{ftrue, flft, Memory, Routine, WpFn, Tables, Logic, ◌⊑◌, Fun, fact, tables, tables_of, ‵, raw, ◌⊛◌, ◌$◌, ◌∵◌, !, qed, move, keep, drop, use0, use2, split, join}
 use Rattle.parallel_bridge.proofs.Walks.{rewrite, fsplit, fjoin, fjoin3, flt_i, suffices, done, agg, and_then, no_more, returns, enter, alloc_all, pass_all, free_all, look_at, get, sets, no, owns}
 use Rattle.parallel_bridge.proofs.Walks.{Ptr, block_ptr, in_a_block, plain, types_at, heard, nothing, Clauses, Ended, says, Stays, stay_dropped, walk_of, ends_at, Goes-blank, El, R, args, shifted}
 use Rattle.parallel_bridge.proofs.Walks.{slots, cells_own}
-use Rattle.std.specs.Vec.Ownership.{FitsInBlock}
-use Rattle.parallel_bridge.proofs.RowMemory.{Places, Mark, Place, sz, mark, mark_from, mark_had, glue}
 use Rattle.parallel_bridge.specs.contracts.window.cells.Cells.join as F
 use Rattle.parallel_bridge.specs.contracts.window.cells.Cells.join.Key.{name as #self}
 use Rattle.parallel_bridge.proofs.window.cells.Cells.join.Statement as stated

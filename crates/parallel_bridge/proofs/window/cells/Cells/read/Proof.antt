@@ -1,4 +1,5 @@
 -- `read` moves an item out, whose place is empty then. Assumes `Logic`.
+use Rattle.parallel_bridge.proofs.{Places, Start, Place, sz, start_had, item_out, says_two, has_index, Others, place_out, place_in}
 use Rattle.parallel_bridge.proofs.Walks.{proved_at, ◌≡◌, refl, sym, subst, ◌∙◌, ℕ, ◌+◌, ◌*◌, ◌<◌, ◌^◌, arith, List, [], ◌∷◌, ◌++◌, length, set, get_or, length-set, Ura, full_share, Fn, w64, inst_fn}
 use Rattle.parallel_bridge.proofs.Walks.{Val, vptr, vint, SProp, ent, never, id⊢, ftrue, fat, froom, flft, Memory, Routine, Env, WpFn, Tables, Logic, ◌⊑◌, Fun, fact, tables, tables_of, ‵, raw, ◌⊛◌}
 use Rattle.parallel_bridge.proofs.Walks.{some, given, pick, learn, at_ret, ◌$◌, ◌∵◌, !, qed, move, keep, drop, use1, use2, split, split3, join, rewrite, fsplit, fsplit3, fjoin, fjoin3, feq_i, feq_l}
@@ -6,7 +7,6 @@ use Rattle.parallel_bridge.proofs.Walks.{flt_l, flt_i, suffices, done, whole, su
 use Rattle.parallel_bridge.proofs.Walks.{look_at, get, get_in, take_at, give_at, through, sets, sets_last, env, yes, no, owns, usize, layout, Ptr, in_a_block, plain, types_at, heard, nothing, opens}
 use Rattle.parallel_bridge.proofs.Walks.{closes, Clauses, Ended, Stays, stay_dropped, stay_ref, walk_of, ends_at, Goes-dropped, Goes-ref, None, El, R, args, elτ, times_below, one_below, as_raw, Good}
 use Rattle.parallel_bridge.proofs.Walks.{word, word-Good, after, IsFilled, slot, slots, cells_own}
-use Rattle.parallel_bridge.proofs.RowMemory.{Places, Start, Place, sz, start_had, item_out, says_two, has_index, Others, place_out, place_in}
 use Rattle.parallel_bridge.specs.contracts.window.cells.Cells.read as F
 use Rattle.parallel_bridge.specs.contracts.window.cells.Cells.read.Key.{name as #self}
 use Rattle.parallel_bridge.proofs.window.cells.Cells.read.Statement as stated
@@ -51,8 +51,7 @@ module _ (E : El) where
         move ! (1 ∷ []) $ split ! $ drop ! $ heard ! Asked (λ asked.
         split ! $ split3 ! $ move ! (3 ∷ []) $ fsplit ! $ fsplit3 ! $
         feq_l ! (λ e₀. move ! (2 ∷ []) $ fsplit ! $
-        start_had ! base.ptr vss.1.0 (λ e₁. fsplit ! $ fsplit ! $
-        feq_l ! (λ e₂. flt_l ! (λ fits.
+        start_had ! base.ptr vss.1.0 (λ e₁. fsplit ! $ fsplit ! $ feq_l ! (λ e₂. flt_l ! (λ fits.
         keep ! (1 ∷ 2 ∷ 3 ∷ 4 ∷ []) $
         -- [obs; the borrow; its token; T's token]
         let us : List Val = vptr rb ro ∷ word base.ptr ∷ vint w64 i ∷ [] in
@@ -85,8 +84,7 @@ module _ (E : El) where
         rewrite ! 0 (λ (c : Place E). ‵ (slot (R E) b (i * s + o) c)) asked.1.1 refl $
         use1 𝓛 (some (λ (v : Val). given (Good (elτ E) v)
         (‵ (fat full_share (elτ E) b (i * s + o) v) ⊛ ‵ ((R E).own_val x (v ∷ [])))))
-        (item_out E 𝓛 b x (i * s + o)) $
-        pick ! (λ v. learn ! (λ good. split ! $
+        (item_out E 𝓛 b x (i * s + o)) $ pick ! (λ v. learn ! (λ good. split ! $
         -- [the place; what the item owns; the other places; the mark; its cell; the open borrow;
         -- obs; auth; T's token]
         sets_last ! (of_opd ! (load ! (through ! refl (stop !)) (look ! 0 refl))) refl good $
@@ -98,8 +96,7 @@ module _ (E : El) where
         flt_i ! (length new.slots * s) (2 ^ 63)
         (subst (λ k. k * s < 2 ^ 63) (sym (length-set d.slots i None)) small) $ fjoin ! $
         rewrite ! 0 (λ (p : Ptr). ‵ (cells_own (R E) p new.slots)) (sym e) refl $
-        move ! (1 ∷ 0 ∷ []) $ fjoin ! $ move ! (1 ∷ 0 ∷ []) $
-        closes ! tt (Places E) new vs rb ro $
+        move ! (1 ∷ 0 ∷ []) $ fjoin ! $ move ! (1 ∷ 0 ∷ []) $ closes ! tt (Places E) new vs rb ro $
         returns ! (look_at ! 0 refl) $ free_all ! refl $
         suffices ! _ (ends_at 𝓛 ended stayed held z v x (new, (tt, (tt, tt))) (tt, (tt, (tt, tt))))
         $ says_two ! asked.1.1 (refl, refl) $

@@ -1,4 +1,5 @@
 -- `split` cuts a row in two. Assumes `Logic`.
+use Rattle.parallel_bridge.proofs.{Places, Start, Mark, Place, sz, mark, mark_from, mark_had, start_had, start_made, triple, triple_made, cut_at}
 use Rattle.parallel_bridge.proofs.Walks.{proved_at, ◌≡◌, refl, sym, ap, subst, ◌∙◌, ℕ, ◌+◌, ◌*◌, ◌<◌, ◌≤◌, ◌^◌, arith, List, [], ◌∷◌, ◌++◌, length, take, from, length-take, length-drop, Ura}
 use Rattle.parallel_bridge.proofs.Walks.{full_share, Fn, w64, inst_fn, Val, vint, SProp, ent, never, id⊢, ftrue, fat, flft, Memory, Routine, Env, WpFn, Tables, Logic, ◌⊑◌, Fun, fact, tables}
 use Rattle.parallel_bridge.proofs.Walks.{tables_of, ‵, raw, ◌⊛◌, at_ret, ◌$◌, ◌∵◌, !, qed, move, keep, drop, use0, use1, use3, split, join, rewrite, fsplit, fjoin, fjoin3, feq_l, flt_l, flt_i}
@@ -7,7 +8,6 @@ use Rattle.parallel_bridge.proofs.Walks.{look_at, get, get_in, take_at, give_at,
 use Rattle.parallel_bridge.proofs.Walks.{nothing, Tuple, Clauses, Ended, says, Stays, stay_dropped, walk_of, ends_at, Goes-dropped, Goes-blank, El, R, args, times_below, Good, word, word-Good, after}
 use Rattle.parallel_bridge.proofs.Walks.{shifted, slots, cells_own}
 use Rattle.core.proofs.slots.Leases.{uncapped}
-use Rattle.parallel_bridge.proofs.RowMemory.{Places, Start, Mark, Place, sz, mark, mark_from, mark_had, start_had, start_made, triple, triple_made, cut_at}
 use Rattle.parallel_bridge.specs.contracts.window.cells.Cells.split as F
 use Rattle.parallel_bridge.specs.contracts.window.cells.Cells.split.Key.{name as #self}
 use Rattle.parallel_bridge.proofs.window.cells.Cells.split.Statement as stated
@@ -54,8 +54,7 @@ module _ (E : El) where
         move ! (1 ∷ []) $ split ! $ drop ! $ heard ! Asked (λ asked.
         split ! $ split ! $ move ! (2 ∷ []) $ fsplit ! $ fsplit ! $
         mark_had ! E vss.0 (λ e₀. move ! (1 ∷ []) $ fsplit ! $
-        start_had ! base.ptr vss.1.0 (λ e₁. fsplit ! $ fsplit ! $
-        feq_l ! (λ e₂. flt_l ! (λ fits.
+        start_had ! base.ptr vss.1.0 (λ e₁. fsplit ! $ fsplit ! $ feq_l ! (λ e₂. flt_l ! (λ fits.
         keep ! (1 ∷ 2 ∷ []) $
         -- [the places; T's token]
         let us : List Val = mark ∷ word base.ptr ∷ vint w64 i ∷ [] in
@@ -94,18 +93,15 @@ module _ (E : El) where
         sets ! (agg ! (and_then ! (get ! refl) (no_more !))) refl (tt, (tt, tt)) $
         sets ! (of_opd ! (get ! refl)) refl (tt, (tt, tt)) $
         sets ! (of_opd ! (get ! refl)) refl (word-Good [] p) $
-        sets ! (of_opd ! (get ! refl)) refl (tt, (tt, tt)) $
-        sets ! (agg ! (and_then ! (get ! refl)
+        sets ! (of_opd ! (get ! refl)) refl (tt, (tt, tt)) $ sets ! (agg ! (and_then ! (get ! refl)
         (and_then ! (get ! refl) (and_then ! (get ! refl) (no_more !))))) refl typed $
         use1 𝓛 (‵ (slots (R E) b o front.slots) ⊛ ‵ (slots (R E) b (i * s + o) back.slots))
-        (cut_at E 𝓛 b o cs i asked.1) $ split ! $
-        flt_i ! (length front.slots * s) (2 ^ 63)
+        (cut_at E 𝓛 b o cs i asked.1) $ split ! $ flt_i ! (length front.slots * s) (2 ^ 63)
         (times_below (length front.slots) (length cs) s (2 ^ 63)
         (omega (arith, length-take i cs)) small) $ fjoin ! $
         rewrite ! 0 (λ (c : Ptr). ‵ (cells_own (R E) c front.slots)) (sym e) refl $
         use0 𝓛 (‵ ((Mark E).own_val (tt, tt) (mark ∷ []))) (mark_from E 𝓛) $ fjoin ! $
-        move ! (1 ∷ []) $
-        flt_i ! (length back.slots * s) (2 ^ 63)
+        move ! (1 ∷ []) $ flt_i ! (length back.slots * s) (2 ^ 63)
         (times_below (length back.slots) (length cs) s (2 ^ 63)
         (omega (arith, length-drop i cs)) small) $ fjoin ! $
         use0 𝓛 (‵ ((Mark E).own_val (tt, tt) (mark ∷ []))) (mark_from E 𝓛) $ fjoin ! $

@@ -1,4 +1,5 @@
 -- `write` fills an empty place. Assumes `Logic`.
+use Rattle.parallel_bridge.proofs.{Places, Start, Place, sz, start_had, item_had, item_in, Others, place_out, place_in}
 use Rattle.parallel_bridge.proofs.Walks.{proved_at, ◌≡◌, refl, sym, subst, ◌∙◌, ℕ, ◌+◌, ◌*◌, ◌<◌, ◌^◌, arith, List, [], ◌∷◌, ◌++◌, length, set, get_or, length-set, Ura, full_share, Fn, w64, inst_fn}
 use Rattle.parallel_bridge.proofs.Walks.{Val, vptr, vint, vunit, SProp, ent, never, id⊢, ftrue, fat, flft, Memory, Routine, Env, WpFn, Tables, Logic, ◌⊑◌, Fun, fact, tables, tables_of, ‵, raw, ◌⊛◌}
 use Rattle.parallel_bridge.proofs.Walks.{at_ret, ◌$◌, ◌∵◌, !, qed, move, keep, drop, use1, use2, split, split3, join, rewrite, fsplit, fsplit3, fjoin, fjoin3, feq_i, feq_l, flt_l, flt_i, suffices}
@@ -6,7 +7,6 @@ use Rattle.parallel_bridge.proofs.Walks.{done, whole, sub, init, stop, fld, bin,
 use Rattle.parallel_bridge.proofs.Walks.{get, get_in, take_at, give_at, through, sets, env, yes, no, owns, usize, layout, Ptr, in_a_block, plain, types_at, heard, nothing, opens, closes, Clauses}
 use Rattle.parallel_bridge.proofs.Walks.{Ended, says, Stays, stay_dropped, stay_ref, walk_of, ends_at, Goes-dropped, Goes-ref, Some, None, El, R, args, elτ, times_below, one_below, as_written, word}
 use Rattle.parallel_bridge.proofs.Walks.{word-Good, after, slot, slots, cells_own}
-use Rattle.parallel_bridge.proofs.RowMemory.{Places, Start, Place, sz, start_had, item_had, item_in, Others, place_out, place_in}
 use Rattle.parallel_bridge.specs.contracts.window.cells.Cells.write as F
 use Rattle.parallel_bridge.specs.contracts.window.cells.Cells.write.Key.{name as #self}
 use Rattle.parallel_bridge.proofs.window.cells.Cells.write.Statement as stated
@@ -56,8 +56,7 @@ module _ (E : El) where
         move ! (1 ∷ []) $ split ! $ drop ! $ heard ! Asked (λ asked.
         split ! $ split3 ! $ move ! (3 ∷ []) $ fsplit ! $ fsplit3 ! $
         feq_l ! (λ e₀. move ! (2 ∷ []) $ fsplit ! $
-        start_had ! base.ptr vss.1.0 (λ e₁. fsplit ! $ fsplit ! $
-        feq_l ! (λ e₂. flt_l ! (λ fits.
+        start_had ! base.ptr vss.1.0 (λ e₁. fsplit ! $ fsplit ! $ feq_l ! (λ e₂. flt_l ! (λ fits.
         fsplit ! $ item_had E ! x vss.1.1.1.0 (λ v e₃ good. keep ! (2 ∷ 3 ∷ 4 ∷ 5 ∷ 0 ∷ []) $
         -- [obs; the borrow; its token; T's token; what the item owns]
         let us : List Val = vptr rb ro ∷ word base.ptr ∷ vint w64 i ∷ v ∷ [] in
@@ -87,8 +86,7 @@ module _ (E : El) where
         use1 𝓛 (‵ (slot (R E) b (i * s + o) (get_or d.slots i None)) ⊛ ‵ (Others E 𝓛 b o d.slots i))
         (place_out E 𝓛 b o d.slots i asked.1) $ split ! $
         rewrite ! 0 (λ (c : Place E). ‵ (slot (R E) b (i * s + o) c)) asked.2 refl $
-        as_written ! (elτ E) b (i * s + o) $
-        sets ! (of_opd ! (get ! refl)) refl good $
+        as_written ! (elτ E) b (i * s + o) $ sets ! (of_opd ! (get ! refl)) refl good $
         assigns_last ! (of_opd ! (get ! refl)) (through ! refl (stop !)) (init ! 0 refl good) $
         exec ! 𝓣.C 𝓣.Λ En (after 1 here.body) (at_ret En Post) $
         sets ! (of_opd ! (unit_lit !)) refl (tt, tt) $
@@ -100,8 +98,7 @@ module _ (E : El) where
         flt_i ! (length new.slots * s) (2 ^ 63)
         (subst (λ k. k * s < 2 ^ 63) (sym (length-set d.slots i (Some x))) small) $ fjoin ! $
         rewrite ! 0 (λ (p : Ptr). ‵ (cells_own (R E) p new.slots)) (sym e) refl $
-        move ! (1 ∷ 0 ∷ []) $ fjoin ! $ move ! (1 ∷ 0 ∷ []) $
-        closes ! tt (Places E) new vs rb ro $
+        move ! (1 ∷ 0 ∷ []) $ fjoin ! $ move ! (1 ∷ 0 ∷ []) $ closes ! tt (Places E) new vs rb ro $
         returns ! (look_at ! 0 refl) $ free_all ! refl $
         suffices ! _ (ends_at 𝓛 ended stayed held z vunit tt (new, (tt, (tt, (tt, tt))))
         (tt, (tt, (tt, (tt, tt))))) $ says ! (refl, refl) $

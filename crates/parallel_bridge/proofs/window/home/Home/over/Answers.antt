@@ -1,7 +1,5 @@
 -- The block is cut behind its first places.
-use Rattle.parallel_bridge.proofs.Windows.{values, IsRow, part}
-use Rattle.std.proofs.Common.{◌≡◌, ◌≤◌, ◌<◌, ◌-◌, ◌^◌, length, take, drop, replicate, None, refl, sym, ap, subst, ◌∙◌}
-use Rattle.parallel_bridge.proofs.WindowSlots.{opened_rows}
+use Rattle.parallel_bridge.proofs.{moved, values, IsRow, part, ◌≡◌, ◌≤◌, ◌<◌, ◌-◌, ◌^◌, length, take, drop, replicate, None, refl, sym, ap, subst, ◌∙◌, opened_rows}
 use Rattle.parallel_bridge.proofs.window.home.Home.over.Goals as goal
 use Rattle.parallel_bridge.proofs.window.home.Home.over.Given.{Over}
 use Rattle.parallel_bridge.proofs.window.home.Home.over.Goals.{After-split-cells}
@@ -24,14 +22,8 @@ cut_row g c =
     (cut.1, cut.2)
 
 pub invariant_of-window : goal.invariant_of-window
-invariant_of-window g c =
-    let all = c.open-all.result.1 in
-    let e = c.split-cells.ensures in
-    let n = c.len-len.result in
-    let cut = cut_row g (goal.at.invariant_of-window g c).After-split-cells in
-    subst (λ p. IsRow p c.open-all.result.0.ptr c.split-cells.result.0.slots c.args.room 0 n)
-    (sym e.0) (subst (λ cs. IsRow all.at c.open-all.result.0.ptr cs c.args.room 0 n)
-    (sym e.1) cut.0.0)
+invariant_of-window g c = moved 0 c.split-cells.ensures.0 c.split-cells.ensures.1
+    (cut_row g (goal.at.invariant_of-window g c).After-split-cells).0.0
 
 pub invariant_of-home : goal.invariant_of-home
 invariant_of-home g c =

@@ -1,7 +1,5 @@
 -- No item is left, and so all places are room.
-use Rattle.std.proofs.Common.{rules, ◌≡◌, length, sym, ap, subst, arith}
-use Rattle.parallel_bridge.specs.Windows.{IsRow}
-use Rattle.parallel_bridge.proofs.WindowSlots.{rewound_row}
+use Rattle.parallel_bridge.proofs.{rules, ◌≡◌, length, sym, ap, subst, arith, IsRow, rewound_row}
 use Rattle.parallel_bridge.proofs.window.part.Window.clear.Goals as goal
 
 pub invariant_of-self : goal.invariant_of-self

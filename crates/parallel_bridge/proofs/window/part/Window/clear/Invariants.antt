@@ -1,5 +1,5 @@
 -- What is left of the items is as long as the turns that are left.
-use Rattle.std.proofs.Common.{◌≡◌, ◌+◌, length}
+use Rattle.parallel_bridge.proofs.{◌≡◌, ◌+◌, length}
 use Rattle.parallel_bridge.proofs.window.part.Window.clear.Given as goal
 
 abbrev pub invariant-loop-item : goal.invariant-loop-item

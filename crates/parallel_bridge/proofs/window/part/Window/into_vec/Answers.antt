@@ -1,7 +1,5 @@
 -- The row of the items with the empty places behind it is the whole block.
-use Rattle.parallel_bridge.proofs.Windows.{laid, values, IsRow}
-use Rattle.std.proofs.Common.{◌≡◌, ◌≤◌, ◌-◌, ◌++◌, length, sym, ap, subst, ◌∙◌}
-use Rattle.parallel_bridge.proofs.WindowSlots.{closed_rows}
+use Rattle.parallel_bridge.proofs.{laid, values, IsRow, ◌≡◌, ◌≤◌, ◌-◌, ◌++◌, length, sym, ap, subst, ◌∙◌, closed_rows}
 use Rattle.parallel_bridge.proofs.window.part.Window.into_vec.Goals as goal
 use Rattle.parallel_bridge.proofs.window.part.Window.into_vec.Given.{Over}
 use Rattle.parallel_bridge.proofs.window.part.Window.into_vec.Goals.{After-join-all}
@@ -11,8 +9,7 @@ as_block : (g : Over) (c : After-join-all g)
     → (length (c.into_parts-len.result.4.slots ++ c.home.inside.tail.slots)
     ≡ c.home.inside.capacity)
     × (length (values (c.into_parts-len.result.4.slots ++ c.home.inside.tail.slots))
-    ≡ c.into_parts-len.result.3)
-    × (c.into_parts-len.result.4.slots ++ c.home.inside.tail.slots
+    ≡ c.into_parts-len.result.3) × (c.into_parts-len.result.4.slots ++ c.home.inside.tail.slots
     ≡ laid 0 (values (c.into_parts-len.result.4.slots ++ c.home.inside.tail.slots))
     (c.home.inside.capacity - c.into_parts-len.result.3))
     × (values (c.into_parts-len.result.4.slots ++ c.home.inside.tail.slots)
@@ -44,8 +41,7 @@ close-requires-clause-cells g c =
       e.0 ∙ is.row.0 ∙ begins,
       ap length e.1 ∙ all.0,
       ap (λ cs. length (values cs)) e.1 ∙ all.1,
-      e.1
-          ∙ all.2 ∙ ap (λ cs. laid 0 (values cs) (h.capacity - v.3)) (sym e.1),
+      e.1 ∙ all.2 ∙ ap (λ cs. laid 0 (values cs) (h.capacity - v.3)) (sym e.1),
     )
 
 pub returns : goal.returns

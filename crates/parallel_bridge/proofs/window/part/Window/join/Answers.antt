@@ -1,7 +1,5 @@
 -- Two rows side by side as one.
-use Rattle.parallel_bridge.proofs.Common.{◌≡◌, ◌+◌, ◌++◌, length, sym, ap, subst, ◌∙◌, ◌⊎◌, inl, inr, FitsInBlock, param}
-use Rattle.parallel_bridge.proofs.Windows.{shifted, values, Adjoins, IsRow, part}
-use Rattle.parallel_bridge.proofs.WindowSlots.{row_length, two_rows}
+use Rattle.parallel_bridge.proofs.{◌≡◌, ◌+◌, ◌++◌, length, sym, ap, subst, ◌∙◌, ◌⊎◌, inl, inr, FitsInBlock, param, shifted, values, Adjoins, IsRow, part, row_length, two_rows, moved}
 use Rattle.parallel_bridge.proofs.window.part.Window.join.Goals as goal
 use Rattle.parallel_bridge.proofs.window.part.Window.join.Given.{Over}
 use Rattle.parallel_bridge.proofs.window.part.Window.join.Goals.{After-join}
@@ -43,21 +41,14 @@ as_one g c =
     let beside : ((w.before + w.len ≡ w.room) × (v.2 ≡ 0)) ⊎ (v.3 ≡ 0) =
     elim adjoins [
       | inl h ↦ inl (ap (λ n. w.before + n) c.self.invariant.1 ∙ h.0, h.1)
-      | inr h ↦
-          inr (is.row.1 ∙ ap length h)
+      | inr h ↦ inr (is.row.1 ∙ ap length h)
     ] in
     two_rows w.cells.at w.base.ptr w.cells.slots w.room w.before w.len c.self.invariant is.row
     beside
 
 pub invariant_of-result : goal.invariant_of-result
-invariant_of-result g c =
-    let w = c.self.inside in
-    let v = c.into_parts-more_room.result in
-    let two = as_one g (goal.at.invariant_of-result g c).After-join in
-    let e = c.join.ensures in
-    subst (λ p. IsRow p w.base.ptr c.join.result.slots (w.room + v.1) w.before (w.len + v.3))
-    (sym e.0) (subst (λ cs. IsRow w.cells.at w.base.ptr cs (w.room + v.1) w.before
-    (w.len + v.3)) (sym e.1) two.0)
+invariant_of-result g c = moved c.self.inside.before c.join.ensures.0 c.join.ensures.1
+    (as_one g (goal.at.invariant_of-result g c).After-join).0
 
 pub returns : goal.returns
 returns g c =

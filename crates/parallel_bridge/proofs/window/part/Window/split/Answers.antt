@@ -1,7 +1,5 @@
 -- The first places, and the rest.
-use Rattle.parallel_bridge.proofs.Common.{◌≡◌, ◌-◌, ◌≤◌, take, drop, sym, ap, subst, ◌∙◌, arith, ◌⊎◌, inl, inr, param}
-use Rattle.parallel_bridge.proofs.Windows.{shifted, values, IsRow, part}
-use Rattle.parallel_bridge.proofs.WindowSlots.{in_row, front_row, back_rows}
+use Rattle.parallel_bridge.proofs.{◌≡◌, ◌-◌, ◌≤◌, take, drop, sym, ap, subst, ◌∙◌, arith, ◌⊎◌, inl, inr, param, shifted, values, IsRow, part, in_row, front_row, back_rows, moved}
 use Rattle.parallel_bridge.proofs.window.part.Window.split.Goals as goal
 use Rattle.parallel_bridge.proofs.window.part.Window.split.Given.{Over}
 use Rattle.parallel_bridge.proofs.window.part.Window.split.Goals.{After-split-front, then-len-index, else-len-index}
@@ -27,12 +25,11 @@ in_front g c = elim c.if-len-index.branch [
 pub split-front-requires : goal.split-front-requires
 split-front-requires g c =
     let inv = c.self.invariant in
-    let w = c.self.inside in
-    let none = ap (λ v. v.before) c.self.view_is ∙ c.requires.0 in
-    let le = subst (λ v. c.args.index ≤ v.room) (sym c.self.view_is) c.requires.1 in (
+    let w = c.self.inside in (
       sym inv.0,
       in_row w.cells.at w.base.ptr w.cells.slots w.room w.before w.len inv c.args.index
-          none le,
+          (ap (λ v. v.before) c.self.view_is ∙ c.requires.0)
+          (subst (λ v. c.args.index ≤ v.room) (sym c.self.view_is) c.requires.1),
     )
 
 pub invariant_of-left : goal.invariant_of-left
@@ -40,10 +37,8 @@ invariant_of-left g c =
     let s = (goal.at.invariant_of-left g c).After-split-front in let inv = c.self.invariant in
     let w = c.self.inside in let m = c.if-len-index.filled in let i = c.args.index in
     let e = c.split-front.ensures in
-    subst (λ p. IsRow p w.base.ptr c.split-front.result.0.slots i 0 m) (sym e.0)
-    (subst (λ cs. IsRow w.cells.at w.base.ptr cs i 0 m) (sym e.1)
-    (front_row w.cells.at w.base.ptr w.cells.slots w.room w.before w.len inv i
-    (nothing_before g s) (within g s) m (in_front g s)).0)
+    moved 0 e.0 e.1 (front_row w.cells.at w.base.ptr w.cells.slots w.room w.before w.len inv i
+    (nothing_before g s) (within g s) m (in_front g s)).0
 
 pub invariant_of-right : goal.invariant_of-right
 invariant_of-right g c =
@@ -60,8 +55,7 @@ returns-clause-left g c =
     let s = (goal.at.returns-clause-left g c).After-split-front in let inv = c.self.invariant in
     let w = c.self.inside in let m = c.if-len-index.filled in let i = c.args.index in
     let e = c.split-front.ensures in
-    let front =
-    front_row w.cells.at w.base.ptr w.cells.slots w.room w.before w.len inv i
+    let front = front_row w.cells.at w.base.ptr w.cells.slots w.room w.before w.len inv i
     (nothing_before g s) (within g s) m (in_front g s) in
     ap (part w.base.ptr i 0) (ap values e.1 ∙ front.1)
     ∙ ap (λ v. part v.start i 0 (take i v.items)) c.self.view_is
@@ -72,8 +66,7 @@ returns-clause-right g c =
     let w = c.self.inside in let m = c.if-len-index.filled in let i = c.args.index in
     let e = c.split-front.ensures in
     let p = c.split-front.result.2.at in let q = c.split-front.result.1.ptr in
-    let back =
-    back_rows w.cells.at w.base.ptr w.cells.slots w.room w.before w.len inv i
+    let back = back_rows w.cells.at w.base.ptr w.cells.slots w.room w.before w.len inv i
     (nothing_before g s) (within g s) m p q e.3 (in_front g s) in
     (λ j. part (e.2 j) (w.room - i) 0 ((ap values e.4 ∙ back.1) j))
     ∙ (λ j. part (shifted (param 0 g.row.T) (inv.0 j) i) (w.room - i) 0
