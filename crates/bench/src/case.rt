@@ -1,6 +1,6 @@
 //! The cases that are timed, and their names.
 /// A case: what is done with a list.
-#[derive(Clone, Copy, Debug, PartialEq, Eq, Hash)]
+#[derive(Clone, Copy)]
 pub enum Case {
     /// A call over its items.
     Items(ItemCase),
@@ -14,7 +14,7 @@ pub enum Case {
 
 /// What is done with the items of a list, with a light or a heavy function of an item, or with one
 /// whose work rises along the list; or with a heavy one that fails early in the list.
-#[derive(Clone, Copy, Debug, PartialEq, Eq, Hash)]
+#[derive(Clone, Copy)]
 pub enum ItemCase {
     MapLight,
     MapHeavy,
@@ -31,7 +31,7 @@ pub enum ItemCase {
 
 /// What is done with the cells of a grid: many rows that are kept whole, or few rows that are cut,
 /// with a light or a heavy cell; or many rows whose cells cost the more the later their row.
-#[derive(Clone, Copy, Debug, PartialEq, Eq, Hash)]
+#[derive(Clone, Copy)]
 pub enum TileCase {
     RowsLight,
     RowsHeavy,
@@ -41,14 +41,14 @@ pub enum TileCase {
 }
 
 /// What a node of a tree costs: a few nanoseconds, or about a microsecond.
-#[derive(Clone, Copy, Debug, PartialEq, Eq, Hash)]
+#[derive(Clone, Copy)]
 pub enum TreeCase {
     Light,
     Heavy,
 }
 
 /// What a caller does: counts bytes by row, or checks tags.
-#[derive(Clone, Copy, Debug, PartialEq, Eq, Hash)]
+#[derive(Clone, Copy)]
 pub enum CallerCase {
     RowsAbove,
     Tags,

@@ -2,7 +2,7 @@
 use std::fmt;
 
 /// A number of thousandths, which prints as `1.250` for 1250 of them.
-#[derive(Clone, Copy, Debug, PartialEq, Eq)]
+#[derive(Clone, Copy)]
 pub struct Decimal {
     pub thousandths: u128,
 }

@@ -4,7 +4,7 @@ use parallel_policy::{Key, Policy, Table};
 use std::sync::Wait;
 
 /// Which choices are followed by a record.
-#[derive(Clone, Copy, Debug, PartialEq, Eq, Hash)]
+#[derive(Clone, Copy)]
 pub enum Recording {
     /// Those that are to be measured.
     Measured,

@@ -26,7 +26,7 @@ const WARM_UP: usize = 50_000;
 const WARM_UP_TIME: u64 = 3_000_000_000;
 
 /// A number for each way, of one round.
-#[derive(Clone, Copy, Debug, Default, PartialEq, Eq)]
+#[derive(Clone, Copy, Default)]
 pub struct Lap {
     pub plain: u64,
     pub sequential: u64,

@@ -20,7 +20,7 @@ pub const POOLS: &str = "pools";
 pub const ONCE: &str = "once";
 
 /// A case to be timed over a list of `len` items, with a pool of `threads` threads.
-#[derive(Clone, Copy, Debug, PartialEq, Eq, Hash)]
+#[derive(Clone, Copy)]
 pub struct Trial {
     pub case: Case,
     pub len: usize,
@@ -32,14 +32,14 @@ pub struct Trial {
 }
 
 /// Rounds of `len` choices to be timed, planned for `threads` threads.
-#[derive(Clone, Copy, Debug, PartialEq, Eq, Hash)]
+#[derive(Clone, Copy)]
 pub struct ChoiceTrial {
     pub len: usize,
     pub threads: NonZeroUsize,
 }
 
 /// Jobs to be brought to pools of so many workers.
-#[derive(Clone, Copy, Debug, PartialEq, Eq, Hash)]
+#[derive(Clone, Copy)]
 pub struct JobTrial {
     pub jobs: usize,
     pub workers: NonZeroUsize,
@@ -47,14 +47,14 @@ pub struct JobTrial {
 
 /// Jobs to be brought to one pool by several threads, and pools to be made and dropped one after
 /// the other.
-#[derive(Clone, Copy, Debug, PartialEq, Eq, Hash)]
+#[derive(Clone, Copy)]
 pub struct PoolTrial {
     pub jobs: usize,
     pub pools: usize,
 }
 
 /// What the words ask for.
-#[derive(Clone, Copy, Debug, PartialEq, Eq, Hash)]
+#[derive(Clone, Copy)]
 pub enum Request {
     /// The names of the cases.
     Names,

@@ -27,14 +27,14 @@ pub const MOST_SEATS: usize = 16;
 pub const MOST_COST: usize = 64;
 
 /// How many plans are made, and what the first one's numbers come from.
-#[derive(Clone, Copy, Debug, PartialEq, Eq, Hash)]
+#[derive(Clone, Copy)]
 pub struct SoakTrial {
     pub plans: usize,
     pub seed: u64,
 }
 
 /// How often a step came to what.
-#[derive(Clone, Copy, Debug, Default, PartialEq, Eq)]
+#[derive(Clone, Copy, Default)]
 pub struct Counts {
     pub steps: u64,
     /// Claims that gained cells.
@@ -82,7 +82,7 @@ impl Counts {
 }
 
 /// Numbers that look random.
-#[derive(Clone, Copy, Debug)]
+#[derive(Clone, Copy)]
 pub struct Random {
     pub state: u64,
 }

@@ -26,7 +26,7 @@ pub const CELL_ROUNDS: u64 = 16;
 pub const ROWS_A_ROUND: usize = 16;
 
 /// What a cell costs.
-#[derive(Clone, Copy, Debug, PartialEq, Eq, Hash)]
+#[derive(Clone, Copy)]
 pub enum Cost {
     /// An addition.
     Light,
@@ -37,7 +37,7 @@ pub enum Cost {
 }
 
 /// How a list is laid out as rows, and what its cells cost. Items that fill no row are left out.
-#[derive(Clone, Copy, Debug, PartialEq, Eq)]
+#[derive(Clone, Copy)]
 pub struct Tiling {
     pub grid: Grid,
     /// How many cells a row has.

@@ -2,7 +2,7 @@
 use anyhow::{Context, Result};
 
 /// The least of several times and one in their middle, in nanoseconds.
-#[derive(Clone, Copy, Debug, PartialEq, Eq)]
+#[derive(Clone, Copy)]
 pub struct Times {
     pub best: u64,
     pub median: u64,

@@ -10,7 +10,7 @@ use std::sync::Wait;
 use std::thread::Threads;
 
 /// A way in which a case is run.
-#[derive(Clone, Copy, Debug, PartialEq, Eq, Hash)]
+#[derive(Clone, Copy)]
 pub enum Way {
     /// A plain loop over the slice, or the plain chain that stands for a loop that collects.
     Loop,
@@ -23,7 +23,7 @@ pub enum Way {
 }
 
 /// What a strategy is given the items by.
-#[derive(Clone, Copy, Debug, PartialEq, Eq, Hash)]
+#[derive(Clone, Copy)]
 pub enum Form {
     /// The slice, each item copied as it comes.
     Slice,
@@ -36,7 +36,7 @@ pub enum Form {
 }
 
 /// The items that a way is given.
-#[derive(Debug, Drop)]
+#[derive(Drop)]
 pub enum Input<'a> {
     /// A slice, each item copied as it comes.
     Slice(&'a [u64]),
@@ -93,7 +93,7 @@ pub struct Strategies<'a, C> {
 }
 
 /// What a case answers.
-#[derive(Debug, Drop)]
+#[derive(Drop)]
 pub enum Answer {
     /// The numbers that a map answers.
     Numbers(Vec<u64>),

@@ -5,7 +5,7 @@ use crate::tests::steps::ascending;
 use crate::tests::strategies::{SITE, number, pool};
 use commonware_parallel::bridge::Indices;
 use commonware_parallel::rayon::{BroadcastContext, ThreadPoolBuilder};
-use commonware_parallel::{Batches, Copies, Fault, Source, Strategy, Trouble};
+use commonware_parallel::{Batches, Copies, Counted, Fault, Source, Strategy, Trouble};
 use std::alloc::Global;
 use std::cmp;
 use std::ops::Range;
@@ -146,6 +146,7 @@ fn the_items_of_each_list_call_see_each_other(rt: HostRuntime) {
     items_meet(&rt, alloc, &two, "slice", || slice);
     items_meet(&rt, alloc, &two, "indices", || Indices { start: 3, end: 5 });
     items_meet(&rt, alloc, &two, "iterator", || 0..2u32);
+    items_meet(&rt, alloc, &two, "counted", || Counted { iter: 0..2usize });
     items_meet(&rt, alloc, &two, "own", || Backwards { slice });
     items_meet(&rt, alloc, &two, "vector", || {
         vec![in alloc; 7u32, 8].expect(&rt, "memory")
