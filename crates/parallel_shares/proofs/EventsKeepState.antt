@@ -6,11 +6,11 @@ use Rattle.parallel_shares.specs.declared.machine.event.Event.{Event}
 use Rattle.parallel_shares.specs.declared.machine.event.Event.TheVariants.{Load, Claim, Steal, Refill}
 use Rattle.parallel_shares.specs.declared.machine.event.Outcome.{Outcome}
 use Rattle.parallel_shares.specs.declared.machine.event.Outcome.TheVariants.{Loaded, Empty, Lost, Claimed, Nothing, Taken, Refilled, Refused}
-use Rattle.parallel_shares.specs.declared.machine.state.Place.{Place}
+use Rattle.parallel_shares.specs.declared.machine.state.SeatRow.{SeatRow}
 use Rattle.parallel_shares.specs.declared.machine.state.Remembered.{Remembered}
 use Rattle.parallel_shares.specs.Words.{start_of, end_of, packed, IsWithin}
 use Rattle.parallel_shares.specs.Sizes.{Sizes, shares_of, share_of}
-use Rattle.parallel_shares.specs.Machine.{Machine, fresh, place_at, with_word, with_place, remembers, forgets, gains, carries, IsPlaceOf, IsStateOf}
+use Rattle.parallel_shares.specs.Machine.{Machine, fresh, row_at, with_word, with_seat_row, remembers, forgets, gains, carries, IsSeatRowOf, IsStateOf}
 use Rattle.parallel_shares.specs.Answers.{CanSteal, claim_stop, middle_of, LoadAnswers, ClaimAnswers, StealAnswers, RefillAnswers, Answers}
 use Rattle.parallel_shares.proofs.Words.{within_packed}
 use Rattle.parallel_shares.proofs.ListWrites.{each_set}
@@ -29,59 +29,60 @@ module _ (sizes : Sizes) (machine : Machine) (state : IsStateOf sizes machine) w
     shares = length-set machine.words share word ∙ state.shares;
     seats = state.seats;
     words = each_set (λ v. IsWithin sizes.units v) machine.words share word 0 state.words w;
-    places = state.places;
+    seat_rows = state.seat_rows;
   }
 
-  pub place_kept : (seat : ℕ) (place : Place) → IsPlaceOf sizes place
-      → IsStateOf sizes (with_place machine seat place)
-  place_kept seat place p = record {
+  pub seat_row_kept : (seat : ℕ) (row : SeatRow) → IsSeatRowOf sizes row
+      → IsStateOf sizes (with_seat_row machine seat row)
+  seat_row_kept seat row p = record {
     sound = state.sound;
     shares = state.shares;
-    seats = length-set machine.places seat place ∙ state.seats;
+    seats = length-set machine.seat_rows seat row ∙ state.seats;
     words = state.words;
-    places = each_set (λ q. IsPlaceOf sizes q) machine.places seat place fresh state.places p;
+    seat_rows =
+        each_set (λ q. IsSeatRowOf sizes q) machine.seat_rows seat row fresh state.seat_rows p;
   }
 
   pub forgets_kept : (seat : ℕ) → IsStateOf sizes (forgets machine seat)
   forgets_kept seat =
-      place_kept seat (record (place_at machine seat) { remembered = None })
-      (record { load = tt; carried = (state.places seat).carried })
+      seat_row_kept seat (record (row_at machine seat) { remembered = None })
+      (record { load = tt; carried = (state.seat_rows seat).carried })
 
   pub remembers_kept : (seat share word : ℕ) → share < shares_of sizes → IsWithin sizes.units word
       → IsStateOf sizes (remembers machine seat (record { share = share; word = word }))
   remembers_kept seat share word s w =
-      place_kept seat (record (place_at machine seat)
+      seat_row_kept seat (record (row_at machine seat)
       { remembered = Some (record { share = share; word = word }) })
-      (record { load = (s, w); carried = (state.places seat).carried })
+      (record { load = (s, w); carried = (state.seat_rows seat).carried })
 
   pub gains_kept : (seat : ℕ) (cells : Range ℕ) → IsStateOf sizes (gains machine seat cells)
   gains_kept seat cells =
-      place_kept seat (record (place_at machine seat)
-      { claims = (place_at machine seat).claims ++ cells ∷ [] })
-      (record { load = (state.places seat).load; carried = (state.places seat).carried })
+      seat_row_kept seat (record (row_at machine seat)
+      { claims = (row_at machine seat).claims ++ cells ∷ [] })
+      (record { load = (state.seat_rows seat).load; carried = (state.seat_rows seat).carried })
 
   pub drops_kept : (seat : ℕ) → IsStateOf sizes (carries machine seat None)
   drops_kept seat =
-      place_kept seat (record (place_at machine seat) { transit = None })
-      (record { load = (state.places seat).load; carried = tt })
+      seat_row_kept seat (record (row_at machine seat) { transit = None })
+      (record { load = (state.seat_rows seat).load; carried = tt })
 
   pub carries_kept : (seat : ℕ) (units : Range ℕ) → units.start < units.end
       → units.end ≤ sizes.units → sizes.whole ≡ false
       → IsStateOf sizes (carries machine seat (Some units))
   carries_kept seat units some within cut =
-      place_kept seat (record (place_at machine seat) { transit = Some units })
-      (record { load = (state.places seat).load; carried = (some, within, cut) })
+      seat_row_kept seat (record (row_at machine seat) { transit = Some units })
+      (record { load = (state.seat_rows seat).load; carried = (some, within, cut) })
 
   -- what a seat remembers is a word of a share that exists
   pub remembered_within : (seat : ℕ) (load : Remembered)
-      → (place_at machine seat).remembered ≡ Some load → (load.share < shares_of sizes)
+      → (row_at machine seat).remembered ≡ Some load → (load.share < shares_of sizes)
       × IsWithin sizes.units load.word
-  remembered_within seat load e = rw e at (state.places seat).load
+  remembered_within seat load e = rw e at (state.seat_rows seat).load
 
   -- what a seat carries is a range of units, in a cut plan
-  pub carried_within : (seat : ℕ) (units : Range ℕ) → (place_at machine seat).transit ≡ Some units
+  pub carried_within : (seat : ℕ) (units : Range ℕ) → (row_at machine seat).transit ≡ Some units
       → (units.start < units.end) × (units.end ≤ sizes.units) × (sizes.whole ≡ false)
-  carried_within seat units e = rw e at (state.places seat).carried
+  carried_within seat units e = rw e at (state.seat_rows seat).carried
 
   -- what is left of a word after a claim is within the units
   pub claimed_within : (word : ℕ) → IsWithin sizes.units word

@@ -10,7 +10,7 @@ use Rattle.parallel_shares.specs.declared.machine.event.Outcome.TheVariants.{Loa
 use Rattle.parallel_shares.specs.declared.machine.state.Remembered.{Remembered}
 use Rattle.parallel_shares.specs.Words.{start_of, end_of, packed, IsEmptyWord}
 use Rattle.parallel_shares.specs.Sizes.{Sizes, shares_of, share_of}
-use Rattle.parallel_shares.specs.Machine.{Machine, word_at, place_at, with_word, remembers, forgets, gains, carries, IsStateOf}
+use Rattle.parallel_shares.specs.Machine.{Machine, word_at, row_at, with_word, remembers, forgets, gains, carries, IsStateOf}
 use Rattle.parallel_shares.specs.Answers.{CanClaim, CanSteal, CanRefill, claim_stop, claim_cells, middle_of, Pays, LoadAnswers, ClaimAnswers, StealAnswers, RefillAnswers, Answers}
 use Rattle.parallel_shares.specs.Holders.{pending, carried, claimed, Holders, Claims, Steals, Refills, claim, steal, refill, inside, in_word, in_transit, in_ranges, same, Shows, StepsByMoves}
 use Rattle.parallel_shares.proofs.Words.{start_of_packed, end_of_packed}
@@ -25,8 +25,8 @@ use Rattle.parallel_shares.proofs.UnitsHandedOver.{same_self, same_holder, other
 
 -- a machine that shows what it showed before leads there by no move
 still : (sizes : Sizes) (old new : Machine) → ((share : ℕ) → word_at new share ≡ word_at old share)
-    → ((seat : ℕ) → (place_at new seat).transit ≡ (place_at old seat).transit)
-    → ((seat : ℕ) → (place_at new seat).claims ≡ (place_at old seat).claims)
+    → ((seat : ℕ) → (row_at new seat).transit ≡ (row_at old seat).transit)
+    → ((seat : ℕ) → (row_at new seat).claims ≡ (row_at old seat).claims)
     → StepsByMoves sizes old new
 still sizes old new w t c holders s = ([], holders, refl, shows_still sizes old new holders w t c s)
 
@@ -88,13 +88,13 @@ module _ (sizes : Sizes) (machine : Machine) (holders : Holders)
   in_the_word u share h e = shows.words u share h ∙ ap (λ x. same (pending share) x) e
       ∙ same_self (pending share)
 
-  carried_there : (u seat : ℕ) → u < sizes.units → in_transit u (place_at machine seat).transit ≡ 1
+  carried_there : (u seat : ℕ) → u < sizes.units → in_transit u (row_at machine seat).transit ≡ 1
       → holders u ≡ carried seat
   carried_there u seat h i =
       same_holder (carried seat) (holders u) (sym (shows.transits u seat h) ∙ i)
 
   in_the_transit : (u seat : ℕ) → u < sizes.units → holders u ≡ carried seat
-      → in_transit u (place_at machine seat).transit ≡ 1
+      → in_transit u (row_at machine seat).transit ≡ 1
   in_the_transit u seat h e = shows.transits u seat h ∙ ap (λ x. same (carried seat) x) e
       ∙ same_self (carried seat)
 
@@ -131,7 +131,7 @@ module _ (sizes : Sizes) (old : Machine) (state : IsStateOf sizes old) (seat : �
       (claimed seat) old claimer
   claim_changes =
       let load = remembered_within sizes old state seat _ can in
-      let there : seat < length old.places = rememberer old seat _ can in
+      let there : seat < length old.seat_rows = rememberer old seat _ can in
       let fits = state.sound.units_fit in
       record {
         words = λ u k h. elim (cases_eq k own) [
@@ -155,8 +155,8 @@ module _ (sizes : Sizes) (old : Machine) (state : IsStateOf sizes old) (seat : �
           | inl e ↦ takes (ap claimed e) refl
               (rw e (ap (λ rs. in_ranges c rs)
               (forgets_claims gained seat seat ∙ gains_there old seat cells there)
-              ∙ in_ranges_push c (place_at old seat).claims cells
-              ∙ ap (λ m. in_ranges c (place_at old seat).claims + m)
+              ∙ in_ranges_push c (row_at old seat).claims cells
+              ∙ ap (λ m. in_ranges c (row_at old seat).claims + m)
               (inside_cells c (start_of had) (claim_stop sizes had) sizes.unit sizes.cells
               state.sound.unit_counts h)))
           | inr n ↦ keeps refl (other_claimed k seat n)
@@ -166,7 +166,7 @@ module _ (sizes : Sizes) (old : Machine) (state : IsStateOf sizes old) (seat : �
         no_more = λ c k h. elim (cases_eq k seat) [
           | inl e ↦ rw e (ap (λ rs. in_ranges c rs)
               (forgets_claims gained seat seat ∙ gains_there old seat cells there)
-              ∙ in_ranges_push c (place_at old seat).claims cells
+              ∙ in_ranges_push c (row_at old seat).claims cells
               ∙ omega (
                 arith,
                 inside_no_cells c (start_of had)
@@ -230,7 +230,7 @@ module _ (sizes : Sizes) (old : Machine) (state : IsStateOf sizes old) (seat : �
       (carried seat) old thief
   steal_changes =
       let l = remembered_within sizes old state seat load can.0 in
-      let there : seat < length old.places = rememberer old seat load can.0 in
+      let there : seat < length old.seat_rows = rememberer old seat load can.0 in
       let fits = state.sound.units_fit in
       record {
         words = λ u k h. elim (cases_eq k load.share) [
@@ -255,8 +255,8 @@ module _ (sizes : Sizes) (old : Machine) (state : IsStateOf sizes old) (seat : �
                     (omega (
                       arith,
                       there,
-                      length-set old.places seat
-                          (record (place_at old seat) { remembered = None }),
+                      length-set old.seat_rows seat
+                          (record (row_at old seat) { remembered = None }),
                     )),
                 can.2,
               ) (omega arith))
@@ -331,7 +331,7 @@ module _ (sizes : Sizes) (old : Machine) (state : IsStateOf sizes old) (seat : �
   refill_changes : Changes sizes units.start units.end (carried seat) (pending mine) old filled
   refill_changes =
       let c = carried_within sizes old state seat units can.0 in
-      let there : seat < length old.places = carrier old seat units can.0 in
+      let there : seat < length old.seat_rows = carrier old seat units can.0 in
       let fits : units.end ≤ 65535 = omega (arith, c.1, state.sound.units_fit) in
       record {
         words = λ u k h. elim (cases_eq k mine) [

@@ -2,9 +2,9 @@
 use Rattle.std.proofs.Common.{◌≡◌, ◌≢◌, ℕ, ◌<◌, ◌++◌, [], ◌∷◌, length, Option, Some, None, refl, sym, ap, ◌∙◌}
 use Rattle.std.proofs.lemmas.List.{get_or-set_same, get_or-set_other}
 use Rattle.std.specs.declared.ops.Range.{Range}
-use Rattle.parallel_shares.specs.declared.machine.state.Place.{Place}
+use Rattle.parallel_shares.specs.declared.machine.state.SeatRow.{SeatRow}
 use Rattle.parallel_shares.specs.declared.machine.state.Remembered.{Remembered}
-use Rattle.parallel_shares.specs.Machine.{Machine, fresh, word_at, place_at, with_word, remembers, forgets, gains, carries}
+use Rattle.parallel_shares.specs.Machine.{Machine, fresh, word_at, row_at, with_word, remembers, forgets, gains, carries}
 use Rattle.parallel_shares.proofs.ListWrites.{set_same, stands}
 
 pub word_there : (machine : Machine) (share word : ℕ) → share < length machine.words
@@ -18,77 +18,77 @@ word_elsewhere machine share word other n = get_or-set_other machine.words share
 -- ---- a seat's load changes no transit and no claims
 
 pub remembers_transit : (machine : Machine) (seat : ℕ) (load : Remembered) (k : ℕ)
-    → (place_at (remembers machine seat load) k).transit ≡ (place_at machine k).transit
-remembers_transit machine seat load = set_same (λ (p : Place). p.transit) machine.places seat
-    (record (place_at machine seat) { remembered = Some load }) fresh refl
+    → (row_at (remembers machine seat load) k).transit ≡ (row_at machine k).transit
+remembers_transit machine seat load = set_same (λ (p : SeatRow). p.transit) machine.seat_rows seat
+    (record (row_at machine seat) { remembered = Some load }) fresh refl
 
 pub remembers_claims : (machine : Machine) (seat : ℕ) (load : Remembered) (k : ℕ)
-    → (place_at (remembers machine seat load) k).claims ≡ (place_at machine k).claims
-remembers_claims machine seat load = set_same (λ (p : Place). p.claims) machine.places seat
-    (record (place_at machine seat) { remembered = Some load }) fresh refl
+    → (row_at (remembers machine seat load) k).claims ≡ (row_at machine k).claims
+remembers_claims machine seat load = set_same (λ (p : SeatRow). p.claims) machine.seat_rows seat
+    (record (row_at machine seat) { remembered = Some load }) fresh refl
 
 pub forgets_transit : (machine : Machine) (seat k : ℕ)
-    → (place_at (forgets machine seat) k).transit ≡ (place_at machine k).transit
-forgets_transit machine seat = set_same (λ (p : Place). p.transit) machine.places seat
-    (record (place_at machine seat) { remembered = None }) fresh refl
+    → (row_at (forgets machine seat) k).transit ≡ (row_at machine k).transit
+forgets_transit machine seat = set_same (λ (p : SeatRow). p.transit) machine.seat_rows seat
+    (record (row_at machine seat) { remembered = None }) fresh refl
 
 pub forgets_claims : (machine : Machine) (seat k : ℕ)
-    → (place_at (forgets machine seat) k).claims ≡ (place_at machine k).claims
-forgets_claims machine seat = set_same (λ (p : Place). p.claims) machine.places seat
-    (record (place_at machine seat) { remembered = None }) fresh refl
+    → (row_at (forgets machine seat) k).claims ≡ (row_at machine k).claims
+forgets_claims machine seat = set_same (λ (p : SeatRow). p.claims) machine.seat_rows seat
+    (record (row_at machine seat) { remembered = None }) fresh refl
 
 -- ---- claims change no transit
 
 pub gains_transit : (machine : Machine) (seat : ℕ) (cells : Range ℕ) (k : ℕ)
-    → (place_at (gains machine seat cells) k).transit ≡ (place_at machine k).transit
-gains_transit machine seat cells = set_same (λ (p : Place). p.transit) machine.places seat
-    (record (place_at machine seat) { claims = (place_at machine seat).claims ++ cells ∷ [] }) fresh
+    → (row_at (gains machine seat cells) k).transit ≡ (row_at machine k).transit
+gains_transit machine seat cells = set_same (λ (p : SeatRow). p.transit) machine.seat_rows seat
+    (record (row_at machine seat) { claims = (row_at machine seat).claims ++ cells ∷ [] }) fresh
     refl
 
-pub gains_there : (machine : Machine) (seat : ℕ) (cells : Range ℕ) → seat < length machine.places
-    → (place_at (gains machine seat cells) seat).claims ≡ (place_at machine
+pub gains_there : (machine : Machine) (seat : ℕ) (cells : Range ℕ) → seat < length machine.seat_rows
+    → (row_at (gains machine seat cells) seat).claims ≡ (row_at machine
     seat).claims ++ cells ∷ []
 gains_there machine seat cells h =
-    ap (λ (p : Place). p.claims) (get_or-set_same machine.places seat
-    (record (place_at machine seat) { claims = (place_at machine seat).claims ++ cells ∷ [] })
+    ap (λ (p : SeatRow). p.claims) (get_or-set_same machine.seat_rows seat
+    (record (row_at machine seat) { claims = (row_at machine seat).claims ++ cells ∷ [] })
     fresh h)
 
 pub gains_elsewhere : (machine : Machine) (seat : ℕ) (cells : Range ℕ) (k : ℕ) → k ≢ seat
-    → (place_at (gains machine seat cells) k).claims ≡ (place_at machine k).claims
+    → (row_at (gains machine seat cells) k).claims ≡ (row_at machine k).claims
 gains_elsewhere machine seat cells k n =
-    ap (λ (p : Place). p.claims) (get_or-set_other machine.places seat k
-    (record (place_at machine seat) { claims = (place_at machine seat).claims ++ cells ∷ [] })
+    ap (λ (p : SeatRow). p.claims) (get_or-set_other machine.seat_rows seat k
+    (record (row_at machine seat) { claims = (row_at machine seat).claims ++ cells ∷ [] })
     fresh n)
 
 -- ---- a transit changes no claims
 
 pub carries_claims : (machine : Machine) (seat : ℕ) (units : Option (Range ℕ)) (k : ℕ)
-    → (place_at (carries machine seat units) k).claims ≡ (place_at machine k).claims
-carries_claims machine seat units = set_same (λ (p : Place). p.claims) machine.places seat
-    (record (place_at machine seat) { transit = units }) fresh refl
+    → (row_at (carries machine seat units) k).claims ≡ (row_at machine k).claims
+carries_claims machine seat units = set_same (λ (p : SeatRow). p.claims) machine.seat_rows seat
+    (record (row_at machine seat) { transit = units }) fresh refl
 
 pub carries_there : (machine : Machine) (seat : ℕ) (units : Option (Range ℕ))
-    → seat < length machine.places → (place_at (carries machine seat units) seat).transit ≡ units
+    → seat < length machine.seat_rows → (row_at (carries machine seat units) seat).transit ≡ units
 carries_there machine seat units h =
-    ap (λ (p : Place). p.transit) (get_or-set_same machine.places seat
-    (record (place_at machine seat) { transit = units }) fresh h)
+    ap (λ (p : SeatRow). p.transit) (get_or-set_same machine.seat_rows seat
+    (record (row_at machine seat) { transit = units }) fresh h)
 
 pub carries_elsewhere : (machine : Machine) (seat : ℕ) (units : Option (Range ℕ)) (k : ℕ) → k ≢ seat
-    → (place_at (carries machine seat units) k).transit ≡ (place_at machine k).transit
+    → (row_at (carries machine seat units) k).transit ≡ (row_at machine k).transit
 carries_elsewhere machine seat units k n =
-    ap (λ (p : Place). p.transit) (get_or-set_other machine.places seat k
-    (record (place_at machine seat) { transit = units }) fresh n)
+    ap (λ (p : SeatRow). p.transit) (get_or-set_other machine.seat_rows seat k
+    (record (row_at machine seat) { transit = units }) fresh n)
 
 -- ---- a seat that remembers or carries something exists
 
 pub rememberer : (machine : Machine) (seat : ℕ) (load : Remembered)
-    → (place_at machine seat).remembered ≡ Some load → seat < length machine.places
+    → (row_at machine seat).remembered ≡ Some load → seat < length machine.seat_rows
 rememberer machine seat load e =
-    stands (λ (p : Place). p.remembered) machine.places seat fresh
+    stands (λ (p : SeatRow). p.remembered) machine.seat_rows seat fresh
     (λ n. let b : Some load ≡ None = sym e ∙ n in cc)
 
 pub carrier : (machine : Machine) (seat : ℕ) (units : Range ℕ)
-    → (place_at machine seat).transit ≡ Some units → seat < length machine.places
+    → (row_at machine seat).transit ≡ Some units → seat < length machine.seat_rows
 carrier machine seat units e =
-    stands (λ (p : Place). p.transit) machine.places seat fresh
+    stands (λ (p : SeatRow). p.transit) machine.seat_rows seat fresh
     (λ n. let b : Some units ≡ None = sym e ∙ n in cc)

@@ -83,9 +83,9 @@ opening_word sizes (suc n) k h =
           ∙ ap (λ i. packed (opening_start sizes i) (opening_start sizes (suc i))) e
     ]
 
--- a place that a plan opens with is fresh
-opening_place : (n i : ℕ) → get_or (replicate n fresh) i fresh ≡ fresh
-opening_place n i =
+-- the row of a seat that a plan opens with is fresh
+opening_seat_row : (n i : ℕ) → get_or (replicate n fresh) i fresh ≡ fresh
+opening_seat_row n i =
     elim (cases_lt i n) [
       | inl b ↦ get_or-replicate n i fresh fresh b
       | inr a ↦ get_or_past (replicate n fresh) i fresh (omega (arith, length-replicate n fresh))
@@ -125,7 +125,7 @@ module _ (sizes : Sizes) (sound : IsSound sizes) where
       | inr a ↦ rw (get_or_past (opening_words sizes (shares_of sizes)) k 0
           (omega (arith, length_opening sizes (shares_of sizes)))) (omega arith, omega arith)
     ];
-    places = λ i. rw (opening_place sizes.workers i) (record { load = tt; carried = tt });
+    seat_rows = λ i. rw (opening_seat_row sizes.workers i) (record { load = tt; carried = tt });
   }
 
   -- the opening range of a share holds a unit exactly where that share is the one that the unit
@@ -171,7 +171,7 @@ module _ (sizes : Sizes) (sound : IsSound sizes) where
   unfolding first
   opening_shows = record {
     words = holds;
-    transits = λ u i h. rw (opening_place sizes.workers i) refl;
-    claims = λ c i h. rw (opening_place sizes.workers i) refl;
-    no_more = λ c i h. rw (opening_place sizes.workers i) refl;
+    transits = λ u i h. rw (opening_seat_row sizes.workers i) refl;
+    claims = λ c i h. rw (opening_seat_row sizes.workers i) refl;
+    no_more = λ c i h. rw (opening_seat_row sizes.workers i) refl;
   }

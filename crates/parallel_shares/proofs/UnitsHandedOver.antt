@@ -3,7 +3,7 @@ use Rattle.std.proofs.Common.{◌≡◌, ◌≢◌, ℕ, zero, suc, ◌+◌, ◌
 use Rattle.std.proofs.lemmas.Bool.{eq-eqb, ne_eqb, cases_eq}
 use Rattle.std.proofs.lemmas.Nat.{div_below}
 use Rattle.parallel_shares.specs.Sizes.{Sizes, IsSound}
-use Rattle.parallel_shares.specs.Machine.{Machine, word_at, place_at}
+use Rattle.parallel_shares.specs.Machine.{Machine, word_at, row_at}
 use Rattle.parallel_shares.specs.Holders.{Holder, pending, carried, claimed, Holders, Hands, inside, in_word, in_transit, in_ranges, same_number, same, Shows}
 use Rattle.parallel_shares.proofs.Counts.{inside_within, inside_before, inside_after, inside_below}
 
@@ -102,12 +102,12 @@ pub record Changes (sizes : Sizes) (from to : ℕ) (giver taker : Holder)
       (in_word u (word_at new share))
   pub transits : (u seat : ℕ) → u < sizes.units
       → Change giver taker (carried seat) (inside u from to)
-      (in_transit u (place_at old seat).transit) (in_transit u (place_at new seat).transit)
+      (in_transit u (row_at old seat).transit) (in_transit u (row_at new seat).transit)
   pub claims : (c seat : ℕ) → c < sizes.cells
       → Change giver taker (claimed seat) (inside (c / sizes.unit) from to)
-      (in_ranges c (place_at old seat).claims) (in_ranges c (place_at new seat).claims)
+      (in_ranges c (row_at old seat).claims) (in_ranges c (row_at new seat).claims)
   pub no_more : (c seat : ℕ) → sizes.cells ≤ c
-      → in_ranges c (place_at new seat).claims ≡ in_ranges c (place_at old seat).claims
+      → in_ranges c (row_at new seat).claims ≡ in_ranges c (row_at old seat).claims
 
 -- the unit of a cell is one of the units
 pub unit_of_cell : (sizes : Sizes) → IsSound sizes → (c : ℕ) → c < sizes.cells
@@ -136,8 +136,8 @@ shows_handed sizes sound from to giver taker old new holders c g s = record {
 -- a machine with the same words, transits and claims shows the same holders
 pub shows_still : (sizes : Sizes) (old new : Machine) (holders : Holders)
     → ((share : ℕ) → word_at new share ≡ word_at old share)
-    → ((seat : ℕ) → (place_at new seat).transit ≡ (place_at old seat).transit)
-    → ((seat : ℕ) → (place_at new seat).claims ≡ (place_at old seat).claims)
+    → ((seat : ℕ) → (row_at new seat).transit ≡ (row_at old seat).transit)
+    → ((seat : ℕ) → (row_at new seat).claims ≡ (row_at old seat).claims)
     → Shows sizes old holders → Shows sizes new holders
 shows_still sizes old new holders w t c s = record {
   words = λ u share h. rw (w share) (s.words u share h);

@@ -8,30 +8,30 @@ use Rattle.parallel_shares.specs.declared.machine.event.Outcome.TheVariants.{Loa
 use Rattle.parallel_shares.specs.declared.machine.state.Remembered.{Remembered}
 use Rattle.parallel_shares.specs.Words.{start_of, end_of, packed, IsEmptyWord}
 use Rattle.parallel_shares.specs.Sizes.{Sizes, share_of, cells_to}
-use Rattle.parallel_shares.specs.Machine.{Machine, word_at, place_at, with_word, remembers, forgets, gains, carries}
+use Rattle.parallel_shares.specs.Machine.{Machine, word_at, row_at, with_word, remembers, forgets, gains, carries}
 
 -- ---- what each event needs
 
 -- a load needs a seat and a share that exist
 abbrev pub CanLoad : Machine → ℕ → ℕ → Type 0
-CanLoad machine seat share = (seat < length machine.places) × (share < length machine.words)
+CanLoad machine seat share = (seat < length machine.seat_rows) × (share < length machine.words)
 
 -- a claim needs a remembered load, of this word, of the share that the seat claims from
 abbrev pub CanClaim : Sizes → Machine → ℕ → ℕ → Type 0
 CanClaim sizes machine seat word =
-    (place_at machine seat).remembered ≡ Some (record { share = share_of sizes seat; word = word })
+    (row_at machine seat).remembered ≡ Some (record { share = share_of sizes seat; word = word })
 
 -- a steal needs a remembered load of another share, nothing in transit, and the seat's own word
 -- empty
 abbrev pub CanSteal : Sizes → Machine → ℕ → Remembered → Type 0
 CanSteal sizes machine seat load =
-    ((place_at machine seat).remembered ≡ Some load) × (load.share ≢ share_of sizes seat)
-    × ((place_at machine seat).transit ≡ None) × IsEmptyWord (word_at machine (share_of sizes seat))
+    ((row_at machine seat).remembered ≡ Some load) × (load.share ≢ share_of sizes seat)
+    × ((row_at machine seat).transit ≡ None) × IsEmptyWord (word_at machine (share_of sizes seat))
 
 -- a refill needs these units in transit, and the seat's own word empty
 abbrev pub CanRefill : Sizes → Machine → ℕ → Range ℕ → Type 0
 CanRefill sizes machine seat units =
-    ((place_at machine seat).transit ≡ Some units)
+    ((row_at machine seat).transit ≡ Some units)
     × IsEmptyWord (word_at machine (share_of sizes seat))
 
 -- ---- claims and splits of a word

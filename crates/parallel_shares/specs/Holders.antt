@@ -3,7 +3,7 @@ use Rattle.std.specs.Prelude.{◌≡◌, ◌≢◌, ℕ, suc, ◌+◌, ◌/◌, 
 use Rattle.std.specs.declared.ops.Range.{Range}
 use Rattle.parallel_shares.specs.Words.{start_of, end_of}
 use Rattle.parallel_shares.specs.Sizes.{Sizes, shares_of, share_of, opening_start}
-use Rattle.parallel_shares.specs.Machine.{Machine, word_at, place_at}
+use Rattle.parallel_shares.specs.Machine.{Machine, word_at, row_at}
 
 -- the one holder of a unit
 pub data Holder : Type 0 where
@@ -124,10 +124,10 @@ pub record Shows (sizes : Sizes) (machine : Machine) (holders : Holders) : Type 
   pub words : (u share : ℕ) → u < sizes.units
       → in_word u (word_at machine share) ≡ same (pending share) (holders u)
   pub transits : (u seat : ℕ) → u < sizes.units
-      → in_transit u (place_at machine seat).transit ≡ same (carried seat) (holders u)
+      → in_transit u (row_at machine seat).transit ≡ same (carried seat) (holders u)
   pub claims : (c seat : ℕ) → c < sizes.cells
-      → in_ranges c (place_at machine seat).claims ≡ same (claimed seat) (holders (c / sizes.unit))
-  pub no_more : (c seat : ℕ) → sizes.cells ≤ c → in_ranges c (place_at machine seat).claims ≡ 0
+      → in_ranges c (row_at machine seat).claims ≡ same (claimed seat) (holders (c / sizes.unit))
+  pub no_more : (c seat : ℕ) → sizes.cells ≤ c → in_ranges c (row_at machine seat).claims ≡ 0
 
 -- from any holders that the machine showed, moves lead to holders that it shows now
 abbrev pub StepsByMoves : Sizes → Machine → Machine → Type 0

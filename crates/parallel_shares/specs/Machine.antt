@@ -1,57 +1,57 @@
 -- What the machine of shares keeps, and how its parts are read and written.
 use Rattle.std.specs.Prelude.{◌≡◌, ℕ, zero, suc, ◌<◌, ◌≤◌, ◌++◌, List, [], ◌∷◌, length, replicate, Option, Some, None, IfSome, false, slice_index, slice_index_or, slice_set}
 use Rattle.std.specs.declared.ops.Range.{Range}
-use Rattle.parallel_shares.specs.declared.machine.state.Place.{Place}
+use Rattle.parallel_shares.specs.declared.machine.state.SeatRow.{SeatRow}
 use Rattle.parallel_shares.specs.declared.machine.state.Remembered.{Remembered}
 use Rattle.parallel_shares.specs.Words.{packed, IsWithin}
 use Rattle.parallel_shares.specs.Sizes.{Sizes, shares_of, opening_start, IsSound}
 
--- the words of all shares, and the places of all seats: what each remembers, carries and has
+-- the words of all shares, and the rows of all seats: what each remembers, carries and has
 -- claimed
 pub record Machine : Type 0 where
   pub words : List ℕ
-  pub places : List Place
+  pub seat_rows : List SeatRow
 
--- a place where nothing was loaded, taken or claimed
-abbrev pub fresh : Place
+-- the row of a seat for which nothing was loaded, taken or claimed
+abbrev pub fresh : SeatRow
 fresh = record { remembered = None; transit = None; claims = [] }
 
 -- the word of a share
 abbrev pub word_at : Machine → ℕ → ℕ
 word_at machine share = slice_index machine.words share
 
--- the place of a seat, and a fresh one for a seat that does not exist
-abbrev pub place_at : Machine → ℕ → Place
-place_at machine seat = slice_index_or machine.places seat fresh
+-- the row of a seat, and a fresh one for a seat that does not exist
+abbrev pub row_at : Machine → ℕ → SeatRow
+row_at machine seat = slice_index_or machine.seat_rows seat fresh
 
 -- the machine with another word at a share
 abbrev pub with_word : Machine → ℕ → ℕ → Machine
 with_word machine share word = record machine { words = slice_set machine.words share word }
 
--- the machine with another place at a seat
-abbrev pub with_place : Machine → ℕ → Place → Machine
-with_place machine seat place = record machine { places = slice_set machine.places seat place }
+-- the machine with another row for a seat
+abbrev pub with_seat_row : Machine → ℕ → SeatRow → Machine
+with_seat_row machine seat row = record machine { seat_rows = slice_set machine.seat_rows seat row }
 
 -- the machine where a seat remembers what it loaded
 abbrev pub remembers : Machine → ℕ → Remembered → Machine
 remembers machine seat load =
-    with_place machine seat (record (place_at machine seat) { remembered = Some load })
+    with_seat_row machine seat (record (row_at machine seat) { remembered = Some load })
 
 -- the machine where a seat has forgotten what it loaded
 abbrev pub forgets : Machine → ℕ → Machine
 forgets machine seat =
-    with_place machine seat (record (place_at machine seat) { remembered = None })
+    with_seat_row machine seat (record (row_at machine seat) { remembered = None })
 
 -- the machine where a seat has claimed more cells
 abbrev pub gains : Machine → ℕ → Range ℕ → Machine
 gains machine seat cells =
-    with_place machine seat (record (place_at machine seat)
-    { claims = (place_at machine seat).claims ++ cells ∷ [] })
+    with_seat_row machine seat (record (row_at machine seat)
+    { claims = (row_at machine seat).claims ++ cells ∷ [] })
 
 -- the machine where a seat carries these units, or none
 abbrev pub carries : Machine → ℕ → Option (Range ℕ) → Machine
 carries machine seat units =
-    with_place machine seat (record (place_at machine seat) { transit = units })
+    with_seat_row machine seat (record (row_at machine seat) { transit = units })
 
 -- the words of so many shares, from the first: balanced ranges that cover the units
 abbrev pub opening_words : Sizes → ℕ → List ℕ
@@ -64,21 +64,21 @@ opening_words sizes (suc share) =
 abbrev pub opening : Sizes → Machine
 opening sizes = record {
   words = opening_words sizes (shares_of sizes);
-  places = replicate sizes.workers fresh;
+  seat_rows = replicate sizes.workers fresh;
 }
 
--- what a place of a plan's seat may remember and carry: a word of a share that exists, and units
+-- what the row of a plan's seat may remember and carry: a word of a share that exists, and units
 -- that do
-pub record IsPlaceOf (sizes : Sizes) (place : Place) : Type 0 where
-  pub load : IfSome place.remembered (λ l. (l.share < shares_of sizes)
+pub record IsSeatRowOf (sizes : Sizes) (row : SeatRow) : Type 0 where
+  pub load : IfSome row.remembered (λ l. (l.share < shares_of sizes)
       × IsWithin sizes.units l.word)
-  pub carried : IfSome place.transit (λ r. (r.start < r.end) × (r.end ≤ sizes.units)
+  pub carried : IfSome row.transit (λ r. (r.start < r.end) × (r.end ≤ sizes.units)
       × (sizes.whole ≡ false))
 
 -- a state that belongs to a plan: its shares, its seats, and ranges of its units
 pub record IsStateOf (sizes : Sizes) (machine : Machine) : Type 0 where
   pub sound : IsSound sizes
   pub shares : length machine.words ≡ shares_of sizes
-  pub seats : length machine.places ≡ sizes.workers
+  pub seats : length machine.seat_rows ≡ sizes.workers
   pub words : (share : ℕ) → IsWithin sizes.units (word_at machine share)
-  pub places : (seat : ℕ) → IsPlaceOf sizes (place_at machine seat)
+  pub seat_rows : (seat : ℕ) → IsSeatRowOf sizes (row_at machine seat)

@@ -62,7 +62,7 @@ impl ClaimedCells {
 
 /// What a seat remembers, carries and has claimed.
 #[derive(Drop)]
-pub struct Place {
+pub struct SeatRow {
     /// The load that the seat remembers.
     pub remembered: Option<Remembered>,
     /// The units that the seat has in transit.
@@ -75,7 +75,7 @@ pub struct Place {
 #[derive(Drop)]
 pub struct State {
     words: Vec<u64>,
-    places: Vec<Place>,
+    seat_rows: Vec<SeatRow>,
 }
 
 impl Model for State {
@@ -83,7 +83,7 @@ impl Model for State {
 
     ghost Value = { Machine };
 
-    ghost view = { λ s. record { words = s.words.items; places = s.places.items } };
+    ghost view = { λ s. record { words = s.words.items; seat_rows = s.seat_rows.items } };
 }
 
 impl State {
@@ -91,7 +91,7 @@ impl State {
     ghost use Rattle.std.specs.declared.ops.Range.{Range};
     ghost use Rattle.parallel_shares.specs.Cut.{BalancedCut};
     ghost use Rattle.parallel_shares.specs.Words.{range_of};
-    ghost use Rattle.parallel_shares.specs.Machine.{Machine, word_at, place_at, with_word, remembers, forgets, gains, carries, opening, IsStateOf};
+    ghost use Rattle.parallel_shares.specs.Machine.{Machine, word_at, row_at, with_word, remembers, forgets, gains, carries, opening, IsStateOf};
     ghost use Rattle.parallel_shares.specs.Holders.{Holders, IsOpening, Shows};
 
     /// The state before any event, `opening`: nothing is remembered, carried or claimed.
@@ -109,8 +109,8 @@ impl State {
         ensures fault { IsMemoryOnErr result }
     {
         let words = opening_words(alloc, plan)?;
-        let places = fresh_places(alloc, plan.workers())?;
-        Ok(State { words, places })
+        let seat_rows = fresh_seat_rows(alloc, plan.workers())?;
+        Ok(State { words, seat_rows })
     }
 
     /// The words of all shares.
@@ -122,16 +122,16 @@ impl State {
 
     /// The cells that a seat has claimed, in order.
     pub fn claims(&self, seat: usize) -> &[Range<usize>]
-        requires { seat < length self.now.places }
-        ensures { result.now ≡ (place_at self.now seat).claims }
+        requires { seat < length self.now.seat_rows }
+        ensures { result.now ≡ (row_at self.now seat).claims }
     {
-        self.places[seat].claims.as_slice()
+        self.seat_rows[seat].claims.as_slice()
     }
 
     /// The units that a seat has in transit.
     pub fn in_transit(&self, seat: usize) -> Option<Range<usize>>
-        requires { seat < length self.now.places }
-        ensures { result ≡ (place_at self.now seat).transit }
+        requires { seat < length self.now.seat_rows }
+        ensures { result ≡ (row_at self.now seat).transit }
     {
         self.carried(seat)
     }
@@ -145,9 +145,9 @@ impl State {
 
     /// The number of seats.
     pub(super) fn seats(&self) -> usize
-        ensures { result ≡ length self.now.places }
+        ensures { result ≡ length self.now.seat_rows }
     {
-        self.places.len()
+        self.seat_rows.len()
     }
 
     /// The word of a share.
@@ -160,11 +160,11 @@ impl State {
 
     /// The load that a seat remembers; a seat that does not exist remembers none.
     pub(super) fn remembered(&self, seat: usize) -> Option<Remembered>
-        ensures load { result ≡ (place_at self.now seat).remembered }
-        ensures exists { IsSome result → seat < length self.now.places }
+        ensures load { result ≡ (row_at self.now seat).remembered }
+        ensures exists { IsSome result → seat < length self.now.seat_rows }
     {
-        if seat < self.places.len() {
-            self.places[seat].remembered
+        if seat < self.seat_rows.len() {
+            self.seat_rows[seat].remembered
         } else {
             None
         }
@@ -172,11 +172,11 @@ impl State {
 
     /// The units that a seat carries; a seat that does not exist carries none.
     pub(super) fn carried(&self, seat: usize) -> Option<Range<usize>>
-        ensures units { result ≡ (place_at self.now seat).transit }
-        ensures exists { IsSome result → seat < length self.now.places }
+        ensures units { result ≡ (row_at self.now seat).transit }
+        ensures exists { IsSome result → seat < length self.now.seat_rows }
     {
-        if seat < self.places.len() {
-            match &self.places[seat].transit {
+        if seat < self.seat_rows.len() {
+            match &self.seat_rows[seat].transit {
                 Some(units) => Some(units.start..units.end),
                 None => None,
             }
@@ -187,40 +187,40 @@ impl State {
 
     /// Lets a seat remember a load.
     pub(super) fn remember(&mut self, seat: usize, load: Remembered)
-        requires { seat < length self.old.places }
+        requires { seat < length self.old.seat_rows }
         ensures { self.new ≡ remembers self.old seat load }
     {
-        let place = &mut self.places[seat];
-        place.remembered = Some(load);
+        let row = &mut self.seat_rows[seat];
+        row.remembered = Some(load);
     }
 
     /// Lets a seat forget what it loaded.
     pub(super) fn forget(&mut self, seat: usize)
-        requires { seat < length self.old.places }
+        requires { seat < length self.old.seat_rows }
         ensures { self.new ≡ forgets self.old seat }
     {
-        let place = &mut self.places[seat];
-        place.remembered = None;
+        let row = &mut self.seat_rows[seat];
+        row.remembered = None;
     }
 
     /// Sets what a seat has in transit.
     pub(super) fn carry(&mut self, seat: usize, units: Option<Range<usize>>)
-        requires { seat < length self.old.places }
+        requires { seat < length self.old.seat_rows }
         ensures { self.new ≡ carries self.old seat units }
     {
-        let place = &mut self.places[seat];
-        place.transit = units;
+        let row = &mut self.seat_rows[seat];
+        row.transit = units;
     }
 
     /// Adds to what a seat has claimed. After a refusal the state is as it was.
     pub(super) fn gain(&mut self, seat: usize, cells: Range<usize>) -> Result<(), Fault>
-        requires { seat < length self.old.places }
+        requires { seat < length self.old.seat_rows }
         ensures gained { IfOk result (λ _. self.new ≡ gains self.old seat cells) }
         ensures unchanged { OnErr result (self.new ≡ self.old) }
         ensures fault { IsMemoryOnErr result }
     {
-        let place = &mut self.places[seat];
-        place.claims.push(cells)
+        let row = &mut self.seat_rows[seat];
+        row.claims.push(cells)
     }
 
     /// Stores a word into a share.
@@ -250,18 +250,18 @@ pub(crate) fn opening_words(alloc: Global, plan: &Plan) -> Result<Vec<u64>, Faul
     Ok(words)
 }
 
-/// So many places where nothing was loaded, taken or claimed.
-fn fresh_places(alloc: Global, seats: usize) -> Result<Vec<Place>, Fault>
-    ensures places { IfOk result (λ places. places.items ≡ replicate seats fresh) }
+/// So many rows of seats for which nothing was loaded, taken or claimed.
+fn fresh_seat_rows(alloc: Global, seats: usize) -> Result<Vec<SeatRow>, Fault>
+    ensures rows { IfOk result (λ rows. rows.items ≡ replicate seats fresh) }
     ensures fault { IsMemoryOnErr result }
 {
-    let mut places = Vec::with_capacity(alloc, seats)?;
+    let mut rows = Vec::with_capacity(alloc, seats)?;
     for _seat in 0..seats {
-        places.push(Place {
+        rows.push(SeatRow {
             remembered: None,
             transit: None,
             claims: ClaimedCells::new(alloc),
         })?;
     }
-    Ok(places)
+    Ok(rows)
 }

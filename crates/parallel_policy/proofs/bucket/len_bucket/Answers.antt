@@ -1,5 +1,5 @@
 -- How long a number is by the zeros before it.
-use Rattle.std.proofs.Common.{ℕ, ◌-◌, ◌^◌, ◌<◌, ◌≤◌, ◌≡◌, subst, arith}
+use Rattle.std.proofs.Common.{rules, ℕ, ◌-◌, ◌^◌, ◌<◌, ◌≤◌, ◌≡◌, subst, arith}
 use Rattle.std.proofs.lemmas.Nat.{leading_length, leading_top}
 use Rattle.std.specs.Int.Count.{count_leading_zeros}
 use Rattle.parallel_policy.proofs.bucket.len_bucket.Goals as goal
@@ -19,3 +19,6 @@ returns-clause-least c = λ positive.
     let same : j ≡ 64 - count_leading_zeros 64 c.args.len - 1 = omega arith in
     let P : ℕ → Type 0 = λ k. 2 ^ k ≤ c.args.len in
     subst P same least
+
+pub returns-clause-digits : goal.returns-clause-digits
+returns-clause-digits c = search rules

@@ -1,5 +1,5 @@
 -- Each seat that is taken in adds what it has.
-use Rattle.std.proofs.Common.{◌∙◌, ap, subst, sym, arith}
+use Rattle.std.proofs.Common.{rules, ◌∙◌, ap, subst, sym, arith}
 use Rattle.parallel_shares.specs.Seats.{IsSeatOf}
 use Rattle.parallel_shares.proofs.Openings.{some_shares}
 use Rattle.parallel_shares.proofs.DealingKeepsSharing.{joins}
@@ -49,3 +49,6 @@ loop-seat-preserved c =
           (sym (ap (λ m. m.0) c.join_seat.ensures.2))
           (gathers_more c.loop-seat.all.me.0 old left c.args.seats.items x i.has cut);
     }
+
+pub returns-clause-view : goal.returns-clause-view
+returns-clause-view c = search rules

@@ -1,5 +1,5 @@
 -- The store keeps what words and seats keep together: the seat has seen its own word empty.
-use Rattle.std.proofs.Common.{◌≡◌, ◌<◌, ◌∙◌, Some, [], ◌∷◌, cond, ap, sym, subst, arith}
+use Rattle.std.proofs.Common.{rules, ◌≡◌, ◌<◌, ◌∙◌, Some, [], ◌∷◌, cond, ap, sym, subst, arith}
 use Rattle.parallel_shares.specs.Sizes.{shares_of, share_of}
 use Rattle.parallel_shares.specs.Seats.{Carries}
 use Rattle.parallel_shares.specs.Sharing.{ranges_of}
@@ -27,3 +27,6 @@ store-requires c =
           (seat.carries ∙ ap ranges_of transit) carried.3 carried.0 carried.1 exists
           (c.share_of-share.ensures ∙ own) c.pack-word.ensures),
     )
+
+pub returns-clause-stored : goal.returns-clause-stored
+returns-clause-stored c = search rules

@@ -42,3 +42,6 @@ invariant_of-result c = sound c
 
 pub returns-clause-sound : goal.returns-clause-sound
 returns-clause-sound c = sound c
+
+pub returns-clause-sizes : goal.returns-clause-sizes
+returns-clause-sizes c = same c

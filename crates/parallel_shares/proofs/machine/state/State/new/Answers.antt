@@ -1,4 +1,4 @@
--- The words and the places are those of the opening, which belongs to the plan.
+-- The words and the rows of seats are those of the opening, which belongs to the plan.
 use Rattle.std.proofs.Common.{rules, ◌≡◌, map, sym, subst}
 use Rattle.parallel_shares.specs.Cut.{BalancedCut}
 use Rattle.parallel_shares.specs.Words.{range_of}
@@ -7,13 +7,13 @@ use Rattle.parallel_shares.specs.Holders.{Shows}
 use Rattle.parallel_shares.proofs.OpeningCuts.{opening_balanced}
 use Rattle.parallel_shares.proofs.Openings.{first, first_is_opening, opening_is_state, opening_shows}
 use Rattle.parallel_shares.proofs.machine.state.State.new.Goals as goal
-use Rattle.parallel_shares.proofs.machine.state.State.new.Goals.{In_ok-places}
+use Rattle.parallel_shares.proofs.machine.state.State.new.Goals.{In_ok-seat_rows}
 
 -- the machine that is made
-abbrev made : In_ok-places → Machine
-made c = record { words = c.in_ok-words.words.items; places = c.in_ok-places.places.items }
+abbrev made : In_ok-seat_rows → Machine
+made c = record { words = c.in_ok-words.words.items; seat_rows = c.in_ok-seat_rows.seat_rows.items }
 
-is_opening : (c : In_ok-places) → made c ≡ opening c.args.plan.now
+is_opening : (c : In_ok-seat_rows) → made c ≡ opening c.args.plan.now
 is_opening c = search rules
 
 pub returns-clause-belongs : goal.returns-clause-belongs
