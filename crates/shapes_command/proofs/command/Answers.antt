@@ -22,3 +22,12 @@ returns-in_err-write_line-in-Ok-clause-unwritten g c =
       (c.in-Some.request, text, c.in-Some.ensures, answers, search rules),
       part,
     ))
+
+pub returns-in-Err-clause-refused : goal.returns-in-Err-clause-refused
+returns-in-Err-clause-refused g c = search rules
+
+pub returns-in-Err-clause-unwritten : goal.returns-in-Err-clause-unwritten
+returns-in-Err-clause-unwritten g c = search rules
+
+pub returns-in_ok-write_line-in-Ok-clause-answer : goal.returns-in_ok-write_line-in-Ok-clause-answer
+returns-in_ok-write_line-in-Ok-clause-answer g c = search rules
