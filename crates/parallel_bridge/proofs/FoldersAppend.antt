@@ -27,10 +27,10 @@ module _ {X R E : Type 0} (step : R → X → Result R E → Type 0) where
   try_chain_append a (x ∷ xs) ys v out (inr (e, one, same)) k =
       inr (e, one, subst (λ w. TryContinues step w ys out) same k)
 
-  pub try_onward : (start v out : Result R E) (xs ys : List X) → TryContinues step start xs v
+  pub try_continues : (start v out : Result R E) (xs ys : List X) → TryContinues step start xs v
       → TryContinues step v ys out → TryContinues step start (xs ++ ys) out
-  try_onward (Ok a) v out xs ys h k = try_chain_append a xs ys v out h k
-  try_onward (Err e) v out xs ys h k = subst (λ w. TryContinues step w ys out) h k
+  try_continues (Ok a) v out xs ys h k = try_chain_append a xs ys v out h k
+  try_continues (Err e) v out xs ys h k = subst (λ w. TryContinues step w ys out) h k
 
   -- nothing more leaves a chain as it is
   pub try_rests : (control : Result R E) → TryContinues step control [] control

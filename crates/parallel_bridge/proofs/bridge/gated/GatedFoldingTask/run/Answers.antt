@@ -1,6 +1,6 @@
 -- A list that is not split is one segment.
 use Rattle.parallel_bridge.proofs.{Ok, Err, IfOk, List, Result, [], ◌++◌, ◌∙◌, ◌<◌, refl, subst, append-nil, Infallible, Closure, GivesSome, OnlyOk, TryFoldSegment, TryReducedSegment, GateWatch, Halt}
-use Rattle.parallel_bridge.proofs.{IsSeatOf, IsWatching, known, stands_for, HaltsOnward, TellsAs, halting, driven_leaf, leaf_ends, leaf_halts, Comes, folded_halt, folded_value, halts_rests}
+use Rattle.parallel_bridge.proofs.{IsGateSeatOf, IsWatching, known, stands_for, HaltsOnward, TellsAs, halting, driven_leaf, leaf_ends, leaf_halts, Comes, folded_halt, folded_value, halts_rests}
 use Rattle.parallel_bridge.proofs.bridge.gated.GatedFoldingTask.run.Given.{Over}
 use Rattle.parallel_bridge.proofs.bridge.gated.GatedFoldingTask.run.Goals.{In-Ok}
 use Rattle.parallel_bridge.proofs.bridge.gated.GatedFoldingTask.run.Goals as goal
@@ -61,7 +61,7 @@ returns-in-Ok-control g c depth short =
       ),
       c.feed-fed.ensures.rest,
       (
-        subst (λ w. IsSeatOf w.now last.watch.seat) (all.1.0 ∙ begun.same.0) all.2,
+        subst (λ w. IsGateSeatOf w.now last.watch.seat) (all.1.0 ∙ begun.same.0) all.2,
         leaf_ends g.row.E.Denot self.watch.start (g.S.Segment.count self.parts)
             (stands_for self.watch.seat) last.watch.seat.seat.me.0 c.in-Ok-control.value
             c.reduce_op-value.result (all.1.2 ∙ begun.same.2)
@@ -94,7 +94,7 @@ returns-in-Err-control g c depth short =
           ),
       c.feed-fed.ensures.rest,
       (
-        subst (λ w. IsSeatOf w.now last.watch.seat) (all.1.0 ∙ begun.same.0) all.2,
+        subst (λ w. IsGateSeatOf w.now last.watch.seat) (all.1.0 ∙ begun.same.0) all.2,
         leaf_halts g.row.R.Denot g.row.R.Denot self.watch.start (g.S.Segment.count self.parts)
             (stands_for self.watch.seat) last.watch.seat.seat.me.0 c.in-Err-control.halt
             (all.1.2 ∙ begun.same.2)

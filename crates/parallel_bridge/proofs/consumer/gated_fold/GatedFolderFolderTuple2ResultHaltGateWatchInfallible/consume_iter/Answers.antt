@@ -6,7 +6,7 @@ pub returns-clause-gives : goal.returns-clause-gives
 returns-clause-gives g c =
     let self = c.args.self in
     let step = goal.F-post g self.fold_op.now in
-    let made = c.gated_onward-control in
+    let made = c.gated_fold_from-control in
     let w = made.ensures.onward in (
       w.0,
       w.1,

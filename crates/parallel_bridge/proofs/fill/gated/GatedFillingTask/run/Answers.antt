@@ -1,5 +1,5 @@
 -- A list that is not split is one segment.
-use Rattle.parallel_bridge.proofs.{Closure, GivesSome, IsSeatOf, stands_for, TellsAs, halting, Ok, Err, IfOk, List, subst, Answered, IsFull, OneAfterAnother, kept, driven_leaf, leaf_ends, leaf_halts}
+use Rattle.parallel_bridge.proofs.{Closure, GivesSome, IsGateSeatOf, stands_for, TellsAs, halting, Ok, Err, IfOk, List, subst, Answered, IsFull, OneAfterAnother, kept, driven_leaf, leaf_ends, leaf_halts}
 use Rattle.parallel_bridge.proofs.fill.gated.GatedFillingTask.run.Goals as goal
 
 pub returns-in-Ok : goal.returns-in-Ok
@@ -18,7 +18,7 @@ returns-in-Ok g c depth short =
             c.in-Ok.is written.gives),
       ),
       written.rest,
-      subst (λ b. IsSeatOf b.now watch.seat) written.same.0 written.watching,
+      subst (λ b. IsGateSeatOf b.now watch.seat) written.same.0 written.watching,
       leaf_ends g.row.W-Error.Denot self.watch.start (g.S.Segment.count self.parts)
           (stands_for self.watch.seat) watch.seat.seat.me.0 c.in-Ok.field-0 room.items
           written.same.2
@@ -42,7 +42,7 @@ returns-in-Err g c depth short =
             c.in-Err.is written.gives),
       ),
       written.rest,
-      subst (λ b. IsSeatOf b.now watch.seat) written.same.0 written.watching,
+      subst (λ b. IsGateSeatOf b.now watch.seat) written.same.0 written.watching,
       leaf_halts (Unit {0}) (List g.row.W-Answer.Denot) self.watch.start (g.S.Segment.count self.parts)
           (stands_for self.watch.seat) watch.seat.seat.me.0 c.in-Err.halt written.same.2
           (subst (TellsAs self.watch.start watch.seat.seat.me.0) c.in-Err.is written.told),

@@ -1,6 +1,6 @@
 -- The halves' places follow one another, their outcomes go along the shape, of two errors the left
 -- one stands, and their seats are joined.
-use Rattle.parallel_bridge.proofs.{◌≡◌, ◌/◌, arith, refl, rules, sym, subst, ◌∙◌, FitsInBlock, IsSeatOf, stands_for, halting, Answered, OneAfterAnother, written, driven_node, halved_room, ends_joined}
+use Rattle.parallel_bridge.proofs.{◌≡◌, ◌/◌, arith, refl, rules, sym, subst, ◌∙◌, FitsInBlock, IsGateSeatOf, stands_for, halting, Answered, OneAfterAnother, written, driven_node, halved_room, ends_joined}
 use Rattle.parallel_bridge.proofs.fill.gated.GatedFillingTask.split.Goals as goal
 
 pub returns-clause-meet : goal.returns-clause-meet
@@ -19,8 +19,8 @@ returns-clause-meet g c depth a b left right =
       left.0.1,
       right.0.1,
       (self.parts, c.in-Ok.ensures.rests a.2 b.2 left.1 right.1),
-      subst (λ w. IsSeatOf w.now a.3) gates.0 left.2,
-      subst (λ w. IsSeatOf w.now b.3) gates.1 right.2,
+      subst (λ w. IsGateSeatOf w.now a.3) gates.0 left.2,
+      subst (λ w. IsGateSeatOf w.now b.3) gates.1 right.2,
     )
 
 pub returns-clause-node : goal.returns-clause-node
