@@ -43,7 +43,7 @@ pub use Rattle.std.proofs.lemmas.Fn.{answers_by, serves_by}
 pub use Rattle.std.proofs.lemmas.Grind.{common_steps, div_ceil_times}
 pub use Rattle.std.proofs.lemmas.Iterator.{YieldsList, YieldsList-from_range, YieldsList-from_slice, items_from_drains}
 pub use Rattle.std.proofs.lemmas.Iterator.Consumers.{YieldsList-from_copied, YieldsList-from_first}
-pub use Rattle.std.proofs.lemmas.List.{drop-replicate, drop-take, drop_all, length-map, length-replicate, map-append, take_rest, replicate-append-replicate, take-replicate}
+pub use Rattle.std.proofs.lemmas.List.{drop-replicate, drop-take, drop_all, length-map, length-replicate, map-append, nil_from_length, take_rest, replicate-append-replicate, take-replicate}
 pub use Rattle.std.proofs.lemmas.List.Elements.{All-append, All-cons, All-contains, All-contains_itself, All-from_recursion, All-head, All-nil, All-push, All-tail, All-weaker, Contains-append_cases}
 pub use Rattle.std.proofs.lemmas.List.Elements.{Contains-append_left, Contains-append_right, Contains-push, Contains-push_cases, recursion_from_All}
 pub use Rattle.std.proofs.lemmas.List.FromFn.{length-range_with_len}

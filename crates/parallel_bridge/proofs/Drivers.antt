@@ -1,8 +1,6 @@
 -- What the bridge gives along a list's shape, by the consumers that are driven along it.
 use Rattle.parallel_bridge.proofs.Common.{◌≡◌, ℕ, List, [], ◌∷◌, ◌++◌, Result, Ok, Err, Option, IfOk, sym, subst, inl, inr, Trouble, Fault, FoldSegment, Cut, segment, halves, cut_items, Shape}
-use Rattle.parallel_bridge.proofs.Common.{AlongLeaves, UnlessRefused, TryAlongCut, OnlyOk, PartitionOf}
-use Rattle.std.specs.declared.vec.Vec.{Vec}
-use Rattle.std.specs.declared.alloc.Global.{Global}
+use Rattle.parallel_bridge.proofs.Common.{AlongLeaves, UnlessRefused, TryAlongCut, OnlyOk, PartitionOf, Vec, Global}
 use Rattle.parallel_bridge.proofs.Shapes.{Shape-items}
 use Rattle.parallel_bridge.proofs.FoldersAppend.{PartitionOf-append}
 

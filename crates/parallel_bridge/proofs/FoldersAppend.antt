@@ -1,9 +1,8 @@
--- For folders: taking some items, and then more, is taking all of them.
-use Rattle.parallel_bridge.proofs.Common.{◌≡◌, List, [], ◌∷◌, ◌++◌, Result, Ok, Err, Option, Some, None, refl, sym, ◌∙◌, ap, subst, append_assoc, inl, inr, IsTrue, is_err, Chain, OnlyOk, TryChain}
-use Rattle.parallel_bridge.proofs.Common.{PartitionOf, keys_in, keys_of, values_in, values_of, TryMapOnto, TryMapBehind, PartitionOnto, TryContinues}
-use Rattle.std.proofs.lemmas.List.{append-nil}
-use Rattle.std.specs.declared.vec.Vec.{Vec}
-use Rattle.std.specs.declared.alloc.Global.{Global}
+-- For folders: taking some items, and then more, is taking all of them; and one step of a loop over
+-- items that come, over plain variables.
+use Rattle.parallel_bridge.proofs.Common.{◌≡◌, List, [], ◌∷◌, ◌++◌, Result, Ok, Err, Option, Some, None, refl, sym, ◌∙◌, ap, subst, append_assoc, inl, inr, IsTrue, is_err, Chain, OnlyOk}
+use Rattle.parallel_bridge.proofs.Common.{TryChain, PartitionOf, keys_in, keys_of, values_in, values_of, TryMapOnto, TryMapBehind, PartitionOnto, TryContinues, Vec, Global, false, is_some, append-nil}
+use Rattle.parallel_bridge.proofs.Common.{ended}
 use Rattle.parallel_bridge.proofs.Shapes.{MapOf-append}
 
 module _ {X R : Type 0} (step : R → X → R → Type 0) where
@@ -165,3 +164,47 @@ values_in-push ps p = values_in-append ps (p ∷ [])
 pub keys_in-push : {K U : Type 0} (ps : List (Vec U Global × Vec K Global))
     (p : Vec U Global × Vec K Global) → keys_in (ps ++ p ∷ []) ≡ keys_in ps ++ p.1.items
 keys_in-push ps p = keys_in-append ps (p ∷ []) ∙ ap (λ l. keys_in ps ++ l) (append-nil p.1.items)
+
+module _ {X Y E : Type 0} (allowed : X → Result Y E → Type 0) where
+  -- the first item that is left fails
+  pub onto_fails : (before : List Y) (rest rest' : List X) (x : X) (f : E) → rest ≡ x ∷ rest'
+      → allowed x (Err f) → TryMapOnto allowed before rest (Err f)
+  onto_fails before rest rest' x f e one =
+      subst (λ l. TryMapOnto allowed before l (Err f)) (sym e) ([], x, rest', [], refl, tt, one)
+
+  -- the item fails where none did before it
+  pub first_fails : (values : List Y) (failed : Option E) (x : X) (e : E) → is_some failed ≡ false
+      → allowed x (Err e) → TryMapBehind allowed (ended values failed) (x ∷ []) (Err e)
+  first_fails values None x e none one = onto_fails values (x ∷ []) [] x e refl one
+  first_fails values (Some b) x e none one = absurd (cc none)
+
+module _ {X K U : Type 0} (allowed : X → (K × Option U) → Type 0) where
+  -- one item with a value
+  pub part_one_value : (values : List U) (keys : List K) (x : X) (p : K × Option U) (u : U)
+      (us : List U) → allowed x p → p.1 ≡ Some u → us ≡ values ++ u ∷ []
+      → PartitionOnto allowed values keys (x ∷ []) us keys
+  part_one_value values keys x p u us one is more = (
+    u ∷ [],
+    [],
+    more,
+    sym (append-nil keys),
+    ((p.0, Some u) ∷ [], (subst (λ v. allowed x (p.0, v)) is one, tt), refl, refl),
+  )
+
+  -- one item without a value
+  pub part_one_key : (values : List U) (keys : List K) (x : X) (p : K × Option U) (ks : List K)
+      → allowed x p → p.1 ≡ None → ks ≡ keys ++ p.0 ∷ []
+      → PartitionOnto allowed values keys (x ∷ []) values ks
+  part_one_key values keys x p ks one is more = (
+    [],
+    p.0 ∷ [],
+    sym (append-nil values),
+    more,
+    ((p.0, None) ∷ [], (subst (λ v. allowed x (p.0, v)) is one, tt), refl, refl),
+  )
+
+  -- nothing is left
+  pub part_end : (values : List U) (keys : List K) (rest : List X) → rest ≡ []
+      → PartitionOnto allowed values keys rest values keys
+  part_end values keys rest e = subst (λ l. PartitionOnto allowed values keys l values keys) (sym e)
+      ([], [], sym (append-nil values), sym (append-nil keys), ([], tt, refl, refl))

@@ -10,8 +10,7 @@ invariant_of-self g c =
     let same = ap (λ v. length v.items) c.self-2.view_is in let long = c.self-2.invariant.1 in
     let none : w.len ≡ 0 = omega arith in
     subst (λ n. IsRow w.cells.at w.base.ptr w.cells.slots w.room 0 n) (sym none)
-    (rewound_row w.cells.at w.base.ptr w.cells.slots w.room w.before w.len c.self-2.invariant
-    none).0
+    (rewound_row _ c.self-2.invariant none).0
 
 pub loop-item-init : goal.loop-item-init
 loop-item-init g c = search rules

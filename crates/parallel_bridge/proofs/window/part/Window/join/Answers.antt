@@ -10,9 +10,8 @@ join-requires g c =
     let v = c.into_parts-more_room.result in
     let R = param 0 g.row.T in
     let is = c.into_parts-more_room.ensures in
-    let long =
-    row_length w.cells.at w.base.ptr w.cells.slots w.room w.before w.len c.self.invariant in
-    let more = row_length v.4.at v.0.ptr v.4.slots v.1 v.2 v.3 is.row in
+    let long = row_length _ c.self.invariant in
+    let more = row_length _ is.row in
     let follows : v.0.ptr ≡ shifted R w.base.ptr w.room = subst
     (λ a. a.start ≡ shifted R w.base.ptr w.room) is.view
     (subst (λ a. c.args.right.start ≡ shifted R a.start a.room)
@@ -43,8 +42,7 @@ as_one g c =
       | inl h ↦ inl (ap (λ n. w.before + n) c.self.invariant.1 ∙ h.0, h.1)
       | inr h ↦ inr (is.row.1 ∙ ap length h)
     ] in
-    two_rows w.cells.at w.base.ptr w.cells.slots w.room w.before w.len c.self.invariant is.row
-    beside
+    two_rows _ c.self.invariant is.row beside
 
 pub invariant_of-result : goal.invariant_of-result
 invariant_of-result g c = moved c.self.inside.before c.join.ensures.0 c.join.ensures.1
