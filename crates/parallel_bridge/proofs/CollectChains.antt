@@ -1,6 +1,6 @@
 -- What a chain of `into_iter`, `map` and `collect` gives, where the closure has a relation only.
 use Rattle.parallel_bridge.proofs.Common.{◌≡◌, List, [], ◌∷◌, ◌++◌, refl, Option, None, Some, length, sym, subst, ◌∙◌, All, All-contains, AllZip, Contains-push, Yields, Drains, DrainsIf}
-use Rattle.parallel_bridge.proofs.Common.{HoldsAlong, CallableAtEachTurn, map_source, map_callee, serves_by, YieldsList, Chain}
+use Rattle.parallel_bridge.proofs.Common.{HoldsAlong, CallableAtEachTurn, map_source, map_callee, serves_by, YieldsList}
 use Rattle.std.specs.declared.iter.Map.{Map}
 use Rattle.std.specs.declared.vec.IntoIter.{IntoIter}
 use Rattle.std.specs.Vec.Iter.{into_iter_items, into_iter_len, into_iter_steps}
@@ -82,10 +82,3 @@ pub vec_yields : {A Z : Type 0} (xs : List A) (s t : IntoIter A Z) → t ≡ s �
     → into_iter_len s ≡ length xs → YieldsList (into_iter_steps {X = A} {Z = Z}) (λ y. y) t xs
 vec_yields xs s t same items long = subst (λ v. YieldsList into_iter_steps (λ y. y) v xs) (sym same)
     (YieldsList-from_vec xs items long)
-
--- one step more at the end of a chain
-pub chain_push : {X R : Type 0} (step : R → X → R → Type 0) (a : R) (xs : List X) (m : R) (x : X)
-    (b : R) → Chain step a xs m → step m x b → Chain step a (xs ++ x ∷ []) b
-chain_push step a [] m x b same last = (b, subst (λ v. step v x b) (sym same) last, refl)
-chain_push step a (y ∷ ys) m x b (n, first, rest) last =
-    (n, first, chain_push step n ys m x b rest last)

@@ -11,6 +11,11 @@ module _ {X R : Type 0} (step : R → X → R → Type 0) where
   chain_append a [] ys m b h k = subst (λ v. Chain step v ys b) (sym h) k
   chain_append a (x ∷ xs) ys m b (n, one, h) k = (n, one, chain_append n xs ys m b h k)
 
+  -- one step more at the end of a chain
+  pub chain_push : (a : R) (xs : List X) (m : R) (x : X) (b : R) → Chain step a xs m → step m x b
+      → Chain step a (xs ++ x ∷ []) b
+  chain_push a xs m x b h last = chain_append a xs (x ∷ []) m b h (b, last, refl)
+
   -- the same of a value that is an outcome
   pub chain_only : {E : Type 0} (a : R) (xs ys : List X) (m : R) (out : Result R E)
       → Chain step a xs m → OnlyOk (Chain step m ys) out → OnlyOk (Chain step a (xs ++ ys)) out
@@ -83,6 +88,12 @@ module _ {X Y E : Type 0} (allowed : X → Result Y E → Type 0) where
   behind_rests (Ok before) = ([], sym (append-nil before), tt)
   behind_rests (Err e) = refl
 
+  -- the item fails where none did before it
+  pub first_fails : (values : List Y) (failed : Option E) (x : X) (e : E) → is_some failed ≡ false
+      → allowed x (Err e) → TryMapBehind allowed (ended values failed) (x ∷ []) (Err e)
+  first_fails values None x e none one = ([], x, [], [], refl, tt, one)
+  first_fails values (Some b) x e none one = absurd (cc none)
+
 -- the values and keys of two parts one after another
 pub values_of-append : {K U : Type 0} (ps qs : List (K × Option U))
     → values_of (ps ++ qs) ≡ values_of ps ++ values_of qs
@@ -118,6 +129,35 @@ module _ {X K U : Type 0} (allowed : X → (K × Option U) → Type 0) where
         at_ks' ∙ ap (λ l. l ++ more_ks) at_ks ∙ append_assoc keys new_ks more_ks,
         PartitionOf-append xs ys new_us more_us new_ks more_ks part part',
       )
+
+  -- one item with a value
+  pub part_one_value : (values : List U) (keys : List K) (x : X) (p : K × Option U) (u : U)
+      (us : List U) → allowed x p → p.1 ≡ Some u → us ≡ values ++ u ∷ []
+      → PartitionOnto allowed values keys (x ∷ []) us keys
+  part_one_value values keys x p u us one is more = (
+    u ∷ [],
+    [],
+    more,
+    sym (append-nil keys),
+    ((p.0, Some u) ∷ [], (subst (λ v. allowed x (p.0, v)) is one, tt), refl, refl),
+  )
+
+  -- one item without a value
+  pub part_one_key : (values : List U) (keys : List K) (x : X) (p : K × Option U) (ks : List K)
+      → allowed x p → p.1 ≡ None → ks ≡ keys ++ p.0 ∷ []
+      → PartitionOnto allowed values keys (x ∷ []) values ks
+  part_one_key values keys x p ks one is more = (
+    [],
+    p.0 ∷ [],
+    sym (append-nil values),
+    more,
+    ((p.0, None) ∷ [], (subst (λ v. allowed x (p.0, v)) is one, tt), refl, refl),
+  )
+
+  -- nothing is left
+  pub part_end : (values : List U) (keys : List K) → PartitionOnto allowed values keys [] values keys
+  part_end values keys =
+      ([], [], sym (append-nil values), sym (append-nil keys), ([], tt, refl, refl))
 
 -- the same of lists that are an outcome
 pub part_only : {X K U E : Type 0} (allowed : X → (K × Option U) → Type 0) (values us : List U)
@@ -155,56 +195,12 @@ lists_joined all left right same = (
 )
 
 -- with one pair of lists more come its values
-pub values_in-push : {K U : Type 0} (ps : List (Vec U Global × Vec K Global))
+pub values_pushed : {K U : Type 0} (ps : List (Vec U Global × Vec K Global))
     (p : Vec U Global × Vec K Global) → values_in (ps ++ p ∷ []) ≡ values_in ps ++ p.0.items
-values_in-push ps p = values_in-append ps (p ∷ [])
+values_pushed ps p = values_in-append ps (p ∷ [])
     ∙ ap (λ l. values_in ps ++ l) (append-nil p.0.items)
 
 -- and its keys
-pub keys_in-push : {K U : Type 0} (ps : List (Vec U Global × Vec K Global))
+pub keys_pushed : {K U : Type 0} (ps : List (Vec U Global × Vec K Global))
     (p : Vec U Global × Vec K Global) → keys_in (ps ++ p ∷ []) ≡ keys_in ps ++ p.1.items
-keys_in-push ps p = keys_in-append ps (p ∷ []) ∙ ap (λ l. keys_in ps ++ l) (append-nil p.1.items)
-
-module _ {X Y E : Type 0} (allowed : X → Result Y E → Type 0) where
-  -- the first item that is left fails
-  pub onto_fails : (before : List Y) (rest rest' : List X) (x : X) (f : E) → rest ≡ x ∷ rest'
-      → allowed x (Err f) → TryMapOnto allowed before rest (Err f)
-  onto_fails before rest rest' x f e one =
-      subst (λ l. TryMapOnto allowed before l (Err f)) (sym e) ([], x, rest', [], refl, tt, one)
-
-  -- the item fails where none did before it
-  pub first_fails : (values : List Y) (failed : Option E) (x : X) (e : E) → is_some failed ≡ false
-      → allowed x (Err e) → TryMapBehind allowed (ended values failed) (x ∷ []) (Err e)
-  first_fails values None x e none one = onto_fails values (x ∷ []) [] x e refl one
-  first_fails values (Some b) x e none one = absurd (cc none)
-
-module _ {X K U : Type 0} (allowed : X → (K × Option U) → Type 0) where
-  -- one item with a value
-  pub part_one_value : (values : List U) (keys : List K) (x : X) (p : K × Option U) (u : U)
-      (us : List U) → allowed x p → p.1 ≡ Some u → us ≡ values ++ u ∷ []
-      → PartitionOnto allowed values keys (x ∷ []) us keys
-  part_one_value values keys x p u us one is more = (
-    u ∷ [],
-    [],
-    more,
-    sym (append-nil keys),
-    ((p.0, Some u) ∷ [], (subst (λ v. allowed x (p.0, v)) is one, tt), refl, refl),
-  )
-
-  -- one item without a value
-  pub part_one_key : (values : List U) (keys : List K) (x : X) (p : K × Option U) (ks : List K)
-      → allowed x p → p.1 ≡ None → ks ≡ keys ++ p.0 ∷ []
-      → PartitionOnto allowed values keys (x ∷ []) values ks
-  part_one_key values keys x p ks one is more = (
-    [],
-    p.0 ∷ [],
-    sym (append-nil values),
-    more,
-    ((p.0, None) ∷ [], (subst (λ v. allowed x (p.0, v)) is one, tt), refl, refl),
-  )
-
-  -- nothing is left
-  pub part_end : (values : List U) (keys : List K) (rest : List X) → rest ≡ []
-      → PartitionOnto allowed values keys rest values keys
-  part_end values keys rest e = subst (λ l. PartitionOnto allowed values keys l values keys) (sym e)
-      ([], [], sym (append-nil values), sym (append-nil keys), ([], tt, refl, refl))
+keys_pushed ps p = keys_in-append ps (p ∷ []) ∙ ap (λ l. keys_in ps ++ l) (append-nil p.1.items)

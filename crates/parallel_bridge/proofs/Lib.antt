@@ -5,7 +5,7 @@ pub mod Bracketings
 pub mod CollectChains
 pub mod IteratorItems
 pub mod WriteIter
-mod Ranges
+pub mod Ranges
 pub mod Halves
 pub mod SegmentLengths
 pub mod Laws

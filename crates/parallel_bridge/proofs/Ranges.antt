@@ -1,5 +1,5 @@
 -- The numbers from one on up to another.
-use Rattle.parallel_bridge.proofs.Common.{◌≡◌, ℕ, zero, suc, ◌≤◌, ◌<◌, ◌+◌, ◌-◌, List, ◌∷◌, ◌++◌, ap, ◌∙◌, arith, All, AllByRecursion, range_with_len, All-from_recursion}
+use Rattle.parallel_bridge.proofs.Common.{◌≡◌, ℕ, zero, suc, ◌≤◌, ◌<◌, ◌+◌, ◌-◌, List, ◌∷◌, ◌++◌, ap, ◌∙◌, arith, All, AllByRecursion, range_with_len, length, length-range_with_len, All-from_recursion}
 
 between : (K : ℕ → Type 0) (a n : ℕ) → ((x : ℕ) → a ≤ x → x < a + n → K x)
     → AllByRecursion K (range_with_len a n)
@@ -35,3 +35,7 @@ indices_split a b index xs ys within front back =
     ap (λ l. l ++ ys) (front ∙ ap (range_with_len a) m)
     ∙ (ap (λ l. range_with_len a index ++ l) back
     ∙ (joins a index (b - (a + index)) ∙ ap (range_with_len a) n))
+
+-- there are so many
+pub indices_long : (a n : ℕ) → length (range_with_len a n) ≡ n
+indices_long a n = length-range_with_len a n

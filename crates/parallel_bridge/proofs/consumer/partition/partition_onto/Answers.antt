@@ -1,10 +1,10 @@
 -- One turn is one value or one key more.
-use Rattle.parallel_bridge.proofs.{rules, ◌∷◌, [], refl, next_has, part_append, part_end, part_one_value, part_one_key}
+use Rattle.parallel_bridge.proofs.{rules, ◌∷◌, [], next_has, part_append, part_end, part_one_value, part_one_key}
 use Rattle.parallel_bridge.proofs.consumer.partition.partition_onto.Goals as goal
 
 pub loop-item-init : goal.loop-item-init
 loop-item-init g c =
-    part_end (goal.F-post g c.args.map_op.now) c.args.values.items c.args.keys.items [] refl
+    part_end (goal.F-post g c.args.map_op.now) c.args.values.items c.args.keys.items
 
 pub map_op-key-requires : goal.map_op-key-requires
 map_op-key-requires g c = next_has g.I.Iterator.next_gives

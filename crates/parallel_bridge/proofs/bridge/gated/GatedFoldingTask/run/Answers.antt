@@ -1,5 +1,5 @@
 -- A list that is not split is one segment.
-use Rattle.parallel_bridge.proofs.{Ok, Err, IfOk, List, Result, [], ◌++◌, ◌∙◌, ◌<◌, refl, subst, append-nil, Infallible, Closure, GivesSome, OnlyOk, TryFoldSegment, TryReducedSegment, GateWatch, Halt}
+use Rattle.parallel_bridge.proofs.{Ok, Err, IfOk, List, Result, [], ◌++◌, ◌<◌, refl, subst, append-nil, Infallible, Closure, GivesSome, OnlyOk, TryFoldSegment, TryReducedSegment, GateWatch, Halt}
 use Rattle.parallel_bridge.proofs.{IsGateSeatOf, IsWatching, known, stands_for, HaltsOnward, TellsAs, halting, driven_leaf, leaf_ends, leaf_halts, Comes, comes_onward, folded_halt, folded_value, halts_rests}
 use Rattle.parallel_bridge.proofs.bridge.gated.GatedFoldingTask.run.Given.{Over}
 use Rattle.parallel_bridge.proofs.bridge.gated.GatedFoldingTask.run.Goals.{In-Ok}
