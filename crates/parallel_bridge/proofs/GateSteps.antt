@@ -104,9 +104,7 @@ moves : (n slots id : ℕ) (me : Me (Unit {0}) GateView) (next : ℕ → ℕ)
     → Allows (λ (s : State (Unit {0}) GateView). IsGateOf n s.words s.views) slots id me 0 next
     (λ found after. (after.0 ≡ then me.0 found) × (after.1 ≡ me.1))
 moves n slots id me next then step s h homes at small =
-    let word : ℕ = h.0 in
-    let kept : KeepsGate n word s.views = h.2 in
-    let v : GateView = me.0 in
+    let word : ℕ = h.0 in let kept : KeepsGate n word s.views = h.2 in let v : GateView = me.0 in
     let w : GateView = then v (slice_index s.words 0) in
     let (less, same, fits, from, stays) = step word (slice_index s.words 0)
     (ap (λ ws. slice_index ws 0) h.1) (kept.fits id v at) in (
@@ -171,8 +169,7 @@ parts : (n id : ℕ) (v left right : GateView) → left.seats + right.seats ≡ 
     → right.told ≡ [] → right.least ≡ greatest
     → Splits (λ (s : State (Unit {0}) GateView). IsGateOf n s.words s.views) id v left right
 parts n id v left right sum told least idle silent unseen s h at =
-    let word : ℕ = h.0 in
-    let kept : KeepsGate n word s.views = h.2 in
+    let word : ℕ = h.0 in let kept : KeepsGate n word s.views = h.2 in
     let mine : FitsGate word v = kept.fits id v at in
     let views : List GateView = set s.views id left in (
       word,
@@ -222,10 +219,8 @@ pub joins : (n id : ℕ) (v : GateView) (other : ℕ) (w : GateView)
     → Joins (λ (s : State (Unit {0}) GateView). IsGateOf n s.words s.views) id v other w
     (gathered v w) (newcomer 0)
 joins n id v other w s h at two at' =
-    let word : ℕ = h.0 in
-    let kept : KeepsGate n word s.views = h.2 in
-    let both : GateView = gathered v w in
-    let views : List GateView = set s.views id both in
+    let word : ℕ = h.0 in let kept : KeepsGate n word s.views = h.2 in
+    let both : GateView = gathered v w in let views : List GateView = set s.views id both in
     let was : get_elem? s.views other ≡ some w =
     ⊎_elim (λ x. absurd (two x.0)) (λ x. x.1) (at_set s.views id other both w at') in
     let mine : FitsGate word v = kept.fits id v at in
@@ -254,8 +249,7 @@ joins n id v other w s h at two at' =
               seen = omega (arith, mine.seen, theirs.seen);
               told = All-append (λ start. word ≤ start) v.told w.told mine.told theirs.told;
               idle = λ none.
-                  let left : v.seats ≡ 0 = omega arith in
-                  let right : w.seats ≡ 0 = omega arith in
+                  let left : v.seats ≡ 0 = omega arith in let right : w.seats ≡ 0 = omega arith in
                   (λ i. mine.idle left i ++ theirs.idle right i);
             })
             (λ by u e. kept.fits by u e));
@@ -267,8 +261,7 @@ joins n id v other w s h at two at' =
         → get_elem? views id ≡ some v → get_elem? views other ≡ some w → ¬ (other ≡ id)
         → WasTold word views → WasTold word (set (set views id (gathered v w)) other (newcomer 0))
     taken_in views id v w other word at was two (by, u, here, has) =
-        let both : GateView = gathered v w in
-        let apart : ¬ (id ≡ other) = λ e. two (sym e) in
+        let both : GateView = gathered v w in let apart : ¬ (id ≡ other) = λ e. two (sym e) in
         let stands : get_elem? (set (set views id both) other (newcomer 0)) id ≡ some both =
         set_else (set views id both) other id (newcomer 0) apart
         ∙ set_here views id both (there views id v at) in

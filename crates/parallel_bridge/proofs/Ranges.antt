@@ -16,8 +16,7 @@ indices_between a b = All-from_recursion (λ x. (a ≤ x) × (x < b)) (range_wit
 
 joins : (a m n : ℕ) → range_with_len a m ++ range_with_len (a + m) n ≡ range_with_len a (m + n)
 joins a zero n =
-    let here : a + 0 ≡ a = omega arith in
-    let all : n ≡ 0 + n = omega arith in
+    let here : a + 0 ≡ a = omega arith in let all : n ≡ 0 + n = omega arith in
     ap (λ k. range_with_len k n) here ∙ ap (range_with_len a) all
 joins a (suc m) n =
     let there : a + suc m ≡ a + 1 + m = omega arith in

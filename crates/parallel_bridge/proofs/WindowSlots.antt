@@ -52,21 +52,18 @@ module _ {X : Type 0} where
       → take i (laid 0 xs r) ≡ laid 0 (take i xs) k
   front_of zero xs r k e le = let none : 0 ≡ k = omega arith in ap empty none
   front_of (suc i) [] r k e le =
-      let more : k ≡ suc i - 0 = e in
-      let same : suc i ≡ k = omega arith in
+      let more : k ≡ suc i - 0 = e in let same : suc i ≡ k = omega arith in
       let within : suc i ≤ 0 + r = le in
       take-replicate (suc i) r None (omega arith) ∙ ap empty same
   front_of (suc i) (x ∷ xs) r k e le =
-      let more : k ≡ suc i - suc (length xs) = e in
-      let within : suc i ≤ suc (length xs) + r = le in
+      let more : k ≡ suc i - suc (length xs) = e in let within : suc i ≤ suc (length xs) + r = le in
       ap (λ l. Some x ∷ l) (front_of i xs r k (omega arith) (omega arith))
 
   pub back_of : (i : ℕ) (xs : List X) (r k : ℕ) → k ≡ r - (i - length xs)
       → drop i (laid 0 xs r) ≡ laid 0 (drop i xs) k
   back_of zero xs r k e = let same : r ≡ k = omega arith in ap (λ n. map Some xs ++ empty n) same
   back_of (suc i) [] r k e =
-      let more : k ≡ r - (suc i - 0) = e in
-      let same : r - suc i ≡ k = omega arith in
+      let more : k ≡ r - (suc i - 0) = e in let same : r - suc i ≡ k = omega arith in
       drop-replicate (suc i) r None ∙ ap empty same
   back_of (suc i) (x ∷ xs) r k e =
       let more : k ≡ r - (suc i - suc (length xs)) = e in
@@ -112,8 +109,7 @@ last_of : {X : Type 0} (xs : List X) → 0 < length xs → (x : X)
 last_of [] some = absurd (omega arith)
 last_of (x ∷ []) some = (x, ([], refl))
 last_of (x ∷ y ∷ xs) some =
-    let more : 0 < suc (length xs) = omega arith in
-    let (z, (ys, e)) = last_of (y ∷ xs) more in
+    let more : 0 < suc (length xs) = omega arith in let (z, (ys, e)) = last_of (y ∷ xs) more in
     (z, (x ∷ ys, ap (λ l. x ∷ l) e))
 
 module _ {X : Type 0} {at start : Ptr} {slots : List (Option X)} {room n : ℕ} (b : ℕ)
@@ -138,8 +134,7 @@ module _ {X : Type 0} {at start : Ptr} {slots : List (Option X)} {room n : ℕ} 
   put_row x is lt =
       let fits : b + length items < room =
       subst (λ (u : View X). u.before + length u.items < u.room) (sym is) lt in
-      let wide = row_length in
-      let more : left ≡ suc (left - 1) = omega arith in
+      let wide = row_length in let more : left ≡ suc (left - 1) = omega arith in
       let put = next_place b items None (Some x) (empty (left - 1)) slots (b + n)
       (row.3 ∙ ap (laid b items) more
       ∙ sym (append_assoc (empty b) (map Some items) (empty (suc (left - 1))))) (omega arith) in
@@ -154,8 +149,7 @@ module _ {X : Type 0} {at start : Ptr} {slots : List (Option X)} {room n : ℕ} 
       × (items ≡ x ∷ values (set slots b None)))
   take_row is has =
       let first = first_of items (subst (λ (u : View X). 0 < length u.items) (sym is) has) in
-      let x = first.0 in
-      let ys = first.1.0 in
+      let x = first.0 in let ys = first.1.0 in
       let shorter : length items ≡ suc (length ys) = ap length first.1.1 in
       let on : suc b ≡ b + 1 = omega arith in
       let out = next_place b [] (Some x) None (map Some ys ++ empty left) slots b
@@ -172,8 +166,7 @@ module _ {X : Type 0} {at start : Ptr} {slots : List (Option X)} {room n : ℕ} 
       × (items ≡ values (set slots (b + n - 1) None) ++ x ∷ []))
   back_row is has =
       let last = last_of items (subst (λ (u : View X). 0 < length u.items) (sym is) has) in
-      let x = last.0 in
-      let ys = last.1.0 in
+      let x = last.0 in let ys = last.1.0 in
       let shorter : length items ≡ length (ys ++ x ∷ []) = ap length last.1.1 in
       let one = length-append ys (x ∷ []) in
       let out = next_place b ys (Some x) None (empty left) slots (b + n - 1)
@@ -218,10 +211,8 @@ module _ {X : Type 0} {at start : Ptr} {slots : List (Option X)} {room n : ℕ} 
       → IsRow at start (slots ++ slots') (room + room') b (n + n')
       × (values (slots ++ slots') ≡ items ++ values slots')
   two_rows {slots' = slots'} {room' = room'} {b' = b'} {n' = n'} other (inl full) =
-      let xs = values slots' in
-      let long : n ≡ length items = row.1 in
-      let more : n' ≡ length xs = other.1 in
-      let sum = length-append items xs in
+      let xs = values slots' in let long : n ≡ length items = row.1 in
+      let more : n' ≡ length xs = other.1 in let sum = length-append items xs in
       let within = other.2 in
       let nothing : left ≡ 0 = omega arith in let rest = room' - (b' + n') in
       let now : slots ++ slots' ≡ laid b (items ++ xs) rest =
@@ -230,10 +221,8 @@ module _ {X : Type 0} {at start : Ptr} {slots : List (Option X)} {room n : ℕ} 
       is_row at start (slots ++ slots') (room + room') b (n + n') (items ++ xs) rest row.0 now
       (omega arith) (omega arith)
   two_rows {slots' = slots'} {room' = room'} {b' = b'} {n' = n'} other (inr none) =
-      let xs = values slots' in
-      let nothing : xs ≡ [] = nil_from_length xs (omega arith) in
-      let rest = room' - (b' + n') in
-      let sum = length-append items xs in
+      let xs = values slots' in let nothing : xs ≡ [] = nil_from_length xs (omega arith) in
+      let rest = room' - (b' + n') in let sum = length-append items xs in
       let now : slots ++ slots' ≡ laid b items (left + (b' + rest)) =
       (λ i. row.3 i ++ (other.3 ∙ ap (λ zs. laid b' zs rest) nothing) i)
       ∙ then_none b items left b' rest (left + (b' + rest)) refl in
@@ -282,8 +271,7 @@ pub closed_rows : {X : Type 0} (at start : Ptr) (slots tail : List (Option X)) (
 closed_rows at start slots tail room n c row empty_tail le =
     let rest = is_row at at tail (c - room) 0 0 [] (c - room) refl empty_tail refl (omega arith) in
     let all = two_rows 0 row {room' = c - room} {b' = 0} {n' = 0} rest.0 (inr refl) in
-    let wide = row_length 0 all.0 in
-    let none = ap length rest.1 in
+    let wide = row_length 0 all.0 in let none = ap length rest.1 in
     let same : values (slots ++ tail) ≡ values slots = all.1 ∙ ap (λ l. values slots ++ l) rest.1
     ∙ append-nil (values slots) in
     let counted : n + 0 ≡ length (values (slots ++ tail)) = all.0.1 in

@@ -37,8 +37,7 @@ returns-in-Err-clause-gives g c =
 
 pub returns-clause-full : goal.returns-clause-full
 returns-clause-full g c =
-    let so_far = c.loop-room.invariant in
-    let came = so_far.came in
+    let so_far = c.loop-room.invariant in let came = so_far.came in
     let more = c.pass_over-2.ensures in
     let all = c.requires.enough (came.0 ++ more.0)
     (all_of g.I.Iterator.next_gives came.0 more.0 c.args.iter c.loop-room.iter came.1 more.1) in

@@ -6,8 +6,7 @@ pub returns-in-Ok : goal.returns-in-Ok
 returns-in-Ok g c =
     let is : c.args.path ≡ Serial = search rules in
     let identity = goal.ID-post g c.args.identity.now in
-    let step = goal.F-post g c.args.fold_op.now in
-    let w = c.try_fold_iter.ensures in
+    let step = goal.F-post g c.args.fold_op.now in let w = c.try_fold_iter.ensures in
     record {
       folds = (
         w.0,
@@ -23,8 +22,7 @@ pub returns-in-Err : goal.returns-in-Err
 returns-in-Err g c =
     let is : c.args.path ≡ Serial = search rules in
     let identity = goal.ID-post g c.args.identity.now in
-    let step = goal.F-post g c.args.fold_op.now in
-    let w = c.try_fold_iter.ensures in
+    let step = goal.F-post g c.args.fold_op.now in let w = c.try_fold_iter.ensures in
     record {
       folds = (
         w.0,
@@ -41,8 +39,7 @@ returns-in-Parallel g c =
     let is : c.args.path ≡ Parallel = search rules in
     let identity = goal.ID-post g c.args.identity.now in
     let step = goal.F-post g c.args.fold_op.now in
-    let reduce = goal.G-post g c.args.reduce_op.now in
-    let k = cutdepth c.args.threads.value in
+    let reduce = goal.G-post g c.args.reduce_op.now in let k = cutdepth c.args.threads.value in
     let gives = g.P.Parts.gives in
     record {
       folds = unless_weaker c.try_fold_parallel.result (λ out. GivesSome gives c.args.parts

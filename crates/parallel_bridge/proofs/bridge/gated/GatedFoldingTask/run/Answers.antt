@@ -40,16 +40,12 @@ fed_all g c =
 
 pub returns-in-Ok-control : goal.returns-in-Ok-control
 returns-in-Ok-control g c depth short =
-    let self = c.args.self in
-    let identity = goal.ID-post g self.identity.now in
-    let step = goal.F-post g self.fold_op.now in
-    let reduce = goal.G-post g self.reduce_op.now in
+    let self = c.args.self in let identity = goal.ID-post g self.identity.now in
+    let step = goal.F-post g self.fold_op.now in let reduce = goal.G-post g self.reduce_op.now in
     let leaf = halting (TryReducedSegment identity (TryFoldSegment identity step) reduce) in
     let node = λ (p : g.row.R.Denot) (q : g.row.R.Denot). OnlyOk (reduce p q) in
-    let first = c.begin-folder.result in
-    let last = c.in-Ok.folder in
-    let fed = fed_all g (goal.at.returns-in-Ok-control g c).In-Ok in
-    let all = fed.2 in
+    let first = c.begin-folder.result in let last = c.in-Ok.folder in
+    let fed = fed_all g (goal.at.returns-in-Ok-control g c).In-Ok in let all = fed.2 in
     let onward = subst (HaltsOnward step first.control fed.0) c.in-Ok-control.is all.0 in (
       driven_leaf g.S.Segment.gives self.parts leaf node depth (Ok c.reduce_op-value.result) short (
         fed.0,
@@ -70,16 +66,12 @@ returns-in-Ok-control g c depth short =
 
 pub returns-in-Err-control : goal.returns-in-Err-control
 returns-in-Err-control g c depth short =
-    let self = c.args.self in
-    let identity = goal.ID-post g self.identity.now in
-    let step = goal.F-post g self.fold_op.now in
-    let reduce = goal.G-post g self.reduce_op.now in
+    let self = c.args.self in let identity = goal.ID-post g self.identity.now in
+    let step = goal.F-post g self.fold_op.now in let reduce = goal.G-post g self.reduce_op.now in
     let leaf = halting (TryReducedSegment identity (TryFoldSegment identity step) reduce) in
     let node = λ (p : g.row.R.Denot) (q : g.row.R.Denot). OnlyOk (reduce p q) in
-    let first = c.begin-folder.result in
-    let last = c.in-Ok.folder in
-    let fed = fed_all g (goal.at.returns-in-Err-control g c).In-Ok in
-    let all = fed.2 in
+    let first = c.begin-folder.result in let last = c.in-Ok.folder in
+    let fed = fed_all g (goal.at.returns-in-Err-control g c).In-Ok in let all = fed.2 in
     let onward = subst (HaltsOnward step first.control fed.0) c.in-Err-control.is all.0 in (
       driven_leaf g.S.Segment.gives self.parts leaf node depth
           (Err (Closure c.in-Err-control.halt)) short (

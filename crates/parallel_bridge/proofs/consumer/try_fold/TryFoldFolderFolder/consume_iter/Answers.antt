@@ -4,8 +4,7 @@ use Rattle.parallel_bridge.proofs.consumer.try_fold.TryFoldFolderFolder.consume_
 
 pub returns-clause-gives : goal.returns-clause-gives
 returns-clause-gives g c =
-    let self = c.args.self in
-    let step = goal.F-post g self.fold_op.now in
+    let self = c.args.self in let step = goal.F-post g self.fold_op.now in
     let w = c.try_fold_from-control.ensures in (
       w.0,
       w.1,

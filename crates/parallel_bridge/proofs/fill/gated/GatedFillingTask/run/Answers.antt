@@ -4,10 +4,8 @@ use Rattle.parallel_bridge.proofs.fill.gated.GatedFillingTask.run.Goals as goal
 
 pub returns-in-Ok : goal.returns-in-Ok
 returns-in-Ok g c depth short =
-    let self = c.args.self in
-    let room = c.write_watched-done.new.room in
-    let watch = c.write_watched-done.new.watch in
-    let written = c.write_watched-done.ensures in
+    let self = c.args.self in let room = c.write_watched-done.new.room in
+    let watch = c.write_watched-done.new.watch in let written = c.write_watched-done.ensures in
     let leaf =
     halting (Answered (g.W.Writer.so_far self.writer.now) (g.W.Writer.fails self.writer.now)) in (
       (
@@ -27,10 +25,8 @@ returns-in-Ok g c depth short =
 
 pub returns-in-Err : goal.returns-in-Err
 returns-in-Err g c depth short =
-    let self = c.args.self in
-    let room = c.write_watched-done.new.room in
-    let watch = c.write_watched-done.new.watch in
-    let written = c.write_watched-done.ensures in
+    let self = c.args.self in let room = c.write_watched-done.new.room in
+    let watch = c.write_watched-done.new.watch in let written = c.write_watched-done.ensures in
     let leaf =
     halting (Answered (g.W.Writer.so_far self.writer.now) (g.W.Writer.fails self.writer.now)) in (
       (

@@ -54,10 +54,9 @@ pub returns-clause-left : goal.returns-clause-left
 returns-clause-left g c =
     let s = (goal.at.returns-clause-left g c).After-split-front in let inv = c.self.invariant in
     let w = c.self.inside in let m = c.if-len-index.filled in let i = c.args.index in
-    let e = c.split-front.ensures in
     let front = front_row _ inv i
     (nothing_before g s) (within g s) m (in_front g s) in
-    ap (part w.base.ptr i 0) (ap values e.1 ∙ front.1)
+    ap (part w.base.ptr i 0) (ap values c.split-front.ensures.1 ∙ front.1)
     ∙ ap (λ v. part v.start i 0 (take i v.items)) c.self.view_is
 
 pub returns-clause-right : goal.returns-clause-right
