@@ -155,7 +155,8 @@ module _ {X K U : Type 0} (allowed : X → (K × Option U) → Type 0) where
   )
 
   -- nothing is left
-  pub part_end : (values : List U) (keys : List K) → PartitionOnto allowed values keys [] values keys
+  pub part_end : (values : List U) (keys : List K)
+      → PartitionOnto allowed values keys [] values keys
   part_end values keys =
       ([], [], sym (append-nil values), sym (append-nil keys), ([], tt, refl, refl))
 

@@ -1,7 +1,7 @@
 -- Who stands for all seats of a gate knows of all that was told.
 use Rattle.parallel_bridge.proofs.Common.{◌≡◌, ℕ, ◌+◌, ◌≤◌, ◌<◌, ◌⊎◌, List, [], ◌∷◌, ◌++◌, All, Contains, length, set, sum_by, sym, ap, subst, ◌∙◌, ⊎_elim, inl, inr, arith, All-head, All-weaker}
 use Rattle.parallel_bridge.proofs.Common.{All-contains_itself, Contains-append_left, Contains-append_cases, Contains-push, Contains-push_cases, sum_by_push, some}
-use Rattle.parallel_bridge.proofs.Common.{some-injective, get_elem?, dite, ℕ_discrete, set_else, GateView, GateSeat, greatest, newcomer, gathered, WasTold, FitsGate, KeepsGate, IsGateOf, known}
+use Rattle.parallel_bridge.proofs.Common.{some-injective, get_elem?, dite, ℕ_discrete, set_else, GateView, GateSeat, greatest, newcomer, gathered, WasTold, KeepsGate, IsGateOf, known}
 use Rattle.parallel_bridge.proofs.Common.{stands_for, ToldByOne, IsAtMost}
 use Rattle.parallel_bridge.proofs.Laws.{all_left, all_right}
 use Rattle.parallel_bridge.proofs.GateSteps.{held, held_set, one_of}
@@ -26,14 +26,10 @@ final_told n word views id v kept at all = ⊎_elim (λ (e : word ≡ greatest).
         let none : u.told ≡ [] = (kept.fits by u here).idle (omega arith) in
         absurd (omega (arith, (subst (λ l. Contains l word) none has).1)))
 
--- it is at most all that was told or seen
-pub final_at_most : (word : ℕ) (v : GateView) → FitsGate word v → IsAtMost word v
-final_at_most word v fits = (fits.told, fits.seen)
-
 -- the word that a gate is closed with is one that keeps the rule
-pub final_keeps : (n result : ℕ) (words ws : List ℕ) (views : List GateView)
+pub final_keeps : (n result : ℕ) {words ws : List ℕ} {views : List GateView}
     → IsGateOf n words views → words ≡ ws → get_elem? ws 0 ≡ some result → KeepsGate n result views
-final_keeps n result words ws views h are is =
+final_keeps n result {views = views} h are is =
     let e : some h.0 ≡ some result =
     ap (λ l. get_elem? l 0) (sym h.1) ∙ ap (λ l. get_elem? l 0) are ∙ is in
     subst (λ k. KeepsGate n k views) (some-injective h.0 result e) h.2

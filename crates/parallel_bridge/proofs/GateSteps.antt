@@ -119,8 +119,8 @@ moves n slots id me next then step s h homes at small =
           seats = omega (arith, kept.seats, held_set s.views id v w at, same);
           source = ⊎_elim (λ (e : next word ≡ word).
               ⊎_elim (λ (none : word ≡ greatest). inl (e ∙ none))
-              (λ (told : WasTold word s.views). inr (subst (λ k. WasTold k (set s.views id w)) (sym e)
-              (still_told s.views id v w word at (stays word) told))) kept.source)
+              (λ (told : WasTold word s.views). inr (subst (λ k. WasTold k (set s.views id w))
+              (sym e) (still_told s.views id v w word at (stays word) told))) kept.source)
               (λ (has : Contains w.told (next word)).
               inr (id, w, set_here s.views id w (there s.views id v at), has))
               from;

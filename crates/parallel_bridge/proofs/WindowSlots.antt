@@ -242,33 +242,32 @@ module _ {X : Type 0} {at start : Ptr} {slots : List (Option X)} {room n : ℕ} 
       ((is_row at start slots room 0 0 [] room row.0 now refl (omega arith)).0, no)
 
 -- a block that begins with its items is one row
-pub whole_row : {X : Type 0} (at start : Ptr) (slots : List (Option X)) (c n : ℕ) (xs : List X)
+pub whole_row : {X : Type 0} {at start : Ptr} {slots : List (Option X)} (c n : ℕ) (xs : List X)
     → at ≡ start → slots ≡ laid 0 xs (c - length xs) → n ≡ length xs → n ≤ c
     → IsRow at start slots c 0 n × (values slots ≡ xs)
-whole_row at start slots c n xs a e long le =
+whole_row {at = at} {start = start} {slots = slots} c n xs a e long le =
     is_row at start slots c 0 n xs (c - length xs) a e long (omega arith)
 
 -- a block that begins with its items, cut behind them
-pub opened_rows : {X : Type 0} (at start : Ptr) (slots : List (Option X)) (c i n : ℕ) (xs : List X)
+pub opened_rows : {X : Type 0} {at start : Ptr} {slots : List (Option X)} (c i n : ℕ) (xs : List X)
     → at ≡ start → slots ≡ laid 0 xs (c - length xs) → n ≡ length xs → n ≤ i → i ≤ c
-    → (i ≤ length slots) × (IsRow at start (take i slots) i 0 n × (values (take i slots) ≡ xs))
+    → (IsRow at start (take i slots) i 0 n × (values (take i slots) ≡ xs))
     × (drop i slots ≡ replicate (c - i) None)
-opened_rows at start slots c i n xs a e long le lc =
-    let whole = whole_row at start slots c n xs a e long (omega arith) in
+opened_rows c i n xs a e long le lc =
+    let whole = whole_row c n xs a e long (omega arith) in
     let front = front_row 0 whole.0 i refl lc n (le, omega arith, inl refl) in (
-      in_row 0 whole.0 i refl lc,
       (front.0, front.1 ∙ ap (take i) whole.1 ∙ take_all i xs (omega arith)),
       ap (drop i) e ∙ back_of i xs (c - length xs) (c - i) (omega arith)
           ∙ ap (λ l. laid 0 l (c - i)) (drop_all i xs (omega arith)),
     )
 
 -- a row of items with the empty places behind it is a block
-pub closed_rows : {X : Type 0} (at start : Ptr) (slots tail : List (Option X)) (room n c : ℕ)
+pub closed_rows : {X : Type 0} {at start : Ptr} {slots tail : List (Option X)} {room n : ℕ} (c : ℕ)
     → IsRow at start slots room 0 n → tail ≡ replicate (c - room) None → room ≤ c
     → (length (slots ++ tail) ≡ c) × (length (values (slots ++ tail)) ≡ n)
     × (slots ++ tail ≡ laid 0 (values (slots ++ tail)) (c - n))
     × (values (slots ++ tail) ≡ values slots)
-closed_rows at start slots tail room n c row empty_tail le =
+closed_rows {at = at} {slots = slots} {tail = tail} {room = room} {n = n} c row empty_tail le =
     let rest = is_row at at tail (c - room) 0 0 [] (c - room) refl empty_tail refl (omega arith) in
     let all = two_rows 0 row {room' = c - room} {b' = 0} {n' = 0} rest.0 (inr refl) in
     let wide = row_length 0 all.0 in let none = ap length rest.1 in

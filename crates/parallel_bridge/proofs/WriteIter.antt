@@ -43,10 +43,10 @@ module _ {S A : Type 0} (steps : S → Option A → S → Type 0) where
 
 -- one item more, and an answer more, where the answers lie
 pub one_answered : {A T Y : Type 0} (taken : List A → Type 0)
-    (so_far : List A → T → List Y → Type 0) (xs : List A) (x : A) (ys zs : List Y) (y : Y) (state : T)
-    → taken (xs ++ x ∷ []) → zs ≡ ys ++ y ∷ [] → so_far (xs ++ x ∷ []) state (ys ++ y ∷ [])
-    → length ys ≡ length xs → (all : List A) × taken all × so_far all state zs
-    × (length zs ≡ length all)
+    (so_far : List A → T → List Y → Type 0) (xs : List A) (x : A) (ys zs : List Y) (y : Y)
+    (state : T) → taken (xs ++ x ∷ []) → zs ≡ ys ++ y ∷ []
+    → so_far (xs ++ x ∷ []) state (ys ++ y ∷ []) → length ys ≡ length xs
+    → (all : List A) × taken all × so_far all state zs × (length zs ≡ length all)
 one_answered taken so_far xs x ys zs y state here placed answered count =
     let more = length-append ys (y ∷ []) in let longer = length-append xs (x ∷ []) in (
       xs ++ x ∷ [],

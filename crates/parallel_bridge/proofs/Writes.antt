@@ -1,5 +1,5 @@
--- Answers that are written one after another into a window, where no item fails, and up to the first
--- error.
+-- Answers that are written one after another into a window, where no item fails, and up to the
+-- first error.
 use Rattle.parallel_bridge.proofs.Common.{MapOf, Cut, segment, halves, cut_items, Shape, TryAlongCut, OnlyOk, ℕ, List, ◌++◌, Result, Ok, Err, sym, subst, inl, inr, Answered, OneAfterAnother}
 use Rattle.parallel_bridge.proofs.Common.{[], ◌∷◌, IfOk, refl, Global, Vec, Trouble, Closure, OfFault, UnlessRefused, listed, Driven, GivesSome, EachOk, FirstErr, TryMapOf}
 use Rattle.parallel_bridge.proofs.Shapes.{MapOf-append, Shape-items}

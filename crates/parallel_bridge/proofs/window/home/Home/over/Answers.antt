@@ -11,12 +11,10 @@ cut_row : (g : Over) (c : After-split-cells g)
     × (values (take c.args.room c.open-all.result.1.slots) ≡ c.args.vec.items))
     × (drop c.args.room c.open-all.result.1.slots ≡ replicate (c.args.vec.cap - c.args.room) None)
 cut_row g c =
-    let v = c.args.vec in let row = c.open-all.ensures.row in let all = c.open-all.result.1 in
-    let n = c.len-len.result in let counted : n ≡ length v.items = c.len-len.ensures ∙ v.ok.0 in
-    let cut = opened_rows all.at c.open-all.result.0.ptr all.slots v.cap c.args.room n v.items
-    (row.1 ∙ sym row.0) row.2 counted
-    (subst (λ k. k ≤ c.args.room) (sym counted) c.requires.fits.0) c.requires.fits.1 in
-    (cut.1, cut.2)
+    let v = c.args.vec in let row = c.open-all.ensures.row in let n = c.len-len.result in
+    let counted : n ≡ length v.items = c.len-len.ensures ∙ v.ok.0 in
+    opened_rows v.cap c.args.room n v.items (row.1 ∙ sym row.0) row.2 counted
+    (subst (λ k. k ≤ c.args.room) (sym counted) c.requires.fits.0) c.requires.fits.1
 
 pub invariant_of-window : goal.invariant_of-window
 invariant_of-window g c = moved 0 c.split-cells.ensures.0 c.split-cells.ensures.1

@@ -24,8 +24,7 @@ as_block g c =
     (subst (λ n. IsRow v.4.at v.0.ptr v.4.slots n v.2 v.3) wide is.row) in
     let within : h.room ≤ h.capacity =
     subst (λ a. a.room ≤ a.capacity) (sym c.home.view_is) c.requires.whole.2.2 in
-    closed_rows v.4.at v.0.ptr v.4.slots h.tail.slots h.room v.3 h.capacity row
-    c.home.invariant.0.1 within
+    closed_rows h.capacity row c.home.invariant.0.1 within
 
 pub close-requires-clause-cells : goal.close-requires-clause-cells
 close-requires-clause-cells g c =
