@@ -4,24 +4,8 @@
 //! These functions are generic in the parts and not in the source, and write the bodies that go to
 //! the strategy: the checker refuses a closure over parts whose type is a source's ("what is passed
 //! does not fit the bound").
-ghost use Rattle.std.specs.Prelude.{◌≡◌, ◌<◌, List, IfOk, length};
-ghost use Rattle.std.specs.Borrow.{MutBor};
-ghost use Rattle.parallel_bridge.specs.Lists.{MapOf};
-ghost use Rattle.parallel_bridge.specs.Outcomes.{UnlessRefused, listed};
-ghost use Rattle.parallel_bridge.specs.Parts.{PartitionOf};
-ghost use Rattle.parallel_bridge.specs.Sources.{GivesSome};
-ghost use Rattle.parallel_bridge.specs.States.{MapStep};
-ghost use Rattle.parallel_bridge.specs.Tries.{TryMapOf};
-ghost use Rattle.parallel_bridge.specs.Ways.{MappedInitAs};
-ghost use Rattle.parallel_fault.specs.Trouble.{IsMemoryOnErr};
-ghost use Rattle.parallel_fault.specs.declared.fault.Fault.{Fault};
-ghost use Rattle.parallel_fault.specs.declared.fault.Fault.TheVariants.{Memory};
-ghost use Rattle.parallel_fault.specs.declared.fault.Trouble.TheVariants.{Fault as OfFault};
-ghost use Rattle.commonware_parallel.specs.Calls.{AtSomePath, body_call, multiplied_call};
-ghost use Rattle.commonware_parallel.specs.ListCalls.{GoesBy, GoesOver};
-ghost use Rattle.commonware_parallel.specs.declared.call.Kind.TheVariants.{Body};
-ghost use Rattle.commonware_parallel.specs.declared.call.Pick.TheVariants.{By};
-ghost use Rattle.parallel_bridge.specs.declared.path.Path.{Path};
+ghost use Rattle.commonware_parallel.specs.Words.{AtSomePath, Body, By, Fault, GivesSome, GoesBy, GoesOver, IfOk, IsMemoryOnErr, List, MapOf, MapStep, MappedInitAs, Memory, MutBor, OfFault};
+ghost use Rattle.commonware_parallel.specs.Words.{PartitionOf, Path, TryMapOf, UnlessRefused, body_call, length, listed, multiplied_call, ◌<◌, ◌≡◌};
 
 mod folds;
 
@@ -29,10 +13,16 @@ use crate::call::Call;
 use crate::dispatch::dispatch_path;
 use crate::strategy::Strategy;
 pub use folds::{fold_init_through, fold_through, try_fold_as_it_comes, try_fold_through};
+pub use parallel_bridge::list::fold::fold_iter;
+pub use parallel_bridge::list::fold_init::fold_init_iter;
 use parallel_bridge::list::map::map_by;
+pub use parallel_bridge::list::map::map_iter;
 use parallel_bridge::list::map_init::map_init_by;
+pub use parallel_bridge::list::map_init::map_init_iter;
 use parallel_bridge::list::partition::partition_by;
+pub use parallel_bridge::list::partition::partition_iter;
 use parallel_bridge::list::try_map::try_map_by;
+pub use parallel_bridge::list::try_map::try_map_iter;
 use parallel_bridge::{Parts, Path};
 use parallel_fault::{Fault, Trouble};
 use parallel_policy::Place;

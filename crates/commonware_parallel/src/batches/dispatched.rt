@@ -1,15 +1,6 @@
 //! What the batch calls of a strategy stand on.
-ghost use Rattle.std.specs.Prelude.{◌≡◌, ◌/◌, ◌<◌, ◌≤◌, ℕ, IfOk, false, max};
-ghost use Rattle.std.specs.Int.NonZero.{non_zero_usize_get};
-ghost use Rattle.parallel_bridge.specs.Outcomes.{UnlessRefused};
-ghost use Rattle.parallel_fault.specs.Trouble.{IsMemoryOnErr};
-ghost use Rattle.parallel_fault.specs.declared.fault.Fault.{Fault};
-ghost use Rattle.parallel_fault.specs.declared.fault.Fault.TheVariants.{Memory};
-ghost use Rattle.parallel_fault.specs.declared.fault.Trouble.TheVariants.{Fault as OfFault};
-ghost use Rattle.commonware_parallel.specs.Batches.{IsBatch, OnBatch, OnSomeBatch, ranges_of};
-ghost use Rattle.commonware_parallel.specs.declared.batches.Batches.{Batches};
-ghost use Rattle.commonware_parallel.specs.Calls.{goes_by_path};
-ghost use Rattle.commonware_parallel.specs.declared.call.Pick.TheVariants.{Into};
+ghost use Rattle.commonware_parallel.specs.Words.{Batches, Fault, IfOk, Into, IsBatch, IsMemoryOnErr, Memory, OfFault, OnBatch, OnSomeBatch, UnlessRefused, false, goes_by_path, max};
+ghost use Rattle.commonware_parallel.specs.Words.{non_zero_usize_get, ranges_of, ℕ, ◌/◌, ◌<◌, ◌≡◌, ◌≤◌};
 
 use super::Batches;
 use crate::call::Call;
