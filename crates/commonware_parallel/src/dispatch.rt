@@ -22,7 +22,7 @@ pub fn dispatch_path<S: Strategy, Rt: Wait, P: Place, R, E, B: FnOnce(Path) -> R
     call: Call,
     body: B,
 ) -> Result<R, Trouble<E>>
-    requires parts { 0 < call.parts }
+    requires parts { 0 < call.max_parts }
     requires kind { call.kind ≢ Spawn }
     requires by_path { goes_by_path call.kind ≡ true }
     requires accepts { (path : Path) → S.takes strategy.now (P.site_of site) call (By path)
@@ -54,7 +54,7 @@ pub fn dispatch_unfailing<S: Strategy, Rt: Wait, P: Place, R, B: FnOnce(Path) ->
     call: Call,
     body: B,
 ) -> Result<R, Fault>
-    requires parts { 0 < call.parts }
+    requires parts { 0 < call.max_parts }
     requires kind { call.kind ≢ Spawn }
     requires by_path { goes_by_path call.kind ≡ true }
     requires accepts { (path : Path) → S.takes strategy.now (P.site_of site) call (By path)
@@ -84,11 +84,11 @@ pub fn dispatch_parts<S: Strategy, Rt: Wait, P: Place, R, E, B: FnOnce(usize) ->
     call: Call,
     body: B,
 ) -> Result<R, Trouble<E>>
-    requires parts { 0 < call.parts }
+    requires parts { 0 < call.max_parts }
     requires in_parts { goes_by_path call.kind ≡ false }
-    requires accepts { (parts : ℕ) → 0 < parts → parts ≤ call.parts
+    requires accepts { (parts : ℕ) → 0 < parts → parts ≤ call.max_parts
         → S.takes strategy.now (P.site_of site) call (Into parts) → B.pre body parts }
-    ensures answers { AnswersAs (λ parts. (0 < parts) × (parts ≤ call.parts)
+    ensures answers { AnswersAs (λ parts. (0 < parts) × (parts ≤ call.max_parts)
         × S.takes strategy.now (P.site_of site) call (Into parts))
         (S.refuses strategy.now (P.site_of site) call)
         (B.post body) result }
@@ -114,7 +114,7 @@ pub fn choose_path<S: Strategy, Rt: Wait, P: Place>(
     site: P,
     call: Call,
 ) -> Result<(Path, S::Measure), Fault>
-    requires parts { 0 < call.parts }
+    requires parts { 0 < call.max_parts }
     requires by_path { goes_by_path call.kind ≡ true }
     ensures takes { IfOk result (λ chosen. S.takes strategy.now (P.site_of site) call
         (By chosen.0)) }

@@ -35,7 +35,7 @@ use std::thread::Threads;
 pub fn body_over<Q: Parts>(parts: &Q) -> Call
     ensures counted { (xs : List Q.Item) → Q.gives parts.now xs → result ≡ body_call (length xs) }
     ensures kind { result.kind ≡ Body }
-    ensures parts { result.parts ≡ 1 }
+    ensures parts { result.max_parts ≡ 1 }
 {
     Call::body(parts.len())
 }
@@ -45,7 +45,7 @@ pub fn multiplied_body_over<Q: Parts>(parts: &Q, multiplier: usize) -> Call
     ensures counted { (xs : List Q.Item) → Q.gives parts.now xs
         → result ≡ multiplied_call (length xs) multiplier }
     ensures kind { result.kind ≡ Body }
-    ensures parts { result.parts ≡ 1 }
+    ensures parts { result.max_parts ≡ 1 }
 {
     Call::body_with_multiplier(parts.len(), multiplier)
 }
@@ -60,7 +60,7 @@ pub fn dispatch_call<S: Strategy, Rt: Wait, P: Place, R, B: FnOnce(Path) -> Resu
     call: Call,
     body: B,
 ) -> Result<R, Fault>
-    requires parts { 0 < call.parts }
+    requires parts { 0 < call.max_parts }
     requires kind { call.kind ≡ Body }
     requires accepts { (path : Path) → S.takes strategy.now (P.site_of site) call (By path)
         → B.pre body path }
@@ -86,7 +86,7 @@ pub fn dispatch_fallible<
     E,
     B: FnOnce(Path) -> Result<R, Trouble<E>>,
 >(strategy: &S, rt: &Rt, alloc: Global, site: P, call: Call, body: B) -> Result<R, Trouble<E>>
-    requires parts { 0 < call.parts }
+    requires parts { 0 < call.max_parts }
     requires kind { call.kind ≡ Body }
     requires accepts { (path : Path) → S.takes strategy.now (P.site_of site) call (By path)
         → B.pre body path }
@@ -120,7 +120,7 @@ pub fn map_through<
     parts: Q,
     map_op: &F,
 ) -> Result<Vec<T>, Fault>
-    requires parts { 0 < call.parts }
+    requires parts { 0 < call.max_parts }
     requires kind { call.kind ≡ Body }
     requires accepts { (x : Q.Item) → Q.may parts x → F.pre map_op.now x }
     ensures answers { IfOk result (λ ys. GivesSome Q.gives parts
@@ -158,7 +158,7 @@ pub fn try_map_through<
     parts: Q,
     map_op: &F,
 ) -> Result<Vec<T>, Trouble<E>>
-    requires parts { 0 < call.parts }
+    requires parts { 0 < call.max_parts }
     requires kind { call.kind ≡ Body }
     requires accepts { (x : Q.Item) → Q.may parts x → F.pre map_op.now x }
     ensures answers { UnlessRefused result (λ out. GivesSome Q.gives parts
@@ -192,7 +192,7 @@ pub fn partition_through<
     parts: Q,
     map_op: &F,
 ) -> Result<(Vec<U>, Vec<K>), Fault>
-    requires parts { 0 < call.parts }
+    requires parts { 0 < call.max_parts }
     requires kind { call.kind ≡ Body }
     requires accepts { (x : Q.Item) → Q.may parts x → F.pre map_op.now x }
     ensures answers { IfOk result (λ r. GivesSome Q.gives parts
@@ -231,7 +231,7 @@ pub fn map_init_through<
     init: &N,
     map_op: &F,
 ) -> Result<Vec<T>, Fault>
-    requires parts { 0 < call.parts }
+    requires parts { 0 < call.max_parts }
     requires kind { call.kind ≡ Body }
     requires init_accepts { N.IsAlwaysCallable init.now }
     requires map_accepts { (x : Q.Item) → Q.may parts x

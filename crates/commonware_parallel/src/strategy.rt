@@ -61,6 +61,7 @@ pub trait Strategy: Chooser {
     /// items that the bodies stand for, by which a policy tells calls apart.
     ///
     /// # Errors
+    ///
     /// `Fault::Memory` alone, and only what `refuses` allows: a strategy without a policy refuses
     /// no run.
     final fn run<Rt: Wait, P: Place, R, A: FnOnce() -> R + Drop, B: FnOnce() -> R + Drop>(
@@ -89,6 +90,7 @@ pub trait Strategy: Chooser {
     /// As `run`, of two bodies that may fail by an error of their own (`AnswersAs`, `OneOf`).
     ///
     /// # Errors
+    ///
     /// `Trouble::Closure` with the error of the body that was run. `Trouble::Fault` with
     /// `Fault::Memory` alone, and only where `refuses` allows it: a strategy without a policy
     /// refuses no run.
@@ -123,6 +125,7 @@ pub trait Strategy: Chooser {
     /// parallel side by side, one of them on the caller's thread.
     ///
     /// # Errors
+    ///
     /// `Fault::Memory` alone, and only where `refuses` allows it: `Sequential` and `Rayon` refuse
     /// no join, whatever is chosen for their other calls.
     final fn join<
@@ -154,6 +157,7 @@ pub trait Strategy: Chooser {
     /// number of items that the job stands for, by which a policy tells calls apart.
     ///
     /// # Errors
+    ///
     /// What the strategy refuses; `Fault::Memory`; in parallel `Fault::Worker` where the worker's
     /// start was refused (`FailsToSpawn`). The job is then dropped.
     final fn spawn<Rt, P: Place, F, T: Send + Drop + 'static>(
@@ -191,6 +195,7 @@ pub trait Strategy: Chooser {
     /// a body over the items, and may measure the sort (`asked`).
     ///
     /// # Errors
+    ///
     /// `Fault::Memory` alone, where the strategy or the sort's buffer was refused memory; the items
     /// are then a permutation of what they were.
     final fn sort_by<
@@ -221,6 +226,7 @@ pub trait Strategy: Chooser {
     /// Sorts the items by an order, as `sort_by` does; items that tie may change places.
     ///
     /// # Errors
+    ///
     /// `Fault::Memory` alone, as there; the items are then a permutation of what they were.
     final fn sort_unstable_by<
         Rt: Threads + Wait + Sync,
@@ -242,6 +248,7 @@ pub trait Strategy: Chooser {
     /// by the number of items (`asked`).
     ///
     /// # Errors
+    ///
     /// `Fault::Memory` alone; the items are then gone. Where a strategy that isn't serial could not
     /// gather the items of an iterator no closure was called.
     final fn map_collect_vec<
@@ -271,6 +278,7 @@ pub trait Strategy: Chooser {
     /// calls apart by `len * multiplier`, which stops at the greatest `usize`.
     ///
     /// # Errors
+    ///
     /// `Fault::Memory` alone, as there.
     final fn map_collect_vec_with_multiplier<Rt, P: Place, M, I: Source<M>, T: Send + Drop, F>(
         &self,
@@ -309,6 +317,7 @@ pub trait Strategy: Chooser {
     /// fold from the left.
     ///
     /// # Errors
+    ///
     /// `Fault::Memory` alone; the items are then gone.
     final fn fold<Rt: Threads + Wait + Sync, P: Place, M, I: Source<M>, R: Send + Drop, ID, F, G>(
         &self,
@@ -349,6 +358,7 @@ pub trait Strategy: Chooser {
     /// and begins there as a value of `init` (`FoldInitSegment`).
     ///
     /// # Errors
+    ///
     /// `Fault::Memory` alone; the items are then gone.
     final fn fold_init<Rt: Threads + Wait + Sync, P: Place, M, I: Source<M>, S, R, N, ID, F, G>(
         &self,
@@ -401,6 +411,7 @@ pub trait Strategy: Chooser {
     /// to the right of it. The forms of the segments are those of `fold` (`TryFoldedAs`).
     ///
     /// # Errors
+    ///
     /// `Trouble::Closure` with the error of the step that failed. `Trouble::Fault` with
     /// `Fault::Memory` alone. The items are then gone.
     final fn try_fold<Rt: Threads + Wait + Sync, P: Place, M, I: Source<M>, R, E, ID, F, G>(
@@ -445,6 +456,7 @@ pub trait Strategy: Chooser {
     /// that fails the closure may go uncalled.
     ///
     /// # Errors
+    ///
     /// `Trouble::Closure` with the first failing item's error. `Trouble::Fault` with
     /// `Fault::Memory` alone. The items are then gone.
     final fn try_map_collect_vec<
@@ -478,6 +490,7 @@ pub trait Strategy: Chooser {
     /// segments of the list's shape for the pool's thread number (`MappedInitAs`).
     ///
     /// # Errors
+    ///
     /// `Fault::Memory` alone; the items are then gone.
     final fn map_init_collect_vec<Rt: Threads + Wait + Sync, P: Place, M, I: Source<M>, S, T, N, F>(
         &self,
@@ -516,6 +529,7 @@ pub trait Strategy: Chooser {
     /// tells calls apart by `len * multiplier`, which stops at the greatest `usize`.
     ///
     /// # Errors
+    ///
     /// `Fault::Memory` alone; the items are then gone.
     final fn map_init_collect_vec_with_multiplier<Rt, P: Place, M, I: Source<M>, S, T, N, F>(
         &self,
@@ -557,6 +571,7 @@ pub trait Strategy: Chooser {
     /// in the items' order (`PartitionOf`).
     ///
     /// # Errors
+    ///
     /// `Fault::Memory` alone; the items are then gone.
     final fn map_partition_collect_vec<Rt, P: Place, M, I: Source<M>, K, U, F>(
         &self,
@@ -595,6 +610,7 @@ pub trait Strategy: Chooser {
     /// batch that is one, and no other.
     ///
     /// # Errors
+    ///
     /// `Fault::Memory` alone.
     final fn run_batches<Rt: Wait, P: Place, R, F: FnOnce(Batches<'_, Self, P>) -> R + Drop>(
         &self,
@@ -619,6 +635,7 @@ pub trait Strategy: Chooser {
     /// As `run_batches`, with a closure that may fail by an error of its own.
     ///
     /// # Errors
+    ///
     /// `Trouble::Closure` with the closure's error. `Trouble::Fault` with `Fault::Memory` alone.
     final fn try_run_batches<Rt: Wait, P: Place, R, E, F>(
         &self,
@@ -651,6 +668,7 @@ pub trait Strategy: Chooser {
     /// The closure has to accept all tiles of the grids, and no other.
     ///
     /// # Errors
+    ///
     /// `Fault::Memory` alone.
     final fn run_tiles<Rt: Wait, P: Place, R, F: FnOnce(Tiles<'_, Self, P>) -> R + Drop>(
         &self,

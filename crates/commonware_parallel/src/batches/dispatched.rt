@@ -129,13 +129,13 @@ fn dispatch_settled<
     E,
     B: FnOnce(usize) -> Result<R, Trouble<E>>,
 >(strategy: &S, rt: &Rt, alloc: Global, site: P, call: Call, body: B) -> Result<R, Trouble<E>>
-    requires parts { 0 < call.parts }
+    requires parts { 0 < call.max_parts }
     requires in_parts { goes_by_path call.kind ≡ false }
-    requires accepts { (parts : ℕ) → 0 < parts → parts ≤ call.parts
+    requires accepts { (parts : ℕ) → 0 < parts → parts ≤ call.max_parts
         → S.takes strategy.now (P.site_of site) call (Into parts) → B.pre body parts }
     requires memory { (parts : ℕ) (fault : Fault) → B.post body parts (Err (OfFault fault))
         → fault ≡ Memory }
-    ensures { UnlessRefused result (λ _. (parts : ℕ) × ((0 < parts) × (parts ≤ call.parts)
+    ensures { UnlessRefused result (λ _. (parts : ℕ) × ((0 < parts) × (parts ≤ call.max_parts)
         × S.takes strategy.now (P.site_of site) call (Into parts)) × B.post body parts result) }
 {
     match dispatch_parts(strategy, rt, alloc, site, call, body) {

@@ -37,7 +37,7 @@ pub fn fold_through<
     fold_op: &F,
     reduce_op: &G,
 ) -> Result<R, Fault>
-    requires parts { 0 < call.parts }
+    requires parts { 0 < call.max_parts }
     requires kind { call.kind ≡ Body }
     requires identity_accepts { ID.IsAlwaysCallable identity.now }
     requires fold_accepts { (x : Q.Item) → Q.may parts x
@@ -90,7 +90,7 @@ pub fn fold_init_through<
     fold_op: &F,
     reduce_op: &G,
 ) -> Result<R, Fault>
-    requires parts { 0 < call.parts }
+    requires parts { 0 < call.max_parts }
     requires kind { call.kind ≡ Body }
     requires init_accepts { N.IsAlwaysCallable init.now }
     requires identity_accepts { ID.IsAlwaysCallable identity.now }
@@ -144,7 +144,7 @@ pub fn try_fold_through<
     fold_op: &F,
     reduce_op: &G,
 ) -> Result<R, Trouble<E>>
-    requires parts { 0 < call.parts }
+    requires parts { 0 < call.max_parts }
     requires kind { call.kind ≡ Body }
     requires identity_accepts { ID.IsAlwaysCallable identity.now }
     requires fold_accepts { (x : Q.Item) → Q.may parts x
