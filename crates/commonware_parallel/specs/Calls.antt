@@ -60,7 +60,8 @@ goes_by_path Join = true
 -- no more than there may be
 abbrev pub HasPick : Call → Pick → Type 0
 HasPick call (By path) = goes_by_path call.kind ≡ true
-HasPick call (Into parts) = (goes_by_path call.kind ≡ false) × (0 < parts) × (parts ≤ call.max_parts)
+HasPick call (Into parts) = (goes_by_path call.kind ≡ false) × (0 < parts)
+    × (parts ≤ call.max_parts)
 
 -- the first pick of a call: serially, or in one part
 abbrev pub first_pick : Call → Pick
