@@ -1,5 +1,5 @@
 -- At which path and thread number a list call's fact holds.
-use Rattle.std.proofs.Common.{◌≡◌, ℕ, List, length, Result, Ok, Err, subst}
+use Rattle.std.proofs.Common.{◌≡◌, ℕ, List, Result, Ok, Err, IfOk, subst}
 use Rattle.parallel_fault.specs.declared.fault.Trouble.{Trouble}
 use Rattle.parallel_fault.specs.declared.fault.Trouble.TheVariants.{Closure}
 use Rattle.parallel_fault.specs.declared.fault.Trouble.TheVariants.{Fault as OfFault}
@@ -7,9 +7,7 @@ use Rattle.parallel_bridge.specs.Outcomes.{UnlessRefused}
 use Rattle.parallel_bridge.specs.Shapes.{cutdepth}
 use Rattle.parallel_bridge.specs.Sources.{GivesSome}
 use Rattle.parallel_bridge.specs.declared.path.Path.{Path}
-use Rattle.parallel_bridge.specs.declared.path.Path.TheVariants.{Serial}
 use Rattle.commonware_parallel.specs.Calls.{AtSomePath}
-use Rattle.commonware_parallel.specs.declared.call.Call.{Call}
 use Rattle.commonware_parallel.specs.declared.call.Pick.{Pick}
 use Rattle.commonware_parallel.specs.declared.call.Pick.TheVariants.{By}
 
@@ -41,12 +39,23 @@ outcome_at_threads gives parts takes fact taken threads same
 outcome_at_threads gives parts takes fact taken threads same
     (Err (OfFault f)) answered w says = w
 
--- what holds of the list that came of a source's iterator holds of one of the source, serially
-pub at_serial : {S I X : Type 0} (comes_of : S → List X → Type 0) (iter : S)
-    (comes : I → List X → Type 0) (source : I) (takes : Call → Pick → Type 0) (call_of : ℕ → Call)
-    → ((xs : List X) → comes_of iter xs → comes source xs)
-    → ((n : ℕ) → takes (call_of n) (By Serial))
-    → (fact : Path → List X → Type 0) → GivesSome comes_of iter (λ xs. fact Serial xs)
-    → GivesSome comes source (λ xs. AtSomePath (takes (call_of (length xs))) (λ path. fact path xs))
-at_serial comes_of iter comes source takes call_of given serial fact (xs, came, holds) =
-    (xs, given xs came, (Serial, serial (length xs), holds))
+-- what a call says of the list that came of a source's iterator it says of one of the source
+pub over_source : {X R E : Type 0} {came comes : List X → Type 0} {said says : List X → R → Type 0}
+    (result : Result R E) → IfOk result (λ y. (xs : List X) × came xs × said xs y)
+    → ((xs : List X) → came xs → comes xs)
+    → ((xs : List X) (y : R) → said xs y → says xs y)
+    → IfOk result (λ y. (xs : List X) × comes xs × says xs y)
+over_source (Ok y) w given weaker = (w.0, given w.0 w.1, weaker w.0 y w.2)
+over_source (Err e) w given weaker = tt
+
+-- the same of an outcome
+pub outcome_over_source : {X R E : Type 0} {came comes : List X → Type 0}
+    {said says : List X → Result R E → Type 0} (result : Result R (Trouble E))
+    → UnlessRefused result (λ out. (xs : List X) × came xs × said xs out)
+    → ((xs : List X) → came xs → comes xs)
+    → ((xs : List X) (out : Result R E) → said xs out → says xs out)
+    → UnlessRefused result (λ out. (xs : List X) × comes xs × says xs out)
+outcome_over_source (Ok r) w given weaker = (w.0, given w.0 w.1, weaker w.0 (Ok r) w.2)
+outcome_over_source (Err (Closure e)) w given weaker =
+    (w.0, given w.0 w.1, weaker w.0 (Err e) w.2)
+outcome_over_source (Err (OfFault f)) w given weaker = w

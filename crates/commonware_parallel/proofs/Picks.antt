@@ -50,6 +50,6 @@ path_told call takes fact (Into parts) has h = absurd h
 -- the same of a body that is told a number of parts
 pub parts_told : (call : Call) (takes : Pick → Type 0) (fact : ℕ → Type 0) (pick : Pick)
     → HasPick call pick × takes pick → OnParts pick fact
-    → (parts : ℕ) × ((0 < parts) × (parts ≤ call.parts) × takes (Into parts)) × fact parts
+    → (parts : ℕ) × ((0 < parts) × (parts ≤ call.max_parts) × takes (Into parts)) × fact parts
 parts_told call takes fact (By path) has h = absurd h
 parts_told call takes fact (Into parts) has h = (parts, (has.0.1, has.0.2, has.1), h)

@@ -53,7 +53,8 @@ abbrev pub OnSomeBatch : {S P : Type 0} (takes : S → Site → Call → Pick �
 OnSomeBatch takes refuses plans threads starts site_of strategy place len minimum multiplier
     allowed = (parts : ℕ)
     × (0 < parts)
-    × (parts ≤ (batches_call (plans strategy) len (non_zero_usize_get minimum) multiplier).parts)
+    × (parts ≤
+    (batches_call (plans strategy) len (non_zero_usize_get minimum) multiplier).max_parts)
     × takes strategy (site_of place)
     (batches_call (plans strategy) len (non_zero_usize_get minimum) multiplier) (Into parts)
     × (batches : Batches _ _) × IsBatch len parts (non_zero_usize_get minimum) (ranges_of batches)

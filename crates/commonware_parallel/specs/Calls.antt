@@ -12,15 +12,15 @@ use Rattle.commonware_parallel.specs.declared.call.Pick.TheVariants.{By, Into}
 
 -- a choice between a serial and a parallel body, over so many items
 abbrev pub body_call : ℕ → Call
-body_call len = record { kind = Body; len = len; work = len; parts = 1 }
+body_call len = record { kind = Body; len = len; work = len; max_parts = 1 }
 
 -- a choice between two closures one after the other and side by side
 abbrev pub join_call : Call
-join_call = record { kind = Join; len = 2; work = 2; parts = 1 }
+join_call = record { kind = Join; len = 2; work = 2; max_parts = 1 }
 
 -- a choice between a job that is run at once and one that is handed off, over so many items
 abbrev pub spawn_call : ℕ → Call
-spawn_call len = record { kind = Spawn; len = len; work = len; parts = 1 }
+spawn_call len = record { kind = Spawn; len = len; work = len; max_parts = 1 }
 
 -- work that stops at the greatest usize
 abbrev pub work_of : ℕ → ℕ → ℕ
@@ -30,7 +30,7 @@ work_of len multiplier = min (len * multiplier) (2 ^ 64 - 1)
 -- work
 abbrev pub multiplied_call : ℕ → ℕ → Call
 multiplied_call len multiplier =
-    record { kind = Body; len = len; work = work_of len multiplier; parts = 1 }
+    record { kind = Body; len = len; work = work_of len multiplier; max_parts = 1 }
 
 -- a choice among numbers of ranges: as many as are planned for, but no range shorter than the
 -- minimum, and one at least
@@ -40,13 +40,13 @@ batches_call planned len minimum multiplier =
       kind = Batches;
       len = len;
       work = work_of len multiplier;
-      parts = max 1 (min planned (len / minimum));
+      max_parts = max 1 (min planned (len / minimum));
     }
 
 -- a choice among numbers of workers, over rows of so many columns: as many as are planned for
 abbrev pub tiles_call : ℕ → ℕ → ℕ → ℕ → Call
 tiles_call planned len cost multiplier =
-    record { kind = Tiles; len = len; work = work_of cost multiplier; parts = planned }
+    record { kind = Tiles; len = len; work = work_of cost multiplier; max_parts = planned }
 
 -- whether calls of a kind go by a path, serially or in parallel; the others are made in parts
 abbrev pub goes_by_path : Kind → Bool
@@ -60,7 +60,8 @@ goes_by_path Join = true
 -- no more than there may be
 abbrev pub HasPick : Call → Pick → Type 0
 HasPick call (By path) = goes_by_path call.kind ≡ true
-HasPick call (Into parts) = (goes_by_path call.kind ≡ false) × (0 < parts) × (parts ≤ call.parts)
+HasPick call (Into parts) = (goes_by_path call.kind ≡ false) × (0 < parts)
+    × (parts ≤ call.max_parts)
 
 -- the first pick of a call: serially, or in one part
 abbrev pub first_pick : Call → Pick
@@ -68,11 +69,11 @@ first_pick call = if goes_by_path call.kind then By Serial else Into 1
 
 -- the last pick of a call: in parallel, or in as many parts as there may be
 abbrev pub last_pick : Call → Pick
-last_pick call = if goes_by_path call.kind then By Parallel else Into call.parts
+last_pick call = if goes_by_path call.kind then By Parallel else Into call.max_parts
 
 -- how many picks a call has: two paths, or as many as there may be parts
 abbrev pub options_of : Call → ℕ
-options_of call = if goes_by_path call.kind then 2 else call.parts
+options_of call = if goes_by_path call.kind then 2 else call.max_parts
 
 -- the paths in their order
 abbrev pub nth_path : ℕ → Path

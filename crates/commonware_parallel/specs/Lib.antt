@@ -16,3 +16,4 @@ pub mod Rectangles
 pub mod Seated
 pub mod Spawned
 pub mod Tiles
+pub mod Words

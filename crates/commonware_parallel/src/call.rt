@@ -40,7 +40,7 @@ pub struct Call {
     /// The work that the items stand for, by which a policy tells calls apart.
     pub work: usize,
     /// How many ranges or workers there may be at most; 1 for a call that goes by a path.
-    pub parts: usize,
+    pub max_parts: usize,
 }
 
 // The work of `len` items that each stand for `multiplier`, or the greatest `usize`.
@@ -71,7 +71,7 @@ impl Call {
             kind: Kind::Body,
             len,
             work: len,
-            parts: 1,
+            max_parts: 1,
         }
     }
 
@@ -84,7 +84,7 @@ impl Call {
             kind: Kind::Body,
             len,
             work: total_work(len, multiplier),
-            parts: 1,
+            max_parts: 1,
         }
     }
 
@@ -96,7 +96,7 @@ impl Call {
             kind: Kind::Join,
             len: 2,
             work: 2,
-            parts: 1,
+            max_parts: 1,
         }
     }
 
@@ -108,7 +108,7 @@ impl Call {
             kind: Kind::Spawn,
             len,
             work: len,
-            parts: 1,
+            max_parts: 1,
         }
     }
 
@@ -128,7 +128,7 @@ impl Call {
             kind: Kind::Batches,
             len,
             work: total_work(len, multiplier),
-            parts: parallelism.get().min(len / minimum).max(1),
+            max_parts: parallelism.get().min(len / minimum).max(1),
         }
     }
 
@@ -141,14 +141,14 @@ impl Call {
             kind: Kind::Tiles,
             len,
             work: total_work(cost, multiplier),
-            parts: parallelism.get(),
+            max_parts: parallelism.get(),
         }
     }
 
     /// The first pick: serially, or in one part.
     pub fn first(self) -> Pick
         ensures first { result ≡ first_pick self }
-        ensures has { 0 < self.parts → HasPick self result }
+        ensures has { 0 < self.max_parts → HasPick self result }
     {
         if self.kind.goes_by_path() {
             Pick::By(Path::Serial)
@@ -160,24 +160,24 @@ impl Call {
     /// The last pick: in parallel, or in as many parts as there may be.
     pub fn last(self) -> Pick
         ensures last { result ≡ last_pick self }
-        ensures has { 0 < self.parts → HasPick self result }
+        ensures has { 0 < self.max_parts → HasPick self result }
     {
         if self.kind.goes_by_path() {
             Pick::By(Path::Parallel)
         } else {
-            Pick::Into(self.parts)
+            Pick::Into(self.max_parts)
         }
     }
 
     /// How many picks there are: two paths, or as many as there may be parts.
     pub fn options(self) -> usize
         ensures options { result ≡ options_of self }
-        ensures some { 0 < self.parts → 0 < result }
+        ensures some { 0 < self.max_parts → 0 < result }
     {
         if self.kind.goes_by_path() {
             2
         } else {
-            self.parts
+            self.max_parts
         }
     }
 

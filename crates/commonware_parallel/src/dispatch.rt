@@ -2,13 +2,8 @@
 //!
 //! A strategy picks for every kind of call. Which picks a call has goes by its kind, so that a call
 //! that goes by a path is told one, and any other a number of parts.
-ghost use Rattle.std.specs.Prelude.{◌≡◌, ◌≢◌, ◌<◌, ◌≤◌, ℕ, IfErr, IfOk, false, true};
-ghost use Rattle.parallel_bridge.specs.declared.path.Path.{Path};
-ghost use Rattle.parallel_fault.specs.Trouble.{IsMemoryOnErr, IsMemoryOnFault};
-ghost use Rattle.commonware_parallel.specs.Answers.{AnswersAs, OnParts, OnPath};
-ghost use Rattle.commonware_parallel.specs.Calls.{goes_by_path};
-ghost use Rattle.commonware_parallel.specs.declared.call.Kind.TheVariants.{Spawn};
-ghost use Rattle.commonware_parallel.specs.declared.call.Pick.TheVariants.{By, Into};
+ghost use Rattle.commonware_parallel.specs.Words.{AnswersAs, AtSomePath, By, IfErr, IfOk, Into, IsMemoryOnErr, IsMemoryOnFault, MatchResult, OnParts, OnPath, Path, Spawn, false};
+ghost use Rattle.commonware_parallel.specs.Words.{goes_by_path, true, ℕ, ◌<◌, ◌≡◌, ◌≢◌, ◌≤◌};
 
 use crate::call::{Call, Pick};
 use crate::strategy::Strategy;
@@ -27,7 +22,7 @@ pub fn dispatch_path<S: Strategy, Rt: Wait, P: Place, R, E, B: FnOnce(Path) -> R
     call: Call,
     body: B,
 ) -> Result<R, Trouble<E>>
-    requires parts { 0 < call.parts }
+    requires parts { 0 < call.max_parts }
     requires kind { call.kind ≢ Spawn }
     requires by_path { goes_by_path call.kind ≡ true }
     requires accepts { (path : Path) → S.takes strategy.now (P.site_of site) call (By path)
@@ -49,6 +44,37 @@ pub fn dispatch_path<S: Strategy, Rt: Wait, P: Place, R, E, B: FnOnce(Path) -> R
     strategy.dispatch(rt, alloc, site, call, told)
 }
 
+/// An answer of a body that has no error of its own, by a path that the strategy takes for the
+/// call.
+pub fn dispatch_unfailing<S: Strategy, Rt: Wait, P: Place, R, B: FnOnce(Path) -> R>(
+    strategy: &S,
+    rt: &Rt,
+    alloc: Global,
+    site: P,
+    call: Call,
+    body: B,
+) -> Result<R, Fault>
+    requires parts { 0 < call.max_parts }
+    requires kind { call.kind ≢ Spawn }
+    requires by_path { goes_by_path call.kind ≡ true }
+    requires accepts { (path : Path) → S.takes strategy.now (P.site_of site) call (By path)
+        → B.pre body path }
+    ensures answers { IfOk result (λ answer. AtSomePath (S.takes strategy.now (P.site_of site) call)
+        (λ path. B.post body path answer)) }
+    ensures refused { IfErr result (S.refuses strategy.now (P.site_of site) call) }
+    ensures memory { IsMemoryOnErr result }
+{
+    let told = move |path: Path| -> Result<R, ()>
+        requires { B.pre body path }
+        ensures { MatchResult result (λ answer. B.post body path answer) (λ _. ⊥) }
+    { Ok(body(path)) };
+    match dispatch_path(strategy, rt, alloc, site, call, told) {
+        Ok(answer) => Ok(answer),
+        Err(Trouble::Fault(fault)) => Err(fault),
+        Err(Trouble::Closure(())) => unreachable!(),
+    }
+}
+
 /// An answer of a body in as many parts as the strategy takes for the call.
 pub fn dispatch_parts<S: Strategy, Rt: Wait, P: Place, R, E, B: FnOnce(usize) -> Result<R, E>>(
     strategy: &S,
@@ -58,11 +84,11 @@ pub fn dispatch_parts<S: Strategy, Rt: Wait, P: Place, R, E, B: FnOnce(usize) ->
     call: Call,
     body: B,
 ) -> Result<R, Trouble<E>>
-    requires parts { 0 < call.parts }
+    requires parts { 0 < call.max_parts }
     requires in_parts { goes_by_path call.kind ≡ false }
-    requires accepts { (parts : ℕ) → 0 < parts → parts ≤ call.parts
+    requires accepts { (parts : ℕ) → 0 < parts → parts ≤ call.max_parts
         → S.takes strategy.now (P.site_of site) call (Into parts) → B.pre body parts }
-    ensures answers { AnswersAs (λ parts. (0 < parts) × (parts ≤ call.parts)
+    ensures answers { AnswersAs (λ parts. (0 < parts) × (parts ≤ call.max_parts)
         × S.takes strategy.now (P.site_of site) call (Into parts))
         (S.refuses strategy.now (P.site_of site) call)
         (B.post body) result }
@@ -88,7 +114,7 @@ pub fn choose_path<S: Strategy, Rt: Wait, P: Place>(
     site: P,
     call: Call,
 ) -> Result<(Path, S::Measure), Fault>
-    requires parts { 0 < call.parts }
+    requires parts { 0 < call.max_parts }
     requires by_path { goes_by_path call.kind ≡ true }
     ensures takes { IfOk result (λ chosen. S.takes strategy.now (P.site_of site) call
         (By chosen.0)) }

@@ -4,24 +4,8 @@
 //! These functions are generic in the parts and not in the source, and write the bodies that go to
 //! the strategy: the checker refuses a closure over parts whose type is a source's ("what is passed
 //! does not fit the bound").
-ghost use Rattle.std.specs.Prelude.{◌≡◌, ◌<◌, List, IfOk, length};
-ghost use Rattle.std.specs.Borrow.{MutBor};
-ghost use Rattle.parallel_bridge.specs.Lists.{MapOf};
-ghost use Rattle.parallel_bridge.specs.Outcomes.{UnlessRefused, listed};
-ghost use Rattle.parallel_bridge.specs.Parts.{PartitionOf};
-ghost use Rattle.parallel_bridge.specs.Sources.{GivesSome};
-ghost use Rattle.parallel_bridge.specs.States.{MapStep};
-ghost use Rattle.parallel_bridge.specs.Tries.{TryMapOf};
-ghost use Rattle.parallel_bridge.specs.Ways.{MappedInitAs};
-ghost use Rattle.parallel_fault.specs.Trouble.{IsMemoryOnErr};
-ghost use Rattle.parallel_fault.specs.declared.fault.Fault.{Fault};
-ghost use Rattle.parallel_fault.specs.declared.fault.Fault.TheVariants.{Memory};
-ghost use Rattle.parallel_fault.specs.declared.fault.Trouble.TheVariants.{Fault as OfFault};
-ghost use Rattle.commonware_parallel.specs.Calls.{AtSomePath, body_call, multiplied_call};
-ghost use Rattle.commonware_parallel.specs.ListCalls.{GoesBy, GoesOver};
-ghost use Rattle.commonware_parallel.specs.declared.call.Kind.TheVariants.{Body};
-ghost use Rattle.commonware_parallel.specs.declared.call.Pick.TheVariants.{By};
-ghost use Rattle.parallel_bridge.specs.declared.path.Path.{Path};
+ghost use Rattle.commonware_parallel.specs.Words.{AtSomePath, Body, By, Fault, GivesSome, GoesBy, GoesOver, IfOk, IsMemoryOnErr, List, MapOf, MapStep, MappedInitAs, Memory, MutBor, OfFault};
+ghost use Rattle.commonware_parallel.specs.Words.{PartitionOf, Path, TryMapOf, UnlessRefused, body_call, length, listed, multiplied_call, ◌<◌, ◌≡◌};
 
 mod folds;
 
@@ -29,10 +13,16 @@ use crate::call::Call;
 use crate::dispatch::dispatch_path;
 use crate::strategy::Strategy;
 pub use folds::{fold_init_through, fold_through, try_fold_as_it_comes, try_fold_through};
+pub use parallel_bridge::list::fold::fold_iter;
+pub use parallel_bridge::list::fold_init::fold_init_iter;
 use parallel_bridge::list::map::map_by;
+pub use parallel_bridge::list::map::map_iter;
 use parallel_bridge::list::map_init::map_init_by;
+pub use parallel_bridge::list::map_init::map_init_iter;
 use parallel_bridge::list::partition::partition_by;
+pub use parallel_bridge::list::partition::partition_iter;
 use parallel_bridge::list::try_map::try_map_by;
+pub use parallel_bridge::list::try_map::try_map_iter;
 use parallel_bridge::{Parts, Path};
 use parallel_fault::{Fault, Trouble};
 use parallel_policy::Place;
@@ -45,7 +35,7 @@ use std::thread::Threads;
 pub fn body_over<Q: Parts>(parts: &Q) -> Call
     ensures counted { (xs : List Q.Item) → Q.gives parts.now xs → result ≡ body_call (length xs) }
     ensures kind { result.kind ≡ Body }
-    ensures parts { result.parts ≡ 1 }
+    ensures parts { result.max_parts ≡ 1 }
 {
     Call::body(parts.len())
 }
@@ -55,7 +45,7 @@ pub fn multiplied_body_over<Q: Parts>(parts: &Q, multiplier: usize) -> Call
     ensures counted { (xs : List Q.Item) → Q.gives parts.now xs
         → result ≡ multiplied_call (length xs) multiplier }
     ensures kind { result.kind ≡ Body }
-    ensures parts { result.parts ≡ 1 }
+    ensures parts { result.max_parts ≡ 1 }
 {
     Call::body_with_multiplier(parts.len(), multiplier)
 }
@@ -70,7 +60,7 @@ pub fn dispatch_call<S: Strategy, Rt: Wait, P: Place, R, B: FnOnce(Path) -> Resu
     call: Call,
     body: B,
 ) -> Result<R, Fault>
-    requires parts { 0 < call.parts }
+    requires parts { 0 < call.max_parts }
     requires kind { call.kind ≡ Body }
     requires accepts { (path : Path) → S.takes strategy.now (P.site_of site) call (By path)
         → B.pre body path }
@@ -96,7 +86,7 @@ pub fn dispatch_fallible<
     E,
     B: FnOnce(Path) -> Result<R, Trouble<E>>,
 >(strategy: &S, rt: &Rt, alloc: Global, site: P, call: Call, body: B) -> Result<R, Trouble<E>>
-    requires parts { 0 < call.parts }
+    requires parts { 0 < call.max_parts }
     requires kind { call.kind ≡ Body }
     requires accepts { (path : Path) → S.takes strategy.now (P.site_of site) call (By path)
         → B.pre body path }
@@ -130,7 +120,7 @@ pub fn map_through<
     parts: Q,
     map_op: &F,
 ) -> Result<Vec<T>, Fault>
-    requires parts { 0 < call.parts }
+    requires parts { 0 < call.max_parts }
     requires kind { call.kind ≡ Body }
     requires accepts { (x : Q.Item) → Q.may parts x → F.pre map_op.now x }
     ensures answers { IfOk result (λ ys. GivesSome Q.gives parts
@@ -168,7 +158,7 @@ pub fn try_map_through<
     parts: Q,
     map_op: &F,
 ) -> Result<Vec<T>, Trouble<E>>
-    requires parts { 0 < call.parts }
+    requires parts { 0 < call.max_parts }
     requires kind { call.kind ≡ Body }
     requires accepts { (x : Q.Item) → Q.may parts x → F.pre map_op.now x }
     ensures answers { UnlessRefused result (λ out. GivesSome Q.gives parts
@@ -202,7 +192,7 @@ pub fn partition_through<
     parts: Q,
     map_op: &F,
 ) -> Result<(Vec<U>, Vec<K>), Fault>
-    requires parts { 0 < call.parts }
+    requires parts { 0 < call.max_parts }
     requires kind { call.kind ≡ Body }
     requires accepts { (x : Q.Item) → Q.may parts x → F.pre map_op.now x }
     ensures answers { IfOk result (λ r. GivesSome Q.gives parts
@@ -241,7 +231,7 @@ pub fn map_init_through<
     init: &N,
     map_op: &F,
 ) -> Result<Vec<T>, Fault>
-    requires parts { 0 < call.parts }
+    requires parts { 0 < call.max_parts }
     requires kind { call.kind ≡ Body }
     requires init_accepts { N.IsAlwaysCallable init.now }
     requires map_accepts { (x : Q.Item) → Q.may parts x

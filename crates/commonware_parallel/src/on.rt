@@ -1,17 +1,7 @@
 //! The calls of one place, with what they have in common written once.
-ghost use Rattle.std.specs.Prelude.{IfOk, IfErr, OnOk, length};
-ghost use Rattle.std.specs.Borrow.{MutBor};
-ghost use Rattle.std.specs.List.Sorted.{IsPermutation, IsSortedByClosure, IsStableByClosure};
-ghost use Rattle.parallel_bridge.specs.Lists.{Bracketing, Brackets, MapOf};
-ghost use Rattle.parallel_bridge.specs.Outcomes.{UnlessRefused, listed};
-ghost use Rattle.parallel_bridge.specs.Parts.{PartitionOf};
-ghost use Rattle.parallel_bridge.specs.Sources.{GivesSome};
-ghost use Rattle.parallel_bridge.specs.States.{FoldInitSegment, FoldStep, MapStep, Stateful};
-ghost use Rattle.parallel_bridge.specs.Tries.{TryBracketing, TryMapOf};
-ghost use Rattle.parallel_bridge.specs.Ways.{FoldedAs, FoldedInitAs, MappedInitAs, TryFoldedAs};
-ghost use Rattle.parallel_fault.specs.Trouble.{IsMemoryOnErr, IsMemoryOnFault};
-ghost use Rattle.commonware_parallel.specs.Calls.{body_call, join_call};
-ghost use Rattle.commonware_parallel.specs.ListCalls.{Asked};
+ghost use Rattle.commonware_parallel.specs.Words.{Asked, Bracketing, Brackets, FoldInitSegment, FoldStep, FoldedAs, FoldedInitAs, GivesSome, IfErr, IfOk, IsMemoryOnErr, IsMemoryOnFault};
+ghost use Rattle.commonware_parallel.specs.Words.{IsPermutation, IsSortedByClosure, IsStableByClosure, MapOf, MapStep, MappedInitAs, MutBor, OnOk, PartitionOf, Stateful, TryBracketing};
+ghost use Rattle.commonware_parallel.specs.Words.{TryFoldedAs, TryMapOf, UnlessRefused, body_call, join_call, length, listed};
 ghost use Rattle.commonware_parallel.specs.OnePlace.{AskedOn, GoesOn};
 
 use crate::strategy::Strategy;

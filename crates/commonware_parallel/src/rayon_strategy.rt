@@ -174,7 +174,7 @@ impl<C> Rayon<C> {
 
     // The pick of a call that no policy is asked about.
     fn pick(&self, call: Call) -> Pick
-        requires { 0 < call.parts }
+        requires { 0 < call.max_parts }
         ensures has { HasPick call result }
         ensures takes { RayonTakes (planning_of self.now) (threads_of self.now)
             (chooses_of self.now) call result }

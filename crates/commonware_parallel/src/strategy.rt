@@ -1,45 +1,25 @@
 //! What a program calls: maps, folds, joins, sorts, batches, tiles and jobs through any strategy.
-ghost use Rattle.std.specs.Prelude.{ℕ, ◌<◌, IfOk, IfErr, OnOk, MatchResult, length};
-ghost use Rattle.std.specs.Borrow.{MutBor};
-ghost use Rattle.std.specs.Int.NonZero.{non_zero_usize_get};
-ghost use Rattle.std.specs.List.Sorted.{IsPermutation, IsSortedByClosure, IsStableByClosure};
-ghost use Rattle.parallel_bridge.specs.Lists.{Bracketing, Brackets, MapOf};
-ghost use Rattle.parallel_bridge.specs.Outcomes.{UnlessRefused, listed};
-ghost use Rattle.parallel_bridge.specs.Parts.{PartitionOf};
-ghost use Rattle.parallel_bridge.specs.Sources.{GivesSome};
-ghost use Rattle.parallel_bridge.specs.States.{FoldInitSegment, FoldStep, MapStep, Stateful};
-ghost use Rattle.parallel_bridge.specs.Tries.{TryBracketing, TryMapOf};
-ghost use Rattle.parallel_bridge.specs.Ways.{FoldedAs, FoldedInitAs, MappedInitAs, TryFoldedAs};
-ghost use Rattle.commonware_parallel.specs.Calls.{AtSomePath, body_call, join_call, multiplied_call, spawn_call};
-ghost use Rattle.commonware_parallel.specs.Answers.{AnswersAs, OfOne, OneOf};
-ghost use Rattle.commonware_parallel.specs.Batches.{IsBatch, OnSomeBatch, ranges_of};
-ghost use Rattle.commonware_parallel.specs.Spawned.{BeginsAs, FailsToSpawn, gives_answer};
-ghost use Rattle.commonware_parallel.specs.ListCalls.{Asked, AskedOver, GoesByLength};
-ghost use Rattle.commonware_parallel.specs.Tiles.{IsTiling, OnSomeTiles};
-ghost use Rattle.parallel_shares.specs.Grid.{Fits};
-ghost use Rattle.parallel_fault.specs.Trouble.{IsMemoryOnErr, IsMemoryOnFault};
+ghost use Rattle.commonware_parallel.specs.Words.{AnswersAs, Asked, AskedOver, AtSomePath, Batches, BeginsAs, Bracketing, Brackets, By, FailsToSpawn, Fits, FoldInitSegment, FoldStep, FoldedAs};
+ghost use Rattle.commonware_parallel.specs.Words.{FoldedInitAs, GivesSome, GoesByLength, IfErr, IfOk, IsBatch, IsMemoryOnErr, IsMemoryOnFault, IsPermutation, IsSortedByClosure, IsStableByClosure};
+ghost use Rattle.commonware_parallel.specs.Words.{IsTiling, MapOf, MapStep, MappedInitAs, MutBor, OfOne, OnOk, OnSomeBatch, OnSomeTiles, OneOf, PartitionOf, Stateful, Tiles, TryBracketing};
+ghost use Rattle.commonware_parallel.specs.Words.{TryFoldedAs, TryMapOf, UnlessRefused, body_call, gives_answer, join_call, length, listed, multiplied_call, non_zero_usize_get, ranges_of};
+ghost use Rattle.commonware_parallel.specs.Words.{spawn_call, ℕ, ◌<◌};
 
 mod chooser;
 
 use crate::batches::{Batches, batches_through, try_batches_through};
 use crate::call::Call;
-use crate::dispatch::{choose_path, dispatch_path};
+use crate::dispatch::{choose_path, dispatch_path, dispatch_unfailing};
 use crate::list::{
-    body_over, fold_init_through, fold_through, map_init_through, map_through,
-    multiplied_body_over, partition_through, try_fold_as_it_comes, try_fold_through,
-    try_map_through,
+    body_over, fold_init_iter, fold_init_through, fold_iter, fold_through, map_init_iter,
+    map_init_through, map_iter, map_through, multiplied_body_over, partition_iter,
+    partition_through, try_fold_as_it_comes, try_fold_through, try_map_iter, try_map_through,
 };
 use crate::meter::Meter;
 use crate::spawned::{Job, Spawned, begin};
 use crate::tiles::{Tiles, tiles_through};
 pub use chooser::Chooser;
-use parallel_bridge::list::fold::fold_iter;
-use parallel_bridge::list::fold_init::fold_init_iter;
-use parallel_bridge::list::map::map_iter;
-use parallel_bridge::list::map_init::map_init_iter;
-use parallel_bridge::list::partition::partition_iter;
 use parallel_bridge::list::sort::sort_parallel;
-use parallel_bridge::list::try_map::try_map_iter;
 use parallel_bridge::{Path, Source};
 use parallel_fault::{Fault, Trouble};
 use parallel_policy::Place;
@@ -48,8 +28,7 @@ use std::alloc::Global;
 use std::cmp::Ordering;
 use std::num::NonZeroUsize;
 use std::sync::Wait;
-use std::thread;
-use std::thread::Threads;
+use std::thread::{self, Threads};
 
 /// Runs a program's folds, maps, joins, sorts, batches and tiles, which are written once for all
 /// strategies.
@@ -78,13 +57,8 @@ use std::thread::Threads;
 /// `identity`, `init`, `reduce_op` and `compare` have to accept every value of their arguments'
 /// types.
 pub trait Strategy: Chooser {
-    ghost use Rattle.commonware_parallel.specs.declared.batches.Batches.{Batches};
-    ghost use Rattle.commonware_parallel.specs.declared.tiles.Tiles.{Tiles};
-    ghost use Rattle.commonware_parallel.specs.declared.call.Pick.TheVariants.{By};
-
-    /// An answer of one of two bodies, by the path that the strategy takes.
-    ///
-    /// `len` is the number of items that the bodies stand for, by which a policy tells calls apart.
+    /// An answer of one of two bodies, by the path that the strategy takes. `len` is the number of
+    /// items that the bodies stand for, by which a policy tells calls apart.
     ///
     /// # Errors
     ///
@@ -101,47 +75,26 @@ pub trait Strategy: Chooser {
     ) -> Result<R, Fault>
         requires serial_runs { A.pre serial }
         requires parallel_runs { B.pre parallel }
-        ensures answers { IfOk result (λ answer. AtSomePath
-            (Self.takes self.now (P.site_of site) (body_call len))
-            (λ path. OneOf (A.post serial answer) (B.post parallel answer) path)) }
+        ensures answers { IfOk result (λ answer. AtSomePath (Self.takes self.now (P.site_of site)
+            (body_call len)) (λ path. OneOf (A.post serial answer) (B.post parallel answer) path)) }
         ensures refused { IfErr result (Self.refuses self.now (P.site_of site) (body_call len)) }
         ensures fault { IsMemoryOnErr result }
     {
-        let body = move |path: Path| -> Result<R, ()>
-            requires { A.pre serial × B.pre parallel }
-            ensures { MatchResult result (λ answer. OneOf (A.post serial answer)
-                (B.post parallel answer) path) (λ _. ⊥) }
-        {
-            match path {
-                Path::Serial => Ok(serial()),
-                Path::Parallel => Ok(parallel()),
-            }
+        let body = move |path| match path {
+            Path::Serial => serial(),
+            Path::Parallel => parallel(),
         };
-        match dispatch_path(self, rt, alloc, site, Call::body(len), body) {
-            Ok(answer) => Ok(answer),
-            Err(Trouble::Fault(fault)) => Err(fault),
-            Err(Trouble::Closure(())) => unreachable!(),
-        }
+        dispatch_unfailing(self, rt, alloc, site, Call::body(len), body)
     }
 
-    /// An answer of one of two bodies that may fail by an error of their own, by the path that the
-    /// strategy takes (`AnswersAs`, `OneOf`).
-    ///
-    /// `len` is the number of items that the bodies stand for, by which a policy tells calls apart.
+    /// As `run`, of two bodies that may fail by an error of their own (`AnswersAs`, `OneOf`).
     ///
     /// # Errors
     ///
     /// `Trouble::Closure` with the error of the body that was run. `Trouble::Fault` with
     /// `Fault::Memory` alone, and only where `refuses` allows it: a strategy without a policy
     /// refuses no run.
-    final fn try_run<
-        Rt: Wait,
-        P: Place,
-        R,
-        E,
-        A: FnOnce() -> Result<R, E> + Drop,
-        B: FnOnce() -> Result<R, E> + Drop,
-    >(
+    final fn try_run<Rt: Wait, P: Place, R, E, A, B>(
         &self,
         rt: &Rt,
         alloc: Global,
@@ -150,6 +103,9 @@ pub trait Strategy: Chooser {
         serial: A,
         parallel: B,
     ) -> Result<R, Trouble<E>>
+    where
+        A: FnOnce() -> Result<R, E> + Drop,
+        B: FnOnce() -> Result<R, E> + Drop,
         requires serial_runs { A.pre serial }
         requires parallel_runs { B.pre parallel }
         ensures answers { AnswersAs
@@ -158,14 +114,9 @@ pub trait Strategy: Chooser {
             (OfOne (A.post serial) (B.post parallel)) result }
         ensures fault { IsMemoryOnFault result }
     {
-        let body = move |path: Path| -> Result<R, E>
-            requires { A.pre serial × B.pre parallel }
-            ensures { OneOf (A.post serial result) (B.post parallel result) path }
-        {
-            match path {
-                Path::Serial => serial(),
-                Path::Parallel => parallel(),
-            }
+        let body = move |path| match path {
+            Path::Serial => serial(),
+            Path::Parallel => parallel(),
         };
         dispatch_path(self, rt, alloc, site, Call::body(len), body)
     }
@@ -191,21 +142,11 @@ pub trait Strategy: Chooser {
         ensures refused { IfErr result (Self.refuses self.now (P.site_of site) join_call) }
         ensures fault { IsMemoryOnErr result }
     {
-        let body = move |path: Path| -> Result<(RA, RB), ()>
-            requires { A.pre a × B.pre b }
-            ensures { MatchResult result (λ answers. A.post a answers.0 × B.post b answers.1)
-                (λ _. ⊥) }
-        {
-            match path {
-                Path::Serial => Ok((a(), b())),
-                Path::Parallel => Ok(thread::join(rt, a, b)),
-            }
+        let body = move |path| match path {
+            Path::Serial => (a(), b()),
+            Path::Parallel => thread::join(rt, a, b),
         };
-        match dispatch_path(self, rt, alloc, site, Call::join(), body) {
-            Ok(answers) => Ok(answers),
-            Err(Trouble::Fault(fault)) => Err(fault),
-            Err(Trouble::Closure(())) => unreachable!(),
-        }
+        dispatch_unfailing(self, rt, alloc, site, Call::join(), body)
     }
 
     /// A job, run on a clone of this strategy: serially at once, and in parallel on a worker of its
@@ -219,12 +160,7 @@ pub trait Strategy: Chooser {
     ///
     /// What the strategy refuses; `Fault::Memory`; in parallel `Fault::Worker` where the worker's
     /// start was refused (`FailsToSpawn`). The job is then dropped.
-    final fn spawn<
-        Rt: Threads + Wait + Copy + Send + 'static,
-        P: Place,
-        F: Job<Self, T> + Send + Drop + 'static,
-        T: Send + Drop + 'static,
-    >(
+    final fn spawn<Rt, P: Place, F, T: Send + Drop + 'static>(
         &self,
         rt: &Rt,
         alloc: Global,
@@ -232,13 +168,15 @@ pub trait Strategy: Chooser {
         len: usize,
         job: F,
     ) -> Result<Spawned<Rt, Self, F, T>, Fault>
+    where
+        Rt: Threads + Wait + Copy + Send + 'static,
+        F: Job<Self, T> + Send + Drop + 'static,
         requires { (clone : Self) → Self.is_clone self.now clone → F.may_run job clone }
         ensures gives { IfOk result (λ spawned. (clone : Self) × Self.is_clone self.now clone
             × ((answer : T) → gives_answer F.may_answer spawned answer
             → F.may_answer job clone answer)) }
-        ensures form { IfOk result (λ spawned. AtSomePath
-            (Self.takes self.now (P.site_of site) (spawn_call len))
-            (λ path. BeginsAs (Self.starts self.now) path spawned)) }
+        ensures form { IfOk result (λ spawned. AtSomePath (Self.takes self.now (P.site_of site)
+            (spawn_call len)) (λ path. BeginsAs (Self.starts self.now) path spawned)) }
         ensures refused { IfErr result
             (FailsToSpawn (Self.takes self.now (P.site_of site) (spawn_call len))
             (Self.refuses self.now (P.site_of site) (spawn_call len)) (Self.starts self.now)) }
@@ -289,8 +227,7 @@ pub trait Strategy: Chooser {
     ///
     /// # Errors
     ///
-    /// `Fault::Memory` alone, where the strategy or the sort's buffer was refused memory; the items
-    /// are then a permutation of what they were.
+    /// `Fault::Memory` alone, as there; the items are then a permutation of what they were.
     final fn sort_unstable_by<
         Rt: Threads + Wait + Sync,
         P: Place,
@@ -307,10 +244,8 @@ pub trait Strategy: Chooser {
         self.sort_by(rt, alloc, site, items, compare)
     }
 
-    /// The answers of `map_op` for the items, in the items' order (`MapOf`). The closure has to
-    /// accept each item that may come of the source, and no other value.
-    ///
-    /// The strategy is asked by the number of items (`asked`).
+    /// The answers of `map_op` for the items, in the items' order (`MapOf`). The strategy is asked
+    /// by the number of items (`asked`).
     ///
     /// # Errors
     ///
@@ -332,16 +267,11 @@ pub trait Strategy: Chooser {
             (AskedOver I.gives source (Self.takes self.now (P.site_of site)) body_call) }
         ensures fault { IsMemoryOnErr result }
     {
-        // (each answer is bound before it is handed on, here and below: so its facts have a name in
-        // the proof)
         if self.is_serial() {
-            let answers = map_iter(alloc, source.into_items(), &map_op)?;
-            return Ok(answers);
+            return map_iter(alloc, source.into_items(), &map_op);
         }
         let parts = source.into_parts(alloc)?;
-        let call = body_over(&parts);
-        let answers = map_through(self, rt, alloc, site, call, parts, &map_op)?;
-        Ok(answers)
+        map_through(self, rt, alloc, site, body_over(&parts), parts, &map_op)
     }
 
     /// As `map_collect_vec`, for items that each stand for the work of `multiplier`: a policy tells
@@ -350,14 +280,7 @@ pub trait Strategy: Chooser {
     /// # Errors
     ///
     /// `Fault::Memory` alone, as there.
-    final fn map_collect_vec_with_multiplier<
-        Rt: Threads + Wait + Sync,
-        P: Place,
-        M,
-        I: Source<M>,
-        T: Send + Drop,
-        F: Fn(I::Item) -> T + Send + Sync + Drop,
-    >(
+    final fn map_collect_vec_with_multiplier<Rt, P: Place, M, I: Source<M>, T: Send + Drop, F>(
         &self,
         rt: &Rt,
         alloc: Global,
@@ -366,6 +289,9 @@ pub trait Strategy: Chooser {
         multiplier: usize,
         map_op: F,
     ) -> Result<Vec<T>, Fault>
+    where
+        Rt: Threads + Wait + Sync,
+        F: Fn(I::Item) -> T + Send + Sync + Drop,
         requires can { I.can source }
         requires accepts { (x : I.Item) → I.may source x → F.pre map_op x }
         ensures answers { IfOk result (λ ys. GivesSome I.gives source
@@ -375,13 +301,11 @@ pub trait Strategy: Chooser {
         ensures fault { IsMemoryOnErr result }
     {
         if self.is_serial() {
-            let answers = map_iter(alloc, source.into_items(), &map_op)?;
-            return Ok(answers);
+            return map_iter(alloc, source.into_items(), &map_op);
         }
         let parts = source.into_parts(alloc)?;
         let call = multiplied_body_over(&parts, multiplier);
-        let answers = map_through(self, rt, alloc, site, call, parts, &map_op)?;
-        Ok(answers)
+        map_through(self, rt, alloc, site, call, parts, &map_op)
     }
 
     /// The items folded in neighbouring segments, each from an identity of its own, and the
@@ -390,22 +314,12 @@ pub trait Strategy: Chooser {
     /// Serially the list is one segment and nothing is reduced. In parallel it goes along the
     /// list's shape for the pool's thread number, and each leaf is reduced behind a further
     /// identity (`FoldedAs`). `parallel_bridge::fold_law` says when every such answer is the plain
-    /// fold from the left. `fold_op` has to accept each item that may come of the source, at every
-    /// value, and no other item.
+    /// fold from the left.
     ///
     /// # Errors
     ///
     /// `Fault::Memory` alone; the items are then gone.
-    final fn fold<
-        Rt: Threads + Wait + Sync,
-        P: Place,
-        M,
-        I: Source<M>,
-        R: Send + Drop,
-        ID: Fn() -> R + Send + Sync + Drop,
-        F: Fn(R, I::Item) -> R + Send + Sync + Drop,
-        G: Fn(R, R) -> R + Send + Sync + Drop,
-    >(
+    final fn fold<Rt: Threads + Wait + Sync, P: Place, M, I: Source<M>, R: Send + Drop, ID, F, G>(
         &self,
         rt: &Rt,
         alloc: Global,
@@ -415,10 +329,13 @@ pub trait Strategy: Chooser {
         fold_op: F,
         reduce_op: G,
     ) -> Result<R, Fault>
+    where
+        ID: Fn() -> R + Send + Sync + Drop,
+        F: Fn(R, I::Item) -> R + Send + Sync + Drop,
+        G: Fn(R, R) -> R + Send + Sync + Drop,
         requires can { I.can source }
         requires identity_accepts { ID.IsAlwaysCallable identity }
-        requires fold_accepts { (x : I.Item) → I.may source x
-            → (value : R) → F.pre fold_op value x }
+        requires fold_accepts { (x : I.Item) → I.may source x → (r : R) → F.pre fold_op r x }
         requires reduce_accepts { G.IsAlwaysCallable reduce_op }
         ensures brackets { IfOk result (λ r. GivesSome I.gives source
             (λ xs. Bracketing (ID.post identity) (F.post fold_op) (G.post reduce_op) xs r)) }
@@ -432,31 +349,18 @@ pub trait Strategy: Chooser {
         }
         let parts = source.into_parts(alloc)?;
         let call = body_over(&parts);
-        let answer = fold_through(
+        fold_through(
             self, rt, alloc, site, call, parts, &identity, &fold_op, &reduce_op,
-        )?;
-        Ok(answer)
+        )
     }
 
     /// The items folded as by `fold`, with a state at hand that goes from item to item of a segment
-    /// and begins there as a value of `init` (`FoldInitSegment`). `fold_op` has to accept each item
-    /// that may come of the source, at every value and every state.
+    /// and begins there as a value of `init` (`FoldInitSegment`).
     ///
     /// # Errors
     ///
     /// `Fault::Memory` alone; the items are then gone.
-    final fn fold_init<
-        Rt: Threads + Wait + Sync,
-        P: Place,
-        M,
-        I: Source<M>,
-        S: Send + Drop,
-        R: Send + Drop,
-        N: Fn() -> S + Send + Sync + Drop,
-        ID: Fn() -> R + Send + Sync + Drop,
-        F: Fn(R, &mut S, I::Item) -> R + Send + Sync + Drop,
-        G: Fn(R, R) -> R + Send + Sync + Drop,
-    >(
+    final fn fold_init<Rt: Threads + Wait + Sync, P: Place, M, I: Source<M>, S, R, N, ID, F, G>(
         &self,
         rt: &Rt,
         alloc: Global,
@@ -467,6 +371,13 @@ pub trait Strategy: Chooser {
         fold_op: F,
         reduce_op: G,
     ) -> Result<R, Fault>
+    where
+        S: Send + Drop,
+        R: Send + Drop,
+        N: Fn() -> S + Send + Sync + Drop,
+        ID: Fn() -> R + Send + Sync + Drop,
+        F: Fn(R, &mut S, I::Item) -> R + Send + Sync + Drop,
+        G: Fn(R, R) -> R + Send + Sync + Drop,
         requires can { I.can source }
         requires init_accepts { N.IsAlwaysCallable init }
         requires identity_accepts { ID.IsAlwaysCallable identity }
@@ -487,10 +398,9 @@ pub trait Strategy: Chooser {
         }
         let parts = source.into_parts(alloc)?;
         let call = body_over(&parts);
-        let answer = fold_init_through(
+        fold_init_through(
             self, rt, alloc, site, call, parts, &init, &identity, &fold_op, &reduce_op,
-        )?;
-        Ok(answer)
+        )
     }
 
     /// The items folded up to the first step that fails, in neighbouring segments, each from an
@@ -498,24 +408,13 @@ pub trait Strategy: Chooser {
     ///
     /// A segment ends at its own first error, and of several the leftmost is answered, whichever
     /// segment ended first. Where a segment has failed, the closures may go uncalled for the items
-    /// to the right of it. The forms of the segments are those of `fold` (`TryFoldedAs`), and so is
-    /// what `fold_op` has to accept.
+    /// to the right of it. The forms of the segments are those of `fold` (`TryFoldedAs`).
     ///
     /// # Errors
     ///
     /// `Trouble::Closure` with the error of the step that failed. `Trouble::Fault` with
     /// `Fault::Memory` alone. The items are then gone.
-    final fn try_fold<
-        Rt: Threads + Wait + Sync,
-        P: Place,
-        M,
-        I: Source<M>,
-        R: Send + Drop,
-        E: Send + Drop,
-        ID: Fn() -> R + Send + Sync + Drop,
-        F: Fn(R, I::Item) -> Result<R, E> + Send + Sync + Drop,
-        G: Fn(R, R) -> R + Send + Sync + Drop,
-    >(
+    final fn try_fold<Rt: Threads + Wait + Sync, P: Place, M, I: Source<M>, R, E, ID, F, G>(
         &self,
         rt: &Rt,
         alloc: Global,
@@ -525,10 +424,15 @@ pub trait Strategy: Chooser {
         fold_op: F,
         reduce_op: G,
     ) -> Result<R, Trouble<E>>
+    where
+        R: Send + Drop,
+        E: Send + Drop,
+        ID: Fn() -> R + Send + Sync + Drop,
+        F: Fn(R, I::Item) -> Result<R, E> + Send + Sync + Drop,
+        G: Fn(R, R) -> R + Send + Sync + Drop,
         requires can { I.can source }
         requires identity_accepts { ID.IsAlwaysCallable identity }
-        requires fold_accepts { (x : I.Item) → I.may source x
-            → (value : R) → F.pre fold_op value x }
+        requires fold_accepts { (x : I.Item) → I.may source x → (r : R) → F.pre fold_op r x }
         requires reduce_accepts { G.IsAlwaysCallable reduce_op }
         ensures brackets { UnlessRefused result (λ out. GivesSome I.gives source
             (λ xs. TryBracketing (ID.post identity) (F.post fold_op) (G.post reduce_op) xs out)) }
@@ -548,9 +452,8 @@ pub trait Strategy: Chooser {
     }
 
     /// The values that `map_op` answers for the items, in the items' order, or the error of the
-    /// first item that fails, whichever part of the list ended first (`TryMapOf`). The closure has
-    /// to accept each item that may come of the source, and no other value. Behind an item that
-    /// fails it may go uncalled.
+    /// first item that fails, whichever part of the list ended first (`TryMapOf`). Behind an item
+    /// that fails the closure may go uncalled.
     ///
     /// # Errors
     ///
@@ -577,30 +480,19 @@ pub trait Strategy: Chooser {
             return try_map_iter(alloc, source.into_items(), &map_op);
         }
         let parts = source.into_parts(alloc)?;
-        let call = body_over(&parts);
-        try_map_through(self, rt, alloc, site, call, parts, &map_op)
+        try_map_through(self, rt, alloc, site, body_over(&parts), parts, &map_op)
     }
 
     /// The answers of `map_op` for the items, in the items' order, with a state at hand that goes
     /// from item to item of a segment and begins there as a value of `init` (`Stateful`).
     ///
     /// Serially the list is one segment with one state. In parallel the states change at the
-    /// segments of the list's shape for the pool's thread number (`MappedInitAs`). The closure has
-    /// to accept each item that may come of the source, at every state.
+    /// segments of the list's shape for the pool's thread number (`MappedInitAs`).
     ///
     /// # Errors
     ///
     /// `Fault::Memory` alone; the items are then gone.
-    final fn map_init_collect_vec<
-        Rt: Threads + Wait + Sync,
-        P: Place,
-        M,
-        I: Source<M>,
-        S: Send + Drop,
-        T: Send + Drop,
-        N: Fn() -> S + Send + Sync + Drop,
-        F: Fn(&mut S, I::Item) -> T + Send + Sync + Drop,
-    >(
+    final fn map_init_collect_vec<Rt: Threads + Wait + Sync, P: Place, M, I: Source<M>, S, T, N, F>(
         &self,
         rt: &Rt,
         alloc: Global,
@@ -609,6 +501,11 @@ pub trait Strategy: Chooser {
         init: N,
         map_op: F,
     ) -> Result<Vec<T>, Fault>
+    where
+        S: Send + Drop,
+        T: Send + Drop,
+        N: Fn() -> S + Send + Sync + Drop,
+        F: Fn(&mut S, I::Item) -> T + Send + Sync + Drop,
         requires can { I.can source }
         requires init_accepts { N.IsAlwaysCallable init }
         requires map_accepts { (x : I.Item) → I.may source x
@@ -621,13 +518,11 @@ pub trait Strategy: Chooser {
         ensures fault { IsMemoryOnErr result }
     {
         if self.is_serial() {
-            let answers = map_init_iter(alloc, source.into_items(), &init, &map_op)?;
-            return Ok(answers);
+            return map_init_iter(alloc, source.into_items(), &init, &map_op);
         }
         let parts = source.into_parts(alloc)?;
         let call = body_over(&parts);
-        let answers = map_init_through(self, rt, alloc, site, call, parts, &init, &map_op)?;
-        Ok(answers)
+        map_init_through(self, rt, alloc, site, call, parts, &init, &map_op)
     }
 
     /// As `map_init_collect_vec`, for items that each stand for the work of `multiplier`: a policy
@@ -636,16 +531,7 @@ pub trait Strategy: Chooser {
     /// # Errors
     ///
     /// `Fault::Memory` alone; the items are then gone.
-    final fn map_init_collect_vec_with_multiplier<
-        Rt: Threads + Wait + Sync,
-        P: Place,
-        M,
-        I: Source<M>,
-        S: Send + Drop,
-        T: Send + Drop,
-        N: Fn() -> S + Send + Sync + Drop,
-        F: Fn(&mut S, I::Item) -> T + Send + Sync + Drop,
-    >(
+    final fn map_init_collect_vec_with_multiplier<Rt, P: Place, M, I: Source<M>, S, T, N, F>(
         &self,
         rt: &Rt,
         alloc: Global,
@@ -655,6 +541,12 @@ pub trait Strategy: Chooser {
         init: N,
         map_op: F,
     ) -> Result<Vec<T>, Fault>
+    where
+        Rt: Threads + Wait + Sync,
+        S: Send + Drop,
+        T: Send + Drop,
+        N: Fn() -> S + Send + Sync + Drop,
+        F: Fn(&mut S, I::Item) -> T + Send + Sync + Drop,
         requires can { I.can source }
         requires init_accepts { N.IsAlwaysCallable init }
         requires map_accepts { (x : I.Item) → I.may source x
@@ -668,31 +560,20 @@ pub trait Strategy: Chooser {
         ensures fault { IsMemoryOnErr result }
     {
         if self.is_serial() {
-            let answers = map_init_iter(alloc, source.into_items(), &init, &map_op)?;
-            return Ok(answers);
+            return map_init_iter(alloc, source.into_items(), &init, &map_op);
         }
         let parts = source.into_parts(alloc)?;
         let call = multiplied_body_over(&parts, multiplier);
-        let answers = map_init_through(self, rt, alloc, site, call, parts, &init, &map_op)?;
-        Ok(answers)
+        map_init_through(self, rt, alloc, site, call, parts, &init, &map_op)
     }
 
     /// The values that `map_op` answers, and the keys of the items for which it answers none, both
-    /// in the items' order (`PartitionOf`). The closure has to accept each item that may come of
-    /// the source, and no other value.
+    /// in the items' order (`PartitionOf`).
     ///
     /// # Errors
     ///
     /// `Fault::Memory` alone; the items are then gone.
-    final fn map_partition_collect_vec<
-        Rt: Threads + Wait + Sync,
-        P: Place,
-        M,
-        I: Source<M>,
-        K: Send + Drop,
-        U: Send + Drop,
-        F: Fn(I::Item) -> (K, Option<U>) + Send + Sync + Drop,
-    >(
+    final fn map_partition_collect_vec<Rt, P: Place, M, I: Source<M>, K, U, F>(
         &self,
         rt: &Rt,
         alloc: Global,
@@ -700,6 +581,11 @@ pub trait Strategy: Chooser {
         source: I,
         map_op: F,
     ) -> Result<(Vec<U>, Vec<K>), Fault>
+    where
+        Rt: Threads + Wait + Sync,
+        K: Send + Drop,
+        U: Send + Drop,
+        F: Fn(I::Item) -> (K, Option<U>) + Send + Sync + Drop,
         requires can { I.can source }
         requires accepts { (x : I.Item) → I.may source x → F.pre map_op x }
         ensures answers { IfOk result (λ parts. GivesSome I.gives source
@@ -709,13 +595,10 @@ pub trait Strategy: Chooser {
         ensures fault { IsMemoryOnErr result }
     {
         if self.is_serial() {
-            let answers = partition_iter(alloc, source.into_items(), &map_op)?;
-            return Ok(answers);
+            return partition_iter(alloc, source.into_items(), &map_op);
         }
         let parts = source.into_parts(alloc)?;
-        let call = body_over(&parts);
-        let answers = partition_through(self, rt, alloc, site, call, parts, &map_op)?;
-        Ok(answers)
+        partition_through(self, rt, alloc, site, body_over(&parts), parts, &map_op)
     }
 
     /// An answer of `run` over a batch of `0..len`: balanced ranges, as many as the strategy picks.
@@ -739,9 +622,8 @@ pub trait Strategy: Chooser {
         multiplier: usize,
         run: F,
     ) -> Result<R, Fault>
-        requires { (batches : Batches Self P) (count : ℕ)
-            → IsBatch len count (non_zero_usize_get minimum) (ranges_of batches)
-            → F.pre run batches }
+        requires { (batches : Batches Self P) (count : ℕ) → IsBatch len count
+            (non_zero_usize_get minimum) (ranges_of batches) → F.pre run batches }
         ensures answers { IfOk result (λ answer. OnSomeBatch Self.takes Self.refuses Self.plans
             Self.threads Self.starts P.site_of self.now site len minimum multiplier
             (λ batches. F.post run batches answer)) }
@@ -755,13 +637,7 @@ pub trait Strategy: Chooser {
     /// # Errors
     ///
     /// `Trouble::Closure` with the closure's error. `Trouble::Fault` with `Fault::Memory` alone.
-    final fn try_run_batches<
-        Rt: Wait,
-        P: Place,
-        R,
-        E,
-        F: FnOnce(Batches<'_, Self, P>) -> Result<R, E> + Drop,
-    >(
+    final fn try_run_batches<Rt: Wait, P: Place, R, E, F>(
         &self,
         rt: &Rt,
         alloc: Global,
@@ -771,9 +647,10 @@ pub trait Strategy: Chooser {
         multiplier: usize,
         run: F,
     ) -> Result<R, Trouble<E>>
-        requires { (batches : Batches Self P) (count : ℕ)
-            → IsBatch len count (non_zero_usize_get minimum) (ranges_of batches)
-            → F.pre run batches }
+    where
+        F: FnOnce(Batches<'_, Self, P>) -> Result<R, E> + Drop,
+        requires { (batches : Batches Self P) (count : ℕ) → IsBatch len count
+            (non_zero_usize_get minimum) (ranges_of batches) → F.pre run batches }
         ensures { UnlessRefused result (λ out. OnSomeBatch Self.takes Self.refuses Self.plans
             Self.threads Self.starts P.site_of self.now site len minimum multiplier
             (λ batches. F.post run batches out)) }

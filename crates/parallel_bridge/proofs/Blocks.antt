@@ -4,6 +4,7 @@ use Rattle.parallel_bridge.proofs.Walks.{ty_array, bare, ent, sep, Fml, ftrue, f
 use Rattle.parallel_bridge.proofs.Walks.{part_at, row, block_ptr, nothing, Option, Some, None, token, owns_if, as_raw, as_written, slots}
 use mathlib.Core.Bool.{Bool, true, false, not}
 use denote.Array.{Array}
+use Rattle.parallel_bridge.proofs.Common.{length-map}
 use Rattle.core.specs.Allocator.{block_with_items}
 use Rattle.core.proofs.mem.Param as core
 use Rattle.std_alloc.proofs.VecSteps.El.{El, el_x, elτ, R, sz, Hd}
@@ -11,10 +12,6 @@ use Rattle.std_alloc.proofs.VecSteps.Rows.{apart, whole}
 use Rattle.parallel_bridge.proofs.RowMemory.{cut, glue, of_items, to_items, of_room, to_room}
 
 module _ {X : Type 0} where
-  pub length_somes : (xs : List X) → length (map Some xs) ≡ length xs
-  length_somes [] = refl
-  length_somes (x ∷ xs) = ap suc (length_somes xs)
-
   abbrev vacant : Option X
   vacant = None
 
@@ -22,21 +19,17 @@ module _ {X : Type 0} where
   abbrev pub stored : ℕ → ℕ → List X → List (Option X)
   stored n c xs = map Some xs ++ replicate (c - n) None
 
+  stored_long : (n c : ℕ) (xs : List X) → length (stored n c xs) ≡ length xs + (c - n)
+  stored_long n c xs =
+      let items : length (map Some xs) ≡ length xs = length-map xs Some in
+      let behind = length-replicate (c - n) vacant in
+      omega (arith, length-append (map Some xs) (replicate (c - n) None), items, behind)
+
   pub stored_length : (n c : ℕ) (xs : List X) → n ≡ length xs → n ≤ c → length (stored n c xs) ≡ c
-  stored_length n c xs long le = omega (
-    arith,
-    length-append (map Some xs) (replicate (c - n) None),
-    length_somes xs,
-    length-replicate (c - n) vacant,
-  )
+  stored_length n c xs long le = omega (arith, stored_long n c xs)
 
   pub stored_within : (n c : ℕ) (xs : List X) → n ≡ length xs → length (stored n c xs) ≡ c → n ≤ c
-  stored_within n c xs long all = omega (
-    arith,
-    length-append (map Some xs) (replicate (c - n) None),
-    length_somes xs,
-    length-replicate (c - n) vacant,
-  )
+  stored_within n c xs long all = omega (arith, stored_long n c xs)
 
   stored_none : (n c : ℕ) (xs : List X) → n ≡ length xs → n ≤ c → c ≡ 0 → stored n c xs ≡ []
   stored_none n c [] long le none =
@@ -63,7 +56,8 @@ module _ (E : El) {M : Type 1} {𝓤 : Ura M} (𝓛 : Logic 𝓤) (a : Hd E) (b 
 
   behind : n ≡ length xs → o + n * sz E ≡ length (map Some xs) * sz E + o
   behind long =
-      let same : n ≡ length (map Some xs) = omega (arith, length_somes xs) in
+      let items : length (map Some xs) ≡ length xs = length-map xs Some in
+      let same : n ≡ length (map Some xs) = omega arith in
       let moved : o + n * sz E ≡ n * sz E + o = omega arith in
       moved ∙ ap (λ (k : ℕ). k * sz E + o) same
 

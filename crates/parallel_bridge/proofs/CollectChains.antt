@@ -1,6 +1,6 @@
 -- What a chain of `into_iter`, `map` and `collect` gives, where the closure has a relation only.
-use Rattle.parallel_bridge.proofs.Common.{◌≡◌, List, [], ◌∷◌, ◌++◌, refl, Option, None, Some, length, sym, subst, ◌∙◌, All, AllByRecursion, AllZip, recursion_from_All, Yields, Drains, DrainsIf}
-use Rattle.parallel_bridge.proofs.Common.{HoldsAlong, CallableAtEachTurn, map_source, map_callee, serves_by, YieldsList, Chain}
+use Rattle.parallel_bridge.proofs.Common.{◌≡◌, List, [], ◌∷◌, ◌++◌, refl, Option, None, Some, length, sym, subst, ◌∙◌, All, All-contains, AllZip, Contains-push, Yields, Drains, DrainsIf}
+use Rattle.parallel_bridge.proofs.Common.{HoldsAlong, CallableAtEachTurn, map_source, map_callee, serves_by, YieldsList}
 use Rattle.std.specs.declared.iter.Map.{Map}
 use Rattle.std.specs.declared.vec.IntoIter.{IntoIter}
 use Rattle.std.specs.Vec.Iter.{into_iter_items, into_iter_len, into_iter_steps}
@@ -51,15 +51,6 @@ mapped_from {A = A} steps mapped f start s ys same from gave allowed gives ends 
     (λ v. (xs : List A) × Drains steps v xs × AllZip (allowed f) xs ys) from
     (mapped_as_they_come steps mapped allowed gives ends f s ys same gave)
 
-last_of : {A : Type 0} (K : A → Type 0) (xs : List A) (x : A) → AllByRecursion K (xs ++ (x ∷ []))
-    → K x
-last_of K [] x h = h.0
-last_of K (y ∷ ys) x h = last_of K ys x h.1
-
--- the last of items that all have a fact has it
-all_last : {A : Type 0} (K : A → Type 0) (xs : List A) (x : A) → All K (xs ++ (x ∷ [])) → K x
-all_last K xs x h = last_of K xs x (recursion_from_All K (xs ++ (x ∷ [])) h)
-
 -- one call more at the end of calls
 pub yields_push : {S A : Type 0} (steps : S → Option A → S → Type 0) (s : S) (xs : List A) (t : S)
     (x : A) (u : S) → Yields steps s xs t → steps t (Some x) u → Yields steps s (xs ++ (x ∷ [])) u
@@ -72,7 +63,8 @@ pub next_has : {S A : Type 0} (steps : S → Option A → S → Type 0) (K : A �
     (xs : List A) (x : A) → HoldsAlong steps s (All K) → Yields steps s xs t → steps t (Some x) u
     → K x
 next_has steps K s t u xs x along led step =
-    all_last K xs x (along (xs ++ (x ∷ [])) u (yields_push steps s xs t x u led step))
+    All-contains K (xs ++ x ∷ []) x (along (xs ++ x ∷ []) u (yields_push steps s xs t x u led step))
+    (Contains-push xs x)
 
 -- a closure that its calls leave as it was may be called at each turn, where the items that come
 -- have what it asks
@@ -83,17 +75,10 @@ pub serves_along : {S A P : Type 0} {steps : S → Option A → S → Type 0} {R
 serves_along {steps = steps} {R = R} {Q = Q} {s = s} {p = p} K along same asks =
     serves_by R (λ _ q. q ≡ p) (λ xs q x v e r. same x v (subst (λ w. R w x v) e r)) steps Q s p
     refl (λ xs t q x u led step e. subst (λ w. Q w x) (sym e)
-    (asks x (all_last K xs x (along (xs ++ (x ∷ [])) u (yields_push steps s xs t x u led step)))))
+    (asks x (next_has steps K s t u xs x along led step)))
 
 -- what an owned list gives, also where the iterator over it is named through an equation
 pub vec_yields : {A Z : Type 0} (xs : List A) (s t : IntoIter A Z) → t ≡ s → into_iter_items s ≡ xs
     → into_iter_len s ≡ length xs → YieldsList (into_iter_steps {X = A} {Z = Z}) (λ y. y) t xs
 vec_yields xs s t same items long = subst (λ v. YieldsList into_iter_steps (λ y. y) v xs) (sym same)
     (YieldsList-from_vec xs items long)
-
--- one step more at the end of a chain
-pub chain_push : {X R : Type 0} (step : R → X → R → Type 0) (a : R) (xs : List X) (m : R) (x : X)
-    (b : R) → Chain step a xs m → step m x b → Chain step a (xs ++ x ∷ []) b
-chain_push step a [] m x b same last = (b, subst (λ v. step v x b) (sym same) last, refl)
-chain_push step a (y ∷ ys) m x b (n, first, rest) last =
-    (n, first, chain_push step n ys m x b rest last)

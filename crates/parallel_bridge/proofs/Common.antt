@@ -5,7 +5,7 @@ pub use Rattle.parallel_bridge.specs.Chunks.{chunks_of, pieces_of}
 pub use Rattle.parallel_bridge.specs.Fills.{Answered, IsFull, OneAfterAnother, SamePlaces, kept, written}
 pub use Rattle.parallel_bridge.specs.Folds.{FoldLaws, IsPlainFold}
 pub use Rattle.parallel_bridge.specs.GateRule.{FitsGate, IsGateOf, KeepsGate, WasTold, back_half, front_half, gathered, greatest, looking, newcomer, one_less, telling}
-pub use Rattle.parallel_bridge.specs.Gates.{IsAtMost, IsSeatOf, IsWatching, MayTell, SameWatch, ToldByOne, known, seats_of, stands_for}
+pub use Rattle.parallel_bridge.specs.Gates.{IsAtMost, IsGateSeatOf, IsWatching, MayTell, SameWatch, ToldByOne, known, seats_of, stands_for}
 pub use Rattle.parallel_bridge.specs.Halting.{Begins, EndsAs, HaltsOnward, IsKeptOf, IsUnhalted, IsUnhaltedLost, JoinsKept, KeptEnds, NotStopped, SeatAfter, TellsAs, halting}
 pub use Rattle.parallel_bridge.specs.Lists.{Bracketing, Brackets, Chain, FoldSegment, MapOf, of_parts, of_segment}
 pub use Rattle.parallel_bridge.specs.Onto.{PartitionOnto, ReducesTo, TryContinues, TryMapBehind, TryMapOnto}
@@ -43,7 +43,7 @@ pub use Rattle.std.proofs.lemmas.Fn.{answers_by, serves_by}
 pub use Rattle.std.proofs.lemmas.Grind.{common_steps, div_ceil_times}
 pub use Rattle.std.proofs.lemmas.Iterator.{YieldsList, YieldsList-from_range, YieldsList-from_slice, items_from_drains}
 pub use Rattle.std.proofs.lemmas.Iterator.Consumers.{YieldsList-from_copied, YieldsList-from_first}
-pub use Rattle.std.proofs.lemmas.List.{drop-replicate, drop-take, drop_all, length-map, length-replicate, map-append, take_rest, replicate-append-replicate, take-replicate}
+pub use Rattle.std.proofs.lemmas.List.{drop-replicate, drop-take, drop_all, length-map, length-replicate, map-append, nil_from_length, take_rest, replicate-append-replicate, take-replicate}
 pub use Rattle.std.proofs.lemmas.List.Elements.{All-append, All-cons, All-contains, All-contains_itself, All-from_recursion, All-head, All-nil, All-push, All-tail, All-weaker, Contains-append_cases}
 pub use Rattle.std.proofs.lemmas.List.Elements.{Contains-append_left, Contains-append_right, Contains-push, Contains-push_cases, recursion_from_All}
 pub use Rattle.std.proofs.lemmas.List.FromFn.{length-range_with_len}

@@ -1,8 +1,6 @@
 -- What the bridge gives along a list's shape, by the consumers that are driven along it.
 use Rattle.parallel_bridge.proofs.Common.{◌≡◌, ℕ, List, [], ◌∷◌, ◌++◌, Result, Ok, Err, Option, IfOk, sym, subst, inl, inr, Trouble, Fault, FoldSegment, Cut, segment, halves, cut_items, Shape}
-use Rattle.parallel_bridge.proofs.Common.{AlongLeaves, UnlessRefused, TryAlongCut, OnlyOk, PartitionOf}
-use Rattle.std.specs.declared.vec.Vec.{Vec}
-use Rattle.std.specs.declared.alloc.Global.{Global}
+use Rattle.parallel_bridge.proofs.Common.{AlongLeaves, UnlessRefused, TryAlongCut, OnlyOk, PartitionOf, Vec, Global}
 use Rattle.parallel_bridge.proofs.Shapes.{Shape-items}
 use Rattle.parallel_bridge.proofs.FoldersAppend.{PartitionOf-append}
 
@@ -36,11 +34,15 @@ module _ {X R : Type 0} (E : Type 0) (identity : R → Type 0) (allowed : List X
 
 module _ {X K U V : Type 0} (E : Type 0) (values : V → List U) (keys : V → List K)
     (allowed : X → (K × Option U) → Type 0) where
-  -- the values and the keys of two parts one after another
-  pub partition_driven : (cut : Cut X) (r : V)
-      → TryAlongCut {E = E} (λ l o. OnlyOk (λ v. PartitionOf allowed l (values v) (keys v)) o)
+  abbrev PartedAlong : Cut X → Result V E → Type 0
+  PartedAlong cut out =
+      TryAlongCut {E = E} (λ l o. OnlyOk (λ v. PartitionOf allowed l (values v) (keys v)) o)
       (λ a b o. OnlyOk (λ c. (values c ≡ values a ++ values b) × (keys c ≡ keys a ++ keys b)) o)
-      cut (Ok r) → PartitionOf allowed (cut_items cut) (values r) (keys r)
+      cut out
+
+  -- the values and the keys of two parts one after another
+  partition_driven : (cut : Cut X) (r : V) → PartedAlong cut (Ok r)
+      → PartitionOf allowed (cut_items cut) (values r) (keys r)
   partition_driven (segment xs) r h = h
   partition_driven (halves p q) r (inl (a, b, h, i, n)) =
       subst (λ us. PartitionOf allowed (cut_items p ++ cut_items q) us (keys r)) (sym n.0)
@@ -51,9 +53,7 @@ module _ {X K U V : Type 0} (E : Type 0) (values : V → List U) (keys : V → L
   partition_driven (halves p q) r (inr (inl (e, same, h))) = absurd (cc same)
   partition_driven (halves p q) r (inr (inr (a, e, same, h, i))) = absurd (cc same)
 
-  pub partition_shape : (k : ℕ) (xs : List X) (r : V)
-      → TryAlongCut {E = E} (λ l o. OnlyOk (λ v. PartitionOf allowed l (values v) (keys v)) o)
-      (λ a b o. OnlyOk (λ c. (values c ≡ values a ++ values b) × (keys c ≡ keys a ++ keys b)) o)
-      (Shape k xs) (Ok r) → PartitionOf allowed xs (values r) (keys r)
+  pub partition_shape : (k : ℕ) (xs : List X) (r : V) → PartedAlong (Shape k xs) (Ok r)
+      → PartitionOf allowed xs (values r) (keys r)
   partition_shape k xs r h = subst (λ l. PartitionOf allowed l (values r) (keys r))
       (Shape-items k xs) (partition_driven (Shape k xs) r h)

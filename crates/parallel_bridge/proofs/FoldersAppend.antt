@@ -1,9 +1,8 @@
--- For folders: taking some items, and then more, is taking all of them.
-use Rattle.parallel_bridge.proofs.Common.{◌≡◌, List, [], ◌∷◌, ◌++◌, Result, Ok, Err, Option, Some, None, refl, sym, ◌∙◌, ap, subst, append_assoc, inl, inr, IsTrue, is_err, Chain, OnlyOk, TryChain}
-use Rattle.parallel_bridge.proofs.Common.{PartitionOf, keys_in, keys_of, values_in, values_of, TryMapOnto, TryMapBehind, PartitionOnto, TryContinues}
-use Rattle.std.proofs.lemmas.List.{append-nil}
-use Rattle.std.specs.declared.vec.Vec.{Vec}
-use Rattle.std.specs.declared.alloc.Global.{Global}
+-- For folders: taking some items, and then more, is taking all of them; and one step of a loop over
+-- items that come, over plain variables.
+use Rattle.parallel_bridge.proofs.Common.{◌≡◌, List, [], ◌∷◌, ◌++◌, Result, Ok, Err, Option, Some, None, refl, sym, ◌∙◌, ap, subst, append_assoc, inl, inr, IsTrue, is_err, Chain, OnlyOk}
+use Rattle.parallel_bridge.proofs.Common.{TryChain, PartitionOf, keys_in, keys_of, values_in, values_of, TryMapOnto, TryMapBehind, PartitionOnto, TryContinues, Vec, Global, false, is_some, append-nil}
+use Rattle.parallel_bridge.proofs.Common.{ended}
 use Rattle.parallel_bridge.proofs.Shapes.{MapOf-append}
 
 module _ {X R : Type 0} (step : R → X → R → Type 0) where
@@ -11,6 +10,11 @@ module _ {X R : Type 0} (step : R → X → R → Type 0) where
       → Chain step a (xs ++ ys) b
   chain_append a [] ys m b h k = subst (λ v. Chain step v ys b) (sym h) k
   chain_append a (x ∷ xs) ys m b (n, one, h) k = (n, one, chain_append n xs ys m b h k)
+
+  -- one step more at the end of a chain
+  pub chain_push : (a : R) (xs : List X) (m : R) (x : X) (b : R) → Chain step a xs m → step m x b
+      → Chain step a (xs ++ x ∷ []) b
+  chain_push a xs m x b h last = chain_append a xs (x ∷ []) m b h (b, last, refl)
 
   -- the same of a value that is an outcome
   pub chain_only : {E : Type 0} (a : R) (xs ys : List X) (m : R) (out : Result R E)
@@ -27,10 +31,10 @@ module _ {X R E : Type 0} (step : R → X → Result R E → Type 0) where
   try_chain_append a (x ∷ xs) ys v out (inr (e, one, same)) k =
       inr (e, one, subst (λ w. TryContinues step w ys out) same k)
 
-  pub try_onward : (start v out : Result R E) (xs ys : List X) → TryContinues step start xs v
+  pub try_continues : (start v out : Result R E) (xs ys : List X) → TryContinues step start xs v
       → TryContinues step v ys out → TryContinues step start (xs ++ ys) out
-  try_onward (Ok a) v out xs ys h k = try_chain_append a xs ys v out h k
-  try_onward (Err e) v out xs ys h k = subst (λ w. TryContinues step w ys out) h k
+  try_continues (Ok a) v out xs ys h k = try_chain_append a xs ys v out h k
+  try_continues (Err e) v out xs ys h k = subst (λ w. TryContinues step w ys out) h k
 
   -- nothing more leaves a chain as it is
   pub try_rests : (control : Result R E) → TryContinues step control [] control
@@ -84,6 +88,12 @@ module _ {X Y E : Type 0} (allowed : X → Result Y E → Type 0) where
   behind_rests (Ok before) = ([], sym (append-nil before), tt)
   behind_rests (Err e) = refl
 
+  -- the item fails where none did before it
+  pub first_fails : (values : List Y) (failed : Option E) (x : X) (e : E) → is_some failed ≡ false
+      → allowed x (Err e) → TryMapBehind allowed (ended values failed) (x ∷ []) (Err e)
+  first_fails values None x e none one = ([], x, [], [], refl, tt, one)
+  first_fails values (Some b) x e none one = absurd (cc none)
+
 -- the values and keys of two parts one after another
 pub values_of-append : {K U : Type 0} (ps qs : List (K × Option U))
     → values_of (ps ++ qs) ≡ values_of ps ++ values_of qs
@@ -119,6 +129,36 @@ module _ {X K U : Type 0} (allowed : X → (K × Option U) → Type 0) where
         at_ks' ∙ ap (λ l. l ++ more_ks) at_ks ∙ append_assoc keys new_ks more_ks,
         PartitionOf-append xs ys new_us more_us new_ks more_ks part part',
       )
+
+  -- one item with a value
+  pub part_one_value : (values : List U) (keys : List K) (x : X) (p : K × Option U) (u : U)
+      (us : List U) → allowed x p → p.1 ≡ Some u → us ≡ values ++ u ∷ []
+      → PartitionOnto allowed values keys (x ∷ []) us keys
+  part_one_value values keys x p u us one is more = (
+    u ∷ [],
+    [],
+    more,
+    sym (append-nil keys),
+    ((p.0, Some u) ∷ [], (subst (λ v. allowed x (p.0, v)) is one, tt), refl, refl),
+  )
+
+  -- one item without a value
+  pub part_one_key : (values : List U) (keys : List K) (x : X) (p : K × Option U) (ks : List K)
+      → allowed x p → p.1 ≡ None → ks ≡ keys ++ p.0 ∷ []
+      → PartitionOnto allowed values keys (x ∷ []) values ks
+  part_one_key values keys x p ks one is more = (
+    [],
+    p.0 ∷ [],
+    sym (append-nil values),
+    more,
+    ((p.0, None) ∷ [], (subst (λ v. allowed x (p.0, v)) is one, tt), refl, refl),
+  )
+
+  -- nothing is left
+  pub part_end : (values : List U) (keys : List K)
+      → PartitionOnto allowed values keys [] values keys
+  part_end values keys =
+      ([], [], sym (append-nil values), sym (append-nil keys), ([], tt, refl, refl))
 
 -- the same of lists that are an outcome
 pub part_only : {X K U E : Type 0} (allowed : X → (K × Option U) → Type 0) (values us : List U)
@@ -156,12 +196,12 @@ lists_joined all left right same = (
 )
 
 -- with one pair of lists more come its values
-pub values_in-push : {K U : Type 0} (ps : List (Vec U Global × Vec K Global))
+pub values_pushed : {K U : Type 0} (ps : List (Vec U Global × Vec K Global))
     (p : Vec U Global × Vec K Global) → values_in (ps ++ p ∷ []) ≡ values_in ps ++ p.0.items
-values_in-push ps p = values_in-append ps (p ∷ [])
+values_pushed ps p = values_in-append ps (p ∷ [])
     ∙ ap (λ l. values_in ps ++ l) (append-nil p.0.items)
 
 -- and its keys
-pub keys_in-push : {K U : Type 0} (ps : List (Vec U Global × Vec K Global))
+pub keys_pushed : {K U : Type 0} (ps : List (Vec U Global × Vec K Global))
     (p : Vec U Global × Vec K Global) → keys_in (ps ++ p ∷ []) ≡ keys_in ps ++ p.1.items
-keys_in-push ps p = keys_in-append ps (p ∷ []) ∙ ap (λ l. keys_in ps ++ l) (append-nil p.1.items)
+keys_pushed ps p = keys_in-append ps (p ∷ []) ∙ ap (λ l. keys_in ps ++ l) (append-nil p.1.items)

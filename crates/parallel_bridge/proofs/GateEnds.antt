@@ -1,8 +1,9 @@
 -- Who stands for all seats of a gate knows of all that was told.
-use Rattle.parallel_bridge.proofs.Common.{◌≡◌, ℕ, ◌+◌, ◌≤◌, ◌<◌, ◌⊎◌, List, [], ◌∷◌, ◌++◌, All, Contains, length, set, sum_by, sym, ap, subst, ◌∙◌, ⊎_elim, inl, inr, arith, All-weaker, All-contains}
-use Rattle.parallel_bridge.proofs.Common.{All-contains_itself, Contains-append_left, Contains-append_right, Contains-append_cases, Contains-push, Contains-push_cases, sum_by_push, some}
-use Rattle.parallel_bridge.proofs.Common.{some-injective, get_elem?, dite, ℕ_discrete, set_else, GateView, GateSeat, greatest, newcomer, gathered, WasTold, FitsGate, KeepsGate, IsGateOf, known}
+use Rattle.parallel_bridge.proofs.Common.{◌≡◌, ℕ, ◌+◌, ◌≤◌, ◌<◌, ◌⊎◌, List, [], ◌∷◌, ◌++◌, All, Contains, length, set, sum_by, sym, ap, subst, ◌∙◌, ⊎_elim, inl, inr, arith, All-head, All-weaker}
+use Rattle.parallel_bridge.proofs.Common.{All-contains_itself, Contains-append_left, Contains-append_cases, Contains-push, Contains-push_cases, sum_by_push, some}
+use Rattle.parallel_bridge.proofs.Common.{some-injective, get_elem?, dite, ℕ_discrete, set_else, GateView, GateSeat, greatest, newcomer, gathered, WasTold, KeepsGate, IsGateOf, known}
 use Rattle.parallel_bridge.proofs.Common.{stands_for, ToldByOne, IsAtMost}
+use Rattle.parallel_bridge.proofs.Laws.{all_left, all_right}
 use Rattle.parallel_bridge.proofs.GateSteps.{held, held_set, one_of}
 
 -- the word, seen by who stands for all seats
@@ -25,14 +26,10 @@ final_told n word views id v kept at all = ⊎_elim (λ (e : word ≡ greatest).
         let none : u.told ≡ [] = (kept.fits by u here).idle (omega arith) in
         absurd (omega (arith, (subst (λ l. Contains l word) none has).1)))
 
--- it is at most all that was told or seen
-pub final_at_most : (word : ℕ) (v : GateView) → FitsGate word v → IsAtMost word v
-final_at_most word v fits = (fits.told, fits.seen)
-
 -- the word that a gate is closed with is one that keeps the rule
-pub final_keeps : (n result : ℕ) (words ws : List ℕ) (views : List GateView)
+pub final_keeps : (n result : ℕ) {words ws : List ℕ} {views : List GateView}
     → IsGateOf n words views → words ≡ ws → get_elem? ws 0 ≡ some result → KeepsGate n result views
-final_keeps n result words ws views h are is =
+final_keeps n result {views = views} h are is =
     let e : some h.0 ≡ some result =
     ap (λ l. get_elem? l 0) (sym h.1) ∙ ap (λ l. get_elem? l 0) are ∙ is in
     subst (λ k. KeepsGate n k views) (some-injective h.0 result e) h.2
@@ -76,20 +73,10 @@ gathers_more view old rest all x has one e = record {
   told = λ start within. ⊎_elim (λ left. has.told start left) (λ right. (x, one, right))
       (Contains-append_cases view.told (known x).told start within);
   at_most = λ word h seat within.
-      let each : (k : ℕ) → Contains (view.told ++ (known x).told) k → word ≤ k =
-      λ k within. All-contains (λ start. word ≤ start) (view.told ++ (known x).told) k h.0 within in
-      let left : IsAtMost word view = (
-        All-weaker (Contains view.told) (λ start. word ≤ start)
-            (λ k within. each k (Contains-append_left view.told (known x).told k within)) view.told
-            (All-contains_itself view.told),
-        omega (arith, h.1),
-      ) in
-      let right : IsAtMost word (known x) = (
-        All-weaker (Contains (known x).told) (λ start. word ≤ start)
-            (λ k within. each k (Contains-append_right view.told (known x).told k within))
-            (known x).told (All-contains_itself (known x).told),
-        omega (arith, h.1),
-      ) in
+      let left : IsAtMost word view =
+      (all_left (λ start. word ≤ start) view.told (known x).told h.0, omega (arith, h.1)) in
+      let right : IsAtMost word (known x) =
+      (all_right (λ start. word ≤ start) view.told (known x).told h.0, omega (arith, h.1)) in
       ⊎_elim (λ still. ⊎_elim (λ before. inl before)
       (λ same. inr (subst (λ s. IsAtMost word (known s)) same right))
       (Contains-push_cases rest x seat (subst (λ l. Contains l seat) e still))) (λ done. inr done)
@@ -100,11 +87,8 @@ gathers_more view old rest all x has one e = record {
 pub all_before : (P : GateSeat → Type 0) (old rest : List GateSeat) (x : GateSeat)
     → old ≡ rest ++ x ∷ [] → All P old → All P rest × P x
 all_before P old rest x e all =
-    let each = subst (All P) e all in (
-      All-weaker (Contains rest) P (λ y within. All-contains P (rest ++ x ∷ []) y each
-          (Contains-append_left rest (x ∷ []) y within)) rest (All-contains_itself rest),
-      All-contains P (rest ++ x ∷ []) x each (Contains-push rest x),
-    )
+    let each = subst (All P) e all in
+    (all_left P rest (x ∷ []) each, All-head P x [] (all_right P rest (x ∷ []) each))
 
 -- of those that are left, each is one of all
 pub still_within : (old rest all : List GateSeat) (x : GateSeat) → old ≡ rest ++ x ∷ []

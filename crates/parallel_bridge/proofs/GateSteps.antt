@@ -1,10 +1,41 @@
--- Each step of a gate keeps its rule.
-use Rattle.parallel_bridge.proofs.Common.{◌≡◌, ℕ, ◌+◌, ◌≤◌, ◌<◌, ◌⊎◌, min, List, [], ◌∷◌, ◌++◌, All, Contains, set, get_or, slice_index, sum_by, zero, suc, refl, sym, ap, subst, ◌∙◌, ⊎_elim, inl, inr}
-use Rattle.parallel_bridge.proofs.Common.{arith, All-nil, All-append, All-push, All-weaker, Contains-append_left, Contains-append_right, Contains-push, sum_by-set, sum_by_push, get_or-le-sum_by, some}
-use Rattle.parallel_bridge.proofs.Common.{some-injective, get_elem?, dite, ℕ_discrete, dec_le, at_set, set_here, set_else, at_longer, GateView, greatest, newcomer, one_less, front_half, back_half}
-use Rattle.parallel_bridge.proofs.Common.{gathered, telling, looking, WasTold, FitsGate, KeepsGate, IsGateOf}
+-- Each step of a gate keeps its rule, which speaks of what stands at each place of the views.
+use Rattle.parallel_bridge.proofs.Common.{◌≡◌, ℕ, ◌+◌, ◌≤◌, ◌<◌, ◌⊎◌, min, List, [], ◌∷◌, ◌++◌, All, Contains, set, get_or, slice_index, sum_by, zero, suc, refl, sym, ap, subst, ◌∙◌, ⊎_elim}
+use Rattle.parallel_bridge.proofs.Common.{inl, inr, arith, All-nil, All-append, All-push, All-weaker, Contains-append_left, Contains-append_right, Contains-push, sum_by-set, sum_by_push}
+use Rattle.parallel_bridge.proofs.Common.{get_or-le-sum_by, some, some-injective, get_elem?, dite, ℕ_discrete, dec_le, at_set, set_here, set_else, at_longer, GateView, greatest, newcomer}
+use Rattle.parallel_bridge.proofs.Common.{one_less, front_half, back_half, gathered, telling, looking, WasTold, FitsGate, KeepsGate, IsGateOf, ◌≢◌, length, some-ne-none}
 use Rattle.atomic_table.specs.Table.{State, Me, Allows, Splits, Joins, keeps}
-use Rattle.parallel_bridge.proofs.ViewPlaces.{there, each_set, each_more}
+
+module _ {A : Type 0} where
+  -- what stands at a place stands within the list
+  pub there : (l : List A) (i : ℕ) (a : A) → get_elem? l i ≡ some a → i < length l
+  there [] i a e = absurd (some-ne-none a (sym e))
+  there (x ∷ xs) zero a e = omega arith
+  there (x ∷ xs) (suc i) a e = let h = there xs i a e in omega arith
+
+  -- what stands in a list that has one more, stands in the list or at its end
+  pub one_more : (l : List A) (a b : A) (j : ℕ) → get_elem? (l ++ a ∷ []) j ≡ some b
+      → (get_elem? l j ≡ some b) ⊎ ((j ≡ length l) × (a ≡ b))
+  one_more [] a b zero e = inr (refl, some-injective a b e)
+  one_more [] a b (suc j) e = absurd (some-ne-none b (sym e))
+  one_more (x ∷ xs) a b zero e = inl e
+  one_more (x ∷ xs) a b (suc j) e =
+      ⊎_elim (λ t. inl t) (λ t. inr (ap suc t.0, t.1)) (one_more xs a b j e)
+
+  -- a fact of each place, where one has changed
+  pub each_set : (F : A → Type 0) (l : List A) (i : ℕ) (a : A) → F a
+      → ((j : ℕ) (b : A) → get_elem? l j ≡ some b → F b) → (j : ℕ) (b : A)
+      → get_elem? (set l i a) j ≡ some b → F b
+  each_set F l i a new old j b e = ⊎_elim (λ (t : (j ≡ i) × (a ≡ b)). subst F t.1 new)
+      (λ (t : (j ≢ i) × (get_elem? l j ≡ some b)). old j b t.1)
+      (at_set l i j a b e)
+
+  -- and where one has come
+  pub each_more : (F : A → Type 0) (l : List A) (a : A) → F a
+      → ((j : ℕ) (b : A) → get_elem? l j ≡ some b → F b) → (j : ℕ) (b : A)
+      → get_elem? (l ++ a ∷ []) j ≡ some b → F b
+  each_more F l a new old j b e = ⊎_elim (λ (t : get_elem? l j ≡ some b). old j b t)
+      (λ (t : (j ≡ length l) × (a ≡ b)). subst F t.1 new)
+      (one_more l a b j e)
 
 -- how many seats the views stand for
 abbrev pub held : List GateView → ℕ
@@ -62,88 +93,75 @@ told_longer : (views : List GateView) (w : GateView) (start : ℕ) → WasTold s
     → WasTold start (views ++ w ∷ [])
 told_longer views w start (by, u, here, has) = (by, u, at_longer views (w ∷ []) by u here, has)
 
--- a step of one seat, which stands for as many seats as before
-changes : (n word next : ℕ) (views : List GateView) (id : ℕ) (v w : GateView)
-    → KeepsGate n word views → get_elem? views id ≡ some v → next ≤ word → w.seats ≡ v.seats
-    → FitsGate next w → (next ≡ word) ⊎ Contains w.told next
-    → ((start : ℕ) → Contains v.told start → Contains w.told start)
-    → KeepsGate n next (set views id w)
-changes n word next views id v w kept at less same fits from stays = record {
-  small = omega (arith, kept.small);
-  seats = omega (arith, kept.seats, held_set views id v w at, same);
-  source = ⊎_elim (λ (e : next ≡ word). ⊎_elim (λ (none : word ≡ greatest). inl (e ∙ none))
-      (λ (told : WasTold word views). inr (subst (λ k. WasTold k (set views id w)) (sym e)
-      (still_told views id v w word at (stays word) told))) kept.source)
-      (λ (has : Contains w.told next).
-      inr (id, w, set_here views id w (there views id v at), has))
-      from;
-  fits = each_set (FitsGate next) views id w fits (λ by u e. lower word next u less
-      (kept.fits by u e));
-}
+-- a step of one seat at the word, by what it makes of the word and of the seat's view, which stands
+-- for as many seats as before
+moves : (n slots id : ℕ) (me : Me (Unit {0}) GateView) (next : ℕ → ℕ)
+    (then : GateView → ℕ → GateView)
+    → ((word found : ℕ) → found ≡ word → FitsGate word me.0 → (next word ≤ word)
+    × ((then me.0 found).seats ≡ me.0.seats) × FitsGate (next word) (then me.0 found)
+    × ((next word ≡ word) ⊎ Contains (then me.0 found).told (next word))
+    × ((start : ℕ) → Contains me.0.told start → Contains (then me.0 found).told start))
+    → Allows (λ (s : State (Unit {0}) GateView). IsGateOf n s.words s.views) slots id me 0 next
+    (λ found after. (after.0 ≡ then me.0 found) × (after.1 ≡ me.1))
+moves n slots id me next then step s h homes at small =
+    let word : ℕ = h.0 in let kept : KeepsGate n word s.views = h.2 in let v : GateView = me.0 in
+    let w : GateView = then v (slice_index s.words 0) in
+    let (less, same, fits, from, stays) = step word (slice_index s.words 0)
+    (ap (λ ws. slice_index ws 0) h.1) (kept.fits id v at) in (
+      w,
+      keeps,
+      tt,
+      (
+        next word,
+        ap (λ ws. set ws 0 (next (slice_index ws 0))) h.1,
+        record {
+          small = omega (arith, kept.small, less);
+          seats = omega (arith, kept.seats, held_set s.views id v w at, same);
+          source = ⊎_elim (λ (e : next word ≡ word).
+              ⊎_elim (λ (none : word ≡ greatest). inl (e ∙ none))
+              (λ (told : WasTold word s.views). inr (subst (λ k. WasTold k (set s.views id w))
+              (sym e) (still_told s.views id v w word at (stays word) told))) kept.source)
+              (λ (has : Contains w.told (next word)).
+              inr (id, w, set_here s.views id w (there s.views id v at), has))
+              from;
+          fits = each_set (FitsGate (next word)) s.views id w fits
+              (λ by u e. lower word (next word) u less (kept.fits by u e));
+        },
+      ),
+      (refl, refl),
+    )
 
 -- a start that is told by a seat that stands for some
 pub tells : (n slots id start : ℕ) (me : Me (Unit {0}) GateView) → 0 < me.0.seats
     → Allows (λ (s : State (Unit {0}) GateView). IsGateOf n s.words s.views) slots id me 0
     (λ k. min k start) (λ found after. (after.0 ≡ telling me.0 found start) × (after.1 ≡ me.1))
-tells n slots id start me stands s h homes at small =
-    let word : ℕ = h.0 in
-    let kept : KeepsGate n word s.views = h.2 in
-    let found : slice_index s.words 0 ≡ word = ap (λ ws. slice_index ws 0) h.1 in
-    let v : GateView = me.0 in
-    let w : GateView = telling v (slice_index s.words 0) start in
-    let mine : FitsGate word v = kept.fits id v at in
-    let next : ℕ = min word start in
-    let own : next ≤ start = omega arith in
-    let less : next ≤ word = omega arith in (
-      w,
-      keeps,
-      tt,
-      (
-        next,
-        ap (λ ws. set ws 0 (min (slice_index ws 0) start)) h.1,
-        changes n word next s.views id v w kept at less refl
-            (record {
-              seen = omega (arith, mine.seen, found);
-              told = All-push (λ k. next ≤ k) v.told start
-                  (All-weaker (λ k. word ≤ k) (λ k. next ≤ k) (λ k h. omega arith) v.told
-                  mine.told) own;
-              idle = λ none. absurd (omega arith);
-            })
-            (dite (dec_le word start) (λ le. inl (omega arith))
-            (λ more. let e : start ≡ next = omega arith in
-            inr (subst (Contains w.told) e (Contains-push v.told start))))
-            (λ k has. Contains-append_left v.told (start ∷ []) k has),
-      ),
-      (refl, refl),
-    )
+tells n slots id start me stands = moves n slots id me (λ k. min k start)
+    (λ v found. telling v found start) (λ word found is mine. (
+      omega arith,
+      refl,
+      record {
+        seen = omega (arith, mine.seen, is);
+        told = All-push (λ k. min word start ≤ k) me.0.told start (All-weaker (λ k. word ≤ k)
+            (λ k. min word start ≤ k) (λ k h. omega arith) me.0.told mine.told) (omega arith);
+        idle = λ none. absurd (omega arith);
+      },
+      dite (dec_le word start) (λ le. inl (omega arith))
+          (λ more. let e : start ≡ min word start = omega arith in
+          inr (subst (Contains (me.0.told ++ start ∷ [])) e (Contains-push me.0.told start))),
+      λ k has. Contains-append_left me.0.told (start ∷ []) k has,
+    ))
 
 -- a look
 pub looks : (n slots id : ℕ) (me : Me (Unit {0}) GateView)
     → Allows (λ (s : State (Unit {0}) GateView). IsGateOf n s.words s.views) slots id me 0
     (λ k. k) (λ found after. (after.0 ≡ looking me.0 found) × (after.1 ≡ me.1))
-looks n slots id me s h homes at small =
-    let word : ℕ = h.0 in
-    let kept : KeepsGate n word s.views = h.2 in
-    let found : slice_index s.words 0 ≡ word = ap (λ ws. slice_index ws 0) h.1 in
-    let v : GateView = me.0 in
-    let w : GateView = looking v (slice_index s.words 0) in
-    let mine : FitsGate word v = kept.fits id v at in (
-      w,
-      keeps,
-      tt,
-      (
-        word,
-        ap (λ ws. set ws 0 (slice_index ws 0)) h.1,
-        changes n word word s.views id v w kept at (omega arith) refl
-            (record {
-              seen = omega (arith, mine.seen, found);
-              told = mine.told;
-              idle = mine.idle;
-            })
-            (inl refl) (λ k has. has),
-      ),
-      (refl, refl),
-    )
+looks n slots id me = moves n slots id me (λ k. k) looking (λ word found is mine. (
+  omega arith,
+  refl,
+  record { seen = omega (arith, mine.seen, is); told = mine.told; idle = mine.idle },
+  inl refl,
+  λ k has. has,
+))
 
 -- a seat gives some of its seats to a new one
 parts : (n id : ℕ) (v left right : GateView) → left.seats + right.seats ≡ v.seats
@@ -151,8 +169,7 @@ parts : (n id : ℕ) (v left right : GateView) → left.seats + right.seats ≡ 
     → right.told ≡ [] → right.least ≡ greatest
     → Splits (λ (s : State (Unit {0}) GateView). IsGateOf n s.words s.views) id v left right
 parts n id v left right sum told least idle silent unseen s h at =
-    let word : ℕ = h.0 in
-    let kept : KeepsGate n word s.views = h.2 in
+    let word : ℕ = h.0 in let kept : KeepsGate n word s.views = h.2 in
     let mine : FitsGate word v = kept.fits id v at in
     let views : List GateView = set s.views id left in (
       word,
@@ -202,10 +219,8 @@ pub joins : (n id : ℕ) (v : GateView) (other : ℕ) (w : GateView)
     → Joins (λ (s : State (Unit {0}) GateView). IsGateOf n s.words s.views) id v other w
     (gathered v w) (newcomer 0)
 joins n id v other w s h at two at' =
-    let word : ℕ = h.0 in
-    let kept : KeepsGate n word s.views = h.2 in
-    let both : GateView = gathered v w in
-    let views : List GateView = set s.views id both in
+    let word : ℕ = h.0 in let kept : KeepsGate n word s.views = h.2 in
+    let both : GateView = gathered v w in let views : List GateView = set s.views id both in
     let was : get_elem? s.views other ≡ some w =
     ⊎_elim (λ x. absurd (two x.0)) (λ x. x.1) (at_set s.views id other both w at') in
     let mine : FitsGate word v = kept.fits id v at in
@@ -234,8 +249,7 @@ joins n id v other w s h at two at' =
               seen = omega (arith, mine.seen, theirs.seen);
               told = All-append (λ start. word ≤ start) v.told w.told mine.told theirs.told;
               idle = λ none.
-                  let left : v.seats ≡ 0 = omega arith in
-                  let right : w.seats ≡ 0 = omega arith in
+                  let left : v.seats ≡ 0 = omega arith in let right : w.seats ≡ 0 = omega arith in
                   (λ i. mine.idle left i ++ theirs.idle right i);
             })
             (λ by u e. kept.fits by u e));
@@ -247,8 +261,7 @@ joins n id v other w s h at two at' =
         → get_elem? views id ≡ some v → get_elem? views other ≡ some w → ¬ (other ≡ id)
         → WasTold word views → WasTold word (set (set views id (gathered v w)) other (newcomer 0))
     taken_in views id v w other word at was two (by, u, here, has) =
-        let both : GateView = gathered v w in
-        let apart : ¬ (id ≡ other) = λ e. two (sym e) in
+        let both : GateView = gathered v w in let apart : ¬ (id ≡ other) = λ e. two (sym e) in
         let stands : get_elem? (set (set views id both) other (newcomer 0)) id ≡ some both =
         set_else (set views id both) other id (newcomer 0) apart
         ∙ set_here views id both (there views id v at) in

@@ -30,6 +30,21 @@ module _ {X R E : Type 0} (step : R → X → Result R E → Type 0) where
   halts_rests (Ok a) = refl
   halts_rests (Err halt) = refl
 
+  -- what a folder may come to, with its watch
+  abbrev pub Comes : Result R (Halt E) → GateWatch → List X → Result R (Halt E) → GateWatch → Type 0
+  Comes control watch xs out end = HaltsOnward step control xs out × SameWatch watch end
+      × IsWatching end × TellsAs watch.start (known end.seat) out
+
+  pub comes_onward : (control mid out : Result R (Halt E)) (watch between end : GateWatch)
+      (xs ys : List X) → HaltsOnward step control xs mid → SameWatch watch between
+      → Comes mid between ys out end → Comes control watch (xs ++ ys) out end
+  comes_onward control mid out watch between end xs ys h same k = (
+    halts_onward control mid out xs ys h k.0,
+    (k.1.0 ∙ same.0, k.1.1 ∙ same.1, k.1.2 ∙ same.2),
+    k.2,
+    subst (λ n. TellsAs n (known end.seat) out) same.1 k.3,
+  )
+
 module _ {X R E : Type 0} (identity : R → Type 0) (step : R → X → Result R E → Type 0)
     (reduce : R → R → R → Type 0) where
   -- a segment that began with an identity, and ended with a value
@@ -48,23 +63,6 @@ module _ {X R E : Type 0} (identity : R → Type 0) (step : R → X → Result R
   folded_halt (Ok a) xs (Failed e) begins onward = (a, begins, onward)
   folded_halt (Err (Failed e)) xs halt begins onward = absurd begins
   folded_halt (Err Stopped) xs (Failed e) begins onward = absurd (cc onward)
-
--- what a segment's outcome and its watch are, where more was folded
-module _ {X R E : Type 0} (step : R → X → Result R E → Type 0) where
-  -- what a folder may come to, with its watch
-  abbrev pub Comes : Result R (Halt E) → GateWatch → List X → Result R (Halt E) → GateWatch → Type 0
-  Comes control watch xs out end = HaltsOnward step control xs out × SameWatch watch end
-      × IsWatching end × TellsAs watch.start (known end.seat) out
-
-  pub comes_onward : (control mid out : Result R (Halt E)) (watch between end : GateWatch)
-      (xs ys : List X) → HaltsOnward step control xs mid → SameWatch watch between
-      → Comes mid between ys out end → Comes control watch (xs ++ ys) out end
-  comes_onward control mid out watch between end xs ys h same k = (
-    halts_onward step control mid out xs ys h k.0,
-    (k.1.0 ∙ same.0, k.1.1 ∙ same.1, k.1.2 ∙ same.2),
-    k.2,
-    subst (λ n. TellsAs n (known end.seat) out) same.1 k.3,
-  )
 
 -- a fact of a value, where there is one
 pub only_weaker : {R E : Type 0} (P Q : R → Type 0) → ((r : R) → P r → Q r) → (out : Result R E)

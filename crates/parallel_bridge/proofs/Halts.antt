@@ -1,7 +1,7 @@
 -- What the seats of two neighbouring parts say, joined.
 use Rattle.parallel_bridge.proofs.Common.{◌≡◌, ℕ, ◌+◌, ◌-◌, ◌/◌, ◌≤◌, ◌<◌, List, [], ◌∷◌, ◌++◌, All, Contains, Option, Some, None, Result, Ok, Err, sym, subst, arith, All-nil, All-append, All-cons}
 use Rattle.parallel_bridge.proofs.Common.{All-weaker, All-contains, Trouble, Closure, OfFault, PutTogether, UnlessRefused, Halt, Failed, Stopped, GateSeat, GateView, greatest, gathered, newcomer}
-use Rattle.parallel_bridge.proofs.Common.{IsSeatOf, known, stands_for, EndsAs, IsKeptOf, JoinsKept, KeptEnds, NotStopped, SeatAfter, TellsAs}
+use Rattle.parallel_bridge.proofs.Common.{IsGateSeatOf, known, stands_for, EndsAs, IsKeptOf, JoinsKept, KeptEnds, NotStopped, SeatAfter, TellsAs}
 use Rattle.parallel_bridge.specs.declared.gate.Gate.{Gate}
 
 -- who told nothing told no start in front of anything
@@ -134,9 +134,9 @@ never_stopped count seats word v u small ends closed = tt
 
 -- a seat that stands for all of a gate that was just opened may watch so many items, from the first
 -- one on
-pub fresh_watch : (gate : Gate) (seat : GateSeat) (n count : ℕ) → IsSeatOf gate seat
+pub fresh_watch : (gate : Gate) (seat : GateSeat) (n count : ℕ) → IsGateSeatOf gate seat
     → known seat ≡ newcomer n → 0 < n → count ≤ n → count ≤ greatest
-    → (IsSeatOf gate seat × (0 < stands_for seat) × ((known seat).told ≡ []))
+    → (IsGateSeatOf gate seat × (0 < stands_for seat) × ((known seat).told ≡ []))
     × (count ≤ stands_for seat) × (0 + count ≤ greatest)
 fresh_watch gate seat n count belongs fresh positive enough small =
     let seats : stands_for seat ≡ n = λ i. (fresh i).seats in (

@@ -3,12 +3,12 @@ use Rattle.parallel_bridge.proofs.Common.{◌≡◌, Bool, IsTrue, List, [], ◌
 use Rattle.parallel_bridge.proofs.Common.{All-contains_itself, MapOf, Chain, FoldSegment, Brackets, of_segment, of_parts, Bracketing, StateChain, FoldInitSegment, AnyState, FoldLaws, IsPlainFold}
 
 -- what holds of all items of two parts holds of each part's
-all_left : {X : Type 0} (P : X → Type 0) (xs ys : List X) → All P (xs ++ ys) → All P xs
+pub all_left : {X : Type 0} (P : X → Type 0) (xs ys : List X) → All P (xs ++ ys) → All P xs
 all_left P [] ys h = All-nil P
 all_left P (x ∷ xs) ys h =
     All-cons P x xs (All-head P x (xs ++ ys) h) (all_left P xs ys (All-tail P x (xs ++ ys) h))
 
-all_right : {X : Type 0} (P : X → Type 0) (xs ys : List X) → All P (xs ++ ys) → All P ys
+pub all_right : {X : Type 0} (P : X → Type 0) (xs ys : List X) → All P (xs ++ ys) → All P ys
 all_right P [] ys h = h
 all_right P (x ∷ xs) ys h = all_right P xs ys (All-tail P x (xs ++ ys) h)
 

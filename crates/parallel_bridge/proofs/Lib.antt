@@ -5,11 +5,10 @@ pub mod Bracketings
 pub mod CollectChains
 pub mod IteratorItems
 pub mod WriteIter
-mod Ranges
+pub mod Ranges
 pub mod Halves
 pub mod SegmentLengths
 pub mod Laws
-pub mod LoopSteps
 pub mod Outcomes
 pub mod TryShapes
 pub mod FoldersAppend
@@ -26,17 +25,13 @@ pub mod RowMemory
 pub mod Blocks
 pub mod WindowSlots
 pub mod Writes
-pub mod TryWrites
-pub mod TakenFromFront
 pub mod Neighbours
-mod ViewPlaces
 mod GateSteps
 mod GateEnds
 pub mod Halts
 pub mod Unhalt
 mod GatedFolds
 pub mod Zips
-pub mod Serials
 pub mod Pieces
 pub mod OverViews
 pub use Common.*
@@ -53,7 +48,6 @@ pub use Halts.*
 pub use Halves.*
 pub use IteratorItems.*
 pub use Laws.*
-pub use LoopSteps.*
 pub use Neighbours.*
 pub use Outcomes.*
 pub use OverLists.*
@@ -64,16 +58,12 @@ pub use Ranges.*
 pub use RowMemory.*
 pub use SegmentLengths.*
 pub use SendSync.*
-pub use Serials.*
 pub use Shapes.*
 pub use Sorting.*
 pub use Statefuls.*
-pub use TakenFromFront.*
 pub use TryBracketings.*
 pub use TryShapes.*
-pub use TryWrites.*
 pub use Unhalt.*
-pub use ViewPlaces.*
 pub use WindowSlots.*
 pub use WrappingSums.*
 pub use WriteIter.*

@@ -1,59 +1,37 @@
--- What a list call answers serially, and in parallel.
-use Rattle.parallel_bridge.proofs.Common.{Path, Serial, Parallel, FoldSegment, of_segment, Along, AlongLeaves, Shape, FoldInitSegment, StateSegment, StatesAlong, TryAlong, TryFoldSegment}
-use Rattle.parallel_bridge.proofs.Common.{of_try_segment, FoldedAs, FoldedInitAs, TryFoldedAs, MappedInitAs, ◌≡◌, ℕ, List, Result}
+-- What a list call answers by the path that it took.
+use Rattle.parallel_bridge.proofs.Common.{Path, FoldSegment, FoldsAs, FoldInitSegment, StatesAs, TryFoldSegment, TryFoldsAs, FoldedAs, FoldedInitAs, TryFoldedAs, MappedInitAs, ◌≡◌, ℕ, List, Result}
+use Rattle.parallel_bridge.proofs.Common.{sym, subst}
 use Rattle.parallel_bridge.proofs.Bracketings.{bracketing_from_folds}
 use Rattle.parallel_bridge.proofs.Statefuls.{stateful_from_states}
 use Rattle.parallel_bridge.proofs.TryBracketings.{fold_init_from_folds, try_bracketing_from_folds}
 
-module _ {X R : Type 0} (identity : R → Type 0) (step : R → X → R → Type 0)
-    (reduce : R → R → R → Type 0) (depth : ℕ) (xs : List X) (r : R) where
-  pub folded_serially : (path : Path) → path ≡ Serial → FoldSegment identity step xs r
+module _ (path taken : Path) (is : path ≡ taken) (depth : ℕ) where
+  pub folded_by : {X R : Type 0} (identity : R → Type 0) (step : R → X → R → Type 0)
+      (reduce : R → R → R → Type 0) (xs : List X) (r : R)
+      → FoldsAs identity (FoldSegment identity step) reduce depth taken xs r
       → FoldedAs identity step reduce depth path xs r
-  folded_serially Serial is h = (of_segment h, h)
-  folded_serially Parallel is h = absurd (cc is)
+  folded_by identity step reduce xs r h = subst
+      (λ p. FoldedAs identity step reduce depth p xs r) (sym is)
+      (bracketing_from_folds identity step reduce depth taken xs r h, h)
 
-  pub folded_along : (path : Path) → path ≡ Parallel → Along identity step reduce (Shape depth xs) r
-      → FoldedAs identity step reduce depth path xs r
-  folded_along Serial is h = absurd (cc is)
-  folded_along Parallel is h = (bracketing_from_folds identity step reduce depth Parallel xs r h, h)
-
-module _ {S X R : Type 0} (init : S → Type 0) (identity : R → Type 0)
-    (step : S → R → X → R → S → Type 0) (reduce : R → R → R → Type 0) (depth : ℕ) (xs : List X)
-    (r : R) where
-  pub folded_init_serially : (path : Path) → path ≡ Serial → FoldInitSegment init identity step xs r
+  pub folded_init_by : {S X R : Type 0} (init : S → Type 0) (identity : R → Type 0)
+      (step : S → R → X → R → S → Type 0) (reduce : R → R → R → Type 0) (xs : List X) (r : R)
+      → FoldsAs identity (FoldInitSegment init identity step) reduce depth taken xs r
       → FoldedInitAs init identity step reduce depth path xs r
-  folded_init_serially Serial is h = (of_segment h, h)
-  folded_init_serially Parallel is h = absurd (cc is)
+  folded_init_by init identity step reduce xs r h = subst
+      (λ p. FoldedInitAs init identity step reduce depth p xs r) (sym is)
+      (fold_init_from_folds init identity step reduce depth taken xs r h, h)
 
-  pub folded_init_along : (path : Path) → path ≡ Parallel
-      → AlongLeaves identity (FoldInitSegment init identity step) reduce (Shape depth xs) r
-      → FoldedInitAs init identity step reduce depth path xs r
-  folded_init_along Serial is h = absurd (cc is)
-  folded_init_along Parallel is h =
-      (fold_init_from_folds init identity step reduce depth Parallel xs r h, h)
-
-module _ {X R E : Type 0} (identity : R → Type 0) (step : R → X → Result R E → Type 0)
-    (reduce : R → R → R → Type 0) (depth : ℕ) (xs : List X) (out : Result R E) where
-  pub try_folded_serially : (path : Path) → path ≡ Serial → TryFoldSegment identity step xs out
+  pub try_folded_by : {X R E : Type 0} (identity : R → Type 0) (step : R → X → Result R E → Type 0)
+      (reduce : R → R → R → Type 0) (xs : List X) (out : Result R E)
+      → TryFoldsAs identity (TryFoldSegment identity step) reduce depth taken xs out
       → TryFoldedAs identity step reduce depth path xs out
-  try_folded_serially Serial is h = (of_try_segment h, h)
-  try_folded_serially Parallel is h = absurd (cc is)
+  try_folded_by identity step reduce xs out h = subst
+      (λ p. TryFoldedAs identity step reduce depth p xs out) (sym is)
+      (try_bracketing_from_folds identity step reduce depth taken xs out h, h)
 
-  pub try_folded_along : (path : Path) → path ≡ Parallel
-      → TryAlong identity step reduce (Shape depth xs) out
-      → TryFoldedAs identity step reduce depth path xs out
-  try_folded_along Serial is h = absurd (cc is)
-  try_folded_along Parallel is h =
-      (try_bracketing_from_folds identity step reduce depth Parallel xs out h, h)
-
-module _ {S X Y : Type 0} (init : S → Type 0) (step : S → X → Y → S → Type 0) (depth : ℕ)
-    (xs : List X) (ys : List Y) where
-  pub mapped_init_serially : (path : Path) → path ≡ Serial → StateSegment init step xs ys
+  pub mapped_init_by : {S X Y : Type 0} (init : S → Type 0) (step : S → X → Y → S → Type 0)
+      (xs : List X) (ys : List Y) → StatesAs init step depth taken xs ys
       → MappedInitAs init step depth path xs ys
-  mapped_init_serially Serial is h = (stateful_from_states init step depth Serial xs ys h, h)
-  mapped_init_serially Parallel is h = absurd (cc is)
-
-  pub mapped_init_along : (path : Path) → path ≡ Parallel
-      → StatesAlong init step (Shape depth xs) ys → MappedInitAs init step depth path xs ys
-  mapped_init_along Serial is h = absurd (cc is)
-  mapped_init_along Parallel is h = (stateful_from_states init step depth Parallel xs ys h, h)
+  mapped_init_by init step xs ys h = subst (λ p. MappedInitAs init step depth p xs ys) (sym is)
+      (stateful_from_states init step depth taken xs ys h, h)

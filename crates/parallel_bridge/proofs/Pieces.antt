@@ -39,8 +39,7 @@ module _ (n k : ℕ) (some : 0 < k) where
   pub count_back : (i m : ℕ) → i ≤ div_ceil n k → m ≡ min (i * k) n
       → div_ceil (n - m) k ≡ div_ceil n k - i
   count_back i m within cut =
-      let all = div_ceil n k in
-      let below = mul-le-mul_right k within in
+      let all = div_ceil n k in let below = mul-le-mul_right k within in
       let both : all - i + i ≡ all = omega (arith, within) in
       let parts : (all - i) * k + i * k ≡ all * k =
       sym (add-mul (all - i) i k) ∙ ap (λ c. c * k) both in
@@ -85,8 +84,7 @@ module _ {A : Type 0} where
       → pieces_of n size (take m xs) ≡ pieces_of n size xs
   in_front zero m size xs within = refl
   in_front (suc n) m size xs within =
-      let far = suc-mul n size in
-      let one = take-take size m xs (omega (arith, within, far)) in
+      let far = suc-mul n size in let one = take-take size m xs (omega (arith, within, far)) in
       let whole : m ≡ size + (m - size) = omega (arith, within, far) in
       let rest : drop size (take m xs) ≡ take (m - size) (drop size xs) =
       ap (λ k. drop size (take k xs)) whole ∙ drop-take size (m - size) xs in

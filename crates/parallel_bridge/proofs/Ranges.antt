@@ -1,5 +1,5 @@
 -- The numbers from one on up to another.
-use Rattle.parallel_bridge.proofs.Common.{◌≡◌, ℕ, zero, suc, ◌≤◌, ◌<◌, ◌+◌, ◌-◌, List, ◌∷◌, ◌++◌, ap, ◌∙◌, arith, All, AllByRecursion, range_with_len, All-from_recursion}
+use Rattle.parallel_bridge.proofs.Common.{◌≡◌, ℕ, zero, suc, ◌≤◌, ◌<◌, ◌+◌, ◌-◌, List, ◌∷◌, ◌++◌, ap, ◌∙◌, arith, All, AllByRecursion, range_with_len, length, length-range_with_len, All-from_recursion}
 
 between : (K : ℕ → Type 0) (a n : ℕ) → ((x : ℕ) → a ≤ x → x < a + n → K x)
     → AllByRecursion K (range_with_len a n)
@@ -16,8 +16,7 @@ indices_between a b = All-from_recursion (λ x. (a ≤ x) × (x < b)) (range_wit
 
 joins : (a m n : ℕ) → range_with_len a m ++ range_with_len (a + m) n ≡ range_with_len a (m + n)
 joins a zero n =
-    let here : a + 0 ≡ a = omega arith in
-    let all : n ≡ 0 + n = omega arith in
+    let here : a + 0 ≡ a = omega arith in let all : n ≡ 0 + n = omega arith in
     ap (λ k. range_with_len k n) here ∙ ap (range_with_len a) all
 joins a (suc m) n =
     let there : a + suc m ≡ a + 1 + m = omega arith in
@@ -35,3 +34,7 @@ indices_split a b index xs ys within front back =
     ap (λ l. l ++ ys) (front ∙ ap (range_with_len a) m)
     ∙ (ap (λ l. range_with_len a index ++ l) back
     ∙ (joins a index (b - (a + index)) ∙ ap (range_with_len a) n))
+
+-- there are so many
+pub indices_long : (a n : ℕ) → length (range_with_len a n) ≡ n
+indices_long a n = length-range_with_len a n

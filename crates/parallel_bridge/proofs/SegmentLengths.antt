@@ -7,9 +7,7 @@ use Rattle.parallel_bridge.proofs.Common.{halved_lengths, cutdepth}
 pub shape_lengths : {X : Type 0} (k : ℕ) (xs : List X)
     → leaf_lengths (Shape k xs) ≡ halved_lengths k (length xs)
 shape_lengths (suc k) (x ∷ (y ∷ xs)) =
-    let zs = x ∷ (y ∷ xs) in
-    let n = length zs / 2 in
-    let long : 2 ≤ length zs = omega arith in
+    let zs = x ∷ (y ∷ xs) in let n = length zs / 2 in let long : 2 ≤ length zs = omega arith in
     let left : length (take n zs) ≡ n = simp length-take (omega arith) in
     let right : length (drop n zs) ≡ length zs - n = length-drop n zs in
     ap (λ l. l ++ leaf_lengths (Shape k (drop n zs)))
@@ -23,8 +21,7 @@ shape_lengths u v = refl
 pub sum-halved : (k n : ℕ) → sum (halved_lengths k n) ≡ n
 sum-halved zero n = omega arith
 sum-halved (suc k) n =
-    let left = sum-halved k (n / 2) in
-    let right = sum-halved k (n - n / 2) in
+    let left = sum-halved k (n / 2) in let right = sum-halved k (n - n / 2) in
     let joined = sum_by-append (λ n. n) (halved_lengths k (n / 2)) (halved_lengths k (n - n / 2)) in
     cond_both (nat_lt n 2) (n ∷ []) (halved_lengths k (n / 2) ++ halved_lengths k (n - n / 2))
     (λ l. sum l ≡ n) (λ _. omega arith) (λ _. omega (arith, left, right, joined))
@@ -33,11 +30,9 @@ sum-halved (suc k) n =
 pub length-halved_depth : (k n : ℕ) → length (halved_lengths k n) ≤ 2 ^ k
 length-halved_depth zero n = omega arith
 length-halved_depth (suc k) n =
-    let left = length-halved_depth k (n / 2) in
-    let right = length-halved_depth k (n - n / 2) in
+    let left = length-halved_depth k (n / 2) in let right = length-halved_depth k (n - n / 2) in
     let joined = length-append (halved_lengths k (n / 2)) (halved_lengths k (n - n / 2)) in
-    let double : 2 ^ suc k ≡ 2 * 2 ^ k = pow-succ' 2 k in
-    let one : 0 < 2 ^ k = pow_pos k in
+    let double : 2 ^ suc k ≡ 2 * 2 ^ k = pow-succ' 2 k in let one : 0 < 2 ^ k = pow_pos k in
     cond_both (nat_lt n 2) (n ∷ []) (halved_lengths k (n / 2) ++ halved_lengths k (n - n / 2))
     (λ l. length l ≤ 2 ^ suc k) (λ _. omega arith) (λ _. omega (arith, left, right, joined))
 
@@ -67,8 +62,7 @@ pub halved_more : (done : List ℕ) (after : List ℕ) (k n : ℕ) → 0 < k →
     → after ++ halved_lengths (k - 1) (n - n / 2) ≡ done ++ halved_lengths k n
 halved_more done after zero n some long e = absurd (omega arith)
 halved_more done after (suc k) n some long e =
-    let less : suc k - 1 ≡ k = omega arith in
-    let one = halved_lengths k (n / 2) in
+    let less : suc k - 1 ≡ k = omega arith in let one = halved_lengths k (n / 2) in
     let two = halved_lengths k (n - n / 2) in
     let e' : after ≡ done ++ one = subst (λ m. after ≡ done ++ halved_lengths m (n / 2)) less e in
     ap (λ m. after ++ halved_lengths m (n - n / 2)) less ∙ ap (λ l. l ++ two) e'

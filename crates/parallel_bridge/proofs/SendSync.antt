@@ -20,8 +20,7 @@ module _ (R : RattleType) (s : IsSend R) where
 
   pub cells_send : IsSend (cells.the_row R)
   cells_send =
-      let owned = cells.the_type R in
-      let parts : AllSend (fields owned) = (search sendable, tt) in
+      let owned = cells.the_type R in let parts : AllSend (fields owned) = (search sendable, tt) in
       owning_send owned parts (λ d. row_keyless d.at d.slots)
       (λ k. quiet (to owned) (exits_of k (fields owned))
       ((struct_send (shape owned) parts).leaving k))

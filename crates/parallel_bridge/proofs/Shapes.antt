@@ -4,8 +4,7 @@ use Rattle.parallel_bridge.proofs.Common.{◌≡◌, ℕ, suc, ◌/◌, ◌<◌,
 -- the segments of a list's shape are the list
 pub Shape-items : {X : Type 0} (k : ℕ) (xs : List X) → cut_items (Shape k xs) ≡ xs
 Shape-items (suc k) (x ∷ (y ∷ xs)) =
-    let zs = x ∷ (y ∷ xs) in
-    let n = length zs / 2 in
+    let zs = x ∷ (y ∷ xs) in let n = length zs / 2 in
     ap (λ l. l ++ cut_items (Shape k (drop n zs))) (Shape-items k (take n zs))
     ∙ ap (λ l. take n zs ++ l) (Shape-items k (drop n zs)) ∙ take-append-drop n zs
 Shape-items u v = refl

@@ -30,9 +30,17 @@ shape_halves (suc k) half xs front back positive long at left right =
     ∙ ap (λ l. halves (Shape k (take (length xs / 2) xs)) (Shape k l))
     (right ∙ ap (λ n. drop n xs) at) ∙ sym (Shape-node k xs long)
 
--- the outcome of two parts that were split at half the length, for a list that is to be split
 module _ {X R E : Type 0} (leaf : List X → Result R E → Type 0)
     (node : R → R → Result R E → Type 0) where
+  -- a list that is not to be split is one segment
+  pub try_along_leaf : (depth : ℕ) (xs : List X) (out : Result R E) → (depth ≡ 0) ⊎ (length xs < 2)
+      → leaf xs out → TryAlongCut leaf node (Shape depth xs) out
+  try_along_leaf depth xs out (inl e) h =
+      subst (λ d. TryAlongCut leaf node (Shape d xs) out) (sym e) h
+  try_along_leaf depth xs out (inr short) h =
+      subst (λ s. TryAlongCut leaf node s out) (sym (Shape-leaf depth xs short)) h
+
+  -- the outcome of two parts that were split at half the length, for a list that is to be split
   pub try_along_node : (depth half : ℕ) (xs front back : List X) (out : Result R E) → zero < depth
       → 2 ≤ length xs → half ≡ length xs / 2 → front ≡ take half xs → back ≡ drop half xs
       → TryAlongCut leaf node (halves (Shape (depth - 1) front) (Shape (depth - 1) back)) out
@@ -51,13 +59,3 @@ module _ {X R : Type 0} (E : Type 0) (leaf : List X → R → Type 0) (node : R 
       (a, b, along_unfailing p a h, along_unfailing q b i, n)
   along_unfailing (halves p q) r (inr (inl (e, same, h))) = absurd (cc same)
   along_unfailing (halves p q) r (inr (inr (a, e, same, h, i))) = absurd (cc same)
-
--- a list that is not to be split is one segment
-module _ {X R E : Type 0} (leaf : List X → Result R E → Type 0)
-    (node : R → R → Result R E → Type 0) where
-  pub try_along_leaf : (depth : ℕ) (xs : List X) (out : Result R E) → (depth ≡ 0) ⊎ (length xs < 2)
-      → leaf xs out → TryAlongCut leaf node (Shape depth xs) out
-  try_along_leaf depth xs out (inl e) h =
-      subst (λ d. TryAlongCut leaf node (Shape d xs) out) (sym e) h
-  try_along_leaf depth xs out (inr short) h =
-      subst (λ s. TryAlongCut leaf node s out) (sym (Shape-leaf depth xs short)) h

@@ -1,7 +1,7 @@
 -- Empty places, items and empty places in a row, and what each step makes of them.
 use Rattle.parallel_bridge.proofs.Common.{◌≡◌, ℕ, zero, suc, ◌+◌, ◌-◌, ◌<◌, ◌≤◌, List, [], ◌∷◌, ◌++◌, map, length, take, drop, set, replicate, refl, sym, ap, ◌∙◌, arith, ◌⊎◌, inl, inr, append-nil}
 use Rattle.parallel_bridge.proofs.Common.{Option, Some, None, get_or, length-append, length-replicate, length-take, length-drop, length-map, map-append, append_assoc, get_or-append_seam}
-use Rattle.parallel_bridge.proofs.Common.{set-append_seam, replicate-append-replicate, take-replicate, drop-replicate, take_all, drop_all, laid, values, subst, View, part, IsRow}
+use Rattle.parallel_bridge.proofs.Common.{set-append_seam, replicate-append-replicate, take-replicate, drop-replicate, take_all, drop_all, nil_from_length, laid, values, subst, View, part, IsRow}
 use denote.RawPtr.{Ptr}
 
 module _ {X : Type 0} where
@@ -52,21 +52,18 @@ module _ {X : Type 0} where
       → take i (laid 0 xs r) ≡ laid 0 (take i xs) k
   front_of zero xs r k e le = let none : 0 ≡ k = omega arith in ap empty none
   front_of (suc i) [] r k e le =
-      let more : k ≡ suc i - 0 = e in
-      let same : suc i ≡ k = omega arith in
+      let more : k ≡ suc i - 0 = e in let same : suc i ≡ k = omega arith in
       let within : suc i ≤ 0 + r = le in
       take-replicate (suc i) r None (omega arith) ∙ ap empty same
   front_of (suc i) (x ∷ xs) r k e le =
-      let more : k ≡ suc i - suc (length xs) = e in
-      let within : suc i ≤ suc (length xs) + r = le in
+      let more : k ≡ suc i - suc (length xs) = e in let within : suc i ≤ suc (length xs) + r = le in
       ap (λ l. Some x ∷ l) (front_of i xs r k (omega arith) (omega arith))
 
   pub back_of : (i : ℕ) (xs : List X) (r k : ℕ) → k ≡ r - (i - length xs)
       → drop i (laid 0 xs r) ≡ laid 0 (drop i xs) k
   back_of zero xs r k e = let same : r ≡ k = omega arith in ap (λ n. map Some xs ++ empty n) same
   back_of (suc i) [] r k e =
-      let more : k ≡ r - (suc i - 0) = e in
-      let same : r - suc i ≡ k = omega arith in
+      let more : k ≡ r - (suc i - 0) = e in let same : r - suc i ≡ k = omega arith in
       drop-replicate (suc i) r None ∙ ap empty same
   back_of (suc i) (x ∷ xs) r k e =
       let more : k ≡ r - (suc i - suc (length xs)) = e in
@@ -102,10 +99,6 @@ moved {X = X} {start = start} {room = room} {n = n} b e f row = subst
 pub some_same : {X : Type 0} {x y : X} → Some x ≡ Some y → x ≡ y
 some_same e = cc
 
-no_items : {X : Type 0} (xs : List X) → length xs ≡ 0 → xs ≡ []
-no_items [] e = refl
-no_items (x ∷ xs) e = absurd (omega arith)
-
 -- a list with a first, or a last, item
 first_of : {X : Type 0} (xs : List X) → 0 < length xs → (x : X) × ((ys : List X) × (xs ≡ x ∷ ys))
 first_of [] some = absurd (omega arith)
@@ -116,17 +109,22 @@ last_of : {X : Type 0} (xs : List X) → 0 < length xs → (x : X)
 last_of [] some = absurd (omega arith)
 last_of (x ∷ []) some = (x, ([], refl))
 last_of (x ∷ y ∷ xs) some =
-    let more : 0 < suc (length xs) = omega arith in
-    let (z, (ys, e)) = last_of (y ∷ xs) more in
+    let more : 0 < suc (length xs) = omega arith in let (z, (ys, e)) = last_of (y ∷ xs) more in
     (z, (x ∷ ys, ap (λ l. x ∷ l) e))
 
-module _ {X : Type 0} (at start : Ptr) (slots : List (Option X)) (room b n : ℕ)
+module _ {X : Type 0} {at start : Ptr} {slots : List (Option X)} {room n : ℕ} (b : ℕ)
     (row : IsRow at start slots room b n) where
   abbrev items : List X
   items = values slots
 
   abbrev left : ℕ
   left = room - (b + n)
+
+  pub row_length : length slots ≡ room
+  row_length =
+      let laid_long = length_laid b items left in
+      let same : length slots ≡ length (laid b items left) = ap length row.3 in
+      omega arith
 
   -- one more item, in the place behind the others
   pub put_row : {v : View X} (x : X) → part start room b items ≡ v
@@ -136,9 +134,7 @@ module _ {X : Type 0} (at start : Ptr) (slots : List (Option X)) (room b n : ℕ
   put_row x is lt =
       let fits : b + length items < room =
       subst (λ (u : View X). u.before + length u.items < u.room) (sym is) lt in
-      let laid_long = length_laid b items left in
-      let same : length slots ≡ length (laid b items left) = ap length row.3 in
-      let more : left ≡ suc (left - 1) = omega arith in
+      let wide = row_length in let more : left ≡ suc (left - 1) = omega arith in
       let put = next_place b items None (Some x) (empty (left - 1)) slots (b + n)
       (row.3 ∙ ap (laid b items) more
       ∙ sym (append_assoc (empty b) (map Some items) (empty (suc (left - 1))))) (omega arith) in
@@ -153,8 +149,7 @@ module _ {X : Type 0} (at start : Ptr) (slots : List (Option X)) (room b n : ℕ
       × (items ≡ x ∷ values (set slots b None)))
   take_row is has =
       let first = first_of items (subst (λ (u : View X). 0 < length u.items) (sym is) has) in
-      let x = first.0 in
-      let ys = first.1.0 in
+      let x = first.0 in let ys = first.1.0 in
       let shorter : length items ≡ suc (length ys) = ap length first.1.1 in
       let on : suc b ≡ b + 1 = omega arith in
       let out = next_place b [] (Some x) None (map Some ys ++ empty left) slots b
@@ -171,8 +166,7 @@ module _ {X : Type 0} (at start : Ptr) (slots : List (Option X)) (room b n : ℕ
       × (items ≡ values (set slots (b + n - 1) None) ++ x ∷ []))
   back_row is has =
       let last = last_of items (subst (λ (u : View X). 0 < length u.items) (sym is) has) in
-      let x = last.0 in
-      let ys = last.1.0 in
+      let x = last.0 in let ys = last.1.0 in
       let shorter : length items ≡ length (ys ++ x ∷ []) = ap length last.1.1 in
       let one = length-append ys (x ∷ []) in
       let out = next_place b ys (Some x) None (empty left) slots (b + n - 1)
@@ -188,10 +182,7 @@ module _ {X : Type 0} (at start : Ptr) (slots : List (Option X)) (room b n : ℕ
     from_items = row.3 ∙ ap (λ k. laid k items left) none
 
     pub in_row : i ≤ length slots
-    in_row =
-        let laid_long = length_laid 0 items left in
-        let same : length slots ≡ length (laid 0 items left) = ap length from_items in
-        omega arith
+    in_row = let wide = row_length in omega arith
 
     pub front_row : (m : ℕ) → (m ≤ i) × (m ≤ n) × ((m ≡ n) ⊎ (m ≡ i))
         → IsRow at start (take i slots) i 0 m × (values (take i slots) ≡ take i items)
@@ -214,22 +205,14 @@ module _ {X : Type 0} (at start : Ptr) (slots : List (Option X)) (room b n : ℕ
         (ap (drop i) from_items ∙ back_of i items left (left - (i - length items)) refl) count
         (omega arith)
 
-  pub row_length : length slots ≡ room
-  row_length =
-      let laid_long = length_laid b items left in
-      let same : length slots ≡ length (laid b items left) = ap length row.3 in
-      omega arith
-
   -- two rows side by side
   pub two_rows : {at' start' : Ptr} {slots' : List (Option X)} {room' b' n' : ℕ}
       → IsRow at' start' slots' room' b' n' → ((b + n ≡ room) × (b' ≡ 0)) ⊎ (n' ≡ 0)
       → IsRow at start (slots ++ slots') (room + room') b (n + n')
       × (values (slots ++ slots') ≡ items ++ values slots')
   two_rows {slots' = slots'} {room' = room'} {b' = b'} {n' = n'} other (inl full) =
-      let xs = values slots' in
-      let long : n ≡ length items = row.1 in
-      let more : n' ≡ length xs = other.1 in
-      let sum = length-append items xs in
+      let xs = values slots' in let long : n ≡ length items = row.1 in
+      let more : n' ≡ length xs = other.1 in let sum = length-append items xs in
       let within = other.2 in
       let nothing : left ≡ 0 = omega arith in let rest = room' - (b' + n') in
       let now : slots ++ slots' ≡ laid b (items ++ xs) rest =
@@ -238,10 +221,8 @@ module _ {X : Type 0} (at start : Ptr) (slots : List (Option X)) (room b n : ℕ
       is_row at start (slots ++ slots') (room + room') b (n + n') (items ++ xs) rest row.0 now
       (omega arith) (omega arith)
   two_rows {slots' = slots'} {room' = room'} {b' = b'} {n' = n'} other (inr none) =
-      let xs = values slots' in
-      let nothing : xs ≡ [] = no_items xs (omega arith) in
-      let rest = room' - (b' + n') in
-      let sum = length-append items xs in
+      let xs = values slots' in let nothing : xs ≡ [] = nil_from_length xs (omega arith) in
+      let rest = room' - (b' + n') in let sum = length-append items xs in
       let now : slots ++ slots' ≡ laid b items (left + (b' + rest)) =
       (λ i. row.3 i ++ (other.3 ∙ ap (λ zs. laid b' zs rest) nothing) i)
       ∙ then_none b items left b' rest (left + (b' + rest)) refl in
@@ -254,50 +235,44 @@ module _ {X : Type 0} (at start : Ptr) (slots : List (Option X)) (room b n : ℕ
   -- a row without items is all room
   pub rewound_row : n ≡ 0 → IsRow at start slots room 0 0 × (items ≡ [])
   rewound_row none =
-      let no : items ≡ [] = no_items items (omega arith) in
+      let no : items ≡ [] = nil_from_length items (omega arith) in
       let all : b + left ≡ room = omega arith in
       let now : slots ≡ laid 0 [] room = row.3 ∙ ap (λ xs. laid b xs left) no
       ∙ replicate-append-replicate b left None ∙ ap empty all in
       ((is_row at start slots room 0 0 [] room row.0 now refl (omega arith)).0, no)
 
+-- a block that begins with its items is one row
+pub whole_row : {X : Type 0} {at start : Ptr} {slots : List (Option X)} (c n : ℕ) (xs : List X)
+    → at ≡ start → slots ≡ laid 0 xs (c - length xs) → n ≡ length xs → n ≤ c
+    → IsRow at start slots c 0 n × (values slots ≡ xs)
+whole_row {at = at} {start = start} {slots = slots} c n xs a e long le =
+    is_row at start slots c 0 n xs (c - length xs) a e long (omega arith)
+
 -- a block that begins with its items, cut behind them
-pub opened_rows : {X : Type 0} (at start : Ptr) (slots : List (Option X)) (c i n : ℕ) (xs : List X)
+pub opened_rows : {X : Type 0} {at start : Ptr} {slots : List (Option X)} (c i n : ℕ) (xs : List X)
     → at ≡ start → slots ≡ laid 0 xs (c - length xs) → n ≡ length xs → n ≤ i → i ≤ c
-    → (i ≤ length slots) × (IsRow at start (take i slots) i 0 n × (values (take i slots) ≡ xs))
+    → (IsRow at start (take i slots) i 0 n × (values (take i slots) ≡ xs))
     × (drop i slots ≡ replicate (c - i) None)
-opened_rows at start slots c i n xs a e long le lc =
-    let all = length_laid 0 xs (c - length xs) in
-    let same : length slots ≡ length (laid 0 xs (c - length xs)) = ap length e in
-    let front = ap (take i) e ∙ front_of i xs (c - length xs) (i - length xs) refl (omega arith)
-    ∙ ap (λ l. laid 0 l (i - length xs)) (take_all i xs (omega arith)) in
-    let back = ap (drop i) e ∙ back_of i xs (c - length xs) (c - i) (omega arith)
-    ∙ ap (λ l. laid 0 l (c - i)) (drop_all i xs (omega arith)) in (
-      omega arith,
-      is_row at start (take i slots) i 0 n xs (i - length xs) a front long (omega arith),
-      back,
+opened_rows c i n xs a e long le lc =
+    let whole = whole_row c n xs a e long (omega arith) in
+    let front = front_row 0 whole.0 i refl lc n (le, omega arith, inl refl) in (
+      (front.0, front.1 ∙ ap (take i) whole.1 ∙ take_all i xs (omega arith)),
+      ap (drop i) e ∙ back_of i xs (c - length xs) (c - i) (omega arith)
+          ∙ ap (λ l. laid 0 l (c - i)) (drop_all i xs (omega arith)),
     )
 
 -- a row of items with the empty places behind it is a block
-pub closed_rows : {X : Type 0} (at start : Ptr) (slots tail : List (Option X)) (room n c : ℕ)
+pub closed_rows : {X : Type 0} {at start : Ptr} {slots tail : List (Option X)} {room n : ℕ} (c : ℕ)
     → IsRow at start slots room 0 n → tail ≡ replicate (c - room) None → room ≤ c
     → (length (slots ++ tail) ≡ c) × (length (values (slots ++ tail)) ≡ n)
     × (slots ++ tail ≡ laid 0 (values (slots ++ tail)) (c - n))
     × (values (slots ++ tail) ≡ values slots)
-closed_rows at start slots tail room n c row empty_tail le =
+closed_rows {at = at} {slots = slots} {tail = tail} {room = room} {n = n} c row empty_tail le =
     let rest = is_row at at tail (c - room) 0 0 [] (c - room) refl empty_tail refl (omega arith) in
-    let all = two_rows at start slots room 0 n row {room' = c - room} {b' = 0} {n' = 0} rest.0
-    (inr refl) in
-    let wide = row_length at start (slots ++ tail) (room + (c - room)) 0 (n + 0) all.0 in
-    let none = ap length rest.1 in
+    let all = two_rows 0 row {room' = c - room} {b' = 0} {n' = 0} rest.0 (inr refl) in
+    let wide = row_length 0 all.0 in let none = ap length rest.1 in
     let same : values (slots ++ tail) ≡ values slots = all.1 ∙ ap (λ l. values slots ++ l) rest.1
     ∙ append-nil (values slots) in
     let counted : n + 0 ≡ length (values (slots ++ tail)) = all.0.1 in
     let left : room + (c - room) - (0 + (n + 0)) ≡ c - n = omega arith in
     (omega arith, omega arith, all.0.3 ∙ ap (λ k. laid 0 (values (slots ++ tail)) k) left, same)
-
--- a block that begins with its items is one row
-pub whole_row : {X : Type 0} (at start : Ptr) (slots : List (Option X)) (c n : ℕ) (xs : List X)
-    → at ≡ start → slots ≡ laid 0 xs (c - length xs) → n ≡ length xs → n ≤ c
-    → IsRow at start slots c 0 n × (values slots ≡ xs)
-whole_row at start slots c n xs a e long le =
-    is_row at start slots c 0 n xs (c - length xs) a e long (omega arith)

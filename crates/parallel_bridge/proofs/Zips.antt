@@ -18,9 +18,7 @@ module _ {A B : Type 0} where
       → PairsOf P Q zs → ((xs : List A) → P xs → length xs ≡ n)
       → ((ys : List B) → Q ys → length ys ≡ m) → length zs ≡ min n m
   pairs_long n m P Q zs (xs, ys, one, two, same) first second =
-      let seen = ap length same in
-      let long = length-zip xs ys in
-      let left = first xs one in
+      let seen = ap length same in let long = length-zip xs ys in let left = first xs one in
       let right = second ys two in
       omega (arith, seen, long, left, right)
 

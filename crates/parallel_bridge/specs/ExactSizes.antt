@@ -1,5 +1,5 @@
 -- Iterators that give just as many items as they say, and why those of std do.
-use Rattle.std.specs.Prelude.{◌≡◌, ◌≤◌, ◌-◌, ◌⊎◌, ℕ, Bool, true, false, cond, T, List, [], ◌∷◌, Option, None, Some, length, map, min}
+use Rattle.std.specs.Prelude.{◌≡◌, ◌≤◌, ◌-◌, ◌⊎◌, ℕ, Bool, true, false, cond, T, List, [], ◌∷◌, Option, None, Some, length, min}
 use Rattle.std.specs.Borrow.{Bor}
 use Rattle.std.specs.Iterator.{AlwaysYields, Count, Drains, IsFinite, Yields, count_min, size}
 use Rattle.std.specs.List.{range_with_len}

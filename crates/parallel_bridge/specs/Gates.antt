@@ -11,8 +11,8 @@ abbrev pub seats_of : Gate → ℕ
 seats_of gate = gate.table.shared.key
 
 -- the seat is one of this gate
-abbrev pub IsSeatOf : Gate → GateSeat → Type 0
-IsSeatOf gate seat = (seat.seat.table_id ≡ gate.table.shared.table_id) × (seat.seat.me.1 ≡ [])
+abbrev pub IsGateSeatOf : Gate → GateSeat → Type 0
+IsGateSeatOf gate seat = (seat.seat.table_id ≡ gate.table.shared.table_id) × (seat.seat.me.1 ≡ [])
 
 -- what the seat knows of its gate
 abbrev pub known : GateSeat → GateView
@@ -24,7 +24,7 @@ stands_for seat = (known seat).seats
 
 -- they stand together for all seats of the gate
 abbrev pub AreAllOf : Gate → List GateSeat → Type 0
-AreAllOf gate seats = All (IsSeatOf gate) seats × (sum_by stands_for seats ≡ seats_of gate)
+AreAllOf gate seats = All (IsGateSeatOf gate) seats × (sum_by stands_for seats ≡ seats_of gate)
 
 -- one of the seats told the start
 abbrev pub ToldByOne : List GateSeat → ℕ → Type 0
@@ -36,7 +36,7 @@ IsAtMost word v = All (λ start. word ≤ start) v.told × (word ≤ v.least)
 
 -- the watch has a seat of its gate
 abbrev pub IsWatching : GateWatch → Type 0
-IsWatching watch = IsSeatOf watch.gate.now watch.seat
+IsWatching watch = IsGateSeatOf watch.gate.now watch.seat
 
 -- a watch of the same part, at the same gate
 abbrev pub SameWatch : GateWatch → GateWatch → Type 0

@@ -12,7 +12,7 @@ use Rattle.parallel_bridge.specs.declared.gate.Gate.{Gate}
 use Rattle.parallel_bridge.specs.declared.gate.seat.GateSeat.{GateSeat}
 use Rattle.parallel_bridge.specs.declared.gate.seat.GateView.{GateView}
 use Rattle.parallel_bridge.specs.GateRule.{gathered}
-use Rattle.parallel_bridge.specs.Gates.{IsSeatOf, known}
+use Rattle.parallel_bridge.specs.Gates.{IsGateSeatOf, known}
 
 -- what may be given, where a stop may stand in the place of anything
 abbrev pub halting : {A R E : Type 0} → (A → Result R E → Type 0) → A → Result R (Halt E) → Type 0
@@ -93,17 +93,17 @@ Begins identity (Err Stopped) = Unit {0}
 abbrev pub KeptEnds : {R E : Type 0} → Gate → ℕ → ℕ → ℕ → Option GateSeat
     → Result R (Trouble (Halt E)) → Type 0
 KeptEnds gate start count seats None outcome = Unit {0}
-KeptEnds gate start count seats (Some seat) outcome = IsSeatOf gate seat
+KeptEnds gate start count seats (Some seat) outcome = IsGateSeatOf gate seat
     × EndsAs start count seats (known seat) outcome
 
 -- the seat belongs to the gate, unless it was lost
 abbrev pub IsKeptOf : Gate → Option GateSeat → Type 0
 IsKeptOf gate None = Unit {0}
-IsKeptOf gate (Some seat) = IsSeatOf gate seat
+IsKeptOf gate (Some seat) = IsGateSeatOf gate seat
 
 -- two seats joined, unless one of them was lost
 abbrev pub JoinsKept : Gate → Option GateSeat → Option GateSeat → Option GateSeat → Type 0
-JoinsKept gate (Some a) (Some b) (Some c) = IsSeatOf gate c
+JoinsKept gate (Some a) (Some b) (Some c) = IsGateSeatOf gate c
     × (known c ≡ gathered (known a) (known b))
 JoinsKept gate a b None = Unit {0}
 JoinsKept gate None b (Some c) = ⊥

@@ -45,9 +45,9 @@ abbrev pub StatesAlong : {S X Y : Type 0} → (S → Type 0) → (S → X → Y 
 StatesAlong init step cut ys = AlongCut (StateSegment init step) (λ a b c. c ≡ a ++ b) cut ys
 
 -- what follows from the state t follows from the state s with the items xs and answers ys in front
-abbrev pub StatesOnward : {S X Y : Type 0} → (S → X → Y → S → Type 0) → S → List X → List Y → S
+abbrev pub StatesContinue : {S X Y : Type 0} → (S → X → Y → S → Type 0) → S → List X → List Y → S
     → Type 0
-StatesOnward {X = X} {Y = Y} step s xs ys t = (more : List X) (zs : List Y)
+StatesContinue {X = X} {Y = Y} step s xs ys t = (more : List X) (zs : List Y)
     → StatesFrom step t more zs → StatesFrom step s (xs ++ more) (ys ++ zs)
 
 -- serially one fresh state for the whole list; in parallel one for each segment of the list's shape
@@ -66,9 +66,9 @@ StateChain {S = S} {R = R} step s a (x ∷ xs) r = (b : R) × (t : S) × step s 
 
 -- what is reached from the state t and the value b is reached from the state s and the value a with
 -- the items xs in front
-abbrev pub StateChainOnward : {S X R : Type 0} → (S → R → X → R → S → Type 0) → S → R → List X → S
+abbrev pub StateChainContinues : {S X R : Type 0} → (S → R → X → R → S → Type 0) → S → R → List X → S
     → R → Type 0
-StateChainOnward {X = X} {R = R} step s a xs t b = (more : List X) (r : R)
+StateChainContinues {X = X} {R = R} step s a xs t b = (more : List X) (r : R)
     → StateChain step t b more r → StateChain step s a (xs ++ more) r
 
 -- r is reached by a chain over all items from a fresh state and a value that identity may answer

@@ -37,6 +37,7 @@ impl<'a, T: Sync> Producer for Chunks<'a, T> {
         self.slice.len().div_ceil(self.size.get())
     }
 
+    #[tactic(auto, using(crate::proofs::Pieces::chunks_joined, crate::proofs::Pieces::front_long))]
     fn split_at(self, _alloc: Global, index: usize) -> Result<(Self, Self), Fault> {
         let size = self.size;
         let middle = middle_of(self.slice.len(), size, index);

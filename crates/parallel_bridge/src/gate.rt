@@ -33,14 +33,14 @@ pub struct Gate {
 impl Gate {
     ghost use Rattle.std.specs.Prelude.{◌≡◌, ◌≤◌, ◌<◌, ◌-◌, ◌⊎◌, ℕ, ◌↔◌, All, Contains, IfErr, IfOk, IsTrue, [], vec_len};
     ghost use Rattle.parallel_bridge.specs.GateRule.{back_half, front_half, gathered, greatest, looking, newcomer, one_less, telling};
-    ghost use Rattle.parallel_bridge.specs.Gates.{AreAllOf, IsAtMost, IsSeatOf, ToldByOne, known, seats_of, stands_for};
+    ghost use Rattle.parallel_bridge.specs.Gates.{AreAllOf, IsAtMost, IsGateSeatOf, ToldByOne, known, seats_of, stands_for};
 
     /// A gate of `seats` seats, and the seats, of which each has told nothing and seen nothing. The
     /// one refusal is `Fault::Memory`.
     pub fn new(alloc: Global, seats: NonZeroUsize) -> Result<(Gate, Vec<GateSeat>), Fault>
         ensures seats { IfOk result (λ made. seats_of made.0 ≡ non_zero_usize_get seats) }
         ensures count { IfOk result (λ made. vec_len made.1 ≡ non_zero_usize_get seats) }
-        ensures belong { IfOk result (λ made. All (IsSeatOf made.0) made.1.items) }
+        ensures belong { IfOk result (λ made. All (IsGateSeatOf made.0) made.1.items) }
         ensures fresh { IfOk result (λ made. All (λ seat. known seat ≡ newcomer 1) made.1.items) }
         ensures fault { IfErr result (λ refusal. refusal ≡ Fault.Memory) }
     {
@@ -57,7 +57,7 @@ impl Gate {
     /// however many the seats are.
     pub fn open(alloc: Global, seats: NonZeroUsize) -> Result<(Gate, GateSeat), Fault>
         ensures seats { IfOk result (λ made. seats_of made.0 ≡ non_zero_usize_get seats) }
-        ensures belongs { IfOk result (λ made. IsSeatOf made.0 made.1) }
+        ensures belongs { IfOk result (λ made. IsGateSeatOf made.0 made.1) }
         ensures fresh { IfOk result (λ made. known made.1 ≡ newcomer (non_zero_usize_get seats)) }
         ensures fault { IfErr result (λ refusal. refusal ≡ Fault.Memory) }
     {
@@ -68,12 +68,12 @@ impl Gate {
 
     // A seat, cut off those that the first one stands for.
     fn seat(&self, founder: &mut GateSeat) -> GateSeat
-        requires belongs { IsSeatOf self.now founder.old }
+        requires belongs { IsGateSeatOf self.now founder.old }
         requires left { 0 < stands_for founder.old }
         requires silent { (known founder.old).told ≡ [] }
-        ensures founder { IsSeatOf self.now founder.new }
+        ensures founder { IsGateSeatOf self.now founder.new }
         ensures less { known founder.new ≡ one_less (known founder.old) }
-        ensures belongs { IsSeatOf self.now result }
+        ensures belongs { IsGateSeatOf self.now result }
         ensures fresh { known result ≡ newcomer 1 }
     {
         GateSeat {
@@ -84,12 +84,12 @@ impl Gate {
     /// A seat that has told nothing and seen nothing, for half of the seats that this one stands
     /// for, rounded up. It takes no memory.
     pub fn split(&self, seat: &mut GateSeat) -> GateSeat
-        requires belongs { IsSeatOf self.now seat.old }
+        requires belongs { IsGateSeatOf self.now seat.old }
         requires two { 2 ≤ stands_for seat.old }
         ensures front { known seat.new ≡ front_half (known seat.old) }
         ensures back { known result ≡ back_half (known seat.old) }
-        ensures seat { IsSeatOf self.now seat.new }
-        ensures belongs { IsSeatOf self.now result }
+        ensures seat { IsGateSeatOf self.now seat.new }
+        ensures belongs { IsGateSeatOf self.now result }
     {
         GateSeat {
             seat: self.table.shared.split_seat::<Halving>(&mut seat.seat),
@@ -99,10 +99,10 @@ impl Gate {
     /// Lets a seat take in another: it stands for both, and has told and seen what both have. It
     /// takes no memory.
     pub fn join(&self, seat: &mut GateSeat, other: GateSeat)
-        requires seat { IsSeatOf self.now seat.old }
-        requires other { IsSeatOf self.now other }
+        requires seat { IsGateSeatOf self.now seat.old }
+        requires other { IsGateSeatOf self.now other }
         ensures gathered { known seat.new ≡ gathered (known seat.old) (known other) }
-        ensures belongs { IsSeatOf self.now seat.new }
+        ensures belongs { IsGateSeatOf self.now seat.new }
     {
         self.table
             .shared
@@ -112,10 +112,10 @@ impl Gate {
     /// Tells a start: the word becomes the start, unless it is less already. It is one atomic step,
     /// takes no memory and never waits.
     pub fn tell(&self, seat: &mut GateSeat, start: usize)
-        requires belongs { IsSeatOf self.now seat.old }
+        requires belongs { IsGateSeatOf self.now seat.old }
         requires stands { 0 < stands_for seat.old }
         ensures told { (word : ℕ) × (known seat.new ≡ telling (known seat.old) word start) }
-        ensures belongs { IsSeatOf self.now seat.new }
+        ensures belongs { IsGateSeatOf self.now seat.new }
     {
         self.table
             .shared
@@ -125,10 +125,10 @@ impl Gate {
     /// Whether the word is less than the start: whether whoever has this start is to stop. It is
     /// one load, takes no memory and never waits.
     pub fn stopped(&self, seat: &mut GateSeat, start: usize) -> bool
-        requires belongs { IsSeatOf self.now seat.old }
+        requires belongs { IsGateSeatOf self.now seat.old }
         ensures looks { (word : ℕ) × (known seat.new ≡ looking (known seat.old) word)
             × (IsTrue result ↔ (word < start)) }
-        ensures belongs { IsSeatOf self.now seat.new }
+        ensures belongs { IsGateSeatOf self.now seat.new }
     {
         self.table.shared.load::<Looks>(&mut seat.seat, 0) < start as u64
     }
@@ -150,7 +150,7 @@ impl Gate {
     /// Whoever saw a word less than its own start, and so was stopped, has a start that is greater
     /// than the answer, and the answer is a start that was told.
     pub fn close_joined(self, seat: GateSeat) -> usize
-        requires belongs { IsSeatOf self seat }
+        requires belongs { IsGateSeatOf self seat }
         requires all { stands_for seat ≡ seats_of self }
         ensures told { (result ≡ greatest) ⊎ Contains (known seat).told result }
         ensures at_most { IsAtMost result (known seat) }
@@ -167,7 +167,7 @@ impl Gate {
     // One seat with all that the seats have.
     fn gather(&self, mut seats: Vec<GateSeat>) -> GateSeat
         requires { AreAllOf self.now seats.items }
-        ensures belongs { IsSeatOf self.now result }
+        ensures belongs { IsGateSeatOf self.now result }
         ensures all { stands_for result ≡ seats_of self.now }
         ensures told { (start : ℕ) → Contains (known result).told start
             → ToldByOne seats.items start }

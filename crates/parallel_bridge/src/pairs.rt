@@ -65,6 +65,7 @@ impl<T: Send + Drop> Parts for Pairs<T> {
     ghost keeps = { λ home rest. (rest.start ≡ home.start) × (rest.room ≡ home.room)
         × IsSite T.row home };
 
+    #[tactic(auto, using(crate::proofs::Neighbours::length_pairs))]
     fn len(&self) -> usize {
         self.items.len() / 2
     }
@@ -109,6 +110,7 @@ impl<T: Send + Drop> Segment<(T, T)> for PairSegment<T> {
         × (a.room + b.room ≡ s.window.room) × (a.items ≡ []) × (b.items ≡ [])
         × FitsInBlock T.row s.window.room };
 
+    #[tactic(auto, using(crate::proofs::Neighbours::length_pairs))]
     fn len(&self) -> usize {
         self.window.len() / 2
     }
@@ -140,6 +142,7 @@ impl<T: Send + Drop> Segment<(T, T)> for PairSegment<T> {
         (fed, window)
     }
 
+    #[tactic(auto, using(crate::proofs::Neighbours::length_pairs))]
     fn write<W: Writer<(T, T)>>(
         self,
         writer: &W,
@@ -151,6 +154,7 @@ impl<T: Send + Drop> Segment<(T, T)> for PairSegment<T> {
         (written, window)
     }
 
+    #[tactic(auto, using(crate::proofs::Neighbours::length_pairs))]
     fn write_watched<'g, W: Writer<(T, T)>>(
         self,
         writer: &W,
@@ -288,6 +292,7 @@ impl<T: Drop> Iterator for PairDrain<T> {
         Some((first, second))
     }
 
+    #[tactic(auto, using(crate::proofs::Neighbours::length_pairs))]
     fn size_hint(&self) -> (usize, Option<usize>) {
         let left = self.rest.len() / 2;
         (left, Some(left))
@@ -295,6 +300,7 @@ impl<T: Drop> Iterator for PairDrain<T> {
 }
 
 impl<T: Drop> ExactSizeIterator for PairDrain<T> {
+    #[tactic(auto, using(crate::proofs::Neighbours::length_pairs))]
     fn len(&self) -> usize {
         self.rest.len() / 2
     }

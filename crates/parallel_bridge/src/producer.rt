@@ -149,6 +149,7 @@ impl Producer for Indices {
         self.end.saturating_sub(self.start)
     }
 
+    #[tactic(auto, using(crate::proofs::Ranges::indices_split, crate::proofs::Ranges::indices_long))]
     fn split_at(self, _alloc: Global, index: usize) -> Result<(Self, Self), Fault> {
         if self.end <= self.start {
             return Ok((self, self));

@@ -26,6 +26,7 @@ pub fn segments(alloc: Global, threads: NonZeroUsize, len: usize) -> Result<Vec<
 }
 
 /// Appends the lengths of the segments of a list of `len` items that is halved `depth` times.
+#[tactic(auto, using(crate::proofs::SegmentLengths::halved_more))]
 fn push_halves(lengths: &mut Vec<usize>, depth: usize, len: usize) -> Result<(), Fault>
     ensures lengths { IfOk result (λ _. lengths.new.items ≡ lengths.old.items ++ halved_lengths
         depth len) }

@@ -44,7 +44,7 @@ impl LongLists {
     // The one decision: the first pick is the serial one, and the last one splits most. A method of
     // its own, since both functions of the trait that choose have to choose alike.
     fn pick(&self, call: Call) -> Pick
-        requires { 0 < call.parts }
+        requires { 0 < call.max_parts }
         ensures has { HasPick call result }
         ensures takes { TakesByLength (from_of self.now) call result }
     {

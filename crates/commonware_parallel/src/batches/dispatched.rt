@@ -1,15 +1,6 @@
 //! What the batch calls of a strategy stand on.
-ghost use Rattle.std.specs.Prelude.{◌≡◌, ◌/◌, ◌<◌, ◌≤◌, ℕ, IfOk, false, max};
-ghost use Rattle.std.specs.Int.NonZero.{non_zero_usize_get};
-ghost use Rattle.parallel_bridge.specs.Outcomes.{UnlessRefused};
-ghost use Rattle.parallel_fault.specs.Trouble.{IsMemoryOnErr};
-ghost use Rattle.parallel_fault.specs.declared.fault.Fault.{Fault};
-ghost use Rattle.parallel_fault.specs.declared.fault.Fault.TheVariants.{Memory};
-ghost use Rattle.parallel_fault.specs.declared.fault.Trouble.TheVariants.{Fault as OfFault};
-ghost use Rattle.commonware_parallel.specs.Batches.{IsBatch, OnBatch, OnSomeBatch, ranges_of};
-ghost use Rattle.commonware_parallel.specs.declared.batches.Batches.{Batches};
-ghost use Rattle.commonware_parallel.specs.Calls.{goes_by_path};
-ghost use Rattle.commonware_parallel.specs.declared.call.Pick.TheVariants.{Into};
+ghost use Rattle.commonware_parallel.specs.Words.{Batches, Fault, IfOk, Into, IsBatch, IsMemoryOnErr, Memory, OfFault, OnBatch, OnSomeBatch, UnlessRefused, false, goes_by_path, max};
+ghost use Rattle.commonware_parallel.specs.Words.{non_zero_usize_get, ranges_of, ℕ, ◌/◌, ◌<◌, ◌≡◌, ◌≤◌};
 
 use super::Batches;
 use crate::call::Call;
@@ -138,13 +129,13 @@ fn dispatch_settled<
     E,
     B: FnOnce(usize) -> Result<R, Trouble<E>>,
 >(strategy: &S, rt: &Rt, alloc: Global, site: P, call: Call, body: B) -> Result<R, Trouble<E>>
-    requires parts { 0 < call.parts }
+    requires parts { 0 < call.max_parts }
     requires in_parts { goes_by_path call.kind ≡ false }
-    requires accepts { (parts : ℕ) → 0 < parts → parts ≤ call.parts
+    requires accepts { (parts : ℕ) → 0 < parts → parts ≤ call.max_parts
         → S.takes strategy.now (P.site_of site) call (Into parts) → B.pre body parts }
     requires memory { (parts : ℕ) (fault : Fault) → B.post body parts (Err (OfFault fault))
         → fault ≡ Memory }
-    ensures { UnlessRefused result (λ _. (parts : ℕ) × ((0 < parts) × (parts ≤ call.parts)
+    ensures { UnlessRefused result (λ _. (parts : ℕ) × ((0 < parts) × (parts ≤ call.max_parts)
         × S.takes strategy.now (P.site_of site) call (Into parts)) × B.post body parts result) }
 {
     match dispatch_parts(strategy, rt, alloc, site, call, body) {

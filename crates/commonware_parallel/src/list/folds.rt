@@ -1,15 +1,6 @@
 //! The folds that a strategy's list calls stand on, generic in the parts as `list` says.
-ghost use Rattle.std.specs.Prelude.{◌≡◌, ◌<◌, All, IfOk};
-ghost use Rattle.std.specs.Borrow.{MutBor};
-ghost use Rattle.std.specs.Iterator.{Drains, HoldsAlong, IsFinite};
-ghost use Rattle.parallel_bridge.specs.Outcomes.{UnlessRefused};
-ghost use Rattle.parallel_bridge.specs.Sources.{GivesSome};
-ghost use Rattle.parallel_bridge.specs.States.{FoldStep};
-ghost use Rattle.parallel_bridge.specs.Tries.{TryFoldSegment};
-ghost use Rattle.parallel_bridge.specs.Ways.{FoldedAs, FoldedInitAs, TryFoldedAs};
-ghost use Rattle.parallel_fault.specs.Trouble.{IsMemoryOnErr};
-ghost use Rattle.commonware_parallel.specs.ListCalls.{GoesBy, GoesOver};
-ghost use Rattle.commonware_parallel.specs.declared.call.Kind.TheVariants.{Body};
+ghost use Rattle.commonware_parallel.specs.Words.{All, Body, Drains, FoldStep, FoldedAs, FoldedInitAs, GivesSome, GoesBy, GoesOver, HoldsAlong, IfOk, IsFinite, IsMemoryOnErr, MutBor};
+ghost use Rattle.commonware_parallel.specs.Words.{TryFoldSegment, TryFoldedAs, UnlessRefused, ◌<◌, ◌≡◌};
 
 use crate::call::Call;
 use crate::list::{dispatch_call, dispatch_fallible};
@@ -46,7 +37,7 @@ pub fn fold_through<
     fold_op: &F,
     reduce_op: &G,
 ) -> Result<R, Fault>
-    requires parts { 0 < call.parts }
+    requires parts { 0 < call.max_parts }
     requires kind { call.kind ≡ Body }
     requires identity_accepts { ID.IsAlwaysCallable identity.now }
     requires fold_accepts { (x : Q.Item) → Q.may parts x
@@ -99,7 +90,7 @@ pub fn fold_init_through<
     fold_op: &F,
     reduce_op: &G,
 ) -> Result<R, Fault>
-    requires parts { 0 < call.parts }
+    requires parts { 0 < call.max_parts }
     requires kind { call.kind ≡ Body }
     requires init_accepts { N.IsAlwaysCallable init.now }
     requires identity_accepts { ID.IsAlwaysCallable identity.now }
@@ -153,7 +144,7 @@ pub fn try_fold_through<
     fold_op: &F,
     reduce_op: &G,
 ) -> Result<R, Trouble<E>>
-    requires parts { 0 < call.parts }
+    requires parts { 0 < call.max_parts }
     requires kind { call.kind ≡ Body }
     requires identity_accepts { ID.IsAlwaysCallable identity.now }
     requires fold_accepts { (x : Q.Item) → Q.may parts x

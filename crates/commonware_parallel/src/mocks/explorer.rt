@@ -103,7 +103,7 @@ impl Explorer {
 
     // The pick for a call.
     fn picked(&self, site: Site, call: Call) -> Pick
-        requires { 0 < call.parts }
+        requires { 0 < call.max_parts }
         ensures pick { result ≡ picked (plans_of self.now) (rule_of self.now) site call }
         ensures has { HasPick call result }
     {

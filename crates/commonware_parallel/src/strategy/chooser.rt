@@ -96,7 +96,7 @@ pub trait Chooser: Clone + Send + Sync + Debug + 'static {
         call: Call,
         body: B,
     ) -> Result<R, Trouble<E>>
-        requires parts { 0 < call.parts }
+        requires parts { 0 < call.max_parts }
         requires kind { call.kind ≢ Spawn }
         requires accepts { (pick : Pick) → HasPick call pick
             → takes self.now (P.site_of site) call pick → B.pre body pick }
@@ -122,7 +122,7 @@ pub trait Chooser: Clone + Send + Sync + Debug + 'static {
         site: P,
         call: Call,
     ) -> Result<(Pick, Self::Measure), Fault>
-        requires parts { 0 < call.parts }
+        requires parts { 0 < call.max_parts }
         ensures takes { IfOk result (λ chosen. HasPick call chosen.0
             × takes self.now (P.site_of site) call chosen.0) }
         ensures refused { IfErr result (refuses self.now (P.site_of site) call) }

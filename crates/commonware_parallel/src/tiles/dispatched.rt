@@ -1,9 +1,5 @@
 //! What the tile call of a strategy stands on.
-ghost use Rattle.std.specs.Prelude.{◌≡◌, ◌<◌, ℕ, IfOk, MatchResult};
-ghost use Rattle.parallel_fault.specs.Trouble.{IsMemoryOnErr};
-ghost use Rattle.parallel_shares.specs.Grid.{Fits};
-ghost use Rattle.commonware_parallel.specs.Tiles.{IsSerialCost, IsTiling, OnSomeTiles, tiles_place, tiles_strategy};
-ghost use Rattle.commonware_parallel.specs.declared.tiles.Tiles.{Tiles};
+ghost use Rattle.commonware_parallel.specs.Words.{Fits, IfOk, IsMemoryOnErr, IsSerialCost, IsTiling, MatchResult, OnSomeTiles, Tiles, tiles_place, tiles_strategy, ℕ, ◌<◌, ◌≡◌};
 
 use super::Tiles;
 use crate::call::Call;

@@ -2,7 +2,7 @@
 //! with each item and each value dropped once.
 ghost use Rattle.std.specs.Prelude.{◌≡◌, ◌<◌, All, IfSome};
 ghost use Rattle.parallel_bridge.specs.GateRule.{newcomer};
-ghost use Rattle.parallel_bridge.specs.Gates.{IsSeatOf, known, stands_for};
+ghost use Rattle.parallel_bridge.specs.Gates.{IsGateSeatOf, known, stands_for};
 
 use crate::bridge::number;
 use crate::bridge::windows::{Counted, all_gone_but, counted_items, no_counts};
@@ -25,10 +25,10 @@ use std::thread::Threads;
 
 // The last seat of a list.
 fn take_one(gate: &Gate, seats: &mut Vec<GateSeat>) -> Option<GateSeat>
-    requires belong { All (IsSeatOf gate.now) seats.old.items }
+    requires belong { All (IsGateSeatOf gate.now) seats.old.items }
     requires fresh { All (λ seat. known seat ≡ newcomer 1) seats.old.items }
-    ensures seat { IfSome result (λ seat. IsSeatOf gate.now seat × (known seat ≡ newcomer 1)) }
-    ensures belong { All (IsSeatOf gate.now) seats.new.items }
+    ensures seat { IfSome result (λ seat. IsGateSeatOf gate.now seat × (known seat ≡ newcomer 1)) }
+    ensures belong { All (IsGateSeatOf gate.now) seats.new.items }
     ensures fresh { All (λ seat. known seat ≡ newcomer 1) seats.new.items }
 {
     seats.pop()
@@ -41,11 +41,11 @@ fn after_ten(
     second: &mut GateSeat,
     third: &mut GateSeat,
 ) -> [bool; 3]
-    requires belong { IsSeatOf gate.now first.old × IsSeatOf gate.now second.old
-        × IsSeatOf gate.now third.old }
+    requires belong { IsGateSeatOf gate.now first.old × IsGateSeatOf gate.now second.old
+        × IsGateSeatOf gate.now third.old }
     requires stands { 0 < stands_for first.old }
-    ensures belong { IsSeatOf gate.now first.new × IsSeatOf gate.now second.new
-        × IsSeatOf gate.now third.new }
+    ensures belong { IsGateSeatOf gate.now first.new × IsGateSeatOf gate.now second.new
+        × IsGateSeatOf gate.now third.new }
     ensures first { stands_for first.new ≡ stands_for first.old }
     ensures third { stands_for third.new ≡ stands_for third.old }
 {
@@ -63,8 +63,8 @@ fn after_three(
     second: &mut GateSeat,
     third: &mut GateSeat,
 ) -> [bool; 2]
-    requires belong { IsSeatOf gate.now first.old × IsSeatOf gate.now second.old
-        × IsSeatOf gate.now third.old }
+    requires belong { IsGateSeatOf gate.now first.old × IsGateSeatOf gate.now second.old
+        × IsGateSeatOf gate.now third.old }
     requires first { 0 < stands_for first.old }
     requires third { 0 < stands_for third.old }
 {

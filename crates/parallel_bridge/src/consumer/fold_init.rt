@@ -4,7 +4,7 @@ ghost use Rattle.std.specs.Borrow.{MutBor};
 ghost use Rattle.std.specs.Iterator.{Drains, HoldsAlong, IsFinite};
 ghost use Rattle.std.specs.List.{All};
 ghost use Rattle.parallel_bridge.specs.Sources.{GivesSome};
-ghost use Rattle.parallel_bridge.specs.States.{FoldInitSegment, FoldStep, StateChain, StateChainOnward};
+ghost use Rattle.parallel_bridge.specs.States.{FoldInitSegment, FoldStep, StateChain, StateChainContinues};
 
 use crate::plumbing::{Consumer, Folder};
 use parallel_fault::{Fault, Trouble};
@@ -158,7 +158,7 @@ pub(crate) fn fold_init_from<I: Iterator, S: Drop, R: Drop, F: Fn(R, &mut S, I::
     requires accepts { HoldsAlong I.next_gives iter
         (All (λ x. (value : R) (state : MutBor S) → F.pre fold_op.now value state x)) }
     ensures { GivesSome (Drains I.next_gives) iter
-        (λ xs. StateChainOnward (FoldStep (F.post fold_op.now)) state.old start xs
+        (λ xs. StateChainContinues (FoldStep (F.post fold_op.now)) state.old start xs
         state.new result) }
 {
     let mut value = start;

@@ -95,7 +95,7 @@ impl<'c, 'g, X: Drop, T: Drop, E: Drop, F: Fn(T, X) -> Result<T, E>> Folder<
             watch,
         } = self;
         let mut watch = watch;
-        let control = gated_onward(control, iter, fold_op, &mut watch);
+        let control = gated_fold_from(control, iter, fold_op, &mut watch);
         Ok(GatedFolder {
             control,
             fold_op,
@@ -122,7 +122,7 @@ impl<'c, 'g, X: Drop, T: Drop, E: Drop, F: Fn(T, X) -> Result<T, E>> Folder<
 
 // The items that come folded from a value, in their order, up to the first step that fails or the
 // look that stops them. Items behind an end are passed over.
-fn gated_onward<'g, I: Iterator, R: Drop, E: Drop, F: Fn(R, I::Item) -> Result<R, E>>(
+fn gated_fold_from<'g, I: Iterator, R: Drop, E: Drop, F: Fn(R, I::Item) -> Result<R, E>>(
     control: Result<R, Halt<E>>,
     iter: I,
     fold_op: &F,

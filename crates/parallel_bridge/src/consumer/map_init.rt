@@ -5,7 +5,7 @@ ghost use Rattle.std.specs.Iterator.{Drains, HoldsAlong, IsFinite};
 ghost use Rattle.std.specs.List.{All};
 ghost use Rattle.parallel_fault.specs.Trouble.{IsMemoryOnErr};
 ghost use Rattle.parallel_bridge.specs.Sources.{GivesSome};
-ghost use Rattle.parallel_bridge.specs.States.{MapStep, StateSegment, StatesFrom, StatesOnward};
+ghost use Rattle.parallel_bridge.specs.States.{MapStep, StateSegment, StatesFrom, StatesContinue};
 
 use crate::plumbing::{Consumer, Folder};
 use parallel_fault::{Fault, Trouble};
@@ -143,7 +143,7 @@ pub(crate) fn map_init_from<I: Iterator, S: Drop, T: Drop, F: Fn(&mut S, I::Item
     requires accepts { HoldsAlong I.next_gives iter
         (All (λ x. (p : MutBor S) → F.pre map_op.now p x)) }
     ensures gives { IfOk result (λ ys. GivesSome (Drains I.next_gives) iter
-        (λ xs. StatesOnward (MapStep (F.post map_op.now)) state.old xs ys.items state.new)) }
+        (λ xs. StatesContinue (MapStep (F.post map_op.now)) state.old xs ys.items state.new)) }
     ensures fault { IsMemoryOnErr result }
 {
     let mut answers = Vec::with_capacity(alloc, iter.size_hint().0)?;

@@ -205,6 +205,7 @@ pub(crate) fn spare_lists<U: Drop, K: Drop>(
 
 /// The values and the keys of all segments, one after another, in the first lists' places where
 /// there is room.
+#[tactic(auto, using(crate::proofs::FoldersAppend::values_pushed, crate::proofs::FoldersAppend::keys_pushed))]
 pub(crate) fn put_in_one<U: Drop, K: Drop>(
     alloc: Global,
     lists: Vec<(Vec<U>, Vec<K>)>,

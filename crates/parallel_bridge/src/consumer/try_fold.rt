@@ -61,7 +61,7 @@ impl<
     }
 
     fn consume_iter<J: Iterator<Item = X>>(self, _alloc: Global, iter: J) -> Result<Self, Fault> {
-        let control = try_fold_onward(self.control, iter, self.fold_op);
+        let control = try_fold_from(self.control, iter, self.fold_op);
         Ok(TryFoldFolder {
             base: self.base,
             control,
@@ -136,7 +136,7 @@ impl<
 
 /// The items that come folded from a value, in their order, up to the first step that fails; or the
 /// error that is there, which stands. Items behind an error are passed over.
-pub(crate) fn try_fold_onward<I: Iterator, R: Drop, E: Drop, F: Fn(R, I::Item) -> Result<R, E>>(
+pub(crate) fn try_fold_from<I: Iterator, R: Drop, E: Drop, F: Fn(R, I::Item) -> Result<R, E>>(
     control: Result<R, E>,
     iter: I,
     fold_op: &F,

@@ -6,7 +6,7 @@ ghost use Rattle.parallel_bridge.specs.Fills.{Answered, Fillable, Filled, IsFull
 ghost use Rattle.parallel_bridge.specs.Outcomes.{PutTogether};
 ghost use Rattle.parallel_bridge.specs.Windows.{Follows};
 ghost use Rattle.parallel_bridge.specs.GateRule.{gathered};
-ghost use Rattle.parallel_bridge.specs.Gates.{IsSeatOf, MayWatch, known, stands_for};
+ghost use Rattle.parallel_bridge.specs.Gates.{IsGateSeatOf, MayWatch, known, stands_for};
 ghost use Rattle.parallel_bridge.specs.Halting.{EndsAs, halting};
 
 use crate::drive::{Task, drive};
@@ -52,7 +52,7 @@ where
     requires watch { MayWatch watch (P.count parts) }
     ensures filled { Filled P.gives parts (halting
         (Answered (W.so_far writer.now) (W.fails writer.now))) depth room result.0 result.1 }
-    ensures belongs { IsSeatOf watch.entry.gate.now result.2 }
+    ensures belongs { IsGateSeatOf watch.entry.gate.now result.2 }
     ensures ends { EndsAs watch.entry.start (P.count parts) (stands_for watch.entry.seat)
         (known result.2) (written result.0 result.1) }
 {
@@ -108,7 +108,7 @@ where
 
     ghost ends = { λ depth s d. Filled S.gives s.parts (halting
         (Answered (W.so_far s.writer.now) (W.fails s.writer.now))) depth s.room d.0 d.1
-        × S.leaves s.parts d.2 × IsSeatOf s.watch.gate.now d.3
+        × S.leaves s.parts d.2 × IsGateSeatOf s.watch.gate.now d.3
         × EndsAs s.watch.start (S.count s.parts) (stands_for s.watch.seat) (known d.3)
         (written d.0 d.1) };
 
@@ -116,13 +116,13 @@ where
         × FitsInBlock W.Answer.row (a.0.room + b.0.room)
         × IfOk a.1 (λ _. IsFull a.0) × IfOk b.1 (λ _. IsFull b.0)
         × ((whole : S) × S.meets whole a.2 b.2)
-        × IsSeatOf gate.now a.3 × IsSeatOf gate.now b.3 };
+        × IsGateSeatOf gate.now a.3 × IsGateSeatOf gate.now b.3 };
 
     ghost together = { λ gate a b c. (c.0.start ≡ a.0.start) × (c.0.room ≡ a.0.room + b.0.room)
         × IfOk c.1 (λ _. IsFull c.0)
         × PutTogether OneAfterAnother (written a.0 a.1) (written b.0 b.1) (written c.0 c.1)
         × ((whole : S) → S.meets whole a.2 b.2 → S.leaves whole c.2)
-        × IsSeatOf gate.now c.3 × (known c.3 ≡ gathered (known a.3) (known b.3)) };
+        × IsGateSeatOf gate.now c.3 × (known c.3 ≡ gathered (known a.3) (known b.3)) };
 
     fn is_leaf(&self, depth: usize) -> bool {
         depth == 0 || self.parts.len() < 2

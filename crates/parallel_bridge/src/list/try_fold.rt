@@ -11,7 +11,7 @@ ghost use Rattle.parallel_bridge.specs.Ways.{TryFoldedAs};
 
 use crate::bridge::depth_of;
 use crate::bridge::gated::fold_gated;
-use crate::consumer::try_fold::try_fold_onward;
+use crate::consumer::try_fold::try_fold_from;
 use crate::gate::watch::seats_for;
 use crate::gate::{Gate, GateWatch};
 use crate::halt::{unhalt, unhalt_lost};
@@ -42,7 +42,7 @@ where
         (λ xs. TryFoldSegment (ID.post identity.now) (λ a x out. F.post fold_op.now a x out)
         xs result) }
 {
-    try_fold_onward(Ok(identity()), iter, fold_op)
+    try_fold_from(Ok(identity()), iter, fold_op)
 }
 
 /// The items of a list folded along its shape for that many threads: each segment from an identity

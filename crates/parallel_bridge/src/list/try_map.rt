@@ -40,7 +40,7 @@ where
 {
     let mut values = Vec::with_capacity(alloc, iter.size_hint().0)?;
     let mut failed = None;
-    try_map_onward(&mut values, &mut failed, iter, map_op)?;
+    try_map_from(&mut values, &mut failed, iter, map_op)?;
     match failed {
         None => Ok(values),
         Some(error) => Err(Trouble::Closure(error)),
@@ -122,7 +122,7 @@ pub fn try_map_by<
 // Puts the values of the items that come behind those that are there, in order, up to the first
 // item that fails, whose error is put down. Behind an error, also one that was there, the items
 // are passed over and the closure isn't called.
-fn try_map_onward<I: Iterator, T: Drop, E: Drop, F: Fn(I::Item) -> Result<T, E>>(
+fn try_map_from<I: Iterator, T: Drop, E: Drop, F: Fn(I::Item) -> Result<T, E>>(
     values: &mut Vec<T>,
     failed: &mut Option<E>,
     iter: I,

@@ -19,7 +19,7 @@ fn a_strategy_hands_its_picks_out(rt: HostRuntime) {
         kind: Kind::Batches,
         len: 17,
         work: 18_446_744_073_709_551_615,
-        parts: 3,
+        max_parts: 3,
     };
     same(&rt, call, expected);
     same(&rt, SITE.site(), SITE);

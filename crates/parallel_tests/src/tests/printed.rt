@@ -41,7 +41,7 @@ fn values_print_their_parts(rt: HostRuntime) {
     prints(&rt, alloc, &ThreadPoolBuildError::Spawn, "Spawn");
     let text = "Site { file: \"tests\", line: 1, column: 1 }";
     prints(&rt, alloc, &SITE, text);
-    let text = "Call { kind: Body, len: 4, work: 4, parts: 1 }";
+    let text = "Call { kind: Body, len: 4, work: 4, max_parts: 1 }";
     prints(&rt, alloc, &Call::body(4), text);
     let grid = Grid {
         rows: 4,

@@ -68,7 +68,7 @@ fn picks_last<Rt: Wait>(
     explorer: &Explorer,
     call: Call,
 ) -> Result<bool, Fault>
-    requires { 0 < call.parts }
+    requires { 0 < call.max_parts }
 {
     let (pick, _unmeasured) = explorer.choose(rt, alloc, PLACE, call)?;
     Ok(pick == Pick::By(Path::Parallel))

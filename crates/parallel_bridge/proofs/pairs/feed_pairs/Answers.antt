@@ -4,10 +4,8 @@ use Rattle.parallel_bridge.proofs.pairs.feed_pairs.Goals as goal
 
 pub loop-alloc-preserved : goal.loop-alloc-preserved
 loop-alloc-preserved g c =
-    let so_far = c.loop-alloc.invariant in
-    let front = c.take_pair-pair.ensures.items in
-    let rest = pairs_of c.take_pair-pair.new.window.items in
-    let fed = c.in_ok-folder.ensures in
+    let so_far = c.loop-alloc.invariant in let front = c.take_pair-pair.ensures.items in
+    let rest = pairs_of c.take_pair-pair.new.window.items in let fed = c.in_ok-folder.ensures in
     record {
       ready = fed.ready;
       takes = λ x within. fed.takes x (so_far.takes x
@@ -21,8 +19,7 @@ loop-alloc-preserved g c =
 
 pub returns-clause-gives : goal.returns-clause-gives
 returns-clause-gives g c more out h =
-    let len = c.len.ensures in
     let few = c.loop-alloc-test.false in
-    let none = no_pair c.loop-alloc.window.items (omega (arith, len, few)) in
+    let none = no_pair c.loop-alloc.window.items (omega (arith, c.len.ensures, few)) in
     c.loop-alloc.invariant.gives more out
     (subst (λ l. g.F.Folder.gives c.loop-alloc.folder (l ++ more) out) (sym none) h)

@@ -1,5 +1,5 @@
 -- The next pair stands in the list of pairs, and there is a place for its answer.
-use Rattle.parallel_bridge.proofs.{rules, ◌++◌, ◌∷◌, [], arith, ap, length, subst, ◌∙◌, sym, length-append, between, one_taken, pairs_of}
+use Rattle.parallel_bridge.proofs.{rules, ◌≡◌, ◌++◌, ap, between, one_answered, one_taken, pairs_of}
 use Rattle.parallel_bridge.proofs.pairs.write_pairs.Goals as goal
 
 pub answer-requires : goal.answer-requires
@@ -12,24 +12,15 @@ answer-requires g c =
 
 pub loop-items-preserved : goal.loop-items-preserved
 loop-items-preserved g c =
-    let so_far = c.loop-items.invariant in
-    let pair = c.take_pair-pair in
-    let xs = so_far.taken.0 in
-    let room = c.loop-items.room.items in
-    let y = c.in_ok-answer.answer in
-    let placed = ap (λ w. w.items) c.put.ensures in
-    let more = length-append room (y ∷ []) in
-    let longer = length-append xs (pair.result ∷ []) in
-    let count = so_far.taken.3 in
+    let taken = c.loop-items.invariant.taken in let pair = c.take_pair-pair in
+    let all = pairs_of c.args.items.now.items in let rest = pairs_of pair.new.window.items in
+    let ys = c.loop-items.room.items in
     record {
-      taken = (
-        xs ++ pair.result ∷ [],
-        one_taken (pairs_of c.args.items.now.items) xs (pairs_of c.loop-items.items.items)
-            (pairs_of pair.new.window.items) pair.result so_far.taken.1 pair.ensures.items,
-        subst (λ l. g.W.Writer.so_far c.args.writer.now (xs ++ pair.result ∷ [])
-            c.answer.new.state l) (sym placed) (c.in_ok-answer.ensures.next xs room so_far.taken.2),
-        ap length placed ∙ omega (arith, more, longer, count),
-      );
+      taken = one_answered (λ l. all ≡ l ++ rest) (g.W.Writer.so_far c.args.writer.now) taken.0
+          pair.result ys c.put.new.self.items c.in_ok-answer.answer c.answer.new.state
+          (one_taken all taken.0 (pairs_of c.loop-items.items.items) rest pair.result taken.1
+          pair.ensures.items) (ap (λ w. w.items) c.put.ensures)
+          (c.in_ok-answer.ensures.next taken.0 ys taken.2) taken.3;
       from = search rules;
       place = search rules;
       first = search rules;

@@ -4,10 +4,8 @@ use Rattle.parallel_bridge.proofs.segment.feed_window.Goals as goal
 
 pub loop-alloc-preserved : goal.loop-alloc-preserved
 loop-alloc-preserved g c =
-    let so_far = c.loop-alloc.invariant in
-    let front = c.take-item.ensures.items in
-    let rest = c.take-item.new.self.items in
-    let fed = c.in_ok-folder.ensures in
+    let so_far = c.loop-alloc.invariant in let front = c.take-item.ensures.items in
+    let rest = c.take-item.new.self.items in let fed = c.in_ok-folder.ensures in
     record {
       ready = fed.ready;
       takes = λ x within. fed.takes x (so_far.takes x

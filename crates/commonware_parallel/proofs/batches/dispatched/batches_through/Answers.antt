@@ -13,7 +13,7 @@ pub returns-in-Ok-clause-answers : goal.returns-in-Ok-clause-answers
 returns-in-Ok-clause-answers g c =
     let T = g.S.Chooser in
     let w = c.in-Ok.ensures.answers in
-    let P : Call → Type 0 = λ call. (0 < w.0) × (w.0 ≤ call.parts)
+    let P : Call → Type 0 = λ call. (0 < w.0) × (w.0 ≤ call.max_parts)
     × T.takes c.args.strategy.now (g.P.Place.site_of c.args.site) call (Into w.0) in
     let same : c.batches-call.result ≡ batches_call (T.plans c.args.strategy.now) c.args.len
     (non_zero_usize_get c.args.minimum) c.args.multiplier = c.batches-call.ensures

@@ -28,7 +28,7 @@ returns g c =
     T.threads T.starts g.P.Place.site_of c.args.strategy.now c.args.site c.args.len
     c.args.minimum c.args.multiplier (λ batches. post batches out) in
     unless_told c.dispatch_settled.result _ says c.dispatch_settled.ensures (λ w.
-    let P : Call → Type 0 = λ call. (0 < w.0) × (w.0 ≤ call.parts)
+    let P : Call → Type 0 = λ call. (0 < w.0) × (w.0 ≤ call.max_parts)
     × T.takes c.args.strategy.now site call (Into w.0) in
     let taken = subst P same w.1 in
     let ran =

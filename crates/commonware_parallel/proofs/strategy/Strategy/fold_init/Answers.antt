@@ -1,13 +1,8 @@
 -- Over the source as it comes the list is one segment.
-use Rattle.std.proofs.Common.{rules, refl}
-use Rattle.std.specs.Borrow.{MutBor}
-use Rattle.std.specs.Iterator.{Drains}
+use Rattle.std.proofs.Common.{rules, refl, length}
 use Rattle.parallel_bridge.specs.Lists.{of_segment}
-use Rattle.parallel_bridge.specs.Shapes.{cutdepth}
-use Rattle.parallel_bridge.specs.States.{FoldStep}
-use Rattle.parallel_bridge.specs.Ways.{FoldedInitAs}
+use Rattle.parallel_bridge.specs.declared.path.Path.TheVariants.{Serial}
 use Rattle.commonware_parallel.specs.Calls.{body_call}
-use Rattle.commonware_parallel.proofs.ListCalls.{at_serial}
 use Rattle.commonware_parallel.proofs.strategy.Strategy.fold_init.Goals as goal
 
 pub returns-then-is_serial-clause-brackets : goal.returns-then-is_serial-clause-brackets
@@ -17,21 +12,8 @@ returns-then-is_serial-clause-brackets g c =
 
 pub returns-then-is_serial-clause-along : goal.returns-then-is_serial-clause-along
 returns-then-is_serial-clause-along g c =
-    let init = λ (s : g.row.S.Denot). g.N.Fn.post c.args.init tt s in
-    let identity = λ (e : g.row.R.Denot). g.ID.Fn.post c.args.identity tt e in
-    let step =
-    FoldStep (λ (a : g.row.R.Denot) (p : MutBor g.row.S.Denot) (x : g.row.I-Item.Denot)
-    (b : g.row.R.Denot) (q : MutBor g.row.S.Denot). g.F.Fn.post c.args.fold_op (a, (p, (x, tt)))
-    (b, (q, tt))) in
-    let reduce =
-    λ (a : g.row.R.Denot) (b : g.row.R.Denot) (r : g.row.R.Denot). g.G.Fn.post c.args.reduce_op
-    (a, (b, tt)) r in
-    let site = g.P.Place.site_of c.args.site in
     let w = c.fold_init_iter.ensures in
-    at_serial (Drains g.I.Iter.Iterator.next_gives) c.into_items.result g.I.Source.gives
-    c.args.source (λ call pick. g.Self.Chooser.takes c.args.self.now site call pick) body_call
-    c.into_items.ensures.gives (λ n. c.is_serial.ensures.first (search rules) site
-    (body_call n) refl)
-    (λ path xs. FoldedInitAs init identity step reduce
-    (cutdepth (g.Self.Chooser.threads c.args.self.now)) path xs c.fold_init_iter.result)
-    (w.0, w.1, (of_segment w.2, w.2))
+    let site = g.P.Place.site_of c.args.site in
+    let call = body_call (length w.0) in
+    let taken = c.is_serial.ensures.first (search rules) site call refl in
+    (w.0, c.into_items.ensures.gives w.0 w.1, (Serial, taken, (of_segment w.2, w.2)))

@@ -12,7 +12,7 @@ pub returns-in-Ok-clause-answers : goal.returns-in-Ok-clause-answers
 returns-in-Ok-clause-answers g c =
     let T = g.S.Chooser in
     let w = c.in-Ok.ensures.answers in
-    let P : Call → Type 0 = λ call. (0 < w.0) × (w.0 ≤ call.parts)
+    let P : Call → Type 0 = λ call. (0 < w.0) × (w.0 ≤ call.max_parts)
     × T.takes c.args.strategy.now (g.P.Place.site_of c.args.site) call (Into w.0) in
     let cost = c.serial_cost-cost.result in
     let same : c.tiles-call.result ≡ tiles_call

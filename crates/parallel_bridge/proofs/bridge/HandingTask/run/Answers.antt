@@ -4,10 +4,8 @@ use Rattle.parallel_bridge.proofs.bridge.HandingTask.run.Goals as goal
 
 pub returns-in-Ok-fed : goal.returns-in-Ok-fed
 returns-in-Ok-fed g c depth short =
-    let self = c.args.self in
-    let gives = g.S.Segment.gives in
-    let leaf = g.C.Consumer.leaf_gives self.consumer in
-    let folds = g.C.Folder.Folder.gives in
+    let self = c.args.self in let gives = g.S.Segment.gives in
+    let leaf = g.C.Consumer.leaf_gives self.consumer in let folds = g.C.Folder.Folder.gives in
     let fed = subst (λ d. IfOk d (λ f. GivesSome gives self.parts
     (λ xs. (more : List g.row.X.Denot) (out : Result g.row.C-Result.Denot g.row.C-Error.Denot)
     → folds f more out → folds c.in-Ok.folder (xs ++ more) out))) c.in-Ok-fed.is

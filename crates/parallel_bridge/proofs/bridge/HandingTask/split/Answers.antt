@@ -13,16 +13,10 @@ returns-clause-meet g c depth a b left right = (
 
 pub returns-clause-node : goal.returns-clause-node
 returns-clause-node g c depth a b all above left right together =
-    let S = g.S.Segment in
-    let C = g.C.Consumer in
-    let self = c.args.self in
-    let parts = c.in-Ok-split_at.ensures in
-    let front = c.in-Ok-split_at.halves.0 in
-    let back = c.in-Ok-split_at.halves.1 in
-    let halves = c.in-Ok.ensures in
-    let l = c.in-Ok.consumers.0 in
+    let C = g.C.Consumer in let self = c.args.self in let parts = c.in-Ok-split_at.ensures in
+    let halves = c.in-Ok.ensures in let l = c.in-Ok.consumers.0 in
     let r = c.in-Ok.consumers.1 in (
-      driven_node S.gives self.parts front back
+      driven_node g.S.Segment.gives self.parts c.in-Ok-split_at.halves.0 c.in-Ok-split_at.halves.1
           (C.leaf_gives self.consumer) (C.leaf_gives l) (C.leaf_gives r)
           (C.node_gives self.consumer) (C.node_gives l) (C.node_gives r)
           (g.C.Reducer.Reducer.reduce_gives c.in-Ok.consumers.2)

@@ -1,19 +1,7 @@
 -- A cut behind so many pieces of the slice.
-use Rattle.parallel_bridge.proofs.{◌-◌, length, drop, take, ap, ◌∙◌, div_ceil, non_zero_usize_get, take_rest, chunks_of, some_borrows, back_count, chunk_of_back, chunk_of_front, chunks_joined}
-use Rattle.parallel_bridge.proofs.{front_count, front_long}
+use Rattle.parallel_bridge.proofs.{◌-◌, length, drop, take, ap, ◌∙◌, div_ceil, non_zero_usize_get, take_rest, chunks_of, some_borrows, back_count, chunk_of_back, chunk_of_front}
+use Rattle.parallel_bridge.proofs.{front_count}
 use Rattle.parallel_bridge.proofs.chunks.ChunksProducer.split_at.Goals as goal
-
-pub returns-clause-joined : goal.returns-clause-joined
-returns-clause-joined g c =
-    let m = c.middle_of-middle in let size = non_zero_usize_get c.args.self.size in
-    chunks_joined c.args.index m.result size c.args.self.slice.now m.ensures.some c.requires
-    m.ensures.cut
-
-pub returns-clause-front : goal.returns-clause-front
-returns-clause-front g c =
-    let m = c.middle_of-middle in let size = non_zero_usize_get c.args.self.size in
-    front_long c.args.index m.result size c.args.self.slice.now m.ensures.some c.requires
-    m.ensures.cut
 
 pub returns-clause-counts : goal.returns-clause-counts
 returns-clause-counts g c =

@@ -12,8 +12,7 @@ fold_op-value-requires g c = next_has g.I.Iterator.next_gives
 
 pub loop-item-preserved : goal.loop-item-preserved
 loop-item-preserved g c more b h =
-    let step = FoldStep (goal.F-post g c.args.fold_op.now) in
-    let item = c.in-Some.item in
+    let step = FoldStep (goal.F-post g c.args.fold_op.now) in let item = c.in-Some.item in
     subst (λ l. StateChain step c.args.state.now c.args.start l b)
     (sym (append_assoc c.loop-item.yielded (item ∷ []) more))
     (c.loop-item.invariant (item ∷ more) b (_, _, search rules, h))

@@ -10,10 +10,8 @@ map_op-requires g c = next_has g.I.Iterator.next_gives
 
 pub loop-item-preserved : goal.loop-item-preserved
 loop-item-preserved g c more zs h =
-    let y = c.map_op.result in
-    let step = MapStep (goal.F-post g c.args.map_op.now) in
-    let before = c.loop-item.answers.items in
-    let item = c.in-Some.item in
+    let y = c.map_op.result in let step = MapStep (goal.F-post g c.args.map_op.now) in
+    let before = c.loop-item.answers.items in let item = c.in-Some.item in
     let more_answers : c.push.new.self.items ++ zs ≡ before ++ (y ∷ zs) =
     ap (λ l. l ++ zs) (search rules) ∙ append_assoc before (y ∷ []) zs in
     subst (λ l. StatesFrom step c.args.state.now l (c.push.new.self.items ++ zs))

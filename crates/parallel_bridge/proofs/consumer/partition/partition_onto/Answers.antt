@@ -1,10 +1,10 @@
 -- One turn is one value or one key more.
-use Rattle.parallel_bridge.proofs.{rules, ◌∷◌, [], refl, next_has, part_append, part_end, part_one_value, part_one_key}
+use Rattle.parallel_bridge.proofs.{rules, ◌∷◌, [], next_has, part_append, part_end, part_one_value, part_one_key}
 use Rattle.parallel_bridge.proofs.consumer.partition.partition_onto.Goals as goal
 
 pub loop-item-init : goal.loop-item-init
 loop-item-init g c =
-    part_end (goal.F-post g c.args.map_op.now) c.args.values.items c.args.keys.items [] refl
+    part_end (goal.F-post g c.args.map_op.now) c.args.values.items c.args.keys.items
 
 pub map_op-key-requires : goal.map_op-key-requires
 map_op-key-requires g c = next_has g.I.Iterator.next_gives
@@ -14,8 +14,7 @@ map_op-key-requires g c = next_has g.I.Iterator.next_gives
 
 pub loop-item-preserved-in-Some-value : goal.loop-item-preserved-in-Some-value
 loop-item-preserved-in-Some-value g c =
-    let allowed = goal.F-post g c.args.map_op.now in
-    let values = c.loop-item.values.items in
+    let allowed = goal.F-post g c.args.map_op.now in let values = c.loop-item.values.items in
     let keys = c.loop-item.keys.items in
     part_append allowed c.args.values.items values c.push.new.self.items c.args.keys.items keys keys
     c.loop-item.yielded (c.in-Some.item ∷ []) c.loop-item.invariant
@@ -24,8 +23,7 @@ loop-item-preserved-in-Some-value g c =
 
 pub loop-item-preserved : goal.loop-item-preserved
 loop-item-preserved g c =
-    let allowed = goal.F-post g c.args.map_op.now in
-    let values = c.loop-item.values.items in
+    let allowed = goal.F-post g c.args.map_op.now in let values = c.loop-item.values.items in
     let keys = c.loop-item.keys.items in
     part_append allowed c.args.values.items values values c.args.keys.items keys
     c.push-in-None-value.new.self.items c.loop-item.yielded

@@ -4,8 +4,7 @@ use Rattle.parallel_bridge.proofs.fill.FillingTask.run.Goals as goal
 
 pub returns-in-Ok : goal.returns-in-Ok
 returns-in-Ok g c depth short =
-    let self = c.args.self in
-    let room = c.write-done.new.room in
+    let self = c.args.self in let room = c.write-done.new.room in
     let written = c.write-done.ensures in
     let leaf = Answered (g.W.Writer.so_far self.writer.now) (g.W.Writer.fails self.writer.now) in (
       (
@@ -20,8 +19,7 @@ returns-in-Ok g c depth short =
 
 pub returns-in-Err : goal.returns-in-Err
 returns-in-Err g c depth short =
-    let self = c.args.self in
-    let room = c.write-done.new.room in
+    let self = c.args.self in let room = c.write-done.new.room in
     let written = c.write-done.ensures in
     let leaf = Answered (g.W.Writer.so_far self.writer.now) (g.W.Writer.fails self.writer.now) in (
       (

@@ -5,13 +5,11 @@ use Rattle.parallel_bridge.proofs.fill.FillingTask.split.Goals as goal
 
 pub returns-clause-meet : goal.returns-clause-meet
 returns-clause-meet g c depth a b left right =
-    let self = c.args.self in
-    let R = g.row.W-Answer in
+    let self = c.args.self in let R = g.row.W-Answer in
     let long : self.room.room ≡ g.S.Segment.count self.parts = search rules in
-    let counted = c.len-len.ensures.counted in
     let rooms = c.split-left.ensures in
     let at = halved_room g.row.W-Answer self.room _ _ (c.len-len.result / 2) _ _ rooms.left
-    rooms.right (omega (arith, long, counted)) a.0 b.0 left.0.0 right.0.0 in
+    rooms.right (omega (arith, long, c.len-len.ensures.counted)) a.0 b.0 left.0.0 right.0.0 in
     let fits : FitsInBlock R self.room.room = search rules in (
       at.0,
       subst (FitsInBlock R) (sym at.2) fits,
@@ -22,13 +20,10 @@ returns-clause-meet g c depth a b left right =
 
 pub returns-clause-node : goal.returns-clause-node
 returns-clause-node g c depth a b all above left right together =
-    let S = g.S.Segment in
-    let self = c.args.self in
-    let parts = c.in-Ok.ensures in
+    let S = g.S.Segment in let self = c.args.self in let parts = c.in-Ok.ensures in
     let half = c.len-len.result / 2 in
     let long : self.room.room ≡ S.count self.parts = search rules in
-    let counted = c.len-len.ensures.counted in
-    let rooms = c.split-left.ensures in
+    let counted = c.len-len.ensures.counted in let rooms = c.split-left.ensures in
     let at = halved_room g.row.W-Answer self.room _ _ (c.len-len.result / 2) _ _ rooms.left
     rooms.right (omega (arith, long, counted)) a.0 b.0 left.0.0 right.0.0 in
     let leaf = Answered (g.W.Writer.so_far self.writer.now) (g.W.Writer.fails self.writer.now) in (

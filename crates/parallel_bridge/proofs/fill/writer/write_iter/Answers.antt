@@ -1,5 +1,5 @@
 -- One turn is one answer more, and there are as many items as places.
-use Rattle.parallel_bridge.proofs.{rules, ◌≡◌, ◌++◌, ◌∷◌, [], length, sym, ap, subst, ◌∙◌, arith, append-nil, length-append, all_of, all_with, none_left, next_has, yields_push}
+use Rattle.parallel_bridge.proofs.{rules, ◌++◌, ◌∷◌, ap, arith, length-append, Yields, all_answered, all_of, all_with, next_has, one_answered, yields_push}
 use Rattle.parallel_bridge.proofs.fill.writer.write_iter.Goals as goal
 
 pub answer-requires : goal.answer-requires
@@ -11,22 +11,15 @@ answer-requires g c =
 
 pub loop-room-preserved : goal.loop-room-preserved
 loop-room-preserved g c =
-    let so_far = c.loop-room.invariant in let came = so_far.came in
-    let x = c.in-Some.item in let y = c.in-Ok.answer in let items = c.loop-room.room.items in
-    let longer : length c.put.new.self.items ≡ length (items ++ y ∷ []) =
-    ap (λ v. length v.items) c.put.ensures in
-    let one = length-append items (y ∷ []) in let other = length-append came.0 (x ∷ []) in
-    let on = c.in-Some.ensures.goes.on so_far.ends in
+    let came = c.loop-room.invariant.came in let x = c.in-Some.item in
+    let steps = g.I.Iterator.next_gives in let ys = c.loop-room.room.items in
+    let on = c.in-Some.ensures.goes.on c.loop-room.invariant.ends in
     record {
-      came = (
-        came.0 ++ x ∷ [],
-        yields_push g.I.Iterator.next_gives c.args.iter came.0 c.loop-room.iter x c.next.new.self
-            came.1 c.in-Some.ensures.steps,
-        subst (λ v. g.W.Writer.so_far c.args.writer.now
-            (came.0 ++ x ∷ []) c.answer.new.state v.items) (sym c.put.ensures)
-            (c.in-Ok.ensures.next came.0 items came.2),
-        omega arith,
-      );
+      came = one_answered (λ l. Yields steps c.args.iter l c.next.new.self)
+          (g.W.Writer.so_far c.args.writer.now) came.0 x ys c.put.new.self.items c.in-Ok.answer
+          c.answer.new.state (yields_push steps c.args.iter came.0 c.loop-room.iter x
+          c.next.new.self came.1 c.in-Some.ensures.steps) (ap (λ v. v.items) c.put.ensures)
+          (c.in-Ok.ensures.next came.0 ys came.2) came.3;
       can = on.0;
       ends = on.1;
       place = search rules;
@@ -44,8 +37,7 @@ returns-in-Err-clause-gives g c =
 
 pub returns-clause-full : goal.returns-clause-full
 returns-clause-full g c =
-    let so_far = c.loop-room.invariant in
-    let came = so_far.came in
+    let so_far = c.loop-room.invariant in let came = so_far.came in
     let more = c.pass_over-2.ensures in
     let all = c.requires.enough (came.0 ++ more.0)
     (all_of g.I.Iterator.next_gives came.0 more.0 c.args.iter c.loop-room.iter came.1 more.1) in
@@ -54,19 +46,7 @@ returns-clause-full g c =
 
 pub returns-clause-gives : goal.returns-clause-gives
 returns-clause-gives g c =
-    let so_far = c.loop-room.invariant in
-    let came = so_far.came in
-    let more = c.pass_over-2.ensures in
-    let drains =
-    all_of g.I.Iterator.next_gives came.0 more.0 c.args.iter c.loop-room.iter came.1 more.1 in
-    let same : came.0 ++ more.0 ≡ came.0 = ap (λ l. came.0 ++ l)
-    (none_left came.0 more.0 c.args.room.now.room (c.requires.enough (came.0 ++ more.0) drains)
-    (omega arith)) ∙ append-nil came.0 in (
-      came.0 ++ more.0,
-      drains,
-      (
-        c.loop-room.state,
-        subst (λ l. g.W.Writer.so_far c.args.writer.now l c.loop-room.state c.loop-room.room.items)
-            (sym same) came.2,
-      ),
-    )
+    let came = c.loop-room.invariant.came in
+    all_answered g.I.Iterator.next_gives (g.W.Writer.so_far c.args.writer.now) c.args.iter
+    c.loop-room.iter came.0 c.loop-room.room.items c.loop-room.state c.args.room.now.room came.1
+    came.2 c.pass_over-2.ensures c.requires.enough (omega arith)

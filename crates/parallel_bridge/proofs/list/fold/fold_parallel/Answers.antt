@@ -6,8 +6,7 @@ pub returns-clause-along : goal.returns-clause-along
 returns-clause-along g c =
     let identity = goal.ID-post g c.args.identity.now in
     let step = goal.F-post g c.args.fold_op.now in
-    let reduce = goal.G-post g c.args.reduce_op.now in
-    let k = cutdepth c.args.threads.value in
+    let reduce = goal.G-post g c.args.reduce_op.now in let k = cutdepth c.args.threads.value in
     let gives = g.P.Parts.gives in
     driven c.bridge.result c.unfailing.result (λ o. GivesSome gives c.args.parts
     (λ xs. TryAlongCut {E = Infallible}

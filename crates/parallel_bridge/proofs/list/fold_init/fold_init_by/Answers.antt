@@ -1,37 +1,32 @@
 -- One segment serially, the list's shape in parallel; either way a reduction of neighbours.
-use Rattle.parallel_bridge.proofs.{rules, Fault, cutdepth, FoldStep, answered_else, answered_serially, folded_init_serially, folded_init_along}
+use Rattle.parallel_bridge.proofs.{Serial, Parallel, ◌≡◌, rules, cutdepth, FoldStep, folded_init_by}
 use Rattle.parallel_bridge.proofs.list.fold_init.fold_init_by.Goals as goal
 
 pub returns-in-Serial-clause-folds : goal.returns-in-Serial-clause-folds
 returns-in-Serial-clause-folds g c =
-    let init = goal.N-post g c.args.init.now in
-    let identity = goal.ID-post g c.args.identity.now in
-    let step = FoldStep (goal.F-post g c.args.fold_op.now) in
-    let reduce = goal.G-post g c.args.reduce_op.now in
     let w = c.fold_init_iter.ensures in (
       w.0,
       c.into_items.ensures.gives w.0 w.1,
-      folded_init_serially init identity step reduce
-          (cutdepth c.args.threads.value) w.0 c.fold_init_iter.result c.args.path
-          (search rules) w.2,
+      folded_init_by c.args.path Serial (search rules) (cutdepth c.args.threads.value)
+          (goal.N-post g c.args.init.now) (goal.ID-post g c.args.identity.now)
+          (FoldStep (goal.F-post g c.args.fold_op.now)) (goal.G-post g c.args.reduce_op.now)
+          w.0 c.fold_init_iter.result w.2,
     )
 
 pub returns-in_ok-answer-in-Parallel-clause-folds : goal.returns-in_ok-answer-in-Parallel-clause-folds
 returns-in_ok-answer-in-Parallel-clause-folds g c =
-    let init = goal.N-post g c.args.init.now in
-    let identity = goal.ID-post g c.args.identity.now in
-    let step = FoldStep (goal.F-post g c.args.fold_op.now) in
-    let reduce = goal.G-post g c.args.reduce_op.now in
     let w = c.in_ok-answer-in-Parallel.ensures.along in (
       w.0,
       w.1,
-      folded_init_along init identity step reduce
-          (cutdepth c.args.threads.value) w.0 c.in_ok-answer-in-Parallel.answer c.args.path
-          (search rules) w.2,
+      folded_init_by c.args.path Parallel (search rules) (cutdepth c.args.threads.value)
+          (goal.N-post g c.args.init.now) (goal.ID-post g c.args.identity.now)
+          (FoldStep (goal.F-post g c.args.fold_op.now)) (goal.G-post g c.args.reduce_op.now)
+          w.0 c.in_ok-answer-in-Parallel.answer w.2,
     )
 
 pub returns-in-Serial-clause-serial : goal.returns-in-Serial-clause-serial
-returns-in-Serial-clause-serial g c = answered_serially Fault (search rules) c.fold_init_iter.result
+returns-in-Serial-clause-serial g c = let is : c.args.path ≡ Serial = search rules in rw is tt
 
 pub returns-in_ok-answer-in-Parallel-clause-serial : goal.returns-in_ok-answer-in-Parallel-clause-serial
-returns-in_ok-answer-in-Parallel-clause-serial g c = answered_else (search rules) _
+returns-in_ok-answer-in-Parallel-clause-serial g c =
+    let is : c.args.path ≡ Parallel = search rules in rw is tt

@@ -4,10 +4,8 @@ use Rattle.parallel_bridge.proofs.list.fold_init.fold_init_iter.Goals as goal
 
 pub returns : goal.returns
 returns g c =
-    let step = FoldStep (goal.F-post g c.args.fold_op.now) in
-    let s = c.init-state.result in
-    let a = c.identity.result in
-    let r = c.fold_init_from.result in
+    let step = FoldStep (goal.F-post g c.args.fold_op.now) in let s = c.init-state.result in
+    let a = c.identity.result in let r = c.fold_init_from.result in
     let w = c.fold_init_from.ensures in (
       w.0,
       w.1,

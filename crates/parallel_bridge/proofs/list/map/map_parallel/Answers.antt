@@ -6,8 +6,7 @@ pub returns-in-Ok-clause-maps : goal.returns-in-Ok-clause-maps
 returns-in-Ok-clause-maps g c =
     let allowed = goal.F-post g c.args.map_op.now in
     let leaf = Answered {S = Unit {0}} {E = Infallible} (λ l s ys. MapOf allowed l ys) (λ l e. ⊥) in
-    let gives = g.P.Parts.gives in
-    let depth = c.depth_of-depth.result in
+    let gives = g.P.Parts.gives in let depth = c.depth_of-depth.result in
     let answers = c.fill-answers.result.0 in
     let w : GivesSome gives c.args.parts
     (λ xs. TryAlongCut leaf OneAfterAnother (Shape depth xs) (Ok answers.items)) =

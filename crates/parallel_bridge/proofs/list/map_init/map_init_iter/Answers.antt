@@ -5,8 +5,7 @@ use Rattle.parallel_bridge.proofs.list.map_init.map_init_iter.Goals as goal
 pub returns-clause-one_state : goal.returns-clause-one_state
 returns-clause-one_state g c =
     let step = MapStep (goal.F-post g c.args.map_op.now) in
-    let init = goal.N-post g c.args.init.now in
-    let s = c.init-state.result in
+    let init = goal.N-post g c.args.init.now in let s = c.init-state.result in
     let comes = Drains g.I.Iterator.next_gives in
     IfOk-weaker c.map_init_from.result (λ ys. GivesSome comes c.args.iter
     (λ xs. (more : List g.row.I-Item.Denot) (zs : List g.row.T.Denot)

@@ -11,10 +11,8 @@ returns-in-Ok-clause-along g c =
     λ (l : List g.row.P-Item.Denot) (s : g.row.S.Denot) (ys : List g.row.T.Denot). (more : List
     g.row.P-Item.Denot) (zs : List g.row.T.Denot) → StatesFrom step s more zs
     → StateSegment init step (l ++ more) (ys ++ zs) in
-    let leaf = Answered {E = Infallible} so_far (λ l e. ⊥) in
-    let gives = g.P.Parts.gives in
-    let depth = c.depth_of-depth.result in
-    let answers = c.fill-answers.result.0 in
+    let leaf = Answered {E = Infallible} so_far (λ l e. ⊥) in let gives = g.P.Parts.gives in
+    let depth = c.depth_of-depth.result in let answers = c.fill-answers.result.0 in
     let w : GivesSome gives c.args.parts
     (λ xs. TryAlongCut leaf OneAfterAnother (Shape depth xs) (Ok answers.items)) =
     subst (λ d. Driven gives c.args.parts leaf OneAfterAnother depth (written answers d))

@@ -6,10 +6,8 @@ use Rattle.parallel_bridge.proofs.list.partition.partition_parallel.Goals as goa
 
 pub returns-clause-parts : goal.returns-clause-parts
 returns-clause-parts g c =
-    let allowed = goal.F-post g c.args.map_op.now in
-    let k = cutdepth c.args.threads.value in
-    let gives = g.P.Parts.gives in
-    let lists = c.in_ok-lists.lists in
+    let allowed = goal.F-post g c.args.map_op.now in let k = cutdepth c.args.threads.value in
+    let gives = g.P.Parts.gives in let lists = c.in_ok-lists.lists in
     parted c.put_in_one.result (values_in lists.items) (keys_in lists.items)
     (λ us ks. GivesSome gives c.args.parts (λ xs. PartitionOf allowed xs us ks))
     (driven c.bridge.result (Ok lists) (λ out. GivesSome gives c.args.parts (λ xs. TryAlongCut

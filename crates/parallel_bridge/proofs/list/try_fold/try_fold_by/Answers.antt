@@ -1,50 +1,45 @@
 -- One segment serially, the list's shape in parallel; either way a reduction of neighbours.
-use Rattle.parallel_bridge.proofs.{Shape, cutdepth, GivesSome, TryAlong, TryFoldSegment, TryFoldedAs, rules, Ok, Err, subst, unless_weaker, error_serially, unrefused_else, value_serially}
-use Rattle.parallel_bridge.proofs.{try_folded_serially, try_folded_along}
+use Rattle.parallel_bridge.proofs.{Serial, Parallel, Shape, cutdepth, GivesSome, TryAlong, TryFoldSegment, TryFoldedAs, rules, Ok, Err, ◌≡◌, subst, unless_weaker, try_folded_by}
 use Rattle.parallel_bridge.proofs.list.try_fold.try_fold_by.Goals as goal
 
 pub returns-in-Ok : goal.returns-in-Ok
 returns-in-Ok g c =
+    let is : c.args.path ≡ Serial = search rules in
     let identity = goal.ID-post g c.args.identity.now in
-    let step = goal.F-post g c.args.fold_op.now in
-    let reduce = goal.G-post g c.args.reduce_op.now in
-    let w = c.try_fold_iter.ensures in
-    let h : TryFoldSegment identity step w.0 (Ok c.in-Ok.value) =
-    subst (TryFoldSegment identity step w.0) c.in-Ok.is w.2 in
+    let step = goal.F-post g c.args.fold_op.now in let w = c.try_fold_iter.ensures in
     record {
       folds = (
         w.0,
         c.into_items.ensures.gives w.0 w.1,
-        try_folded_serially identity step reduce (cutdepth c.args.threads.value) w.0
-            (Ok c.in-Ok.value) c.args.path (search rules) h,
+        try_folded_by c.args.path Serial is (cutdepth c.args.threads.value) identity step
+            (goal.G-post g c.args.reduce_op.now) w.0 (Ok c.in-Ok.value)
+            (subst (TryFoldSegment identity step w.0) c.in-Ok.is w.2),
       );
-      serial = value_serially g.row.E.Denot (search rules) c.in-Ok.value;
+      serial = rw is tt;
     }
 
 pub returns-in-Err : goal.returns-in-Err
 returns-in-Err g c =
+    let is : c.args.path ≡ Serial = search rules in
     let identity = goal.ID-post g c.args.identity.now in
-    let step = goal.F-post g c.args.fold_op.now in
-    let reduce = goal.G-post g c.args.reduce_op.now in
-    let w = c.try_fold_iter.ensures in
-    let h : TryFoldSegment identity step w.0 (Err c.in-Err.error) =
-    subst (TryFoldSegment identity step w.0) c.in-Err.is w.2 in
+    let step = goal.F-post g c.args.fold_op.now in let w = c.try_fold_iter.ensures in
     record {
       folds = (
         w.0,
         c.into_items.ensures.gives w.0 w.1,
-        try_folded_serially identity step reduce (cutdepth c.args.threads.value) w.0
-            (Err c.in-Err.error) c.args.path (search rules) h,
+        try_folded_by c.args.path Serial is (cutdepth c.args.threads.value) identity step
+            (goal.G-post g c.args.reduce_op.now) w.0 (Err c.in-Err.error)
+            (subst (TryFoldSegment identity step w.0) c.in-Err.is w.2),
       );
-      serial = error_serially g.row.R.Denot (search rules) c.in-Err.error;
+      serial = rw is tt;
     }
 
 pub returns-in-Parallel : goal.returns-in-Parallel
 returns-in-Parallel g c =
+    let is : c.args.path ≡ Parallel = search rules in
     let identity = goal.ID-post g c.args.identity.now in
     let step = goal.F-post g c.args.fold_op.now in
-    let reduce = goal.G-post g c.args.reduce_op.now in
-    let k = cutdepth c.args.threads.value in
+    let reduce = goal.G-post g c.args.reduce_op.now in let k = cutdepth c.args.threads.value in
     let gives = g.P.Parts.gives in
     record {
       folds = unless_weaker c.try_fold_parallel.result (λ out. GivesSome gives c.args.parts
@@ -54,8 +49,8 @@ returns-in-Parallel g c =
           (λ out h. (
             h.0,
             h.1,
-            try_folded_along identity step reduce k h.0 out c.args.path (search rules) h.2,
+            try_folded_by c.args.path Parallel is k identity step reduce h.0 out h.2,
           ))
           c.try_fold_parallel.ensures.along;
-      serial = unrefused_else (search rules) c.try_fold_parallel.result;
+      serial = rw is tt;
     }

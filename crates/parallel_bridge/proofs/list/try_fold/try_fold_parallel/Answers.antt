@@ -6,12 +6,10 @@ use Rattle.parallel_bridge.proofs.list.try_fold.try_fold_parallel.Goals as goal
 
 pub fold_gated-done-requires-clause-watch : goal.fold_gated-done-requires-clause-watch
 fold_gated-done-requires-clause-watch g c κs within =
-    let opened = c.in_ok-gate.ensures in
-    let counted = c.len.ensures.counted in
-    let enough = c.seats_for.ensures in
     fresh_watch c.in_ok-gate.gate c.in_ok-gate.seat _ (g.P.Parts.count c.args.parts)
-    opened.belongs opened.fresh (omega (arith, enough))
-    (omega (arith, enough, counted)) (omega (arith, counted))
+    c.in_ok-gate.ensures.belongs c.in_ok-gate.ensures.fresh (omega (arith, c.seats_for.ensures))
+    (omega (arith, c.seats_for.ensures, c.len.ensures.counted))
+    (omega (arith, c.len.ensures.counted))
 
 pub close_joined-requires-clause-belongs : goal.close_joined-requires-clause-belongs
 close_joined-requires-clause-belongs g c =
@@ -39,8 +37,7 @@ pub returns-in-Some : goal.returns-in-Some
 returns-in-Some g c =
     let identity = goal.ID-post g c.args.identity.now in
     let step = goal.F-post g c.args.fold_op.now in
-    let reduce = goal.G-post g c.args.reduce_op.now in
-    let gives = g.P.Parts.gives in
+    let reduce = goal.G-post g c.args.reduce_op.now in let gives = g.P.Parts.gives in
     record {
       along = subst (λ k. UnlessRefused c.unhalt.result (λ out. GivesSome gives c.args.parts
           (λ xs. TryAlong identity step reduce (Shape k xs) out))) c.depth_of-depth.ensures.digits
@@ -54,8 +51,7 @@ pub returns-in-None : goal.returns-in-None
 returns-in-None g c =
     let identity = goal.ID-post g c.args.identity.now in
     let step = goal.F-post g c.args.fold_op.now in
-    let reduce = goal.G-post g c.args.reduce_op.now in
-    let gives = g.P.Parts.gives in
+    let reduce = goal.G-post g c.args.reduce_op.now in let gives = g.P.Parts.gives in
     record {
       along = subst (λ k. UnlessRefused c.unhalt_lost.result (λ out. GivesSome gives c.args.parts
           (λ xs. TryAlong identity step reduce (Shape k xs) out))) c.depth_of-depth.ensures.digits

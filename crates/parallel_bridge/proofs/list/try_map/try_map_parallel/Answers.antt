@@ -5,12 +5,10 @@ use Rattle.parallel_bridge.proofs.list.try_map.try_map_parallel.Goals as goal
 
 pub fill_gated-values-requires-clause-watch : goal.fill_gated-values-requires-clause-watch
 fill_gated-values-requires-clause-watch g c κs within =
-    let opened = c.in_ok-gate.ensures in
-    let counted = c.len-len.ensures.counted in
-    let enough = c.seats_for.ensures in
     fresh_watch c.in_ok-gate.gate c.in_ok-gate.seat _ (g.P.Parts.count c.args.parts)
-    opened.belongs opened.fresh (omega (arith, enough))
-    (omega (arith, enough, counted)) (omega (arith, counted))
+    c.in_ok-gate.ensures.belongs c.in_ok-gate.ensures.fresh (omega (arith, c.seats_for.ensures))
+    (omega (arith, c.seats_for.ensures, c.len-len.ensures.counted))
+    (omega (arith, c.len-len.ensures.counted))
 
 pub close_joined-requires-clause-all : goal.close_joined-requires-clause-all
 close_joined-requires-clause-all g c =
@@ -19,8 +17,7 @@ close_joined-requires-clause-all g c =
 
 pub unhalt-requires : goal.unhalt-requires
 unhalt-requires g c =
-    let values = c.fill_gated-values.result.0 in
-    let done = c.fill_gated-values.result.1 in
+    let values = c.fill_gated-values.result.0 in let done = c.fill_gated-values.result.1 in
     let count = g.P.Parts.count c.args.parts in
     written_not_stopped values done
     (never_stopped count (stands_for c.in_ok-gate.seat) c.close_joined.result
@@ -32,10 +29,8 @@ pub returns-in-Ok : goal.returns-in-Ok
 returns-in-Ok g c =
     let allowed = goal.F-post g c.args.map_op.now in
     let leaf = Answered {S = Unit {0}} (λ l s ys. EachOk allowed l ys) (FirstErr allowed) in
-    let gives = g.P.Parts.gives in
-    let depth = c.depth_of-depth.result in
-    let values = c.fill_gated-values.result.0 in
-    let done = c.fill_gated-values.result.1 in
+    let gives = g.P.Parts.gives in let depth = c.depth_of-depth.result in
+    let values = c.fill_gated-values.result.0 in let done = c.fill_gated-values.result.1 in
     let after = c.unhalt.result in
     let all : Driven gives c.args.parts leaf OneAfterAnother depth (written values after) =
     driven_unhalted leaf OneAfterAnother OneAfterAnother
@@ -59,10 +54,8 @@ pub returns-in-Err : goal.returns-in-Err
 returns-in-Err g c =
     let allowed = goal.F-post g c.args.map_op.now in
     let leaf = Answered {S = Unit {0}} (λ l s ys. EachOk allowed l ys) (FirstErr allowed) in
-    let gives = g.P.Parts.gives in
-    let depth = c.depth_of-depth.result in
-    let values = c.fill_gated-values.result.0 in
-    let done = c.fill_gated-values.result.1 in
+    let gives = g.P.Parts.gives in let depth = c.depth_of-depth.result in
+    let values = c.fill_gated-values.result.0 in let done = c.fill_gated-values.result.1 in
     let after = c.unhalt.result in
     let all : Driven gives c.args.parts leaf OneAfterAnother depth (written values after) =
     driven_unhalted leaf OneAfterAnother OneAfterAnother

@@ -4,8 +4,7 @@ use Rattle.parallel_bridge.proofs.pairs.PairSegmentSegmentTuple2.split_at.Goals 
 
 pub returns-clause-joined : goal.returns-clause-joined
 returns-clause-joined g c xs ys front back =
-    let parts = c.split-front.ensures in
-    let left = front ∙ ap (λ w. pairs_of w.items) parts.left in
+    let parts = c.split-front.ensures in let left = front ∙ ap (λ w. pairs_of w.items) parts.left in
     let right = back ∙ ap (λ w. pairs_of w.items) parts.right in
     (λ i. left i ++ right i) ∙ pairs_cut c.args.self.window.items c.args.index c.requires.within
 

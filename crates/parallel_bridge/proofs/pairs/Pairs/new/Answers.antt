@@ -5,8 +5,7 @@ use Rattle.parallel_bridge.proofs.pairs.Pairs.new.Goals.{then-len-eq1, else-len-
 
 pub returns-clause-pairs : goal.returns-clause-pairs
 returns-clause-pairs g c =
-    let whole = c.args.items.ok.0 in
-    let len = c.len.ensures in
+    let whole = c.args.items.ok.0 in let len = c.len.ensures in
     elim c.if-len-eq1.branch [
       | then-len-eq1 w ↦ let odd = w.if-len-eq1.true in
           ap (λ v. pairs_of v.items) w.items-is ∙ sym (odd_pop c.args.items.items
@@ -18,8 +17,7 @@ returns-clause-pairs g c =
 
 pub returns-clause-odd : goal.returns-clause-odd
 returns-clause-odd g c =
-    let whole = c.args.items.ok.0 in
-    let len = c.len.ensures in
+    let whole = c.args.items.ok.0 in let len = c.len.ensures in
     elim c.if-len-eq1.branch [
       | then-len-eq1 w ↦ let odd = w.if-len-eq1.true in
           w.odd-is ∙ sym (odd_pop c.args.items.items

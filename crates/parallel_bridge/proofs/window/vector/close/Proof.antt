@@ -53,26 +53,17 @@ module _ (E : El) where
         (WpFn 𝓤 H 𝓣.C 𝓣.Λ here ((walk_of 𝓛 ended stayed held).args z)
         ((walk_of 𝓛 ended stayed held).post z))
     walk z =
-        let κ = z.0.0.0 in
-        let κ₁ = z.0.0.1.0 in
-        let κ₂ = z.0.0.1.1.0 in
-        let q = z.0.1.0 in
-        let q₁ = z.0.1.1.0 in
-        let q₂ = z.0.1.1.1.0 in
+        let κ = z.0.0.0 in let κ₁ = z.0.0.1.0 in let κ₂ = z.0.0.1.1.0 in let q = z.0.1.0 in
+        let q₁ = z.0.1.1.0 in let q₂ = z.0.1.1.1.0 in
         let rb : ℕ = z.0.3.0.ref_ptr.0 in let ro : ℕ = z.0.3.0.ref_ptr.1 in let vss = z.0.4 in
         let Post : Val → SProp 𝓤 = (walk_of 𝓛 ended stayed held).post z in
         let Run : List Val → SProp 𝓤 = λ ws. WpFn 𝓤 H 𝓣.C 𝓣.Λ here ws Post in
-        let h : el_d E = z.0.3.0.now in
-        let begin : (Start (plainly E)).Denot = z.0.3.1.0 in
-        let n : ℕ = z.0.3.1.1.0 in
-        let c : ℕ = z.0.3.1.1.1.0 in
+        let h : el_d E = z.0.3.0.now in let begin : (Start (plainly E)).Denot = z.0.3.1.0 in
+        let n : ℕ = z.0.3.1.1.0 in let c : ℕ = z.0.3.1.1.1.0 in
         let row : (Places (plainly E)).Denot = z.0.3.1.1.1.1.0 in
         let deed : (Deeds).Denot = z.0.3.1.1.1.1.1.0 in
-        let cs : List (Option (el_x E)) = row.slots in
-        let xs : List (el_x E) = values cs in
-        let a : Hd E = h.alloc in
-        let s = sz E in
-        let Bare : Type 0 = (h.cap ≡ 0) × (c < 2 ^ 63) in
+        let cs : List (Option (el_x E)) = row.slots in let xs : List (el_x E) = values cs in
+        let a : Hd E = h.alloc in let s = sz E in let Bare : Type 0 = (h.cap ≡ 0) × (c < 2 ^ 63) in
         let Row : Type 0 = (row.at ≡ begin.ptr) × (length cs ≡ c) × (length xs ≡ n)
         × (cs ≡ map Some xs ++ replicate (c - n) None) in
         let Right : Type 0 = (deed.at ≡ begin.ptr) × (deed.len ≡ c) × (deed.alloc ≡ a) in
@@ -110,8 +101,7 @@ module _ (E : El) where
         let En : Env 𝓤 H = env here.locals l in
         in_a_block ! row.at (λ p. cells_own (R E) p cs) (id⊢ 𝓤 (never 𝓤))
         (λ b o e. fsplit ! $ flt_l ! (λ small.
-        let p : Ptr = block_ptr b o in
-        let at_p : begin.ptr ≡ p = sym is_row.0 ∙ e in
+        let p : Ptr = block_ptr b o in let at_p : begin.ptr ≡ p = sym is_row.0 ∙ e in
         let fit : c * s < 2 ^ 63 = subst (λ (k : ℕ). k * s < 2 ^ 63) is_row.1 small in
         let new : el_d E =
         record {

@@ -40,20 +40,13 @@ module _ (E : El) where
         (WpFn 𝓤 H 𝓣.C 𝓣.Λ here ((walk_of 𝓛 ended stayed held).args z)
         ((walk_of 𝓛 ended stayed held).post z))
     walk z =
-        let κ = z.0.0.0 in
-        let κ₁ = z.0.0.1.0 in
-        let κ₂ = z.0.0.1.1.0 in
-        let q = z.0.1.0 in
-        let q₁ = z.0.1.1.0 in
-        let q₂ = z.0.1.1.1.0 in
+        let κ = z.0.0.0 in let κ₁ = z.0.0.1.0 in let κ₂ = z.0.0.1.1.0 in let q = z.0.1.0 in
+        let q₁ = z.0.1.1.0 in let q₂ = z.0.1.1.1.0 in
         let rb : ℕ = z.0.3.0.ref_ptr.0 in let ro : ℕ = z.0.3.0.ref_ptr.1 in let vss = z.0.4 in
         let Post : Val → SProp 𝓤 = (walk_of 𝓛 ended stayed held).post z in
         let Run : List Val → SProp 𝓤 = λ ws. WpFn 𝓤 H 𝓣.C 𝓣.Λ here ws Post in
-        let h : el_d E = z.0.3.0.now in
-        let n : ℕ = h.len in
-        let c : ℕ = h.cap in
-        let xs : List (el_x E) = h.items in
-        let a : Hd E = h.alloc in
+        let h : el_d E = z.0.3.0.now in let n : ℕ = h.len in let c : ℕ = h.cap in
+        let xs : List (el_x E) = h.items in let a : Hd E = h.alloc in
         let cs : List (Option (el_x E)) = stored n c xs in let s = sz E in
         qed 𝓛 (((‵ (flft κ q) ⊛ ‵ (flft κ₁ q₁) ⊛ ‵ (flft κ₂ q₂) ⊛ ‵ ftrue)
         ⊛ ‵ (owns (types_at ended.signature.params z.0.0) z.0.3 vss)) ∷ raw
@@ -79,8 +72,7 @@ module _ (E : El) where
         enter ! 𝓣.C 𝓣.Λ here us Post $ alloc_all ! (λ l. pass_all ! refl ((tt, tt), tt) $
         let En : Env 𝓤 H = env here.locals l in
         vec_opens⁰ E ! tt h rb ro (λ b o hv at_b fl fc fit.
-        let p : Ptr = block_ptr b o in
-        let begin : (Start (plainly E)).Denot = record { ptr = p } in
+        let p : Ptr = block_ptr b o in let begin : (Start (plainly E)).Denot = record { ptr = p } in
         let row : (Places (plainly E)).Denot = record { mark = record {}; at = p; slots = cs } in
         let deed : (Deeds).Denot = record { mark = record {}; at = p; len = c; alloc = a } in
         let out : Val = triple (word p) mark mark in

@@ -5,8 +5,7 @@ use Rattle.parallel_bridge.proofs.bridge.gated.GatedFoldingTask.split.Goals as g
 
 pub returns-clause-meet : goal.returns-clause-meet
 returns-clause-meet g c depth a b left right =
-    let S = g.S.Segment in
-    let gates = c.split-left_watch.ensures.gate in
+    let S = g.S.Segment in let gates = c.split-left_watch.ensures.gate in
     let watches = c.split-left_watch.result in (
       search rules,
       (c.args.self.parts, c.in-Ok.ensures.rests a.1 b.1 left.1 right.1),
@@ -20,15 +19,10 @@ returns-clause-meet g c depth a b left right =
 
 pub returns-clause-node : goal.returns-clause-node
 returns-clause-node g c depth a b all above left right together =
-    let S = g.S.Segment in
-    let self = c.args.self in
-    let parts = c.in-Ok.ensures in
-    let made = c.split-left_watch.ensures in
-    let watches = c.split-left_watch.result in
-    let half = c.len-len.result / 2 in
-    let counted = c.len-len.ensures.counted in
-    let identity = goal.ID-post g self.identity.now in
-    let step = goal.F-post g self.fold_op.now in
+    let S = g.S.Segment in let self = c.args.self in let parts = c.in-Ok.ensures in
+    let made = c.split-left_watch.ensures in let watches = c.split-left_watch.result in
+    let half = c.len-len.result / 2 in let counted = c.len-len.ensures.counted in
+    let identity = goal.ID-post g self.identity.now in let step = goal.F-post g self.fold_op.now in
     let reduce = goal.G-post g self.reduce_op.now in
     let leaf = halting (TryReducedSegment identity (TryFoldSegment identity step) reduce) in
     let node = λ (p : g.row.R.Denot) (q : g.row.R.Denot). OnlyOk (reduce p q) in (

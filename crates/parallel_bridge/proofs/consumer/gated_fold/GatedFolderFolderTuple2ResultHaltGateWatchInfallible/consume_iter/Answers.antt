@@ -4,9 +4,8 @@ use Rattle.parallel_bridge.proofs.consumer.gated_fold.GatedFolderFolderTuple2Res
 
 pub returns-clause-gives : goal.returns-clause-gives
 returns-clause-gives g c =
-    let self = c.args.self in
-    let step = goal.F-post g self.fold_op.now in
-    let made = c.gated_onward-control in
+    let self = c.args.self in let step = goal.F-post g self.fold_op.now in
+    let made = c.gated_fold_from-control in
     let w = made.ensures.onward in (
       w.0,
       w.1,

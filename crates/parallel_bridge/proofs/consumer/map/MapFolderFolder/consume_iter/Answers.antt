@@ -12,8 +12,7 @@ consume_iter-requires-clause-can g c = (
 
 pub returns-clause-gives : goal.returns-clause-gives
 returns-clause-gives g c =
-    let allowed = goal.F-post g c.args.self.map_op.now in
-    let handed = c.in_ok-base.ensures.gives in
+    let allowed = goal.F-post g c.args.self.map_op.now in let handed = c.in_ok-base.ensures.gives in
     let u = handed.1.0 in
     let w = mapped_from g.I.Iterator.next_gives
     (map_steps g.I.Iterator.next_gives _) _ c.args.iter c.map.result handed.0

@@ -4,8 +4,7 @@ use Rattle.parallel_bridge.proofs.consumer.map_init.MapWithFolderFolder.consume_
 
 pub returns-clause-gives : goal.returns-clause-gives
 returns-clause-gives g c =
-    let answers = c.in_ok-answers.answers in
-    let w = c.in_ok-answers.ensures.gives in
+    let answers = c.in_ok-answers.answers in let w = c.in_ok-answers.ensures.gives in
     let handed = c.in_ok-base.ensures.gives in
     let same = came_as_it_is handed.0 handed.1
     (vec_yields answers.items c.into_iter.result c.into_iter.result refl

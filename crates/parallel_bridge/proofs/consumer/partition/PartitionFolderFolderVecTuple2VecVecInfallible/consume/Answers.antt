@@ -4,8 +4,7 @@ use Rattle.parallel_bridge.proofs.consumer.partition.PartitionFolderFolderVecTup
 
 pub returns-clause-gives : goal.returns-clause-gives
 returns-clause-gives g c xs (Ok r) part =
-    let self = c.args.self in
-    let allowed = goal.F-post g self.map_op.now in
+    let self = c.args.self in let allowed = goal.F-post g self.map_op.now in
     let one = c.map_op-answer.result in
     part_append allowed self.values.items c.in_ok-values.values.items (values_in r.items)
     self.keys.items c.in_ok-values.keys.items (keys_in r.items) (c.args.item ∷ []) xs (

@@ -4,8 +4,7 @@ use Rattle.parallel_bridge.proofs.consumer.partition.PartitionFolderFolderVecTup
 
 pub returns-clause-gives : goal.returns-clause-gives
 returns-clause-gives g c =
-    let self = c.args.self in
-    let allowed = goal.F-post g self.map_op.now in
+    let self = c.args.self in let allowed = goal.F-post g self.map_op.now in
     let w = c.in_ok-values.ensures.gives in (
       w.0,
       w.1,

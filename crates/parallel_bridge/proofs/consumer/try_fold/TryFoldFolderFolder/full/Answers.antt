@@ -4,6 +4,5 @@ use Rattle.parallel_bridge.proofs.consumer.try_fold.TryFoldFolderFolder.full.Goa
 
 pub returns : goal.returns
 returns g c full xs ys out (v, chain, gives) =
-    let self = c.args.self.now in
-    let step = goal.F-post g self.fold_op.now in
+    let self = c.args.self.now in let step = goal.F-post g self.fold_op.now in
     (v, try_stands step self.control xs ys v (search rules) chain, gives)

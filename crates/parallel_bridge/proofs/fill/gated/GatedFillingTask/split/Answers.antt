@@ -1,17 +1,15 @@
 -- The halves' places follow one another, their outcomes go along the shape, of two errors the left
 -- one stands, and their seats are joined.
-use Rattle.parallel_bridge.proofs.{◌≡◌, ◌/◌, arith, refl, rules, sym, subst, ◌∙◌, FitsInBlock, IsSeatOf, stands_for, halting, Answered, OneAfterAnother, written, driven_node, halved_room, ends_joined}
+use Rattle.parallel_bridge.proofs.{◌≡◌, ◌/◌, arith, refl, rules, sym, subst, ◌∙◌, FitsInBlock, IsGateSeatOf, stands_for, halting, Answered, OneAfterAnother, written, driven_node, halved_room, ends_joined}
 use Rattle.parallel_bridge.proofs.fill.gated.GatedFillingTask.split.Goals as goal
 
 pub returns-clause-meet : goal.returns-clause-meet
 returns-clause-meet g c depth a b left right =
-    let self = c.args.self in
-    let R = g.row.W-Answer in
+    let self = c.args.self in let R = g.row.W-Answer in
     let long : self.room.room ≡ g.S.Segment.count self.parts = search rules in
-    let counted = c.len-len.ensures.counted in
     let rooms = c.split-left.ensures in
     let at = halved_room g.row.W-Answer self.room _ _ (c.len-len.result / 2) _ _ rooms.left
-    rooms.right (omega (arith, long, counted)) a.0 b.0 left.0.0 right.0.0 in
+    rooms.right (omega (arith, long, c.len-len.ensures.counted)) a.0 b.0 left.0.0 right.0.0 in
     let fits : FitsInBlock R self.room.room = search rules in
     let gates = c.split-left_watch.ensures.gate in (
       at.0,
@@ -19,20 +17,16 @@ returns-clause-meet g c depth a b left right =
       left.0.1,
       right.0.1,
       (self.parts, c.in-Ok.ensures.rests a.2 b.2 left.1 right.1),
-      subst (λ w. IsSeatOf w.now a.3) gates.0 left.2,
-      subst (λ w. IsSeatOf w.now b.3) gates.1 right.2,
+      subst (λ w. IsGateSeatOf w.now a.3) gates.0 left.2,
+      subst (λ w. IsGateSeatOf w.now b.3) gates.1 right.2,
     )
 
 pub returns-clause-node : goal.returns-clause-node
 returns-clause-node g c depth a b all above left right together =
-    let S = g.S.Segment in
-    let self = c.args.self in
-    let parts = c.in-Ok.ensures in
-    let watches = c.split-left_watch.ensures in
-    let half = c.len-len.result / 2 in
+    let S = g.S.Segment in let self = c.args.self in let parts = c.in-Ok.ensures in
+    let watches = c.split-left_watch.ensures in let half = c.len-len.result / 2 in
     let long : self.room.room ≡ S.count self.parts = search rules in
-    let counted = c.len-len.ensures.counted in
-    let rooms = c.split-left.ensures in
+    let counted = c.len-len.ensures.counted in let rooms = c.split-left.ensures in
     let at = halved_room g.row.W-Answer self.room _ _ (c.len-len.result / 2) _ _ rooms.left
     rooms.right (omega (arith, long, counted)) a.0 b.0 left.0.0 right.0.0 in
     let leaf =

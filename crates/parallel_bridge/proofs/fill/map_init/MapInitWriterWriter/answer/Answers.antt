@@ -4,8 +4,7 @@ use Rattle.parallel_bridge.proofs.fill.map_init.MapInitWriterWriter.answer.Goals
 
 pub returns-clause-next : goal.returns-clause-next
 returns-clause-next g c xs ys so_far more zs steps =
-    let item = c.args.item in
-    let answer = c.map_op.result in
+    let item = c.args.item in let answer = c.map_op.result in
     let init = goal.N-post g c.args.self.now.init.now in
     let step = MapStep (goal.F-post g c.args.self.now.map_op.now) in
     subst (λ l. StateSegment init step l ((ys ++ answer ∷ []) ++ zs))

@@ -35,10 +35,8 @@ module _ (E : El) where
         let Post : Val → SProp 𝓤 = (walk_of 𝓛 ended stayed held).post z in
         let Run : List Val → SProp 𝓤 = λ ws. WpFn 𝓤 H 𝓣.C 𝓣.Λ here ws Post in
         let d : (Places E).Denot = z.0.3.0 in let r : (Places E).Denot = z.0.3.1.0 in
-        let cs : List (Place E) = d.slots in
-        let ds : List (Place E) = r.slots in
-        let n = length cs in
-        let s = sz E in
+        let cs : List (Place E) = d.slots in let ds : List (Place E) = r.slots in
+        let n = length cs in let s = sz E in
         let Asked : Type 0 = (r.at ≡ shifted (R E) d.at n) × FitsInBlock (R E) (n + length ds) in
         qed 𝓛 (((‵ (flft κ q) ⊛ ‵ ftrue) ⊛ ‵ (owns
         (types_at ended.signature.params z.0.0) z.0.3 vss)) ∷ (raw

@@ -43,10 +43,8 @@ module _ (E : El) where
         let κ = z.0.0.0 in let q = z.0.1.0 in let vss = z.0.4 in
         let Post : Val → SProp 𝓤 = (walk_of 𝓛 ended stayed held).post z in
         let Run : List Val → SProp 𝓤 = λ ws. WpFn 𝓤 H 𝓣.C 𝓣.Λ here ws Post in
-        let d : (Places E).Denot = z.0.3.0 in
-        let base : (Start E).Denot = z.0.3.1.0 in
-        let i : ℕ = z.0.3.1.1.0 in
-        let cs : List (Place E) = d.slots in let s = sz E in
+        let d : (Places E).Denot = z.0.3.0 in let base : (Start E).Denot = z.0.3.1.0 in
+        let i : ℕ = z.0.3.1.1.0 in let cs : List (Place E) = d.slots in let s = sz E in
         let Asked : Type 0 = (base.ptr ≡ d.at) × (i ≤ length cs) in
         qed 𝓛 (((‵ (flft κ q) ⊛ ‵ ftrue) ⊛ ‵ (owns
         (types_at ended.signature.params z.0.0) z.0.3 vss)) ∷ (raw

@@ -43,10 +43,8 @@ module _ (E : El) where
         let rb : ℕ = z.0.3.0.ref_ptr.0 in let ro : ℕ = z.0.3.0.ref_ptr.1 in let vss = z.0.4 in
         let Post : Val → SProp 𝓤 = (walk_of 𝓛 ended stayed held).post z in
         let Run : List Val → SProp 𝓤 = λ ws. WpFn 𝓤 H 𝓣.C 𝓣.Λ here ws Post in
-        let d : (Places E).Denot = z.0.3.0.now in
-        let base : (Start E).Denot = z.0.3.1.0 in
-        let i : ℕ = z.0.3.1.1.0 in
-        let x : (R E).Denot = z.0.3.1.1.1.0 in
+        let d : (Places E).Denot = z.0.3.0.now in let base : (Start E).Denot = z.0.3.1.0 in
+        let i : ℕ = z.0.3.1.1.0 in let x : (R E).Denot = z.0.3.1.1.1.0 in
         let Asked : Type 0 = (base.ptr ≡ d.at) × (i < length d.slots)
         × (get_or d.slots i None ≡ None) in
         let s = sz E in

@@ -11,15 +11,10 @@ cut_row : (g : Over) (c : After-split-cells g)
     × (values (take c.args.room c.open-all.result.1.slots) ≡ c.args.vec.items))
     × (drop c.args.room c.open-all.result.1.slots ≡ replicate (c.args.vec.cap - c.args.room) None)
 cut_row g c =
-    let v = c.args.vec in
-    let row = c.open-all.ensures.row in
-    let all = c.open-all.result.1 in
-    let n = c.len-len.result in
+    let v = c.args.vec in let row = c.open-all.ensures.row in let n = c.len-len.result in
     let counted : n ≡ length v.items = c.len-len.ensures ∙ v.ok.0 in
-    let cut = opened_rows all.at c.open-all.result.0.ptr all.slots v.cap c.args.room n v.items
-    (row.1 ∙ sym row.0) row.2 counted
-    (subst (λ k. k ≤ c.args.room) (sym counted) c.requires.fits.0) c.requires.fits.1 in
-    (cut.1, cut.2)
+    opened_rows v.cap c.args.room n v.items (row.1 ∙ sym row.0) row.2 counted
+    (subst (λ k. k ≤ c.args.room) (sym counted) c.requires.fits.0) c.requires.fits.1
 
 pub invariant_of-window : goal.invariant_of-window
 invariant_of-window g c = moved 0 c.split-cells.ensures.0 c.split-cells.ensures.1
@@ -27,19 +22,16 @@ invariant_of-window g c = moved 0 c.split-cells.ensures.0 c.split-cells.ensures.
 
 pub invariant_of-home : goal.invariant_of-home
 invariant_of-home g c =
-    let v = c.args.vec in
-    let row = c.open-all.ensures.row in
     let e = c.split-cells.ensures in
     let cut = cut_row g (goal.at.invariant_of-home g c).After-split-cells in
-    let deed = c.open-all.ensures.deed in
-    let left = c.open-all.ensures.left in
+    let deed = c.open-all.ensures.deed in let left = c.open-all.ensures.left in
     let cap = c.capacity-capacity.ensures in (
       (e.3, e.4 ∙ cut.1 ∙ ap (λ k. replicate (k - c.args.room) None) (sym cap)),
-      deed.0 ∙ sym row.0,
+      deed.0 ∙ sym c.open-all.ensures.row.0,
       deed.1 ∙ sym cap,
       deed.2 ∙ sym left.2,
       left.1,
-      subst (λ k. k < 2 ^ 63) (sym cap) v.small,
+      subst (λ k. k < 2 ^ 63) (sym cap) c.args.vec.small,
     )
 
 pub returns-clause-window : goal.returns-clause-window

@@ -15,9 +15,7 @@ as_block : (g : Over) (c : After-join-all g)
     × (values (c.into_parts-len.result.4.slots ++ c.home.inside.tail.slots)
     ≡ values c.into_parts-len.result.4.slots)
 as_block g c =
-    let v = c.into_parts-len.result in
-    let is = c.into_parts-len.ensures in
-    let h = c.home.inside in
+    let v = c.into_parts-len.result in let is = c.into_parts-len.ensures in let h = c.home.inside in
     let wide : v.1 ≡ h.room = ap (λ a. a.room) (sym is.view) ∙ c.requires.whole.1
     ∙ ap (λ a. a.room) (sym c.home.view_is) in
     let first : v.2 ≡ 0 = ap (λ a. a.before) (sym is.view) ∙ c.requires.first in
@@ -26,14 +24,11 @@ as_block g c =
     (subst (λ n. IsRow v.4.at v.0.ptr v.4.slots n v.2 v.3) wide is.row) in
     let within : h.room ≤ h.capacity =
     subst (λ a. a.room ≤ a.capacity) (sym c.home.view_is) c.requires.whole.2.2 in
-    closed_rows v.4.at v.0.ptr v.4.slots h.tail.slots h.room v.3 h.capacity row
-    c.home.invariant.0.1 within
+    closed_rows h.capacity row c.home.invariant.0.1 within
 
 pub close-requires-clause-cells : goal.close-requires-clause-cells
 close-requires-clause-cells g c =
-    let v = c.into_parts-len.result in
-    let is = c.into_parts-len.ensures in
-    let h = c.home.inside in
+    let v = c.into_parts-len.result in let is = c.into_parts-len.ensures in let h = c.home.inside in
     let e = c.join-all.ensures in
     let begins : v.0.ptr ≡ h.base.ptr = ap (λ a. a.start) (sym is.view) ∙ c.requires.whole.0
     ∙ ap (λ a. a.start) (sym c.home.view_is) in
@@ -47,6 +42,5 @@ close-requires-clause-cells g c =
 pub returns : goal.returns
 returns g c =
     let is = c.into_parts-len.ensures in
-    let e = c.join-all.ensures in
     let all = as_block g (goal.at.returns g c).After-join-all in
-    c.close.ensures.0 ∙ ap values e.1 ∙ all.3 ∙ ap (λ a. a.items) (sym is.view)
+    c.close.ensures.0 ∙ ap values c.join-all.ensures.1 ∙ all.3 ∙ ap (λ a. a.items) (sym is.view)

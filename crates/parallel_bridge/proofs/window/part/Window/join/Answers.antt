@@ -6,13 +6,9 @@ use Rattle.parallel_bridge.proofs.window.part.Window.join.Goals.{After-join}
 
 pub join-requires : goal.join-requires
 join-requires g c =
-    let w = c.self.inside in
-    let v = c.into_parts-more_room.result in
-    let R = param 0 g.row.T in
-    let is = c.into_parts-more_room.ensures in
-    let long =
-    row_length w.cells.at w.base.ptr w.cells.slots w.room w.before w.len c.self.invariant in
-    let more = row_length v.4.at v.0.ptr v.4.slots v.1 v.2 v.3 is.row in
+    let w = c.self.inside in let v = c.into_parts-more_room.result in let R = param 0 g.row.T in
+    let is = c.into_parts-more_room.ensures in let long = row_length _ c.self.invariant in
+    let more = row_length _ is.row in
     let follows : v.0.ptr ≡ shifted R w.base.ptr w.room = subst
     (λ a. a.start ≡ shifted R w.base.ptr w.room) is.view
     (subst (λ a. c.args.right.start ≡ shifted R a.start a.room)
@@ -32,8 +28,7 @@ as_one : (g : Over) (c : After-join g) → IsRow c.self.inside.cells.at c.self.i
     × (values (c.self.inside.cells.slots ++ c.into_parts-more_room.result.4.slots)
     ≡ values c.self.inside.cells.slots ++ values c.into_parts-more_room.result.4.slots)
 as_one g c =
-    let w = c.self.inside in
-    let v = c.into_parts-more_room.result in
+    let w = c.self.inside in let v = c.into_parts-more_room.result in
     let is = c.into_parts-more_room.ensures in
     let adjoins =
     subst (λ a. Adjoins (part w.base.ptr w.room w.before (values w.cells.slots)) a) is.view
@@ -43,8 +38,7 @@ as_one g c =
       | inl h ↦ inl (ap (λ n. w.before + n) c.self.invariant.1 ∙ h.0, h.1)
       | inr h ↦ inr (is.row.1 ∙ ap length h)
     ] in
-    two_rows w.cells.at w.base.ptr w.cells.slots w.room w.before w.len c.self.invariant is.row
-    beside
+    two_rows _ c.self.invariant is.row beside
 
 pub invariant_of-result : goal.invariant_of-result
 invariant_of-result g c = moved c.self.inside.before c.join.ensures.0 c.join.ensures.1
@@ -52,8 +46,7 @@ invariant_of-result g c = moved c.self.inside.before c.join.ensures.0 c.join.ens
 
 pub returns : goal.returns
 returns g c =
-    let w = c.self.inside in
-    let v = c.into_parts-more_room.result in
+    let w = c.self.inside in let v = c.into_parts-more_room.result in
     let is = c.into_parts-more_room.ensures in
     let two = as_one g (goal.at.returns g c).After-join in
     ap (part w.base.ptr (w.room + v.1) w.before) (ap values c.join.ensures.1 ∙ two.1)

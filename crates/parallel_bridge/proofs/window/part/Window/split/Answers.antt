@@ -27,7 +27,7 @@ split-front-requires g c =
     let inv = c.self.invariant in
     let w = c.self.inside in (
       sym inv.0,
-      in_row w.cells.at w.base.ptr w.cells.slots w.room w.before w.len inv c.args.index
+      in_row _ inv c.args.index
           (ap (λ v. v.before) c.self.view_is ∙ c.requires.0)
           (subst (λ v. c.args.index ≤ v.room) (sym c.self.view_is) c.requires.1),
     )
@@ -37,7 +37,7 @@ invariant_of-left g c =
     let s = (goal.at.invariant_of-left g c).After-split-front in let inv = c.self.invariant in
     let w = c.self.inside in let m = c.if-len-index.filled in let i = c.args.index in
     let e = c.split-front.ensures in
-    moved 0 e.0 e.1 (front_row w.cells.at w.base.ptr w.cells.slots w.room w.before w.len inv i
+    moved 0 e.0 e.1 (front_row _ inv i
     (nothing_before g s) (within g s) m (in_front g s)).0
 
 pub invariant_of-right : goal.invariant_of-right
@@ -47,17 +47,16 @@ invariant_of-right g c =
     let e = c.split-front.ensures in
     let p = c.split-front.result.2.at in let q = c.split-front.result.1.ptr in
     subst (λ cs. IsRow p q cs (w.room - i) 0 (w.len - m)) (sym e.4)
-    (back_rows w.cells.at w.base.ptr w.cells.slots w.room w.before w.len inv i
+    (back_rows _ inv i
     (nothing_before g s) (within g s) m p q e.3 (in_front g s)).0
 
 pub returns-clause-left : goal.returns-clause-left
 returns-clause-left g c =
     let s = (goal.at.returns-clause-left g c).After-split-front in let inv = c.self.invariant in
     let w = c.self.inside in let m = c.if-len-index.filled in let i = c.args.index in
-    let e = c.split-front.ensures in
-    let front = front_row w.cells.at w.base.ptr w.cells.slots w.room w.before w.len inv i
+    let front = front_row _ inv i
     (nothing_before g s) (within g s) m (in_front g s) in
-    ap (part w.base.ptr i 0) (ap values e.1 ∙ front.1)
+    ap (part w.base.ptr i 0) (ap values c.split-front.ensures.1 ∙ front.1)
     ∙ ap (λ v. part v.start i 0 (take i v.items)) c.self.view_is
 
 pub returns-clause-right : goal.returns-clause-right
@@ -66,7 +65,7 @@ returns-clause-right g c =
     let w = c.self.inside in let m = c.if-len-index.filled in let i = c.args.index in
     let e = c.split-front.ensures in
     let p = c.split-front.result.2.at in let q = c.split-front.result.1.ptr in
-    let back = back_rows w.cells.at w.base.ptr w.cells.slots w.room w.before w.len inv i
+    let back = back_rows _ inv i
     (nothing_before g s) (within g s) m p q e.3 (in_front g s) in
     (λ j. part (e.2 j) (w.room - i) 0 ((ap values e.4 ∙ back.1) j))
     ∙ (λ j. part (shifted (param 0 g.row.T) (inv.0 j) i) (w.room - i) 0

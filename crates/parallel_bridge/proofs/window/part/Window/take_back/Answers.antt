@@ -4,23 +4,17 @@ use Rattle.parallel_bridge.proofs.window.part.Window.take_back.Goals as goal
 
 pub read-item-requires : goal.read-item-requires
 read-item-requires g c =
-    let w = c.self.inside in
-    let out = back_row w.cells.at w.base.ptr w.cells.slots w.room w.before w.len c.self.invariant
-    c.self.view_is c.requires in
+    let out = back_row _ c.self.invariant c.self.view_is c.requires in
     (sym c.self.invariant.0, (out.0, out.1.0))
 
 pub invariant_of-self : goal.invariant_of-self
 invariant_of-self g c =
-    let w = c.self.inside in
-    let out = back_row w.cells.at w.base.ptr w.cells.slots w.room w.before w.len c.self.invariant
-    c.self.view_is c.requires in
-    moved w.before c.read-item.ensures.slots.0 c.read-item.ensures.slots.1 out.1.1
+    let out = back_row _ c.self.invariant c.self.view_is c.requires in
+    moved c.self.inside.before c.read-item.ensures.slots.0 c.read-item.ensures.slots.1 out.1.1
 
 pub returns-clause-items : goal.returns-clause-items
 returns-clause-items g c =
-    let w = c.self.inside in
-    let out = back_row w.cells.at w.base.ptr w.cells.slots w.room w.before w.len c.self.invariant
-    c.self.view_is c.requires in
+    let out = back_row _ c.self.invariant c.self.view_is c.requires in
     let same = some_same (sym out.1.0 ∙ c.read-item.ensures.value) in
     ap (λ v. v.items) (sym c.self.view_is) ∙ out.1.2
     ∙ (λ i. values (sym c.read-item.ensures.slots.1 i) ++ same i ∷ [])

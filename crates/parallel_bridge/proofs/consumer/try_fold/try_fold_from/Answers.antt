@@ -1,6 +1,6 @@
 -- The closure may be called at each item that comes; a turn is one step more, or the error stands.
-use Rattle.parallel_bridge.proofs.{rules, ◌∷◌, [], next_has, try_onward, try_rests}
-use Rattle.parallel_bridge.proofs.consumer.try_fold.try_fold_onward.Goals as goal
+use Rattle.parallel_bridge.proofs.{rules, ◌∷◌, [], next_has, try_continues, try_rests}
+use Rattle.parallel_bridge.proofs.consumer.try_fold.try_fold_from.Goals as goal
 
 pub loop-item-init : goal.loop-item-init
 loop-item-init g c = try_rests (goal.F-post g c.args.fold_op.now) c.args.control
@@ -12,6 +12,6 @@ try_fold_step-control-requires g c = next_has g.I.Iterator.next_gives
     c.requires.accepts (search rules) (search rules)
 
 pub loop-item-preserved : goal.loop-item-preserved
-loop-item-preserved g c = try_onward (goal.F-post g c.args.fold_op.now) c.args.control
+loop-item-preserved g c = try_continues (goal.F-post g c.args.fold_op.now) c.args.control
     c.loop-item.control c.try_fold_step-control.result c.loop-item.yielded
     (c.in-Some.item ∷ []) c.loop-item.invariant c.try_fold_step-control.ensures

@@ -1,6 +1,6 @@
 -- One turn is one value more, or the error.
 use Rattle.parallel_bridge.proofs.{rules, ◌∷◌, [], ended, next_has, behind_append, behind_rests}
-use Rattle.parallel_bridge.proofs.list.try_map.try_map_onward.Goals as goal
+use Rattle.parallel_bridge.proofs.list.try_map.try_map_from.Goals as goal
 
 pub loop-item-init : goal.loop-item-init
 loop-item-init g c = behind_rests (goal.F-post g c.args.map_op.now)

@@ -1,6 +1,6 @@
 -- the values and errors so far stand behind those of the start
 use Rattle.parallel_bridge.proofs.{TryMapBehind, ended}
-use Rattle.parallel_bridge.proofs.list.try_map.try_map_onward.Given as goal
+use Rattle.parallel_bridge.proofs.list.try_map.try_map_from.Given as goal
 
 abbrev pub invariant-loop-item : goal.invariant-loop-item
 invariant-loop-item g l = TryMapBehind (goal.F-post g l.map_op)

@@ -1,6 +1,6 @@
 -- what is folded so far is reached from the start over the items that came
 use Rattle.parallel_bridge.proofs.{IsWatching, SameWatch, known, stands_for, HaltsOnward, TellsAs, ◌<◌}
-use Rattle.parallel_bridge.proofs.consumer.gated_fold.gated_onward.Given as goal
+use Rattle.parallel_bridge.proofs.consumer.gated_fold.gated_fold_from.Given as goal
 
 abbrev pub invariant-loop-item : goal.invariant-loop-item
 invariant-loop-item g l = record {

@@ -1,6 +1,6 @@
 -- The closure may be called at each item that comes; one turn is one step more, or the end stands.
 use Rattle.parallel_bridge.proofs.{rules, ◌∷◌, [], arith, refl, next_has, halts_onward, halts_rests}
-use Rattle.parallel_bridge.proofs.consumer.gated_fold.gated_onward.Goals as goal
+use Rattle.parallel_bridge.proofs.consumer.gated_fold.gated_fold_from.Goals as goal
 
 pub loop-item-init : goal.loop-item-init
 loop-item-init g c =

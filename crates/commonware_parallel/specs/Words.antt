@@ -1,0 +1,30 @@
+-- The words that the files of a strategy's calls write their clauses in, passed on from one place.
+-- Declares nothing.
+pub use Rattle.std.specs.Prelude.{◌≡◌, ◌≢◌, ◌<◌, ◌≤◌, ◌/◌, ℕ, All, IfErr, IfOk, List, MatchResult, OnOk, false, length, max, true}
+pub use Rattle.std.specs.Borrow.{MutBor}
+pub use Rattle.std.specs.Int.NonZero.{non_zero_usize_get}
+pub use Rattle.std.specs.Iterator.{Drains, HoldsAlong, IsFinite}
+pub use Rattle.std.specs.List.Sorted.{IsPermutation, IsSortedByClosure, IsStableByClosure}
+pub use Rattle.parallel_bridge.specs.Lists.{Bracketing, Brackets, MapOf}
+pub use Rattle.parallel_bridge.specs.Outcomes.{UnlessRefused, listed}
+pub use Rattle.parallel_bridge.specs.Parts.{PartitionOf}
+pub use Rattle.parallel_bridge.specs.Sources.{GivesSome}
+pub use Rattle.parallel_bridge.specs.States.{FoldInitSegment, FoldStep, MapStep, Stateful}
+pub use Rattle.parallel_bridge.specs.Tries.{TryBracketing, TryFoldSegment, TryMapOf}
+pub use Rattle.parallel_bridge.specs.Ways.{FoldedAs, FoldedInitAs, MappedInitAs, TryFoldedAs}
+pub use Rattle.parallel_bridge.specs.declared.path.Path.{Path}
+pub use Rattle.parallel_fault.specs.Trouble.{IsMemoryOnErr, IsMemoryOnFault}
+pub use Rattle.parallel_fault.specs.declared.fault.Fault.{Fault}
+pub use Rattle.parallel_fault.specs.declared.fault.Fault.TheVariants.{Memory}
+pub use Rattle.parallel_fault.specs.declared.fault.Trouble.TheVariants.{Fault as OfFault}
+pub use Rattle.parallel_shares.specs.Grid.{Fits}
+pub use Rattle.commonware_parallel.specs.Answers.{AnswersAs, OfOne, OnParts, OnPath, OneOf}
+pub use Rattle.commonware_parallel.specs.Batches.{IsBatch, OnBatch, OnSomeBatch, ranges_of}
+pub use Rattle.commonware_parallel.specs.Calls.{AtSomePath, body_call, goes_by_path, join_call, multiplied_call, spawn_call}
+pub use Rattle.commonware_parallel.specs.ListCalls.{Asked, AskedOver, GoesBy, GoesByLength, GoesOver}
+pub use Rattle.commonware_parallel.specs.Spawned.{BeginsAs, FailsToSpawn, gives_answer}
+pub use Rattle.commonware_parallel.specs.Tiles.{IsSerialCost, IsTiling, OnSomeTiles, tiles_place, tiles_strategy}
+pub use Rattle.commonware_parallel.specs.declared.batches.Batches.{Batches}
+pub use Rattle.commonware_parallel.specs.declared.call.Kind.TheVariants.{Body, Spawn}
+pub use Rattle.commonware_parallel.specs.declared.call.Pick.TheVariants.{By, Into}
+pub use Rattle.commonware_parallel.specs.declared.tiles.Tiles.{Tiles}
