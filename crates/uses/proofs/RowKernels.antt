@@ -1,6 +1,6 @@
 -- A kernel whose state stands for the columns that it has filled: each row's value is that of all
 -- its columns, however the rows were cut.
-use Rattle.std.proofs.Common.{◌≡◌, ℕ, ◌<◌, ◌≤◌, Bool, List, [], ◌∷◌, ◌++◌, Result, Vec, Global, map, refl, sym, subst, arith}
+use Rattle.std.proofs.Common.{◌≡◌, ℕ, ◌<◌, ◌≤◌, Bool, List, [], ◌∷◌, ◌++◌, Result, Vec, Global, map, sym, subst, arith}
 use Rattle.std.specs.Prelude.{IfOk}
 use Rattle.std.specs.Borrow.{MutBor}
 use Rattle.std.specs.List.{All, AllZip, range_with_len}

@@ -1,5 +1,5 @@
 -- Sums of the numbers below 100 through an explorer, and what a search answers.
-use Rattle.std.proofs.Common.{◌≡◌, ◌+◌, ◌%◌, ◌^◌, ◌∙◌, ℕ, Bool, List, [], ◌∷◌, Result, Ok, Err, ap, sym, refl, fold}
+use Rattle.std.proofs.Common.{◌≡◌, ◌+◌, ◌%◌, ◌^◌, ◌∙◌, ℕ, Bool, List, [], ◌∷◌, Result, Ok, Err, ap, sym, fold}
 use Rattle.std.specs.Prelude.{IfOk}
 use Rattle.std.specs.Borrow.{Bor}
 use Rattle.parallel_bridge.specs.Lists.{Chain}

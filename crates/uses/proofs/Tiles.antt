@@ -1,9 +1,9 @@
 -- Counts of a matrix's cells, row by row.
-use Rattle.std.proofs.Common.{◌≡◌, ℕ, ◌+◌, ◌-◌, ◌*◌, ◌<◌, ◌≤◌, ◌%◌, ◌^◌, List, [], ◌∷◌, Result, Vec, Global, Bool, length, drop, map, refl, sym, ap, ◌∙◌, subst, arith, cond, length-append, length-drop}
+use Rattle.std.proofs.Common.{◌≡◌, ℕ, ◌+◌, ◌-◌, ◌*◌, ◌<◌, ◌≤◌, ◌%◌, ◌^◌, List, [], ◌∷◌, Result, Vec, Global, Bool, length, drop, sym, ap, ◌∙◌, subst, arith, cond, length-append, length-drop}
 use Rattle.std.specs.Prelude.{IfOk}
 use Rattle.std.specs.Borrow.{MutBor}
 use Rattle.std.specs.declared.ops.Range.{Range}
-use Rattle.std.specs.List.{HoldsAt, range_with_len, slice_range}
+use Rattle.std.specs.List.{HoldsAt, slice_range}
 use Rattle.std.proofs.lemmas.Grind.{same_number_lists}
 use Rattle.std.proofs.lemmas.List.{get_or-replicate, length-replicate}
 use Rattle.std.proofs.lemmas.List.Folds.{drop_split}

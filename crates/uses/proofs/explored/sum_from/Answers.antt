@@ -1,5 +1,5 @@
 -- A step adds the number, and a reduction adds two sums.
-use Rattle.std.proofs.Common.{rules, ◌≡◌, ◌+◌, ◌%◌, ◌^◌, ◌∙◌, ℕ, List, arith, ap, subst, refl, fold, sum_by}
+use Rattle.std.proofs.Common.{rules, ◌≡◌, ◌%◌, ◌^◌, ◌∙◌, ℕ, arith, ap, refl, fold, sum_by}
 use Rattle.std.specs.List.{range_with_len}
 use Rattle.std.proofs.lemmas.Result.{IfOk-weaker}
 use Rattle.parallel_bridge.proofs.OverLists.{in_one}

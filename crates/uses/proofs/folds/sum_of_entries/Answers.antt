@@ -1,5 +1,5 @@
 -- A step adds the entry at its place, and a reduction adds two sums.
-use Rattle.std.proofs.Common.{rules, ◌≡◌, ◌^◌, ℕ, arith}
+use Rattle.std.proofs.Common.{rules, ◌^◌, ℕ, arith}
 use Rattle.std.specs.List.{slice_index}
 use Rattle.parallel_bridge.proofs.WrappingSums.{sum_of_list}
 use Rattle.uses.proofs.folds.sum_of_entries.Goals as goal

@@ -1,5 +1,5 @@
 -- A row of no columns counts nothing.
-use Rattle.std.proofs.Common.{◌≡◌, rules, sym, subst, ◌∙◌}
+use Rattle.std.proofs.Common.{◌≡◌, sym, subst, ◌∙◌}
 use Rattle.uses.specs.Tiles.{is_above, numbers_by_row}
 use Rattle.uses.proofs.Tiles.{no_columns}
 use Rattle.uses.proofs.tile_rows.count_nothing.Goals as goal
