@@ -1,6 +1,5 @@
 -- The words that the files of a strategy's calls write their clauses in, passed on from one place.
 -- Declares nothing.
-pub use Rattle.std.specs.Prelude.{◌≡◌, ◌≢◌, ◌<◌, ◌≤◌, ◌/◌, ℕ, All, IfErr, IfOk, List, MatchResult, OnOk, false, length, max, true}
 pub use Rattle.std.specs.Borrow.{MutBor}
 pub use Rattle.std.specs.Int.NonZero.{non_zero_usize_get}
 pub use Rattle.std.specs.Iterator.{Drains, HoldsAlong, IsFinite}

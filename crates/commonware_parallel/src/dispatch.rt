@@ -2,8 +2,8 @@
 //!
 //! A strategy picks for every kind of call. Which picks a call has goes by its kind, so that a call
 //! that goes by a path is told one, and any other a number of parts.
-ghost use Rattle.commonware_parallel.specs.Words.{AnswersAs, AtSomePath, By, IfErr, IfOk, Into, IsMemoryOnErr, IsMemoryOnFault, MatchResult, OnParts, OnPath, Path, Spawn, false};
-ghost use Rattle.commonware_parallel.specs.Words.{goes_by_path, true, ℕ, ◌<◌, ◌≡◌, ◌≢◌, ◌≤◌};
+ghost use Rattle.std.specs.Prelude.{◌<◌, ◌≡◌, ◌≢◌, ◌≤◌, IfErr, IfOk, MatchResult, false, true, ℕ};
+ghost use Rattle.commonware_parallel.specs.Words.{AnswersAs, AtSomePath, By, Into, IsMemoryOnErr, IsMemoryOnFault, OnParts, OnPath, Path, Spawn, goes_by_path};
 
 use crate::call::{Call, Pick};
 use crate::strategy::Strategy;

@@ -4,8 +4,9 @@
 //! These functions are generic in the parts and not in the source, and write the bodies that go to
 //! the strategy: the checker refuses a closure over parts whose type is a source's ("what is passed
 //! does not fit the bound").
-ghost use Rattle.commonware_parallel.specs.Words.{AtSomePath, Body, By, Fault, GivesSome, GoesBy, GoesOver, IfOk, IsMemoryOnErr, List, MapOf, MapStep, MappedInitAs, Memory, MutBor, OfFault};
-ghost use Rattle.commonware_parallel.specs.Words.{PartitionOf, Path, TryMapOf, UnlessRefused, body_call, length, listed, multiplied_call, ◌<◌, ◌≡◌};
+ghost use Rattle.std.specs.Prelude.{◌<◌, ◌≡◌, IfOk, List, length};
+ghost use Rattle.commonware_parallel.specs.Words.{AtSomePath, Body, By, Fault, GivesSome, GoesBy, GoesOver, IsMemoryOnErr, MapOf, MapStep, MappedInitAs, Memory, MutBor, OfFault};
+ghost use Rattle.commonware_parallel.specs.Words.{PartitionOf, Path, TryMapOf, UnlessRefused, body_call, listed, multiplied_call};
 
 mod folds;
 

@@ -1,7 +1,8 @@
 //! The calls of one place, with what they have in common written once.
-ghost use Rattle.commonware_parallel.specs.Words.{Asked, Bracketing, Brackets, FoldInitSegment, FoldStep, FoldedAs, FoldedInitAs, GivesSome, IfErr, IfOk, IsMemoryOnErr, IsMemoryOnFault};
-ghost use Rattle.commonware_parallel.specs.Words.{IsPermutation, IsSortedByClosure, IsStableByClosure, MapOf, MapStep, MappedInitAs, MutBor, OnOk, PartitionOf, Stateful, TryBracketing};
-ghost use Rattle.commonware_parallel.specs.Words.{TryFoldedAs, TryMapOf, UnlessRefused, body_call, join_call, length, listed};
+ghost use Rattle.std.specs.Prelude.{IfErr, IfOk, OnOk, length};
+ghost use Rattle.commonware_parallel.specs.Words.{Asked, Bracketing, Brackets, FoldInitSegment, FoldStep, FoldedAs, FoldedInitAs, GivesSome, IsMemoryOnErr, IsMemoryOnFault, IsPermutation};
+ghost use Rattle.commonware_parallel.specs.Words.{IsSortedByClosure, IsStableByClosure, MapOf, MapStep, MappedInitAs, MutBor, PartitionOf, Stateful, TryBracketing, TryFoldedAs, TryMapOf};
+ghost use Rattle.commonware_parallel.specs.Words.{UnlessRefused, body_call, join_call, listed};
 ghost use Rattle.commonware_parallel.specs.OnePlace.{AskedOn, GoesOn};
 
 use crate::strategy::Strategy;

@@ -1,9 +1,10 @@
 //! What a program calls: maps, folds, joins, sorts, batches, tiles and jobs through any strategy.
-ghost use Rattle.commonware_parallel.specs.Words.{AnswersAs, Asked, AskedOver, AtSomePath, Batches, BeginsAs, Bracketing, Brackets, By, FailsToSpawn, Fits, FoldInitSegment, FoldStep, FoldedAs};
-ghost use Rattle.commonware_parallel.specs.Words.{FoldedInitAs, GivesSome, GoesByLength, IfErr, IfOk, IsBatch, IsMemoryOnErr, IsMemoryOnFault, IsPermutation, IsSortedByClosure, IsStableByClosure};
-ghost use Rattle.commonware_parallel.specs.Words.{IsTiling, MapOf, MapStep, MappedInitAs, MutBor, OfOne, OnOk, OnSomeBatch, OnSomeTiles, OneOf, PartitionOf, Stateful, Tiles, TryBracketing};
-ghost use Rattle.commonware_parallel.specs.Words.{TryFoldedAs, TryMapOf, UnlessRefused, body_call, gives_answer, join_call, length, listed, multiplied_call, non_zero_usize_get, ranges_of};
-ghost use Rattle.commonware_parallel.specs.Words.{spawn_call, ℕ, ◌<◌};
+ghost use Rattle.std.specs.Prelude.{◌<◌, IfErr, IfOk, OnOk, length, ℕ};
+ghost use Rattle.commonware_parallel.specs.Words.{AnswersAs, Asked, AskedOver, AtSomePath, Batches, BeginsAs, Bracketing, Brackets, By, FailsToSpawn, Fits, FoldInitSegment, FoldStep};
+ghost use Rattle.commonware_parallel.specs.Words.{FoldedAs, FoldedInitAs, GivesSome, GoesByLength, IsBatch, IsMemoryOnErr, IsMemoryOnFault, IsPermutation, IsSortedByClosure};
+ghost use Rattle.commonware_parallel.specs.Words.{IsStableByClosure, IsTiling, MapOf, MapStep, MappedInitAs, MutBor, OfOne, OnSomeBatch, OnSomeTiles, OneOf, PartitionOf, Stateful, Tiles};
+ghost use Rattle.commonware_parallel.specs.Words.{TryBracketing, TryFoldedAs, TryMapOf, UnlessRefused, body_call, gives_answer, join_call, listed, multiplied_call, non_zero_usize_get};
+ghost use Rattle.commonware_parallel.specs.Words.{ranges_of, spawn_call};
 
 mod chooser;
 

@@ -1,6 +1,7 @@
 //! What the batch calls of a strategy stand on.
-ghost use Rattle.commonware_parallel.specs.Words.{Batches, Fault, IfOk, Into, IsBatch, IsMemoryOnErr, Memory, OfFault, OnBatch, OnSomeBatch, UnlessRefused, false, goes_by_path, max};
-ghost use Rattle.commonware_parallel.specs.Words.{non_zero_usize_get, ranges_of, ℕ, ◌/◌, ◌<◌, ◌≡◌, ◌≤◌};
+ghost use Rattle.std.specs.Prelude.{◌/◌, ◌<◌, ◌≡◌, ◌≤◌, IfOk, false, max, ℕ};
+ghost use Rattle.commonware_parallel.specs.Words.{Batches, Fault, Into, IsBatch, IsMemoryOnErr, Memory, OfFault, OnBatch, OnSomeBatch, UnlessRefused, goes_by_path, non_zero_usize_get};
+ghost use Rattle.commonware_parallel.specs.Words.{ranges_of};
 
 use super::Batches;
 use crate::call::Call;

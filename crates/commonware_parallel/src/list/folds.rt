@@ -1,6 +1,7 @@
 //! The folds that a strategy's list calls stand on, generic in the parts as `list` says.
-ghost use Rattle.commonware_parallel.specs.Words.{All, Body, Drains, FoldStep, FoldedAs, FoldedInitAs, GivesSome, GoesBy, GoesOver, HoldsAlong, IfOk, IsFinite, IsMemoryOnErr, MutBor};
-ghost use Rattle.commonware_parallel.specs.Words.{TryFoldSegment, TryFoldedAs, UnlessRefused, ◌<◌, ◌≡◌};
+ghost use Rattle.std.specs.Prelude.{◌<◌, ◌≡◌, All, IfOk};
+ghost use Rattle.commonware_parallel.specs.Words.{Body, Drains, FoldStep, FoldedAs, FoldedInitAs, GivesSome, GoesBy, GoesOver, HoldsAlong, IsFinite, IsMemoryOnErr, MutBor, TryFoldSegment};
+ghost use Rattle.commonware_parallel.specs.Words.{TryFoldedAs, UnlessRefused};
 
 use crate::call::Call;
 use crate::list::{dispatch_call, dispatch_fallible};

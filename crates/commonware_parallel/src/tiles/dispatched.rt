@@ -1,5 +1,6 @@
 //! What the tile call of a strategy stands on.
-ghost use Rattle.commonware_parallel.specs.Words.{Fits, IfOk, IsMemoryOnErr, IsSerialCost, IsTiling, MatchResult, OnSomeTiles, Tiles, tiles_place, tiles_strategy, ℕ, ◌<◌, ◌≡◌};
+ghost use Rattle.std.specs.Prelude.{◌<◌, ◌≡◌, IfOk, MatchResult, ℕ};
+ghost use Rattle.commonware_parallel.specs.Words.{Fits, IsMemoryOnErr, IsSerialCost, IsTiling, OnSomeTiles, Tiles, tiles_place, tiles_strategy};
 
 use super::Tiles;
 use crate::call::Call;
