@@ -1,10 +1,6 @@
 -- Chains of fills and finishes, one behind another.
-use Rattle.std.proofs.Common.{◌≡◌, ◌≢◌, ℕ, zero, suc, ◌+◌, ◌<◌, List, [], ◌∷◌, ◌++◌, refl, sym, subst, add-one, arith}
-use Rattle.std.specs.declared.ops.Range.{Range}
-use Rattle.parallel_shares.specs.declared.shares.stretch.Stretch.{Stretch}
-use Rattle.parallel_shares.specs.Fillings.{Filled, no_fill, last_fill, Finished}
-use Rattle.commonware_parallel.specs.Chains.{WholeRows}
-use Rattle.commonware_parallel.specs.Rectangles.{whole_row, whole_rows}
+use Rattle.commonware_parallel.proofs.Common.{◌≡◌, ◌≢◌, ℕ, zero, suc, ◌+◌, ◌<◌, List, [], ◌∷◌, ◌++◌, refl, sym, subst, add-one, arith, Range, Stretch, Filled, no_fill, last_fill, Finished, WholeRows}
+use Rattle.commonware_parallel.proofs.Common.{whole_row, whole_rows}
 
 -- a number that is not 0
 pub positive : (n : ℕ) → n ≢ 0 → 0 < n

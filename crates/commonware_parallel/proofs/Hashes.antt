@@ -1,7 +1,5 @@
 -- A hash of one list behind another.
-use Rattle.std.proofs.Common.{◌≡◌, ◌<◌, ◌+◌, ◌∙◌, ℕ, List, [], ◌∷◌, ◌++◌, refl, sym, ap, take, get_or, length}
-use Rattle.std.proofs.lemmas.List.{take_more}
-use Rattle.commonware_parallel.specs.Mixes.{mixed_in, mixed_all}
+use Rattle.commonware_parallel.proofs.Common.{◌≡◌, ◌<◌, ◌+◌, ◌∙◌, ℕ, List, [], ◌∷◌, ◌++◌, refl, sym, ap, take, get_or, length, take_more, mixed_in, mixed_all}
 
 pub mixed_append : (hash : ℕ) (xs ys : List ℕ)
     → mixed_all hash (xs ++ ys) ≡ mixed_all (mixed_all hash xs) ys

@@ -1,3 +1,4 @@
+mod Common
 pub mod ListCalls
 pub mod Outcomes
 pub mod Picks
@@ -13,3 +14,18 @@ pub mod NamedResults
 pub mod SortedStretches
 pub mod RowMerges
 pub mod RowLaws
+pub use Common.*
+pub use FilledRows.*
+pub use Hashes.*
+pub use ListCalls.*
+pub use Merkles.*
+pub use NamedResults.*
+pub use Outcomes.*
+pub use Picks.*
+pub use RowLaws.*
+pub use RowMerges.*
+pub use Searches.*
+pub use SeatResults.*
+pub use SortedStretches.*
+pub use StatefulSteps.*
+pub use WholeRowCuts.*

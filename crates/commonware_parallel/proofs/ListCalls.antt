@@ -1,15 +1,8 @@
 -- At which path and thread number a list call's fact holds.
-use Rattle.std.proofs.Common.{◌≡◌, ℕ, List, Result, Ok, Err, IfOk, subst}
-use Rattle.parallel_fault.specs.declared.fault.Trouble.{Trouble}
-use Rattle.parallel_fault.specs.declared.fault.Trouble.TheVariants.{Closure}
+use Rattle.commonware_parallel.proofs.Common.{◌≡◌, ℕ, List, Result, Ok, Err, IfOk, subst, Trouble, Closure, UnlessRefused, Path, AtSomePath, Pick, By}
 use Rattle.parallel_fault.specs.declared.fault.Trouble.TheVariants.{Fault as OfFault}
-use Rattle.parallel_bridge.specs.Outcomes.{UnlessRefused}
 use Rattle.parallel_bridge.specs.Shapes.{cutdepth}
 use Rattle.parallel_bridge.specs.Sources.{GivesSome}
-use Rattle.parallel_bridge.specs.declared.path.Path.{Path}
-use Rattle.commonware_parallel.specs.Calls.{AtSomePath}
-use Rattle.commonware_parallel.specs.declared.call.Pick.{Pick}
-use Rattle.commonware_parallel.specs.declared.call.Pick.TheVariants.{By}
 
 -- a fact at the depth for the thread number that the code took holds at the one for the clause's
 pub at_threads : {Q X : Type 0} (gives : Q → List X → Type 0) (parts : Q) (takes : Pick → Type 0)

@@ -1,11 +1,7 @@
 -- Levels of a tree and their root.
-use Rattle.std.proofs.Common.{◌≡◌, ℕ, ◌+◌, ◌<◌, ◌≤◌, List, [], ◌∷◌, ◌++◌, length, Option, Some, None, refl, sym, ◌∙◌, ap, subst, arith, append_assoc, append-nil}
-use Rattle.std.proofs.lemmas.List.{length-append, nil_from_length}
-use Rattle.std.specs.Prelude.{MatchOption}
-use Rattle.std.specs.Option.{option_to_list}
-use Rattle.parallel_bridge.specs.Lists.{MapOf}
+use Rattle.commonware_parallel.proofs.Common.{◌≡◌, ℕ, ◌+◌, ◌<◌, ◌≤◌, List, [], ◌∷◌, ◌++◌, length, Option, Some, None, refl, sym, ◌∙◌, ap, subst, arith, append_assoc, append-nil, length-append}
+use Rattle.commonware_parallel.proofs.Common.{nil_from_length, MatchOption, option_to_list, MapOf, IsDetermined, MerkleRoot, NextLevel, of_none, of_one, of_level}
 use Rattle.parallel_bridge.specs.Pairs.{odd_of, pairs_of}
-use Rattle.commonware_parallel.specs.Merkle.{IsDetermined, MerkleRoot, NextLevel, of_none, of_one, of_level}
 
 module _ {T : Type 0} (combine : T → T → T → Type 0) where
   -- the next level is no longer, and of two nodes and more it is shorter

@@ -1,18 +1,7 @@
 -- Chains whose results name their stretches, by a state that notes where a stretch began.
-use Rattle.std.proofs.Common.{◌≡◌, ℕ, ◌⊎◌, inl, inr, List, [], ◌∷◌, ◌++◌, All, Option, Some, None, refl, sym, ap, subst, ◌∙◌, arith}
-use Rattle.std.specs.Borrow.{MutBor}
-use Rattle.std.specs.Option.{unwrap_or}
-use Rattle.std.specs.declared.ops.Range.{Range}
-use Rattle.std.proofs.lemmas.List.{map-append}
-use Rattle.std.proofs.lemmas.List.Elements.{All-nil, All-cons, All-head, All-tail}
-use Rattle.parallel_shares.specs.declared.shares.stretch.Stretch.{Stretch}
-use Rattle.parallel_shares.specs.Fillings.{Fills, Gives, Filled, no_fill, last_fill, Finished}
-use Rattle.parallel_shares.specs.Stretches.{IsStretch}
-use Rattle.commonware_parallel.specs.Chains.{Chains, no_chain, more_chains}
-use Rattle.commonware_parallel.specs.MergedRows.{stretches_in, results_in}
-use Rattle.commonware_parallel.specs.Noting.{BeginsNoting, FillsNoting, FinishesNaming, noted}
-use Rattle.commonware_parallel.specs.Rectangles.{CutsRectangle}
-use Rattle.commonware_parallel.specs.declared.tiles.merged.Noting.{Noting}
+use Rattle.commonware_parallel.proofs.Common.{◌≡◌, ℕ, ◌⊎◌, inl, inr, List, [], ◌∷◌, ◌++◌, All, Option, Some, None, refl, sym, ap, subst, ◌∙◌, arith, MutBor, unwrap_or, Range, map-append, All-nil}
+use Rattle.commonware_parallel.proofs.Common.{All-cons, All-head, All-tail, Stretch, Fills, Gives, Filled, no_fill, last_fill, Finished, IsStretch, Chains, no_chain, more_chains, stretches_in}
+use Rattle.commonware_parallel.proofs.Common.{results_in, BeginsNoting, FillsNoting, FinishesNaming, noted, CutsRectangle, Noting}
 
 -- of a list in two parts
 pub All-front : {X : Type 0} (P : X → Type 0) (xs ys : List X) → All P (xs ++ ys) → All P xs

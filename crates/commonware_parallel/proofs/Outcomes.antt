@@ -1,12 +1,7 @@
 -- What follows from a fact of an outcome.
-use Rattle.std.proofs.Common.{◌≡◌, Result, Ok, Err}
+use Rattle.commonware_parallel.proofs.Common.{◌≡◌, Result, Ok, Err, Memory, Trouble, Closure, UnlessRefused, AnswersAs, UnlessFaulty}
 use Rattle.parallel_fault.specs.declared.fault.Fault.{Fault}
-use Rattle.parallel_fault.specs.declared.fault.Fault.TheVariants.{Memory}
-use Rattle.parallel_fault.specs.declared.fault.Trouble.{Trouble}
-use Rattle.parallel_fault.specs.declared.fault.Trouble.TheVariants.{Closure}
 use Rattle.parallel_fault.specs.declared.fault.Trouble.TheVariants.{Fault as OfFault}
-use Rattle.parallel_bridge.specs.Outcomes.{UnlessRefused}
-use Rattle.commonware_parallel.specs.Answers.{AnswersAs, UnlessFaulty}
 
 -- what follows from a fact of an outcome whose refusals are want of memory
 pub unless_told : {R E : Type 0} (result : Result R (Trouble E)) (told : Type 0)

@@ -1,16 +1,8 @@
 -- Which path a pick is, and what a body that is told one says.
-use Rattle.std.proofs.Common.{◌≡◌, ◌∙◌, ◌<◌, ◌≤◌, ℕ, zero, Bool, true, false, ap, refl}
-use Rattle.std.specs.Prelude.{nat_le, if◌then◌else◌}
-use Rattle.parallel_bridge.specs.declared.path.Path.{Path}
-use Rattle.parallel_bridge.specs.declared.path.Path.TheVariants.{Serial}
+use Rattle.commonware_parallel.proofs.Common.{◌≡◌, ◌∙◌, ◌<◌, ◌≤◌, ℕ, zero, Bool, true, false, ap, refl, nat_le, if◌then◌else◌, Path, Serial, OnParts, OnPath, AtSomePath, HasPick, body_call, nth_path}
+use Rattle.commonware_parallel.proofs.Common.{Call, Pick, By, Into, Explorer}
 use Rattle.parallel_policy.specs.declared.Site.{Site}
-use Rattle.commonware_parallel.specs.Answers.{OnParts, OnPath}
-use Rattle.commonware_parallel.specs.Calls.{AtSomePath, HasPick, body_call, nth_path}
-use Rattle.commonware_parallel.specs.declared.call.Call.{Call}
 use Rattle.commonware_parallel.specs.Explorers.{ExplorerTakes, picked, plans_of, rule_of}
-use Rattle.commonware_parallel.specs.declared.call.Pick.{Pick}
-use Rattle.commonware_parallel.specs.declared.call.Pick.TheVariants.{By, Into}
-use Rattle.commonware_parallel.specs.declared.mocks.explorer.Explorer.{Explorer}
 use Rattle.commonware_parallel.specs.declared.mocks.rule.Rule.TheVariants.{Serial as SerialRule}
 
 abbrev path_of : Pick → Path

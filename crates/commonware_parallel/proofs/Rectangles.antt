@@ -1,18 +1,8 @@
 -- From how often cells are in claims to stretches that cut a rectangle.
-use Rattle.std.proofs.Common.{◌≡◌, ℕ, ◌+◌, ◌-◌, ◌*◌, ◌<◌, ◌≤◌, inl, inr, List, [], ◌∷◌, ◌++◌, All, refl, sym, ap, ◌∙◌, append_assoc, arith}
-use Rattle.std.specs.List.{range_with_len}
-use Rattle.std.specs.declared.ops.Range.{Range}
-use Rattle.std.proofs.lemmas.Bool.{cases_lt, cases_order, eq-eqb, ne_eqb}
+use Rattle.commonware_parallel.proofs.Common.{◌≡◌, ℕ, ◌+◌, ◌-◌, ◌*◌, ◌<◌, ◌≤◌, inl, inr, List, [], ◌∷◌, ◌++◌, All, refl, sym, ap, ◌∙◌, append_assoc, arith, range_with_len, Range, cases_lt}
+use Rattle.commonware_parallel.proofs.Common.{cases_order, eq-eqb, ne_eqb, All-nil, All-cons, All-head, All-tail, row_fits, Stretch, inside, in_ranges, same_number, IsStretch, AreApart, all_cells}
+use Rattle.commonware_parallel.proofs.Common.{cut_cells, range_cells, stretch_cells, total, times, inside_within, inside_before, inside_after, times_range, total_append, has_cell, CutsRectangle}
 use Rattle.std.proofs.lemmas.Bool.Decides.{nat_tests}
-use Rattle.std.proofs.lemmas.List.Elements.{All-nil, All-cons, All-head, All-tail}
-use Rattle.std.proofs.lemmas.Nat.{row_fits}
-use Rattle.parallel_shares.specs.declared.shares.stretch.Stretch.{Stretch}
-use Rattle.parallel_shares.specs.Holders.{inside, in_ranges, same_number}
-use Rattle.parallel_shares.specs.Stretches.{IsStretch, AreApart, all_cells, cut_cells, range_cells, stretch_cells}
-use Rattle.parallel_shares.specs.Totals.{total, times}
-use Rattle.parallel_shares.proofs.Counts.{inside_within, inside_before, inside_after}
-use Rattle.parallel_shares.proofs.Totals.{times_range, total_append}
-use Rattle.commonware_parallel.specs.Rectangles.{has_cell, CutsRectangle}
 
 -- ---- counts of cells
 

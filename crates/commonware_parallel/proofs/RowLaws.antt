@@ -1,11 +1,6 @@
 -- Where merge respects cuts, each row has one value.
-use Rattle.std.proofs.Common.{◌≡◌, ℕ, zero, suc, ◌+◌, ◌<◌, ◌≤◌, List, [], ◌∷◌, ◌++◌, All, map, sym, ap, subst, ◌∙◌, arith}
-use Rattle.std.specs.List.{FoldsTo, range_with_len}
-use Rattle.std.proofs.lemmas.List.{map-append}
-use Rattle.std.proofs.lemmas.List.Elements.{All-head, All-tail}
-use Rattle.std.proofs.lemmas.List.Sorted.{All-permutation}
-use Rattle.parallel_shares.specs.declared.shares.stretch.Stretch.{Stretch}
-use Rattle.commonware_parallel.specs.MergedRows.{stretches_in, results_in, MergesTo, TilesRow, RowValues, MergesRows, RespectsCuts, IsValueOf}
+use Rattle.commonware_parallel.proofs.Common.{◌≡◌, ℕ, zero, suc, ◌+◌, ◌<◌, ◌≤◌, List, [], ◌∷◌, ◌++◌, All, map, sym, ap, subst, ◌∙◌, arith, FoldsTo, range_with_len, map-append, All-head, All-tail}
+use Rattle.commonware_parallel.proofs.Common.{All-permutation, Stretch, stretches_in, results_in, MergesTo, TilesRow, RowValues, MergesRows, RespectsCuts, IsValueOf}
 use Rattle.commonware_parallel.proofs.NamedResults.{All-front, All-back}
 
 -- stretches that tile columns don't end before they begin

@@ -1,12 +1,8 @@
 -- Stretches that follow one another, merged row by row.
-use Rattle.std.proofs.Common.{◌≡◌, ℕ, zero, suc, ◌+◌, ◌*◌, ◌<◌, inl, inr, List, [], ◌∷◌, ◌++◌, All, Option, Some, None, length, refl, sym, ap, subst, ◌∙◌, append-nil, append_assoc, length-append, arith}
+use Rattle.commonware_parallel.proofs.Common.{◌≡◌, ℕ, zero, suc, ◌+◌, ◌*◌, ◌<◌, inl, inr, List, [], ◌∷◌, ◌++◌, All, Option, Some, None, length, refl, sym, ap, subst, ◌∙◌, append-nil, append_assoc}
+use Rattle.commonware_parallel.proofs.Common.{length-append, arith, cases_lt, map-append, All-head, All-tail, same_from_place, Stretch, stretches_in, results_in, MergesTo, TilesRow, RowValues, Joins}
+use Rattle.commonware_parallel.proofs.Common.{Placed, IsThere, Follows}
 use Rattle.std.proofs.lemmas.Fn.{FoldsTo-push}
-use Rattle.std.proofs.lemmas.Bool.{cases_lt}
-use Rattle.std.proofs.lemmas.List.{map-append}
-use Rattle.std.proofs.lemmas.List.Elements.{All-head, All-tail}
-use Rattle.std.proofs.lemmas.Nat.{same_from_place}
-use Rattle.parallel_shares.specs.declared.shares.stretch.Stretch.{Stretch}
-use Rattle.commonware_parallel.specs.MergedRows.{stretches_in, results_in, MergesTo, TilesRow, RowValues, Joins, Placed, IsThere, Follows}
 
 -- one stretch more, where the others end
 tiles_push : (row a b : ℕ) (ss : List Stretch) (s : Stretch) → TilesRow row a b ss → s.row ≡ row

@@ -1,10 +1,8 @@
 -- What a search through the rules answers, from what its runs did.
-use Rattle.std.proofs.Common.{◌≡◌, [], ◌∷◌, ◌++◌, List, Bool, Result, Ok, Err, IsErrAnd, refl, sym, subst}
-use Rattle.std.specs.Borrow.{Bor}
+use Rattle.commonware_parallel.proofs.Common.{◌≡◌, [], ◌∷◌, ◌++◌, List, Bool, Result, Ok, Err, IsErrAnd, refl, sym, subst, Bor, Explorer}
 use Rattle.commonware_parallel.specs.Exploring.{RunsBy, Compares, Agree, Explored, rules_behind}
 use Rattle.commonware_parallel.specs.declared.mocks.explore_error.ExploreError.{ExploreError}
 use Rattle.commonware_parallel.specs.declared.mocks.explore_error.ExploreError.TheVariants.{Differs, Build}
-use Rattle.commonware_parallel.specs.declared.mocks.explorer.Explorer.{Explorer}
 use Rattle.commonware_parallel.specs.declared.mocks.rule.Rule.{Rule}
 use Rattle.commonware_parallel.specs.declared.mocks.rule.Rule.TheVariants.{Serial}
 

@@ -1,28 +1,14 @@
 -- What the seats that came back have together: results in chains, over stretches that cut the grid.
-use Rattle.std.proofs.Common.{◌≡◌, ℕ, zero, suc, ◌*◌, ◌<◌, List, [], ◌∷◌, ◌++◌, All, Ok, IfOk, map, length, get_or, true, None, refl, sym, ap, subst, ◌∙◌, append-nil, append_assoc, arith}
-use Rattle.std.specs.List.{AllZip}
+use Rattle.commonware_parallel.proofs.Common.{◌≡◌, ℕ, zero, suc, ◌*◌, ◌<◌, List, [], ◌∷◌, ◌++◌, All, Ok, IfOk, map, length, get_or, true, None, refl, sym, ap, subst, ◌∙◌, append-nil, append_assoc}
+use Rattle.commonware_parallel.proofs.Common.{arith, AllZip, Range, length-map, map-append, All-nil, All-append, Stretch, Finished, IsFront, in_ranges, same_number, plan_of, index_of, claims_of}
+use Rattle.commonware_parallel.proofs.Common.{has_emptied, transit_of, IsSeatOf, AreSeatsOf, EachCellOnce, Work, sizes_of, IsStretch, Cutting, cut_cells, total, times, total_append, StatesFrom}
+use Rattle.commonware_parallel.proofs.Common.{Stateful, no_segment, more_segments, Chains, no_chain, more_chains, CutsRectangle, IsWholeRow, seat_of, WorksFrom, AllResults}
 use Rattle.std.specs.declared.alloc.Global.{Global}
-use Rattle.std.specs.declared.ops.Range.{Range}
 use Rattle.std.specs.declared.vec.Vec.{Vec}
-use Rattle.std.proofs.lemmas.List.{length-map, map-append}
-use Rattle.std.proofs.lemmas.List.Elements.{All-nil, All-append}
 use Rattle.parallel_shares.specs.declared.shares.Shares.{Shares}
 use Rattle.parallel_shares.specs.declared.shares.seat.Seat.{Seat}
-use Rattle.parallel_shares.specs.declared.shares.stretch.Stretch.{Stretch}
-use Rattle.parallel_shares.specs.Fillings.{Finished}
-use Rattle.parallel_shares.specs.Fronts.{IsFront}
-use Rattle.parallel_shares.specs.Holders.{in_ranges, same_number}
-use Rattle.parallel_shares.specs.Seats.{plan_of, index_of, claims_of, has_emptied, transit_of, IsSeatOf, AreSeatsOf, EachCellOnce}
-use Rattle.parallel_shares.specs.Sizes.{Work, sizes_of}
 use Rattle.parallel_shares.specs.Steals.{FoundNothing}
-use Rattle.parallel_shares.specs.Stretches.{IsStretch, Cutting, cut_cells}
-use Rattle.parallel_shares.specs.Totals.{total, times}
-use Rattle.parallel_shares.proofs.Totals.{total_append}
-use Rattle.parallel_bridge.specs.States.{StatesFrom, Stateful, no_segment, more_segments}
 use Rattle.commonware_parallel.specs.declared.tiles.seats.Worked.{Worked}
-use Rattle.commonware_parallel.specs.Chains.{Chains, no_chain, more_chains}
-use Rattle.commonware_parallel.specs.Rectangles.{CutsRectangle, IsWholeRow}
-use Rattle.commonware_parallel.specs.Seated.{seat_of, WorksFrom, AllResults}
 use Rattle.commonware_parallel.proofs.FilledRows.{finished_append}
 use Rattle.commonware_parallel.proofs.Rectangles.{times_all, cut_append, apart_each, cuts}
 use Rattle.commonware_parallel.proofs.WholeRowCuts.{fronts_cut}

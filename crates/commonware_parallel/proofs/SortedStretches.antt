@@ -1,21 +1,11 @@
 -- Stretches that cut a grid, in the order of their places, follow one another.
-use Rattle.std.proofs.Common.{◌≡◌, ℕ, suc, ◌+◌, ◌-◌, ◌*◌, ◌/◌, ◌%◌, ◌^◌, ◌<◌, ◌≤◌, inl, inr, List, [], ◌∷◌, All, get_or, refl, sym, ap, ◌∙◌, arith}
-use Rattle.std.specs.List.{sum_by}
+use Rattle.commonware_parallel.proofs.Common.{◌≡◌, ℕ, suc, ◌+◌, ◌-◌, ◌*◌, ◌/◌, ◌%◌, ◌^◌, ◌<◌, ◌≤◌, inl, inr, List, [], ◌∷◌, All, get_or, refl, sym, ap, ◌∙◌, arith, sum_by, mod-add-div, mod-lt}
+use Rattle.commonware_parallel.proofs.Common.{cases_lt, All-nil, All-cons, All-head, All-tail, sum_by-IsPermutation, All-permutation, row_fits, Stretch, inside, same_number, IsStretch, cut_cells}
+use Rattle.commonware_parallel.proofs.Common.{stretch_cells, total, times, inside_within, inside_before, inside_after, inside_cut, times_range, total_append, total_zero, stretches_in, wrapped_place}
+use Rattle.commonware_parallel.proofs.Common.{IsThere, Follows, CutsRectangle}
+use Rattle.commonware_parallel.specs.MergedRows.{place_of}
 use Rattle.std.specs.List.Sorted.{IsPermutation, IsNonDecreasingBy}
-use Rattle.std.proofs.Math.Nat.{mod-add-div, mod-lt}
-use Rattle.std.proofs.lemmas.Bool.{cases_lt}
-use Rattle.std.proofs.lemmas.List.Elements.{All-nil, All-cons, All-head, All-tail}
 use Rattle.std.proofs.lemmas.List.Sums.{sum_by-cons}
-use Rattle.std.proofs.lemmas.List.Sorted.{sum_by-IsPermutation, All-permutation}
-use Rattle.std.proofs.lemmas.Nat.{row_fits}
-use Rattle.parallel_shares.specs.declared.shares.stretch.Stretch.{Stretch}
-use Rattle.parallel_shares.specs.Holders.{inside, same_number}
-use Rattle.parallel_shares.specs.Stretches.{IsStretch, cut_cells, stretch_cells}
-use Rattle.parallel_shares.specs.Totals.{total, times}
-use Rattle.parallel_shares.proofs.Counts.{inside_within, inside_before, inside_after, inside_cut}
-use Rattle.parallel_shares.proofs.Totals.{times_range, total_append, total_zero}
-use Rattle.commonware_parallel.specs.MergedRows.{stretches_in, place_of, wrapped_place, IsThere, Follows}
-use Rattle.commonware_parallel.specs.Rectangles.{CutsRectangle}
 use Rattle.commonware_parallel.proofs.Rectangles.{has_all, row_there}
 
 total_is_sum : {A : Type 0} (f : A → ℕ) (xs : List A) → total f xs ≡ sum_by f xs

@@ -1,7 +1,5 @@
 -- What is known of each call that is lent a state, along the segments of a list.
-use Rattle.std.proofs.Common.{◌≡◌, List, [], ◌∷◌, subst}
-use Rattle.std.specs.Borrow.{MutBor}
-use Rattle.parallel_bridge.specs.States.{MapStep, StatesFrom, Stateful, no_segment, more_segments}
+use Rattle.commonware_parallel.proofs.Common.{◌≡◌, List, [], ◌∷◌, subst, MutBor, MapStep, StatesFrom, Stateful, no_segment, more_segments}
 
 module _ {S X Y : Type 0} (init : S → Type 0) (answered : MutBor S → X → Y → MutBor S → Type 0)
     (step : S → X → Y → S → Type 0) (says : (p : MutBor S) (x : X) (y : Y) (q : MutBor S)

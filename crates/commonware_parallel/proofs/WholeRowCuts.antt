@@ -1,25 +1,12 @@
 -- Claims of whole rows are cut into whole rows.
-use Rattle.std.proofs.Common.{◌≡◌, ℕ, zero, suc, ◌+◌, ◌-◌, ◌*◌, ◌<◌, ◌≤◌, min, ◌⊎◌, inl, inr, List, [], ◌∷◌, ◌++◌, All, length, get_or, true, refl, sym, ap}
-use Rattle.std.proofs.Common.{◌∙◌, append-nil, append_assoc, arith}
-use Rattle.std.specs.List.{range_with_len}
+use Rattle.commonware_parallel.proofs.Common.{◌≡◌, ℕ, zero, suc, ◌+◌, ◌-◌, ◌*◌, ◌<◌, ◌≤◌, min, ◌⊎◌, inl, inr, List, [], ◌∷◌, ◌++◌, All, length, get_or, true, refl, sym, ap, ◌∙◌, append-nil}
+use Rattle.commonware_parallel.proofs.Common.{append_assoc, arith, range_with_len, Range, add-mul, mul-sub, mul_assoc, mul_comm, min-eq_left, min-eq_right, cases_lt, append_cancel_left, All-nil}
+use Rattle.commonware_parallel.proofs.Common.{All-cons, All-head, All-tail, All-append, All-push, same_from_place, row_fits, Stretch, IsFront, Work, sizes_of, IsStretch, AreApart, Cutting, all_cells}
+use Rattle.commonware_parallel.proofs.Common.{cut_cells, range_cells, stretch_cells, times, inside_within, inside_after, times_range, CutsRectangle, IsWholeRow, whole_row, whole_rows}
 use Rattle.std.specs.Int.{div_ceil}
-use Rattle.std.specs.declared.ops.Range.{Range}
-use Rattle.std.proofs.Math.Nat.{add-mul, mul-sub, mul_assoc, mul_comm, min-eq_left, min-eq_right}
-use Rattle.std.proofs.lemmas.Bool.{cases_lt}
-use Rattle.std.proofs.lemmas.List.{append_cancel_left}
-use Rattle.std.proofs.lemmas.List.Elements.{All-nil, All-cons, All-head, All-tail, All-append, All-push}
-use Rattle.std.proofs.lemmas.Nat.{same_from_place, row_fits}
-use Rattle.parallel_shares.specs.declared.shares.stretch.Stretch.{Stretch}
 use Rattle.parallel_shares.specs.Answers.{claim_stop}
-use Rattle.parallel_shares.specs.Fronts.{IsFront}
-use Rattle.parallel_shares.specs.Sizes.{Work, sizes_of}
-use Rattle.parallel_shares.specs.Stretches.{IsStretch, AreApart, Cutting, all_cells, cut_cells, range_cells, stretch_cells}
 use Rattle.parallel_shares.specs.Words.{start_of}
 use Rattle.parallel_shares.proofs.Stretching.{numbers_cut}
-use Rattle.parallel_shares.specs.Totals.{times}
-use Rattle.parallel_shares.proofs.Counts.{inside_within, inside_after}
-use Rattle.parallel_shares.proofs.Totals.{times_range}
-use Rattle.commonware_parallel.specs.Rectangles.{CutsRectangle, IsWholeRow, whole_row, whole_rows}
 use Rattle.commonware_parallel.proofs.Rectangles.{apart_head, apart_tail, cut_append, cuts}
 
 -- ---- lists that begin with numbers

@@ -1,1 +1,4 @@
+mod Common
 pub mod OneAnswer
+pub use Common.*
+pub use OneAnswer.*

@@ -1,18 +1,13 @@
 -- The one answer that a list call's definition allows where its closures are functions.
-use Rattle.std.proofs.Common.{◌≡◌, ℕ, zero, suc, ◌+◌, ◌-◌, ◌*◌, ◌%◌, ◌^◌, ◌<◌, ◌≤◌, arith, List, [], ◌∷◌, ◌++◌, Option, Result, Ok, Err, IfOk, refl, sym, ◌∙◌, ap, subst, fold, map}
-use Rattle.std.specs.List.{AllZip}
+use Rattle.known_answers.proofs.Common.{◌≡◌, ℕ, zero, suc, ◌+◌, ◌-◌, ◌*◌, ◌%◌, ◌^◌, ◌<◌, ◌≤◌, arith, List, [], ◌∷◌, ◌++◌, Option, Result, Ok, Err, IfOk, refl, sym, ◌∙◌, ap, subst, fold, map, AllZip}
+use Rattle.known_answers.proofs.Common.{Vec, Global, UnlessRefused, listed, PartitionOf, values_of, keys_of, Serial, Parallel, Cut, segment, halves, Shape, cutdepth, Along, AlongLeaves, FoldsAs}
 use Rattle.std.proofs.Math.Nat.{pow-succ'}
 use Rattle.std.proofs.lemmas.Nat.{leading_top, pow_pos}
-use Rattle.std.proofs.Common.{Vec, Global}
 use Rattle.parallel_fault.specs.declared.fault.Trouble.{Trouble}
 use Rattle.parallel_fault.specs.declared.fault.Trouble.TheVariants.{Closure}
 use Rattle.parallel_fault.specs.declared.fault.Trouble.TheVariants.{Fault as OfFault}
-use Rattle.parallel_bridge.specs.Outcomes.{UnlessRefused, listed}
 use Rattle.parallel_bridge.specs.Lists.{Chain, FoldSegment}
-use Rattle.parallel_bridge.specs.Parts.{PartitionOf, values_of, keys_of}
 use Rattle.parallel_bridge.specs.declared.path.Path.{Path}
-use Rattle.parallel_bridge.specs.declared.path.Path.TheVariants.{Serial, Parallel}
-use Rattle.parallel_bridge.specs.Shapes.{Cut, segment, halves, Shape, cutdepth, Along, AlongLeaves, FoldsAs}
 use Rattle.parallel_bridge.specs.States.{StatesFrom, StateSegment, StatesAlong, StatesAs}
 use Rattle.parallel_bridge.specs.Tries.{TryMapOf, EachOk}
 

@@ -78,10 +78,10 @@ EndsAs start count seats v outcome = (v.seats ≡ seats) × All (λ told. start 
     × SeatAfter start count v outcome
 
 -- items folded one step after another from a value, or the end that is there, which stands
-abbrev pub HaltsOnward : {X R E : Type 0} → (R → X → Result R E → Type 0) → Result R (Halt E)
+abbrev pub HaltContinues : {X R E : Type 0} → (R → X → Result R E → Type 0) → Result R (Halt E)
     → List X → Result R (Halt E) → Type 0
-HaltsOnward step (Ok a) xs out = halting (TryChain step a) xs out
-HaltsOnward step (Err halt) xs out = out ≡ Err halt
+HaltContinues step (Ok a) xs out = halting (TryChain step a) xs out
+HaltContinues step (Err halt) xs out = out ≡ Err halt
 
 -- a segment begins with an identity, unless it is stopped at once
 abbrev pub Begins : {R E : Type 0} → (R → Type 0) → Result R (Halt E) → Type 0

@@ -42,8 +42,7 @@ pub arbitrated-goes_on : {P : Type 0} (contest : Contest P) (count : ℕ)
     → ((arbitrated contest count).1 ≡ true) ⊎ GoesOn count (count_after contest count)
 arbitrated-goes_on contest count =
     due-or (is_due contest count) (cond contest.probe contest.loser contest.preferred)
-    contest.preferred
-    (interval_of contest.winner_time contest.loser_time) count
+    contest.preferred (interval_of contest.winner_time contest.loser_time) count
     (interval-most contest.winner_time contest.loser_time) refl
 
 pub run-goes_on : (parallel serial : Option ℕ) (count parallelism : ℕ)
@@ -73,12 +72,10 @@ pub longer : (parallelism : ℕ) (recent history : RunHistory) → Unmeasured re
     → Unmeasured (Chosen parallelism ∷ recent) history
 longer parallelism recent history unmeasured goes =
     let next : GoesOn (run_count history + choices_of recent)
-    (run_count (Chosen parallelism ∷ recent ++ history)) =
-    rw (← unmeasured.count) goes in
+    (run_count (Chosen parallelism ∷ recent ++ history)) = rw (← unmeasured.count) goes in
     record {
       count = omega arith;
-      skips = skips-more (run_count history)
-          (choices_of recent) _ unmeasured.skips next;
+      skips = skips-more (run_count history) (choices_of recent) _ unmeasured.skips next;
     }
 
 pub measures-or : (recent history : RunHistory) → MeasuresOne recent history

@@ -1,12 +1,6 @@
 -- A share of a count latch learns which gives another has seen.
-use Rattle.std.proofs.Common.{◌≡◌, ℕ, ◌+◌, ◌<◌, ◌≤◌, List, [], ◌∷◌, ◌++◌, length, set, slice_index, refl, sym, ap, ◌∙◌, ⊎_elim, arith, length-set, length-append}
-use mathlib.Core.Option.{some}
-use lib.ListN.{get_elem?}
-use Rattle.atomic_table.specs.Table.{State, Me, Allows, Splits, Joins, keeps}
-use Rattle.atomic_table.proofs.Lists.{at_set}
-use Rattle.parallel_pool.specs.declared.latch.count_share.ShareView.{ShareView}
-use Rattle.parallel_pool.specs.Histories.{Longer}
-use Rattle.parallel_pool.specs.CountHistory.{share_view, telling_gives, hearing_gives, stranger, FitsShare, CountsAs, IsCountOf, Given, SameShare}
+use Rattle.parallel_pool.proofs.Common.{◌≡◌, ℕ, ◌+◌, ◌<◌, ◌≤◌, List, [], ◌∷◌, ◌++◌, length, set, slice_index, refl, sym, ap, ◌∙◌, ⊎_elim, arith, length-set, length-append, some, get_elem?, State, Me}
+use Rattle.parallel_pool.proofs.Common.{Allows, Splits, Joins, keeps, at_set, ShareView, Longer, share_view, telling_gives, hearing_gives, stranger, FitsShare, CountsAs, IsCountOf, Given, SameShare}
 use Rattle.parallel_pool.proofs.HistoryBeginnings.{longest}
 use Rattle.parallel_pool.proofs.CountSteps.{held, held_set, held_more, all_set, all_more}
 
@@ -43,10 +37,10 @@ tells n id v s h at =
     )
 
 -- a share hears a seat that has no share, which is dropped
-pub hears : (n id : ℕ) (v : ShareView) (other : ℕ) (w : ShareView) → w.unspent ≡ 0
+pub count_hears : (n id : ℕ) (v : ShareView) (other : ℕ) (w : ShareView) → w.unspent ≡ 0
     → Joins (λ (s : State (Unit {0}) ShareView). IsCountOf n s.words s.views) id v other w
     (hearing_gives v w) stranger
-hears n id v other w none s h at two at' =
+count_hears n id v other w none s h at two at' =
     let log : List ℕ = h.0 in
     let kept : CountsAs n log s.words s.views = h.1 in
     let both : ShareView = hearing_gives v w in
@@ -83,11 +77,11 @@ hears n id v other w none s h at two at' =
     )
 
 -- a share that hears another has then seen the longer of what both had seen
-pub learns : (n slots id : ℕ) (me : Me (Unit {0}) ShareView)
+pub count_learns : (n slots id : ℕ) (me : Me (Unit {0}) ShareView)
     → Allows (λ (s : State (Unit {0}) ShareView). IsCountOf n s.words s.views) slots id me 0
     (λ k. k) (λ found after. Longer me.0.seen me.0.heard after.0.seen × SameShare me.0 after.0
     × (after.1 ≡ me.1))
-learns n slots id me s h homes at small =
+count_learns n slots id me s h homes at small =
     let log : List ℕ = h.0 in
     let kept : CountsAs n log s.words s.views = h.1 in
     let mine : FitsShare n log id me.0 = kept.fits id me.0 at in

@@ -1,16 +1,8 @@
 -- Each step of a count latch keeps its rule.
-use Rattle.std.proofs.Common.{◌≡◌, ◌≢◌, ℕ, ◌+◌, ◌-◌, ◌%◌, ◌^◌, ◌≤◌, ◌<◌, ◌==◌, cond, List, [], ◌∷◌, ◌++◌, length, set, slice_index, sum_by, refl, sym, ap}
-use Rattle.std.proofs.Common.{subst, ◌∙◌, ⊎_elim, append-nil, arith, eq-eqb, ne_eqb, length-set, length-append}
-use Rattle.std.proofs.lemmas.List.Sums.{sum_by-set, sum_by-append}
+use Rattle.parallel_pool.proofs.Common.{◌≡◌, ◌≢◌, ℕ, ◌+◌, ◌-◌, ◌%◌, ◌^◌, ◌≤◌, ◌<◌, ◌==◌, cond, List, [], ◌∷◌, ◌++◌, length, set, slice_index, sum_by, refl, sym, ap, subst, ◌∙◌, ⊎_elim, append-nil}
+use Rattle.parallel_pool.proofs.Common.{arith, eq-eqb, ne_eqb, length-set, length-append, sum_by-set, sum_by-append, some, get_elem?, dite, ℕ_discrete, State, Me, Allows, Splits, Enters, keeps}
+use Rattle.parallel_pool.proofs.Common.{at_set, ShareView, share_view, one_less, one_share, times_given, FitsShare, CountsAs, IsCountOf, CountsFrom, Sees}
 use Rattle.std.proofs.Math.Nat.{add-mod_right, mod-eq_of_lt}
-use mathlib.Core.Option.{some}
-use lib.ListN.{get_elem?}
-use mathlib.Core.Logic.{dite}
-use native.Mathlib.Decide.{ℕ_discrete}
-use Rattle.atomic_table.specs.Table.{State, Me, Allows, Splits, Enters, keeps}
-use Rattle.atomic_table.proofs.Lists.{at_set}
-use Rattle.parallel_pool.specs.declared.latch.count_share.ShareView.{ShareView}
-use Rattle.parallel_pool.specs.CountHistory.{share_view, one_less, one_share, times_given, FitsShare, CountsAs, IsCountOf, CountsFrom, Sees}
 use Rattle.parallel_pool.proofs.HistoryBeginnings.{begins_on}
 use Rattle.parallel_pool.proofs.ListLookups.{within, at_end, at_get}
 

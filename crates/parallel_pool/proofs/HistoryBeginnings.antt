@@ -1,7 +1,5 @@
 -- Beginnings of one history: what begins a longer one, and the longer of two.
-use Rattle.std.proofs.Common.{◌≡◌, ◌⊎◌, List, [], ◌∷◌, ◌++◌, refl, sym, ap, ◌∙◌, ⊎_elim, inl, inr, append-nil, append_assoc}
-use mathlib.Core.List.{cons-ne-nil, head-eq_of_cons-eq, tail-eq_of_cons-eq}
-use Rattle.parallel_pool.specs.Histories.{Begins}
+use Rattle.parallel_pool.proofs.Common.{◌≡◌, ◌⊎◌, List, [], ◌∷◌, ◌++◌, refl, sym, ap, ◌∙◌, ⊎_elim, inl, inr, append-nil, append_assoc, cons-ne-nil, head-eq_of_cons-eq, tail-eq_of_cons-eq, Begins}
 
 -- what begins a history begins what the history goes on to
 pub begins_on : {A : Type 0} (log seen more : List A) → Begins log seen → Begins (log ++ more) seen

@@ -1,11 +1,6 @@
 -- What a seat knows after one of its passes has pushed or taken.
-use Rattle.std.proofs.Common.{◌≡◌, ℕ, ◌+◌, List, ◌++◌, length, arith, sym, append_assoc, length-append, length-set, [], ◌∷◌, zero, suc, set, get_or, refl, ap}
-use Rattle.std.proofs.Common.{subst, ◌∙◌, Option, Some, None, Result, Ok, Err, MatchOption, MatchResult}
-use Rattle.parallel_pool.specs.declared.rayon.job_history.JobView.{JobView}
-use Rattle.parallel_pool.specs.declared.rayon.queue.Queue.{Queue}
-use Rattle.parallel_pool.specs.declared.rayon.queue.Queue.TheVariants.{Injected, Broadcast, Deque}
-use Rattle.parallel_pool.specs.JobHistory.{new_pass, HasPushed}
-use Rattle.parallel_pool.specs.JobSeat.{SeatView, view_of, with_view, Does, PushesFrom}
+use Rattle.parallel_pool.proofs.Common.{◌≡◌, ℕ, ◌+◌, List, ◌++◌, length, arith, sym, append_assoc, length-append, length-set, [], ◌∷◌, zero, suc, set, get_or, refl, ap, subst, ◌∙◌, Option, Some, None}
+use Rattle.parallel_pool.proofs.Common.{Result, Ok, Err, MatchOption, MatchResult, JobView, Queue, Injected, Broadcast, Deque, new_pass, HasPushed, SeatView, view_of, with_view, Does, PushesFrom}
 
 module _ {T : Type 0} where
   -- a list into which what stands at a place is written there again

@@ -1,23 +1,12 @@
 -- Each push to a queue of jobs and each take from it keeps the history's rule.
-use Rattle.std.proofs.Common.{◌≡◌, ◌≢◌, ℕ, ◌+◌, ◌<◌, ◌≤◌, ◌==◌, Bool, true, false, cond, List, [], ◌∷◌, ◌++◌, length, set, map, refl, sym, ap, subst, ◌∙◌}
-use Rattle.std.proofs.Common.{⊎_elim, append-nil, arith, eq-eqb, ne_eqb, length-set, length-append, Option, Some, None, Result, Ok, Err}
-use Rattle.std.proofs.Common.{MatchOption, MatchResult}
-use mathlib.Core.Logic.{dite}
-use native.Mathlib.Decide.{ℕ_discrete}
-use mathlib.Core.List.{cons-ne-nil, head-eq_of_cons-eq, tail-eq_of_cons-eq}
-use mathlib.Core.Option.{some, some-ne-none}
-use lib.ListN.{get_elem?}
+use Rattle.parallel_pool.proofs.Common.{◌≡◌, ◌≢◌, ℕ, ◌+◌, ◌<◌, ◌≤◌, ◌==◌, Bool, true, false, cond, List, [], ◌∷◌, ◌++◌, length, set, map, refl, sym, ap, subst, ◌∙◌, ⊎_elim, append-nil, arith, eq-eqb}
+use Rattle.parallel_pool.proofs.Common.{ne_eqb, length-set, length-append, Option, Some, None, Result, Ok, Err, MatchOption, MatchResult, dite, ℕ_discrete, cons-ne-nil, head-eq_of_cons-eq}
+use Rattle.parallel_pool.proofs.Common.{tail-eq_of_cons-eq, some, some-ne-none, get_elem?, at_set, Deed, Push, TakeFirst, TakeLast, Event, JobView, Lineup, event, job_view, new_pass, no_jobs}
+use Rattle.parallel_pool.proofs.Common.{DeedMoves, DeedsLead, events_by, FitsJobs, IsJobHistoryOf, one_push, one_take, times_pushed, times_taken, IsEachOnce, Extends, HasPushed, HasTaken}
 use Rattle.crossbeam_deque.specs.Steals.{MatchSteal}
 use Rattle.crossbeam_deque.specs.declared.steal.Steal.{Steal}
 use Rattle.crossbeam_deque.specs.declared.steal.Steal.TheVariants.{Empty, Success, Retry}
 use Rattle.crossbeam_deque.specs.Tasks.{Pushes, Takes, Pops, Admits}
-use Rattle.atomic_table.proofs.Lists.{at_set}
-use Rattle.parallel_pool.specs.declared.rayon.job_history.Deed.{Deed}
-use Rattle.parallel_pool.specs.declared.rayon.job_history.Deed.TheVariants.{Push, TakeFirst, TakeLast}
-use Rattle.parallel_pool.specs.declared.rayon.job_history.Event.{Event}
-use Rattle.parallel_pool.specs.declared.rayon.job_history.JobView.{JobView}
-use Rattle.parallel_pool.specs.JobHistory.{Lineup, event, job_view, new_pass, no_jobs, DeedMoves, DeedsLead, events_by, FitsJobs, IsJobHistoryOf, one_push, one_take}
-use Rattle.parallel_pool.specs.JobHistory.{times_pushed, times_taken, IsEachOnce, Extends, HasPushed, HasTaken}
 use Rattle.parallel_pool.proofs.HistoryBeginnings.{begins_on}
 use Rattle.parallel_pool.proofs.ListLookups.{within, at_end}
 
@@ -284,8 +273,8 @@ module _ {T : Type 0} where
   )
 
   -- a queue to which nothing was pushed keeps the rule
-  pub opens : IsJobHistoryOf {T = T} [] (new_pass ∷ [])
-  opens = (
+  pub job_opens : IsJobHistoryOf {T = T} [] (new_pass ∷ [])
+  job_opens = (
     [],
     no_jobs,
     refl,

@@ -1,14 +1,6 @@
 -- A seat of a core latch learns what another has seen.
-use Rattle.std.proofs.Common.{◌≡◌, ◌≢◌, ℕ, List, [], length, set, slice_index, refl, sym, ap, subst, ◌∙◌, ⊎_elim, arith, length-set}
-use mathlib.Core.Option.{some}
-use lib.ListN.{get_elem?}
-use Rattle.atomic_table.specs.Table.{State, Me, Allows, Joins, keeps}
-use Rattle.atomic_table.proofs.Lists.{at_set}
-use Rattle.parallel_pool.specs.declared.latch.history.Call.{Call}
-use Rattle.parallel_pool.specs.declared.latch.history.View.{View}
-use Rattle.parallel_pool.specs.Histories.{Begins, Longer}
-use Rattle.parallel_pool.specs.LatchMoves.{unset, latched, phase_from, phase_after}
-use Rattle.parallel_pool.specs.LatchHistory.{view, newcomer, hearing, FitsLatch, IsHistoryOf}
+use Rattle.parallel_pool.proofs.Common.{◌≡◌, ◌≢◌, ℕ, List, [], length, set, slice_index, refl, sym, ap, subst, ◌∙◌, ⊎_elim, arith, length-set, some, get_elem?, State, Me, Allows, Joins, keeps, at_set}
+use Rattle.parallel_pool.proofs.Common.{Call, View, Begins, Longer, unset, latched, phase_from, phase_after, view, newcomer, hearing, FitsLatch, IsHistoryOf}
 use Rattle.parallel_pool.proofs.HistoryBeginnings.{longest}
 use Rattle.parallel_pool.proofs.LatchSteps.{phase_from-append, set_stays}
 
@@ -23,10 +15,10 @@ all_set log views id w mine others by v e = ⊎_elim
     (at_set views id by w v e)
 
 -- a seat hears a new one, which has made no call, and is dropped
-pub hears : (id : ℕ) (v : View) (other : ℕ) (w : View) → w.own ≡ []
+pub latch_hears : (id : ℕ) (v : View) (other : ℕ) (w : View) → w.own ≡ []
     → Joins (λ (s : State (Unit {0}) View). IsHistoryOf s.words s.views) id v other w
     (hearing v w) newcomer
-hears id v other w new s h at two at' =
+latch_hears id v other w new s h at two at' =
     let log : List Call = h.0 in
     let both : View = hearing v w in
     let views : List View = set s.views id both in
@@ -46,11 +38,11 @@ hears id v other w new s h at two at' =
     )
 
 -- a seat that hears another has then seen the longer of what both had seen
-pub learns : (slots id : ℕ) (me : Me (Unit {0}) View)
+pub latch_learns : (slots id : ℕ) (me : Me (Unit {0}) View)
     → Allows (λ (s : State (Unit {0}) View). IsHistoryOf s.words s.views) slots id me 0 (λ n. n)
     (λ found after. Longer me.0.seen me.0.heard after.0.seen × (after.0.own ≡ me.0.own)
     × (after.1 ≡ me.1))
-learns slots id me s h homes at small =
+latch_learns slots id me s h homes at small =
     let log : List Call = h.0 in
     let fits : FitsLatch log id me.0 = h.2 id me.0 at in
     let long = longest log me.0.seen me.0.heard fits.0 fits.1 in

@@ -1,19 +1,10 @@
 -- Each step of a core latch keeps its rule, and what a step found is the phase of its history.
-use Rattle.std.proofs.Common.{◌≡◌, ◌≢◌, ℕ, ◌<◌, ◌==◌, Bool, true, false, cond, List, [], ◌∷◌, ◌++◌, length, set, slice_index, refl, sym, ap, subst, ◌∙◌, ⊎_elim}
-use Rattle.std.proofs.Common.{append-nil, arith, eq-eqb, rules, ne_eqb, IsTrue, ◌↔◌, length-set, length-append}
-use mathlib.Core.Option.{some, some-ne-none}
-use lib.ListN.{get_elem?}
-use prog.Atomic.{either}
-use Rattle.atomic_table.specs.Table.{State, Me, Allows, Enters, Splits, keeps}
-use Rattle.atomic_table.proofs.Lists.{at_set, set_again}
+use Rattle.parallel_pool.proofs.Common.{◌≡◌, ◌≢◌, ℕ, ◌<◌, ◌==◌, Bool, true, false, cond, List, [], ◌∷◌, ◌++◌, length, set, slice_index, refl, sym, ap, subst, ◌∙◌, ⊎_elim, append-nil, arith, eq-eqb}
+use Rattle.parallel_pool.proofs.Common.{rules, ne_eqb, IsTrue, ◌↔◌, length-set, length-append, some, some-ne-none, get_elem?, either, State, Me, Allows, Enters, Splits, keeps, at_set, set_again}
+use Rattle.parallel_pool.proofs.Common.{GetSleepy, FallAsleep, WakeUp, Set, Probe, Call, View, Phase, unset, sleepy, sleeping, latched, word_of, moved, phase_from, phase_after, is_unset, is_sleepy}
+use Rattle.parallel_pool.proofs.Common.{is_sleeping, is_latched, Begins, call, view, newcomer, acts_of, FitsLatch, IsHistoryOf, Called, HasSeenSet}
 use Rattle.parallel_pool.specs.declared.latch.history.Act.{Act}
-use Rattle.parallel_pool.specs.declared.latch.history.Act.TheVariants.{GetSleepy, FallAsleep, WakeUp, Set, Probe}
-use Rattle.parallel_pool.specs.declared.latch.history.Call.{Call}
-use Rattle.parallel_pool.specs.declared.latch.history.View.{View}
-use Rattle.parallel_pool.specs.LatchMoves.{Phase, unset, sleepy, sleeping, latched, word_of, moved, phase_from, phase_after, is_unset, is_sleepy, is_sleeping, is_latched}
 use Rattle.parallel_pool.proofs.ListLookups.{within, at_end}
-use Rattle.parallel_pool.specs.Histories.{Begins}
-use Rattle.parallel_pool.specs.LatchHistory.{call, view, newcomer, acts_of, FitsLatch, IsHistoryOf, Called, HasSeenSet}
 use Rattle.parallel_pool.proofs.HistoryBeginnings.{begins_on}
 
 -- a history that goes on leads on
@@ -149,8 +140,8 @@ enters slots s h homes small = (
 )
 
 -- at the beginning no call was made
-pub opens : IsHistoryOf (0 ∷ []) (newcomer ∷ [])
-opens = (
+pub latch_opens : IsHistoryOf (0 ∷ []) (newcomer ∷ [])
+latch_opens = (
   [],
   refl,
   (λ by v e. ⊎_elim

@@ -1,3 +1,4 @@
+mod Common
 mod ListLookups
 mod HistoryBeginnings
 mod LatchSteps
@@ -9,3 +10,13 @@ mod JobSteps
 mod JobSeats
 mod WorkerCalls
 mod Probes
+pub use Common.*
+pub use CountLearns.*
+pub use CountSteps.*
+pub use JobSeats.*
+pub use JobSteps.*
+pub use LatchLearns.*
+pub use LatchSteps.*
+pub use Probes.*
+pub use Standings.*
+pub use WorkerCalls.*

@@ -1,10 +1,6 @@
 -- Looks at a latch, one after another.
-use Rattle.std.proofs.Common.{refl, suc}
+use Rattle.parallel_pool.proofs.Common.{refl, suc, View, Probe, Called, OnlyProbes}
 use Rattle.std.specs.Prelude.{⊤}
-use Rattle.parallel_pool.specs.declared.latch.history.View.{View}
-use Rattle.parallel_pool.specs.declared.latch.history.Act.TheVariants.{Probe}
-use Rattle.parallel_pool.specs.LatchHistory.{Called}
-use Rattle.parallel_pool.specs.SleepTries.{OnlyProbes}
 
 -- none
 pub no_probe : (v : View) → OnlyProbes v v

@@ -1,17 +1,12 @@
 -- Waking workers one after another, and what it does to the counts.
-use Rattle.std.proofs.Common.{◌≡◌, ◌≢◌, ℕ, ◌+◌, ◌≤◌, ◌<◌, Bool, true, false, cond, List, [], ◌∷◌, ◌++◌, length, take, set, get_or, filter, count_by, Contains}
-use Rattle.std.proofs.Common.{refl, sym, ap, subst, ◌∙◌, ⊎_elim, zero, suc, arith, length-set, length-append, append-nil, true≢false, get_or-set_same}
-use Rattle.std.proofs.Common.{get_or-set_other}
+use Rattle.parallel_pool.proofs.Common.{◌≡◌, ◌≢◌, ℕ, ◌+◌, ◌≤◌, ◌<◌, Bool, true, false, cond, List, [], ◌∷◌, ◌++◌, length, take, set, get_or, filter, count_by, Contains, refl, sym, ap, subst, ◌∙◌}
+use Rattle.parallel_pool.proofs.Common.{⊎_elim, zero, suc, arith, length-set, length-append, append-nil, true≢false, get_or-set_same, get_or-set_other, sum_by-set, sum_by-cons, count_by-le-length}
+use Rattle.parallel_pool.proofs.Common.{take_all, get_or_past, dite, dec_le, ℕ_discrete, Working, Looking, Sleeping, is_blocked, is_inactive, is_looking, standing_at, sleeping_in, inactive_in}
+use Rattle.parallel_pool.proofs.Common.{looking_in, blocked_of, AreWoken}
 use Rattle.std.specs.List.{range_with_len}
-use Rattle.std.proofs.lemmas.List.Sums.{sum_by-set, sum_by-cons, count_by-le-length}
 use Rattle.std.proofs.lemmas.List.Elements.{filter_more, Contains-append_left, Contains-append_right, Contains-append_cases}
 use Rattle.std.proofs.lemmas.List.FromFn.{length-range_with_len, get_or-range_with_len}
-use Rattle.std.proofs.lemmas.List.{take_all, get_or_past}
-use mathlib.Core.Logic.{dite}
-use native.Mathlib.Decide.{dec_le, ℕ_discrete}
 use Rattle.parallel_pool.specs.declared.sleep.standing.Standing.{Standing}
-use Rattle.parallel_pool.specs.declared.sleep.standing.Standing.TheVariants.{Working, Looking, Sleeping}
-use Rattle.parallel_pool.specs.Standings.{is_blocked, is_inactive, is_looking, standing_at, sleeping_in, inactive_in, looking_in, blocked_of, AreWoken}
 
 -- the number of a standing's test, 1 or 0
 abbrev pub one_if : Bool → ℕ

@@ -1,14 +1,6 @@
 -- What a worker knows after it has taken or pushed a job, and how many it has called.
-use Rattle.std.proofs.Common.{◌≡◌, ℕ, ◌+◌, ◌<◌, true, List, [], ◌∷◌, ◌++◌, length, set, get_or, zero, suc, arith, refl, ap, subst, ◌∙◌}
-use Rattle.std.proofs.Common.{⊎_elim, inl, inr, Option, Some, None, MatchOption}
-use Rattle.parallel_pool.specs.declared.rayon.job_history.Deed.{Deed}
-use Rattle.parallel_pool.specs.declared.rayon.job_history.Deed.TheVariants.{TakeFirst, TakeLast}
-use Rattle.parallel_pool.specs.declared.rayon.job_history.Event.{Event}
-use Rattle.parallel_pool.specs.declared.rayon.job_history.JobView.{JobView}
-use Rattle.parallel_pool.specs.declared.rayon.queue.Queue.{Queue}
-use Rattle.parallel_pool.specs.declared.rayon.queue.Queue.TheVariants.{Injected, Broadcast, Deque}
-use Rattle.parallel_pool.specs.JobHistory.{new_pass, event, HasTaken}
-use Rattle.parallel_pool.specs.JobSeat.{SeatView, IsQueueOf, Does}
+use Rattle.parallel_pool.proofs.Common.{◌≡◌, ℕ, ◌+◌, ◌<◌, true, List, [], ◌∷◌, ◌++◌, length, set, get_or, zero, suc, arith, refl, ap, subst, ◌∙◌, ⊎_elim, inl, inr, Option, Some, None, MatchOption}
+use Rattle.parallel_pool.proofs.Common.{Deed, TakeFirst, TakeLast, Event, JobView, Queue, Injected, Broadcast, Deque, new_pass, event, HasTaken, SeatView, IsQueueOf, Does}
 use Rattle.parallel_pool.specs.WorkerThread.{WorkerView, called_in, called_by, seat_calls, calls_of, with_own, with_jobs, CallsOwn, CallsFirst, CallsOne}
 
 module _ {T : Type 0} where

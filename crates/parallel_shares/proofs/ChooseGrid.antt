@@ -1,8 +1,5 @@
 -- The first grid of least cost, found by one scan.
-use Rattle.std.proofs.Common.{◌≡◌, ℕ, ◌+◌, ◌<◌, ◌≤◌, Bool, List, length, get_or, slice_index, HoldsAt, arith, sym, ◌∙◌}
-use Rattle.std.specs.List.{AllWithin}
-use Rattle.std.proofs.lemmas.List.{get_or-map}
-use Rattle.std.proofs.lemmas.List.Elements.{at_read, AllWithin-more}
+use Rattle.parallel_shares.proofs.Common.{◌≡◌, ℕ, ◌+◌, ◌<◌, ◌≤◌, Bool, List, length, get_or, slice_index, HoldsAt, arith, sym, ◌∙◌, AllWithin, get_or-map, at_read, AllWithin-more}
 use Rattle.parallel_shares.specs.declared.grid.Grid.{Grid}
 use Rattle.parallel_shares.specs.Grid.{critical_cost, stays_whole, costs_of, IsChosenGrid}
 

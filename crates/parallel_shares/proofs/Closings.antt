@@ -1,19 +1,7 @@
 -- When all seats are back, one view has all that was claimed, and the words have the rest.
-use Rattle.std.proofs.Common.{◌≡◌, ℕ, suc, ◌+◌, ◌/◌, ◌<◌, Bool, true, false, cond, List, [], ◌∷◌, length, get_or, refl, sym, ap, subst, ◌∙◌, arith}
-use mathlib.Core.Option.{some}
-use lib.ListN.{get_elem?}
-use Rattle.atomic_table.specs.Table.{State}
-use Rattle.parallel_shares.specs.declared.shares.rule.View.{View}
-use Rattle.parallel_shares.specs.declared.shares.seat.Seat.{Seat}
-use Rattle.parallel_shares.specs.declared.shares.Shares.{Shares}
-use Rattle.parallel_shares.specs.Words.{start_of, end_of, IsEmptyWord}
-use Rattle.parallel_shares.specs.Sizes.{Sizes, shares_of}
-use Rattle.parallel_shares.specs.Machine.{opening_words}
-use Rattle.parallel_shares.specs.Holders.{inside, in_word, in_ranges, same_number}
-use Rattle.parallel_shares.specs.Totals.{total, times}
-use Rattle.parallel_shares.specs.Sharing.{in_view, IsSharingOf, ranges_of}
-use Rattle.parallel_shares.specs.Seats.{known, index_of, claims_of, AreSeatsOf, IsPartition, AllDone, AllEmpty, EachCellOnce}
-use Rattle.parallel_shares.specs.Gathered.{HasAll}
+use Rattle.parallel_shares.proofs.Common.{◌≡◌, ℕ, suc, ◌+◌, ◌/◌, ◌<◌, Bool, true, false, cond, List, [], ◌∷◌, length, get_or, refl, sym, ap, subst, ◌∙◌, arith, some, get_elem?, State, View, Seat}
+use Rattle.parallel_shares.proofs.Common.{Shares, start_of, end_of, IsEmptyWord, Sizes, shares_of, opening_words, inside, in_word, in_ranges, same_number, total, times, in_view, IsSharingOf}
+use Rattle.parallel_shares.proofs.Common.{ranges_of, known, index_of, claims_of, AreSeatsOf, IsPartition, AllDone, AllEmpty, EachCellOnce, HasAll}
 use Rattle.parallel_shares.proofs.Counts.{inside_nothing}
 use Rattle.parallel_shares.proofs.Totals.{total_two, total_alone, total_zero, total_some, total_both, total_of_none, no_numbers, one_more, same_once}
 

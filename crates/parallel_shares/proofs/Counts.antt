@@ -1,9 +1,5 @@
 -- Counting by 0 and 1: whether a number is in a range.
-use Rattle.std.proofs.Common.{◌≡◌, ℕ, suc, ◌+◌, ◌*◌, ◌/◌, ◌<◌, ◌≤◌, inl, inr, min, sym, ◌∙◌, arith}
-use Rattle.std.proofs.lemmas.Bool.{cases_lt}
-use Rattle.std.proofs.lemmas.Bool.Decides.{nat_tests}
-use Rattle.std.proofs.lemmas.Nat.{mul-le}
-use Rattle.parallel_shares.specs.Holders.{inside}
+use Rattle.parallel_shares.proofs.Common.{◌≡◌, ℕ, suc, ◌+◌, ◌*◌, ◌/◌, ◌<◌, ◌≤◌, inl, inr, min, sym, ◌∙◌, arith, cases_lt, nat_tests, mul-le, inside}
 
 -- a number is in the range, or outside it
 pub data Side (u start end : ℕ) : Type 0 where

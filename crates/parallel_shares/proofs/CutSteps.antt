@@ -1,11 +1,6 @@
 -- A balanced cut built range by range: the longer ranges first.
-use Rattle.std.proofs.Common.{◌≡◌, ℕ, ◌+◌, ◌*◌, ◌<◌, ◌≤◌, inl, inr, min, List, [], ◌∷◌, ◌++◌, length, All, arith}
-use Rattle.std.proofs.lemmas.List.{length_push}
-use Rattle.std.proofs.lemmas.List.Elements.{All-push}
+use Rattle.parallel_shares.proofs.Common.{◌≡◌, ℕ, ◌+◌, ◌*◌, ◌<◌, ◌≤◌, inl, inr, min, List, [], ◌∷◌, ◌++◌, length, All, arith, length_push, All-push, cases_lt, Range, range_length, CutsFrom, IsEven}
 use Rattle.std.proofs.lemmas.List.Quantifiers.{all_pairs_push}
-use Rattle.std.proofs.lemmas.Bool.{cases_lt}
-use Rattle.std.specs.declared.ops.Range.{Range}
-use Rattle.parallel_shares.specs.Cut.{range_length, CutsFrom, IsEven}
 use Rattle.parallel_shares.proofs.Cuts.{CutsFrom-push, IsNear}
 
 -- the range has one index more than `shorter`

@@ -1,14 +1,9 @@
 -- What follows for ranges that cut a line of indices, and for balanced ones.
-use Rattle.std.specs.List.{flat_map, range_with_len}
-use Rattle.std.proofs.Common.{zero, add-zero, zero-add, ◌∙◌, ◌≡◌, ℕ, suc, ◌+◌, ◌-◌, ◌*◌, ◌/◌, ◌<◌, ◌≤◌, inl, inr, List, [], ◌∷◌, ◌++◌, length, All, refl, sym, ap, subst, arith, sum_by}
-use Rattle.std.proofs.lemmas.List.Elements.{All-nil, All-cons, All-head, All-tail, All-weaker}
+use Rattle.parallel_shares.proofs.Common.{flat_map, range_with_len, zero, add-zero, zero-add, ◌∙◌, ◌≡◌, ℕ, suc, ◌+◌, ◌-◌, ◌*◌, ◌/◌, ◌<◌, ◌≤◌, inl, inr, List, [], ◌∷◌, ◌++◌, length, All, refl, sym, ap}
+use Rattle.parallel_shares.proofs.Common.{subst, arith, sum_by, All-nil, All-cons, All-head, All-tail, All-weaker, cases_lt, le-div, Range, range_length, CutsFrom, IsEven, BalancedCut}
 use Rattle.std.proofs.lemmas.List.Sums.{sum_by-cons, sum_by-le}
-use Rattle.std.proofs.lemmas.Bool.{cases_lt}
-use Rattle.std.proofs.lemmas.Nat.{le-div}
 use Rattle.std.proofs.Math.Nat.{div-eq_of_lt-le, div-mul-le_self, mul-le-mul_left, mul-le-mul_right}
 use Rattle.std.proofs.Props.{props}
-use Rattle.std.specs.declared.ops.Range.{Range}
-use Rattle.parallel_shares.specs.Cut.{range_length, CutsFrom, IsEven, BalancedCut}
 
 -- two cuts, the second from where the first ends, are one cut
 pub CutsFrom-append : (from middle to : ℕ) (rs ss : List (Range ℕ)) → CutsFrom from rs middle

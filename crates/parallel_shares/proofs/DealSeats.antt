@@ -1,13 +1,7 @@
 -- Seats that are dealt out one after another.
-use Rattle.std.proofs.Common.{◌≡◌, ℕ, zero, suc, ◌+◌, ◌-◌, ◌<◌, false, List, [], ◌∷◌, ◌++◌, None, length, get_or, drop, take, refl, sym, ap, subst, ◌∙◌, arith}
-use Rattle.std.specs.List.{range_with_len}
-use Rattle.std.proofs.lemmas.List.{length_push, length-replicate}
-use Rattle.parallel_shares.specs.declared.shares.rule.View.{View}
-use Rattle.parallel_shares.specs.declared.shares.seat.Seat.{Seat}
-use Rattle.parallel_shares.specs.declared.shares.Shares.{Shares}
-use Rattle.parallel_shares.specs.Sizes.{Sizes, shares_of}
-use Rattle.parallel_shares.specs.Sharing.{fresh_view, undealt, dealt_from, dealt}
-use Rattle.parallel_shares.specs.Seats.{known, index_of, IsSeatOf, AreSeatsOf, AreFresh, IsFresh, Carries}
+use Rattle.parallel_shares.proofs.Common.{◌≡◌, ℕ, zero, suc, ◌+◌, ◌-◌, ◌<◌, false, List, [], ◌∷◌, ◌++◌, None, length, get_or, drop, take, refl, sym, ap, subst, ◌∙◌, arith, range_with_len, length_push}
+use Rattle.parallel_shares.proofs.Common.{length-replicate, View, Seat, Shares, Sizes, shares_of, fresh_view, undealt, dealt_from, dealt, known, index_of, IsSeatOf, AreSeatsOf, AreFresh, IsFresh}
+use Rattle.parallel_shares.proofs.Common.{Carries}
 
 -- what holds of each element at its place, and of one more behind them
 pub each_push : {A : Type 0} (P : ℕ → A → Type 0) (xs : List A) (x : A) (n : ℕ) → length xs ≡ n

@@ -1,21 +1,9 @@
 -- Seats that are dealt and gathered keep what words and seats keep together, from the opening on.
-use Rattle.std.proofs.Common.{◌≡◌, ℕ, zero, suc, ◌+◌, ◌-◌, ◌/◌, ◌<◌, ◌≤◌, ◌⊎◌, inl, inr, List, [], ◌∷◌, ◌++◌, get_or, set, refl, sym, ap, subst, ◌∙◌, arith}
-use Rattle.std.specs.List.{range_with_len}
-use Rattle.std.proofs.lemmas.Bool.{cases_lt}
-use Rattle.std.proofs.lemmas.List.{get_or_past}
-use Rattle.std.specs.declared.ops.Range.{Range}
-use mathlib.Core.Option.{some, some-injective, some-ne-none}
-use lib.ListN.{get_elem?}
-use Rattle.atomic_table.specs.Table.{opening, Splits, Joins}
-use Rattle.atomic_table.proofs.Lists.{at_snoc, set_else}
-use Rattle.parallel_shares.specs.declared.shares.rule.View.{View}
-use Rattle.parallel_shares.specs.Words.{packed}
-use Rattle.parallel_shares.specs.Sizes.{Sizes, shares_of, opening_start, IsSound}
-use Rattle.parallel_shares.specs.Machine.{opening_words}
-use Rattle.parallel_shares.specs.Answers.{Pays}
-use Rattle.parallel_shares.specs.Holders.{inside, in_word, in_ranges, same_number}
-use Rattle.parallel_shares.specs.Totals.{total, times}
-use Rattle.parallel_shares.specs.Sharing.{SomeSplitPays, fresh_view, undealt, in_view, Empties, Idle, IsSharingOf, dealt_from, dealt, gathered, spent}
+use Rattle.parallel_shares.proofs.Common.{◌≡◌, ℕ, zero, suc, ◌+◌, ◌-◌, ◌/◌, ◌<◌, ◌≤◌, ◌⊎◌, inl, inr, List, [], ◌∷◌, ◌++◌, get_or, set, refl, sym, ap, subst, ◌∙◌, arith, range_with_len, cases_lt}
+use Rattle.parallel_shares.proofs.Common.{get_or_past, Range, some, some-injective, some-ne-none, get_elem?, Splits, Joins, at_snoc, set_else, View, packed, Sizes, shares_of, opening_start, IsSound}
+use Rattle.parallel_shares.proofs.Common.{opening_words, Pays, inside, in_word, in_ranges, same_number, total, times, SomeSplitPays, fresh_view, undealt, in_view, Empties, Idle, IsSharingOf}
+use Rattle.parallel_shares.proofs.Common.{dealt_from, dealt, gathered, spent}
+use Rattle.atomic_table.specs.Table.{opening}
 use Rattle.parallel_shares.proofs.Words.{start_of_packed, end_of_packed}
 use Rattle.parallel_shares.proofs.Counts.{inside_within, inside_cut, inside_nothing}
 use Rattle.parallel_shares.proofs.Openings.{at_end, in_order, within_units, length_opening, opening_is_state}

@@ -1,17 +1,8 @@
 -- Every event leaves a state that belongs to the plan.
-use Rattle.std.proofs.Common.{◌≡◌, ◌≢◌, ℕ, ◌<◌, ◌≤◌, Bool, true, false, cond, [], ◌∷◌, ◌++◌, Some, None, refl, ap, ◌∙◌, arith}
-use Rattle.std.proofs.lemmas.List.{length-set}
-use Rattle.std.specs.declared.ops.Range.{Range}
-use Rattle.parallel_shares.specs.declared.machine.event.Event.{Event}
-use Rattle.parallel_shares.specs.declared.machine.event.Event.TheVariants.{Load, Claim, Steal, Refill}
-use Rattle.parallel_shares.specs.declared.machine.event.Outcome.{Outcome}
-use Rattle.parallel_shares.specs.declared.machine.event.Outcome.TheVariants.{Loaded, Empty, Lost, Claimed, Nothing, Taken, Refilled, Refused}
-use Rattle.parallel_shares.specs.declared.machine.state.SeatRow.{SeatRow}
-use Rattle.parallel_shares.specs.declared.machine.state.Remembered.{Remembered}
-use Rattle.parallel_shares.specs.Words.{start_of, end_of, packed, IsWithin}
-use Rattle.parallel_shares.specs.Sizes.{Sizes, shares_of, share_of}
-use Rattle.parallel_shares.specs.Machine.{Machine, fresh, row_at, with_word, with_seat_row, remembers, forgets, gains, carries, IsSeatRowOf, IsStateOf}
-use Rattle.parallel_shares.specs.Answers.{CanSteal, claim_stop, middle_of, LoadAnswers, ClaimAnswers, StealAnswers, RefillAnswers, Answers}
+use Rattle.parallel_shares.proofs.Common.{◌≡◌, ◌≢◌, ℕ, ◌<◌, ◌≤◌, Bool, true, false, cond, [], ◌∷◌, ◌++◌, Some, None, refl, ap, ◌∙◌, arith, length-set, Range, Event, Load, Claim, Steal, Refill}
+use Rattle.parallel_shares.proofs.Common.{Outcome, Loaded, Empty, Lost, Claimed, Nothing, Taken, Refilled, Refused, SeatRow, Remembered, start_of, end_of, packed, IsWithin, Sizes, shares_of, share_of}
+use Rattle.parallel_shares.proofs.Common.{Machine, fresh, row_at, with_word, with_seat_row, remembers, forgets, gains, carries, IsSeatRowOf, IsStateOf, CanSteal, claim_stop, middle_of, LoadAnswers}
+use Rattle.parallel_shares.proofs.Common.{ClaimAnswers, StealAnswers, RefillAnswers, Answers}
 use Rattle.parallel_shares.proofs.Words.{within_packed}
 use Rattle.parallel_shares.proofs.ListWrites.{each_set}
 

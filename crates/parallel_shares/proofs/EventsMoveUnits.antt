@@ -1,18 +1,9 @@
 -- Every event leads from holders that the machine showed to holders that it shows.
-use Rattle.std.proofs.Common.{◌≡◌, ℕ, ◌+◌, ◌<◌, ◌≤◌, inl, inr, Bool, true, false, cond, [], ◌∷◌, length, Some, None, refl, sym, ap, ◌∙◌, arith}
-use Rattle.std.proofs.lemmas.Bool.{cases_eq}
-use Rattle.std.proofs.lemmas.List.{length-set}
-use Rattle.std.specs.declared.ops.Range.{Range}
-use Rattle.parallel_shares.specs.declared.machine.event.Event.{Event}
-use Rattle.parallel_shares.specs.declared.machine.event.Event.TheVariants.{Load, Claim, Steal, Refill}
-use Rattle.parallel_shares.specs.declared.machine.event.Outcome.{Outcome}
-use Rattle.parallel_shares.specs.declared.machine.event.Outcome.TheVariants.{Loaded, Empty, Lost, Claimed, Nothing, Taken, Refilled, Refused}
-use Rattle.parallel_shares.specs.declared.machine.state.Remembered.{Remembered}
-use Rattle.parallel_shares.specs.Words.{start_of, end_of, packed, IsEmptyWord}
-use Rattle.parallel_shares.specs.Sizes.{Sizes, shares_of, share_of}
-use Rattle.parallel_shares.specs.Machine.{Machine, word_at, row_at, with_word, remembers, forgets, gains, carries, IsStateOf}
-use Rattle.parallel_shares.specs.Answers.{CanClaim, CanSteal, CanRefill, claim_stop, claim_cells, middle_of, Pays, LoadAnswers, ClaimAnswers, StealAnswers, RefillAnswers, Answers}
-use Rattle.parallel_shares.specs.Holders.{pending, carried, claimed, Holders, Claims, Steals, Refills, claim, steal, refill, inside, in_word, in_transit, in_ranges, same, Shows, StepsByMoves}
+use Rattle.parallel_shares.proofs.Common.{◌≡◌, ℕ, ◌+◌, ◌<◌, ◌≤◌, inl, inr, Bool, true, false, cond, [], ◌∷◌, length, Some, None, refl, sym, ap, ◌∙◌, arith, cases_eq, length-set, Range, Event, Load}
+use Rattle.parallel_shares.proofs.Common.{Claim, Steal, Refill, Outcome, Loaded, Empty, Lost, Claimed, Nothing, Taken, Refilled, Refused, Remembered, start_of, end_of, packed, IsEmptyWord, Sizes}
+use Rattle.parallel_shares.proofs.Common.{shares_of, share_of, Machine, word_at, row_at, with_word, remembers, forgets, gains, carries, IsStateOf, CanClaim, CanSteal, CanRefill, claim_stop}
+use Rattle.parallel_shares.proofs.Common.{claim_cells, middle_of, Pays, LoadAnswers, ClaimAnswers, StealAnswers, RefillAnswers, Answers, pending, carried, claimed, Holders, Claims, Steals, Refills}
+use Rattle.parallel_shares.proofs.Common.{claim, steal, refill, inside, in_word, in_transit, in_ranges, same, Shows, StepsByMoves}
 use Rattle.parallel_shares.proofs.Words.{start_of_packed, end_of_packed}
 use Rattle.parallel_shares.proofs.Counts.{side, within, before, after, inside_within, inside_cut, inside_nothing, inside_cells, inside_no_cells}
 use Rattle.parallel_shares.proofs.ListWrites.{in_ranges_push}

@@ -1,10 +1,6 @@
 -- Fills and finishes along a cutting that is on its way.
-use Rattle.std.proofs.Common.{◌≡◌, ℕ, ◌<◌, List, [], ◌∷◌, ◌++◌, Option, Some, None, refl, sym, subst, ◌∙◌, append-nil, arith}
-use Rattle.std.specs.declared.ops.Range.{Range}
-use Rattle.parallel_shares.specs.declared.shares.stretch.Stretch.{Stretch}
-use Rattle.parallel_shares.specs.declared.shares.stretch.Piece.{Piece}
-use Rattle.parallel_shares.specs.Stretches.{CutsCells, stretch_of, stretches_of, IsPiece, piece_cells, Grown}
-use Rattle.parallel_shares.specs.Fillings.{no_fill, last_fill, Finishes, Finished, FilledOpen, Closes, Underway}
+use Rattle.parallel_shares.proofs.Common.{◌≡◌, ℕ, ◌<◌, List, [], ◌∷◌, ◌++◌, Option, Some, None, refl, sym, subst, ◌∙◌, append-nil, arith, Range, Stretch, Piece, CutsCells, stretch_of, stretches_of}
+use Rattle.parallel_shares.proofs.Common.{IsPiece, piece_cells, Grown, no_fill, last_fill, Finishes, Finished, FilledOpen, Closes, Underway}
 use Rattle.parallel_shares.proofs.Stretching.{parted_grows, parted_anew, parted_ends}
 
 module _ {T R : Type 0} (fill : T → ℕ → Range ℕ → T → Type 0)

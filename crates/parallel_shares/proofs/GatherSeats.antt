@@ -1,15 +1,7 @@
 -- One seat that takes in the others, one after another.
-use Rattle.std.proofs.Common.{◌≡◌, ℕ, ◌+◌, ◌<◌, List, [], ◌∷◌, ◌++◌, length, get_or, set, inl, inr, refl, sym, ap, subst, ◌∙◌, arith}
-use Rattle.std.proofs.lemmas.Bool.{cases_eq}
-use Rattle.std.proofs.lemmas.List.{length_push, get_or_append_left, get_or_push, length-set, get_or-set_same, get_or-set_other}
-use Rattle.parallel_shares.specs.declared.shares.rule.View.{View}
-use Rattle.parallel_shares.specs.declared.shares.seat.Seat.{Seat}
-use Rattle.parallel_shares.specs.declared.shares.Shares.{Shares}
-use Rattle.parallel_shares.specs.Holders.{in_ranges, same_number}
-use Rattle.parallel_shares.specs.Totals.{total, times}
-use Rattle.parallel_shares.specs.Sharing.{gathered}
-use Rattle.parallel_shares.specs.Seats.{known, index_of, IsSeatOf, AreSeatsOf}
-use Rattle.parallel_shares.specs.Gathered.{HasAll}
+use Rattle.parallel_shares.proofs.Common.{◌≡◌, ℕ, ◌+◌, ◌<◌, List, [], ◌∷◌, ◌++◌, length, get_or, set, inl, inr, refl, sym, ap, subst, ◌∙◌, arith, cases_eq, length_push, get_or_append_left}
+use Rattle.parallel_shares.proofs.Common.{get_or_push, length-set, get_or-set_same, get_or-set_other, View, Seat, Shares, in_ranges, same_number, total, times, gathered, known, index_of, IsSeatOf}
+use Rattle.parallel_shares.proofs.Common.{AreSeatsOf, HasAll}
 use Rattle.parallel_shares.proofs.Totals.{total_append, in_ranges_append}
 
 -- a view and some seats have together what all seats had

@@ -1,3 +1,4 @@
+mod Common
 pub mod Cuts
 pub mod CutSteps
 pub mod ChooseGrid
@@ -23,3 +24,22 @@ pub mod LoadCounts
 pub mod Victims
 pub mod Stretching
 pub mod FillsUnderway
+pub use Common.*
+pub use ChooseGrid.*
+pub use Closings.*
+pub use CutSteps.*
+pub use DealSeats.*
+pub use DealingKeepsSharing.*
+pub use EventsKeepState.*
+pub use EventsMoveUnits.*
+pub use FillsUnderway.*
+pub use GatherSeats.*
+pub use LoadCounts.*
+pub use OpeningCuts.*
+pub use Openings.*
+pub use ReplaysReach.*
+pub use ShareOfSeat.*
+pub use SoundSizes.*
+pub use StepsKeepSharing.*
+pub use Stretching.*
+pub use Victims.*

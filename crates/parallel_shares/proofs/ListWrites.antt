@@ -1,9 +1,5 @@
 -- What a write to a list changes, and what it leaves, at any default.
-use Rattle.std.proofs.Common.{◌≡◌, ℕ, zero, suc, ◌+◌, ◌<◌, ◌≢◌, List, [], ◌∷◌, ◌++◌, length, get_or, set, refl, ap, arith, inl, inr}
-use Rattle.std.proofs.lemmas.Bool.{cases_lt}
-use Rattle.std.proofs.lemmas.List.{get_or_past}
-use Rattle.std.specs.declared.ops.Range.{Range}
-use Rattle.parallel_shares.specs.Holders.{in_range, in_ranges}
+use Rattle.parallel_shares.proofs.Common.{◌≡◌, ℕ, zero, suc, ◌+◌, ◌<◌, ◌≢◌, List, [], ◌∷◌, ◌++◌, length, get_or, set, refl, ap, arith, inl, inr, cases_lt, get_or_past, Range, in_range, in_ranges}
 
 -- what holds of each element, and of the one that is written, holds of each element afterwards
 pub each_set : {A : Type 0} (P : A → Type 0) (xs : List A) (i : ℕ) (x d : A)

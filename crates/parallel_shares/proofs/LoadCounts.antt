@@ -1,12 +1,6 @@
 -- How often shares were loaded: never less often, whatever the seat tries.
-use Rattle.std.proofs.Common.{◌≡◌, ◌+◌, ◌<◌, ◌≤◌, inl, inr, ap, arith}
-use Rattle.std.proofs.lemmas.Bool.{cases_eq, cases_lt}
-use Rattle.parallel_shares.specs.declared.shares.Shares.{Shares}
-use Rattle.parallel_shares.specs.declared.shares.seat.Seat.{Seat}
-use Rattle.parallel_shares.specs.Sizes.{shares_of, share_of}
-use Rattle.parallel_shares.specs.Sharing.{loads_at}
-use Rattle.parallel_shares.specs.Seats.{plan_of, known, index_of, own_share, own_loads, OthersStay, LoadsGrow}
-use Rattle.parallel_shares.specs.Steals.{LoadsOthers, FoundNothing}
+use Rattle.parallel_shares.proofs.Common.{◌≡◌, ◌+◌, ◌<◌, ◌≤◌, inl, inr, ap, arith, cases_eq, cases_lt, Shares, Seat, shares_of, share_of, loads_at, plan_of, known, index_of, own_share, own_loads}
+use Rattle.parallel_shares.proofs.Common.{OthersStay, LoadsGrow, LoadsOthers, FoundNothing}
 
 pub grows_from : (a b c : Seat) → LoadsGrow a b → LoadsGrow b c → LoadsGrow a c
 grows_from a b c first then share = omega (arith, first share, then share)

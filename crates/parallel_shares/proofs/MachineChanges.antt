@@ -1,10 +1,6 @@
 -- What stands at each share and seat after each change of a machine.
-use Rattle.std.proofs.Common.{◌≡◌, ◌≢◌, ℕ, ◌<◌, ◌++◌, [], ◌∷◌, length, Option, Some, None, refl, sym, ap, ◌∙◌}
-use Rattle.std.proofs.lemmas.List.{get_or-set_same, get_or-set_other}
-use Rattle.std.specs.declared.ops.Range.{Range}
-use Rattle.parallel_shares.specs.declared.machine.state.SeatRow.{SeatRow}
-use Rattle.parallel_shares.specs.declared.machine.state.Remembered.{Remembered}
-use Rattle.parallel_shares.specs.Machine.{Machine, fresh, word_at, row_at, with_word, remembers, forgets, gains, carries}
+use Rattle.parallel_shares.proofs.Common.{◌≡◌, ◌≢◌, ℕ, ◌<◌, ◌++◌, [], ◌∷◌, length, Option, Some, None, refl, sym, ap, ◌∙◌, get_or-set_same, get_or-set_other, Range, SeatRow, Remembered, Machine}
+use Rattle.parallel_shares.proofs.Common.{fresh, word_at, row_at, with_word, remembers, forgets, gains, carries}
 use Rattle.parallel_shares.proofs.ListWrites.{set_same, stands}
 
 pub word_there : (machine : Machine) (share word : ℕ) → share < length machine.words

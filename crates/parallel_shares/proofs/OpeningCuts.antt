@@ -1,12 +1,7 @@
 -- The opening words are a balanced cut of the units.
-use Rattle.std.proofs.Common.{◌≡◌, ℕ, zero, suc, ◌+◌, ◌<◌, ◌≤◌, List, [], ◌∷◌, ◌++◌, map, length, get_or, refl, sym, ap, ◌∙◌, subst, arith}
-use Rattle.std.proofs.lemmas.Bool.Decides.{nat_tests}
-use Rattle.std.proofs.lemmas.List.{map-append, length-map}
-use Rattle.std.specs.declared.ops.Range.{Range}
-use Rattle.parallel_shares.specs.Cut.{range_length, CutsFrom, IsEven, BalancedCut}
-use Rattle.parallel_shares.specs.Words.{start_of, end_of, range_of, packed}
-use Rattle.parallel_shares.specs.Sizes.{Sizes, shares_of, opening_size, opening_start, IsSound}
-use Rattle.parallel_shares.specs.Machine.{opening_words, opening}
+use Rattle.parallel_shares.proofs.Common.{◌≡◌, ℕ, zero, suc, ◌+◌, ◌<◌, ◌≤◌, List, [], ◌∷◌, ◌++◌, map, length, get_or, refl, sym, ap, ◌∙◌, subst, arith, nat_tests, map-append, length-map, Range}
+use Rattle.parallel_shares.proofs.Common.{range_length, CutsFrom, IsEven, BalancedCut, start_of, end_of, range_of, packed, Sizes, shares_of, opening_size, opening_start, IsSound, opening_words}
+use Rattle.parallel_shares.proofs.Common.{opening}
 use Rattle.parallel_shares.proofs.Words.{start_of_packed, end_of_packed}
 use Rattle.parallel_shares.proofs.Openings.{in_order, at_end, within_units, length_opening, opening_word}
 

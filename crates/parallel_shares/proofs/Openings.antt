@@ -1,13 +1,8 @@
 -- The opening shares: balanced ranges that cover the units, in order and with no gap.
-use Rattle.std.proofs.Common.{◌≡◌, ℕ, zero, suc, ◌+◌, ◌*◌, ◌/◌, ◌%◌, ◌<◌, ◌≤◌, ◌⊎◌, inl, inr, min, cond, ltb, eqb, [], ◌∷◌, length, get_or, replicate, refl, ap, ◌∙◌, arith}
-use Rattle.std.proofs.lemmas.Bool.{cases_lt, cases_order, cond_both, eq-eqb, ne_eqb}
-use Rattle.std.proofs.lemmas.Bool.Decides.{nat_tests}
-use Rattle.std.proofs.lemmas.Nat.{mul-le, mod_below}
-use Rattle.std.proofs.lemmas.List.{length_push, get_or_append_left, get_or_push, get_or_past, length-replicate, get_or-replicate}
-use Rattle.parallel_shares.specs.Words.{packed, IsWithin}
-use Rattle.parallel_shares.specs.Sizes.{Sizes, shares_of, opening_start, IsSound}
-use Rattle.parallel_shares.specs.Machine.{fresh, word_at, opening_words, opening, IsStateOf}
-use Rattle.parallel_shares.specs.Holders.{pending, Holders, inside, in_word, same, IsOpening, Shows}
+use Rattle.parallel_shares.proofs.Common.{◌≡◌, ℕ, zero, suc, ◌+◌, ◌*◌, ◌/◌, ◌%◌, ◌<◌, ◌≤◌, ◌⊎◌, inl, inr, min, cond, ltb, eqb, [], ◌∷◌, length, get_or, replicate, refl, ap, ◌∙◌, arith, cases_lt}
+use Rattle.parallel_shares.proofs.Common.{cases_order, cond_both, eq-eqb, ne_eqb, nat_tests, mul-le, mod_below, length_push, get_or_append_left, get_or_push, get_or_past, length-replicate}
+use Rattle.parallel_shares.proofs.Common.{get_or-replicate, packed, IsWithin, Sizes, shares_of, opening_start, IsSound, fresh, word_at, opening_words, opening, IsStateOf, pending, Holders, inside}
+use Rattle.parallel_shares.proofs.Common.{in_word, same, IsOpening, Shows}
 use Rattle.parallel_shares.proofs.Words.{start_of_packed, end_of_packed, within_packed}
 use Rattle.parallel_shares.proofs.Counts.{inside_within, inside_before, inside_after, inside_nothing}
 

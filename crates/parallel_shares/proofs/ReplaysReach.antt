@@ -1,12 +1,7 @@
 -- What a replay shows is reached by a run of moves from the opening.
-use Rattle.std.proofs.Common.{◌≡◌, suc, List, [], ◌∷◌, ◌++◌, length, Result, Ok, Err, IfOk, OnErr, refl, sym, ap, subst}
+use Rattle.parallel_shares.proofs.Common.{◌≡◌, suc, List, [], ◌∷◌, ◌++◌, length, Result, Ok, Err, IfOk, OnErr, refl, sym, ap, subst, Event, Outcome, Sizes, IsSound, Machine, opening, IsStateOf}
+use Rattle.parallel_shares.proofs.Common.{Answers, Replays, Holders, Move, Leads, StepsByMoves, Reached}
 use Rattle.parallel_fault.specs.declared.fault.Fault.{Fault}
-use Rattle.parallel_shares.specs.declared.machine.event.Event.{Event}
-use Rattle.parallel_shares.specs.declared.machine.event.Outcome.{Outcome}
-use Rattle.parallel_shares.specs.Sizes.{Sizes, IsSound}
-use Rattle.parallel_shares.specs.Machine.{Machine, opening, IsStateOf}
-use Rattle.parallel_shares.specs.Answers.{Answers, Replays}
-use Rattle.parallel_shares.specs.Holders.{Holders, Move, Leads, StepsByMoves, Reached}
 use Rattle.parallel_shares.proofs.EventsKeepState.{answers_keep}
 use Rattle.parallel_shares.proofs.EventsMoveUnits.{answers_move}
 use Rattle.parallel_shares.proofs.Openings.{first, first_is_opening, opening_shows}

@@ -1,6 +1,5 @@
 -- Facts of shares and seats over plain values.
-use Rattle.std.proofs.Common.{ℕ, ◌<◌, Bool, true, false, cond, arith}
-use Rattle.parallel_shares.specs.Sizes.{Sizes, shares_of, share_of}
+use Rattle.parallel_shares.proofs.Common.{ℕ, ◌<◌, Bool, true, false, cond, arith, Sizes, shares_of, share_of}
 
 below_flag : (whole : Bool) (workers index : ℕ) → index < workers
     → cond whole 0 index < cond whole 1 workers

@@ -1,10 +1,7 @@
 -- The numbers of a plan are sound: few units cover the cells, and each worker has a claim.
-use Rattle.std.proofs.Common.{◌≢◌, ℕ, suc, ◌+◌, ◌*◌, ◌/◌, ◌^◌, ◌<◌, ◌≤◌, inl, inr, min, IsFalse, refl, Bool, true, false, arith}
+use Rattle.parallel_shares.proofs.Common.{◌≢◌, ℕ, suc, ◌+◌, ◌*◌, ◌/◌, ◌^◌, ◌<◌, ◌≤◌, inl, inr, min, IsFalse, refl, Bool, true, false, arith, mul-le, le-div, div_ceil_times, cases_lt, Work, sizes_of}
+use Rattle.parallel_shares.proofs.Common.{IsSound}
 use Rattle.std.specs.Int.{div_ceil}
-use Rattle.std.proofs.lemmas.Nat.{mul-le, le-div}
-use Rattle.std.proofs.lemmas.Grind.{div_ceil_times}
-use Rattle.std.proofs.lemmas.Bool.{cases_lt}
-use Rattle.parallel_shares.specs.Sizes.{Work, sizes_of, IsSound}
 
 -- units of a size cover the cells, and do so barely
 module _ (cells unit : ℕ) (some_unit : 0 < unit) where

@@ -1,22 +1,10 @@
 -- Each step of a seat keeps what words and seats keep together, whatever the table is by then.
-use Rattle.std.proofs.Common.{◌≡◌, ℕ, false, cond, ◌+◌, ◌-◌, ◌/◌, ◌<◌, ◌≤◌, ◌==◌, ◌⊎◌, inl, inr, List, [], ◌∷◌, ◌++◌, length, get_or, set, refl, sym, ap, subst, ◌∙◌, arith}
-use Rattle.std.proofs.lemmas.Bool.{cases_eq, eq-eqb, ne_eqb}
-use Rattle.std.proofs.lemmas.List.{length-set, get_or-set_other}
-use Rattle.std.proofs.lemmas.Nat.{mul-le}
-use Rattle.std.specs.declared.ops.Range.{Range}
-use mathlib.Core.Option.{some, none}
+use Rattle.parallel_shares.proofs.Common.{◌≡◌, ℕ, false, cond, ◌+◌, ◌-◌, ◌/◌, ◌<◌, ◌≤◌, ◌==◌, ◌⊎◌, inl, inr, List, [], ◌∷◌, ◌++◌, length, get_or, set, refl, sym, ap, subst, ◌∙◌, arith, cases_eq}
+use Rattle.parallel_shares.proofs.Common.{eq-eqb, ne_eqb, length-set, get_or-set_other, mul-le, Range, some, none, get_elem?, State, Me, step, Act, keeps, Valid, stepped, carried_after, Allows}
+use Rattle.parallel_shares.proofs.Common.{at_set, exchanged, View, start_of, end_of, packed, IsEmptyWord, IsWithin, Sizes, shares_of, share_of, IsSound, claim_stop, claim_cells, middle_of, Pays}
+use Rattle.parallel_shares.proofs.Common.{inside, in_word, in_range, in_ranges, total, times, SomeSplitPays, in_view, Empties, Idle, IsSharingOf, looked_own, took_front, missed, looked, took_back}
+use Rattle.parallel_shares.proofs.Common.{back_half, put_down, LooksOwn, TakesFront, LooksAt, TakesBack, PutsDown, Exchanges}
 use prog.Atomic.{either}
-use lib.ListN.{get_elem?}
-use Rattle.atomic_table.specs.Table.{State, Me, step, Act, keeps, Valid, stepped, carried_after, Allows}
-use Rattle.atomic_table.proofs.Lists.{at_set, exchanged}
-use Rattle.parallel_shares.specs.declared.shares.rule.View.{View}
-use Rattle.parallel_shares.specs.Words.{start_of, end_of, packed, IsEmptyWord, IsWithin}
-use Rattle.parallel_shares.specs.Sizes.{Sizes, shares_of, share_of, IsSound}
-use Rattle.parallel_shares.specs.Answers.{claim_stop, claim_cells, middle_of, Pays}
-use Rattle.parallel_shares.specs.Holders.{inside, in_word, in_range, in_ranges}
-use Rattle.parallel_shares.specs.Totals.{total, times}
-use Rattle.parallel_shares.specs.Sharing.{SomeSplitPays, in_view, Empties, Idle, IsSharingOf, looked_own, took_front, missed, looked, took_back, back_half}
-use Rattle.parallel_shares.specs.Sharing.{put_down, LooksOwn, TakesFront, LooksAt, TakesBack, PutsDown, Exchanges}
 use Rattle.parallel_shares.proofs.Words.{start_of_packed, end_of_packed, within_packed}
 use Rattle.parallel_shares.proofs.Counts.{inside_below, inside_nothing, inside_cells, inside_no_cells}
 use Rattle.parallel_shares.proofs.ListWrites.{each_set, in_ranges_push}

@@ -1,10 +1,7 @@
 -- Claims that are cut at the ends of rows, piece by piece.
-use Rattle.std.proofs.Common.{◌≡◌, ℕ, zero, suc, ◌+◌, ◌-◌, ◌*◌, ◌≤◌, List, [], ◌∷◌, ◌++◌, Option, Some, None, refl, sym, ap, subst, ◌∙◌, append-nil, append_assoc, arith}
-use Rattle.std.specs.List.{range_with_len}
-use Rattle.std.specs.declared.ops.Range.{Range}
-use Rattle.parallel_shares.specs.declared.shares.stretch.Stretch.{Stretch}
-use Rattle.parallel_shares.specs.declared.shares.stretch.Piece.{Piece}
-use Rattle.parallel_shares.specs.Stretches.{range_cells, all_cells, stretch_cells, cut_cells, IsStretch, StartsAnew, AreApart, CutsCells, stretch_of, stretches_of, IsPiece, piece_cells, Parted, Grown}
+use Rattle.parallel_shares.proofs.Common.{◌≡◌, ℕ, zero, suc, ◌+◌, ◌-◌, ◌*◌, ◌≤◌, List, [], ◌∷◌, ◌++◌, Option, Some, None, refl, sym, ap, subst, ◌∙◌, append-nil, append_assoc, arith, range_with_len}
+use Rattle.parallel_shares.proofs.Common.{Range, Stretch, Piece, range_cells, all_cells, stretch_cells, cut_cells, IsStretch, StartsAnew, AreApart, CutsCells, stretch_of, stretches_of, IsPiece}
+use Rattle.parallel_shares.proofs.Common.{piece_cells, Parted, Grown}
 
 -- ---- cells
 

@@ -1,13 +1,6 @@
 -- Counts that are added up over a list, when the list changes.
-use Rattle.std.proofs.Common.{◌≡◌, ℕ, zero, suc, ◌+◌, ◌<◌, ◌≤◌, List, [], ◌∷◌, ◌++◌, length, get_or, set, take, drop, refl, sym, ap, inl, inr, arith}
-use Rattle.std.specs.List.{range_with_len}
-use Rattle.std.proofs.lemmas.Bool.{cases_eq, eq-eqb, ne_eqb}
-use Rattle.std.proofs.lemmas.Bool.Decides.{nat_tests}
-use mathlib.Core.Option.{some, some-injective, some-ne-none}
-use lib.ListN.{get_elem?}
-use Rattle.std.specs.declared.ops.Range.{Range}
-use Rattle.parallel_shares.specs.Holders.{inside, in_ranges, same_number}
-use Rattle.parallel_shares.specs.Totals.{total, times}
+use Rattle.parallel_shares.proofs.Common.{◌≡◌, ℕ, zero, suc, ◌+◌, ◌<◌, ◌≤◌, List, [], ◌∷◌, ◌++◌, length, get_or, set, take, drop, refl, sym, ap, inl, inr, arith, range_with_len, cases_eq, eq-eqb}
+use Rattle.parallel_shares.proofs.Common.{ne_eqb, nat_tests, some, some-injective, some-ne-none, get_elem?, Range, inside, in_ranges, same_number, total, times}
 
 module _ {A : Type 0} (f : A → ℕ) where
   pub total_append : (xs ys : List A) → total f (xs ++ ys) ≡ total f xs + total f ys

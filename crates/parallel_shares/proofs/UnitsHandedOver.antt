@@ -1,10 +1,6 @@
 -- What a machine shows after units went from one holder to another.
-use Rattle.std.proofs.Common.{◌≡◌, ◌≢◌, ℕ, zero, suc, ◌+◌, ◌/◌, ◌<◌, ◌≤◌, inl, inr, refl, sym, ap, ◌∙◌, arith}
-use Rattle.std.proofs.lemmas.Bool.{eq-eqb, ne_eqb, cases_eq}
-use Rattle.std.proofs.lemmas.Nat.{div_below}
-use Rattle.parallel_shares.specs.Sizes.{Sizes, IsSound}
-use Rattle.parallel_shares.specs.Machine.{Machine, word_at, row_at}
-use Rattle.parallel_shares.specs.Holders.{Holder, pending, carried, claimed, Holders, Hands, inside, in_word, in_transit, in_ranges, same_number, same, Shows}
+use Rattle.parallel_shares.proofs.Common.{◌≡◌, ◌≢◌, ℕ, zero, suc, ◌+◌, ◌/◌, ◌<◌, ◌≤◌, inl, inr, refl, sym, ap, ◌∙◌, arith, eq-eqb, ne_eqb, cases_eq, div_below, Sizes, IsSound, Machine, word_at}
+use Rattle.parallel_shares.proofs.Common.{row_at, Holder, pending, carried, claimed, Holders, Hands, inside, in_word, in_transit, in_ranges, same_number, same, Shows}
 use Rattle.parallel_shares.proofs.Counts.{inside_within, inside_before, inside_after, inside_below}
 
 -- ---- holders that are the same

@@ -1,14 +1,7 @@
 -- A look round: one share after another is loaded, and the best of them is kept.
-use Rattle.std.proofs.Common.{◌≡◌, ◌≢◌, ℕ, ◌+◌, ◌<◌, ◌≤◌, ◌⊎◌, inl, inr, length, get_or, Option, Some, None, sym, ap, subst, ◌∙◌, arith}
-use Rattle.std.proofs.lemmas.Bool.{cases_eq}
-use Rattle.std.proofs.lemmas.List.{length-set, get_or-set_same, get_or-set_other}
-use Rattle.parallel_shares.specs.declared.shares.rule.View.{View}
+use Rattle.parallel_shares.proofs.Common.{◌≡◌, ◌≢◌, ℕ, ◌+◌, ◌<◌, ◌≤◌, ◌⊎◌, inl, inr, length, get_or, Option, Some, None, sym, ap, subst, ◌∙◌, arith, cases_eq, length-set, get_or-set_same}
+use Rattle.parallel_shares.proofs.Common.{get_or-set_other, View, IsWithin, Sizes, cells_in, Pays, SomeSplitPays, loaded_at, loads_at, looked, LooksRound, IsBest, IsBetter, IsNoBetter, OnlyLooks}
 use Rattle.parallel_shares.specs.declared.shares.steal.Victim.{Victim}
-use Rattle.parallel_shares.specs.Words.{IsWithin}
-use Rattle.parallel_shares.specs.Sizes.{Sizes}
-use Rattle.parallel_shares.specs.Answers.{cells_in, Pays}
-use Rattle.parallel_shares.specs.Sharing.{SomeSplitPays, loaded_at, loads_at, looked}
-use Rattle.parallel_shares.specs.Steals.{LooksRound, IsBest, IsBetter, IsNoBetter, OnlyLooks}
 
 -- a number below the next one is this one or below it
 below_next : (k n : ℕ) → k < n + 1 → (k ≡ n) ⊎ (k < n)

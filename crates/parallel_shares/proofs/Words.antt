@@ -1,7 +1,5 @@
 -- The two ends of a packed word.
-use Rattle.std.proofs.Common.{◌≡◌, ℕ, ◌≤◌, arith}
-use Rattle.std.proofs.lemmas.Nat.{div-mul-add, mod-mul-add}
-use Rattle.parallel_shares.specs.Words.{start_of, end_of, packed, IsWithin}
+use Rattle.parallel_shares.proofs.Common.{◌≡◌, ℕ, ◌≤◌, arith, div-mul-add, mod-mul-add, start_of, end_of, packed, IsWithin}
 
 pub start_of_packed : (start end : ℕ) → end ≤ 65535 → start_of (packed start end) ≡ start
 start_of_packed start end h = div-mul-add start 65536 end (omega arith)

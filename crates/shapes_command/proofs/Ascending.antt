@@ -1,14 +1,7 @@
 -- Numbers that ascend, each as often as in a range, are that range.
-use Rattle.std.proofs.Common.{◌≡◌, ℕ, zero, suc, ◌+◌, ◌<◌, ◌≤◌, inl, inr, List, [], ◌∷◌, length, get_or, refl, sym, ap, ◌∙◌, arith}
-use Rattle.std.specs.List.{range_with_len, sum_by}
-use Rattle.std.specs.List.Sorted.{IsPermutation, IsNonDecreasing}
-use Rattle.std.proofs.lemmas.Bool.{cases_lt, ne_eqb}
-use Rattle.std.proofs.lemmas.List.Sums.{sum_by-cons}
-use Rattle.std.proofs.lemmas.List.Sorted.{sum_by-IsPermutation}
-use Rattle.parallel_shares.specs.Holders.{inside, same_number}
-use Rattle.parallel_shares.specs.Totals.{total, times}
-use Rattle.parallel_shares.proofs.Counts.{inside_within, inside_nothing, side, within, before, after}
-use Rattle.parallel_shares.proofs.Totals.{total_zero, no_numbers, one_more, same_once}
+use Rattle.shapes_command.proofs.Common.{◌≡◌, ℕ, zero, suc, ◌+◌, ◌<◌, ◌≤◌, inl, inr, List, [], ◌∷◌, length, get_or, refl, sym, ap, ◌∙◌, arith, range_with_len, sum_by, IsPermutation, IsNonDecreasing}
+use Rattle.shapes_command.proofs.Common.{cases_lt, ne_eqb, sum_by-cons, sum_by-IsPermutation, inside, same_number, total, times, inside_within, inside_nothing, side, within, before, after, total_zero}
+use Rattle.shapes_command.proofs.Common.{no_numbers, one_more, same_once}
 
 total_is_sum : {A : Type 0} (f : A → ℕ) (xs : List A) → total f xs ≡ sum_by f xs
 total_is_sum f [] = refl

@@ -1,19 +1,12 @@
 -- What is known of the seats and lists that come back.
-use Rattle.std.proofs.Common.{◌≡◌, ℕ, zero, suc, ◌+◌, ◌-◌, ◌<◌, inl, inr, List, [], ◌∷◌, ◌++◌, map, length, get_or, true, None, Ok, Result, refl, sym, ap, ◌∙◌, arith}
-use Rattle.std.specs.List.{range_with_len}
-use Rattle.std.specs.List.Sorted.{IsPermutation, IsNonDecreasing}
-use Rattle.std.proofs.lemmas.Bool.{cases_lt}
+use Rattle.shapes_command.proofs.Common.{◌≡◌, ℕ, zero, suc, ◌+◌, ◌-◌, ◌<◌, inl, inr, List, [], ◌∷◌, ◌++◌, map, length, get_or, true, None, Ok, Result, refl, sym, ap, ◌∙◌, arith, range_with_len}
+use Rattle.shapes_command.proofs.Common.{IsPermutation, IsNonDecreasing, cases_lt, length-map, map-append, inside, in_ranges, same_number, total, times, plan_of, index_of, claims_of, AreSeatsOf}
+use Rattle.shapes_command.proofs.Common.{AllDone, EachCellOnce, IsSeatOf, has_emptied, transit_of, inside_within, inside_after, total_append, times_range, in_ranges_append, seat_of, listed}
+use Rattle.shapes_command.proofs.Common.{HasEachOnce, AreDrained}
 use Rattle.std.proofs.lemmas.Bool.Decides.{nat_tests}
-use Rattle.std.proofs.lemmas.List.{length-map, map-append}
 use Rattle.std.specs.declared.ops.Range.{Range}
 use Rattle.parallel_shares.specs.declared.shares.Shares.{Shares}
-use Rattle.parallel_shares.specs.Holders.{inside, in_ranges, same_number}
-use Rattle.parallel_shares.specs.Totals.{total, times}
-use Rattle.parallel_shares.specs.Seats.{plan_of, index_of, claims_of, AreSeatsOf, AllDone, EachCellOnce, IsSeatOf, has_emptied, transit_of}
-use Rattle.parallel_shares.proofs.Counts.{inside_within, inside_after}
-use Rattle.parallel_shares.proofs.Totals.{total_append, times_range, in_ranges_append}
 use Rattle.shapes_command.specs.declared.drain.Drained.{Drained}
-use Rattle.shapes_command.specs.Drain.{seat_of, listed, HasEachOnce, AreDrained}
 use Rattle.shapes_command.proofs.Ascending.{ascending, times_permuted}
 
 -- ---- lists that are mapped

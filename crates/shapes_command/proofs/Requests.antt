@@ -1,9 +1,8 @@
 -- A request that words say is in its ranges.
-use Rattle.std.proofs.Common.{◌≡◌, ◌≤◌, ◌⊎◌, ℕ, List, String, Global, Option, None, Some, MatchOption, inl, inr, sym, subst}
+use Rattle.shapes_command.proofs.Common.{◌≡◌, ◌≤◌, ◌⊎◌, ℕ, List, String, Global, Option, None, Some, MatchOption, inl, inr, sym, subst, Says, AreItems, IsInRange}
 use Rattle.std.specs.Option.{option_or}
 use Rattle.shapes_command.specs.declared.request.Request.{Request}
 use Rattle.shapes_command.specs.declared.request.Request.TheVariants.{Drain, Batches, Grid, Segments, Fold, FoldParallel, Threads, Mix, ExploreSum, Root}
-use Rattle.shapes_command.specs.Request.{Says, AreItems, IsInRange}
 
 pub in_range : (words : List (String Global)) (request : Request) → Says words request
     → IsInRange request

@@ -1,9 +1,6 @@
 -- A root by a relation is one by any that it implies; and the leaves, one more at a time.
-use Rattle.std.proofs.Common.{◌≡◌, ◌+◌, ◌<◌, ◌∙◌, ℕ, List, [], ◌∷◌, ◌++◌, length, map, take, slice_index_or, Option, String, Global, ap, sym, subst}
-use Rattle.std.proofs.lemmas.List.{map-append, take_more}
-use Rattle.std.proofs.lemmas.List.Elements.{All-get_or}
-use Rattle.commonware_parallel.specs.Merkle.{MerkleRoot, NextLevel, of_level, of_none, of_one}
-use Rattle.shapes_command.specs.Request.{AreItems, IsItem, number_of}
+use Rattle.shapes_command.proofs.Common.{◌≡◌, ◌+◌, ◌<◌, ◌∙◌, ℕ, List, [], ◌∷◌, ◌++◌, length, map, take, slice_index_or, Option, String, Global, ap, sym, subst, map-append, take_more, All-get_or}
+use Rattle.shapes_command.proofs.Common.{MerkleRoot, NextLevel, of_level, of_none, of_one, AreItems, IsItem, number_of}
 
 module _ {T : Type 0} (told known : T → T → T → Type 0)
     (so : (a b c : T) → told a b c → known a b c) where

@@ -1,14 +1,10 @@
 -- What a search through the rules tells of a closure's outputs.
-use Rattle.std.proofs.Common.{◌≡◌, Bool, true, false, List, [], ◌∷◌, Result, Ok, Err, IfErr, ap, sym, subst}
-use Rattle.std.specs.Borrow.{Bor}
-use Rattle.commonware_parallel.specs.Explorers.{plans_of, rule_of}
+use Rattle.shapes_command.proofs.Common.{◌≡◌, Bool, true, false, List, [], ◌∷◌, Result, Ok, Err, IfErr, ap, sym, subst, Bor, plans_of, rule_of, Explorer, Serial, EndsAtParallel}
+use Rattle.commonware_parallel.specs.declared.mocks.rule.Rule.TheVariants.{Parallel}
 use Rattle.commonware_parallel.specs.Exploring.{Explored, RunsBy}
 use Rattle.commonware_parallel.specs.declared.mocks.explore_error.ExploreError.{ExploreError}
 use Rattle.commonware_parallel.specs.declared.mocks.explore_error.ExploreError.TheVariants.{Differs, Build}
-use Rattle.commonware_parallel.specs.declared.mocks.explorer.Explorer.{Explorer}
 use Rattle.commonware_parallel.specs.declared.mocks.rule.Rule.{Rule}
-use Rattle.commonware_parallel.specs.declared.mocks.rule.Rule.TheVariants.{Serial, Parallel}
-use Rattle.shapes_command.specs.Answer.{EndsAtParallel}
 
 abbrev first_of : Rule → List Rule → Rule
 first_of rule [] = rule

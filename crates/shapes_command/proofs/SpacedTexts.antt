@@ -1,7 +1,6 @@
 -- Texts with spaces between them, one more at a time.
-use Rattle.std.proofs.Common.{◌≡◌, ◌+◌, ◌<◌, ◌∙◌, ℕ, List, [], ◌∷◌, ◌++◌, length, map, take, get_or, ap, refl, sym, append_assoc, append-nil, arith}
-use Rattle.std.proofs.lemmas.List.{map-append, length-take-le, take_more}
-use Rattle.shapes_command.specs.Answer.{spaced}
+use Rattle.shapes_command.proofs.Common.{◌≡◌, ◌+◌, ◌<◌, ◌∙◌, ℕ, List, [], ◌∷◌, ◌++◌, length, map, take, get_or, ap, refl, sym, append_assoc, append-nil, arith, map-append, length-take-le, take_more}
+use Rattle.shapes_command.proofs.Common.{spaced}
 
 -- a text behind others comes after a space
 spaced_push : (t : List ℕ) (ts : List (List ℕ)) (text : List ℕ)

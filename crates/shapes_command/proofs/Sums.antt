@@ -1,12 +1,7 @@
 -- A chain of steps that add numbers is the sum of the numbers.
-use Rattle.std.proofs.Common.{◌≡◌, ◌+◌, ◌*◌, ◌%◌, ◌^◌, ◌<◌, ◌≤◌, ◌∙◌, ℕ, List, [], Option, ◌∷◌, length, map, arith, sum_by}
-use Rattle.std.proofs.Math.Nat.{suc-mul}
-use Rattle.std.specs.List.{All}
+use Rattle.shapes_command.proofs.Common.{◌≡◌, ◌+◌, ◌*◌, ◌%◌, ◌^◌, ◌<◌, ◌≤◌, ◌∙◌, ℕ, List, [], Option, ◌∷◌, length, map, arith, sum_by, suc-mul, All, YieldsList, items_from_drains, All-head, All-tail}
+use Rattle.shapes_command.proofs.Common.{sum_by-cons, Chain}
 use Rattle.std.specs.Iterator.{Drains}
-use Rattle.std.proofs.lemmas.Iterator.{YieldsList, items_from_drains}
-use Rattle.std.proofs.lemmas.List.Elements.{All-head, All-tail}
-use Rattle.std.proofs.lemmas.List.Sums.{sum_by-cons}
-use Rattle.parallel_bridge.specs.Lists.{Chain}
 
 -- what came of a run is the list that every run gives
 pub drained : {S A B : Type 0} {steps : S → Option A → S → Type 0} {v : A → B} {s : S}

@@ -1,21 +1,13 @@
 -- Sums along a list's shape, which don't wrap around.
-use Rattle.std.proofs.Common.{◌≡◌, ℕ, zero, suc, ◌+◌, ◌*◌, ◌/◌, ◌%◌, ◌^◌, ◌<◌, ◌≤◌, ◌∙◌, List, [], ◌∷◌, length, map, take, drop, ap, refl, sym, subst, arith}
-use Rattle.std.specs.List.{All}
-use Rattle.std.proofs.Math.Nat.{pow-succ'}
+use Rattle.shapes_command.proofs.Common.{◌≡◌, ℕ, zero, suc, ◌+◌, ◌*◌, ◌/◌, ◌%◌, ◌^◌, ◌<◌, ◌≤◌, ◌∙◌, List, [], ◌∷◌, length, map, take, drop, ap, refl, sym, subst, arith, All, pow-succ', length-map}
+use Rattle.shapes_command.proofs.Common.{length-take-le, length-drop, take-map, drop-map, All-head, All-tail, All-take, All-drop, Chain, FoldSegment, Shape, cutdepth, Along, AlongLeaves, FoldsAs}
+use Rattle.shapes_command.proofs.Common.{ReducedSegment, ExplorerTakes, picked, plans_of, rule_of, Explorer, one_path, Parallel}
 use Rattle.std.proofs.lemmas.Nat.{leading_top, pow_pos}
-use Rattle.std.proofs.lemmas.List.{length-map, length-take-le, length-drop, take-map, drop-map}
-use Rattle.std.proofs.lemmas.List.Elements.{All-head, All-tail, All-take, All-drop}
-use Rattle.parallel_bridge.specs.Lists.{Chain, FoldSegment}
-use Rattle.parallel_bridge.specs.Shapes.{Shape, cutdepth, Along, AlongLeaves, FoldsAs, ReducedSegment}
 use Rattle.parallel_policy.specs.declared.Site.{Site}
 use Rattle.commonware_parallel.specs.Calls.{body_call}
-use Rattle.commonware_parallel.specs.Explorers.{ExplorerTakes, picked, plans_of, rule_of}
-use Rattle.commonware_parallel.specs.declared.mocks.explorer.Explorer.{Explorer}
 use Rattle.commonware_parallel.specs.declared.call.Pick.TheVariants.{By}
 use Rattle.commonware_parallel.specs.declared.mocks.rule.Rule.TheVariants.{Parallel as ParallelRule}
-use Rattle.commonware_parallel.proofs.Picks.{one_path}
 use Rattle.parallel_bridge.specs.declared.path.Path.{Path}
-use Rattle.parallel_bridge.specs.declared.path.Path.TheVariants.{Parallel}
 
 -- a parallel explorer that is planned for three runs a body in parallel
 pub explored_in_parallel : (explorer : Explorer) (site : Site) (len : ℕ) (path : Path)

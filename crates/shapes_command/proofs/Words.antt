@@ -1,12 +1,9 @@
 -- The texts of a line's words, from what a slice pattern reads of them.
-use Rattle.std.proofs.Common.{◌≡◌, ◌-◌, ◌<◌, ◌∙◌, ℕ, List, [], length, take, drop, slice_index_or, ap, sym, subst, arith, string_bytes, String, true, Option, None, Some, inl, inr}
+use Rattle.shapes_command.proofs.Common.{◌≡◌, ◌-◌, ◌<◌, ◌∙◌, ℕ, List, [], length, take, drop, slice_index_or, ap, sym, subst, arith, string_bytes, String, true, Option, None, Some, inl, inr}
+use Rattle.shapes_command.proofs.Common.{get_or-map, take_all, length-drop, Global, IsCountOrNone, CountsOrNone, word, HasForm}
 use Rattle.std.specs.Str.{bytes_eq}
-use Rattle.std.proofs.lemmas.List.{get_or-map, take_all, length-drop}
 use Rattle.std.proofs.lemmas.Slice.Eq.{bytes_eq-Decides}
-use Rattle.std.specs.declared.alloc.Global.{Global}
 use Rattle.std.specs.declared.num.NonZeroUsize.{NonZeroUsize}
-use Rattle.shapes_command.specs.Number.{IsCountOrNone, CountsOrNone}
-use Rattle.shapes_command.specs.Request.{word, HasForm}
 
 module _ (words : List (String Global)) (i : ℕ) (s : String Global) (text : List ℕ)
     (is : s ≡ slice_index_or words i s) (reads : text ≡ string_bytes s) where

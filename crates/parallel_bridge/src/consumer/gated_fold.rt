@@ -6,7 +6,7 @@ ghost use Rattle.std.specs.List.{All};
 ghost use Rattle.parallel_bridge.specs.Sources.{GivesSome};
 ghost use Rattle.parallel_bridge.specs.Tries.{OnlyOk};
 ghost use Rattle.parallel_bridge.specs.Gates.{IsWatching, MayTell, SameWatch, known, stands_for};
-ghost use Rattle.parallel_bridge.specs.Halting.{Begins, HaltsOnward, TellsAs};
+ghost use Rattle.parallel_bridge.specs.Halting.{Begins, HaltContinues, TellsAs};
 
 use crate::gate::GateWatch;
 use crate::halt::Halt;
@@ -69,7 +69,7 @@ impl<'c, 'g, X: Drop, T: Drop, E: Drop, F: Fn(T, X) -> Result<T, E>> Folder<
 
     ghost takes = { λ s x. (value : T) → F.pre s.fold_op.now value x };
 
-    ghost gives = { λ s xs out. OnlyOk (λ d. HaltsOnward (λ a x o. F.post s.fold_op.now a x o)
+    ghost gives = { λ s xs out. OnlyOk (λ d. HaltContinues (λ a x o. F.post s.fold_op.now a x o)
         s.control xs d.0 × SameWatch s.watch d.1 × IsWatching d.1
         × TellsAs s.watch.start (known d.1.seat) d.0) out };
 
@@ -137,8 +137,8 @@ where
     requires watching { IsWatching watch.old }
     requires stands { 0 < stands_for watch.old.seat }
     requires told { TellsAs watch.old.start (known watch.old.seat) control }
-    ensures onward { GivesSome (Drains I.next_gives) iter
-        (λ xs. HaltsOnward (λ a x out. F.post fold_op.now a x out) control xs result) }
+    ensures continues { GivesSome (Drains I.next_gives) iter
+        (λ xs. HaltContinues (λ a x out. F.post fold_op.now a x out) control xs result) }
     ensures same { SameWatch watch.old watch.new }
     ensures watching { IsWatching watch.new }
     ensures told { TellsAs watch.old.start (known watch.new.seat) result }
@@ -161,7 +161,7 @@ fn gated_step<'g, X: Drop, R: Drop, E: Drop, F: Fn(R, X) -> Result<R, E>>(
     requires watching { IsWatching watch.old }
     requires stands { 0 < stands_for watch.old.seat }
     requires told { TellsAs watch.old.start (known watch.old.seat) control }
-    ensures onward { HaltsOnward (λ a x out. F.post fold_op.now a x out) control (item ∷ [])
+    ensures continues { HaltContinues (λ a x out. F.post fold_op.now a x out) control (item ∷ [])
         result }
     ensures same { SameWatch watch.old watch.new }
     ensures watching { IsWatching watch.new }

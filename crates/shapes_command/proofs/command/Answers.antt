@@ -1,6 +1,5 @@
 -- Which answer was begun where the writer failed.
-use Rattle.std.proofs.Common.{Result, Ok, Err, OnErr, rules, inr}
-use Rattle.shapes_command.proofs.Requests.{in_range}
+use Rattle.shapes_command.proofs.{Result, Ok, Err, OnErr, rules, inr, in_range}
 use Rattle.shapes_command.proofs.command.Goals as goal
 
 pub line-requires-after_bounds : goal.line-requires-after_bounds

@@ -1,10 +1,5 @@
 -- A call that is made in parts is told no path.
-use Rattle.std.proofs.Common.{ℕ, Result}
-use Rattle.commonware_parallel.specs.Answers.{OnParts}
-use Rattle.commonware_parallel.specs.Calls.{HasPick}
-use Rattle.commonware_parallel.specs.declared.call.Pick.{Pick}
-use Rattle.commonware_parallel.proofs.Outcomes.{answers_weaker}
-use Rattle.commonware_parallel.proofs.Picks.{parts_told}
+use Rattle.commonware_parallel.proofs.{ℕ, Result, OnParts, HasPick, Pick, answers_weaker, parts_told}
 use Rattle.commonware_parallel.proofs.dispatch.dispatch_parts.Goals as goal
 
 pub returns-clause-answers : goal.returns-clause-answers

@@ -1,11 +1,5 @@
 -- A call that goes by a path is told no number of parts.
-use Rattle.std.proofs.Common.{Result}
-use Rattle.parallel_bridge.specs.declared.path.Path.{Path}
-use Rattle.commonware_parallel.specs.Answers.{OnPath}
-use Rattle.commonware_parallel.specs.Calls.{HasPick}
-use Rattle.commonware_parallel.specs.declared.call.Pick.{Pick}
-use Rattle.commonware_parallel.proofs.Outcomes.{answers_weaker}
-use Rattle.commonware_parallel.proofs.Picks.{path_told}
+use Rattle.commonware_parallel.proofs.{Result, Path, OnPath, HasPick, Pick, answers_weaker, path_told}
 use Rattle.commonware_parallel.proofs.dispatch.dispatch_path.Goals as goal
 
 pub returns-clause-answers : goal.returns-clause-answers

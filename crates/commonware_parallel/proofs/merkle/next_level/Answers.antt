@@ -1,7 +1,5 @@
 -- The answers for the pairs, and behind them an odd last node.
-use Rattle.std.proofs.Common.{rules, ap, sym, ◌∙◌, ◌++◌, append-nil}
-use Rattle.std.specs.Option.{option_to_list}
-use Rattle.commonware_parallel.proofs.Merkles.{level_from_map}
+use Rattle.commonware_parallel.proofs.{rules, ap, sym, ◌∙◌, ◌++◌, append-nil, option_to_list, level_from_map}
 use Rattle.commonware_parallel.proofs.merkle.next_level.Goals as goal
 use Rattle.commonware_parallel.proofs.merkle.next_level.Goals.{in-Some+in_ok-push, in_default}
 

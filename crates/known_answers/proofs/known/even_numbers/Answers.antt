@@ -1,8 +1,5 @@
 -- The outcome is that of the test as a function.
-use Rattle.std.proofs.Common.{◌≡◌, ◌∙◌, ap, subst}
-use Rattle.parallel_bridge.specs.Outcomes.{UnlessRefused, listed}
-use Rattle.known_answers.specs.Known.{even}
-use Rattle.known_answers.proofs.OneAnswer.{outcome_is, tried}
+use Rattle.known_answers.proofs.{◌≡◌, ◌∙◌, ap, subst, UnlessRefused, listed, even, outcome_is, tried}
 use Rattle.known_answers.proofs.known.even_numbers.Goals as goal
 
 pub returns : goal.returns

@@ -1,10 +1,5 @@
 -- Serially the list is one segment, whose value is the plain fold from 10.
-use Rattle.std.proofs.Common.{rules, ◌≡◌, ◌∙◌, ◌+◌, ◌%◌, ◌^◌, ℕ, List, IfOk, ap, fold}
-use Rattle.std.proofs.lemmas.Result.{IfOk-weaker}
-use Rattle.parallel_bridge.proofs.OverLists.{in_one}
-use Rattle.parallel_bridge.specs.declared.path.Path.TheVariants.{Serial}
-use Rattle.commonware_parallel.proofs.Picks.{one_path}
-use Rattle.known_answers.proofs.OneAnswer.{segment_is}
+use Rattle.known_answers.proofs.{rules, ◌≡◌, ◌∙◌, ◌+◌, ◌%◌, ◌^◌, ℕ, List, IfOk, ap, fold, IfOk-weaker, in_one, Serial, one_path, segment_is}
 use Rattle.known_answers.proofs.known.from_ten_in_one.Given
 use Rattle.known_answers.proofs.known.from_ten_in_one.Goals as goal
 

@@ -1,10 +1,5 @@
 -- In parallel the list goes along its shape for two threads.
-use Rattle.std.proofs.Common.{rules, ◌≡◌, ◌∙◌, ◌+◌, ◌%◌, ◌^◌, ℕ, List, IfOk, ap, arith}
-use Rattle.std.proofs.lemmas.Result.{IfOk-weaker}
-use Rattle.parallel_bridge.specs.Shapes.{Shape, cutdepth}
-use Rattle.parallel_bridge.specs.declared.path.Path.TheVariants.{Parallel}
-use Rattle.commonware_parallel.proofs.Picks.{one_path}
-use Rattle.known_answers.proofs.OneAnswer.{along_shape, along_is, along_value, depth_of_few}
+use Rattle.known_answers.proofs.{rules, ◌≡◌, ◌∙◌, ◌+◌, ◌%◌, ◌^◌, ℕ, List, IfOk, ap, arith, IfOk-weaker, Shape, cutdepth, Parallel, one_path, along_shape, along_is, along_value, depth_of_few}
 use Rattle.known_answers.proofs.known.from_ten_on_two_threads.Given
 use Rattle.known_answers.proofs.known.from_ten_on_two_threads.Goals as goal
 

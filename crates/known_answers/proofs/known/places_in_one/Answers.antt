@@ -1,9 +1,5 @@
 -- Serially there is one state.
-use Rattle.std.proofs.Common.{rules, ◌∙◌, ap}
-use Rattle.std.proofs.lemmas.Result.{IfOk-weaker}
-use Rattle.parallel_bridge.specs.declared.path.Path.TheVariants.{Serial}
-use Rattle.commonware_parallel.proofs.Picks.{one_path}
-use Rattle.known_answers.proofs.OneAnswer.{states_in_one, counts_are, counted_from}
+use Rattle.known_answers.proofs.{rules, ◌∙◌, ap, IfOk-weaker, Serial, one_path, states_in_one, counts_are, counted_from}
 use Rattle.known_answers.proofs.known.places_in_one.Goals as goal
 
 pub returns-clause-places : goal.returns-clause-places

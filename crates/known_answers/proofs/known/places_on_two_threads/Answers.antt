@@ -1,10 +1,5 @@
 -- In parallel the states change along the shape for two threads.
-use Rattle.std.proofs.Common.{rules, ◌∙◌, ℕ, List, ap, arith}
-use Rattle.std.proofs.lemmas.Result.{IfOk-weaker}
-use Rattle.parallel_bridge.specs.Shapes.{Shape, cutdepth}
-use Rattle.parallel_bridge.specs.declared.path.Path.TheVariants.{Parallel}
-use Rattle.commonware_parallel.proofs.Picks.{one_path}
-use Rattle.known_answers.proofs.OneAnswer.{counts_as, counted_along, depth_of_few}
+use Rattle.known_answers.proofs.{rules, ◌∙◌, ℕ, List, ap, arith, IfOk-weaker, Shape, cutdepth, Parallel, one_path, counts_as, counted_along, depth_of_few}
 use Rattle.known_answers.proofs.known.places_on_two_threads.Goals as goal
 
 -- the answers along the shape of that depth

@@ -1,9 +1,5 @@
 -- The shape of five items for three threads.
-use Rattle.std.proofs.Common.{rules, ◌≡◌, ◌∙◌, ℕ, List, [], ◌∷◌, refl, ap, arith}
-use Rattle.std.specs.Int.NonZero.{non_zero_usize_get}
-use Rattle.std.proofs.lemmas.Result.{IfOk-weaker}
-use Rattle.parallel_bridge.specs.Shapes.{Shape, cutdepth, leaf_lengths}
-use Rattle.known_answers.proofs.OneAnswer.{depth_of_few}
+use Rattle.known_answers.proofs.{rules, ◌≡◌, ◌∙◌, ℕ, List, [], ◌∷◌, refl, ap, arith, non_zero_usize_get, IfOk-weaker, Shape, cutdepth, leaf_lengths, depth_of_few}
 use Rattle.known_answers.proofs.known.segments_of_five.Goals as goal
 
 abbrev five : List ℕ

@@ -1,14 +1,10 @@
 -- A balanced cut is settled by its number of ranges.
-use Rattle.std.proofs.Common.{rules, ◌≡◌, ◌∙◌, ◌+◌, ◌-◌, ◌≤◌, ℕ, List, [], ◌∷◌, All, IfOk, length, refl, arith}
-use Rattle.std.specs.Int.NonZero.{non_zero_usize_get}
-use Rattle.std.specs.List.{AllPairs}
+use Rattle.known_answers.proofs.{rules, ◌≡◌, ◌∙◌, ◌+◌, ◌-◌, ◌≤◌, ℕ, List, [], ◌∷◌, All, IfOk, length, refl, arith, non_zero_usize_get, AllPairs, IfOk-weaker, both_ok}
 use Rattle.std.specs.declared.ops.Range.{Range}
-use Rattle.std.proofs.lemmas.Result.{IfOk-weaker}
 use Rattle.std.proofs.lemmas.List.Elements.{All-nil, All-cons}
 use Rattle.std.proofs.lemmas.List.Kept.{AllPairs-cons}
 use Rattle.parallel_shares.specs.Cut.{BalancedCut, range_length}
 use Rattle.parallel_shares.proofs.Cuts.{BalancedCut-unique}
-use Rattle.known_answers.proofs.OneAnswer.{both_ok}
 use Rattle.known_answers.proofs.known.ten_in_four.Goals as goal
 
 abbrev range : ℕ → ℕ → Range ℕ

@@ -1,9 +1,5 @@
 -- Each pair is that of its number.
-use Rattle.std.proofs.Common.{rules, ◌∙◌, ℕ, List, Option, ap, map}
-use Rattle.std.proofs.lemmas.Result.{IfOk-weaker}
-use Rattle.parallel_bridge.specs.Parts.{values_of, keys_of}
-use Rattle.known_answers.specs.Known.{tenfold}
-use Rattle.known_answers.proofs.OneAnswer.{parts_are}
+use Rattle.known_answers.proofs.{rules, ◌∙◌, ℕ, List, Option, ap, map, IfOk-weaker, values_of, keys_of, tenfold, parts_are}
 use Rattle.known_answers.proofs.known.tens_of_even_numbers.Goals as goal
 
 pub returns-clause-parts : goal.returns-clause-parts

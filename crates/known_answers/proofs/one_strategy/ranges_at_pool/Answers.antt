@@ -1,10 +1,8 @@
 -- Without a policy there are as many ranges as there may be, or one.
-use Rattle.std.proofs.Common.{rules, ◌≡◌, ℕ, ◌+◌, ◌-◌, ◌/◌, ◌<◌, ◌≤◌, ◌∙◌, max, min, inl, inr, arith, subst}
-use Rattle.std.specs.Int.NonZero.{non_zero_usize_get}
+use Rattle.known_answers.proofs.{rules, ◌≡◌, ℕ, ◌+◌, ◌-◌, ◌/◌, ◌<◌, ◌≤◌, ◌∙◌, max, min, inl, inr, arith, subst, non_zero_usize_get, as_many_parts}
 use Rattle.std.proofs.lemmas.Bool.{cases_lt}
 use Rattle.commonware_parallel.specs.Batches.{IsBatch, ranges_of}
 use Rattle.commonware_parallel.specs.Rayon.{planning_of}
-use Rattle.commonware_parallel.proofs.Picks.{as_many_parts}
 use Rattle.known_answers.proofs.one_strategy.ranges_at_pool.Goals as goal
 
 -- where one is planned for there may be one

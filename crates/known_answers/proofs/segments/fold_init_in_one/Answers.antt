@@ -1,8 +1,5 @@
 -- The one path is the serial one, by which the list is one segment.
-use Rattle.std.proofs.lemmas.Result.{IfOk-weaker}
-use Rattle.parallel_bridge.proofs.OverLists.{in_one}
-use Rattle.parallel_bridge.specs.declared.path.Path.TheVariants.{Serial}
-use Rattle.commonware_parallel.proofs.Picks.{one_path}
+use Rattle.known_answers.proofs.{IfOk-weaker, in_one, Serial, one_path}
 use Rattle.known_answers.proofs.segments.fold_init_in_one.Goals as goal
 
 pub returns-clause-segment : goal.returns-clause-segment

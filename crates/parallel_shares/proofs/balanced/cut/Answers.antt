@@ -1,8 +1,5 @@
 -- The range that is pushed is the next of the cut.
-use Rattle.std.proofs.Common.{arith, rules, ◌≡◌, ℕ, ◌+◌, ◌<◌, ◌≤◌, refl}
-use Rattle.std.proofs.lemmas.Grind.{common_steps}
-use Rattle.std.specs.declared.ops.Range.{Range}
-use Rattle.parallel_shares.proofs.CutSteps.{IsCutSoFar-more}
+use Rattle.parallel_shares.proofs.{arith, rules, ◌≡◌, ℕ, ◌+◌, ◌<◌, ◌≤◌, refl, common_steps, Range, IsCutSoFar-more}
 use Rattle.parallel_shares.proofs.balanced.cut.Goals as goal
 
 pub loop-index-preserved : goal.loop-index-preserved

@@ -1,5 +1,5 @@
 -- The ranges so far are the first of the cut.
-use Rattle.parallel_shares.proofs.CutSteps.{IsCutSoFar}
+use Rattle.parallel_shares.proofs.{IsCutSoFar}
 use Rattle.parallel_shares.proofs.balanced.cut.Given as goal
 
 abbrev pub invariant-loop-index : goal.invariant-loop-index

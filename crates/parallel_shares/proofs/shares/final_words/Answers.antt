@@ -1,7 +1,5 @@
 -- One more word goes from those that are left to those that are in the list.
-use Rattle.std.proofs.Common.{◌≡◌, ◌+◌, ◌++◌, ◌∷◌, [], drop, ap, sym, ◌∙◌, add-one, append_assoc, arith}
-use Rattle.std.specs.Slots.{slots_items}
-use Rattle.atomic_table.proofs.Lists.{drop_at}
+use Rattle.parallel_shares.proofs.{◌≡◌, ◌+◌, ◌++◌, ◌∷◌, [], drop, ap, sym, ◌∙◌, add-one, append_assoc, arith, slots_items, drop_at}
 use Rattle.parallel_shares.proofs.shares.final_words.Goals as goal
 
 pub loop-share-preserved : goal.loop-share-preserved

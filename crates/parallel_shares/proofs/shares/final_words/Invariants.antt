@@ -1,6 +1,5 @@
 -- The words so far, and behind them those that are left, are the words of the table.
-use Rattle.std.proofs.Common.{◌≡◌, ◌++◌, ◌≤◌, drop, length, vec_capacity}
-use Rattle.std.specs.Slots.{slots_items}
+use Rattle.parallel_shares.proofs.{◌≡◌, ◌++◌, ◌≤◌, drop, length, vec_capacity, slots_items}
 use Rattle.parallel_shares.proofs.shares.final_words.Given as goal
 
 abbrev pub invariant-loop-share : goal.invariant-loop-share

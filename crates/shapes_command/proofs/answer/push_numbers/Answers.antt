@@ -1,7 +1,5 @@
 -- One number more is written, the first with no space before it.
-use Rattle.std.proofs.Common.{arith, ap, string_bytes}
-use Rattle.std.specs.Fmt.{decimal}
-use Rattle.shapes_command.proofs.SpacedTexts.{first_written, next_written}
+use Rattle.shapes_command.proofs.{arith, ap, string_bytes, decimal, first_written, next_written}
 use Rattle.shapes_command.proofs.answer.push_numbers.Goals as goal
 use Rattle.shapes_command.proofs.answer.push_numbers.Goals.{then-index-eq0, else-index-eq0}
 

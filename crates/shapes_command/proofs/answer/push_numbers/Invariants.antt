@@ -1,7 +1,5 @@
 -- The numbers so far stand in the line.
-use Rattle.std.proofs.Common.{◌≡◌, ◌++◌, map, take, string_bytes}
-use Rattle.std.specs.Fmt.{decimal}
-use Rattle.shapes_command.specs.Answer.{spaced}
+use Rattle.shapes_command.proofs.{◌≡◌, ◌++◌, map, take, string_bytes, decimal, spaced}
 use Rattle.shapes_command.proofs.answer.push_numbers.Given as goal
 
 abbrev pub invariant-loop-index : goal.invariant-loop-index

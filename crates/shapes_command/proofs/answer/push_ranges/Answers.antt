@@ -1,7 +1,5 @@
 -- One range more is written, the first with no space before it.
-use Rattle.std.proofs.Common.{arith, ap, string_bytes}
-use Rattle.shapes_command.specs.Answer.{range_text}
-use Rattle.shapes_command.proofs.SpacedTexts.{first_written, next_written}
+use Rattle.shapes_command.proofs.{arith, ap, string_bytes, range_text, first_written, next_written}
 use Rattle.shapes_command.proofs.answer.push_ranges.Goals as goal
 use Rattle.shapes_command.proofs.answer.push_ranges.Goals.{then-index-eq0, else-index-eq0}
 

@@ -1,6 +1,5 @@
 -- The ranges so far stand in the line.
-use Rattle.std.proofs.Common.{◌≡◌, ◌++◌, map, take, string_bytes}
-use Rattle.shapes_command.specs.Answer.{spaced, range_text}
+use Rattle.shapes_command.proofs.{◌≡◌, ◌++◌, map, take, string_bytes, spaced, range_text}
 use Rattle.shapes_command.proofs.answer.push_ranges.Given as goal
 
 abbrev pub invariant-loop-index : goal.invariant-loop-index

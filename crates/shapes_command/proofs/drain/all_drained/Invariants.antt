@@ -1,5 +1,5 @@
 -- Each part so far was no refusal.
-use Rattle.std.proofs.Common.{◌≡◌, map, Ok}
+use Rattle.shapes_command.proofs.{◌≡◌, map, Ok}
 use Rattle.shapes_command.proofs.drain.all_drained.Given as goal
 
 abbrev pub invariant-loop-part : goal.invariant-loop-part

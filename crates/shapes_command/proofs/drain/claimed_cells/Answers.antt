@@ -1,9 +1,5 @@
 -- One more seat and its list.
-use Rattle.std.proofs.Common.{◌++◌, ◌∷◌, [], ap, sym, ◌∙◌, arith}
-use Rattle.shapes_command.proofs.Drains.{pushed_map}
-use Rattle.parallel_shares.specs.Holders.{in_ranges}
-use Rattle.parallel_shares.proofs.Totals.{total_append}
-use Rattle.shapes_command.specs.Drain.{seat_of, listed}
+use Rattle.shapes_command.proofs.{◌++◌, ◌∷◌, [], ap, sym, ◌∙◌, arith, pushed_map, in_ranges, total_append, seat_of, listed}
 use Rattle.shapes_command.proofs.drain.claimed_cells.Goals as goal
 
 pub loop-seat-preserved : goal.loop-seat-preserved

@@ -1,7 +1,5 @@
 -- The seats so far, and the cells of their lists.
-use Rattle.std.proofs.Common.{◌≡◌, ℕ, map}
-use Rattle.parallel_shares.specs.Totals.{total, times}
-use Rattle.shapes_command.specs.Drain.{seat_of, listed}
+use Rattle.shapes_command.proofs.{◌≡◌, ℕ, map, total, times, seat_of, listed}
 use Rattle.shapes_command.proofs.drain.claimed_cells.Given as goal
 
 abbrev pub invariant-loop-seat : goal.invariant-loop-seat

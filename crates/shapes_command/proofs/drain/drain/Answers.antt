@@ -1,8 +1,5 @@
 -- Each part is what the worker of the seat at that place gave back.
-use Rattle.std.proofs.Common.{◌≡◌, ◌<◌, ◌∙◌, Ok, IfOk, length, get_or, ap, subst, arith}
-use Rattle.parallel_shares.specs.Seats.{index_of}
-use Rattle.shapes_command.specs.Drain.{IsDrained}
-use Rattle.shapes_command.proofs.Drains.{oks_count, oks_at}
+use Rattle.shapes_command.proofs.{◌≡◌, ◌<◌, ◌∙◌, Ok, IfOk, length, get_or, ap, subst, arith, index_of, IsDrained, oks_count, oks_at}
 use Rattle.shapes_command.proofs.drain.drain.Goals as goal
 
 pub returns-clause-drained : goal.returns-clause-drained

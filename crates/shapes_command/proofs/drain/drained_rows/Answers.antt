@@ -1,8 +1,6 @@
 -- Each row is in the lists once, so in order they are all rows.
-use Rattle.std.proofs.Common.{◌≡◌, ◌*◌, ◌∙◌, ap, arith}
-use Rattle.std.proofs.lemmas.List.Sorted.{IsNonDecreasingBy-from_sort}
+use Rattle.shapes_command.proofs.{◌≡◌, ◌*◌, ◌∙◌, ap, arith, IsNonDecreasingBy-from_sort, in_order}
 use Rattle.parallel_shares.specs.Sizes.{Sizes}
-use Rattle.shapes_command.proofs.Drains.{in_order}
 use Rattle.shapes_command.proofs.drain.drained_rows.Goals as goal
 
 pub returns-clause-rows : goal.returns-clause-rows

@@ -1,7 +1,5 @@
 -- The seats are all back and have seen their words empty, so the lists have each cell once.
-use Rattle.std.proofs.Common.{sym, subst}
-use Rattle.parallel_shares.specs.Seats.{AreSeatsOf, AllDone, EachCellOnce}
-use Rattle.shapes_command.proofs.Drains.{seats_back, all_done, lists_have_each}
+use Rattle.shapes_command.proofs.{sym, subst, AreSeatsOf, AllDone, EachCellOnce, seats_back, all_done, lists_have_each}
 use Rattle.shapes_command.proofs.drain.gather.Goals as goal
 
 pub close-words-requires : goal.close-words-requires

@@ -1,8 +1,6 @@
 -- One more range is pushed.
-use Rattle.std.proofs.Common.{◌-◌, Ok, refl}
-use Rattle.std.proofs.lemmas.Iterator.{YieldsList-from_range}
+use Rattle.shapes_command.proofs.{◌-◌, Ok, refl, YieldsList-from_range, pushed}
 use Rattle.std.proofs.lemmas.Iterator.Adapters.{items_from_extend}
-use Rattle.shapes_command.proofs.Drains.{pushed}
 use Rattle.shapes_command.proofs.drain.push_cells.Goals as goal
 
 pub loop-range-preserved : goal.loop-range-preserved

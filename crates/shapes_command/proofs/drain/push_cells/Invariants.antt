@@ -1,7 +1,5 @@
 -- The cells of the ranges so far.
-use Rattle.std.proofs.Common.{◌≡◌, ◌+◌, ℕ}
-use Rattle.parallel_shares.specs.Holders.{in_ranges}
-use Rattle.parallel_shares.specs.Totals.{times}
+use Rattle.shapes_command.proofs.{◌≡◌, ◌+◌, ℕ, in_ranges, times}
 use Rattle.shapes_command.proofs.drain.push_cells.Given as goal
 
 abbrev pub invariant-loop-range : goal.invariant-loop-range

@@ -1,6 +1,5 @@
 -- The list so far is what the seat has claimed.
-use Rattle.std.proofs.Common.{◌≡◌}
-use Rattle.parallel_shares.specs.Seats.{IsSeatOf, IsSameSeat, claims_of}
+use Rattle.shapes_command.proofs.{◌≡◌, IsSeatOf, IsSameSeat, claims_of}
 use Rattle.shapes_command.proofs.drain.work.Given as goal
 
 abbrev pub invariant-loop : goal.invariant-loop

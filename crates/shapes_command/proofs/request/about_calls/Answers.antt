@@ -1,6 +1,5 @@
 -- A line about calls is about lists or about explorers.
-use Rattle.shapes_command.specs.Request.{IsListLine, IsExplorerLine, SaysList, SaysExplorer}
-use Rattle.shapes_command.proofs.Requests.{found_either}
+use Rattle.shapes_command.proofs.{IsListLine, IsExplorerLine, SaysList, SaysExplorer, found_either}
 use Rattle.shapes_command.proofs.request.about_calls.Goals as goal
 
 pub returns : goal.returns

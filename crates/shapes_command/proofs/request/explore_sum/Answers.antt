@@ -1,6 +1,5 @@
 -- The two words are those of the line `explore sum`.
-use Rattle.std.proofs.Common.{arith, codes}
-use Rattle.shapes_command.proofs.Words.{has_form, is_text}
+use Rattle.shapes_command.proofs.{arith, codes, has_form, is_text}
 use Rattle.shapes_command.proofs.request.explore_sum.Goals as goal
 
 pub returns-in-len2 : goal.returns-in-len2

@@ -1,9 +1,5 @@
 -- The words from the fourth on are the items of `fold parallel`.
-use Rattle.std.proofs.Common.{◌≡◌, ◌≤◌, List, ℕ, length, refl, subst, arith, codes}
-use Rattle.std.specs.Str.Parse.{digits_value}
-use Rattle.shapes_command.specs.Number.{IsNumberUpTo}
-use Rattle.shapes_command.specs.Request.{AreItems}
-use Rattle.shapes_command.proofs.Words.{is_text, of_word, rest_from}
+use Rattle.shapes_command.proofs.{◌≡◌, ◌≤◌, List, ℕ, length, refl, subst, arith, codes, digits_value, IsNumberUpTo, AreItems, is_text, of_word, rest_from}
 use Rattle.shapes_command.proofs.request.fold_parallel.Goals as goal
 
 pub returns-in_ok-number-in-len3-up : goal.returns-in_ok-number-in-len3-up

@@ -1,9 +1,5 @@
 -- Each word of a line `grid` writes its number.
-use Rattle.std.proofs.Common.{◌≡◌, ◌-◌, ◌^◌, List, ℕ, arith, codes}
-use Rattle.std.specs.NonZero.{non_zero_usize_get}
-use Rattle.std.specs.Str.Parse.{digits_value}
-use Rattle.shapes_command.specs.Number.{IsNumberUpTo, IsCountUpTo}
-use Rattle.shapes_command.proofs.Words.{has_form, of_word}
+use Rattle.shapes_command.proofs.{◌≡◌, ◌-◌, ◌^◌, List, ℕ, arith, codes, non_zero_usize_get, digits_value, IsNumberUpTo, IsCountUpTo, has_form, of_word}
 use Rattle.shapes_command.proofs.request.grid.Goals as goal
 
 pub returns-in_ok-count-in-len5-2 : goal.returns-in_ok-count-in-len5-2

@@ -1,8 +1,5 @@
 -- Each word of a line `mix` writes its number.
-use Rattle.std.proofs.Common.{◌≡◌, ◌-◌, ◌^◌, List, ℕ, arith, codes}
-use Rattle.std.specs.Str.Parse.{digits_value}
-use Rattle.shapes_command.specs.Number.{IsNumberUpTo}
-use Rattle.shapes_command.proofs.Words.{has_form, of_word}
+use Rattle.shapes_command.proofs.{◌≡◌, ◌-◌, ◌^◌, List, ℕ, arith, codes, digits_value, IsNumberUpTo, has_form, of_word}
 use Rattle.shapes_command.proofs.request.mix.Goals as goal
 
 pub returns-in_ok-number-in-len5 : goal.returns-in_ok-number-in-len5

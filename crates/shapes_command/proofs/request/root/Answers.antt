@@ -1,7 +1,5 @@
 -- The words behind the name are the items of `root`.
-use Rattle.std.proofs.Common.{◌≤◌, length, refl, subst, arith, codes}
-use Rattle.shapes_command.specs.Request.{AreItems}
-use Rattle.shapes_command.proofs.Words.{is_text, rest_from}
+use Rattle.shapes_command.proofs.{◌≤◌, length, refl, subst, arith, codes, AreItems, is_text, rest_from}
 use Rattle.shapes_command.proofs.request.root.Goals as goal
 
 pub returns-in-len1-up : goal.returns-in-len1-up

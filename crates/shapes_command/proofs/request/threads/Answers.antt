@@ -1,9 +1,5 @@
 -- The words of a line `threads` are a number, two texts and a number or none.
-use Rattle.std.proofs.Common.{◌≡◌, ◌-◌, ◌^◌, List, ℕ, arith, codes}
-use Rattle.std.specs.Str.Parse.{digits_value}
-use Rattle.shapes_command.specs.Number.{IsNumberUpTo, CountsOrNone, IsTextOrNone}
-use Rattle.shapes_command.specs.Request.{word}
-use Rattle.shapes_command.proofs.Words.{has_form, of_word, is_count_or_none}
+use Rattle.shapes_command.proofs.{◌≡◌, ◌-◌, ◌^◌, List, ℕ, arith, codes, digits_value, IsNumberUpTo, CountsOrNone, IsTextOrNone, word, has_form, of_word, is_count_or_none}
 use Rattle.shapes_command.proofs.request.threads.Goals as goal
 
 pub returns-in_ok-count_or_none-in-len5 : goal.returns-in_ok-count_or_none-in-len5

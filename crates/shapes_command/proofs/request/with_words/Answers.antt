@@ -1,6 +1,5 @@
 -- A line with words is about shares or about calls.
-use Rattle.shapes_command.specs.Request.{IsShareLine, IsCallLine, SaysShare, SaysCall}
-use Rattle.shapes_command.proofs.Requests.{found_either}
+use Rattle.shapes_command.proofs.{IsShareLine, IsCallLine, SaysShare, SaysCall, found_either}
 use Rattle.shapes_command.proofs.request.with_words.Goals as goal
 
 pub returns : goal.returns

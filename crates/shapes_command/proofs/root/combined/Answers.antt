@@ -1,5 +1,5 @@
 -- Told, so that a body which breaks it is refused with no further search.
-use Rattle.std.proofs.Common.{rules}
+use Rattle.shapes_command.proofs.{rules}
 use Rattle.shapes_command.proofs.root.combined.Goals as goal
 
 pub returns : goal.returns

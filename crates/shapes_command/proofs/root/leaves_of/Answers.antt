@@ -1,8 +1,5 @@
 -- One more number.
-use Rattle.std.proofs.Common.{rules, map, ap, arith, ◌∙◌}
-use Rattle.std.proofs.lemmas.List.{take_all}
-use Rattle.shapes_command.specs.Request.{number_of}
-use Rattle.shapes_command.proofs.Roots.{one_more_leaf}
+use Rattle.shapes_command.proofs.{rules, map, ap, arith, ◌∙◌, take_all, number_of, one_more_leaf}
 use Rattle.shapes_command.proofs.root.leaves_of.Goals as goal
 
 pub loop-item-init : goal.loop-item-init

@@ -1,6 +1,5 @@
 -- The numbers of the words so far.
-use Rattle.std.proofs.Common.{◌≡◌, map, take}
-use Rattle.shapes_command.specs.Request.{number_of}
+use Rattle.shapes_command.proofs.{◌≡◌, map, take, number_of}
 use Rattle.shapes_command.proofs.root.leaves_of.Given as goal
 
 abbrev pub invariant-loop-item : goal.invariant-loop-item

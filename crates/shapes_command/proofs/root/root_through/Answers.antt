@@ -1,9 +1,5 @@
 -- The closure's one answer is the node above the two.
-use Rattle.std.proofs.Common.{rules, ◌≡◌, subst}
-use Rattle.std.proofs.lemmas.Result.{IfOk-weaker}
-use Rattle.commonware_parallel.specs.Merkle.{MerkleRoot}
-use Rattle.shapes_command.specs.Answer.{combined}
-use Rattle.shapes_command.proofs.Roots.{root_weaker}
+use Rattle.shapes_command.proofs.{rules, ◌≡◌, subst, IfOk-weaker, MerkleRoot, combined, root_weaker}
 use Rattle.shapes_command.proofs.root.root_through.Goals as goal
 
 pub returns : goal.returns

@@ -1,6 +1,5 @@
 -- The serial run and the parallel one answer otherwise.
-use Rattle.std.proofs.Common.{true≢false, sym}
-use Rattle.shapes_command.proofs.Searches.{ends_at_parallel}
+use Rattle.shapes_command.proofs.{true≢false, sym, ends_at_parallel}
 use Rattle.shapes_command.proofs.search.searched.Goals as goal
 
 pub returns : goal.returns

@@ -1,7 +1,5 @@
 -- A step adds the number, and a reduction adds two sums.
-use Rattle.std.proofs.Common.{rules, ◌≡◌, ◌%◌, ◌^◌, ◌∙◌, ℕ, arith, refl, sum_by}
-use Rattle.std.specs.List.{range_with_len}
-use Rattle.std.proofs.lemmas.Result.{IfOk-weaker}
+use Rattle.shapes_command.proofs.{rules, ◌≡◌, ◌%◌, ◌^◌, ◌∙◌, ℕ, arith, refl, sum_by, range_with_len, IfOk-weaker}
 use Rattle.parallel_bridge.proofs.WrappingSums.{sum_of_list}
 use Rattle.shapes_command.proofs.search.sum_below_100.Goals as goal
 

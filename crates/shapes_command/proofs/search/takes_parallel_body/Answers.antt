@@ -1,5 +1,5 @@
 -- Told, so that a body which breaks these is refused with no further search.
-use Rattle.std.proofs.Common.{rules}
+use Rattle.shapes_command.proofs.{rules}
 use Rattle.shapes_command.proofs.search.takes_parallel_body.Goals as goal
 
 pub returns-in-Ok-clause-serial : goal.returns-in-Ok-clause-serial

@@ -1,13 +1,8 @@
 -- Serially the fold is one chain, whose sum does not wrap around.
-use Rattle.std.proofs.Common.{rules, ◌≡◌, ◌+◌, Bor, String, Global, arith, sum_by, sym, subst, map, ap, length}
-use Rattle.std.specs.List.{All}
-use Rattle.std.proofs.lemmas.Result.{IfOk-weaker}
-use Rattle.std.proofs.lemmas.Iterator.{YieldsList-from_slice}
+use Rattle.shapes_command.proofs.{rules, ◌≡◌, ◌+◌, Bor, String, Global, arith, sum_by, sym, subst, map, ap, length, All, IfOk-weaker, YieldsList-from_slice, one_path, IsItem, number_of, drained}
+use Rattle.shapes_command.proofs.{chain_sum}
 use Rattle.parallel_bridge.proofs.OverLists.{in_one}
 use Rattle.parallel_bridge.specs.declared.path.Path.TheVariants.{Serial}
-use Rattle.commonware_parallel.proofs.Picks.{one_path}
-use Rattle.shapes_command.specs.Request.{IsItem, number_of}
-use Rattle.shapes_command.proofs.Sums.{drained, chain_sum}
 use Rattle.shapes_command.proofs.sum.serial_sum.Goals as goal
 
 pub returns-clause-sum : goal.returns-clause-sum

@@ -1,16 +1,6 @@
 -- The fold goes along the shape for two threads, and nothing wraps around.
-use Rattle.std.proofs.Common.{rules, ◌≡◌, ◌≤◌, ◌<◌, ◌^◌, ◌∙◌, Bor, String, Global, arith, sym, subst, map, ap, length}
-use Rattle.std.specs.List.{All}
-use Rattle.std.proofs.lemmas.List.{length-map}
-use Rattle.std.proofs.lemmas.Result.{IfOk-weaker}
-use Rattle.std.proofs.lemmas.Iterator.{YieldsList-from_slice}
-use Rattle.parallel_bridge.specs.Shapes.{Shape, cutdepth}
-use Rattle.parallel_bridge.specs.declared.path.Path.TheVariants.{Parallel}
-use Rattle.commonware_parallel.specs.Explorers.{pool_threads}
-use Rattle.shapes_command.specs.Answer.{SumsAlong}
-use Rattle.shapes_command.specs.Request.{IsItem, number_of}
-use Rattle.shapes_command.proofs.Sums.{drained}
-use Rattle.shapes_command.proofs.SumsAlongShapes.{explored_in_parallel, along_shape, along_plain, depth_of_two, most_along}
+use Rattle.shapes_command.proofs.{rules, ◌≡◌, ◌≤◌, ◌<◌, ◌^◌, ◌∙◌, Bor, String, Global, arith, sym, subst, map, ap, length, All, length-map, IfOk-weaker, YieldsList-from_slice, Shape, cutdepth}
+use Rattle.shapes_command.proofs.{Parallel, pool_threads, SumsAlong, IsItem, number_of, drained, explored_in_parallel, along_shape, along_plain, depth_of_two, most_along}
 use Rattle.shapes_command.proofs.sum.sum_along.Goals as goal
 
 pub returns-clause-sum : goal.returns-clause-sum

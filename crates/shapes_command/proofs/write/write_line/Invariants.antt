@@ -1,6 +1,5 @@
 -- What is gone from the rest was written.
-use Rattle.std.proofs.Common.{◌≡◌, ℕ, List, ◌++◌, length}
-use Rattle.std.specs.Io.KnownBytes.{Appends}
+use Rattle.shapes_command.proofs.{◌≡◌, ℕ, List, ◌++◌, length, Appends}
 use Rattle.shapes_command.proofs.write.write_line.Given as goal
 
 abbrev pub invariant-loop-rest : goal.invariant-loop-rest

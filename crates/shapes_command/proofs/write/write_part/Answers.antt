@@ -1,5 +1,5 @@
 -- Told, so that a body which breaks these is refused with no further search.
-use Rattle.std.proofs.Common.{rules}
+use Rattle.shapes_command.proofs.{rules}
 use Rattle.shapes_command.proofs.write.write_part.Goals as goal
 
 pub returns-then-ne-clause-some : goal.returns-then-ne-clause-some

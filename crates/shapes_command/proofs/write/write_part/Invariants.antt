@@ -1,5 +1,5 @@
 -- Nothing was written yet.
-use Rattle.std.specs.Io.KnownBytes.{Keeps}
+use Rattle.shapes_command.proofs.{Keeps}
 use Rattle.shapes_command.proofs.write.write_part.Given as goal
 
 abbrev pub invariant-loop : goal.invariant-loop

@@ -1,8 +1,6 @@
 -- No range is shorter than the even share, as there are `count` of them.
-use Rattle.std.proofs.Common.{◌≡◌, ℕ, ◌/◌, ◌<◌, ◌≤◌, List, length, All, arith, subst}
-use Rattle.std.specs.declared.ops.Range.{Range}
+use Rattle.commonware_parallel.proofs.{◌≡◌, ℕ, ◌/◌, ◌<◌, ◌≤◌, List, length, All, arith, subst, Range, BalancedCut-at_least}
 use Rattle.parallel_shares.specs.Cut.{BalancedCut, range_length}
-use Rattle.parallel_shares.proofs.Cuts.{BalancedCut-at_least}
 use Rattle.commonware_parallel.proofs.batches.Batches.balanced.Goals as goal
 
 least : (len count : ℕ) (rs : List (Range ℕ)) → BalancedCut len rs → length rs ≡ count → 0 < count

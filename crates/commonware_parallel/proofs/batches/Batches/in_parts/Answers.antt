@@ -1,8 +1,5 @@
 -- Of two or more ranges there are no more than the minimum's times in the indices.
-use Rattle.std.proofs.Common.{rules, ◌≡◌, ℕ, ◌/◌, ◌≤◌, length, max, arith}
-use Rattle.std.specs.Int.NonZero.{non_zero_usize_get}
-use Rattle.parallel_shares.proofs.Cuts.{BalancedCut-minimum_share}
-use Rattle.commonware_parallel.specs.Batches.{ranges_of}
+use Rattle.commonware_parallel.proofs.{rules, ◌≡◌, ℕ, ◌/◌, ◌≤◌, length, max, arith, non_zero_usize_get, BalancedCut-minimum_share, ranges_of}
 use Rattle.commonware_parallel.proofs.batches.Batches.in_parts.Goals as goal
 
 few : (n parts share : ℕ) → n ≡ parts → 2 ≤ n → parts ≤ max 1 share → n ≤ share

@@ -1,7 +1,6 @@
 -- What the map goes over is what the closure made of the batch's ranges.
-use Rattle.std.proofs.Common.{rules, ◌≡◌, inl}
+use Rattle.commonware_parallel.proofs.{rules, ◌≡◌, inl, Memory}
 use Rattle.std.proofs.lemmas.Result.{IfErr-weaker}
-use Rattle.parallel_fault.specs.declared.fault.Fault.TheVariants.{Memory}
 use Rattle.commonware_parallel.proofs.batches.Batches.map_collect_vec.Goals as goal
 
 pub map_prepared-requires-after_bounds : goal.map_prepared-requires-after_bounds

@@ -1,6 +1,5 @@
 -- What the map goes over is what the closure made of the batch's ranges.
-use Rattle.std.proofs.Common.{inl}
-use Rattle.commonware_parallel.proofs.Outcomes.{unless_faulty}
+use Rattle.commonware_parallel.proofs.{inl, unless_faulty}
 use Rattle.commonware_parallel.proofs.batches.Batches.try_map_collect_vec.Goals as goal
 
 pub try_map_prepared-requires-after_bounds : goal.try_map_prepared-requires-after_bounds

@@ -1,12 +1,6 @@
 -- The call that the strategy was asked about is the one of the clause, and the batch has its inner
 -- one.
-use Rattle.std.proofs.Common.{rules, ◌≡◌, ◌<◌, ◌≤◌, ap, ◌∙◌, subst, sym}
-use Rattle.std.specs.Int.NonZero.{non_zero_usize_get}
-use Rattle.commonware_parallel.specs.Calls.{IsInnerOf, batches_call}
-use Rattle.commonware_parallel.specs.Batches.{IsBatch, place_of, ranges_of, strategy_of}
-use Rattle.commonware_parallel.specs.declared.call.Call.{Call}
-use Rattle.commonware_parallel.specs.declared.call.Pick.TheVariants.{Into}
-use Rattle.commonware_parallel.specs.declared.batches.Batches.{Batches}
+use Rattle.commonware_parallel.proofs.{rules, ◌≡◌, ◌<◌, ◌≤◌, ap, ◌∙◌, subst, sym, non_zero_usize_get, IsInnerOf, batches_call, IsBatch, place_of, ranges_of, strategy_of, Call, Into, Batches}
 use Rattle.commonware_parallel.proofs.batches.dispatched.batches_through.Goals as goal
 
 pub returns-in-Ok-clause-answers : goal.returns-in-Ok-clause-answers

@@ -1,15 +1,8 @@
 -- The call that the strategy was asked about is the one of the clause, and the batch has its inner
 -- one.
-use Rattle.std.proofs.Common.{rules, ◌≡◌, ◌<◌, ◌≤◌, ap, ◌∙◌, subst, sym, Result}
-use Rattle.std.specs.Int.NonZero.{non_zero_usize_get}
-use Rattle.parallel_bridge.specs.Outcomes.{UnlessRefused}
+use Rattle.commonware_parallel.proofs.{rules, ◌≡◌, ◌<◌, ◌≤◌, ap, ◌∙◌, subst, sym, Result, non_zero_usize_get, UnlessRefused, IsInnerOf, batches_call, IsBatch, OnSomeBatch, place_of, ranges_of}
+use Rattle.commonware_parallel.proofs.{strategy_of, Call, Into, Batches, unless_told}
 use Rattle.parallel_bridge.proofs.Outcomes.{unless_weaker}
-use Rattle.commonware_parallel.specs.Calls.{IsInnerOf, batches_call}
-use Rattle.commonware_parallel.specs.Batches.{IsBatch, OnSomeBatch, place_of, ranges_of, strategy_of}
-use Rattle.commonware_parallel.specs.declared.call.Call.{Call}
-use Rattle.commonware_parallel.specs.declared.call.Pick.TheVariants.{Into}
-use Rattle.commonware_parallel.specs.declared.batches.Batches.{Batches}
-use Rattle.commonware_parallel.proofs.Outcomes.{unless_told}
 use Rattle.commonware_parallel.proofs.batches.dispatched.try_batches_through.Goals as goal
 
 pub returns : goal.returns

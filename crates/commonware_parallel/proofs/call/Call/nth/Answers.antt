@@ -1,5 +1,5 @@
 -- Told, so that a body which breaks these is refused with no further search.
-use Rattle.std.proofs.Common.{rules}
+use Rattle.commonware_parallel.proofs.{rules}
 use Rattle.commonware_parallel.proofs.call.Call.nth.Goals as goal
 
 pub returns-then-not-goes_by_path-clause-pick : goal.returns-then-not-goes_by_path-clause-pick

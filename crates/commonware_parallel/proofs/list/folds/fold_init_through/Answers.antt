@@ -1,9 +1,5 @@
 -- The thread number that the body was given is the strategy's.
-use Rattle.std.proofs.Common.{rules}
-use Rattle.std.specs.Borrow.{MutBor}
-use Rattle.parallel_bridge.specs.States.{FoldStep}
-use Rattle.parallel_bridge.specs.Ways.{FoldedInitAs}
-use Rattle.commonware_parallel.proofs.ListCalls.{at_threads}
+use Rattle.commonware_parallel.proofs.{rules, MutBor, FoldStep, FoldedInitAs, at_threads}
 use Rattle.commonware_parallel.proofs.list.folds.fold_init_through.Goals as goal
 
 pub returns-clause-answers : goal.returns-clause-answers

@@ -1,7 +1,5 @@
 -- The thread number that the body was given is the strategy's.
-use Rattle.std.proofs.Common.{rules}
-use Rattle.parallel_bridge.specs.Ways.{FoldedAs}
-use Rattle.commonware_parallel.proofs.ListCalls.{at_threads}
+use Rattle.commonware_parallel.proofs.{rules, FoldedAs, at_threads}
 use Rattle.commonware_parallel.proofs.list.folds.fold_through.Goals as goal
 
 pub returns-clause-answers : goal.returns-clause-answers

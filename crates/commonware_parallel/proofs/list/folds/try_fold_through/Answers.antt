@@ -1,7 +1,5 @@
 -- The thread number that the body was given is the strategy's.
-use Rattle.std.proofs.Common.{rules, Result}
-use Rattle.parallel_bridge.specs.Ways.{TryFoldedAs}
-use Rattle.commonware_parallel.proofs.ListCalls.{outcome_at_threads}
+use Rattle.commonware_parallel.proofs.{rules, Result, TryFoldedAs, outcome_at_threads}
 use Rattle.commonware_parallel.proofs.list.folds.try_fold_through.Goals as goal
 
 pub returns : goal.returns

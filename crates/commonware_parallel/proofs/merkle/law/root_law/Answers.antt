@@ -1,5 +1,5 @@
 -- The law, at the relation of the closure.
-use Rattle.commonware_parallel.proofs.Merkles.{one_root}
+use Rattle.commonware_parallel.proofs.{one_root}
 use Rattle.commonware_parallel.proofs.merkle.law.root_law.Goals as goal
 
 pub returns : goal.returns

@@ -1,8 +1,5 @@
 -- Two items more make a node, and an odd last one is a node.
-use Rattle.std.proofs.Common.{rules, sym, subst, ap, ◌∙◌, arith, length}
-use Rattle.std.specs.Vec.Iter.{into_iter_items}
-use Rattle.commonware_parallel.specs.Merkle.{NextLevel}
-use Rattle.commonware_parallel.proofs.Merkles.{Leads, leads_pair, leads_odd, leads_none, leads_start}
+use Rattle.commonware_parallel.proofs.{rules, sym, subst, ap, ◌∙◌, arith, length, into_iter_items, NextLevel, Leads, leads_pair, leads_odd, leads_none, leads_start}
 use Rattle.commonware_parallel.proofs.merkle.plain.next_level.Goals as goal
 
 pub loop-left-init : goal.loop-left-init

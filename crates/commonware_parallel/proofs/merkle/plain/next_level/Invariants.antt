@@ -1,7 +1,5 @@
 -- Whatever next level the items that are left have, behind the nodes it is that of the whole level.
-use Rattle.std.proofs.Common.{◌≡◌, length}
-use Rattle.std.specs.Vec.Iter.{into_iter_items, into_iter_len}
-use Rattle.commonware_parallel.proofs.Merkles.{Leads}
+use Rattle.commonware_parallel.proofs.{◌≡◌, length, into_iter_items, into_iter_len, Leads}
 use Rattle.commonware_parallel.proofs.merkle.plain.next_level.Given as goal
 
 abbrev pub invariant-loop-left : goal.invariant-loop-left

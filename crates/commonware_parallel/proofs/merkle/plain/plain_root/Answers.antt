@@ -1,6 +1,5 @@
 -- A root of the next level is one of the level, and so one of the leaves.
-use Rattle.std.proofs.Common.{rules, vec_len}
-use Rattle.commonware_parallel.proofs.Merkles.{next_shorter, root_below, root_of_last}
+use Rattle.commonware_parallel.proofs.{rules, vec_len, next_shorter, root_below, root_of_last}
 use Rattle.commonware_parallel.proofs.merkle.plain.plain_root.Goals as goal
 
 pub loop-alloc-smaller : goal.loop-alloc-smaller

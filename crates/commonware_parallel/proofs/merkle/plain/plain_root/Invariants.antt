@@ -1,6 +1,5 @@
 -- A root of the level is one of the leaves.
-use Rattle.std.proofs.Common.{Option, length}
-use Rattle.commonware_parallel.specs.Merkle.{MerkleRoot}
+use Rattle.commonware_parallel.proofs.{Option, length, MerkleRoot}
 use Rattle.commonware_parallel.proofs.merkle.plain.plain_root.Given as goal
 
 abbrev pub invariant-loop-alloc : goal.invariant-loop-alloc

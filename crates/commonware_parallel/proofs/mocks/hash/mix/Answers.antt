@@ -1,8 +1,5 @@
 -- The bytes are mixed in one after another, between the seed and the place.
-use Rattle.std.proofs.Common.{rules, ◌≡◌, ◌∙◌, ℕ, take, length, ap, ◌∷◌, [], ◌++◌}
-use Rattle.std.proofs.lemmas.List.{take_all}
-use Rattle.commonware_parallel.specs.Mixes.{mixed_in, mixed_all}
-use Rattle.commonware_parallel.proofs.Hashes.{one_more, three_more}
+use Rattle.commonware_parallel.proofs.{rules, ◌≡◌, ◌∙◌, ℕ, take, length, ap, ◌∷◌, [], ◌++◌, take_all, mixed_in, mixed_all, one_more, three_more}
 use Rattle.commonware_parallel.proofs.mocks.hash.mix.Goals as goal
 
 pub loop-byte-preserved : goal.loop-byte-preserved

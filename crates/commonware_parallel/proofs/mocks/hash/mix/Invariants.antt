@@ -1,6 +1,5 @@
 -- the hash has the bytes so far
-use Rattle.std.specs.Prelude.{◌≡◌, ◌<◌, take, length}
-use Rattle.commonware_parallel.specs.Mixes.{mixed_in, mixed_all}
+use Rattle.commonware_parallel.proofs.{◌≡◌, ◌<◌, take, length, mixed_in, mixed_all}
 use Rattle.commonware_parallel.proofs.mocks.hash.mix.Given as goal
 
 abbrev pub invariant-loop-byte : goal.invariant-loop-byte

@@ -1,5 +1,5 @@
 -- The run by the rule, and what the comparison said.
-use Rattle.std.proofs.Common.{rules, ◌∙◌, refl}
+use Rattle.commonware_parallel.proofs.{rules, ◌∙◌, refl}
 use Rattle.commonware_parallel.proofs.mocks.search.compare.Goals as goal
 
 pub returns-then-eq-clause-compares : goal.returns-then-eq-clause-compares

@@ -1,10 +1,6 @@
 -- Each run behind the serial one agrees with it, or is told.
-use Rattle.std.proofs.Common.{rules, ◌∷◌, [], refl, Bool}
-use Rattle.std.specs.Borrow.{Bor}
+use Rattle.commonware_parallel.proofs.{rules, ◌∷◌, [], refl, Bool, Bor, Explorer, Parallel, Seeded, one_agrees, serial_alone, told}
 use Rattle.std.specs.Fn.{Called}
-use Rattle.commonware_parallel.specs.declared.mocks.explorer.Explorer.{Explorer}
-use Rattle.commonware_parallel.specs.declared.mocks.rule.Rule.TheVariants.{Parallel, Seeded}
-use Rattle.commonware_parallel.proofs.Searches.{one_agrees, serial_alone, told}
 use Rattle.commonware_parallel.proofs.mocks.search.explore.Given.{Over}
 use Rattle.commonware_parallel.proofs.mocks.search.explore.Goals as goal
 

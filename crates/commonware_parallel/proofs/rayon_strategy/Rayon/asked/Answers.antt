@@ -1,5 +1,5 @@
 -- Told, so that a body which breaks these is refused with no further search.
-use Rattle.std.proofs.Common.{rules}
+use Rattle.commonware_parallel.proofs.{rules}
 use Rattle.commonware_parallel.proofs.rayon_strategy.Rayon.asked.Goals as goal
 
 pub returns-clause-options : goal.returns-clause-options

@@ -1,5 +1,5 @@
 -- The batch that the closure was given is the whole one.
-use Rattle.std.proofs.Common.{rules}
+use Rattle.commonware_parallel.proofs.{rules}
 use Rattle.commonware_parallel.proofs.sequential.Sequential.run_batches.Goals as goal
 
 pub returns-clause-answers : goal.returns-clause-answers

@@ -1,8 +1,5 @@
 -- Over the source as it comes the list is one segment.
-use Rattle.std.proofs.Common.{rules, refl, length}
-use Rattle.parallel_bridge.specs.Lists.{of_segment}
-use Rattle.parallel_bridge.specs.declared.path.Path.TheVariants.{Serial}
-use Rattle.commonware_parallel.specs.Calls.{body_call}
+use Rattle.commonware_parallel.proofs.{rules, refl, length, of_segment, Serial, body_call}
 use Rattle.commonware_parallel.proofs.strategy.Strategy.fold_init.Goals as goal
 
 pub returns-then-is_serial-clause-brackets : goal.returns-then-is_serial-clause-brackets

@@ -1,10 +1,5 @@
 -- Over the source as it comes there is one state.
-use Rattle.std.proofs.Common.{rules, refl, length, ℕ}
-use Rattle.parallel_bridge.specs.declared.path.Path.TheVariants.{Serial}
-use Rattle.parallel_bridge.proofs.Statefuls.{stateful_from_segment}
-use Rattle.commonware_parallel.specs.Calls.{multiplied_call}
-use Rattle.commonware_parallel.specs.declared.call.Call.{Call}
-use Rattle.commonware_parallel.proofs.ListCalls.{over_source}
+use Rattle.commonware_parallel.proofs.{rules, refl, length, ℕ, Serial, stateful_from_segment, multiplied_call, Call, over_source}
 use Rattle.commonware_parallel.proofs.strategy.Strategy.map_init_collect_vec_with_multiplier.Goals as goal
 
 pub returns-then-is_serial-clause-stateful : goal.returns-then-is_serial-clause-stateful

@@ -1,9 +1,6 @@
 -- Over the source as it comes the list is one segment.
-use Rattle.std.proofs.Common.{rules, refl, length}
+use Rattle.commonware_parallel.proofs.{rules, refl, length, Serial, body_call, outcome_over_source}
 use Rattle.parallel_bridge.specs.Tries.{of_try_segment}
-use Rattle.parallel_bridge.specs.declared.path.Path.TheVariants.{Serial}
-use Rattle.commonware_parallel.specs.Calls.{body_call}
-use Rattle.commonware_parallel.proofs.ListCalls.{outcome_over_source}
 use Rattle.commonware_parallel.proofs.strategy.Strategy.try_fold.Goals as goal
 
 pub returns-then-is_serial-clause-brackets : goal.returns-then-is_serial-clause-brackets

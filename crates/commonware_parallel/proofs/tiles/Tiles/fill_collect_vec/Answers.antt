@@ -1,11 +1,6 @@
 -- No cell, all rows by one chain, or what the seats have together.
-use Rattle.std.proofs.Common.{rules, ◌≡◌, ◌∙◌, inl, inr, false, [], refl, sym, true≢false}
-use Rattle.std.specs.Int.NonZero.{non_zero_usize_get}
-use Rattle.std.proofs.lemmas.List.Elements.{All-nil}
-use Rattle.commonware_parallel.specs.Rectangles.{IsWholeRow, whole_rows}
-use Rattle.commonware_parallel.proofs.FilledRows.{positive, rows_finished}
-use Rattle.commonware_parallel.proofs.SeatResults.{chains_of_none, chains_of_one}
-use Rattle.commonware_parallel.proofs.WholeRowCuts.{no_rectangle, whole_rectangle, rows_are_whole}
+use Rattle.commonware_parallel.proofs.{rules, ◌≡◌, ◌∙◌, inl, inr, false, [], refl, sym, true≢false, non_zero_usize_get, All-nil, IsWholeRow, whole_rows, positive, rows_finished, chains_of_none}
+use Rattle.commonware_parallel.proofs.{chains_of_one, no_rectangle, whole_rectangle, rows_are_whole}
 use Rattle.commonware_parallel.proofs.tiles.Tiles.fill_collect_vec.Goals as goal
 
 pub returns-then-is_empty-clause-fills : goal.returns-then-is_empty-clause-fills

@@ -1,12 +1,5 @@
 -- No cell, or the rows' stretches and what they are together.
-use Rattle.std.proofs.Common.{rules, inl, inr, [], refl, sym, subst}
-use Rattle.std.proofs.lemmas.List.Elements.{All-nil}
-use Rattle.std.proofs.lemmas.List.Sorted.{IsPermutation-refl}
-use Rattle.commonware_parallel.specs.Chains.{no_chain}
-use Rattle.commonware_parallel.specs.MergedRows.{RowValues}
-use Rattle.commonware_parallel.specs.Rectangles.{IsWholeRow}
-use Rattle.commonware_parallel.proofs.RowMerges.{as_many_values}
-use Rattle.commonware_parallel.proofs.WholeRowCuts.{no_rectangle}
+use Rattle.commonware_parallel.proofs.{rules, inl, inr, [], refl, sym, subst, All-nil, IsPermutation-refl, no_chain, RowValues, IsWholeRow, as_many_values, no_rectangle}
 use Rattle.commonware_parallel.proofs.tiles.Tiles.fill_merge_collect_vec.Goals as goal
 
 pub returns-then-is_empty-clause-merges : goal.returns-then-is_empty-clause-merges

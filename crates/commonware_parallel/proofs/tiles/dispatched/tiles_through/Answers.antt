@@ -1,10 +1,7 @@
 -- The call that the strategy was asked about is the one of the clause, and the tiles have its inner
 -- one.
-use Rattle.std.proofs.Common.{rules, ◌≡◌, ◌<◌, ◌≤◌, ap, ◌∙◌, subst, sym}
-use Rattle.commonware_parallel.specs.Calls.{IsInnerOf, tiles_call}
+use Rattle.commonware_parallel.proofs.{rules, ◌≡◌, ◌<◌, ◌≤◌, ap, ◌∙◌, subst, sym, IsInnerOf, tiles_call, Call, Into}
 use Rattle.commonware_parallel.specs.Tiles.{IsTiling, tiles_place, tiles_strategy}
-use Rattle.commonware_parallel.specs.declared.call.Call.{Call}
-use Rattle.commonware_parallel.specs.declared.call.Pick.TheVariants.{Into}
 use Rattle.commonware_parallel.specs.declared.tiles.Tiles.{Tiles}
 use Rattle.commonware_parallel.proofs.tiles.dispatched.tiles_through.Goals as goal
 

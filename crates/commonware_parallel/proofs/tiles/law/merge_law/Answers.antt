@@ -1,5 +1,5 @@
 -- The law, at the relation of the closure.
-use Rattle.commonware_parallel.proofs.RowLaws.{one_value}
+use Rattle.commonware_parallel.proofs.{one_value}
 use Rattle.commonware_parallel.proofs.tiles.law.merge_law.Goals as goal
 
 pub returns : goal.returns

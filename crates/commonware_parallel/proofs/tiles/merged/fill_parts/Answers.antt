@@ -1,15 +1,6 @@
 -- What cuts the grid are the stretches that the results name.
-use Rattle.std.proofs.Common.{ℕ, All, sym, subst}
-use Rattle.std.specs.Borrow.{MutBor}
-use Rattle.std.specs.declared.ops.Range.{Range}
-use Rattle.parallel_shares.specs.declared.shares.stretch.Stretch.{Stretch}
-use Rattle.parallel_shares.specs.Fillings.{Fills, Gives}
-use Rattle.commonware_parallel.specs.Chains.{Chains}
-use Rattle.commonware_parallel.specs.MergedRows.{results_in}
-use Rattle.commonware_parallel.specs.Noting.{BeginsNoting, FillsNoting, FinishesNaming}
-use Rattle.commonware_parallel.specs.Rectangles.{CutsRectangle, IsWholeRow}
-use Rattle.commonware_parallel.specs.declared.tiles.merged.Noting.{Noting}
-use Rattle.commonware_parallel.proofs.NamedResults.{named_parts}
+use Rattle.commonware_parallel.proofs.{ℕ, All, sym, subst, MutBor, Range, Stretch, Fills, Gives, Chains, results_in, BeginsNoting, FillsNoting, FinishesNaming, CutsRectangle, IsWholeRow, Noting}
+use Rattle.commonware_parallel.proofs.{named_parts}
 use Rattle.commonware_parallel.proofs.tiles.merged.fill_parts.Goals as goal
 
 pub returns-clause-fills : goal.returns-clause-fills

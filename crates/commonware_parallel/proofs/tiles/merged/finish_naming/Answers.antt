@@ -1,5 +1,5 @@
 -- The stretch begins where it was noted.
-use Rattle.std.proofs.Common.{refl, ap}
+use Rattle.commonware_parallel.proofs.{refl, ap}
 use Rattle.commonware_parallel.proofs.tiles.merged.finish_naming.Goals as goal
 
 pub returns : goal.returns

@@ -1,5 +1,5 @@
 -- What came so far stands on the left.
-use Rattle.std.proofs.Common.{rules}
+use Rattle.commonware_parallel.proofs.{rules}
 use Rattle.commonware_parallel.proofs.tiles.merged.joined.Goals as goal
 
 pub returns-in-Some : goal.returns-in-Some

@@ -1,10 +1,7 @@
 -- No stretch, one stretch more, and all of them.
-use Rattle.std.proofs.Common.{rules, ◌≡◌, ◌*◌, All, sym, subst, ◌∙◌}
+use Rattle.commonware_parallel.proofs.{rules, ◌≡◌, ◌*◌, All, sym, subst, ◌∙◌, map-id, Follows, IsThere, nothing_so_far, next_so_far, all_so_far}
 use Rattle.std.proofs.lemmas.Iterator.Adapters.{YieldsList-from_vec}
 use Rattle.std.proofs.lemmas.Iterator.Consumers.{YieldsList-end}
-use Rattle.std.proofs.lemmas.List.{map-id}
-use Rattle.commonware_parallel.specs.MergedRows.{Follows, IsThere}
-use Rattle.commonware_parallel.proofs.RowMerges.{nothing_so_far, next_so_far, all_so_far}
 use Rattle.commonware_parallel.proofs.tiles.merged.merge_ordered.Goals as goal
 
 pub loop-part-init : goal.loop-part-init

@@ -1,5 +1,5 @@
 -- The rows that came are merged, and the beginning of the next one.
-use Rattle.commonware_parallel.proofs.RowMerges.{Sofar}
+use Rattle.commonware_parallel.proofs.{Sofar}
 use Rattle.commonware_parallel.proofs.tiles.merged.merge_ordered.Given as goal
 
 abbrev pub invariant-loop-part : goal.invariant-loop-part

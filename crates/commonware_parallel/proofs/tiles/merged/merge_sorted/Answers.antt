@@ -1,8 +1,5 @@
 -- Sorted by their places, the stretches follow one another.
-use Rattle.std.proofs.Common.{rules}
-use Rattle.std.proofs.lemmas.List.Sorted.{IsNonDecreasingBy-from_sort_by_key}
-use Rattle.commonware_parallel.specs.MergedRows.{wrapped_place}
-use Rattle.commonware_parallel.proofs.SortedStretches.{sorted_follow}
+use Rattle.commonware_parallel.proofs.{rules, IsNonDecreasingBy-from_sort_by_key, wrapped_place, sorted_follow}
 use Rattle.commonware_parallel.proofs.tiles.merged.merge_sorted.Goals as goal
 
 pub merge_ordered-requires-clause-there : goal.merge_ordered-requires-clause-there

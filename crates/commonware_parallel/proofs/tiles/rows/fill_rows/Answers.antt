@@ -1,5 +1,5 @@
 -- One whole row more.
-use Rattle.std.proofs.Common.{refl, add-one}
+use Rattle.commonware_parallel.proofs.{refl, add-one}
 use Rattle.commonware_parallel.proofs.tiles.rows.fill_rows.Goals as goal
 
 pub loop-row-preserved : goal.loop-row-preserved

@@ -1,6 +1,5 @@
 -- The rows so far, whole and in order.
-use Rattle.parallel_shares.specs.Fillings.{Fills, Gives}
-use Rattle.commonware_parallel.specs.Chains.{WholeRows}
+use Rattle.commonware_parallel.proofs.{Fills, Gives, WholeRows}
 use Rattle.commonware_parallel.proofs.tiles.rows.fill_rows.Given as goal
 
 abbrev pub invariant-loop-row : goal.invariant-loop-row

@@ -1,8 +1,5 @@
 -- The seats are all back with nothing left to claim, so that each cell was claimed once.
-use Rattle.std.proofs.Common.{sym, subst}
-use Rattle.parallel_shares.specs.Seats.{AreSeatsOf, AllDone, EachCellOnce}
-use Rattle.commonware_parallel.proofs.FilledRows.{positive}
-use Rattle.commonware_parallel.proofs.SeatResults.{all_came, seats_back, all_done, chains_of, rectangle}
+use Rattle.commonware_parallel.proofs.{sym, subst, AreSeatsOf, AllDone, EachCellOnce, positive, all_came, seats_back, all_done, chains_of, rectangle}
 use Rattle.commonware_parallel.proofs.tiles.seats.fill_shared.Goals as goal
 
 pub close-words-requires : goal.close-words-requires

@@ -1,8 +1,5 @@
 -- One more seat, and its results.
-use Rattle.std.proofs.Common.{◌++◌, ◌∷◌, [], map, ap, sym, ◌∙◌}
-use Rattle.std.proofs.lemmas.List.{map-append}
-use Rattle.commonware_parallel.specs.Seated.{seat_of}
-use Rattle.commonware_parallel.proofs.SeatResults.{results_push}
+use Rattle.commonware_parallel.proofs.{◌++◌, ◌∷◌, [], map, ap, sym, ◌∙◌, map-append, seat_of, results_push}
 use Rattle.commonware_parallel.proofs.tiles.seats.gather.Goals as goal
 
 pub loop-part-preserved : goal.loop-part-preserved

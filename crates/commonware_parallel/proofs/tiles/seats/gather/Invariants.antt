@@ -1,6 +1,5 @@
 -- The seats so far, and all of their results.
-use Rattle.std.proofs.Common.{◌≡◌, map}
-use Rattle.commonware_parallel.specs.Seated.{AllResults, seat_of}
+use Rattle.commonware_parallel.proofs.{◌≡◌, map, AllResults, seat_of}
 use Rattle.commonware_parallel.proofs.tiles.seats.gather.Given as goal
 
 abbrev pub invariant-loop-part : goal.invariant-loop-part

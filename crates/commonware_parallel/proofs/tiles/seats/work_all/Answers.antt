@@ -1,5 +1,5 @@
 -- What the closure says of each seat, along the segments.
-use Rattle.commonware_parallel.proofs.StatefulSteps.{stateful_steps}
+use Rattle.commonware_parallel.proofs.{stateful_steps}
 use Rattle.commonware_parallel.proofs.tiles.seats.work_all.Goals as goal
 
 pub returns-clause-stateful : goal.returns-clause-stateful

@@ -1,5 +1,5 @@
 -- The closure may be called at each item that comes; one turn is one step more, or the end stands.
-use Rattle.parallel_bridge.proofs.{rules, ◌∷◌, [], arith, refl, next_has, halts_onward, halts_rests}
+use Rattle.parallel_bridge.proofs.{rules, ◌∷◌, [], arith, refl, next_has, halt_continues, halts_rests}
 use Rattle.parallel_bridge.proofs.consumer.gated_fold.gated_fold_from.Goals as goal
 
 pub loop-item-init : goal.loop-item-init
@@ -22,9 +22,9 @@ pub loop-item-preserved : goal.loop-item-preserved
 loop-item-preserved g c =
     let i = c.loop-item.invariant in
     record {
-      reached = halts_onward (goal.F-post g c.args.fold_op.now) c.args.control
+      reached = halt_continues (goal.F-post g c.args.fold_op.now) c.args.control
           c.loop-item.control c.gated_step-control.result c.loop-item.yielded
-          (c.in-Some.item ∷ []) i.reached c.gated_step-control.ensures.onward;
+          (c.in-Some.item ∷ []) i.reached c.gated_step-control.ensures.continues;
       watching = c.gated_step-control.ensures.watching;
       stands = omega (arith, c.gated_step-control.ensures.same.2, i.stands);
       same = search rules;

@@ -1,6 +1,5 @@
 -- There is a deque for each turn, and none has seen anything.
-use Rattle.std.proofs.Common.{◌≡◌, All, vec_len}
-use Rattle.parallel_pool.specs.JobHistory.{new_pass}
+use Rattle.parallel_pool.proofs.{◌≡◌, All, vec_len, new_pass}
 use Rattle.parallel_pool.proofs.rayon.job_queues.open_deques.Given as goal
 
 abbrev pub invariant-loop : goal.invariant-loop

@@ -1,5 +1,5 @@
 -- There is an inlet for each turn.
-use Rattle.std.proofs.Common.{◌≡◌, vec_len}
+use Rattle.parallel_pool.proofs.{◌≡◌, vec_len}
 use Rattle.parallel_pool.proofs.rayon.job_queues.open_inlets.Given as goal
 
 abbrev pub invariant-loop : goal.invariant-loop

@@ -1,5 +1,5 @@
 -- There is a thief for each deque so far.
-use Rattle.std.proofs.Common.{◌≡◌, vec_len}
+use Rattle.parallel_pool.proofs.{◌≡◌, vec_len}
 use Rattle.parallel_pool.proofs.rayon.job_queues.thieves.Given as goal
 
 abbrev pub invariant-loop-place : goal.invariant-loop-place

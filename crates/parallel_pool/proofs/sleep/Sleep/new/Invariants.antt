@@ -1,5 +1,5 @@
 -- There is a parker for each turn.
-use Rattle.std.proofs.Common.{◌≡◌, vec_len}
+use Rattle.parallel_pool.proofs.{◌≡◌, vec_len}
 use Rattle.parallel_pool.proofs.sleep.Sleep.new.Given as goal
 
 abbrev pub invariant-loop : goal.invariant-loop

@@ -1,5 +1,5 @@
 -- Each look at the latch is one more.
-use Rattle.parallel_pool.proofs.Probes.{no_probe, one_probe}
+use Rattle.parallel_pool.proofs.{no_probe, one_probe}
 use Rattle.parallel_pool.proofs.sleep.Sleep.park.Goals as goal
 
 pub loop-init : goal.loop-init

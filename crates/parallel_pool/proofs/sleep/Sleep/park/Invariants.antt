@@ -1,7 +1,5 @@
 -- The worker has only probed its latch, and still has a seat of it.
-use Rattle.parallel_pool.specs.Latch.{IsLatchSeatOf, known}
-use Rattle.parallel_pool.specs.LatchHistory.{HasSeenSet}
-use Rattle.parallel_pool.specs.SleepTries.{OnlyProbes}
+use Rattle.parallel_pool.proofs.{IsLatchSeatOf, known, HasSeenSet, OnlyProbes}
 use Rattle.parallel_pool.proofs.sleep.Sleep.park.Given as goal
 
 abbrev pub invariant-loop : goal.invariant-loop

@@ -1,5 +1,5 @@
 -- Told, so that a body which breaks these is refused with no further search.
-use Rattle.std.proofs.Common.{rules}
+use Rattle.parallel_pool.proofs.{rules}
 use Rattle.parallel_pool.proofs.sleep.Sleep.sleep.Goals as goal
 
 pub returns-clause-tries : goal.returns-clause-tries

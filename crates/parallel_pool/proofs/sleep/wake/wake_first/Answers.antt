@@ -1,6 +1,5 @@
 -- Each worker that the walk comes to is woken, or passed over for being awake or one too many.
-use Rattle.std.proofs.Common.{arith, sym, ap, ◌≡◌, ◌∙◌, ◌<◌, ◌≤◌, length, take}
-use Rattle.parallel_pool.proofs.Standings.{starts_waking, wakes_one, passes_awake, passes_all, all_below, blocked_below}
+use Rattle.parallel_pool.proofs.{arith, sym, ap, ◌≡◌, ◌∙◌, ◌<◌, ◌≤◌, length, take, starts_waking, wakes_one, passes_awake, passes_all, all_below, blocked_below}
 use Rattle.parallel_pool.proofs.sleep.wake.wake_first.Goals as goal
 use Rattle.parallel_pool.proofs.sleep.wake.wake_first.Goals.{then-len-most+then-is_blocked, else-len-most, else-len-most-via-then-len-most+else-is_blocked, else-len-most-via-else-len-most}
 

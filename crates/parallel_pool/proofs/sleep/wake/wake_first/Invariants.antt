@@ -1,6 +1,5 @@
 -- The blocked workers so far were woken, up to `most`, and the list still has its room.
-use Rattle.std.proofs.Common.{◌≡◌, ◌≤◌, vec_len, vec_capacity}
-use Rattle.parallel_pool.proofs.Standings.{IsWokenBelow}
+use Rattle.parallel_pool.proofs.{◌≡◌, ◌≤◌, vec_len, vec_capacity, IsWokenBelow}
 use Rattle.parallel_pool.proofs.sleep.wake.wake_first.Given as goal
 
 abbrev pub invariant-loop-worker : goal.invariant-loop-worker

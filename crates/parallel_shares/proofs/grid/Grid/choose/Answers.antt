@@ -1,7 +1,5 @@
 -- Each turn of the scan keeps the chosen grid or takes the one that it looks at.
-use Rattle.std.proofs.Common.{arith}
-use Rattle.std.specs.Int.NonZero.{non_zero_usize_get}
-use Rattle.parallel_shares.proofs.ChooseGrid.{IsChosenSoFar-keeps, IsChosenSoFar-takes, IsChosenGrid-from_scan}
+use Rattle.parallel_shares.proofs.{arith, non_zero_usize_get, IsChosenSoFar-keeps, IsChosenSoFar-takes, IsChosenGrid-from_scan}
 use Rattle.parallel_shares.proofs.grid.Grid.choose.Goals as goal
 use Rattle.parallel_shares.proofs.grid.Grid.choose.Goals.{then-next_cost-cost, else-next_cost-cost}
 

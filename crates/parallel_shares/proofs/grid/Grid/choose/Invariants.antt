@@ -1,6 +1,5 @@
 -- The grid chosen so far is the first of least cost among those seen.
-use Rattle.std.specs.Int.NonZero.{non_zero_usize_get}
-use Rattle.parallel_shares.proofs.ChooseGrid.{IsChosenSoFar}
+use Rattle.parallel_shares.proofs.{non_zero_usize_get, IsChosenSoFar}
 use Rattle.parallel_shares.proofs.grid.Grid.choose.Given as goal
 
 abbrev pub invariant-loop-index : goal.invariant-loop-index

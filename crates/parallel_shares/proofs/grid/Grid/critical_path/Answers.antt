@@ -1,5 +1,5 @@
 -- Told, so that a body which breaks these is refused with no further search.
-use Rattle.std.proofs.Common.{rules}
+use Rattle.parallel_shares.proofs.{rules}
 use Rattle.parallel_shares.proofs.grid.Grid.critical_path.Goals as goal
 
 pub returns-then-cut-whole-clause-cost : goal.returns-then-cut-whole-clause-cost

@@ -1,12 +1,5 @@
 -- Each event adds its outcome, and what was replayed is reached by a run from the opening.
-use Rattle.std.proofs.Common.{◌++◌, ◌∷◌, [], List, get_or, take, subst}
-use Rattle.std.proofs.lemmas.List.{take_more, take_all}
-use Rattle.parallel_shares.specs.declared.machine.event.Event.{Event}
-use Rattle.parallel_shares.specs.declared.machine.event.Event.TheVariants.{Load}
-use Rattle.parallel_shares.specs.Machine.{opening}
-use Rattle.parallel_shares.specs.Answers.{Replays}
-use Rattle.parallel_shares.proofs.Openings.{opening_is_state}
-use Rattle.parallel_shares.proofs.ReplaysReach.{replays_more, one_each, reached_first, replays_reach}
+use Rattle.parallel_shares.proofs.{◌++◌, ◌∷◌, [], List, get_or, take, subst, take_more, take_all, Event, Load, opening, Replays, opening_is_state, replays_more, one_each, reached_first, replays_reach}
 use Rattle.parallel_shares.proofs.machine.replays.replay.Goals as goal
 use Rattle.parallel_shares.proofs.machine.replays.replay.Goals.{After-loop-event}
 

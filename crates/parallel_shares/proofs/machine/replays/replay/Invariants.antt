@@ -1,7 +1,5 @@
 -- The outcomes so far are those of the events so far, and lead from the opening to the state.
-use Rattle.std.proofs.Common.{take}
-use Rattle.parallel_shares.specs.Machine.{opening, IsStateOf}
-use Rattle.parallel_shares.specs.Answers.{Replays}
+use Rattle.parallel_shares.proofs.{take, opening, IsStateOf, Replays}
 use Rattle.parallel_shares.proofs.machine.replays.replay.Given as goal
 
 abbrev pub invariant-loop-event : goal.invariant-loop-event

@@ -1,6 +1,5 @@
 -- As many fresh rows as seats so far.
-use Rattle.std.proofs.Common.{◌≡◌, replicate}
-use Rattle.parallel_shares.specs.Machine.{fresh}
+use Rattle.parallel_shares.proofs.{◌≡◌, replicate, fresh}
 use Rattle.parallel_shares.proofs.machine.state.fresh_seat_rows.Given as goal
 
 abbrev pub invariant-loop-seat : goal.invariant-loop-seat

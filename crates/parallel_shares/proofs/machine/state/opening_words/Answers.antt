@@ -1,9 +1,5 @@
 -- Each share ends where the next begins, and no share runs past the units.
-use Rattle.std.proofs.Common.{◌≡◌, ◌+◌, ◌++◌, ◌∷◌, [], ◌≤◌, suc, arith, add-one, ap, ◌∙◌}
-use Rattle.parallel_shares.specs.Words.{packed}
-use Rattle.parallel_shares.specs.Sizes.{opening_start}
-use Rattle.parallel_shares.specs.Machine.{opening_words}
-use Rattle.parallel_shares.proofs.Openings.{within_units}
+use Rattle.parallel_shares.proofs.{◌≡◌, ◌+◌, ◌++◌, ◌∷◌, [], ◌≤◌, suc, arith, add-one, ap, ◌∙◌, packed, opening_start, opening_words, within_units}
 use Rattle.parallel_shares.proofs.machine.state.opening_words.Goals as goal
 use Rattle.parallel_shares.proofs.machine.state.opening_words.Goals.{After-opening_size}
 

@@ -1,7 +1,5 @@
 -- The words of the shares so far, and where the next one begins.
-use Rattle.std.proofs.Common.{◌≡◌}
-use Rattle.parallel_shares.specs.Sizes.{opening_start}
-use Rattle.parallel_shares.specs.Machine.{opening_words}
+use Rattle.parallel_shares.proofs.{◌≡◌, opening_start, opening_words}
 use Rattle.parallel_shares.proofs.machine.state.opening_words.Given as goal
 
 abbrev pub invariant-loop-share : goal.invariant-loop-share

@@ -1,5 +1,5 @@
 -- Told, so that a body which breaks these is refused with no further search.
-use Rattle.std.proofs.Common.{rules}
+use Rattle.parallel_shares.proofs.{rules}
 use Rattle.parallel_shares.proofs.machine.steps.claim.Goals as goal
 
 pub returns-then-start-end-clause-refused : goal.returns-then-start-end-clause-refused

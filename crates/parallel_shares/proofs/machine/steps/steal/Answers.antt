@@ -1,6 +1,5 @@
 -- Told, so that a body which breaks these is refused with no further search.
-use Rattle.std.proofs.lemmas.Grind.{common_steps}
-use Rattle.std.proofs.Common.{arith}
+use Rattle.parallel_shares.proofs.{common_steps, arith}
 use Rattle.parallel_shares.proofs.machine.steps.steal.Goals as goal
 
 pub returns : goal.returns

@@ -1,11 +1,5 @@
 -- What each event answers tells what it moves, and keeps what belongs to the plan.
-use Rattle.parallel_shares.specs.declared.machine.event.Event.TheVariants.{Load, Claim, Steal, Refill}
-use Rattle.parallel_shares.specs.Machine.{IsStateOf}
-use Rattle.parallel_shares.specs.Answers.{ClaimAnswers}
-use Rattle.parallel_shares.specs.Holders.{StepsByMoves}
-use Rattle.parallel_shares.proofs.EventsKeepState.{answers_keep}
-use Rattle.parallel_shares.proofs.EventsMoveUnits.{answers_move, unmoved}
-use Rattle.parallel_shares.proofs.ReplaysReach.{either_way}
+use Rattle.parallel_shares.proofs.{Load, Claim, Steal, Refill, IsStateOf, ClaimAnswers, StepsByMoves, answers_keep, answers_move, unmoved, either_way}
 use Rattle.parallel_shares.proofs.machine.steps.step.Goals as goal
 
 pub returns-in-Load-clause-moves : goal.returns-in-Load-clause-moves

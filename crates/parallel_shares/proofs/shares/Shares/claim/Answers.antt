@@ -1,9 +1,5 @@
 -- Each try loads no share less often, and what ends without a claim looked round.
-use Rattle.std.proofs.Common.{◌∙◌, sym, subst}
-use Rattle.parallel_shares.specs.Sizes.{shares_of, share_of}
-use Rattle.parallel_shares.specs.Seats.{plan_of, known}
-use Rattle.parallel_shares.specs.Steals.{NonePays}
-use Rattle.parallel_shares.proofs.LoadCounts.{grows_from, tries_grow, steals_grow, again_since}
+use Rattle.parallel_shares.proofs.{◌∙◌, sym, subst, shares_of, share_of, plan_of, known, NonePays, grows_from, tries_grow, steals_grow, again_since}
 use Rattle.parallel_shares.proofs.shares.Shares.claim.Goals as goal
 
 pub returns-in-Nothing-clause-answer : goal.returns-in-Nothing-clause-answer

@@ -1,6 +1,5 @@
 -- So far the seat has claimed nothing, and no share was loaded less often.
-use Rattle.std.proofs.Common.{◌≡◌}
-use Rattle.parallel_shares.specs.Seats.{IsSeatOf, LoadsGrow, index_of, claims_of}
+use Rattle.parallel_shares.proofs.{◌≡◌, IsSeatOf, LoadsGrow, index_of, claims_of}
 use Rattle.parallel_shares.proofs.shares.Shares.claim.Given as goal
 
 abbrev pub invariant-loop : goal.invariant-loop

@@ -1,8 +1,5 @@
 -- The table was closed with a seat that has all that the seats had.
-use Rattle.std.proofs.Common.{◌∙◌, sym, subst}
-use Rattle.parallel_shares.specs.Sharing.{IsSharingOf}
-use Rattle.parallel_shares.specs.Seats.{IsPartition, AllEmpty}
-use Rattle.parallel_shares.proofs.Closings.{partition, empty, each_once, opening_stands}
+use Rattle.parallel_shares.proofs.{◌∙◌, sym, subst, IsSharingOf, IsPartition, AllEmpty, partition, empty, each_once, opening_stands}
 use Rattle.parallel_shares.proofs.shares.Shares.close.Goals as goal
 
 pub returns-clause-partition : goal.returns-clause-partition

@@ -1,9 +1,6 @@
 -- Each seat gets the next number of the first view, and the last seat is what is left of it.
-use Rattle.std.proofs.Common.{◌≡◌, ◌+◌, ◌<◌, ◌∷◌, [], ◌∙◌, ap, arith}
-use Rattle.parallel_shares.specs.Sharing.{fresh_view, undealt, dealt_from, dealt}
-use Rattle.parallel_shares.proofs.Openings.{some_shares}
-use Rattle.parallel_shares.proofs.DealingKeepsSharing.{splits}
-use Rattle.parallel_shares.proofs.DealSeats.{rest_dealt, first_dealt, is_seat, is_fresh, dealt_none, dealt_more}
+use Rattle.parallel_shares.proofs.{◌≡◌, ◌+◌, ◌<◌, ◌∷◌, [], ◌∙◌, ap, arith, fresh_view, undealt, dealt_from, dealt, some_shares, splits, rest_dealt, first_dealt, is_seat, is_fresh, dealt_none}
+use Rattle.parallel_shares.proofs.{dealt_more}
 use Rattle.parallel_shares.proofs.shares.Shares.deal.Goals as goal
 
 pub loop-index-init : goal.loop-index-init

@@ -1,7 +1,5 @@
 -- The seats so far, and what the first view has left.
-use Rattle.std.proofs.Common.{◌≡◌, []}
-use Rattle.parallel_shares.specs.Sharing.{undealt}
-use Rattle.parallel_shares.proofs.DealSeats.{Dealt}
+use Rattle.parallel_shares.proofs.{◌≡◌, [], undealt, Dealt}
 use Rattle.parallel_shares.proofs.shares.Shares.deal.Given as goal
 
 abbrev pub invariant-loop-index : goal.invariant-loop-index

@@ -1,9 +1,6 @@
 -- Each turn passes over the seat's own share, or loads another one and keeps the better.
-use Rattle.std.proofs.Common.{rules, ◌≡◌, ◌≢◌, ◌+◌, ◌<◌, ◌∙◌, length, Some, subst, sym, arith}
-use Rattle.parallel_shares.specs.Sizes.{shares_of, share_of}
-use Rattle.parallel_shares.specs.Seats.{known}
-use Rattle.parallel_shares.specs.Steals.{OnlyLooks, LooksRound, IsBest}
-use Rattle.parallel_shares.proofs.Victims.{passes_own, best_passes_own, looks_more, only_more, better, no_better}
+use Rattle.parallel_shares.proofs.{rules, ◌≡◌, ◌≢◌, ◌+◌, ◌<◌, ◌∙◌, length, Some, subst, sym, arith, shares_of, share_of, known, OnlyLooks, LooksRound, IsBest, passes_own, best_passes_own, looks_more}
+use Rattle.parallel_shares.proofs.{only_more, better, no_better}
 use Rattle.parallel_shares.proofs.shares.Shares.find_victim.Goals as goal
 use Rattle.parallel_shares.proofs.shares.Shares.find_victim.Goals.{then-share-own+then-is_better, then-share-own+else-is_better, else-share-own}
 

@@ -1,7 +1,5 @@
 -- The shares so far were each loaded, but for the seat's own, and the best of them is known.
-use Rattle.std.proofs.Common.{◌≡◌}
-use Rattle.parallel_shares.specs.Seats.{known, has_emptied, own_share, IsSeatOf, IsSameSeat}
-use Rattle.parallel_shares.specs.Steals.{LooksRound, IsBest, OnlyLooks}
+use Rattle.parallel_shares.proofs.{◌≡◌, known, has_emptied, own_share, IsSeatOf, IsSameSeat, LooksRound, IsBest, OnlyLooks}
 use Rattle.parallel_shares.proofs.shares.Shares.find_victim.Given as goal
 
 abbrev pub invariant-loop-share : goal.invariant-loop-share

@@ -1,9 +1,5 @@
 -- Each seat that is taken in adds what it has.
-use Rattle.std.proofs.Common.{rules, ◌∙◌, ap, subst, sym, arith}
-use Rattle.parallel_shares.specs.Seats.{IsSeatOf}
-use Rattle.parallel_shares.proofs.Openings.{some_shares}
-use Rattle.parallel_shares.proofs.DealingKeepsSharing.{joins}
-use Rattle.parallel_shares.proofs.GatherSeats.{Gathering, gathers_one, gathers_more, each_left, the_last}
+use Rattle.parallel_shares.proofs.{rules, ◌∙◌, ap, subst, sym, arith, IsSeatOf, some_shares, joins, Gathering, gathers_one, gathers_more, each_left, the_last}
 use Rattle.parallel_shares.proofs.shares.Shares.gather.Goals as goal
 
 pub loop-seat-init : goal.loop-seat-init

@@ -1,8 +1,5 @@
 -- The one seat and those that are left have together what all seats had.
-use Rattle.std.proofs.Common.{◌≡◌, ◌<◌, ℕ, length, get_or}
-use Rattle.parallel_shares.specs.declared.shares.seat.Seat.{Seat}
-use Rattle.parallel_shares.specs.Seats.{IsSeatOf}
-use Rattle.parallel_shares.proofs.GatherSeats.{Gathering}
+use Rattle.parallel_shares.proofs.{◌≡◌, ◌<◌, ℕ, length, get_or, Seat, IsSeatOf, Gathering}
 use Rattle.parallel_shares.proofs.shares.Shares.gather.Given as goal
 
 abbrev pub invariant-loop-seat : goal.invariant-loop-seat

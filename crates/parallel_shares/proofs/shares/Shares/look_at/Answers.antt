@@ -1,6 +1,5 @@
 -- The load keeps what words and seats keep together.
-use Rattle.std.proofs.Common.{arith}
-use Rattle.parallel_shares.proofs.StepsKeepSharing.{looks_at}
+use Rattle.parallel_shares.proofs.{arith, looks_at}
 use Rattle.parallel_shares.proofs.shares.Shares.look_at.Goals as goal
 
 pub load-requires : goal.load-requires

@@ -1,7 +1,5 @@
 -- The load keeps what words and seats keep together.
-use Rattle.std.proofs.Common.{arith}
-use Rattle.parallel_shares.proofs.StepsKeepSharing.{looks_own}
-use Rattle.parallel_shares.proofs.ShareOfSeat.{share_exists}
+use Rattle.parallel_shares.proofs.{arith, looks_own, share_exists}
 use Rattle.parallel_shares.proofs.shares.Shares.look_own.Goals as goal
 
 pub load-word-requires : goal.load-word-requires

@@ -1,11 +1,7 @@
 -- The words that a plan opens with, and the first view, keep the rule.
-use Rattle.std.proofs.Common.{[], ◌≡◌, ◌∙◌, length, ap, sym, subst, arith}
-use Rattle.parallel_shares.specs.Sizes.{shares_of}
-use Rattle.parallel_shares.proofs.Openings.{length_opening}
+use Rattle.parallel_shares.proofs.{[], ◌≡◌, ◌∙◌, length, ap, sym, subst, arith, shares_of, length_opening, undealt, IsSharingOf, opens}
 use Rattle.parallel_shares.proofs.shares.Shares.new.Goals.{In_ok-table}
 use Rattle.atomic_table.specs.Table.{opening}
-use Rattle.parallel_shares.specs.Sharing.{undealt, IsSharingOf}
-use Rattle.parallel_shares.proofs.DealingKeepsSharing.{opens}
 use Rattle.parallel_shares.proofs.shares.Shares.new.Goals as goal
 
 pub of_words-requires : goal.of_words-requires

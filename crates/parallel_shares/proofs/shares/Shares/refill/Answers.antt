@@ -1,10 +1,5 @@
 -- The store keeps what words and seats keep together: the seat has seen its own word empty.
-use Rattle.std.proofs.Common.{rules, ◌≡◌, ◌<◌, ◌∙◌, Some, [], ◌∷◌, cond, ap, sym, subst, arith}
-use Rattle.parallel_shares.specs.Sizes.{shares_of, share_of}
-use Rattle.parallel_shares.specs.Seats.{Carries}
-use Rattle.parallel_shares.specs.Sharing.{ranges_of}
-use Rattle.parallel_shares.proofs.StepsKeepSharing.{puts_down}
-use Rattle.parallel_shares.proofs.ShareOfSeat.{share_exists}
+use Rattle.parallel_shares.proofs.{rules, ◌≡◌, ◌<◌, ◌∙◌, Some, [], ◌∷◌, cond, ap, sym, subst, arith, shares_of, share_of, Carries, ranges_of, puts_down, share_exists}
 use Rattle.parallel_shares.proofs.shares.Shares.refill.Goals as goal
 
 pub store-requires : goal.store-requires

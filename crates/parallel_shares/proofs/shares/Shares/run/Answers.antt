@@ -1,12 +1,6 @@
 -- Each claim is filled behind those before it, and at the end the open stretch gets its result.
-use Rattle.std.proofs.Common.{◌++◌, ◌∷◌, [], refl, sym, ap, ◌∙◌, append-nil, append_assoc, arith}
-use Rattle.std.proofs.lemmas.List.Elements.{All-nil, All-cons, All-append}
-use Rattle.parallel_shares.specs.Seats.{plan_of, claims_of}
-use Rattle.parallel_shares.specs.Fronts.{IsFront}
-use Rattle.parallel_shares.specs.Stretches.{all_cells}
-use Rattle.parallel_shares.proofs.Stretching.{cells_push}
-use Rattle.parallel_shares.proofs.FillsUnderway.{way_begins, way_ends}
-use Rattle.parallel_shares.proofs.LoadCounts.{grows_from, found_since}
+use Rattle.parallel_shares.proofs.{◌++◌, ◌∷◌, [], refl, sym, ap, ◌∙◌, append-nil, append_assoc, arith, All-nil, All-cons, All-append, plan_of, claims_of, IsFront, all_cells, cells_push, way_begins}
+use Rattle.parallel_shares.proofs.{way_ends, grows_from, found_since}
 use Rattle.parallel_shares.proofs.shares.Shares.run.Goals as goal
 
 pub loop-init : goal.loop-init

@@ -1,11 +1,5 @@
 -- What the seat gained so far was cut, filled and finished, but for the open stretch.
-use Rattle.std.proofs.Common.{◌≡◌, ℕ, List, ◌++◌, All, IfSome}
-use Rattle.std.specs.Borrow.{MutBor}
-use Rattle.std.specs.declared.ops.Range.{Range}
-use Rattle.parallel_shares.specs.Seats.{IsSeatOf, LoadsGrow, plan_of, index_of, claims_of}
-use Rattle.parallel_shares.specs.Fronts.{IsFront}
-use Rattle.parallel_shares.specs.Stretches.{all_cells}
-use Rattle.parallel_shares.specs.Fillings.{Fills, Gives, Underway}
+use Rattle.parallel_shares.proofs.{◌≡◌, ℕ, List, ◌++◌, All, IfSome, MutBor, Range, IsSeatOf, LoadsGrow, plan_of, index_of, claims_of, IsFront, all_cells, Fills, Gives, Underway}
 use Rattle.parallel_shares.proofs.shares.Shares.run.Given as goal
 
 abbrev pub invariant-loop : goal.invariant-loop

@@ -1,7 +1,5 @@
 -- The exchange keeps what words and seats keep together.
-use Rattle.std.proofs.Common.{◌∙◌, ap, arith}
-use Rattle.parallel_shares.specs.Sharing.{ranges_of}
-use Rattle.parallel_shares.proofs.StepsKeepSharing.{takes_back}
+use Rattle.parallel_shares.proofs.{◌∙◌, ap, arith, ranges_of, takes_back}
 use Rattle.parallel_shares.proofs.shares.Shares.take_back.Goals as goal
 
 pub compare_exchange-found-requires : goal.compare_exchange-found-requires

@@ -1,8 +1,5 @@
 -- The exchange keeps what words and seats keep together.
-use Rattle.std.proofs.Common.{◌<◌, arith}
-use Rattle.parallel_shares.specs.Sizes.{shares_of}
-use Rattle.parallel_shares.proofs.StepsKeepSharing.{takes_front}
-use Rattle.parallel_shares.proofs.ShareOfSeat.{share_exists}
+use Rattle.parallel_shares.proofs.{◌<◌, arith, shares_of, takes_front, share_exists}
 use Rattle.parallel_shares.proofs.shares.Shares.take_front.Goals as goal
 
 pub compare_exchange-requires : goal.compare_exchange-requires

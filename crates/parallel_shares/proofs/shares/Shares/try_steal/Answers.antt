@@ -1,9 +1,5 @@
 -- The exchange loads nothing.
-use Rattle.std.proofs.Common.{ap}
-use Rattle.parallel_shares.specs.declared.shares.rule.View.{View}
-use Rattle.parallel_shares.specs.Sizes.{shares_of, share_of}
-use Rattle.parallel_shares.specs.Seats.{known}
-use Rattle.parallel_shares.proofs.Victims.{looks_kept}
+use Rattle.parallel_shares.proofs.{ap, View, shares_of, share_of, known, looks_kept}
 use Rattle.parallel_shares.proofs.shares.Shares.try_steal.Goals as goal
 
 pub returns-then-take_back-victim-clause-looks : goal.returns-then-take_back-victim-clause-looks

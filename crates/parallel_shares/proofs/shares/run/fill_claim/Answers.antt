@@ -1,7 +1,5 @@
 -- Each turn fills one piece of the claim.
-use Rattle.std.proofs.Common.{◌++◌, ◌-◌, arith}
-use Rattle.std.specs.List.{range_with_len}
-use Rattle.parallel_shares.proofs.Stretching.{claim_none, claim_more, claim_all}
+use Rattle.parallel_shares.proofs.{◌++◌, ◌-◌, arith, range_with_len, claim_none, claim_more, claim_all}
 use Rattle.parallel_shares.proofs.shares.run.fill_claim.Goals as goal
 
 pub loop-at-init : goal.loop-at-init

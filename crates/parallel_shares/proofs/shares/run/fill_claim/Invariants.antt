@@ -1,8 +1,5 @@
 -- The cells of the claim so far were filled behind those from before.
-use Rattle.std.proofs.Common.{◌-◌, ◌≤◌, IfSome}
-use Rattle.std.specs.Borrow.{MutBor}
-use Rattle.std.specs.List.{range_with_len}
-use Rattle.parallel_shares.specs.Fillings.{Fills, Gives, GoesOn}
+use Rattle.parallel_shares.proofs.{◌-◌, ◌≤◌, IfSome, MutBor, range_with_len, Fills, Gives, GoesOn}
 use Rattle.parallel_shares.proofs.shares.run.fill_claim.Given as goal
 
 abbrev pub invariant-loop-at : goal.invariant-loop-at

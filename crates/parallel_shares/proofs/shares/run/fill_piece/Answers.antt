@@ -1,6 +1,5 @@
 -- The open stretch goes on by the piece, or gets its result before it.
-use Rattle.std.proofs.Common.{refl}
-use Rattle.parallel_shares.proofs.FillsUnderway.{way_grows, way_anew}
+use Rattle.parallel_shares.proofs.{refl, way_grows, way_anew}
 use Rattle.parallel_shares.proofs.shares.run.fill_piece.Goals as goal
 
 pub returns-in-Some-clause-chain : goal.returns-in-Some-clause-chain

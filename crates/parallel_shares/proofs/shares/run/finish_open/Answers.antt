@@ -1,5 +1,5 @@
 -- The open stretch gets its result.
-use Rattle.std.proofs.Common.{refl}
+use Rattle.parallel_shares.proofs.{refl}
 use Rattle.parallel_shares.proofs.shares.run.finish_open.Goals as goal
 
 pub returns-in_ok-push-clause-closes : goal.returns-in_ok-push-clause-closes

@@ -1,7 +1,5 @@
 -- The open stretch grows by the piece, or ends before it.
-use Rattle.std.proofs.Common.{◌++◌, Some, sym, subst}
-use Rattle.parallel_shares.specs.Stretches.{Parted, piece_cells}
-use Rattle.parallel_shares.proofs.Stretching.{parted_grows, parted_anew}
+use Rattle.parallel_shares.proofs.{◌++◌, Some, sym, subst, Parted, piece_cells, parted_grows, parted_anew}
 use Rattle.parallel_shares.proofs.shares.stretch.add.Goals as goal
 
 pub returns-in-Some-clause-parted : goal.returns-in-Some-clause-parted

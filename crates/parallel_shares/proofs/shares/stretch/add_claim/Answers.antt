@@ -1,8 +1,5 @@
 -- Each turn adds one piece of the claim.
-use Rattle.std.proofs.Common.{◌++◌, ◌-◌, Some, sym, subst, arith}
-use Rattle.std.specs.List.{range_with_len}
-use Rattle.parallel_shares.specs.Stretches.{Parted}
-use Rattle.parallel_shares.proofs.Stretching.{claim_none, claim_more, claim_all}
+use Rattle.parallel_shares.proofs.{◌++◌, ◌-◌, Some, sym, subst, arith, range_with_len, Parted, claim_none, claim_more, claim_all}
 use Rattle.parallel_shares.proofs.shares.stretch.add_claim.Goals as goal
 
 pub loop-at-init : goal.loop-at-init

@@ -1,7 +1,5 @@
 -- The cells of the claim so far are cut behind those from before.
-use Rattle.std.proofs.Common.{ℕ, List, ◌++◌, ◌-◌, ◌≤◌}
-use Rattle.std.specs.List.{range_with_len}
-use Rattle.parallel_shares.specs.Stretches.{Parted}
+use Rattle.parallel_shares.proofs.{ℕ, List, ◌++◌, ◌-◌, ◌≤◌, range_with_len, Parted}
 use Rattle.parallel_shares.proofs.shares.stretch.add_claim.Given as goal
 
 abbrev pub invariant-loop-at : goal.invariant-loop-at

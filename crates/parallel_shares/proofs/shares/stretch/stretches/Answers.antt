@@ -1,9 +1,5 @@
 -- Each claim adds its cells, and at the end the open stretch ends.
-use Rattle.std.proofs.Common.{◌≡◌, ℕ, ◌+◌, ◌++◌, take, get_or, sym, subst, ◌∙◌, ap}
-use Rattle.std.proofs.lemmas.List.{take_more, take_all}
-use Rattle.std.specs.declared.ops.Range.{Range}
-use Rattle.parallel_shares.specs.Stretches.{range_cells, all_cells, Parted, CutsCells}
-use Rattle.parallel_shares.proofs.Stretching.{cells_push, parted_ends}
+use Rattle.parallel_shares.proofs.{◌≡◌, ℕ, ◌+◌, ◌++◌, take, get_or, sym, subst, ◌∙◌, ap, take_more, take_all, Range, range_cells, all_cells, Parted, CutsCells, cells_push, parted_ends}
 use Rattle.parallel_shares.proofs.shares.stretch.stretches.Goals as goal
 
 pub loop-claim-preserved : goal.loop-claim-preserved

@@ -1,6 +1,5 @@
 -- The claims so far are cut.
-use Rattle.std.proofs.Common.{take}
-use Rattle.parallel_shares.specs.Stretches.{all_cells, Parted}
+use Rattle.parallel_shares.proofs.{take, all_cells, Parted}
 use Rattle.parallel_shares.proofs.shares.stretch.stretches.Given as goal
 
 abbrev pub invariant-loop-claim : goal.invariant-loop-claim

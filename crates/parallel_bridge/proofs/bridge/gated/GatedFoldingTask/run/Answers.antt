@@ -1,6 +1,6 @@
 -- A list that is not split is one segment.
 use Rattle.parallel_bridge.proofs.{Ok, Err, IfOk, List, Result, [], ◌++◌, ◌<◌, refl, subst, append-nil, Infallible, Closure, GivesSome, OnlyOk, TryFoldSegment, TryReducedSegment, GateWatch, Halt}
-use Rattle.parallel_bridge.proofs.{IsGateSeatOf, IsWatching, known, stands_for, HaltsOnward, TellsAs, halting, driven_leaf, leaf_ends, leaf_halts, Comes, comes_onward, folded_halt, folded_value, halts_rests}
+use Rattle.parallel_bridge.proofs.{IsGateSeatOf, IsWatching, known, stands_for, HaltContinues, TellsAs, halting, driven_leaf, leaf_ends, leaf_halts, Comes, come_continued, folded_halt, folded_value, halts_rests}
 use Rattle.parallel_bridge.proofs.bridge.gated.GatedFoldingTask.run.Given.{Over}
 use Rattle.parallel_bridge.proofs.bridge.gated.GatedFoldingTask.run.Goals.{In-Ok}
 use Rattle.parallel_bridge.proofs.bridge.gated.GatedFoldingTask.run.Goals as goal
@@ -30,7 +30,7 @@ fed_all g c =
     in (
       fed.0,
       fed.1,
-      comes_onward step first.control first.control last.control c.args.self.watch first.watch
+      come_continued step first.control first.control last.control c.args.self.watch first.watch
           last.watch [] fed.0 (halts_rests step first.control) c.begin-folder.ensures.same
           (subst (λ w. Comes (goal.F-post g w.now)
           first.control first.watch fed.0 last.control last.watch) c.begin-folder.ensures.fold_op
@@ -46,12 +46,12 @@ returns-in-Ok-control g c depth short =
     let node = λ (p : g.row.R.Denot) (q : g.row.R.Denot). OnlyOk (reduce p q) in
     let first = c.begin-folder.result in let last = c.in-Ok.folder in
     let fed = fed_all g (goal.at.returns-in-Ok-control g c).In-Ok in let all = fed.2 in
-    let onward = subst (HaltsOnward step first.control fed.0) c.in-Ok-control.is all.0 in (
+    let continues = subst (HaltContinues step first.control fed.0) c.in-Ok-control.is all.0 in (
       driven_leaf g.S.Segment.gives self.parts leaf node depth (Ok c.reduce_op-value.result) short (
         fed.0,
         fed.1,
         folded_value identity step reduce first.control fed.0 c.identity.result
-            c.in-Ok-control.value c.reduce_op-value.result c.begin-folder.ensures.begins onward
+            c.in-Ok-control.value c.reduce_op-value.result c.begin-folder.ensures.begins continues
             c.identity.ensures c.reduce_op-value.ensures,
       ),
       c.feed-fed.ensures.rest,
@@ -72,13 +72,13 @@ returns-in-Err-control g c depth short =
     let node = λ (p : g.row.R.Denot) (q : g.row.R.Denot). OnlyOk (reduce p q) in
     let first = c.begin-folder.result in let last = c.in-Ok.folder in
     let fed = fed_all g (goal.at.returns-in-Err-control g c).In-Ok in let all = fed.2 in
-    let onward = subst (HaltsOnward step first.control fed.0) c.in-Err-control.is all.0 in (
+    let continues = subst (HaltContinues step first.control fed.0) c.in-Err-control.is all.0 in (
       driven_leaf g.S.Segment.gives self.parts leaf node depth
           (Err (Closure c.in-Err-control.halt)) short (
             fed.0,
             fed.1,
             folded_halt identity step reduce first.control fed.0
-                c.in-Err-control.halt c.begin-folder.ensures.begins onward,
+                c.in-Err-control.halt c.begin-folder.ensures.begins continues,
           ),
       c.feed-fed.ensures.rest,
       (

@@ -1,9 +1,5 @@
 -- The exchange moves what the call is to move, and what it found tells the answer.
-use Rattle.std.proofs.Common.{◌==◌, arith}
-use prog.Atomic.{either}
-use Rattle.parallel_pool.specs.declared.latch.history.Act.TheVariants.{FallAsleep}
-use Rattle.parallel_pool.specs.LatchMoves.{is_sleepy}
-use Rattle.parallel_pool.proofs.LatchSteps.{steps, answers, stays_set, falling, sleepy_word}
+use Rattle.parallel_pool.proofs.{◌==◌, arith, either, FallAsleep, is_sleepy, steps, answers, stays_set, falling, sleepy_word}
 use Rattle.parallel_pool.proofs.latch.core_latch.CoreLatch.fall_asleep.Goals as goal
 
 pub compare_exchange-found-requires : goal.compare_exchange-found-requires

@@ -1,9 +1,5 @@
 -- The exchange moves what the call is to move, and what it found tells the answer.
-use Rattle.std.proofs.Common.{◌==◌, arith}
-use prog.Atomic.{either}
-use Rattle.parallel_pool.specs.declared.latch.history.Act.TheVariants.{GetSleepy}
-use Rattle.parallel_pool.specs.LatchMoves.{is_unset}
-use Rattle.parallel_pool.proofs.LatchSteps.{steps, answers, stays_set, getting, unset_word}
+use Rattle.parallel_pool.proofs.{◌==◌, arith, either, GetSleepy, is_unset, steps, answers, stays_set, getting, unset_word}
 use Rattle.parallel_pool.proofs.latch.core_latch.CoreLatch.get_sleepy.Goals as goal
 
 pub compare_exchange-found-requires : goal.compare_exchange-found-requires

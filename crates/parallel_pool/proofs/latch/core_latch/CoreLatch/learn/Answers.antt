@@ -1,9 +1,5 @@
 -- A new seat tells what the other has seen, and the load brings both together.
-use Rattle.std.proofs.Common.{arith, refl, ap, ◌∙◌}
-use Rattle.parallel_pool.specs.LatchMoves.{phase_after}
-use Rattle.parallel_pool.specs.Histories.{Longer}
-use Rattle.parallel_pool.proofs.LatchSteps.{seats}
-use Rattle.parallel_pool.proofs.LatchLearns.{hears, learns, learns_set}
+use Rattle.parallel_pool.proofs.{arith, refl, ap, ◌∙◌, phase_after, Longer, seats, latch_hears, latch_learns, learns_set}
 use Rattle.parallel_pool.proofs.latch.core_latch.CoreLatch.learn.Goals as goal
 
 pub split_seat-teller-requires : goal.split_seat-teller-requires
@@ -20,14 +16,14 @@ join_seat-requires c =
       made.3 ∙ c.requires.other.0,
       ap (λ m. m.1) made.4,
       omega (arith, c.args.self.now.one_word),
-      hears _ _ _ _ (ap (λ m. m.0.own) made.4),
+      latch_hears _ _ _ _ (ap (λ m. m.0.own) made.4),
     )
 
 pub load-requires : goal.load-requires
 load-requires c = (
   c.join_seat.ensures.0 ∙ c.requires.seat.0,
   omega (arith, c.args.self.now.one_word),
-  learns _ _ _,
+  latch_learns _ _ _,
 )
 
 pub returns-clause-stays : goal.returns-clause-stays

@@ -1,7 +1,5 @@
 -- There is a seat of the latch for each turn, and none has seen a call.
-use Rattle.std.proofs.Common.{◌≡◌, All, vec_len}
-use Rattle.parallel_pool.specs.LatchHistory.{newcomer}
-use Rattle.parallel_pool.specs.Latch.{IsLatchSeatOf, known}
+use Rattle.parallel_pool.proofs.{◌≡◌, All, vec_len, newcomer, IsLatchSeatOf, known}
 use Rattle.parallel_pool.proofs.latch.core_latch.CoreLatch.new.Given as goal
 
 abbrev pub invariant-loop : goal.invariant-loop

@@ -1,6 +1,5 @@
 -- A seat that has seen nothing keeps the rule.
-use Rattle.std.proofs.Common.{arith}
-use Rattle.parallel_pool.proofs.LatchSteps.{enters}
+use Rattle.parallel_pool.proofs.{arith, enters}
 use Rattle.parallel_pool.proofs.latch.core_latch.CoreLatch.newcomer.Goals as goal
 
 pub load_new_seat-seat-requires : goal.load_new_seat-seat-requires

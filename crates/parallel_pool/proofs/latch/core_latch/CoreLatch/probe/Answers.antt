@@ -1,8 +1,5 @@
 -- The load moves nothing, and what it found tells the answer.
-use Rattle.std.proofs.Common.{◌==◌, arith, ap, refl}
-use Rattle.parallel_pool.specs.declared.latch.history.Act.TheVariants.{Probe}
-use Rattle.parallel_pool.specs.LatchMoves.{is_latched}
-use Rattle.parallel_pool.proofs.LatchSteps.{steps, answers, found_set, probe_sees, latched_word}
+use Rattle.parallel_pool.proofs.{◌==◌, arith, ap, refl, Probe, is_latched, steps, answers, found_set, probe_sees, latched_word}
 use Rattle.parallel_pool.proofs.latch.core_latch.CoreLatch.probe.Goals as goal
 
 pub load-requires : goal.load-requires

@@ -1,6 +1,5 @@
 -- A seat that has seen nothing keeps the rule.
-use Rattle.std.proofs.Common.{arith, refl}
-use Rattle.parallel_pool.proofs.LatchSteps.{seats}
+use Rattle.parallel_pool.proofs.{arith, refl, seats}
 use Rattle.parallel_pool.proofs.latch.core_latch.CoreLatch.seat.Goals as goal
 
 pub split_seat-requires : goal.split_seat-requires

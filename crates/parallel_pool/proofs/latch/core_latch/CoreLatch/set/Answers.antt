@@ -1,8 +1,5 @@
 -- The swap sets the latch, and what it found tells the answer.
-use Rattle.std.proofs.Common.{◌==◌, arith, ap, refl}
-use Rattle.parallel_pool.specs.declared.latch.history.Act.TheVariants.{Set}
-use Rattle.parallel_pool.specs.LatchMoves.{is_sleeping}
-use Rattle.parallel_pool.proofs.LatchSteps.{steps, answers, found_set, sees_set, sleeping_word}
+use Rattle.parallel_pool.proofs.{◌==◌, arith, ap, refl, Set, is_sleeping, steps, answers, found_set, sees_set, sleeping_word}
 use Rattle.parallel_pool.proofs.latch.core_latch.CoreLatch.set.Goals as goal
 
 pub swap-requires : goal.swap-requires

@@ -1,8 +1,5 @@
 -- The exchange moves what the call is to move.
-use Rattle.std.proofs.Common.{◌==◌, arith}
-use prog.Atomic.{either}
-use Rattle.parallel_pool.specs.declared.latch.history.Act.TheVariants.{WakeUp}
-use Rattle.parallel_pool.proofs.LatchSteps.{steps, stays_set, waking}
+use Rattle.parallel_pool.proofs.{◌==◌, arith, either, WakeUp, steps, stays_set, waking}
 use Rattle.parallel_pool.proofs.latch.core_latch.CoreLatch.wake_up.Goals as goal
 
 pub compare_exchange-requires : goal.compare_exchange-requires

@@ -1,7 +1,6 @@
 -- The count goes down by the share, and what it found tells the answer.
 use Rattle.std.proofs.lemmas.Grind.{common_steps}
-use Rattle.std.proofs.Common.{arith}
-use Rattle.parallel_pool.proofs.CountSteps.{gives}
+use Rattle.parallel_pool.proofs.{arith, gives}
 use Rattle.parallel_pool.proofs.latch.count_latch.CountLatch.give.Goals as goal
 
 pub fetch_sub-left-requires : goal.fetch_sub-left-requires

@@ -1,6 +1,5 @@
 -- A share cut off keeps the rule.
-use Rattle.std.proofs.Common.{arith}
-use Rattle.parallel_pool.proofs.CountSteps.{shares}
+use Rattle.parallel_pool.proofs.{arith, shares}
 use Rattle.parallel_pool.proofs.latch.count_latch.CountLatch.share.Goals as goal
 
 pub split_seat-requires : goal.split_seat-requires

@@ -1,7 +1,5 @@
 -- A look at the count brings a new seat, which has seen all gives.
-use Rattle.std.proofs.Common.{arith, refl}
-use Rattle.parallel_pool.specs.CountHistory.{founder}
-use Rattle.parallel_pool.proofs.CountSteps.{looks}
+use Rattle.parallel_pool.proofs.{arith, refl, founder, looks}
 use Rattle.parallel_pool.proofs.latch.count_latch.CountLatch.wait.Goals as goal
 
 pub load_new_seat-left-requires : goal.load_new_seat-left-requires

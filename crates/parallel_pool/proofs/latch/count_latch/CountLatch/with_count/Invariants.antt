@@ -1,5 +1,5 @@
 -- There is an unspent share for each turn, and the founder has those that are left.
-use Rattle.std.proofs.Common.{◌≡◌, ◌+◌, All, [], vec_len}
+use Rattle.parallel_pool.proofs.{◌≡◌, ◌+◌, All, [], vec_len}
 use Rattle.std.specs.NonZero.{non_zero_usize_get}
 use Rattle.parallel_pool.specs.CountLatch.{IsShareOf, share_count, unspent, gives_seen}
 use Rattle.parallel_pool.proofs.latch.count_latch.CountLatch.with_count.Given as goal

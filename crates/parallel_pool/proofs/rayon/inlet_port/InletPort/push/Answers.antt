@@ -1,5 +1,5 @@
 -- A push keeps the rule, and tells what the pass has seen.
-use Rattle.parallel_pool.proofs.JobSteps.{pushes, pushed}
+use Rattle.parallel_pool.proofs.{pushes, pushed}
 use Rattle.parallel_pool.proofs.rayon.inlet_port.InletPort.push.Goals as goal
 
 pub push_as-requires-clause-rule : goal.push_as-requires-clause-rule

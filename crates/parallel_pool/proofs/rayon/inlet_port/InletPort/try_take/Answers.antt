@@ -1,5 +1,5 @@
 -- A take keeps the rule, and tells what the pass has seen.
-use Rattle.parallel_pool.proofs.JobSteps.{takes, stolen}
+use Rattle.parallel_pool.proofs.{takes, stolen}
 use Rattle.parallel_pool.proofs.rayon.inlet_port.InletPort.try_take.Goals as goal
 
 pub steal_as-requires-clause-rule : goal.steal_as-requires-clause-rule

@@ -1,5 +1,5 @@
 -- A pop keeps the rule, and tells what the owner has seen.
-use Rattle.parallel_pool.proofs.JobSteps.{pops, popped}
+use Rattle.parallel_pool.proofs.{pops, popped}
 use Rattle.parallel_pool.proofs.rayon.job_deque.JobDeque.pop_as.Goals as goal
 
 pub pop_as-requires-clause-lifo : goal.pop_as-requires-clause-lifo

@@ -1,8 +1,6 @@
 -- A push keeps the rule, and tells what the owner has seen.
-use Rattle.std.proofs.Common.{refl, subst, ◌∙◌}
+use Rattle.parallel_pool.proofs.{refl, subst, ◌∙◌, HasPushed, pushes, told}
 use Rattle.crossbeam_deque.specs.Handles.{worker_view}
-use Rattle.parallel_pool.specs.JobHistory.{HasPushed}
-use Rattle.parallel_pool.proofs.JobSteps.{pushes, told}
 use Rattle.parallel_pool.proofs.rayon.job_deque.JobDeque.push.Goals as goal
 
 pub push_as-requires-clause-pushes : goal.push_as-requires-clause-pushes

@@ -1,6 +1,5 @@
 -- One more job was pushed, to the next worker.
-use Rattle.std.proofs.Common.{ap, ◌∙◌, ◌++◌}
-use Rattle.parallel_pool.proofs.JobSeats.{pushes_on}
+use Rattle.parallel_pool.proofs.{ap, ◌∙◌, ◌++◌, pushes_on}
 use Rattle.parallel_pool.proofs.rayon.job_seat.JobSeat.bring_each.Goals as goal
 
 pub loop-worker-preserved : goal.loop-worker-preserved

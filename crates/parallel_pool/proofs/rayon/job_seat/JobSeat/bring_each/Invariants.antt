@@ -1,6 +1,5 @@
 -- The jobs so far were pushed, one to each worker, and the rest are left.
-use Rattle.std.proofs.Common.{◌≡◌, List, ◌++◌, length}
-use Rattle.parallel_pool.specs.JobSeat.{PushesFrom}
+use Rattle.parallel_pool.proofs.{◌≡◌, List, ◌++◌, length, PushesFrom}
 use Rattle.parallel_pool.proofs.rayon.job_seat.JobSeat.bring_each.Given as goal
 
 abbrev pub invariant-loop-worker : goal.invariant-loop-worker

@@ -1,10 +1,5 @@
 -- The pass of the queue has pushed, and no other did anything.
-use Rattle.std.proofs.Common.{◌≡◌, arith, ap, length}
-use Rattle.std.proofs.lemmas.List.{get_or_read_under}
-use Rattle.parallel_pool.specs.JobHistory.{new_pass, HasPushed}
-use Rattle.parallel_pool.specs.JobSeat.{SeatView}
-use Rattle.parallel_pool.specs.declared.rayon.queue.Queue.TheVariants.{Broadcast}
-use Rattle.parallel_pool.proofs.JobSeats.{after_push}
+use Rattle.parallel_pool.proofs.{◌≡◌, arith, ap, length, get_or_read_under, new_pass, HasPushed, SeatView, Broadcast, after_push}
 use Rattle.parallel_pool.proofs.rayon.job_seat.JobSeat.put_for.Goals as goal
 
 pub returns : goal.returns

@@ -1,6 +1,5 @@
 -- A job that was found is one more call.
-use Rattle.std.proofs.Common.{rules, arith, refl}
-use Rattle.parallel_pool.proofs.WorkerCalls.{calls_more}
+use Rattle.parallel_pool.proofs.{rules, arith, refl, calls_more}
 use Rattle.parallel_pool.proofs.rayon.staff.ThreadPool+Staff+T.yield_now.Goals as goal
 
 pub returns-in-Some-clause-executed : goal.returns-in-Some-clause-executed

@@ -1,5 +1,5 @@
 -- A new pass keeps the rule.
-use Rattle.parallel_pool.proofs.JobSteps.{admits}
+use Rattle.parallel_pool.proofs.{admits}
 use Rattle.parallel_pool.proofs.rayon.thief_port.ThiefPort.new.Goals as goal
 
 pub pass-pass-requires : goal.pass-pass-requires

@@ -1,5 +1,5 @@
 -- A job of its own deque was taken, and nothing else was done.
-use Rattle.parallel_pool.proofs.WorkerCalls.{after_pop}
+use Rattle.parallel_pool.proofs.{after_pop}
 use Rattle.parallel_pool.proofs.rayon.worker_thread.WorkerThread.pop.Goals as goal
 
 pub returns : goal.returns

@@ -1,5 +1,5 @@
 -- What was tried so far took nothing.
-use Rattle.std.proofs.Common.{◌≡◌}
+use Rattle.parallel_pool.proofs.{◌≡◌}
 use Rattle.parallel_pool.proofs.rayon.worker_thread.WorkerThread.steal.Given as goal
 
 abbrev pub invariant-loop : goal.invariant-loop

@@ -1,5 +1,5 @@
 -- A job of one queue was taken, and nothing else was done.
-use Rattle.parallel_pool.proofs.WorkerCalls.{after_first}
+use Rattle.parallel_pool.proofs.{after_first}
 use Rattle.parallel_pool.proofs.rayon.worker_thread.WorkerThread.take_from.Goals as goal
 
 pub returns : goal.returns

@@ -1,6 +1,5 @@
 -- No more workers are blocked than are inactive.
-use Rattle.std.proofs.Common.{arith}
-use Rattle.parallel_pool.proofs.Standings.{blocked_inactive}
+use Rattle.parallel_pool.proofs.{arith, blocked_inactive}
 use Rattle.parallel_pool.proofs.sleep.sleep_state.SleepState.counters.Goals as goal
 
 pub returns-clause-at_most : goal.returns-clause-at_most

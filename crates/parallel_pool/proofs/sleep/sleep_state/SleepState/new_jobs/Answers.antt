@@ -1,7 +1,5 @@
 -- The awake ones that look are the inactive ones without those that sleep.
-use Rattle.std.proofs.Common.{arith, ap, ◌≡◌, ◌-◌, ◌∙◌, take, if◌then◌else◌}
-use Rattle.parallel_pool.specs.Standings.{looking_in, blocked_of}
-use Rattle.parallel_pool.proofs.Standings.{looking_or_blocked, blocked_inactive}
+use Rattle.parallel_pool.proofs.{arith, ap, ◌≡◌, ◌-◌, ◌∙◌, take, if◌then◌else◌, looking_in, blocked_of, looking_or_blocked, blocked_inactive}
 use Rattle.parallel_pool.proofs.sleep.sleep_state.SleepState.new_jobs.Goals as goal
 use Rattle.parallel_pool.proofs.sleep.sleep_state.SleepState.new_jobs.Goals.{then-queue_was_empty, else-queue_was_empty}
 

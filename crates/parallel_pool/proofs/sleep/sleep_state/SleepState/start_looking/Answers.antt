@@ -1,8 +1,5 @@
 -- One more worker is inactive, and there are no more of those than workers.
-use Rattle.std.proofs.Common.{arith, ap, ◌≡◌, length}
-use Rattle.parallel_pool.specs.Standings.{inactive_in}
-use Rattle.parallel_pool.specs.declared.sleep.standing.Standing.TheVariants.{Working, Looking}
-use Rattle.parallel_pool.proofs.Standings.{restands, active_works}
+use Rattle.parallel_pool.proofs.{arith, ap, ◌≡◌, length, inactive_in, Working, Looking, restands, active_works}
 use Rattle.parallel_pool.proofs.sleep.sleep_state.SleepState.start_looking.Goals as goal
 
 pub overflow_add-inactive : goal.overflow_add-inactive

@@ -1,9 +1,6 @@
 -- One more worker sleeps, and there are no more of those than workers.
-use Rattle.std.proofs.Common.{arith, ap, ◌≡◌, length, set}
-use Rattle.parallel_pool.specs.Standings.{sleeping_in}
+use Rattle.parallel_pool.proofs.{arith, ap, ◌≡◌, length, set, sleeping_in, Looking, Sleeping, restands, awake_looks, inactive_exists, blocked_inactive}
 use Rattle.parallel_pool.specs.IdleState.{worker_of}
-use Rattle.parallel_pool.specs.declared.sleep.standing.Standing.TheVariants.{Looking, Sleeping}
-use Rattle.parallel_pool.proofs.Standings.{restands, awake_looks, inactive_exists, blocked_inactive}
 use Rattle.parallel_pool.proofs.sleep.sleep_state.SleepState.try_block.Goals as goal
 
 pub overflow_add-sleeping : goal.overflow_add-sleeping

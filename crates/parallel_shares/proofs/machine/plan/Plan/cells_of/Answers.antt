@@ -1,7 +1,5 @@
 -- The first unit begins before the cells end, and its cells end no later than the last one's.
-use Rattle.std.proofs.Common.{◌≡◌, ap, sym, arith}
-use Rattle.std.proofs.lemmas.Nat.{mul-le}
-use Rattle.parallel_shares.specs.Sizes.{Sizes}
+use Rattle.parallel_shares.proofs.{◌≡◌, ap, sym, arith, mul-le, Sizes}
 use Rattle.parallel_shares.proofs.machine.plan.Plan.cells_of.Goals as goal
 
 pub returns-clause-in_order : goal.returns-clause-in_order

@@ -1,8 +1,5 @@
 -- The numbers that are computed are those of the plan, and those are sound.
-use Rattle.std.proofs.Common.{rules, ◌≡◌, ◌*◌, subst, sym, arith}
-use Rattle.std.specs.Int.NonZero.{non_zero_usize_get}
-use Rattle.parallel_shares.specs.Sizes.{Work, Sizes, sizes_of, IsSound}
-use Rattle.parallel_shares.proofs.SoundSizes.{sizes_sound}
+use Rattle.parallel_shares.proofs.{rules, ◌≡◌, ◌*◌, subst, sym, arith, non_zero_usize_get, Work, Sizes, sizes_of, IsSound, sizes_sound}
 use Rattle.parallel_shares.proofs.machine.plan.Plan.new.Goals as goal
 
 -- what the plan is made for

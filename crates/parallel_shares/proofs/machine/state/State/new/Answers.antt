@@ -1,11 +1,5 @@
 -- The words and the rows of seats are those of the opening, which belongs to the plan.
-use Rattle.std.proofs.Common.{rules, ◌≡◌, map, sym, subst}
-use Rattle.parallel_shares.specs.Cut.{BalancedCut}
-use Rattle.parallel_shares.specs.Words.{range_of}
-use Rattle.parallel_shares.specs.Machine.{Machine, opening, IsStateOf}
-use Rattle.parallel_shares.specs.Holders.{Shows}
-use Rattle.parallel_shares.proofs.OpeningCuts.{opening_balanced}
-use Rattle.parallel_shares.proofs.Openings.{first, first_is_opening, opening_is_state, opening_shows}
+use Rattle.parallel_shares.proofs.{rules, ◌≡◌, map, sym, subst, BalancedCut, range_of, Machine, opening, IsStateOf, Shows, opening_balanced, first, first_is_opening, opening_is_state, opening_shows}
 use Rattle.parallel_shares.proofs.machine.state.State.new.Goals as goal
 use Rattle.parallel_shares.proofs.machine.state.State.new.Goals.{In_ok-seat_rows}
 

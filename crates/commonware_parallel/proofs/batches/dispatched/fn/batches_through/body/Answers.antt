@@ -1,5 +1,5 @@
 -- The batch that the closure was given has as many ranges as were told.
-use Rattle.std.proofs.Common.{rules}
+use Rattle.commonware_parallel.proofs.{rules}
 use Rattle.commonware_parallel.proofs.batches.dispatched.fn.batches_through.body.Goals as goal
 
 pub returns : goal.returns

@@ -1,5 +1,5 @@
 -- The tiles that the closure was given are for as many workers as were told.
-use Rattle.std.proofs.Common.{rules}
+use Rattle.commonware_parallel.proofs.{rules}
 use Rattle.commonware_parallel.proofs.tiles.dispatched.fn.tiles_through.body.Goals as goal
 
 pub returns : goal.returns

@@ -1,5 +1,5 @@
 -- Told, so that a body which breaks these is refused with no further search.
-use Rattle.std.proofs.Common.{rules}
+use Rattle.parallel_pool.proofs.{rules}
 use Rattle.parallel_pool.proofs.rayon.thread_pool.fn.ThreadPool.broadcast.map_indices.Goals as goal
 
 pub op-requires : goal.op-requires
