@@ -397,6 +397,19 @@ fn a_small_cut_plan_is_claimed_across_rows(rt: HostRuntime) {
     claims_stretches(&rt, alloc, state.claims(0), 5, &[(0, 0..5), (1, 0..3)]);
 }
 
+// Counts cells and calls.
+fn count_columns(filled: &mut (usize, usize), _row: usize, columns: Range<usize>) {
+    let cells = columns.end.saturating_sub(columns.start);
+    *filled = (filled.0.saturating_add(cells), filled.1.saturating_add(1));
+}
+
+// The row with what was counted, of which the next row has nothing yet.
+fn row_cells_and_calls(filled: &mut (usize, usize), row: usize) -> (usize, usize, usize) {
+    let (cells, calls) = (filled.0, filled.1);
+    *filled = (0, 0);
+    (row, cells, calls)
+}
+
 #[test]
 fn a_run_goes_on_in_a_row_and_over_to_the_next(rt: HostRuntime) {
     let alloc = rt.alloc();
@@ -412,15 +425,8 @@ fn a_run_goes_on_in_a_row_and_over_to_the_next(rt: HostRuntime) {
             &mut seat,
             5,
             &mut filled,
-            &|filled: &mut (usize, usize), _row: usize, columns: Range<usize>| {
-                let cells = columns.end.saturating_sub(columns.start);
-                *filled = (filled.0.saturating_add(cells), filled.1.saturating_add(1));
-            },
-            &|filled: &mut (usize, usize), row: usize| {
-                let (cells, calls) = (filled.0, filled.1);
-                *filled = (0, 0);
-                (row, cells, calls)
-            },
+            &count_columns,
+            &row_cells_and_calls,
         )
         .expect(&rt, "memory");
     same(

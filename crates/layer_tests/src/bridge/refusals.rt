@@ -133,6 +133,14 @@ fn the_leftmost_trouble_is_answered_on_each_number_of_threads(rt: HostRuntime) {
     }
 }
 
+fn no_place() -> usize {
+    0
+}
+
+fn last_of(_left: usize, right: usize) -> usize {
+    right
+}
+
 #[test]
 fn the_leftmost_trouble_is_answered_by_each_call(rt: HostRuntime) {
     let alloc = rt.alloc();
@@ -141,21 +149,27 @@ fn the_leftmost_trouble_is_answered_by_each_call(rt: HostRuntime) {
         let answer = |item: usize| check(item, bad);
         let done = try_map_parallel(&rt, alloc, four, eight(start, end), &answer);
         row(&rt, ("map", start, end, bad), blamed(done), Err(wanted));
-        let none = || 0_usize;
         let step = |_: usize, item: usize| check(item, bad);
-        let last = |_: usize, right: usize| right;
         let base = TryReduceConsumer {
-            identity: &none,
-            reduce_op: &last,
+            identity: &no_place,
+            reduce_op: &last_of,
         };
         let consumer = TryFoldConsumer {
             base,
-            identity: &none,
+            identity: &no_place,
             fold_op: &step,
         };
         let done = bridge(&rt, alloc, four, eight(start, end), consumer);
         row(&rt, ("bridge", start, end, bad), blamed(done), Err(wanted));
-        let done = try_fold_parallel(&rt, alloc, four, eight(start, end), &none, &step, &last);
+        let done = try_fold_parallel(
+            &rt,
+            alloc,
+            four,
+            eight(start, end),
+            &no_place,
+            &step,
+            &last_of,
+        );
         row(&rt, ("fold", start, end, bad), blamed(done), Err(wanted));
     }
 }

@@ -86,6 +86,14 @@ fn map_counted<R: Threads + Sync + Abort>(rt: &R, alloc: Global, threads: usize,
     assert!(rt; all_gone_but(&counts, 0));
 }
 
+fn no_sum() -> usize {
+    0
+}
+
+fn add(left: usize, right: usize) -> usize {
+    left.wrapping_add(right)
+}
+
 // Adds the places of that many counted items up on that many threads, of which the one at `end`
 // fails.
 fn fold_counted<R: Threads + Sync + Abort>(
@@ -103,9 +111,8 @@ fn fold_counted<R: Threads + Sync + Abort>(
     } else {
         Err(item.place)
     };
-    let add = |left: usize, right: usize| left.wrapping_add(right);
     let parts = DrainProducer::from_vec(items);
-    match try_fold_parallel(rt, alloc, number(rt, threads), parts, &|| 0, &step, &add) {
+    match try_fold_parallel(rt, alloc, number(rt, threads), parts, &no_sum, &step, &add) {
         Ok(sum) => {
             assert!(rt; count <= end);
             let twice = count.wrapping_mul(count).wrapping_sub(count);
@@ -238,6 +245,12 @@ fn pairs_come_serially_too_and_say_how_many_are_left(rt: HostRuntime) {
     same(&rt, drain.next(), None);
 }
 
+fn let_go(_place: usize) {}
+
+fn one_for_nothing(_nothing: ()) -> u8 {
+    1
+}
+
 #[test]
 fn values_of_size_zero_are_mapped_in_order(rt: HostRuntime) {
     let alloc = rt.alloc();
@@ -247,12 +260,10 @@ fn values_of_size_zero_are_mapped_in_order(rt: HostRuntime) {
             end: 5000,
         },
     };
-    let nothing = map_parallel(&rt, alloc, number(&rt, 4), all, &|_place: usize| ()).expect(
-        &rt, "memory",
-    );
+    let nothing = map_parallel(&rt, alloc, number(&rt, 4), all, &let_go).expect(&rt, "memory");
     row(&rt, 1, nothing.len(), 5000);
     let parts = DrainProducer::from_vec(nothing);
-    let ones = map_parallel(&rt, alloc, number(&rt, 4), parts, &|_nothing: ()| 1u8).expect(
+    let ones = map_parallel(&rt, alloc, number(&rt, 4), parts, &one_for_nothing).expect(
         &rt, "memory",
     );
     row(&rt, 2, ones.len(), 5000);

@@ -3,7 +3,9 @@ ghost use Rattle.std.specs.Prelude.{◌≡◌, ◌<◌, length, vec_len};
 
 use crate::pool::pools::becomes;
 use crate::same::{row, same};
-use parallel_pool::rayon::{JobDeque, JobQueues, JobSeat, OwnedJob, Queue, ThreadPool};
+use parallel_pool::rayon::{
+    BroadcastContext, JobDeque, JobQueues, JobSeat, OwnedJob, Queue, ThreadPool,
+};
 use std::alloc::Global;
 use std::collections::VecDeque;
 use std::num::NonZeroUsize;
@@ -80,15 +82,23 @@ fn an_owned_job_is_called_with_the_index_of_its_worker(rt: HostRuntime) {
     same(&rt, called.load(Ordering::SeqCst), 7);
 }
 
+fn ten_times_the_index(context: BroadcastContext) -> u64 {
+    (context.index() as u64).wrapping_mul(10)
+}
+
+fn threads_of(context: BroadcastContext) -> usize {
+    context.num_threads()
+}
+
 #[test]
 fn a_broadcast_answers_for_each_thread(rt: HostRuntime) {
     let pool = ThreadPool::new(NonZeroUsize::MIN.saturating_add(3));
     let answers = pool
-        .broadcast(&rt, rt.alloc(), &|context| context.index() as u64 * 10)
+        .broadcast(&rt, rt.alloc(), &ten_times_the_index)
         .expect(&rt, "memory");
     same(&rt, answers.as_slice(), [0, 10, 20, 30].as_slice());
     let counts = pool
-        .broadcast(&rt, rt.alloc(), &|context| context.num_threads())
+        .broadcast(&rt, rt.alloc(), &threads_of)
         .expect(&rt, "memory");
     same(&rt, counts.as_slice(), [4, 4, 4, 4].as_slice());
 }

@@ -3,8 +3,8 @@ ghost use Rattle.std.specs.Prelude.{◌≡◌};
 
 use crate::same::{prints, row, same};
 use parallel_pool::rayon::{
-    Environment, Execute, OwnedJob, Queue, Staff, ThreadPool, ThreadPoolBuilder, WorkerThread,
-    Yield,
+    BroadcastContext, Environment, Execute, OwnedJob, Queue, Staff, ThreadPool, ThreadPoolBuilder,
+    WorkerThread, Yield,
 };
 use std::alloc::Global;
 use std::collections::VecDeque;
@@ -201,13 +201,21 @@ fn a_pool_prints_its_number_of_threads_and_its_label(rt: HostRuntime) {
     );
 }
 
+fn five() -> u64 {
+    5
+}
+
+fn index_of(context: BroadcastContext) -> usize {
+    context.index()
+}
+
 #[test]
 fn a_pool_of_unstarted_workers_installs_and_broadcasts(rt: HostRuntime) {
     let builder = ThreadPoolBuilder::new().num_threads(2).unstarted_workers();
     let (pool, _none) = builder.build(&rt, rt.alloc()).expect(&rt, "memory");
-    same(&rt, pool.install(&rt, || 5), 5);
+    same(&rt, pool.install(&rt, five), 5);
     let answers = pool
-        .broadcast(&rt, rt.alloc(), &|context| context.index())
+        .broadcast(&rt, rt.alloc(), &index_of)
         .expect(&rt, "memory");
     same(&rt, answers.as_slice(), [0, 1].as_slice());
     let called = word(&rt, rt.alloc());

@@ -1,5 +1,6 @@
 //! Batches: in which ranges their indices go.
 use crate::tests::same::{answers, lists, row, same};
+use crate::tests::steps::one_more;
 use crate::tests::strategies::{SITE, Stopped, number, pool};
 use commonware_parallel::{Batches, Fault, Rayon, Sequential, Strategy, Trouble};
 use known_answers::one_strategy::ranges_at_pool;
@@ -218,7 +219,7 @@ fn mapped_starts<Rt: Threads + Wait + Sync, S: Strategy>(
         1,
         |batches: Batches<'_, S, _>| {
             let prepare = |ranges: &[Range<usize>]| starts_of(alloc, ranges);
-            batches.map_collect_vec(rt, alloc, prepare, |start: usize| start.wrapping_add(1))
+            batches.map_collect_vec(rt, alloc, prepare, one_more)
         },
     )?
 }

@@ -1,6 +1,7 @@
 //! That blocks of memory are given back: of a home by the count of a heap, and of calls by the size
 //! of the process.
 use crate::tests::same::{row, same};
+use crate::tests::steps::{add_sums, no_sum};
 use crate::tests::strategies::{SITE, pool};
 use commonware_parallel::{Fault, Strategy, Trouble};
 use linked_list_allocator::LocalHeap;
@@ -92,15 +93,7 @@ fn failing_fold<Rt: Threads + Wait + Sync, S: Strategy>(
         Ok(page) => Ok(sum.wrapping_add(page.bytes[0])),
         Err(number) => Err(number),
     };
-    strategy.try_fold(
-        rt,
-        alloc,
-        SITE,
-        items,
-        || 0,
-        step,
-        |a: u64, b: u64| a.wrapping_add(b),
-    )
+    strategy.try_fold(rt, alloc, SITE, items, no_sum, step, add_sums)
 }
 
 // Whether the process has grown by as many blocks since it had so many pages.

@@ -5,7 +5,9 @@ ghost use Rattle.std.specs.Prelude.{◌≡◌, ⊤};
 
 use crate::tests::clocks::{Stepping, learning};
 use crate::tests::same::{answers, row};
-use crate::tests::steps::{add, add_counted, ascending, count, descending, zero};
+use crate::tests::steps::{
+    add, add_counted, answer_one, answer_two, ascending, count, descending, zero,
+};
 use crate::tests::strategies::{SITE, number};
 use commonware_parallel::policy::{Key, RunExecution};
 use commonware_parallel::{Batches, Fault, Grid, Job, Policy, Rayon, Site, Strategy, Trouble};
@@ -174,7 +176,7 @@ fn joins_and_spawns<Rt: Threads + Wait + Copy + Send + Sync + 'static, S: Strate
     alloc: Global,
     strategy: &S,
 ) -> Result<(), Fault> {
-    strategy.join(rt, alloc, at(1), || 1u8, || 2u8)?;
+    strategy.join(rt, alloc, at(1), answer_one, answer_two)?;
     strategy.spawn(rt, alloc, at(2), 1, Gives(7))?;
     Ok(())
 }
@@ -342,7 +344,29 @@ fn sum_of(lengths: &[usize]) -> usize {
     sum
 }
 
-// How many indices a batch of 16 has, counted by a map of its ranges, and the number of ranges.
+// How many indices a batch has, counted by a map of its ranges, and the number of ranges.
+fn counted_ranges<Rt: Threads + Wait + Sync, S: Strategy>(
+    rt: &Rt,
+    alloc: Global,
+    batches: Batches<'_, S, Site>,
+    failing: Failing,
+) -> Result<(usize, usize), Trouble<u8>> {
+    let prepare = |ranges: &[Range<usize>]| lengths_of(alloc, ranges);
+    let check = |length: usize| {
+        if failing == Failing::Map {
+            Err(1u8)
+        } else {
+            Ok(length)
+        }
+    };
+    let lengths = batches.try_map_collect_vec(rt, alloc, prepare, check)?;
+    if failing == Failing::Batch {
+        return Err(Trouble::Closure(2));
+    }
+    Ok((sum_of(&lengths), lengths.len()))
+}
+
+// The same of a batch of 16.
 fn counted<Rt: Threads + Wait + Sync, S: Strategy>(
     rt: &Rt,
     alloc: Global,
@@ -351,22 +375,9 @@ fn counted<Rt: Threads + Wait + Sync, S: Strategy>(
     failing: Failing,
 ) -> Result<(usize, usize), Trouble<Trouble<u8>>> {
     let least = NonZeroUsize::MIN;
-    let run = |batches: Batches<'_, S, Site>| -> Result<(usize, usize), Trouble<u8>> {
-        let prepare = |ranges: &[Range<usize>]| lengths_of(alloc, ranges);
-        let check = |length: usize| {
-            if failing == Failing::Map {
-                Err(1u8)
-            } else {
-                Ok(length)
-            }
-        };
-        let lengths = batches.try_map_collect_vec(rt, alloc, prepare, check)?;
-        if failing == Failing::Batch {
-            return Err(Trouble::Closure(2));
-        }
-        Ok((sum_of(&lengths), lengths.len()))
-    };
-    strategy.try_run_batches(rt, alloc, site, 16, least, usize::MAX, run)
+    strategy.try_run_batches(rt, alloc, site, 16, least, usize::MAX, |batches| {
+        counted_ranges(rt, alloc, batches, failing)
+    })
 }
 
 #[test]

@@ -1,6 +1,7 @@
 //! Calls whose closures fail at many items, many times over: the first failing item's error is
 //! answered each time, and each item and each answer is let go once.
 use crate::tests::same::row;
+use crate::tests::steps::no_count;
 use crate::tests::strategies::{SITE, Stopped, number, pool};
 use commonware_parallel::mocks::explore;
 use commonware_parallel::{Fault, Rayon, Strategy, Trouble};
@@ -219,13 +220,13 @@ fn all_left<Rt: Threads + Wait + Abort + Sync, S: Strategy>(
     let mapped = strategy.try_map_collect_vec(rt, alloc, SITE, items, map);
     map_left(rt, &counts, of, mapped, 0);
     let items = counted_items(alloc, &counts, len).expect(rt, "memory");
-    let folded = strategy.try_fold(rt, alloc, SITE, items, || 0, step, add);
+    let folded = strategy.try_fold(rt, alloc, SITE, items, no_count, step, add);
     fold_left(rt, &counts, of, folded);
     let items = (0..len).map(|place: usize| Counted::new(&counts, place));
     let mapped = strategy.try_map_collect_vec(rt, alloc, SITE, items, map);
     map_left(rt, &counts, of, mapped, 0);
     let items = (0..len).map(|place: usize| Counted::new(&counts, place));
-    let folded = strategy.try_fold(rt, alloc, SITE, items, || 0, step, add);
+    let folded = strategy.try_fold(rt, alloc, SITE, items, no_count, step, add);
     fold_left(rt, &counts, of, folded);
 }
 

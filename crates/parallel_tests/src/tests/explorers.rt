@@ -2,7 +2,10 @@
 ghost use Rattle.parallel_shares.specs.Grid.{Fits};
 
 use crate::tests::same::{answers, same};
-use crate::tests::steps::{add, ascending, count, ten, zero};
+use crate::tests::steps::{
+    add, add_sums, ascending, cells_counted, count, count_cells, no_count, no_sum, parallel,
+    serial, ten, zero,
+};
 use crate::tests::strategies::{SITE, Stopped, number, pool};
 use commonware_parallel::mocks::{
     ExploreError, Explorer, Rule, TASKS, WORKERS, explore, inline, mix, pick, pooled,
@@ -86,7 +89,7 @@ fn a_seed_picks_the_body_and_the_number_of_ranges(rt: HostRuntime) {
         answers(
             &rt,
             seed,
-            explorer.run(&rt, alloc, PLACE, 64, || "serial", || "parallel"),
+            explorer.run(&rt, alloc, PLACE, 64, serial, parallel),
             body,
         );
         answers(
@@ -164,7 +167,7 @@ fn a_seed_picks_apart_by_place_and_by_length(rt: HostRuntime) {
     ] {
         let explorer = by_seed(&rt, alloc, seed);
         for (site, len, body, count) in calls {
-            let told = explorer.run(&rt, alloc, site, len, || "serial", || "parallel");
+            let told = explorer.run(&rt, alloc, site, len, serial, parallel);
             answers(&rt, (seed, len), told.map(Some), Some(body));
             let one = number(&rt, 1);
             let ranges = explorer.run_batches(&rt, alloc, site, len, one, 1, |batches| {
@@ -185,19 +188,7 @@ fn cells_filled<Rt: Threads + Wait + Sync>(
     requires { Fits grids.now 100 }
 {
     explorer.run_tiles(rt, alloc, SITE, 100, grids, 1, |tiles| {
-        let counts = tiles.fill_collect_vec(
-            rt,
-            alloc,
-            || 0_usize,
-            |count: &mut usize, _row: usize, columns: Range<usize>| {
-                *count = count.saturating_add(columns.end.saturating_sub(columns.start));
-            },
-            |count: &mut usize, _row: usize| {
-                let cells = *count;
-                *count = 0;
-                cells
-            },
-        )?;
+        let counts = tiles.fill_collect_vec(rt, alloc, no_count, count_cells, cells_counted)?;
         let mut cells = 0_usize;
         for count in counts {
             cells = cells.saturating_add(count);
@@ -252,7 +243,7 @@ fn an_explorer_keeps_the_numbers_and_asks_no_policy(rt: HostRuntime) {
         answers(
             &rt,
             1,
-            explorer.run(&rt, alloc, SITE, 64, || "serial", || "parallel"),
+            explorer.run(&rt, alloc, SITE, 64, serial, parallel),
             "parallel",
         );
     }
@@ -288,49 +279,66 @@ fn the_parallel_rule_folds_and_maps_along_the_shape(rt: HostRuntime) {
     same(&rt, states.as_slice(), [1, 1, 1].as_slice());
 }
 
+fn square(number: u64) -> u64 {
+    number.wrapping_mul(number)
+}
+
+// Whether a map of the numbers below 100 gives their squares.
+fn are_squares<Rt: Threads + Wait + Sync>(rt: &Rt, alloc: Global, explorer: &Explorer) -> bool {
+    let Ok(squares) = explorer.map_collect_vec(rt, alloc, SITE, 0..100u64, square) else {
+        return false;
+    };
+    let mut number = 0u64;
+    for found in squares {
+        if found != square(number) {
+            return false;
+        }
+        number = number.wrapping_add(1);
+    }
+    number == 100
+}
+
+fn sum_of_numbers<Rt: Threads + Wait + Sync>(
+    rt: &Rt,
+    alloc: Global,
+    explorer: &Explorer,
+) -> Result<u64, Fault> {
+    explorer.fold(rt, alloc, SITE, 0..100u64, no_sum, add_sums, add_sums)
+}
+
+fn refuse_two(number: u64) -> Result<u64, u64> {
+    if number == 57 || number == 99 {
+        Err(number)
+    } else {
+        Ok(number)
+    }
+}
+
+// The error of a map that fails at two of the numbers below 100.
+fn first_refused<Rt: Threads + Wait + Sync>(
+    rt: &Rt,
+    alloc: Global,
+    explorer: &Explorer,
+) -> Option<u64> {
+    match explorer.try_map_collect_vec(rt, alloc, SITE, 0..100u64, refuse_two) {
+        Err(Trouble::Closure(number)) => Some(number),
+        _ => None,
+    }
+}
+
 #[test]
 fn outputs_that_the_shape_does_not_change_are_answered(rt: HostRuntime) {
     let alloc = rt.alloc();
-    let squares = explore(&rt, alloc, |explorer| {
-        match explorer.map_collect_vec(&rt, alloc, SITE, 0..100u64, |n| n.wrapping_mul(n)) {
-            Ok(squares) => squares
-                .iter()
-                .enumerate()
-                .all(|(n, square)| *square == (n as u64).wrapping_mul(n as u64)),
-            Err(_) => false,
-        }
-    })
-    .expect(&rt, "memory");
-    assert!(rt; squares);
-    answers(
+    let are_squares = explore(&rt, alloc, |explorer| are_squares(&rt, alloc, explorer));
+    answers(&rt, 1, are_squares, true);
+    let sum = explore(
         &rt,
-        1,
-        explore(&rt, alloc, |explorer| {
-            explorer
-                .fold(
-                    &rt,
-                    alloc,
-                    SITE,
-                    0..100u64,
-                    || 0,
-                    |a: u64, n| a.wrapping_add(n),
-                    |a: u64, b: u64| a.wrapping_add(b),
-                )
-                .ok()
-        }),
-        Some(4950),
+        alloc,
+        |explorer| sum_of_numbers(&rt, alloc, explorer).ok(),
     );
-    let first = explore(&rt, alloc, |explorer| {
-        let checked = explorer.try_map_collect_vec(&rt, alloc, SITE, 0..100u64, |n| {
-            if n == 57 || n == 99 { Err(n) } else { Ok(n) }
-        });
-        match checked {
-            Err(Trouble::Closure(n)) => Some(n),
-            _ => None,
-        }
-    })
-    .expect(&rt, "memory");
-    same(&rt, first, Some(57));
+    answers(&rt, 2, sum, Some(4950));
+    let first = explore(&rt, alloc, |explorer| first_refused(&rt, alloc, explorer));
+    answers(&rt, 3, first, Some(57));
 }
 
 #[test]
@@ -346,9 +354,7 @@ fn an_output_that_the_shape_changes_is_told(rt: HostRuntime) {
     let calls = AtomicU64::new(0);
     let told = explore(&rt, alloc, |explorer| {
         calls.fetch_add(1, Ordering::SeqCst);
-        explorer
-            .run(&rt, alloc, SITE, 64, || "serial", || "parallel")
-            .ok()
+        explorer.run(&rt, alloc, SITE, 64, serial, parallel).ok()
     });
     assert!(rt; matches!(told, Err(ExploreError::Differs(Rule::Parallel))));
     same(&rt, calls.load(Ordering::SeqCst), 2);

@@ -1,5 +1,6 @@
 //! Calls that may fail, on four threads: once the first item has failed, the segments behind it
 //! stop, and most items are never asked.
+use crate::tests::steps::{add_sums, no_sum};
 use crate::tests::strategies::{SITE, pool};
 use commonware_parallel::{Copies, Fault, Strategy, Trouble};
 use std::alloc::Global;
@@ -112,15 +113,14 @@ fn folds_stop<Rt: Threads + Wait + Abort + Sync, S: Strategy>(
     strategy: &S,
     slice: &[u8],
 ) {
-    let both = |left: u64, right: u64| left.wrapping_add(right);
     let calls = Calls::new();
     let step = |sum: u64, item: &u8| calls.add(sum, *item);
-    let folded = strategy.try_fold(rt, alloc, SITE, slice, || 0, step, both);
+    let folded = strategy.try_fold(rt, alloc, SITE, slice, no_sum, step, add_sums);
     calls.were_few(rt, "a fold of a slice", folded);
     let calls = Calls::new();
     let step = |sum: u64, item: u8| calls.add(sum, item);
     let items = slice.iter().copied();
-    let folded = strategy.try_fold(rt, alloc, SITE, items, || 0, step, both);
+    let folded = strategy.try_fold(rt, alloc, SITE, items, no_sum, step, add_sums);
     calls.were_few(rt, "a fold of an iterator", folded);
 }
 

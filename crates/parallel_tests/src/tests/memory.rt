@@ -1,7 +1,7 @@
 //! Calls whose memory may be refused at any point: each one answers what it always does, or
 //! `Fault::Memory`, and nothing else. Run with each allocation failing in turn.
 use crate::tests::same::{row, same};
-use crate::tests::steps::{add, add_counted, zero};
+use crate::tests::steps::{add, add_counted, answer_one, answer_two, zero};
 use crate::tests::strategies::{SITE, Stopped, number};
 use commonware_parallel::{Fault, Rayon, Sequential, Strategy, Trouble};
 use parallel_pool::rayon::ThreadPoolBuildError;
@@ -58,6 +58,14 @@ fn is_or_refused(rt: &impl Abort, answer: Result<usize, Fault>, expected: usize)
     }
 }
 
+fn is_three(number: u64) -> bool {
+    number == 3
+}
+
+fn is_four(number: u64) -> bool {
+    number == 4
+}
+
 // The calls whose closures may fail, over threes: each one answers, fails at the first item, or is
 // refused.
 fn tries_or_refusals<Rt: Threads + Wait + Abort + Sync, S: Strategy>(
@@ -66,11 +74,11 @@ fn tries_or_refusals<Rt: Threads + Wait + Abort + Sync, S: Strategy>(
     strategy: &S,
     threes: &[u64],
 ) {
-    match verify_all(rt, alloc, strategy, SITE, threes, |three: u64| three == 3) {
+    match verify_all(rt, alloc, strategy, SITE, threes, is_three) {
         Ok(()) => {}
         Err(trouble) => assert!(rt; matches!(trouble, Trouble::Fault(Fault::Memory))),
     }
-    match verify_all(rt, alloc, strategy, SITE, threes, |three: u64| three == 4) {
+    match verify_all(rt, alloc, strategy, SITE, threes, is_four) {
         Ok(()) => row(rt, 1, threes.len(), 0),
         Err(Trouble::Closure(index)) => row(rt, 2, index, 0),
         Err(Trouble::Fault(fault)) => same(rt, fault, Fault::Memory),
@@ -79,6 +87,18 @@ fn tries_or_refusals<Rt: Threads + Wait + Abort + Sync, S: Strategy>(
         Ok(sum) => same(rt, sum, 3u64.wrapping_mul(threes.len() as u64)),
         Err(trouble) => assert!(rt; matches!(trouble, Trouble::Fault(Fault::Memory))),
     }
+}
+
+fn len_of_entries(entries: Vec<Option<u32>>) -> usize {
+    entries.len()
+}
+
+fn len_of_kept(parts: (Vec<u32>, Vec<u32>)) -> usize {
+    parts.0.len()
+}
+
+fn is_small_three(number: u32) -> bool {
+    number == 3
 }
 
 // A map and a fold with a state, a partition and a sort, over threes.
@@ -90,14 +110,22 @@ fn states_or_refusals<Rt: Threads + Wait + Abort + Sync, S: Strategy>(
 ) {
     let count = threes.len();
     let entries = leave_out_repeats(rt, alloc, strategy, SITE, threes);
-    is_or_refused(rt, entries.map(|entries| entries.len()), count);
-    let parts = split_by_check(rt, alloc, strategy, SITE, threes, |three: u32| three == 3);
-    is_or_refused(rt, parts.map(|parts| parts.0.len()), count);
+    is_or_refused(rt, entries.map(len_of_entries), count);
+    let parts = split_by_check(rt, alloc, strategy, SITE, threes, is_small_three);
+    is_or_refused(rt, parts.map(len_of_kept), count);
     let numbers = threes.iter().copied();
     match strategy.fold_init(rt, alloc, SITE, numbers, zero, zero, add_counted, add) {
         Ok(sum) => row(rt, 3, sum as usize, count.wrapping_mul(3)),
         Err(fault) => same(rt, fault, Fault::Memory),
     }
+}
+
+fn none(_sorted: ()) -> usize {
+    0
+}
+
+fn second(both: (u32, u32)) -> usize {
+    both.1 as usize
 }
 
 // A sort of pairs whose first parts are odd, which stay there also where it is refused; a join and
@@ -110,11 +138,11 @@ fn sorts_or_refusals<Rt: Threads + Wait + Abort + Sync, S: Strategy>(
 ) {
     let count = pairs.len();
     let sorted = sort_by_first(rt, alloc, strategy, SITE, pairs);
-    is_or_refused(rt, sorted.map(|_| 0), 0);
+    is_or_refused(rt, sorted.map(none), 0);
     let odd = pairs.iter().filter(|pair| pair.0 % 2 == 1).count();
     row(rt, 1, odd, count);
-    let both = strategy.join(rt, alloc, SITE, || 1usize, || 2usize);
-    is_or_refused(rt, both.map(|both| both.1), 2);
+    let both = strategy.join(rt, alloc, SITE, answer_one, answer_two);
+    is_or_refused(rt, both.map(second), 2);
     match strategy.try_run(rt, alloc, SITE, count, || Err(count), || Err(count)) {
         Ok(()) => assert!(rt; false),
         Err(Trouble::Closure(error)) => row(rt, 2, error, count),

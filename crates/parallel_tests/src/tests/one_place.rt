@@ -1,6 +1,8 @@
 //! The calls of one place, each under its short name.
 use crate::tests::same::{answers, lists, same};
-use crate::tests::steps::{add, add_counted, ascending, descending, zero};
+use crate::tests::steps::{
+    add, add_counted, answer_one, answer_two, ascending, descending, one_more, zero,
+};
 use crate::tests::strategies::{SITE, pool};
 use commonware_parallel::{Fault, Indices, On, Sequential, Strategy, Trouble};
 use std::alloc::Global;
@@ -22,6 +24,26 @@ fn squares_and_their_sum_come_of_one_place(rt: HostRuntime) {
     }
 }
 
+fn below_three(number: usize) -> Result<usize, usize> {
+    if number < 3 { Ok(number) } else { Err(number) }
+}
+
+fn seven() -> usize {
+    7
+}
+
+fn add_to_state(state: &mut usize, number: usize) -> usize {
+    number.wrapping_add(*state)
+}
+
+fn kept_if_even(number: usize) -> (usize, Option<usize>) {
+    if number % 2 == 0 {
+        (number, Some(number))
+    } else {
+        (number, None)
+    }
+}
+
 // Maps and folds of the numbers below five.
 fn lists_of_five<Rt: Threads + Wait + Abort + Sync, S: Strategy>(
     rt: &Rt,
@@ -35,31 +57,26 @@ fn lists_of_five<Rt: Threads + Wait + Abort + Sync, S: Strategy>(
         site: SITE,
     };
     let five = Indices { start: 0, end: 5 };
-    lists(
-        rt,
-        1,
-        on.map(five, |n: usize| n.wrapping_add(1)),
-        &[1, 2, 3, 4, 5],
-    );
-    let tried = on.try_map(five, |n: usize| if n < 3 { Ok(n) } else { Err(n) });
+    lists(rt, 1, on.map(five, one_more), &[1, 2, 3, 4, 5]);
+    let tried = on.try_map(five, below_three);
     same(rt, tried, Err(Trouble::Closure(3)));
     lists(
         rt,
         2,
-        on.map_init(
-            five,
-            || 7,
-            |state: &mut usize, n: usize| n.wrapping_add(*state),
-        ),
+        on.map_init(five, seven, add_to_state),
         &[7, 8, 9, 10, 11],
     );
-    let (even, odd) = on
-        .map_partition(five, |n: usize| {
-            if n % 2 == 0 { (n, Some(n)) } else { (n, None) }
-        })
-        .expect(rt, "memory");
+    let (even, odd) = on.map_partition(five, kept_if_even).expect(rt, "memory");
     same(rt, even.as_slice(), [0, 2, 4].as_slice());
     same(rt, odd.as_slice(), [1, 3].as_slice());
+}
+
+fn add_below_four(sum: u32, number: u32) -> Result<u32, u32> {
+    if number < 4 {
+        Ok(sum.wrapping_add(number))
+    } else {
+        Err(number)
+    }
 }
 
 // Sums of the numbers below five.
@@ -81,12 +98,7 @@ fn sums_of_five<Rt: Threads + Wait + Abort + Sync, S: Strategy>(
         on.fold_init(0..5u32, zero, zero, add_counted, add),
         10,
     );
-    let below_four = |sum: u32, n: u32| if n < 4 {
-        Ok(sum.wrapping_add(n))
-    } else {
-        Err(n)
-    };
-    let tried = on.try_fold(0..5u32, zero, below_four, add);
+    let tried = on.try_fold(0..5u32, zero, add_below_four, add);
     same(rt, tried, Err(Trouble::Closure(4)));
 }
 
@@ -108,7 +120,7 @@ fn sorts_and_a_join<Rt: Threads + Wait + Abort + Sync, S: Strategy>(
     on.sort_unstable_by(&mut numbers, ascending)
         .expect(rt, "memory");
     same(rt, numbers.as_slice(), [1, 2, 3].as_slice());
-    answers(rt, 1, on.join(|| 1, || 2), (1, 2));
+    answers(rt, 1, on.join(answer_one, answer_two), (1, 2));
 }
 
 #[test]

@@ -7,6 +7,7 @@
 use crate::tests::errors::{Counted, Counts, counted_items};
 use crate::tests::no_memory::all_memory;
 use crate::tests::same::row;
+use crate::tests::steps::{add_counts, no_count};
 use crate::tests::strategies::{SITE, Stopped, number};
 use commonware_parallel::merkle::root;
 use commonware_parallel::{Fault, Rayon, Sequential, Strategy, Trouble};
@@ -114,14 +115,13 @@ fn is_fold<Rt: Threads + Wait + Sync, S: Strategy>(
         let value = seen.value(item.place);
         Ok(count.wrapping_add(usize::from(value.place < LEN)))
     };
-    let both = |left: usize, right: usize| left.wrapping_add(right);
     let count = if as_list {
-        strategy.try_fold(rt, alloc, SITE, items, || 0, step, both)?
+        strategy.try_fold(rt, alloc, SITE, items, no_count, step, add_counts)?
     } else {
         let items = items
             .into_iter()
             .filter(|item: &Counted<'_>| item.place < LEN);
-        strategy.try_fold(rt, alloc, SITE, items, || 0, step, both)?
+        strategy.try_fold(rt, alloc, SITE, items, no_count, step, add_counts)?
     };
     Ok(count == LEN)
 }

@@ -1,5 +1,6 @@
 //! Runs, and the numbers of a pool.
 use crate::tests::same::{answers, lists, row, same};
+use crate::tests::steps::{parallel, serial};
 use crate::tests::strategies::{SITE, Stopped, number, pool};
 use commonware_parallel::rayon::ThreadPoolBuilder;
 use commonware_parallel::{
@@ -14,12 +15,12 @@ use uses::runs::{count_set, one_of};
 #[test]
 fn a_run_takes_the_body_of_its_strategy(rt: HostRuntime) {
     let alloc = rt.alloc();
-    let own = Sequential.run(SITE, 4, || "serial", || "parallel");
+    let own = Sequential.run(SITE, 4, serial, parallel);
     row(&rt, 1, own, "serial");
     answers(
         &rt,
         2,
-        run_serial(&rt, alloc, &Sequential, SITE, 4, || "serial", || "parallel"),
+        run_serial(&rt, alloc, &Sequential, SITE, 4, serial, parallel),
         "serial",
     );
     answers(
@@ -99,7 +100,7 @@ fn the_planning_number_chooses(rt: HostRuntime) {
     answers(
         &rt,
         4,
-        run_parallel(&rt, alloc, &planned, SITE, 2, || "serial", || "parallel"),
+        run_parallel(&rt, alloc, &planned, SITE, 2, serial, parallel),
         "parallel",
     );
 }

@@ -2,7 +2,7 @@
 ghost use Rattle.std.specs.Prelude.{◌≡◌, ⊤};
 
 use crate::tests::same::{answers, lists, same};
-use crate::tests::steps::{add, count, zero};
+use crate::tests::steps::{add, count, no_count, zero};
 use crate::tests::strategies::{SITE, number};
 use commonware_parallel::{Grid, Job, Sequential, Trouble};
 use std::ops::Range;
@@ -77,7 +77,7 @@ fn tiles_are_planned_for_one_worker(rt: HostRuntime) {
         let finish = |cells: &mut usize, row: usize| (row, *cells);
         (
             plan,
-            tiles.fill_collect_vec(&rt, alloc, || 0_usize, fill, finish),
+            tiles.fill_collect_vec(&rt, alloc, no_count, fill, finish),
         )
     });
     same(&rt, plan, (0, 1, false));

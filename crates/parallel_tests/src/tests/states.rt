@@ -1,6 +1,8 @@
 //! Maps and folds with a state at hand, partitions, sorts and joins, through each strategy.
 use crate::tests::same::{answers, lists, row, same};
-use crate::tests::steps::{add, add_counted, ascending, count, descending, ten, zero};
+use crate::tests::steps::{
+    add, add_counted, answer_one, answer_two, ascending, count, descending, ten, zero,
+};
 use crate::tests::strategies::{SITE, Stopped, number, pool};
 use crate::tests::threads::sees;
 use commonware_parallel::{Fault, Rayon, Sequential, Strategy};
@@ -284,7 +286,7 @@ fn joins_are_parallel_whatever_a_pool_is_planned_for(rt: HostRuntime) {
     answers(
         &rt,
         2,
-        join_serial(&rt, alloc, &Sequential, SITE, || 1u32, || 2u32),
+        join_serial(&rt, alloc, &Sequential, SITE, answer_one, answer_two),
         (1, 2),
     );
 }

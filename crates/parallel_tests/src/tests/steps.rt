@@ -1,6 +1,7 @@
-//! The steps of the tests' folds, states and sorts, over `u32`. One that stands here is proved
-//! once, and not once for each test that hands it on.
+//! The steps of the tests' folds, states, runs and sorts. One that stands here is proved once, and
+//! not once for each test that hands it on.
 use std::cmp::Ordering;
+use std::ops::Range;
 
 pub fn zero() -> u32 {
     0
@@ -24,6 +25,81 @@ pub fn count(state: &mut u32, _item: u32) -> u32 {
 pub fn add_counted(sum: u32, state: &mut u32, item: u32) -> u32 {
     *state = state.wrapping_add(1);
     sum.wrapping_add(item)
+}
+
+pub fn no_count() -> usize {
+    0
+}
+
+pub fn add_counts(left: usize, right: usize) -> usize {
+    left.wrapping_add(right)
+}
+
+pub fn no_sum() -> u64 {
+    0
+}
+
+pub fn add_sums(left: u64, right: u64) -> u64 {
+    left.wrapping_add(right)
+}
+
+// Counts the cells that are filled, from where the count stands.
+pub fn count_cells(count: &mut usize, _row: usize, columns: Range<usize>) {
+    *count = count.saturating_add(columns.len());
+}
+
+// The number of cells, of which the next row has none yet.
+pub fn cells_counted(count: &mut usize, _row: usize) -> usize {
+    let cells = *count;
+    *count = 0;
+    cells
+}
+
+pub fn one_more(number: usize) -> usize {
+    number.wrapping_add(1)
+}
+
+pub fn answer_one() -> u32 {
+    1
+}
+
+pub fn answer_two() -> u32 {
+    2
+}
+
+pub fn answer_seven() -> u32 {
+    7
+}
+
+pub fn seven_or_error() -> Result<u32, u32> {
+    Ok(7)
+}
+
+pub fn error_of_five() -> Result<u32, u32> {
+    Err(5)
+}
+
+pub fn yes() -> bool {
+    true
+}
+
+pub fn no() -> bool {
+    false
+}
+
+pub fn both(left: bool, right: bool) -> bool {
+    left & right
+}
+
+pub fn nothing() {}
+
+// The body of a run that goes serially, and that of one that goes in parallel.
+pub fn serial() -> &'static str {
+    "serial"
+}
+
+pub fn parallel() -> &'static str {
+    "parallel"
 }
 
 pub fn ascending(left: &u32, right: &u32) -> Ordering {

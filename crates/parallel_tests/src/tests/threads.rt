@@ -1,7 +1,7 @@
 //! Parts of a call that run side by side: two calls of a closure each wait, for a bounded number of
 //! turns, until the other one was begun.
 use crate::tests::same::{answers, lists, row, same};
-use crate::tests::steps::ascending;
+use crate::tests::steps::{ascending, both, nothing, yes};
 use crate::tests::strategies::{SITE, number, pool};
 use commonware_parallel::bridge::Indices;
 use commonware_parallel::rayon::{BroadcastContext, ThreadPoolBuilder};
@@ -59,70 +59,89 @@ impl Meeting {
     }
 }
 
-// The answers of the two calls that each kind of map makes for a list of two items.
-fn maps_meet<Rt: Threads + Wait + Abort + Sync, S: Strategy, M, I: Source<M>, G: Fn() -> I>(
+// Whether each of two items saw the other, by a map, a fallible one and one with a state.
+fn meet_in_a_map<Rt: Threads + Wait + Sync, S: Strategy, M, I: Source<M>>(
     rt: &Rt,
     alloc: Global,
     strategy: &S,
-    of: &str,
-    make: G,
-)
-    requires makes { G.IsAlwaysCallable make }
-    requires can { (source : I) → G.post make source → I.can source }
+    source: I,
+) -> Result<Vec<bool>, Fault>
+    requires { I.can source }
 {
-    let both = [true, true];
     let met = Meeting::new();
-    let mapped = strategy.map_collect_vec(rt, alloc, SITE, make(), |_: I::Item| met.next());
-    lists(rt, (of, "map"), mapped, &both);
-    let met = Meeting::new();
-    let tried = strategy.try_map_collect_vec(
-        rt,
-        alloc,
-        SITE,
-        make(),
-        |_: I::Item| -> Result<bool, u32> { Ok(met.next()) },
-    );
-    lists(rt, (of, "fallible map"), tried, &both);
-    let met = Meeting::new();
-    let init = || ();
-    let stated = |_: &mut (), _: I::Item| met.next();
-    let mapped = strategy.map_init_collect_vec(rt, alloc, SITE, make(), init, stated);
-    lists(rt, (of, "map with a state"), mapped, &both);
+    strategy.map_collect_vec(rt, alloc, SITE, source, |_: I::Item| met.next())
 }
 
-// The same of folds and of a partition.
-fn folds_meet<Rt: Threads + Wait + Abort + Sync, S: Strategy, M, I: Source<M>, G: Fn() -> I>(
+fn meet_in_a_fallible_map<Rt: Threads + Wait + Sync, S: Strategy, M, I: Source<M>>(
     rt: &Rt,
     alloc: Global,
     strategy: &S,
-    of: &str,
-    make: G,
-)
-    requires makes { G.IsAlwaysCallable make }
-    requires can { (source : I) → G.post make source → I.can source }
+    source: I,
+) -> Result<Vec<bool>, Trouble<u32>>
+    requires { I.can source }
+{
+    let met = Meeting::new();
+    let map = |_: I::Item| -> Result<bool, u32> { Ok(met.next()) };
+    strategy.try_map_collect_vec(rt, alloc, SITE, source, map)
+}
+
+fn meet_in_a_map_with_a_state<Rt: Threads + Wait + Sync, S: Strategy, M, I: Source<M>>(
+    rt: &Rt,
+    alloc: Global,
+    strategy: &S,
+    source: I,
+) -> Result<Vec<bool>, Fault>
+    requires { I.can source }
+{
+    let met = Meeting::new();
+    let map = |_: &mut (), _: I::Item| met.next();
+    strategy.map_init_collect_vec(rt, alloc, SITE, source, nothing, map)
+}
+
+// Whether both of two items saw the other, by a fold and a fallible one.
+fn meet_in_a_fold<Rt: Threads + Wait + Sync, S: Strategy, M, I: Source<M>>(
+    rt: &Rt,
+    alloc: Global,
+    strategy: &S,
+    source: I,
+) -> Result<bool, Fault>
+    requires { I.can source }
 {
     let met = Meeting::new();
     let step = |seen: bool, _: I::Item| seen & met.next();
-    let folded = strategy.fold(rt, alloc, SITE, make(), || true, step, |a, b| a & b);
-    answers(rt, (of, "fold"), folded, true);
-    let met = Meeting::new();
-    let step = |seen: bool, _: I::Item| -> Result<bool, u32> { Ok(seen & met.next()) };
-    let folded = strategy.try_fold(rt, alloc, SITE, make(), || true, step, |a, b| a & b);
-    answers(rt, (of, "fallible fold"), folded, true);
-    let met = Meeting::new();
-    let keep = |item: I::Item| (item, Some(met.next()));
-    let parts = strategy.map_partition_collect_vec(rt, alloc, SITE, make(), keep);
-    let (kept, _) = parts.expect(rt, "memory");
-    row(
-        rt,
-        (of, "partition"),
-        kept.as_slice(),
-        [true, true].as_slice(),
-    );
+    strategy.fold(rt, alloc, SITE, source, yes, step, both)
 }
 
-// Both, for lists that are made alike.
-fn items_meet<Rt: Threads + Wait + Abort + Sync, S: Strategy, M, I: Source<M>, G: Fn() -> I + Copy>(
+fn meet_in_a_fallible_fold<Rt: Threads + Wait + Sync, S: Strategy, M, I: Source<M>>(
+    rt: &Rt,
+    alloc: Global,
+    strategy: &S,
+    source: I,
+) -> Result<bool, Trouble<u32>>
+    requires { I.can source }
+{
+    let met = Meeting::new();
+    let step = |seen: bool, _: I::Item| -> Result<bool, u32> { Ok(seen & met.next()) };
+    strategy.try_fold(rt, alloc, SITE, source, yes, step, both)
+}
+
+// Whether each of two items of a partition saw the other.
+fn meet_in_a_partition<Rt: Threads + Wait + Sync, S: Strategy, M, I: Source<M>>(
+    rt: &Rt,
+    alloc: Global,
+    strategy: &S,
+    source: I,
+) -> Result<Vec<bool>, Fault>
+    requires { I.can source }
+{
+    let met = Meeting::new();
+    let keep = |item: I::Item| (item, Some(met.next()));
+    let (kept, _) = strategy.map_partition_collect_vec(rt, alloc, SITE, source, keep)?;
+    Ok(kept)
+}
+
+// Each of them, for lists that are made alike.
+fn items_meet<Rt: Threads + Wait + Abort + Sync, S: Strategy, M, I: Source<M>, G: Fn() -> I>(
     rt: &Rt,
     alloc: Global,
     strategy: &S,
@@ -132,22 +151,69 @@ fn items_meet<Rt: Threads + Wait + Abort + Sync, S: Strategy, M, I: Source<M>, G
     requires makes { G.IsAlwaysCallable make }
     requires can { (source : I) → G.post make source → I.can source }
 {
-    maps_meet(rt, alloc, strategy, of, make);
-    folds_meet(rt, alloc, strategy, of, make);
+    let each = [true, true];
+    lists(
+        rt,
+        (of, "map"),
+        meet_in_a_map(rt, alloc, strategy, make()),
+        &each,
+    );
+    let tried = meet_in_a_fallible_map(rt, alloc, strategy, make());
+    lists(rt, (of, "fallible map"), tried, &each);
+    let mapped = meet_in_a_map_with_a_state(rt, alloc, strategy, make());
+    lists(rt, (of, "map with a state"), mapped, &each);
+    answers(
+        rt,
+        (of, "fold"),
+        meet_in_a_fold(rt, alloc, strategy, make()),
+        true,
+    );
+    let folded = meet_in_a_fallible_fold(rt, alloc, strategy, make());
+    answers(rt, (of, "fallible fold"), folded, true);
+    lists(
+        rt,
+        (of, "partition"),
+        meet_in_a_partition(rt, alloc, strategy, make()),
+        &each,
+    );
+}
+
+const NUMBERS: &[u32] = &[7, 8];
+
+fn copies() -> Copies<'static, u32> {
+    Copies { slice: NUMBERS }
+}
+
+fn slice() -> &'static [u32] {
+    NUMBERS
+}
+
+fn indices() -> Indices {
+    Indices { start: 3, end: 5 }
+}
+
+fn iterator() -> Range<u32> {
+    0..2
+}
+
+fn counted() -> Counted<Range<usize>> {
+    Counted { iter: 0..2 }
+}
+
+fn backwards() -> Backwards<'static, u32> {
+    Backwards { slice: NUMBERS }
 }
 
 #[test]
 fn the_items_of_each_list_call_see_each_other(rt: HostRuntime) {
     let alloc = rt.alloc();
     let two = pool(&rt, alloc, 2, 2);
-    let numbers = [7u32, 8];
-    let slice = numbers.as_slice();
-    items_meet(&rt, alloc, &two, "copies", || Copies { slice });
-    items_meet(&rt, alloc, &two, "slice", || slice);
-    items_meet(&rt, alloc, &two, "indices", || Indices { start: 3, end: 5 });
-    items_meet(&rt, alloc, &two, "iterator", || 0..2u32);
-    items_meet(&rt, alloc, &two, "counted", || Counted { iter: 0..2usize });
-    items_meet(&rt, alloc, &two, "own", || Backwards { slice });
+    items_meet(&rt, alloc, &two, "copies", copies);
+    items_meet(&rt, alloc, &two, "slice", slice);
+    items_meet(&rt, alloc, &two, "indices", indices);
+    items_meet(&rt, alloc, &two, "iterator", iterator);
+    items_meet(&rt, alloc, &two, "counted", counted);
+    items_meet(&rt, alloc, &two, "own", backwards);
     items_meet(&rt, alloc, &two, "vector", || {
         vec![in alloc; 7u32, 8].expect(&rt, "memory")
     });

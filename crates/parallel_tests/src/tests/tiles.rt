@@ -1,5 +1,6 @@
 //! Tiles: which cells are filled, for how many workers, and what is answered for each row.
 use crate::tests::same::{lists, row, same};
+use crate::tests::steps::{no, no_count};
 use crate::tests::strategies::{SITE, Stopped, number, pool};
 use crate::tests::threads::Meeting;
 use commonware_parallel::mocks::explore;
@@ -24,6 +25,35 @@ fn grid(rt: &impl Abort, rows: usize, tile_cost: usize) -> Grid {
     }
 }
 
+// The row and the number of its cells, of which the next row has none yet.
+fn row_and_cells(count: &mut usize, row: usize) -> (usize, usize) {
+    let cells = *count;
+    *count = 0;
+    (row, cells)
+}
+
+// What tiles answer, each cell of a row of `len` counted in `marks` as it is filled.
+fn fill_tiles<Rt: Threads + Wait + Sync, S: Strategy>(
+    rt: &Rt,
+    alloc: Global,
+    tiles: Tiles<'_, S, Site>,
+    len: usize,
+    marks: &[AtomicU64],
+) -> Result<Told, Fault> {
+    let plan = (tiles.grid(), tiles.workers().get(), tiles.is_cut());
+    let fill = |count: &mut usize, row: usize, columns: Range<usize>| {
+        *count = count.saturating_add(columns.end.saturating_sub(columns.start));
+        for column in columns {
+            let place = row.saturating_mul(len).saturating_add(column);
+            if let Some(mark) = marks.get(place) {
+                mark.fetch_add(1, Ordering::SeqCst);
+            }
+        }
+    };
+    let results = tiles.fill_collect_vec(rt, alloc, no_count, fill, row_and_cells)?;
+    Ok((plan.0, plan.1, plan.2, results))
+}
+
 // Fills the grids, and counts in `marks` how often each cell of a row of `len` was filled.
 fn fill<Rt: Threads + Wait + Abort + Sync, S: Strategy>(
     rt: &Rt,
@@ -35,27 +65,7 @@ fn fill<Rt: Threads + Wait + Abort + Sync, S: Strategy>(
 ) -> Result<Told, Fault> {
     assert!(rt; Grid::fits(grids, len));
     strategy.run_tiles(rt, alloc, SITE, len, grids, 1, |tiles| {
-        let plan = (tiles.grid(), tiles.workers().get(), tiles.is_cut());
-        let results = tiles.fill_collect_vec(
-            rt,
-            alloc,
-            || 0_usize,
-            |count: &mut usize, row: usize, columns: Range<usize>| {
-                *count = count.saturating_add(columns.end.saturating_sub(columns.start));
-                for column in columns {
-                    let place = row.saturating_mul(len).saturating_add(column);
-                    if let Some(mark) = marks.get(place) {
-                        mark.fetch_add(1, Ordering::SeqCst);
-                    }
-                }
-            },
-            |count: &mut usize, row: usize| {
-                let cells = *count;
-                *count = 0;
-                (row, cells)
-            },
-        )?;
-        Ok((plan.0, plan.1, plan.2, results))
+        fill_tiles(rt, alloc, tiles, len, marks)
     })?
 }
 
@@ -127,6 +137,12 @@ fn eight_workers_cut_four_rows(rt: HostRuntime) {
     }
 }
 
+fn fill_nothing(_state: &mut (), _row: usize, _columns: Range<usize>) {}
+
+fn number_of_row(_state: &mut (), row: usize) -> usize {
+    row
+}
+
 // How many results tiles have of a grid without cells. Counts the states that are made.
 fn results_of_nothing<Rt: Threads + Wait + Abort + Sync, S: Strategy>(
     rt: &Rt,
@@ -141,8 +157,7 @@ fn results_of_nothing<Rt: Threads + Wait + Abort + Sync, S: Strategy>(
         let init = || {
             made.fetch_add(1, Ordering::SeqCst);
         };
-        let fill = |_: &mut (), _: usize, _: Range<usize>| {};
-        tiles.fill_collect_vec(rt, alloc, init, fill, |_: &mut (), row: usize| row)
+        tiles.fill_collect_vec(rt, alloc, init, fill_nothing, number_of_row)
     });
     let results = results.expect(rt, "memory").expect(rt, "memory");
     results.len()
@@ -188,6 +203,11 @@ fn each_cell_is_filled_once(rt: HostRuntime) {
     }
 }
 
+// What a stretch has seen.
+fn has_seen(seen: &mut bool, _row: usize) -> bool {
+    *seen
+}
+
 // For each stretch, whether its row saw the other one.
 fn meetings<Rt: Threads + Wait + Sync, S: Strategy>(
     rt: &Rt,
@@ -196,7 +216,7 @@ fn meetings<Rt: Threads + Wait + Sync, S: Strategy>(
     flags: &Meeting,
 ) -> Result<Vec<bool>, Fault> {
     let fill = |seen: &mut bool, row: usize, _: Range<usize>| *seen = flags.meet(row == 0);
-    tiles.fill_collect_vec(rt, alloc, || false, fill, |seen: &mut bool, _: usize| *seen)
+    tiles.fill_collect_vec(rt, alloc, no, fill, has_seen)
 }
 
 // The same over rows of 8 cells, which stay whole where a tile costs more.
@@ -240,8 +260,7 @@ fn halves_meet<Rt: Threads + Wait + Abort + Sync, S: Strategy>(
         let fill = |seen: &mut bool, _: usize, columns: Range<usize>| {
             *seen = flags.meet(columns.start < 32);
         };
-        let finish = |seen: &mut bool, _: usize| *seen;
-        let seen = tiles.fill_collect_vec(rt, alloc, || false, fill, finish)?;
+        let seen = tiles.fill_collect_vec(rt, alloc, no, fill, has_seen)?;
         Ok((is_cut, seen))
     })?
 }
@@ -256,13 +275,25 @@ fn two_workers_of_one_row_see_each_other(rt: HostRuntime) {
     assert!(rt; seen.iter().all(|seen| *seen));
 }
 
+fn load(seat: usize, share: usize) -> Event {
+    Event::Load { seat, share }
+}
+
+fn claim(seat: usize) -> Event {
+    Event::Claim { seat }
+}
+
+fn steal(seat: usize) -> Event {
+    Event::Steal { seat }
+}
+
+fn refill(seat: usize) -> Event {
+    Event::Refill { seat }
+}
+
 #[test]
 fn stale_steals_claims_and_refills_change_nothing(rt: HostRuntime) {
     let plan = Plan::new(1, 12, number(&rt, 1), number(&rt, 3), false);
-    let load = |seat, share| Event::Load { seat, share };
-    let claim = |seat| Event::Claim { seat };
-    let steal = |seat| Event::Steal { seat };
-    let refill = |seat| Event::Refill { seat };
     let events = [
         load(0, 0),
         claim(0),
@@ -363,6 +394,22 @@ fn widened(span: Option<Span>, cells: &[u8], columns: Range<usize>) -> Span {
     (first, columns.end, so_far.saturating_add(above))
 }
 
+fn no_span() -> Option<Span> {
+    None
+}
+
+fn finished_span(span: &mut Option<Span>, _row: usize) -> Span {
+    span.take().unwrap_or((0, 0, 0))
+}
+
+// Two neighbouring spans as one; others count no cell.
+fn merged_span(left: Span, right: Span) -> Span {
+    if left.1 != right.0 {
+        return (0, 0, 0);
+    }
+    (left.0, right.1, left.2.saturating_add(right.2))
+}
+
 // Whether rows may be cut, and each row's stretches as one span. Two that were merged in the wrong
 // order, or with others between them, count no cell.
 fn spans_by_row<Rt: Threads + Wait + Abort + Sync, S: Strategy>(
@@ -383,14 +430,14 @@ fn spans_by_row<Rt: Threads + Wait + Abort + Sync, S: Strategy>(
             let cells = matrix.get(place).unwrap_or(&[]);
             *span = Some(widened(*span, cells, columns));
         };
-        let finish = |span: &mut Option<Span>, _: usize| span.take().unwrap_or((0, 0, 0));
-        let merge = |left: Span, right: Span| {
-            if left.1 != right.0 {
-                return (0, 0, 0);
-            }
-            (left.0, right.1, left.2.saturating_add(right.2))
-        };
-        let spans = tiles.fill_merge_collect_vec(rt, alloc, || None, fill, finish, merge)?;
+        let spans = tiles.fill_merge_collect_vec(
+            rt,
+            alloc,
+            no_span,
+            fill,
+            finished_span,
+            merged_span,
+        )?;
         Ok((cut, spans))
     })?
 }

@@ -1,7 +1,7 @@
 //! Calls whose closures may fail. The first failing item's error is the answer, whichever part of
 //! the list ended first.
 use crate::tests::same::{answers, row, same};
-use crate::tests::steps::{add, zero};
+use crate::tests::steps::{add, error_of_five, seven_or_error, zero};
 use crate::tests::strategies::{SITE, Stopped, number, pool};
 use commonware_parallel::mocks::explore;
 use commonware_parallel::{Rayon, Sequential, Strategy, Trouble};
@@ -194,12 +194,26 @@ fn a_run_answers_the_error_of_its_body(rt: HostRuntime) {
     let alloc = rt.alloc();
     let two = pool(&rt, alloc, 2, 2);
     let serial: Result<u32, Trouble<u32>> = Sequential
-        .try_run(SITE, 4, || Err(5), || Ok(7))
+        .try_run(SITE, 4, error_of_five, seven_or_error)
         .map_err(Trouble::Closure);
     row(&rt, 1, serial, Err(Trouble::Closure(5)));
-    let parallel: Result<u32, Trouble<u32>> = two.try_run(&rt, alloc, SITE, 4, || Err(5), || Ok(7));
+    let parallel: Result<u32, Trouble<u32>> = two.try_run(
+        &rt,
+        alloc,
+        SITE,
+        4,
+        error_of_five,
+        seven_or_error,
+    );
     row(&rt, 2, parallel, Ok(7));
-    let failed: Result<u32, Trouble<u32>> = two.try_run(&rt, alloc, SITE, 4, || Ok(7), || Err(5));
+    let failed: Result<u32, Trouble<u32>> = two.try_run(
+        &rt,
+        alloc,
+        SITE,
+        4,
+        seven_or_error,
+        error_of_five,
+    );
     row(&rt, 3, failed, Err(Trouble::Closure(5)));
     let through: Result<u32, Trouble<u32>> = Strategy::try_run(
         &Sequential,
@@ -207,8 +221,8 @@ fn a_run_answers_the_error_of_its_body(rt: HostRuntime) {
         alloc,
         SITE,
         4,
-        || Ok(7),
-        || Err(5),
+        seven_or_error,
+        error_of_five,
     );
     row(&rt, 4, through, Ok(7));
 }

@@ -7,7 +7,7 @@ use crate::tests::clocks::{Stepping, learning};
 use crate::tests::entries::{Times, times};
 use crate::tests::no_memory::{all_memory, all_places};
 use crate::tests::same::{answers, row};
-use crate::tests::steps::descending;
+use crate::tests::steps::{descending, zero};
 use crate::tests::strategies::SITE;
 use commonware_parallel::policy::{Key, RunExecution, SpawnExecution, SpawnSample};
 use commonware_parallel::{Fault, Indices, Job, Policy, Rayon, Strategy, Trouble};
@@ -19,6 +19,8 @@ use std::thread::Threads;
 
 // How many items each call has: as `u32`s they take 2 MiB.
 const LEN: usize = 524_288;
+
+const INDICES: Indices = Indices { start: 0, end: LEN };
 
 const SECOND: u64 = 1_000_000_000;
 
@@ -74,6 +76,66 @@ fn check(calls: &AtomicU64, number: u32, failing: u32) -> Result<u32, u32> {
     }
 }
 
+fn greater(left: u32, right: u32) -> u32 {
+    left.max(right)
+}
+
+// A map and a fallible map of indices.
+fn map_indices<Rt: Threads + Wait + Sync, S: Strategy>(
+    rt: &Rt,
+    alloc: Global,
+    strategy: &S,
+    calls: &AtomicU64,
+) -> Result<(), Fault> {
+    let map = |index: usize| {
+        calls.fetch_add(1, Ordering::SeqCst);
+        index as u32
+    };
+    strategy.map_collect_vec(rt, alloc, SITE, INDICES, map)?;
+    Ok(())
+}
+
+fn try_map_indices<Rt: Threads + Wait + Sync, S: Strategy>(
+    rt: &Rt,
+    alloc: Global,
+    strategy: &S,
+    calls: &AtomicU64,
+    failing: u32,
+) -> Result<(), Trouble<u32>> {
+    let map = |index: usize| check(calls, index as u32, failing);
+    strategy.try_map_collect_vec(rt, alloc, SITE, INDICES, map)?;
+    Ok(())
+}
+
+// A map of numbers as they come, and a fold of indices that fails at the third.
+fn map_numbers<Rt: Threads + Wait + Sync, S: Strategy>(
+    rt: &Rt,
+    alloc: Global,
+    strategy: &S,
+    calls: &AtomicU64,
+) -> Result<(), Fault> {
+    let map = |number: u32| {
+        calls.fetch_add(1, Ordering::SeqCst);
+        number
+    };
+    strategy.map_collect_vec(rt, alloc, SITE, 0..LEN as u32, map)?;
+    Ok(())
+}
+
+fn fold_indices<Rt: Threads + Wait + Sync, S: Strategy>(
+    rt: &Rt,
+    alloc: Global,
+    strategy: &S,
+    calls: &AtomicU64,
+) -> Result<(), Trouble<u32>> {
+    let step = |last: u32, index: usize| match check(calls, index as u32, 2) {
+        Ok(passed) => Ok(passed.max(last)),
+        Err(failed) => Err(failed),
+    };
+    strategy.try_fold(rt, alloc, SITE, INDICES, zero, step, greater)?;
+    Ok(())
+}
+
 // Makes such a call: its outcome without its answer.
 fn outcome_of<Rt: Threads + Wait + Sync, S: Strategy>(
     rt: &Rt,
@@ -83,33 +145,13 @@ fn outcome_of<Rt: Threads + Wait + Sync, S: Strategy>(
     numbers: &mut [u32],
     calls: &AtomicU64,
 ) -> Result<(), Trouble<u32>> {
-    let failing = if call == Made::Tried { u32::MAX } else { 2 };
-    let indices = Indices { start: 0, end: LEN };
-    let map = |number: u32| {
-        calls.fetch_add(1, Ordering::SeqCst);
-        number
-    };
     match call {
-        Made::Gathered => {
-            strategy.map_collect_vec(rt, alloc, SITE, 0..LEN as u32, map)?;
-        }
-        Made::Map => {
-            let map = |index: usize| map(index as u32);
-            strategy.map_collect_vec(rt, alloc, SITE, indices, map)?;
-        }
-        Made::Tried | Made::FailingMap => {
-            let map = |index: usize| check(calls, index as u32, failing);
-            strategy.try_map_collect_vec(rt, alloc, SITE, indices, map)?;
-        }
+        Made::Gathered => map_numbers(rt, alloc, strategy, calls)?,
+        Made::Map => map_indices(rt, alloc, strategy, calls)?,
+        Made::Tried => try_map_indices(rt, alloc, strategy, calls, u32::MAX)?,
+        Made::FailingMap => try_map_indices(rt, alloc, strategy, calls, 2)?,
         Made::Sort => strategy.sort_by(rt, alloc, SITE, numbers, descending)?,
-        Made::FailingFold => {
-            let step = |last: u32, index: usize| match check(calls, index as u32, failing) {
-                Ok(passed) => Ok(passed.max(last)),
-                Err(failed) => Err(failed),
-            };
-            let both = |left: u32, right: u32| left.max(right);
-            strategy.try_fold(rt, alloc, SITE, indices, || 0, step, both)?;
-        }
+        Made::FailingFold => fold_indices(rt, alloc, strategy, calls)?,
     }
     Ok(())
 }

@@ -4,7 +4,7 @@ ghost use Rattle.std.specs.Prelude.{◌<◌};
 use crate::tests::explorers::PLACE;
 use crate::tests::no_memory::all_places;
 use crate::tests::same::{answers, row, same};
-use crate::tests::steps::{add, count, zero};
+use crate::tests::steps::{add, add_counts, count, no_count, parallel, serial, zero};
 use crate::tests::strategies::{SITE, number, pool};
 use crate::tests::threads::Meeting;
 use commonware_parallel::mocks::{Explorer, Rule, TASKS, explore};
@@ -92,7 +92,7 @@ fn ways_of<Rt: Threads + Wait + Sync + Abort>(
     let workers = explorer.run_tiles(rt, alloc, PLACE, 64, &grids, 1, |tiles| {
         tiles.workers().get()
     })?;
-    let body = explorer.run(rt, alloc, PLACE, 64, || "serial", || "parallel")?;
+    let body = explorer.run(rt, alloc, PLACE, 64, serial, parallel)?;
     let is_cut = last_count(rt, alloc, explorer)? != Some(4);
     let joins = picks_last(rt, alloc, explorer, Call::join())?;
     let hands_off = picks_last(rt, alloc, explorer, Call::spawn(1))?;
@@ -271,8 +271,7 @@ fn sum_counted<Rt: Threads + Wait + Sync, S: Strategy>(
     let numbers = Counted {
         iter: 0..1_000_000usize,
     };
-    let add = |left: usize, right: usize| left.wrapping_add(right);
-    strategy.fold(rt, alloc, PLACE, numbers, || 0, add, add)
+    strategy.fold(rt, alloc, PLACE, numbers, no_count, add_counts, add_counts)
 }
 
 // The same by an iterator alone.
@@ -281,8 +280,15 @@ fn sum_gathered<Rt: Threads + Wait + Sync, S: Strategy>(
     alloc: Global,
     strategy: &S,
 ) -> Result<usize, Fault> {
-    let add = |left: usize, right: usize| left.wrapping_add(right);
-    strategy.fold(rt, alloc, PLACE, 0..1_000_000usize, || 0, add, add)
+    strategy.fold(
+        rt,
+        alloc,
+        PLACE,
+        0..1_000_000usize,
+        no_count,
+        add_counts,
+        add_counts,
+    )
 }
 
 #[test]
