@@ -1,6 +1,6 @@
 -- How often shares were loaded: never less often, whatever the seat tries.
-use Rattle.parallel_shares.proofs.Common.{◌≡◌, ◌+◌, ◌<◌, ◌≤◌, inl, inr, ap, arith, cases_eq, cases_lt, Shares, Seat, shares_of, share_of, loads_at, plan_of, known, index_of, own_share, own_loads}
-use Rattle.parallel_shares.proofs.Common.{OthersStay, LoadsGrow, LoadsOthers, FoundNothing}
+use Rattle.parallel_shares.proofs.Common.{◌≡◌, ◌≢◌, ℕ, true, None, [], ◌+◌, ◌<◌, ◌≤◌, ◌∙◌, inl, inr, refl, sym, ap, subst, arith, cases_eq, cases_lt, Shares, Seat, shares_of, share_of, loaded_at, loads_at}
+use Rattle.parallel_shares.proofs.Common.{times, plan_of, known, index_of, transit_of, has_emptied, own_share, own_loads, own_word, IsEmptyWord, OthersStay, LoadsGrow, LoadsOthers, NonePays, FoundNothing}
 
 pub grows_from : (a b c : Seat) → LoadsGrow a b → LoadsGrow b c → LoadsGrow a c
 grows_from a b c first then share = omega (arith, first share, then share)
@@ -41,6 +41,31 @@ again_since shares first mid last grows same once =
       ap (λ i. loads_at (known mid) (share_of (plan_of shares) i)) same,
     )
 
+-- a look round behind a load of the seat's own share, which was empty, found nothing
+pub found_nothing : (shares : Shares) (first seen last : Seat) → LoadsGrow first seen
+    → own_loads shares first < own_loads shares seen → IsEmptyWord (own_word shares seen)
+    → (known seen).since ≡ [] → index_of last ≡ index_of seen → LoadsOthers shares seen last
+    → NonePays (plan_of shares) (own_share shares seen) (shares_of (plan_of shares)) (known last)
+    → has_emptied last ≡ true → transit_of last ≡ None → FoundNothing shares first last
+found_nothing shares first seen last grows again empty since same looks none_pays emptied transit =
+    let own : own_share shares last ≡ own_share shares seen =
+    ap (share_of (plan_of shares)) same in
+    let there = looks.others (own_share shares seen) (inl refl) in
+    let apart : (k : ℕ) → k ≢ own_share shares last → k ≢ own_share shares seen =
+    λ k o. omega (arith, o, own) in
+    record {
+      grows = grows_from first seen last grows (steals_grow shares seen last looks);
+      again = omega (arith, again, ap (loads_at (known last)) own, there.0);
+      empty = subst (λ w. IsEmptyWord w)
+          (sym (ap (loaded_at (known last)) own ∙ there.1)) empty;
+      since = λ k h o. looks.since k h (apart k o) ∙ ap (λ xs. times k xs + 1) since;
+      more = λ k h o. omega (arith, grows k, looks.once k h (apart k o));
+      within = λ k h o. looks.within k h (apart k o);
+      none_pays = λ k h o. none_pays k h (apart k o);
+      emptied = emptied;
+      transit = transit;
+    }
+
 -- what was found after a seat was also found after what it was before
 pub found_since : (shares : Shares) (first mid last : Seat) → index_of mid ≡ index_of first
     → LoadsGrow first mid → FoundNothing shares mid last → FoundNothing shares first last
@@ -48,10 +73,7 @@ found_since shares first mid last same grows found =
     let own : own_share shares mid ≡ own_share shares first =
     ap (share_of (plan_of shares)) same in
     record {
-      seen = found.seen;
-      belongs = found.belongs;
-      number = found.number;
-      before = grows_from first mid found.seen grows found.before;
+      grows = grows_from first mid last grows found.grows;
       again = omega (
         arith,
         found.again,
@@ -59,8 +81,9 @@ found_since shares first mid last same grows found =
         ap (loads_at (known mid)) own,
       );
       empty = found.empty;
-      empty_handed = found.empty_handed;
-      looks = found.looks;
+      since = found.since;
+      more = λ k h o. omega (arith, grows k, found.more k h o);
+      within = found.within;
       none_pays = found.none_pays;
       emptied = found.emptied;
       transit = found.transit;

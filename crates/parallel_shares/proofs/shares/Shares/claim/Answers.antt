@@ -1,14 +1,12 @@
 -- Each try loads no share less often, and what ends without a claim looked round.
-use Rattle.parallel_shares.proofs.{◌∙◌, sym, subst, shares_of, share_of, plan_of, known, NonePays, grows_from, tries_grow, steals_grow, again_since}
+use Rattle.parallel_shares.proofs.{◌∙◌, sym, grows_from, tries_grow, steals_grow, again_since, found_nothing}
 use Rattle.parallel_shares.proofs.shares.Shares.claim.Goals as goal
 
 pub returns-in-Nothing-clause-answer : goal.returns-in-Nothing-clause-answer
 returns-in-Nothing-clause-answer g c =
     let shares = c.args.self.now in
-    let plan = plan_of shares in
     let settled = c.settle.new.seat in
     let tried = c.try_claim.new.seat in
-    let last = c.try_steal.new.seat in
     let empty = c.in-Empty.ensures.answer in
     let nothing = c.in-Nothing.ensures.answer in
     let same = c.try_claim.ensures.same in
@@ -16,23 +14,14 @@ returns-in-Nothing-clause-answer g c =
     c.settle.ensures.loads in
     let number = same.0 ∙ c.settle.ensures.index ∙ c.loop.invariant.index in (
       c.try_steal.ensures.claims ∙ empty.1 ∙ c.settle.ensures.claims ∙ c.loop.invariant.claims,
-      record {
-        seen = tried;
-        belongs = c.try_claim.ensures.seat;
-        number = sym c.try_steal.ensures.index;
-        before = grows_from c.args.seat.now settled tried begun
-            (tries_grow shares settled tried c.try_claim.ensures.one_load same.0
-            c.try_claim.ensures.others);
-        again = again_since shares c.args.seat.now settled tried begun (sym same.0 ∙ number)
-            c.try_claim.ensures.one_load;
-        empty = empty.0;
-        empty_handed = same.1 ∙ c.settle.ensures.transit;
-        looks = c.try_steal.ensures.looks;
-        none_pays = subst (λ i. NonePays plan (share_of plan i) (shares_of plan) (known last))
-            (sym c.try_steal.ensures.index) nothing.0;
-        emptied = c.try_steal.ensures.own_empty;
-        transit = nothing.1;
-      },
+      found_nothing shares c.args.seat.now tried c.try_steal.new.seat
+          (grows_from c.args.seat.now settled tried begun
+          (tries_grow shares settled tried c.try_claim.ensures.one_load same.0
+          c.try_claim.ensures.others))
+          (again_since shares c.args.seat.now settled tried begun (sym same.0 ∙ number)
+          c.try_claim.ensures.one_load)
+          empty.0 c.try_claim.ensures.since c.try_steal.ensures.index c.try_steal.ensures.looks
+          nothing.0 c.try_steal.ensures.own_empty nothing.1,
     )
 
 pub loop-preserved-in_default-try_steal : goal.loop-preserved-in_default-try_steal
