@@ -127,3 +127,11 @@ GainsClaim shares before (Some cells) after =
     × (cells ≡ claim_cells (plan_of shares) word))
 GainsClaim shares before None after =
     (claims_of after ≡ claims_of before) × FoundNothing shares before after
+
+-- what a try to claim and, behind an own word that was empty, to steal gained: what ends a claim,
+-- or no claim yet
+abbrev pub GainsTry : Shares → Seat → Tried → Seat → Type 0
+GainsTry shares before (Claimed cells) after =
+    GainsClaim shares before (Some cells) after × (transit_of after ≡ None)
+GainsTry shares before Nothing after = GainsClaim shares before None after
+GainsTry shares before _ after = claims_of after ≡ claims_of before
