@@ -26,8 +26,8 @@ pub use Rattle.parallel_shares.specs.declared.machine.event.Event.{Event}
 pub use Rattle.parallel_shares.specs.declared.machine.event.Event.TheVariants.{Claim, Load, Refill, Steal}
 pub use Rattle.parallel_shares.specs.declared.machine.event.Outcome.{Outcome}
 pub use Rattle.parallel_shares.specs.declared.machine.event.Outcome.TheVariants.{Claimed, Empty, Loaded, Lost, Nothing, Refilled, Refused, Taken}
-pub use Rattle.parallel_shares.specs.declared.machine.state.Remembered.{Remembered}
-pub use Rattle.parallel_shares.specs.declared.machine.state.SeatRow.{SeatRow}
+pub use Rattle.parallel_shares.specs.declared.machine.rows.Remembered.{Remembered}
+pub use Rattle.parallel_shares.specs.declared.machine.rows.SeatRow.{SeatRow}
 pub use Rattle.parallel_shares.specs.declared.shares.Shares.{Shares}
 pub use Rattle.parallel_shares.specs.declared.shares.rule.View.{View}
 pub use Rattle.parallel_shares.specs.declared.shares.seat.Seat.{Seat}
