@@ -1,6 +1,7 @@
 -- A look round: one share after another is loaded, and the best of them is kept.
 use Rattle.parallel_shares.proofs.Common.{◌≡◌, ◌≢◌, ℕ, ◌+◌, ◌<◌, ◌≤◌, ◌⊎◌, inl, inr, length, get_or, Option, Some, None, sym, ap, subst, ◌∙◌, arith, cases_eq, length-set, get_or-set_same}
-use Rattle.parallel_shares.proofs.Common.{get_or-set_other, times, View, IsWithin, Sizes, cells_in, Pays, SomeSplitPays, loaded_at, loads_at, loads_since, looked, LooksRound, IsBest, IsBetter, IsNoBetter, OnlyLooks}
+use Rattle.parallel_shares.proofs.Common.{get_or-set_other, times, View, IsWithin, Sizes, cells_in, Pays, SomeSplitPays, loaded_at, loads_at, loads_since, looked}
+use Rattle.parallel_shares.proofs.Common.{LooksRound, IsBest, IsBetter, IsNoBetter, OnlyLooks}
 use Rattle.parallel_shares.specs.declared.shares.steal.Victim.{Victim}
 use Rattle.parallel_shares.proofs.Totals.{times_push, times_push_other}
 
@@ -214,10 +215,9 @@ looks_kept sizes own below before view after words loads since looks = record {
   within =
       λ k h o. subst (λ ws. IsWithin sizes.units (get_or ws k 0)) (sym words) (looks.within k h o);
   splits = λ k h o p. looks.splits k h o (subst (λ ws. Pays sizes (get_or ws k 0)) words p);
-  others = λ k where_. let old = looks.others k where_ in
-      (
-        ap (λ ls. get_or ls k 0) loads ∙ old.0,
-        ap (λ ws. get_or ws k 0) words ∙ old.1,
-        ap (times k) since ∙ old.2,
-      );
+  others = λ k where_. let old = looks.others k where_ in (
+    ap (λ ls. get_or ls k 0) loads ∙ old.0,
+    ap (λ ws. get_or ws k 0) words ∙ old.1,
+    ap (times k) since ∙ old.2,
+  );
 }

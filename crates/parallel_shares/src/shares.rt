@@ -175,8 +175,7 @@ impl Shares {
     /// that the seat's claims gained, and the exchange met the word that was loaded. `Lost` comes
     /// only where it met another word. `Empty` comes only where the loaded word was empty, and the
     /// seat's `own_empty` holds from then on. No other share is loaded (`OthersStay`), so none was
-    /// since the seat's own. No memory is
-    /// taken, and nothing is waited for.
+    /// loaded since the seat's own (`since`). No memory is taken, and nothing is waited for.
     pub fn try_claim(&self, seat: &mut Seat) -> Tried
         requires { IsSeatOf self.now seat.old }
         ensures seat { IsSeatOf self.now seat.new }
