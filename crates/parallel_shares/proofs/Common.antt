@@ -12,8 +12,8 @@ pub use Rattle.parallel_shares.specs.Holders.{Claims, Hands, Holder, Holders, Is
 unfoldable pub use Rattle.parallel_shares.specs.Holders.{inside}
 pub use Rattle.parallel_shares.specs.Holders.{in_transit, in_word, pending, refill, same, same_number, steal}
 pub use Rattle.parallel_shares.specs.Machine.{IsSeatRowOf, IsStateOf, Machine, carries, forgets, fresh, gains, opening, opening_words, remembers, row_at, with_seat_row, with_word, word_at}
-pub use Rattle.parallel_shares.specs.Seats.{AllDone, AllEmpty, AreFresh, AreSeatsOf, Carries, EachCellOnce, IsFresh, IsPartition, IsSameSeat, IsSeatOf, LoadsGrow, OthersStay, TriesClaim, claims_of, has_emptied}
-pub use Rattle.parallel_shares.specs.Seats.{index_of, known, own_loads, own_share, own_word, plan_of, transit_of}
+pub use Rattle.parallel_shares.specs.Seats.{AllDone, AllEmpty, AreFresh, AreSeatsOf, Carries, EachCellOnce, IsFresh, IsPartition, IsSameSeat, IsSeatOf, LoadsGrow, OthersStay}
+pub use Rattle.parallel_shares.specs.Seats.{TriesClaim, claims_of, has_emptied, index_of, known, own_loads, own_share, own_word, plan_of, transit_of}
 pub use Rattle.parallel_shares.specs.Sharing.{Empties, Exchanges, Idle, IsSharingOf, LooksAt, LooksOwn, PutsDown, SomeSplitPays, TakesBack, TakesFront, back_half, dealt, dealt_from, fresh_view}
 pub use Rattle.parallel_shares.specs.Sharing.{gathered, in_view, loaded_at, loads_at, loads_since, looked, looked_own, missed, put_down, ranges_of, spent, took_back, took_front, undealt}
 pub use Rattle.parallel_shares.specs.Sizes.{IsSound, Sizes, Work, opening_size, opening_start, share_of, shares_of, sizes_of}
