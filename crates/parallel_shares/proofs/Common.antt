@@ -12,12 +12,12 @@ pub use Rattle.parallel_shares.specs.Holders.{Claims, Hands, Holder, Holders, Is
 unfoldable pub use Rattle.parallel_shares.specs.Holders.{inside}
 pub use Rattle.parallel_shares.specs.Holders.{in_transit, in_word, pending, refill, same, same_number, steal}
 pub use Rattle.parallel_shares.specs.Machine.{IsSeatRowOf, IsStateOf, Machine, carries, forgets, fresh, gains, opening, opening_words, remembers, row_at, with_seat_row, with_word, word_at}
-pub use Rattle.parallel_shares.specs.Seats.{AllDone, AllEmpty, AreFresh, AreSeatsOf, Carries, EachCellOnce, IsFresh, IsPartition, IsSameSeat, IsSeatOf, LoadsGrow, OthersStay, claims_of, has_emptied}
-pub use Rattle.parallel_shares.specs.Seats.{index_of, known, own_loads, own_share, plan_of}
+pub use Rattle.parallel_shares.specs.Seats.{AllDone, AllEmpty, AreFresh, AreSeatsOf, Carries, EachCellOnce, IsFresh, IsPartition, IsSameSeat, IsSeatOf, LoadsGrow, OthersStay}
+pub use Rattle.parallel_shares.specs.Seats.{TriesClaim, claims_of, has_emptied, index_of, known, own_loads, own_share, own_word, plan_of, transit_of}
 pub use Rattle.parallel_shares.specs.Sharing.{Empties, Exchanges, Idle, IsSharingOf, LooksAt, LooksOwn, PutsDown, SomeSplitPays, TakesBack, TakesFront, back_half, dealt, dealt_from, fresh_view}
-pub use Rattle.parallel_shares.specs.Sharing.{gathered, in_view, loaded_at, loads_at, looked, looked_own, missed, put_down, ranges_of, spent, took_back, took_front, undealt}
+pub use Rattle.parallel_shares.specs.Sharing.{gathered, in_view, loaded_at, loads_at, loads_since, looked, looked_own, missed, put_down, ranges_of, spent, took_back, took_front, undealt}
 pub use Rattle.parallel_shares.specs.Sizes.{IsSound, Sizes, Work, opening_size, opening_start, share_of, shares_of, sizes_of}
-pub use Rattle.parallel_shares.specs.Steals.{FoundNothing, IsBest, IsBetter, IsNoBetter, LoadsOthers, LooksRound, NonePays, OnlyLooks}
+pub use Rattle.parallel_shares.specs.Steals.{FoundNothing, GainsTry, IsBest, IsBetter, IsNoBetter, LoadsOthers, LooksRound, NonePays, OnlyLooks, TriesSteal}
 pub use Rattle.parallel_shares.specs.Stretches.{AreApart, CutsCells, Grown, IsPiece, IsStretch, Parted, StartsAnew, all_cells, cut_cells, piece_cells, range_cells, stretch_cells, stretch_of}
 pub use Rattle.parallel_shares.specs.Stretches.{stretches_of}
 pub use Rattle.parallel_shares.specs.Totals.{times, total}
@@ -26,8 +26,8 @@ pub use Rattle.parallel_shares.specs.declared.machine.event.Event.{Event}
 pub use Rattle.parallel_shares.specs.declared.machine.event.Event.TheVariants.{Claim, Load, Refill, Steal}
 pub use Rattle.parallel_shares.specs.declared.machine.event.Outcome.{Outcome}
 pub use Rattle.parallel_shares.specs.declared.machine.event.Outcome.TheVariants.{Claimed, Empty, Loaded, Lost, Nothing, Refilled, Refused, Taken}
-pub use Rattle.parallel_shares.specs.declared.machine.state.Remembered.{Remembered}
-pub use Rattle.parallel_shares.specs.declared.machine.state.SeatRow.{SeatRow}
+pub use Rattle.parallel_shares.specs.declared.machine.rows.Remembered.{Remembered}
+pub use Rattle.parallel_shares.specs.declared.machine.rows.SeatRow.{SeatRow}
 pub use Rattle.parallel_shares.specs.declared.shares.Shares.{Shares}
 pub use Rattle.parallel_shares.specs.declared.shares.rule.View.{View}
 pub use Rattle.parallel_shares.specs.declared.shares.seat.Seat.{Seat}

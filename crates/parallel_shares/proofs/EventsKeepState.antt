@@ -17,6 +17,7 @@ module _ (sizes : Sizes) (machine : Machine) (state : IsStateOf sizes machine) w
       → IsStateOf sizes (with_word machine share word)
   word_kept share word w = record {
     sound = state.sound;
+    plan = state.plan;
     shares = length-set machine.words share word ∙ state.shares;
     seats = state.seats;
     words = each_set (λ v. IsWithin sizes.units v) machine.words share word 0 state.words w;
@@ -27,6 +28,7 @@ module _ (sizes : Sizes) (machine : Machine) (state : IsStateOf sizes machine) w
       → IsStateOf sizes (with_seat_row machine seat row)
   seat_row_kept seat row p = record {
     sound = state.sound;
+    plan = state.plan;
     shares = state.shares;
     seats = length-set machine.seat_rows seat row ∙ state.seats;
     words = state.words;

@@ -113,6 +113,7 @@ module _ (sizes : Sizes) (sound : IsSound sizes) where
   pub opening_is_state : IsStateOf sizes (opening sizes)
   opening_is_state = record {
     sound = sound;
+    plan = refl;
     shares = length_opening sizes (shares_of sizes);
     seats = length-replicate sizes.workers fresh;
     words = λ k. elim (cases_lt k (shares_of sizes)) [

@@ -1,5 +1,5 @@
 -- Counts that are added up over a list, when the list changes.
-use Rattle.parallel_shares.proofs.Common.{◌≡◌, ℕ, zero, suc, ◌+◌, ◌<◌, ◌≤◌, List, [], ◌∷◌, ◌++◌, length, get_or, set, take, drop, refl, sym, ap, inl, inr, arith, range_with_len, cases_eq, eq-eqb}
+use Rattle.parallel_shares.proofs.Common.{◌≡◌, ℕ, zero, suc, ◌≢◌, ◌+◌, ◌<◌, ◌≤◌, List, [], ◌∷◌, ◌++◌, length, get_or, set, take, drop, refl, sym, ap, inl, inr, arith, range_with_len, cases_eq, eq-eqb}
 use Rattle.parallel_shares.proofs.Common.{ne_eqb, nat_tests, some, some-injective, some-ne-none, get_elem?, Range, inside, in_ranges, same_number, total, times}
 
 module _ {A : Type 0} (f : A → ℕ) where
@@ -82,6 +82,16 @@ is_same i j h =
 
 pub same_once : (i : ℕ) → same_number i i ≡ 1
 same_once i = rw (eq-eqb i i refl) refl
+
+-- a number that was put behind a list is in it once more
+pub times_push : (k : ℕ) (xs : List ℕ) → times k (xs ++ k ∷ []) ≡ times k xs + 1
+times_push k xs = omega (arith, total_append (same_number k) xs (k ∷ []), same_once k)
+
+-- any other number is in it as often as before
+pub times_push_other : (k n : ℕ) (xs : List ℕ) → k ≢ n → times k (xs ++ n ∷ []) ≡ times k xs
+times_push_other k n xs apart =
+    let none_of : same_number k n ≡ 0 = rw (ne_eqb k n apart) refl in
+    omega (arith, total_append (same_number k) xs (n ∷ []), none_of)
 
 -- a list in which no number counts is empty
 pub no_numbers : (xs : List ℕ) → ((k : ℕ) → times k xs ≡ 0) → xs ≡ []

@@ -1,7 +1,9 @@
 -- A look round: one share after another is loaded, and the best of them is kept.
 use Rattle.parallel_shares.proofs.Common.{◌≡◌, ◌≢◌, ℕ, ◌+◌, ◌<◌, ◌≤◌, ◌⊎◌, inl, inr, length, get_or, Option, Some, None, sym, ap, subst, ◌∙◌, arith, cases_eq, length-set, get_or-set_same}
-use Rattle.parallel_shares.proofs.Common.{get_or-set_other, View, IsWithin, Sizes, cells_in, Pays, SomeSplitPays, loaded_at, loads_at, looked, LooksRound, IsBest, IsBetter, IsNoBetter, OnlyLooks}
+use Rattle.parallel_shares.proofs.Common.{get_or-set_other, times, View, IsWithin, Sizes, cells_in, Pays, SomeSplitPays, loaded_at, loads_at, loads_since, looked}
+use Rattle.parallel_shares.proofs.Common.{LooksRound, IsBest, IsBetter, IsNoBetter, OnlyLooks}
 use Rattle.parallel_shares.specs.declared.shares.steal.Victim.{Victim}
+use Rattle.parallel_shares.proofs.Totals.{times_push, times_push_other}
 
 -- a number below the next one is this one or below it
 below_next : (k n : ℕ) → k < n + 1 → (k ≡ n) ⊎ (k < n)
@@ -14,6 +16,7 @@ module _ (sizes : Sizes) (own n : ℕ) (before view : View) where
       → LooksRound sizes own (n + 1) before view
   passes_own is looks = record {
     once = λ k h o. looks.once k (omega (arith, h, is, o)) o;
+    since = λ k h o. looks.since k (omega (arith, h, is, o)) o;
     within = λ k h o. looks.within k (omega (arith, h, is, o)) o;
     splits = λ k h o p. looks.splits k (omega (arith, h, is, o)) o p;
     others =
@@ -57,6 +60,12 @@ module _ (sizes : Sizes) (own n : ℕ) (before view : View) where
     not_counted : (k : ℕ) → k ≢ n → loads_at next k ≡ loads_at view k
     not_counted k o = get_or-set_other view.loads n k (loads_at view n + 1) 0 o
 
+    counted_since : loads_since next n ≡ loads_since view n + 1
+    counted_since = times_push n view.since
+
+    not_counted_since : (k : ℕ) → k ≢ n → loads_since next k ≡ loads_since view k
+    not_counted_since k o = times_push_other k n view.since o
+
     pub looks_more : IsWithin sizes.units word → (Pays sizes word → SomeSplitPays sizes)
         → LooksRound sizes own n before view → LooksRound sizes own (n + 1) before next
     looks_more inner splits looks = record {
@@ -64,6 +73,12 @@ module _ (sizes : Sizes) (own n : ℕ) (before view : View) where
         | inl e ↦ rw e (counted ∙ ap (λ m. m + 1) (looks.others n (inr (omega arith))).0)
         | inr l ↦ not_counted k (omega (arith, l)) ∙ looks.once k l o
       ];
+      since = λ k h o. elim (below_next k n h) as
+          (λ _. loads_since next k ≡ loads_since before k + 1) [
+            | inl e ↦ rw e
+                (counted_since ∙ ap (λ m. m + 1) (looks.others n (inr (omega arith))).2)
+            | inr l ↦ not_counted_since k (omega (arith, l)) ∙ looks.since k l o
+          ];
       within = λ k h o. elim (below_next k n h) as (λ _. IsWithin sizes.units (loaded_at next k)) [
         | inl e ↦ rw (e, there) inner
         | inr l ↦ rw (elsewhere k (omega (arith, l))) (looks.within k l o)
@@ -81,12 +96,16 @@ module _ (sizes : Sizes) (own n : ℕ) (before view : View) where
           ] in
           let old =
           looks.others k (elim where_ [ inl e ↦ inl e | inr l ↦ inr (omega (arith, l)) ]) in
-          (not_counted k o ∙ old.0, elsewhere k o ∙ old.1);
+          (not_counted k o ∙ old.0, elsewhere k o ∙ old.1, not_counted_since k o ∙ old.2);
     }
 
     pub only_more : OnlyLooks before view → OnlyLooks before next
     only_more only = (
-      ap (λ (v : View). record v { words = next.words; loads = next.loads }) only.0,
+      ap (λ (v : View). record v {
+        words = next.words;
+        loads = next.loads;
+        since = next.since;
+      }) only.0,
       length-set view.words n word ∙ only.1,
       length-set view.loads n (loads_at view n + 1) ∙ only.2,
     )
@@ -188,13 +207,17 @@ module _ (sizes : Sizes) (own n : ℕ) (before view : View) where
 
 -- a view with the same words and loads has looked round as well
 pub looks_kept : (sizes : Sizes) (own below : ℕ) (before view after : View)
-    → after.words ≡ view.words → after.loads ≡ view.loads → LooksRound sizes own below before view
-    → LooksRound sizes own below before after
-looks_kept sizes own below before view after words loads looks = record {
+    → after.words ≡ view.words → after.loads ≡ view.loads → after.since ≡ view.since
+    → LooksRound sizes own below before view → LooksRound sizes own below before after
+looks_kept sizes own below before view after words loads since looks = record {
   once = λ k h o. ap (λ ls. get_or ls k 0) loads ∙ looks.once k h o;
+  since = λ k h o. ap (times k) since ∙ looks.since k h o;
   within =
       λ k h o. subst (λ ws. IsWithin sizes.units (get_or ws k 0)) (sym words) (looks.within k h o);
   splits = λ k h o p. looks.splits k h o (subst (λ ws. Pays sizes (get_or ws k 0)) words p);
-  others = λ k where_. let old = looks.others k where_ in
-      (ap (λ ls. get_or ls k 0) loads ∙ old.0, ap (λ ws. get_or ws k 0) words ∙ old.1);
+  others = λ k where_. let old = looks.others k where_ in (
+    ap (λ ls. get_or ls k 0) loads ∙ old.0,
+    ap (λ ws. get_or ws k 0) words ∙ old.1,
+    ap (times k) since ∙ old.2,
+  );
 }

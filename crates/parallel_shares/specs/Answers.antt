@@ -5,7 +5,7 @@ use Rattle.parallel_shares.specs.declared.machine.event.Event.{Event}
 use Rattle.parallel_shares.specs.declared.machine.event.Event.TheVariants.{Load, Claim, Steal, Refill}
 use Rattle.parallel_shares.specs.declared.machine.event.Outcome.{Outcome}
 use Rattle.parallel_shares.specs.declared.machine.event.Outcome.TheVariants.{Loaded, Empty, Lost, Claimed, Nothing, Taken, Refilled, Refused}
-use Rattle.parallel_shares.specs.declared.machine.state.Remembered.{Remembered}
+use Rattle.parallel_shares.specs.declared.machine.rows.Remembered.{Remembered}
 use Rattle.parallel_shares.specs.Words.{start_of, end_of, packed, IsEmptyWord}
 use Rattle.parallel_shares.specs.Sizes.{Sizes, share_of, cells_to}
 use Rattle.parallel_shares.specs.Machine.{Machine, word_at, row_at, with_word, remembers, forgets, gains, carries}

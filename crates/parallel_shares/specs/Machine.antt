@@ -1,14 +1,15 @@
 -- What the machine of shares keeps, and how its parts are read and written.
 use Rattle.std.specs.Prelude.{◌≡◌, ℕ, zero, suc, ◌<◌, ◌≤◌, ◌++◌, List, [], ◌∷◌, length, replicate, Option, Some, None, IfSome, false, slice_index, slice_index_or, slice_set}
 use Rattle.std.specs.declared.ops.Range.{Range}
-use Rattle.parallel_shares.specs.declared.machine.state.SeatRow.{SeatRow}
-use Rattle.parallel_shares.specs.declared.machine.state.Remembered.{Remembered}
+use Rattle.parallel_shares.specs.declared.machine.rows.SeatRow.{SeatRow}
+use Rattle.parallel_shares.specs.declared.machine.rows.Remembered.{Remembered}
 use Rattle.parallel_shares.specs.Words.{packed, IsWithin}
 use Rattle.parallel_shares.specs.Sizes.{Sizes, shares_of, opening_start, IsSound}
 
--- the words of all shares, and the rows of all seats: what each remembers, carries and has
--- claimed
+-- a plan, the words of all its shares, and the rows of all its seats: what each remembers, carries
+-- and has claimed
 pub record Machine : Type 0 where
+  pub plan : Sizes
   pub words : List ℕ
   pub seat_rows : List SeatRow
 
@@ -63,6 +64,7 @@ opening_words sizes (suc share) =
 -- the machine before any event
 abbrev pub opening : Sizes → Machine
 opening sizes = record {
+  plan = sizes;
   words = opening_words sizes (shares_of sizes);
   seat_rows = replicate sizes.workers fresh;
 }
@@ -75,9 +77,11 @@ pub record IsSeatRowOf (sizes : Sizes) (row : SeatRow) : Type 0 where
   pub carried : IfSome row.transit (λ r. (r.start < r.end) × (r.end ≤ sizes.units)
       × (sizes.whole ≡ false))
 
--- a state that belongs to a plan: its shares, its seats, and ranges of its units
+-- a state that belongs to a plan: it was made for it, and has its shares, its seats, and ranges of
+-- its units
 pub record IsStateOf (sizes : Sizes) (machine : Machine) : Type 0 where
   pub sound : IsSound sizes
+  pub plan : machine.plan ≡ sizes
   pub shares : length machine.words ≡ shares_of sizes
   pub seats : length machine.seat_rows ≡ sizes.workers
   pub words : (share : ℕ) → IsWithin sizes.units (word_at machine share)

@@ -25,6 +25,7 @@ fresh_view sizes numbers =
       empties = [];
       words = replicate (shares_of sizes) 0;
       loads = replicate (shares_of sizes) 0;
+      since = [];
       met = 0;
       exchanges = 0;
       changes = 0;
@@ -42,6 +43,10 @@ loaded_at view share = slice_index view.words share
 -- how often a share was loaded
 abbrev pub loads_at : View → ℕ → ℕ
 loads_at view share = slice_index view.loads share
+
+-- how often another share was loaded since the seat's own was loaded last
+abbrev pub loads_since : View → ℕ → ℕ
+loads_since view share = times share view.since
 
 -- a range in transit as a list, for a view
 abbrev pub ranges_of : Option (Range ℕ) → List (Range ℕ)
@@ -92,12 +97,13 @@ pub record IsSharingOf (sizes : Sizes) (state : State (Unit {0}) View) : Type 0 
 
 -- ---- what a step tells its seat
 
--- the seat after a load of its own share
+-- the seat after a load of its own share, since which it loaded no other
 abbrev pub looked_own : View → ℕ → ℕ → View
 looked_own view share word =
     record view {
       words = slice_set view.words share word;
       loads = slice_set view.loads share (loads_at view share + 1);
+      since = [];
       empties = cond (eqb (start_of word) (end_of word)) view.owns view.empties;
     }
 
@@ -121,6 +127,7 @@ looked view share word =
     record view {
       words = slice_set view.words share word;
       loads = slice_set view.loads share (loads_at view share + 1);
+      since = view.since ++ share ∷ [];
     }
 
 -- the back half of a word
@@ -213,6 +220,7 @@ spent =
       empties = [];
       words = [];
       loads = [];
+      since = [];
       met = 0;
       exchanges = 0;
       changes = 0;

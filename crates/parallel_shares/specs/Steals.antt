@@ -10,8 +10,8 @@ use Rattle.parallel_shares.specs.declared.shares.Shares.{Shares}
 use Rattle.parallel_shares.specs.Words.{IsWithin, IsEmptyWord}
 use Rattle.parallel_shares.specs.Sizes.{Sizes, shares_of, share_of}
 use Rattle.parallel_shares.specs.Answers.{cells_in, Pays, claim_cells}
-use Rattle.parallel_shares.specs.Sharing.{SomeSplitPays, loaded_at, loads_at, back_half, took_back, missed}
-use Rattle.parallel_shares.specs.Seats.{plan_of, own_share, own_word, own_loads, known, index_of, transit_of, has_emptied, claims_of, AreSomeCells, IsSeatOf, LoadsGrow, CountsSteps}
+use Rattle.parallel_shares.specs.Sharing.{SomeSplitPays, loaded_at, loads_at, loads_since, back_half, took_back, missed}
+use Rattle.parallel_shares.specs.Seats.{plan_of, own_share, own_word, own_loads, known, index_of, transit_of, has_emptied, claims_of, AreSomeCells, LoadsGrow, CountsSteps}
 
 -- a plan of whole rows never splits a word, nor does a plan in which no opening word's split pays
 abbrev pub NeverSplits : Sizes → Type 0
@@ -21,10 +21,11 @@ NeverSplits sizes = (sizes.whole ≡ true) ⊎ ¬ SomeSplitPays sizes
 -- pays only where some opening word's does; the others were not loaded
 pub record LooksRound (sizes : Sizes) (own below : ℕ) (before after : View) : Type 0 where
   pub once : (k : ℕ) → k < below → k ≢ own → loads_at after k ≡ loads_at before k + 1
+  pub since : (k : ℕ) → k < below → k ≢ own → loads_since after k ≡ loads_since before k + 1
   pub within : (k : ℕ) → k < below → k ≢ own → IsWithin sizes.units (loaded_at after k)
   pub splits : (k : ℕ) → k < below → k ≢ own → Pays sizes (loaded_at after k) → SomeSplitPays sizes
   pub others : (k : ℕ) → (k ≡ own) ⊎ (below ≤ k) → (loads_at after k ≡ loads_at before k)
-      × (loaded_at after k ≡ loaded_at before k)
+      × (loaded_at after k ≡ loaded_at before k) × (loads_since after k ≡ loads_since before k)
 
 -- a seat loaded each other share once, as `LooksRound` says
 abbrev pub LoadsOthers : Shares → Seat → Seat → Type 0
@@ -66,7 +67,7 @@ IsNoBetter sizes best word = (¬ Pays sizes word)
 -- a look round changes nothing but what was loaded
 abbrev pub OnlyLooks : View → View → Type 0
 OnlyLooks before after =
-    (after ≡ record before { words = after.words; loads = after.loads })
+    (after ≡ record before { words = after.words; loads = after.loads; since = after.since })
     × (length after.words ≡ length before.words) × (length after.loads ≡ length before.loads)
 
 -- an exchange met the word that was loaded and took its back half, or it met another word and took
@@ -99,18 +100,19 @@ TriesSteal sizes before Nothing after =
 TriesSteal sizes before (Claimed cells) after = ⊥
 TriesSteal sizes before Empty after = ⊥
 
--- after it was the seat `first`, the seat loaded its own word again and saw it empty, with nothing
--- in transit: it was `seen` then. Behind that it loaded each other share once, and no split of the
--- words that it met there pays
+-- after it was the seat `first`, the seat loaded its own word again, and that word was empty. Since
+-- it did so last it loaded each other share once, and no split of the words that it met there pays.
+-- Nothing is in transit
 pub record FoundNothing (shares : Shares) (first seat : Seat) : Type 0 where
-  pub seen : Seat
-  pub belongs : IsSeatOf shares seen
-  pub number : index_of seen ≡ index_of seat
-  pub before : LoadsGrow first seen
-  pub again : own_loads shares first < own_loads shares seen
-  pub empty : IsEmptyWord (own_word shares seen)
-  pub empty_handed : transit_of seen ≡ None
-  pub looks : LoadsOthers shares seen seat
+  pub grows : LoadsGrow first seat
+  pub again : own_loads shares first < own_loads shares seat
+  pub empty : IsEmptyWord (own_word shares seat)
+  pub since : (k : ℕ) → k < shares_of (plan_of shares) → k ≢ own_share shares seat
+      → loads_since (known seat) k ≡ 1
+  pub more : (k : ℕ) → k < shares_of (plan_of shares) → k ≢ own_share shares seat
+      → loads_at (known first) k < loads_at (known seat) k
+  pub within : (k : ℕ) → k < shares_of (plan_of shares) → k ≢ own_share shares seat
+      → IsWithin (plan_of shares).units (loaded_at (known seat) k)
   pub none_pays : NonePays (plan_of shares) (own_share shares seat) (shares_of (plan_of shares))
       (known seat)
   pub emptied : has_emptied seat ≡ true
@@ -125,3 +127,11 @@ GainsClaim shares before (Some cells) after =
     × (cells ≡ claim_cells (plan_of shares) word))
 GainsClaim shares before None after =
     (claims_of after ≡ claims_of before) × FoundNothing shares before after
+
+-- what a try to claim and, behind an own word that was empty, to steal gained: what ends a claim,
+-- or no claim yet
+abbrev pub GainsTry : Shares → Seat → Tried → Seat → Type 0
+GainsTry shares before (Claimed cells) after =
+    GainsClaim shares before (Some cells) after × (transit_of after ≡ None)
+GainsTry shares before Nothing after = GainsClaim shares before None after
+GainsTry shares before _ after = claims_of after ≡ claims_of before

@@ -7,12 +7,13 @@
 mod event;
 mod plan;
 mod replays;
+mod rows;
 mod state;
 mod steps;
 
 pub use event::{Event, Outcome};
 pub use plan::Plan;
 pub use replays::replay;
+pub(crate) use rows::opening_words;
 pub use state::State;
-pub(crate) use state::opening_words;
 pub use steps::step;

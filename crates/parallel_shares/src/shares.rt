@@ -174,14 +174,15 @@ impl Shares {
     /// `TriesClaim` says what the answer tells of the word that was loaded. `Claimed` has the cells
     /// that the seat's claims gained, and the exchange met the word that was loaded. `Lost` comes
     /// only where it met another word. `Empty` comes only where the loaded word was empty, and the
-    /// seat's `own_empty` holds from then on. No other share is loaded (`OthersStay`). No memory is
-    /// taken, and nothing is waited for.
+    /// seat's `own_empty` holds from then on. No other share is loaded (`OthersStay`), so none was
+    /// loaded since the seat's own (`since`). No memory is taken, and nothing is waited for.
     pub fn try_claim(&self, seat: &mut Seat) -> Tried
         requires { IsSeatOf self.now seat.old }
         ensures seat { IsSeatOf self.now seat.new }
         ensures same { IsSameSeat seat.old seat.new }
         ensures one_load { own_loads self.now seat.new ≡ own_loads self.now seat.old + 1 }
         ensures others { OthersStay self.now seat.old seat.new }
+        ensures since { (known seat.new).since ≡ [] }
         ensures within { IsWithin (plan_of self.now).units (own_word self.now seat.new) }
         ensures answer { TriesClaim (plan_of self.now)
             (own_word self.now seat.new) seat.old result seat.new }

@@ -1,5 +1,5 @@
 //! How a grid is cut into units, claims and shares.
-ghost use Rattle.std.specs.Prelude.{◌≡◌, ◌≢◌, ◌+◌, ◌*◌, ◌/◌, ◌%◌, ◌^◌, ◌<◌, ◌≤◌, ◌-◌, IfSome, IfNone, IsFalse};
+ghost use Rattle.std.specs.Prelude.{◌≡◌, ◌≢◌, ◌+◌, ◌*◌, ◌/◌, ◌%◌, ◌^◌, ◌<◌, ◌≤◌, ◌-◌, ◌↔◌, IfSome, IfNone, IsFalse, IsTrue};
 ghost use Rattle.std.specs.Int.NonZero.{non_zero_usize_get};
 
 use crate::shares::unpack;
@@ -133,6 +133,34 @@ impl Plan {
         ensures sound { IsSound self.now }
     {
         self.units
+    }
+
+    /// A plan of the same numbers.
+    pub(super) fn copied(&self) -> Plan
+        ensures { result ≡ self.now }
+    {
+        Plan {
+            cells: self.cells,
+            unit: self.unit,
+            claim: self.claim,
+            units: self.units,
+            workers: self.workers,
+            split_cost: self.split_cost,
+            whole: self.whole,
+        }
+    }
+
+    /// Whether another plan has the same numbers.
+    pub(super) fn is(&self, other: &Plan) -> bool
+        ensures { IsTrue result ↔ self.now ≡ other.now }
+    {
+        self.cells == other.cells
+            && self.unit == other.unit
+            && self.claim == other.claim
+            && self.units == other.units
+            && self.workers == other.workers
+            && self.split_cost == other.split_cost
+            && self.whole == other.whole
     }
 
     /// The number of shares.

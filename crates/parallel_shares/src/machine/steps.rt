@@ -1,66 +1,90 @@
 //! One event on a state: what it answers, and what it changes.
-ghost use Rattle.std.specs.Prelude.{◌≡◌, ◌≤◌, ◌↔◌, IfOk, OnErr, IsTrue};
+ghost use Rattle.std.specs.Prelude.{◌≡◌, ◌≤◌, ◌↔◌, Ok, IfOk, OnErr, IsTrue};
 ghost use Rattle.parallel_shares.specs.Words.{IsEmptyWord};
 ghost use Rattle.parallel_shares.specs.Machine.{IsStateOf};
 ghost use Rattle.parallel_shares.specs.Answers.{Answers, AddsClaim, LoadAnswers, ClaimAnswers, StealAnswers, RefillAnswers};
 ghost use Rattle.parallel_shares.specs.Holders.{StepsByMoves};
 ghost use Rattle.parallel_shares.specs.declared.machine.event.Event.TheVariants.{Claim};
+ghost use Rattle.parallel_shares.specs.declared.machine.event.Outcome.TheVariants.{Refused};
 ghost use Rattle.parallel_fault.specs.Trouble.{IsMemoryOnErr};
 
 use super::event::{Event, Outcome};
 use super::plan::Plan;
-use super::state::{Remembered, State};
+use super::rows::{Remembered, Rows};
+use super::state::State;
 use crate::shares::{pack, unpack};
 use parallel_fault::Fault;
 
-/// Takes one event on a state of this plan.
+/// Takes one event on a state, which keeps the plan that it was made for.
 ///
 /// The outcome and the change are those of `Answers`: what the event needs, what it found, and what
-/// it leaves. Where its need is not met it is `Refused` and changes nothing. `StepsByMoves` says
-/// that the units go from holder to holder by a claim, a steal or a refill, or not at all. The one
-/// refusal of the call itself is `Fault::Memory`, where the list of a seat's claims could not be
-/// grown; the state is then as it was. It comes only of an event as `AddsClaim` says: a claim whose
-/// remembered word is still there and isn't empty.
+/// it leaves. Where its need is not met it is `Refused` and changes nothing, and so is every event
+/// on a state of another plan, one whose numbers are not those of `plan`. `StepsByMoves` says that
+/// the units go from holder to holder by a claim, a steal or a refill, or not at all.
+///
+/// # Errors
+///
+/// `Fault::Memory` where the list of a seat's claims could not be grown; the state is then as it
+/// was. It comes only of an event as `AddsClaim` says: a claim whose remembered word is still there
+/// and isn't empty.
 pub fn step(plan: &Plan, state: &mut State, event: Event) -> Result<Outcome, Fault>
-    requires { IsStateOf plan.now state.old }
-    ensures answers { IfOk result (λ outcome. Answers plan.now state.old event outcome state.new) }
+    ensures answers { IsStateOf plan.now state.old
+        → IfOk result (λ outcome. Answers plan.now state.old event outcome state.new) }
     ensures moves { StepsByMoves plan.now state.old state.new }
-    ensures belongs { IsStateOf plan.now state.new }
+    ensures belongs { IsStateOf plan.now state.old → IsStateOf plan.now state.new }
+    ensures other_plan { ¬ IsStateOf plan.now state.old
+        → (result ≡ Ok Refused) × (state.new ≡ state.old) }
     ensures unchanged { OnErr result (state.new ≡ state.old) }
     ensures refused { OnErr result (AddsClaim plan.now state.old event) }
     ensures fault { IsMemoryOnErr result }
 {
+    if !state.rows.is_of(plan) {
+        return Ok(Outcome::Refused);
+    }
+    take(plan, &mut state.rows, event)
+}
+
+/// Takes one event on the rows of this plan.
+fn take(plan: &Plan, rows: &mut Rows, event: Event) -> Result<Outcome, Fault>
+    requires { IsStateOf plan.now rows.old }
+    ensures answers { IfOk result (λ outcome. Answers plan.now rows.old event outcome rows.new) }
+    ensures moves { StepsByMoves plan.now rows.old rows.new }
+    ensures belongs { IsStateOf plan.now rows.new }
+    ensures unchanged { OnErr result (rows.new ≡ rows.old) }
+    ensures refused { OnErr result (AddsClaim plan.now rows.old event) }
+    ensures fault { IsMemoryOnErr result }
+{
     match event {
-        Event::Load { seat, share } => Ok(load(state, seat, share)),
-        Event::Claim { seat } => claim(plan, state, seat),
-        Event::Steal { seat } => Ok(steal(plan, state, seat)),
-        Event::Refill { seat } => Ok(refill(plan, state, seat)),
+        Event::Load { seat, share } => Ok(load(rows, seat, share)),
+        Event::Claim { seat } => claim(plan, rows, seat),
+        Event::Steal { seat } => Ok(steal(plan, rows, seat)),
+        Event::Refill { seat } => Ok(refill(plan, rows, seat)),
     }
 }
 
 /// A seat reads the word of a share, and remembers it.
-fn load(state: &mut State, seat: usize, share: usize) -> Outcome
-    ensures { LoadAnswers state.old seat share result state.new }
+fn load(rows: &mut Rows, seat: usize, share: usize) -> Outcome
+    ensures { LoadAnswers rows.old seat share result rows.new }
 {
-    if seat >= state.seats() || share >= state.shares() {
+    if seat >= rows.seats() || share >= rows.shares() {
         return Outcome::Refused;
     }
-    let word = state.word(share);
-    state.remember(seat, Remembered { share, word });
+    let word = rows.word(share);
+    rows.remember(seat, Remembered { share, word });
     Outcome::Loaded(word)
 }
 
 /// A seat takes a claim from the front of the share that it claims from.
-fn claim(plan: &Plan, state: &mut State, seat: usize) -> Result<Outcome, Fault>
-    requires { IsStateOf plan.now state.old }
-    ensures answers { IfOk result (λ outcome. ClaimAnswers plan.now state.old seat outcome
-        state.new) }
-    ensures unchanged { OnErr result (state.new ≡ state.old) }
-    ensures refused { OnErr result (AddsClaim plan.now state.old (Claim seat)) }
+fn claim(plan: &Plan, rows: &mut Rows, seat: usize) -> Result<Outcome, Fault>
+    requires { IsStateOf plan.now rows.old }
+    ensures answers { IfOk result (λ outcome. ClaimAnswers plan.now rows.old seat outcome
+        rows.new) }
+    ensures unchanged { OnErr result (rows.new ≡ rows.old) }
+    ensures refused { OnErr result (AddsClaim plan.now rows.old (Claim seat)) }
     ensures fault { IsMemoryOnErr result }
 {
     let own = plan.share_of(seat);
-    let Some(load) = state.remembered(seat) else {
+    let Some(load) = rows.remembered(seat) else {
         return Ok(Outcome::Refused);
     };
     if load.share != own {
@@ -68,63 +92,63 @@ fn claim(plan: &Plan, state: &mut State, seat: usize) -> Result<Outcome, Fault>
     }
     let (start, end) = unpack(load.word);
     if start == end {
-        state.forget(seat);
+        rows.forget(seat);
         return Ok(Outcome::Empty);
     }
-    if state.word(own) != load.word {
-        state.forget(seat);
+    if rows.word(own) != load.word {
+        rows.forget(seat);
         return Ok(Outcome::Lost);
     }
     let stop = start + plan.claim().min(end - start);
     let cells = plan.cells_of(start, stop);
-    state.gain(seat, cells.start..cells.end)?;
-    state.forget(seat);
-    state.store(own, pack(stop, end));
+    rows.gain(seat, cells.start..cells.end)?;
+    rows.forget(seat);
+    rows.store(own, pack(stop, end));
     Ok(Outcome::Claimed(cells))
 }
 
 /// A seat takes the back half of another share into transit.
-fn steal(plan: &Plan, state: &mut State, seat: usize) -> Outcome
-    requires { IsStateOf plan.now state.old }
-    ensures { StealAnswers plan.now state.old seat result state.new }
+fn steal(plan: &Plan, rows: &mut Rows, seat: usize) -> Outcome
+    requires { IsStateOf plan.now rows.old }
+    ensures { StealAnswers plan.now rows.old seat result rows.new }
 {
     let own = plan.share_of(seat);
-    let Some(load) = state.remembered(seat) else {
+    let Some(load) = rows.remembered(seat) else {
         return Outcome::Refused;
     };
-    if load.share == own || state.carried(seat).is_some() || !is_empty(state.word(own)) {
+    if load.share == own || rows.carried(seat).is_some() || !is_empty(rows.word(own)) {
         return Outcome::Refused;
     }
     let Some(middle) = plan.split(load.word) else {
-        state.forget(seat);
+        rows.forget(seat);
         return Outcome::Nothing;
     };
-    if state.word(load.share) != load.word {
-        state.forget(seat);
+    if rows.word(load.share) != load.word {
+        rows.forget(seat);
         return Outcome::Lost;
     }
     let (start, end) = unpack(load.word);
-    state.forget(seat);
-    state.carry(seat, Some(middle..end));
-    state.store(load.share, pack(start, middle));
+    rows.forget(seat);
+    rows.carry(seat, Some(middle..end));
+    rows.store(load.share, pack(start, middle));
     Outcome::Taken(middle..end)
 }
 
 /// A seat stores what it has in transit into its own empty share.
-fn refill(plan: &Plan, state: &mut State, seat: usize) -> Outcome
-    requires { IsStateOf plan.now state.old }
-    ensures { RefillAnswers plan.now state.old seat result state.new }
+fn refill(plan: &Plan, rows: &mut Rows, seat: usize) -> Outcome
+    requires { IsStateOf plan.now rows.old }
+    ensures { RefillAnswers plan.now rows.old seat result rows.new }
 {
     let own = plan.share_of(seat);
-    let Some(units) = state.carried(seat) else {
+    let Some(units) = rows.carried(seat) else {
         return Outcome::Refused;
     };
-    if !is_empty(state.word(own)) {
+    if !is_empty(rows.word(own)) {
         return Outcome::Refused;
     }
     let word = pack(units.start, units.end);
-    state.carry(seat, None);
-    state.store(own, word);
+    rows.carry(seat, None);
+    rows.store(own, word);
     Outcome::Refilled(word)
 }
 

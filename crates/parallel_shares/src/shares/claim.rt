@@ -8,7 +8,7 @@ use std::sync::Wait;
 
 impl Shares {
     ghost use Rattle.parallel_shares.specs.Seats.{index_of, claims_of, transit_of, IsSeatOf, LoadsGrow};
-    ghost use Rattle.parallel_shares.specs.Steals.{GainsClaim};
+    ghost use Rattle.parallel_shares.specs.Steals.{GainsClaim, GainsTry};
 
     /// Claims the front of the share that the seat claims from; where that is empty, takes the back
     /// half of another share and goes on there.
@@ -28,16 +28,28 @@ impl Shares {
     {
         for _ in rt.forever() {
             self.settle(seat);
-            match self.try_claim(seat) {
+            match self.try_each(seat) {
                 Tried::Claimed(cells) => return Some(cells),
-                Tried::Empty => match self.try_steal(seat) {
-                    Tried::Nothing => return None,
-                    _ => {}
-                },
+                Tried::Nothing => return None,
                 _ => {}
             }
         }
         unreachable!()
+    }
+
+    // Tries once to claim, and behind an own word that was empty once to steal.
+    fn try_each(&self, seat: &mut Seat) -> Tried
+        requires belongs { IsSeatOf self.now seat.old }
+        requires empty_handed { transit_of seat.old ≡ None }
+        ensures seat { IsSeatOf self.now seat.new }
+        ensures index { index_of seat.new ≡ index_of seat.old }
+        ensures loads { LoadsGrow seat.old seat.new }
+        ensures answer { GainsTry self.now seat.old result seat.new }
+    {
+        match self.try_claim(seat) {
+            Tried::Empty => self.try_steal(seat),
+            tried => tried,
+        }
     }
 
     // Puts what the seat has in transit, if anything, into its own share.

@@ -19,6 +19,8 @@ pub struct View {
     pub words: LinkedList<u64>,
     /// How often each share was loaded.
     pub loads: LinkedList<u64>,
+    /// The other shares that were loaded since the seat's own was loaded last, in order.
+    pub since: LinkedList<usize>,
     /// The word that the last exchange found.
     pub met: u64,
     /// The number of exchanges that were tried.
@@ -40,7 +42,7 @@ impl TableRule<(), View, Plan> for Partition {
     ghost first = { λ sizes. undealt sizes 0 };
 }
 
-/// A load of the seat's own share.
+/// A load of the seat's own share. No other one was loaded since.
 pub struct LookOwn;
 
 impl Play<(), View> for LookOwn {

@@ -8,15 +8,16 @@ loop-event-preserved c =
     let plan = c.args.plan.now in
     let events = c.args.events.now in
     let i = c.loop-event.event-index in
+    let belongs = c.loop-event.invariant.belongs in
     let event : Event = get_or events i (Load 0 0) in
     let so_far = c.loop-event.outcomes.items in
     let outcome = c.in_ok-step.field-0 in
     let more : Replays plan (opening plan) (take i events ++ event ∷ [])
     (so_far ++ outcome ∷ []) c.step.new.state = replays_more plan (take i events) so_far
     (opening plan) c.loop-event.state c.step.new.state event outcome
-    c.loop-event.invariant.replayed c.in_ok-step.ensures.answers in
+    c.loop-event.invariant.replayed (c.in_ok-step.ensures.answers belongs) in
     record {
-      belongs = c.in_ok-step.ensures.belongs;
+      belongs = c.step.ensures.belongs belongs;
       replayed =
           rw (take_more events i (Load 0 0) c.loop-event-test.true, c.in_ok-push.ensures.items)
           more;

@@ -1,58 +1,15 @@
 -- Each try loads no share less often, and what ends without a claim looked round.
-use Rattle.parallel_shares.proofs.{◌∙◌, sym, subst, shares_of, share_of, plan_of, known, NonePays, grows_from, tries_grow, steals_grow, again_since}
+use Rattle.parallel_shares.proofs.{◌∙◌, grows_from, found_since}
 use Rattle.parallel_shares.proofs.shares.Shares.claim.Goals as goal
 
 pub returns-in-Nothing-clause-answer : goal.returns-in-Nothing-clause-answer
 returns-in-Nothing-clause-answer g c =
-    let shares = c.args.self.now in
-    let plan = plan_of shares in
-    let settled = c.settle.new.seat in
-    let tried = c.try_claim.new.seat in
-    let last = c.try_steal.new.seat in
-    let empty = c.in-Empty.ensures.answer in
-    let nothing = c.in-Nothing.ensures.answer in
-    let same = c.try_claim.ensures.same in
-    let begun = grows_from c.args.seat.now c.loop.seat settled c.loop.invariant.loads
-    c.settle.ensures.loads in
-    let number = same.0 ∙ c.settle.ensures.index ∙ c.loop.invariant.index in (
-      c.try_steal.ensures.claims ∙ empty.1 ∙ c.settle.ensures.claims ∙ c.loop.invariant.claims,
-      record {
-        seen = tried;
-        belongs = c.try_claim.ensures.seat;
-        number = sym c.try_steal.ensures.index;
-        before = grows_from c.args.seat.now settled tried begun
-            (tries_grow shares settled tried c.try_claim.ensures.one_load same.0
-            c.try_claim.ensures.others);
-        again = again_since shares c.args.seat.now settled tried begun (sym same.0 ∙ number)
-            c.try_claim.ensures.one_load;
-        empty = empty.0;
-        empty_handed = same.1 ∙ c.settle.ensures.transit;
-        looks = c.try_steal.ensures.looks;
-        none_pays = subst (λ i. NonePays plan (share_of plan i) (shares_of plan) (known last))
-            (sym c.try_steal.ensures.index) nothing.0;
-        emptied = c.try_steal.ensures.own_empty;
-        transit = nothing.1;
-      },
+    let i = c.loop.invariant in
+    let gained = c.in-Nothing.ensures.answer in
+    let settled = c.settle.ensures in (
+      gained.0 ∙ settled.claims ∙ i.claims,
+      found_since c.args.self.now c.args.seat.now c.settle.new.seat c.try_each.new.seat
+          (settled.index ∙ i.index)
+          (grows_from c.args.seat.now c.loop.seat c.settle.new.seat i.loads settled.loads)
+          gained.1,
     )
-
-pub loop-preserved-in_default-try_steal : goal.loop-preserved-in_default-try_steal
-loop-preserved-in_default-try_steal g c =
-    let shares = c.args.self.now in
-    let settled = c.settle.new.seat in
-    let tried = c.try_claim.new.seat in
-    let same = c.try_claim.ensures.same in
-    let empty = c.in-Empty.ensures.answer in
-    record {
-      goes_on = (tt, tt);
-      seat = c.try_steal.ensures.seat;
-      index = c.try_steal.ensures.index ∙ same.0 ∙ c.settle.ensures.index ∙ c.loop.invariant.index;
-      claims = c.try_steal.ensures.claims ∙ empty.1 ∙ c.settle.ensures.claims
-          ∙ c.loop.invariant.claims;
-      loads = grows_from c.args.seat.now settled c.try_steal.new.seat
-          (grows_from c.args.seat.now c.loop.seat settled c.loop.invariant.loads
-          c.settle.ensures.loads)
-          (grows_from settled tried c.try_steal.new.seat
-          (tries_grow shares settled tried c.try_claim.ensures.one_load same.0
-          c.try_claim.ensures.others)
-          (steals_grow shares tried c.try_steal.new.seat c.try_steal.ensures.looks));
-    }

@@ -10,7 +10,8 @@ returns-then-take_back-victim-clause-looks c =
     looks_kept plan (share_of plan seat.index) (shares_of plan) (known seat)
     (known c.find_victim.new.seat) (known c.take_back.new.seat)
     (ap (λ (v : View). v.words) met.0)
-    (ap (λ (v : View). v.loads) met.0) c.in-Some.ensures.looks
+    (ap (λ (v : View). v.loads) met.0)
+    (ap (λ (v : View). v.since) met.0) c.in-Some.ensures.looks
 
 pub returns-else-take_back-victim-clause-looks : goal.returns-else-take_back-victim-clause-looks
 returns-else-take_back-victim-clause-looks c =
@@ -20,4 +21,5 @@ returns-else-take_back-victim-clause-looks c =
     looks_kept plan (share_of plan seat.index) (shares_of plan) (known seat)
     (known c.find_victim.new.seat) (known c.take_back.new.seat)
     (ap (λ (v : View). v.words) met.0)
-    (ap (λ (v : View). v.loads) met.0) c.in-Some.ensures.looks
+    (ap (λ (v : View). v.loads) met.0)
+    (ap (λ (v : View). v.since) met.0) c.in-Some.ensures.looks

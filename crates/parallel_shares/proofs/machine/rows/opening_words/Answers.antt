@@ -1,7 +1,7 @@
 -- Each share ends where the next begins, and no share runs past the units.
 use Rattle.parallel_shares.proofs.{◌≡◌, ◌+◌, ◌++◌, ◌∷◌, [], ◌≤◌, suc, arith, add-one, ap, ◌∙◌, packed, opening_start, opening_words, within_units}
-use Rattle.parallel_shares.proofs.machine.state.opening_words.Goals as goal
-use Rattle.parallel_shares.proofs.machine.state.opening_words.Goals.{After-opening_size}
+use Rattle.parallel_shares.proofs.machine.rows.opening_words.Goals as goal
+use Rattle.parallel_shares.proofs.machine.rows.opening_words.Goals.{After-opening_size}
 
 -- the end of a share is the start of the next, and within the units
 end_fits : (c : After-opening_size) → c.loop-share.start + c.opening_size.result ≤ 65535

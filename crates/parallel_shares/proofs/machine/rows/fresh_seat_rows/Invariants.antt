@@ -1,6 +1,6 @@
 -- As many fresh rows as seats so far.
 use Rattle.parallel_shares.proofs.{◌≡◌, replicate, fresh}
-use Rattle.parallel_shares.proofs.machine.state.fresh_seat_rows.Given as goal
+use Rattle.parallel_shares.proofs.machine.rows.fresh_seat_rows.Given as goal
 
 abbrev pub invariant-loop-seat : goal.invariant-loop-seat
 invariant-loop-seat l = l.rows.items ≡ replicate l._seat fresh
