@@ -1,5 +1,5 @@
 -- How often shares were loaded: never less often, whatever the seat tries.
-use Rattle.parallel_shares.proofs.Common.{◌≡◌, ◌≢◌, ℕ, true, None, [], ◌+◌, ◌<◌, ◌≤◌, ◌∙◌, inl, inr, refl, sym, ap, subst, arith, cases_eq, cases_lt}
+use Rattle.parallel_shares.proofs.Common.{◌≡◌, ◌≢◌, ℕ, true, None, [], ◌+◌, ◌≤◌, ◌∙◌, inl, inr, refl, sym, ap, subst, arith, cases_eq, cases_lt}
 use Rattle.parallel_shares.proofs.Common.{Shares, Seat, shares_of, share_of, loaded_at, loads_at, times, plan_of, known, index_of, claims_of, transit_of, has_emptied, own_share, own_loads}
 use Rattle.parallel_shares.proofs.Common.{own_word, IsEmptyWord, IsSameSeat, OthersStay, LoadsGrow, LoadsOthers, NonePays, TriesClaim, TriesSteal, FoundNothing, GainsTry}
 use Rattle.parallel_shares.specs.declared.shares.seat.Tried.{Tried}
