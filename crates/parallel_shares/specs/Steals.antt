@@ -101,14 +101,15 @@ TriesSteal sizes before (Claimed cells) after = ⊥
 TriesSteal sizes before Empty after = ⊥
 
 -- after it was the seat `first`, the seat loaded its own word again, and that word was empty. Since
--- it did so last it loaded each other share once, and no split of the words that it met there pays.
--- Nothing is in transit
+-- it did so last it loaded each other share once and its own not at all, and no split of the words
+-- that it met there pays. Nothing is in transit
 pub record FoundNothing (shares : Shares) (first seat : Seat) : Type 0 where
   pub grows : LoadsGrow first seat
   pub again : own_loads shares first < own_loads shares seat
   pub empty : IsEmptyWord (own_word shares seat)
   pub since : (k : ℕ) → k < shares_of (plan_of shares) → k ≢ own_share shares seat
       → loads_since (known seat) k ≡ 1
+  pub last : loads_since (known seat) (own_share shares seat) ≡ 0
   pub more : (k : ℕ) → k < shares_of (plan_of shares) → k ≢ own_share shares seat
       → loads_at (known first) k < loads_at (known seat) k
   pub within : (k : ℕ) → k < shares_of (plan_of shares) → k ≢ own_share shares seat
