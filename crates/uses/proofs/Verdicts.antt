@@ -259,9 +259,11 @@ pub digests_compared : (messages : Bor (List (Bor (List ℕ)))) (digests : Bor (
     → MatchResult result (λ _. All HasItsDigest (zip messages.now digests.now))
     (λ trouble. IfClosure trouble (IsFirstMismatch (zip messages.now digests.now)))
 digests_compared messages digests made start end is zero whole result gave =
-    first_of_numbered JudgesDigest HasItsDigest (λ pair. ¬ HasItsDigest pair) (λ p y k. k) (λ p e k. k)
+    first_of_numbered JudgesDigest HasItsDigest (λ pair. ¬ HasItsDigest pair)
+    (λ p y k. k) (λ p e k. k)
     (λ (p : Zipped (Copies (Bor (List ℕ))) (Copies (List ℕ))).
     PairsOf (λ xs. xs ≡ p.left.slice.now) (λ ys. ys ≡ p.right.slice.now))
-    made (record { left = record { slice = messages }; right = record { slice = digests } }) start end
+    made (record { left = record { slice = messages }; right = record { slice = digests } })
+    start end
     (min (length messages.now) (length digests.now)) is zero whole (zip messages.now digests.now)
     (zip_of_lists messages.now digests.now) (length-zip messages.now digests.now) result gave

@@ -16,13 +16,14 @@ abbrev pub NodesCollide : Children → Children → Type 0
 NodesCollide one other =
     (one ≢ other) × (node_digest one.left one.right ≡ node_digest other.left other.right)
 
--- what is hashed of two trees differs, in the number of leaves or in the root, and has one digest
+-- the bytes that are hashed of two trees differ, and have one digest
 abbrev pub CommitmentsCollide : Committed → Committed → Type 0
 CommitmentsCollide one other =
     (committed_bytes one.count one.root ≢ committed_bytes other.count other.root)
     × (commitment one.count one.root ≡ commitment other.count other.root)
 
--- two leaves that differ, and have one digest; or two pairs of nodes; or what is hashed of two trees
+-- two leaves that differ, and have one digest; or two pairs of nodes; or the bytes hashed of two
+-- trees
 abbrev pub IsCollision : Collision → Type 0
 IsCollision (Leaves one other) =
     (one.now ≢ other.now) × (leaf_digest one.now ≡ leaf_digest other.now)

@@ -88,15 +88,15 @@ climb node count index own (step ∷ steps) = cond (nat_lt 1 count)
     (option_and_then (λ next. climb node (div_ceil count 2) (index / 2) next steps)
     (one_up node count index own step)) None
 
--- the proof shows that the leaf stands at the index of a tree of `count` leaves: its steps lead from
--- the leaf to a root, and what is published is the commitment to that number and that root
+-- the proof shows that the leaf stands at the index of a tree of `count` leaves: its steps lead
+-- from the leaf to a root, and what is published is the commitment to that number and that root
 abbrev pub Accepts : List ℕ → ℕ → ℕ → List ℕ → List (Option (List ℕ)) → Type 0
 Accepts published count index leaf proof =
     (index < count) × IsSomeAnd (climb node_digest count index (leaf_digest leaf) proof)
     (λ root. commitment count (Some root) ≡ published)
 
--- the leaf is the one at the index of the tree over leaves with these digests: by its digest, and by
--- its bytes where `own` is the tree's leaf there
+-- the leaf is the one at the index of the tree over leaves with these digests: by its digest, and
+-- by its bytes where `own` is the tree's leaf there
 abbrev pub IsLeafAt : List (List ℕ) → ℕ → Option (Bor (List ℕ)) → List ℕ → Type 0
 IsLeafAt leaves index own leaf =
     (index < length leaves) × (leaf_digest leaf ≡ node_at leaves index)

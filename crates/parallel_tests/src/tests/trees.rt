@@ -8,8 +8,9 @@ use std::alloc::Global;
 use std::process::Abort;
 use std::sync::Wait;
 use std::thread::Threads;
-use uses::merkle::{Digest, Tree, is_member, leaf_digest, node_digest};
-use uses::merkle::{commitment, commitment_digest, root};
+use uses::merkle::{
+    Digest, Tree, commitment, commitment_digest, is_member, leaf_digest, node_digest, root,
+};
 
 // The leaves of the greatest tree. A smaller one has the first of them.
 fn all_leaves() -> [&'static [u8]; 9] {
@@ -76,8 +77,8 @@ fn is_written(digest: &Digest, text: &str) -> bool {
     digits.next().is_none()
 }
 
-// Whether the commitment to the leaves' tree is the one that is known, also by the tree with all its
-// levels.
+// Whether the commitment to the leaves' tree is the one that is known, also by the tree with all
+// its levels.
 fn is_committed<Rt: Threads + Wait + Sync, S: Strategy>(
     rt: &Rt,
     alloc: Global,
@@ -210,11 +211,13 @@ fn proofs_hold(rt: &impl Abort, alloc: Global, tree: &Tree, leaves: &[&[u8]]) {
         let leaf = *leaves.get(index).expect(rt, "its leaf");
         let proof = tree.proof(alloc, index).expect(rt, "memory");
         let at = (count, index);
-        row(rt, at, is_member(&commitment, count, index, leaf, &proof), true);
+        let is_accepted = is_member(&commitment, count, index, leaf, &proof);
+        row(rt, at, is_accepted, true);
         row(rt, at, places(&commitment, leaf, &proof), 1);
-        answers(rt, at, changed_steps(alloc, &commitment, at, leaf, &proof), 0);
-        let digests = (&commitment, &root);
-        answers(rt, at, other_claims(alloc, digests, at, leaf, &proof), 0);
+        let others = changed_steps(alloc, &commitment, at, leaf, &proof);
+        answers(rt, at, others, 0);
+        let others = other_claims(alloc, (&commitment, &root), at, leaf, &proof);
+        answers(rt, at, others, 0);
         row(rt, at, tree.has_leaf(index, leaf), true);
         row(rt, at, tree.has_leaf(index, b"another"), false);
         for (claimed, own) in [
@@ -248,9 +251,11 @@ fn another_number_of_leaves_is_refused(rt: HostRuntime) {
     let tree = Tree::build(&rt, alloc, &Sequential, SITE, &leaves).expect(&rt, "memory");
     let commitment = tree.commitment();
     let pair = Some(node_digest(&leaf_digest(b"a"), &leaf_digest(b"b")));
-    let other = commitment_digest(2, &tree.root());
-    row(&rt, 1, is_member(&commitment, 3, 2, b"c", &[None, pair]), true);
-    row(&rt, 2, is_member(&other, 2, 1, b"c", &[pair]), true);
+    let of_two = commitment_digest(2, &tree.root());
+    let honest = [None, pair];
+    row(&rt, 1, is_member(&commitment, 3, 2, b"c", &honest), true);
+    row(&rt, 2, is_member(&of_two, 2, 1, b"c", &[pair]), true);
     row(&rt, 3, is_member(&commitment, 2, 1, b"c", &[pair]), false);
-    row(&rt, 4, tree.collision(2, 1, b"c", &[pair], None).is_some(), false);
+    let found = tree.collision(2, 1, b"c", &[pair], None);
+    row(&rt, 4, found.is_some(), false);
 }

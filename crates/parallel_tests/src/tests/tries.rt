@@ -329,7 +329,11 @@ fn index_of_odd<Rt: Threads + Wait + Sync, S: Strategy>(
 #[test]
 fn explorers_find_the_same_first_one(rt: HostRuntime) {
     let alloc = rt.alloc();
-    let mismatch = explore(&rt, alloc, |explorer| index_of_mismatch(&rt, alloc, explorer));
+    let mismatch = explore(
+        &rt,
+        alloc,
+        |explorer| index_of_mismatch(&rt, alloc, explorer),
+    );
     same(&rt, mismatch.expect(&rt, "memory"), Some(2));
     let odd = explore(&rt, alloc, |explorer| index_of_odd(&rt, alloc, explorer));
     same(&rt, odd.expect(&rt, "memory"), Some(2));

@@ -39,7 +39,8 @@ pub enum Collision<'a> {
 // Two leaves that collide, where they differ and have one digest.
 pub(crate) fn colliding_leaves<'a>(own: &'a [u8], leaf: &'a [u8]) -> Option<Collision<'a>>
     ensures collision { IfSome result IsCollision }
-    ensures found { leaf_digest leaf.now ≡ leaf_digest own.now → IfNone result (leaf.now ≡ own.now) }
+    ensures found { leaf_digest leaf.now ≡ leaf_digest own.now
+        → IfNone result (leaf.now ≡ own.now) }
 {
     if own != leaf && leaf_digest(own) == leaf_digest(leaf) {
         Some(Collision::Leaves(own, leaf))

@@ -5,8 +5,9 @@ ghost use Rattle.uses.specs.Collisions.{IsCollision};
 ghost use Rattle.uses.specs.Merkle.{Accepts, IsLeafAt, IsTree, climb, leaf_digest, leaf_digests, level_above, levels_of, lowest, merkle_root, next_level, node_at, node_digest, one_up, tree_commitment};
 
 use crate::merkle::build::{leaf_digests, next_level};
-use crate::merkle::collision::{Collision, Committed};
-use crate::merkle::collision::{colliding_commitments, colliding_leaves, colliding_nodes};
+use crate::merkle::collision::{
+    Collision, Committed, colliding_commitments, colliding_leaves, colliding_nodes,
+};
 use crate::merkle::digest::{Digest, commitment_digest, leaf_digest};
 use crate::merkle::proof::{climb, has_sibling};
 use commonware_parallel::{Fault, Place, Strategy};
@@ -128,8 +129,8 @@ impl Tree {
     /// commitment and isn't true of the tree. The claim is that the leaf stands at the index of
     /// `count` leaves, and `own` is the tree's leaf there, where the caller has it. None where the
     /// claim isn't accepted, and where it is true: the tree has so many leaves, and the leaf at the
-    /// index, by its digest and, with `own`, by its bytes (`IsLeafAt`). So whoever has another claim
-    /// accepted has found a collision of the hash.
+    /// index, by its digest and, with `own`, by its bytes (`IsLeafAt`). So whoever gets any other
+    /// claim accepted has found a collision of the hash.
     pub fn collision<'a>(
         &self,
         count: usize,
