@@ -1,4 +1,5 @@
 pub mod CollidingNodes
+pub mod Commitments
 pub mod TreeConstruction
 pub mod ClimbSteps
 pub mod Counts
