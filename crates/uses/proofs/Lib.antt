@@ -5,6 +5,7 @@ pub mod ClimbSteps
 pub mod Counts
 pub mod Levels
 pub mod LongestWords
+pub mod Parts
 pub mod Repeats
 pub mod Reversed
 pub mod Roots
