@@ -5,7 +5,7 @@ use Rattle.std.proofs.lemmas.Bool.{cases_lt}
 use Rattle.std.specs.Int.{div_ceil}
 use Rattle.uses.specs.Merkle.{climb, level_above, merkle_root, next_level, one_up}
 use Rattle.uses.proofs.ClimbSteps.{ends, goes_on, too_many}
-use Rattle.uses.proofs.Levels.{first_alone, length-next_level, root_at}
+use Rattle.uses.proofs.Levels.{first_alone, length-next_level, root_at, some_above}
 
 module _ {X : Type 0} (node : X → X → X) (d : X) (leaves : List X) (index : ℕ) (digest : X)
     (proof : List (Option X)) where
@@ -51,20 +51,13 @@ module _ {X : Type 0} (node : X → X → X) (d : X) (leaves : List X) (index : 
             (sym counted) led;
       }
 
-  -- a level over leaves has nodes
-  some_above : (k : ℕ) → 0 < length leaves → 0 < length (level_above node k leaves)
-  unfolding level_above
-  some_above zero h = h
-  some_above (suc k) h =
-      omega (arith, some_above k h, length-next_level node (level_above node k leaves))
-
   -- a way that leads nowhere doesn't lead to the root
   pub nowhere_is_no_root : (k : ℕ) → 0 < length leaves → length (level_above node k leaves) ≤ 1
       → None ≡ whole → whole ≢ merkle_root node leaves
   nowhere_is_no_root k some top nowhere same =
       let root : merkle_root node leaves ≡ Some (get_or (level_above node k leaves) 0 d) =
       root_at node k leaves top
-      ∙ first_alone node d (level_above node k leaves) 0 top (some_above k some) in
+      ∙ first_alone node d (level_above node k leaves) 0 top (some_above node k leaves some) in
       cc
 
   -- past the highest level no step is left, or a step too many

@@ -82,6 +82,14 @@ module _ {X : Type 0} (node : X → X → X) where
       let turned : n + h ≡ h + n = omega arith in
       ap first_node (sym over ∙ ap (λ k. level_above node k xs) (sym turned) ∙ other)
 
+  -- a level over leaves has nodes
+  pub some_above : (k : ℕ) (leaves : List X) → 0 < length leaves
+      → 0 < length (level_above node k leaves)
+  unfolding level_above
+  some_above zero leaves h = h
+  some_above (suc k) leaves h =
+      omega (arith, some_above k leaves h, length-next_level (level_above node k leaves))
+
   -- the one node of a level is its first
   pub first_alone : (d : X) (xs : List X) (i : ℕ) → length xs ≤ 1 → i < length xs
       → first_node xs ≡ Some (get_or xs i d)
@@ -89,3 +97,12 @@ module _ {X : Type 0} (node : X → X → X) where
   first_alone d (x ∷ []) zero one h = refl
   first_alone d (x ∷ []) (suc i) one h = absurd (omega arith)
   first_alone d (x ∷ (y ∷ xs)) i one h = absurd (omega arith)
+
+  -- so there is a root where there is a leaf
+  pub some_root : (d : X) (leaves : List X) → 0 < length leaves
+      → merkle_root node leaves ≡ Some (get_or (level_above node (length leaves) leaves) 0 d)
+  some_root d leaves h =
+      let n = length leaves in
+      let top : length (level_above node n leaves) ≤ 1 = omega (arith, level_short n leaves) in
+      root_at n leaves top
+      ∙ first_alone d (level_above node n leaves) 0 top (some_above n leaves h)

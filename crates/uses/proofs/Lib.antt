@@ -1,9 +1,11 @@
 pub mod CollidingNodes
+pub mod Commitments
 pub mod TreeConstruction
 pub mod ClimbSteps
 pub mod Counts
 pub mod Levels
 pub mod LongestWords
+pub mod Parts
 pub mod Repeats
 pub mod Reversed
 pub mod Roots

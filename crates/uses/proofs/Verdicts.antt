@@ -24,7 +24,7 @@ use Rattle.parallel_bridge.specs.declared.zipped.Zipped.{Zipped}
 use Rattle.std.proofs.lemmas.Slice.Zip.{length-zip}
 use Rattle.uses.proofs.FirstNumbered.{first_of_numbered}
 use Rattle.parallel_bridge.proofs.OverViews.{zip_of_lists}
-use Rattle.uses.specs.Verdicts.{HasItsTag, IsFirstFailing, IsFirstForged, IsFirstOver, IsSortedOut, Judges, JudgesTag, AddsWithin}
+use Rattle.uses.specs.Verdicts.{HasItsDigest, IsFirstFailing, IsFirstMismatch, IsFirstOver, IsSortedOut, Judges, JudgesDigest, AddsWithin}
 
 module _ {X : Type 0} (verdict : X → Bool → Type 0) (allowed : X → (X × Option X) → Type 0)
     (calls : (x : X) (p : X × Option X) → allowed x p → IsSortedOut verdict x p) where
@@ -246,22 +246,24 @@ summed xs limit identity step reduce (Err (Closure e)) gave zeros steps joins =
     (checked_brackets limit identity step reduce zeros (λ a x b k. steps a x (Ok b) k)
     (λ a x e' k. steps a x (Err e') k) joins gave.2)
 
--- what a verifier of tags answers
-pub tagged : (messages : Bor (List (Bor (List ℕ)))) (tags : Bor (List (List ℕ)))
+-- what a verifier of digests answers
+pub digests_compared : (messages : Bor (List (Bor (List ℕ)))) (digests : Bor (List (List ℕ)))
     (made : Zipped (Copies (Bor (List ℕ))) (Copies (List ℕ))) (start end : ℕ)
-    → made ≡ record { left = record { slice = messages }; right = record { slice = tags } }
-    → start ≡ 0 → end ≡ min (length messages.now) (length tags.now)
+    → made ≡ record { left = record { slice = messages }; right = record { slice = digests } }
+    → start ≡ 0 → end ≡ min (length messages.now) (length digests.now)
     → (result : Result (Vec ⊤ Global) (Trouble ℕ)) → UnlessRefused result
     (λ out. (zs : List (ℕ × (Bor (List ℕ) × List ℕ)))
     × PairsOf (λ is. is ≡ range_with_len start (end - start))
     (PairsOf (λ xs. xs ≡ made.left.slice.now) (λ ys. ys ≡ made.right.slice.now)) zs
-    × TryMapOf JudgesTag zs (listed out))
-    → MatchResult result (λ _. All HasItsTag (zip messages.now tags.now))
-    (λ trouble. IfClosure trouble (IsFirstForged (zip messages.now tags.now)))
-tagged messages tags made start end is zero whole result gave =
-    first_of_numbered JudgesTag HasItsTag (λ pair. ¬ HasItsTag pair) (λ p y k. k) (λ p e k. k)
+    × TryMapOf JudgesDigest zs (listed out))
+    → MatchResult result (λ _. All HasItsDigest (zip messages.now digests.now))
+    (λ trouble. IfClosure trouble (IsFirstMismatch (zip messages.now digests.now)))
+digests_compared messages digests made start end is zero whole result gave =
+    first_of_numbered JudgesDigest HasItsDigest (λ pair. ¬ HasItsDigest pair)
+    (λ p y k. k) (λ p e k. k)
     (λ (p : Zipped (Copies (Bor (List ℕ))) (Copies (List ℕ))).
     PairsOf (λ xs. xs ≡ p.left.slice.now) (λ ys. ys ≡ p.right.slice.now))
-    made (record { left = record { slice = messages }; right = record { slice = tags } }) start end
-    (min (length messages.now) (length tags.now)) is zero whole (zip messages.now tags.now)
-    (zip_of_lists messages.now tags.now) (length-zip messages.now tags.now) result gave
+    made (record { left = record { slice = messages }; right = record { slice = digests } })
+    start end
+    (min (length messages.now) (length digests.now)) is zero whole (zip messages.now digests.now)
+    (zip_of_lists messages.now digests.now) (length-zip messages.now digests.now) result gave

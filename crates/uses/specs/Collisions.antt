@@ -2,8 +2,9 @@
 use Rattle.std.specs.Prelude.{◌≡◌, ◌≢◌, ℕ, ◌%◌, ◌==◌, cond, List}
 use Rattle.uses.specs.declared.merkle.collision.Children.{Children}
 use Rattle.uses.specs.declared.merkle.collision.Collision.{Collision}
-use Rattle.uses.specs.declared.merkle.collision.Collision.TheVariants.{Leaves, Nodes}
-use Rattle.uses.specs.Merkle.{leaf_digest, node_digest}
+use Rattle.uses.specs.declared.merkle.collision.Collision.TheVariants.{Leaves, Nodes, Commitments}
+use Rattle.uses.specs.declared.merkle.collision.Committed.{Committed}
+use Rattle.uses.specs.Merkle.{commitment, committed_bytes, leaf_digest, node_digest}
 
 -- a node at an index and its sibling, left before right
 abbrev pub children_of : ℕ → List ℕ → List ℕ → Children
@@ -15,8 +16,16 @@ abbrev pub NodesCollide : Children → Children → Type 0
 NodesCollide one other =
     (one ≢ other) × (node_digest one.left one.right ≡ node_digest other.left other.right)
 
--- two leaves that differ, and have one digest; or two pairs of nodes
+-- the bytes that are hashed of two trees differ, and have one digest
+abbrev pub CommitmentsCollide : Committed → Committed → Type 0
+CommitmentsCollide one other =
+    (committed_bytes one.count one.root ≢ committed_bytes other.count other.root)
+    × (commitment one.count one.root ≡ commitment other.count other.root)
+
+-- two leaves that differ, and have one digest; or two pairs of nodes; or the bytes hashed of two
+-- trees
 abbrev pub IsCollision : Collision → Type 0
 IsCollision (Leaves one other) =
     (one.now ≢ other.now) × (leaf_digest one.now ≡ leaf_digest other.now)
 IsCollision (Nodes one other) = NodesCollide one other
+IsCollision (Commitments one other) = CommitmentsCollide one other

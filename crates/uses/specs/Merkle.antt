@@ -1,8 +1,9 @@
 -- A Merkle tree: a leaf is a string of bytes, and a node a digest. A leaf's digest is that of the
--- byte 0 and the leaf, and an inner node that of the byte 1 and the two nodes below it, so that no
--- inner node is hashed as a leaf is.
-use Rattle.std.specs.Prelude.{◌≡◌, ℕ, zero, suc, ◌+◌, ◌-◌, ◌/◌, ◌%◌, ◌<◌, ◌≤◌, Bool, cond, ◌||◌, ◌==◌, nat_lt, List, [], ◌∷◌, ◌++◌, map, length, Option, Some, None, Vec, slice_get, slice_index_or}
-use Rattle.std.specs.Int.{div_ceil}
+-- byte 0 and the leaf, an inner node that of the byte 1 and the two nodes below it, and what is
+-- published of a tree that of the byte 2, the number of its leaves and its root, so that none of
+-- the three is hashed as another is.
+use Rattle.std.specs.Prelude.{◌≡◌, ℕ, zero, suc, ◌+◌, ◌-◌, ◌/◌, ◌%◌, ◌<◌, ◌≤◌, Bool, cond, ◌||◌, ◌==◌, nat_lt, List, [], ◌∷◌, ◌++◌, map, length, Option, Some, None, Vec, slice_get, slice_index_or, IfSome, IsSomeAnd}
+use Rattle.std.specs.Int.{div_ceil, to_be_bytes, w64}
 use Rattle.std.specs.Option.{option_and_then}
 use Rattle.std.specs.Borrow.{Bor}
 use Rattle.std.specs.declared.alloc.Global.{Global}
@@ -45,6 +46,24 @@ first_node level = slice_get level 0
 abbrev pub merkle_root : {X : Type 0} → (X → X → X) → List X → Option X
 merkle_root node leaves = first_node (level_above node (length leaves) leaves)
 
+-- a root's own bytes, and none where there is no root
+abbrev pub root_bytes : Option (List ℕ) → List ℕ
+root_bytes (Some root) = root
+root_bytes None = []
+
+-- what is hashed of a tree to be published: the byte 2, the number of its leaves as 8 bytes, the
+-- highest first, and the root, of which there is none where there is no leaf
+abbrev pub committed_bytes : ℕ → Option (List ℕ) → List ℕ
+committed_bytes count root = 2 ∷ (to_be_bytes w64 count ++ root_bytes root)
+
+-- the commitment to a number of leaves and to a root
+abbrev pub commitment : ℕ → Option (List ℕ) → List ℕ
+commitment count root = sha256 (committed_bytes count root)
+
+-- the commitment to a tree, from the digests of its leaves
+abbrev pub tree_commitment : List (List ℕ) → List ℕ
+tree_commitment leaves = commitment (length leaves) (merkle_root node_digest leaves)
+
 -- whether a node at an index of a level of `count` nodes has a sibling: each but an odd last one
 abbrev pub has_sibling : ℕ → ℕ → Bool
 has_sibling count index = (index % 2 == 1) || nat_lt (index + 1) count
@@ -69,15 +88,19 @@ climb node count index own (step ∷ steps) = cond (nat_lt 1 count)
     (option_and_then (λ next. climb node (div_ceil count 2) (index / 2) next steps)
     (one_up node count index own step)) None
 
--- the proof shows that the leaf stands at the index of a tree of `count` leaves with the root
+-- the proof shows that the leaf stands at the index of a tree of `count` leaves: its steps lead
+-- from the leaf to a root, and what is published is the commitment to that number and that root
 abbrev pub Accepts : List ℕ → ℕ → ℕ → List ℕ → List (Option (List ℕ)) → Type 0
-Accepts root count index leaf proof =
-    (index < count) × (climb node_digest count index (leaf_digest leaf) proof ≡ Some root)
+Accepts published count index leaf proof =
+    (index < count) × IsSomeAnd (climb node_digest count index (leaf_digest leaf) proof)
+    (λ root. commitment count (Some root) ≡ published)
 
--- a fact, where the nodes have a root for which a proof of the leaf at the index is accepted
-abbrev pub IfAccepted : List (List ℕ) → ℕ → List ℕ → List (Option (List ℕ)) → Type 0 → Type 0
-IfAccepted nodes index leaf proof fact = (root : List ℕ) → merkle_root node_digest nodes ≡ Some root
-    → Accepts root (length nodes) index leaf proof → fact
+-- the leaf is the one at the index of the tree over leaves with these digests: by its digest, and
+-- by its bytes where `own` is the tree's leaf there
+abbrev pub IsLeafAt : List (List ℕ) → ℕ → Option (Bor (List ℕ)) → List ℕ → Type 0
+IsLeafAt leaves index own leaf =
+    (index < length leaves) × (leaf_digest leaf ≡ node_at leaves index)
+    × IfSome own (λ bytes. leaf_digest bytes.now ≡ node_at leaves index → leaf ≡ bytes.now)
 
 -- the nodes of levels that are kept as vectors
 abbrev pub levels_of : List (Vec (List ℕ) Global) → List (List (List ℕ))

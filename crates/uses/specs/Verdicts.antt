@@ -39,16 +39,16 @@ abbrev pub AddsWithin : ℕ → ℕ → ℕ → Result ℕ ℕ → Type 0
 AddsWithin limit a x out =
     MatchResult out (λ b. (b ≡ (a + x) % 2 ^ 64) × (x ≤ limit)) (λ e. (e ≡ x) × (limit < x))
 
--- the tag of a message is its digest by SHA-256
-abbrev pub HasItsTag : (Bor (List ℕ) × List ℕ) → Type 0
-HasItsTag (message, tag) = sha256 message.now ≡ tag
+-- the digest that a message is given with is its own by SHA-256
+abbrev pub HasItsDigest : (Bor (List ℕ) × List ℕ) → Type 0
+HasItsDigest (message, digest) = sha256 message.now ≡ digest
 
--- an answer where the pair's tag is its message's, and an error, which is the pair's index,
+-- an answer where the pair's digest is its message's, and an error, which is the pair's index,
 -- where it isn't
-abbrev pub JudgesTag : (ℕ × (Bor (List ℕ) × List ℕ)) → Result ⊤ ℕ → Type 0
-JudgesTag item out =
-    MatchResult out (λ _. HasItsTag item.1) (λ e. (e ≡ item.0) × (¬ HasItsTag item.1))
+abbrev pub JudgesDigest : (ℕ × (Bor (List ℕ) × List ℕ)) → Result ⊤ ℕ → Type 0
+JudgesDigest item out =
+    MatchResult out (λ _. HasItsDigest item.1) (λ e. (e ≡ item.0) × (¬ HasItsDigest item.1))
 
--- the tag of the pair at the index isn't its message's digest, and that of each pair before it is
-abbrev pub IsFirstForged : List (Bor (List ℕ) × List ℕ) → ℕ → Type 0
-IsFirstForged pairs index = FailsFirstAt HasItsTag (λ pair. ¬ HasItsTag pair) pairs index
+-- the digest of the pair at the index isn't its message's, and that of each pair before it is
+abbrev pub IsFirstMismatch : List (Bor (List ℕ) × List ℕ) → ℕ → Type 0
+IsFirstMismatch pairs index = FailsFirstAt HasItsDigest (λ pair. ¬ HasItsDigest pair) pairs index

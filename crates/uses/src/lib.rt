@@ -9,6 +9,7 @@ pub mod long_lists;
 pub mod maps;
 pub mod merkle;
 pub mod one_place;
+pub mod outputs;
 pub mod own_lists;
 pub mod runs;
 pub mod spawned_jobs;

@@ -1,12 +1,19 @@
-//! A Merkle tree over byte strings.
+//! A Merkle tree over byte strings, by SHA-256.
+//!
+//! A leaf is hashed behind the byte 0, an inner node behind the byte 1. What is published of a tree
+//! is its commitment: the digest of the byte 2, of the number of leaves and of the root. So a root
+//! alone, by which nobody can tell trees of two and of three leaves apart, is never what a proof is
+//! checked against. `commonware_parallel::merkle::root` leaves all of this to its caller: its
+//! `combine` isn't told leaves from nodes, and its answer says nothing of how many leaves there
+//! were.
 mod build;
 mod collision;
 mod digest;
 mod proof;
 mod tree;
 
-pub use build::root;
-pub use collision::{Children, Collision};
-pub use digest::{Digest, leaf_digest, node_digest};
+pub use build::{commitment, root};
+pub use collision::{Children, Collision, Committed};
+pub use digest::{Digest, commitment_digest, leaf_digest, node_digest};
 pub use proof::is_member;
 pub use tree::Tree;

@@ -2,7 +2,7 @@
 ghost use Rattle.std.specs.Prelude.{◌≡◌, ℕ, ◌≤◌, ◌<◌, ◌%◌, ◌^◌, ◌+◌, Bool, true, false, All, not, length, sum, Result, IfOk, IfErr, ⊤};
 ghost use Rattle.std.specs.List.{filter, zip};
 ghost use Rattle.parallel_fault.specs.Trouble.{IfClosure, IsMemoryOnErr, IsMemoryOnFault};
-ghost use Rattle.uses.specs.Verdicts.{AddsWithin, GoesByTest, HasItsTag, IsFirstFailing, IsFirstForged, IsFirstOver, IsSortedOut, Judges, JudgesTag};
+ghost use Rattle.uses.specs.Verdicts.{AddsWithin, GoesByTest, HasItsDigest, IsFirstFailing, IsFirstMismatch, IsFirstOver, IsSortedOut, Judges, JudgesDigest};
 
 use crate::merkle::Digest;
 use commonware_parallel::{Copies, Enumerated, Fault, Indices, Place, Strategy, Trouble, Zipped};
@@ -86,36 +86,41 @@ fn judge_all<
     strategy.try_map_collect_vec(rt, alloc, site, indices, verdict)
 }
 
-/// Checks messages against their tags, each of which is to be its message's digest by SHA-256, and
-/// answers the index of the first one of which it isn't.
+/// Checks messages against the digests by SHA-256 that they are given with, and answers the index
+/// of the first message of which the digest is another (`IsFirstMismatch`).
+///
+/// It finds damage, not forgery: whoever changes a message can give it the changed message's
+/// digest, which takes no key. So it serves where the digests come from someone who is trusted. And
+/// it compares them with `==`, which isn't constant in time: a tag that is made with a key is to be
+/// checked by other means.
 ///
 /// # Errors
 ///
-/// `Trouble::Closure` with the index of a message whose tag isn't its digest, before which each is.
-/// `Trouble::Fault` with `Fault::Memory` alone.
-pub fn verify_tags<Rt: Threads + Wait + Sync, P: Place, S: Strategy>(
+/// `Trouble::Closure` with the index of a message that has another digest, before which each has
+/// its own. `Trouble::Fault` with `Fault::Memory` alone.
+pub fn verify_digests<Rt: Threads + Wait + Sync, P: Place, S: Strategy>(
     rt: &Rt,
     alloc: Global,
     strategy: &S,
     site: P,
     messages: &[&[u8]],
-    tags: &[Digest],
+    digests: &[Digest],
 ) -> Result<Vec<()>, Trouble<usize>>
-    requires { length messages.now ≡ length tags.now }
-    ensures each { IfOk result (λ _. All HasItsTag (zip messages.now tags.now)) }
+    requires { length messages.now ≡ length digests.now }
+    ensures each { IfOk result (λ _. All HasItsDigest (zip messages.now digests.now)) }
     ensures first { IfErr result
-        (λ trouble. IfClosure trouble (IsFirstForged (zip messages.now tags.now))) }
+        (λ trouble. IfClosure trouble (IsFirstMismatch (zip messages.now digests.now))) }
     ensures fault { IsMemoryOnFault result }
 {
     let pairs = Zipped {
         left: Copies { slice: messages },
-        right: Copies { slice: tags },
+        right: Copies { slice: digests },
     };
     let check = |item: (usize, (&[u8], Digest))| -> Result<(), usize>
-        ensures { JudgesTag item.entry result }
+        ensures { JudgesDigest item.entry result }
     {
-        let (index, (message, tag)) = item;
-        if Sha256::digest(message) == tag {
+        let (index, (message, digest)) = item;
+        if Sha256::digest(message) == digest {
             Ok(())
         } else {
             Err(index)

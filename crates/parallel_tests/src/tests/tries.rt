@@ -11,7 +11,7 @@ use std::process::Abort;
 use std::sync::Wait;
 use std::sync::atomic::{AtomicU32, Ordering};
 use std::thread::Threads;
-use uses::verifier::{sum_within, verify_all, verify_tags};
+use uses::verifier::{sum_within, verify_all, verify_digests};
 
 // The numbers below 100, of which 57 and 99 fail, and `more` too.
 fn map_or_fail<Rt: Threads + Wait + Sync, S: Strategy>(
@@ -263,14 +263,14 @@ const OF_ABC: [u8; 32] = [
     23, 122, 156, 180, 16, 255, 97, 242, 0, 21, 173,
 ];
 
-// Three messages with their digests as tags, and four of which the third has another's.
-fn find_the_forged<Rt: Threads + Wait + Abort + Sync, S: Strategy>(
+// Three messages with their digests, and four of which the third has another's.
+fn find_the_mismatch<Rt: Threads + Wait + Abort + Sync, S: Strategy>(
     rt: &Rt,
     alloc: Global,
     strategy: &S,
 ) {
     let none: &[u8] = &[];
-    let checked = verify_tags(
+    let checked = verify_digests(
         rt,
         alloc,
         strategy,
@@ -279,7 +279,7 @@ fn find_the_forged<Rt: Threads + Wait + Abort + Sync, S: Strategy>(
         &[OF_NONE, OF_ABC, OF_NONE],
     );
     same(rt, checked.map(|_| ()), Ok(()));
-    let found = verify_tags(
+    let found = verify_digests(
         rt,
         alloc,
         strategy,
@@ -291,23 +291,23 @@ fn find_the_forged<Rt: Threads + Wait + Abort + Sync, S: Strategy>(
 }
 
 #[test]
-fn a_verifier_finds_the_first_forged_tag(rt: HostRuntime) {
-    find_the_forged(&rt, rt.alloc(), &Sequential);
+fn a_verifier_finds_the_first_mismatch(rt: HostRuntime) {
+    find_the_mismatch(&rt, rt.alloc(), &Sequential);
     for threads in [1usize, 4, 8] {
-        find_the_forged(&rt, rt.alloc(), &pool(&rt, rt.alloc(), threads, threads));
+        find_the_mismatch(&rt, rt.alloc(), &pool(&rt, rt.alloc(), threads, threads));
     }
 }
 
-// The index of the first of four messages whose tag isn't its own digest, if one is found.
-fn index_of_forged<Rt: Threads + Wait + Sync, S: Strategy>(
+// The index of the first of four messages whose digest is another's, if one is found.
+fn index_of_mismatch<Rt: Threads + Wait + Sync, S: Strategy>(
     rt: &Rt,
     alloc: Global,
     strategy: &S,
 ) -> Option<usize> {
     let none: &[u8] = &[];
     let messages = [none, b"abc", b"abd", none];
-    let tags = [OF_NONE, OF_ABC, OF_ABC, OF_ABC];
-    match verify_tags(rt, alloc, strategy, SITE, &messages, &tags) {
+    let digests = [OF_NONE, OF_ABC, OF_ABC, OF_ABC];
+    match verify_digests(rt, alloc, strategy, SITE, &messages, &digests) {
         Err(Trouble::Closure(index)) => Some(index),
         _ => None,
     }
@@ -329,8 +329,12 @@ fn index_of_odd<Rt: Threads + Wait + Sync, S: Strategy>(
 #[test]
 fn explorers_find_the_same_first_one(rt: HostRuntime) {
     let alloc = rt.alloc();
-    let forged = explore(&rt, alloc, |explorer| index_of_forged(&rt, alloc, explorer));
-    same(&rt, forged.expect(&rt, "memory"), Some(2));
+    let mismatch = explore(
+        &rt,
+        alloc,
+        |explorer| index_of_mismatch(&rt, alloc, explorer),
+    );
+    same(&rt, mismatch.expect(&rt, "memory"), Some(2));
     let odd = explore(&rt, alloc, |explorer| index_of_odd(&rt, alloc, explorer));
     same(&rt, odd.expect(&rt, "memory"), Some(2));
 }

@@ -1,16 +1,37 @@
-//! Roots and trees of leaves, through a strategy.
+//! Roots and levels of trees, through a strategy.
 ghost use Rattle.std.specs.Prelude.{◌≡◌, ◌*◌, ◌<◌, IfOk, length};
 ghost use Rattle.parallel_fault.specs.Trouble.{IsMemoryOnErr};
-ghost use Rattle.uses.specs.Merkle.{leaf_digest, leaf_digests, merkle_root, next_level, node_at, node_digest};
+ghost use Rattle.uses.specs.Merkle.{leaf_digest, leaf_digests, merkle_root, next_level, node_at, node_digest, tree_commitment};
 
-use crate::merkle::digest::{Digest, leaf_digest, node_digest};
+use crate::merkle::digest::{Digest, commitment_digest, leaf_digest, node_digest};
 use commonware_parallel::{Copies, Fault, Indices, Place, Strategy, merkle};
 use std::alloc::Global;
 use std::sync::Wait;
 use std::thread::Threads;
 
+/// The commitment to the tree over the leaves, of which no level but the one below the next is
+/// kept. It is what a proof is checked against, and what is published of a tree.
+///
+/// # Errors
+///
+/// `Fault::Memory` alone.
+pub fn commitment<Rt: Threads + Wait + Sync, P: Place, S: Strategy>(
+    rt: &Rt,
+    alloc: Global,
+    strategy: &S,
+    site: P,
+    leaves: &[&[u8]],
+) -> Result<Digest, Fault>
+    ensures commitment { IfOk result
+        (λ commitment. commitment ≡ tree_commitment (leaf_digests leaves.now)) }
+    ensures fault { IsMemoryOnErr result }
+{
+    let root = root(rt, alloc, strategy, site, leaves)?;
+    Ok(commitment_digest(leaves.len(), &root))
+}
+
 /// The root of the leaves, in which no level but the one below the next is kept; None where there
-/// is no leaf.
+/// is no leaf. It says nothing of how many leaves there are: what is published is `commitment`.
 ///
 /// # Errors
 ///

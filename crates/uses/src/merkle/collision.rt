@@ -1,9 +1,9 @@
-//! What a proof for another leaf than a tree has gives: two different inputs with one digest.
-ghost use Rattle.std.specs.Prelude.{◌≡◌, ◌≢◌, ℕ, ◌<◌, List, IfSome, IsSome, IsSomeAnd, MatchOption, Some, length};
+//! What a false claim that is accepted gives: two different inputs with one digest.
+ghost use Rattle.std.specs.Prelude.{◌≡◌, ◌≢◌, ℕ, ◌<◌, List, IfNone, IfSome, IsSomeAnd, MatchOption, Some, length};
 ghost use Rattle.uses.specs.Collisions.{IsCollision, NodesCollide, children_of};
-ghost use Rattle.uses.specs.Merkle.{Accepts, IsTree, climb, leaf_digest, levels_of, lowest, merkle_root, node_at, node_digest, one_up};
+ghost use Rattle.uses.specs.Merkle.{IsTree, climb, commitment, committed_bytes, leaf_digest, levels_of, lowest, merkle_root, node_at, node_digest, one_up};
 
-use crate::merkle::digest::Digest;
+use crate::merkle::digest::{Digest, commitment_digest, leaf_digest};
 use crate::merkle::proof::one_up;
 use crate::merkle::tree::{level_at, sibling};
 
@@ -16,6 +16,15 @@ pub struct Children {
     pub right: Digest,
 }
 
+/// What a commitment is to: a number of leaves and a root.
+#[derive(Clone, Copy, Debug, PartialEq, Eq)]
+pub struct Committed {
+    /// The number of leaves.
+    pub count: usize,
+    /// The root, and None where there is no leaf.
+    pub root: Option<Digest>,
+}
+
 /// Two different inputs with one digest.
 #[derive(Clone, Copy, Debug, PartialEq, Eq)]
 pub enum Collision<'a> {
@@ -23,6 +32,36 @@ pub enum Collision<'a> {
     Leaves(&'a [u8], &'a [u8]),
     /// The nodes below an inner node, and the nodes below another.
     Nodes(Children, Children),
+    /// A tree's number of leaves and its root, and others with the same commitment.
+    Commitments(Committed, Committed),
+}
+
+// Two leaves that collide, where they differ and have one digest.
+pub(crate) fn colliding_leaves<'a>(own: &'a [u8], leaf: &'a [u8]) -> Option<Collision<'a>>
+    ensures collision { IfSome result IsCollision }
+    ensures found { leaf_digest leaf.now ≡ leaf_digest own.now
+        → IfNone result (leaf.now ≡ own.now) }
+{
+    if own != leaf && leaf_digest(own) == leaf_digest(leaf) {
+        Some(Collision::Leaves(own, leaf))
+    } else {
+        None
+    }
+}
+
+// Two trees' commitments that collide, where what is hashed of the trees differs.
+pub(crate) fn colliding_commitments<'a>(own: Committed, other: Committed) -> Option<Collision<'a>>
+    requires { committed_bytes own.count own.root ≢ committed_bytes other.count other.root }
+    ensures collision { IfSome result IsCollision }
+    ensures found { IfNone result
+        (commitment other.count other.root ≢ commitment own.count own.root) }
+{
+    let digest = commitment_digest(own.count, &own.root);
+    if digest == commitment_digest(other.count, &other.root) {
+        Some(Collision::Commitments(own, other))
+    } else {
+        None
+    }
 }
 
 // Two pairs of nodes that collide, where the steps lead from another node than the tree has at the

@@ -1,32 +1,42 @@
 //! The check of a proof that a leaf stands at an index.
-ghost use Rattle.std.specs.Prelude.{◌≡◌, ◌<◌, ◌↔◌, IsTrue};
-ghost use Rattle.uses.specs.Merkle.{Accepts, climb, has_sibling, joined, node_digest, one_up};
+ghost use Rattle.std.specs.Prelude.{◌≡◌, ◌<◌, ◌↔◌, IsTrue, Some};
+ghost use Rattle.uses.specs.Merkle.{Accepts, climb, commitment, has_sibling, joined, leaf_digest, node_digest, one_up};
 
-use crate::merkle::digest::{Digest, leaf_digest, node_digest};
+use crate::merkle::digest::{Digest, commitment_digest, leaf_digest, node_digest};
 
 /// Whether a proof shows that the leaf stands at the index of a tree of `count` leaves that has the
-/// root. The proof has a step for each level below the root: the node's sibling there, and None
-/// where the node is an odd last one, which goes up unchanged.
+/// commitment (`Accepts`). The proof has a step for each level below the root: the node's sibling
+/// there, and None where the node is an odd last one, which goes up unchanged.
+///
+/// Whatever count, index, leaf and proof a stranger hands in: what is accepted is the tree's own
+/// leaf at that index and the number of its leaves, or two different inputs with one digest are at
+/// hand (`Tree::collision`). Digests are compared with `==`, which isn't constant in time; none of
+/// them is a secret here.
 pub fn is_member(
-    root: &Digest,
+    commitment: &Digest,
     count: usize,
     index: usize,
     leaf: &[u8],
     proof: &[Option<Digest>],
 ) -> bool
-    ensures { IsTrue result ↔ Accepts root.now count index leaf.now proof.now }
+    ensures { IsTrue result ↔ Accepts commitment.now count index leaf.now proof.now }
 {
     if count <= index {
         return false;
     }
     match climb(count, index, leaf_digest(leaf), proof) {
-        Some(reached) => reached == *root,
+        Some(root) => commitment_digest(count, &Some(root)) == *commitment,
         None => false,
     }
 }
 
-// Where the steps lead from a node of a level of `count` nodes.
-fn climb(count: usize, index: usize, own: Digest, steps: &[Option<Digest>]) -> Option<Digest>
+/// Where the steps lead from a node of a level of `count` nodes.
+pub(crate) fn climb(
+    count: usize,
+    index: usize,
+    own: Digest,
+    steps: &[Option<Digest>],
+) -> Option<Digest>
     requires { index < count }
     ensures { result ≡ climb node_digest count index own steps.now }
 {

@@ -1,13 +1,15 @@
 //! The levels of a tree, and the proofs that they give.
-ghost use Rattle.std.specs.Prelude.{◌≡◌, ◌≢◌, ℕ, ◌<◌, ◌≤◌, ◌/◌, List, IfOk, IfSome, IsSome, IsTrue, ◌↔◌, Some, length};
+ghost use Rattle.std.specs.Prelude.{◌≡◌, ℕ, ◌<◌, ◌≤◌, ◌/◌, List, IfNone, IfOk, IfSome, IsTrue, ◌↔◌, Some, length};
 ghost use Rattle.parallel_fault.specs.Trouble.{IsMemoryOnErr};
 ghost use Rattle.uses.specs.Collisions.{IsCollision};
-ghost use Rattle.uses.specs.Merkle.{Accepts, IfAccepted, IsTree, climb, leaf_digest, leaf_digests, level_above, levels_of, lowest, merkle_root, next_level, node_at, node_digest, one_up};
+ghost use Rattle.uses.specs.Merkle.{Accepts, IsLeafAt, IsTree, climb, leaf_digest, leaf_digests, level_above, levels_of, lowest, merkle_root, next_level, node_at, node_digest, one_up, tree_commitment};
 
 use crate::merkle::build::{leaf_digests, next_level};
-use crate::merkle::collision::{Collision, colliding_nodes};
-use crate::merkle::digest::{Digest, leaf_digest};
-use crate::merkle::proof::has_sibling;
+use crate::merkle::collision::{
+    Collision, Committed, colliding_commitments, colliding_leaves, colliding_nodes,
+};
+use crate::merkle::digest::{Digest, commitment_digest, leaf_digest};
+use crate::merkle::proof::{climb, has_sibling};
 use commonware_parallel::{Fault, Place, Strategy};
 use std::alloc::Global;
 use std::marker::Model;
@@ -91,7 +93,16 @@ impl Tree {
         is_at(lowest_of(&self.levels), index, &leaf_digest(leaf))
     }
 
-    /// The tree's root, and None where it has no leaf.
+    /// The tree's commitment, to the number of its leaves and to its root: what is published of it,
+    /// and what a proof is checked against.
+    pub fn commitment(&self) -> Digest
+        ensures { result ≡ tree_commitment self.now }
+    {
+        commitment_digest(self.leaf_count(), &self.root())
+    }
+
+    /// The tree's root, and None where it has no leaf. It says nothing of how many leaves there
+    /// are, so it isn't what is published.
     pub fn root(&self) -> Option<Digest>
         ensures { result ≡ merkle_root node_digest self.now }
     {
@@ -106,38 +117,48 @@ impl Tree {
     /// `Fault::Memory` alone.
     pub fn proof(&self, alloc: Global, index: usize) -> Result<Vec<Option<Digest>>, Fault>
         requires { index < length self.now }
-        ensures accepted { IfOk result (λ proof. (leaf root : List ℕ)
+        ensures accepted { IfOk result (λ proof. (leaf : List ℕ)
             → leaf_digest leaf ≡ node_at self.now index
-            → merkle_root node_digest self.now ≡ Some root
-            → Accepts root (length self.now) index leaf proof.items) }
+            → Accepts (tree_commitment self.now) (length self.now) index leaf proof.items) }
         ensures fault { IsMemoryOnErr result }
     {
         proof_in(alloc, &self.levels, index)
     }
 
-    /// Two different inputs with one digest, where a proof for another leaf than the tree has at
-    /// the index is accepted; None where the leaf isn't the tree's, the other one is the same, or
-    /// the proof isn't accepted. So whoever forges a proof has found a collision of the hash.
+    /// Two different inputs with one digest, where a claim is accepted against the tree's
+    /// commitment and isn't true of the tree. The claim is that the leaf stands at the index of
+    /// `count` leaves, and `own` is the tree's leaf there, where the caller has it. None where the
+    /// claim isn't accepted, and where it is true: the tree has so many leaves, and the leaf at the
+    /// index, by its digest and, with `own`, by its bytes (`IsLeafAt`). So whoever gets any other
+    /// claim accepted has found a collision of the hash.
     pub fn collision<'a>(
         &self,
+        count: usize,
         index: usize,
         leaf: &'a [u8],
-        other: &'a [u8],
         proof: &[Option<Digest>],
+        own: Option<&'a [u8]>,
     ) -> Option<Collision<'a>>
         ensures collision { IfSome result IsCollision }
-        ensures found { index < length self.now → leaf_digest leaf.now ≡ node_at self.now index
-            → leaf.now ≢ other.now
-            → IfAccepted self.now index other.now proof.now (IsSome result) }
+        ensures found { Accepts (tree_commitment self.now) count index leaf.now proof.now
+            → IfNone result ((count ≡ length self.now)
+            × IsLeafAt self.now index own.entry leaf.now) }
     {
-        if !self.has_leaf(index, leaf) || leaf == other {
+        if count <= index {
             return None;
         }
-        let digest = leaf_digest(other);
-        if digest == leaf_digest(leaf) {
-            return Some(Collision::Leaves(leaf, other));
+        let root = Some(climb(count, index, leaf_digest(leaf), proof)?);
+        let tree = Committed {
+            count: self.leaf_count(),
+            root: self.root(),
+        };
+        if count != tree.count || root != tree.root {
+            return colliding_commitments(tree, Committed { count, root });
         }
-        let (first, second) = colliding_nodes(&self.levels, index, digest, proof)?;
+        if self.has_leaf(index, leaf) {
+            return colliding_leaves(own?, leaf);
+        }
+        let (first, second) = colliding_nodes(&self.levels, index, leaf_digest(leaf), proof)?;
         Some(Collision::Nodes(first, second))
     }
 }
