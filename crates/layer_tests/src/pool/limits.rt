@@ -123,6 +123,23 @@ enum Comes {
     OnceAnnounced,
 }
 
+// The one or the other idle worker.
+fn idles<R: Wait>(
+    rt: &R,
+    sleep: &Sleep,
+    parker: &Parker,
+    latch: &CoreLatch,
+    seat: LatchSeat,
+    comes: Comes,
+) -> bool
+    requires { IsLatchSeatOf latch.now seat }
+{
+    match comes {
+        Comes::Always => idle_with_a_job(rt, sleep, parker, latch, seat),
+        Comes::OnceAnnounced => idle_before_a_job(rt, sleep, parker, latch, seat),
+    }
+}
+
 // Whether a worker of its own thread stays awake, for ten seconds at most.
 fn stays_awake<R: Threads + Wait + Abort + Clock + Copy + Send + 'static>(
     rt: &R,
@@ -135,11 +152,9 @@ fn stays_awake<R: Threads + Wait + Abort + Clock + Copy + Send + 'static>(
     let (latch, seat) = core_latch(rt, alloc);
     let own = *rt;
     let worker = thread::spawn(rt, move || {
-        let is_awake = match comes {
-            Comes::Always => idle_with_a_job(&own, &sleep, &parker, &latch, seat),
-            Comes::OnceAnnounced => idle_before_a_job(&own, &sleep, &parker, &latch, seat),
-        };
-        flag.store(if is_awake { 1 } else { 2 }, Ordering::SeqCst);
+        if idles(&own, &sleep, &parker, &latch, seat, comes) {
+            flag.store(1, Ordering::SeqCst);
+        }
     })
     .expect(rt, "memory");
     let is_awake = becomes(rt, &awake, 1);
