@@ -1,7 +1,7 @@
 //! Pieces of slices, lists pair by pair, items with their indices, and iterators that know their
 //! number: what comes, whole and cut.
 use crate::bridge::number;
-use crate::same::{row, same};
+use crate::same::{lists, row, same};
 use parallel_bridge::chunks::Chunks;
 use parallel_bridge::counted::Counted;
 use parallel_bridge::enumerated::Enumerated;
@@ -9,6 +9,23 @@ use parallel_bridge::list::map::map_parallel;
 use parallel_bridge::parts::{Parts, ProducerParts};
 use parallel_bridge::producer::{Copies, Indices, Producer};
 use parallel_bridge::zipped::Zipped;
+use std::alloc::Global;
+use std::fmt::Debug;
+use std::process::Abort;
+use std::thread::Threads;
+
+// The answers for the items of a list, on so many threads, are these.
+fn comes<
+    Rt: Threads + Sync + Abort,
+    P: Parts,
+    T: PartialEq + Debug + Send + Drop,
+    F: Fn(P::Item) -> T + Send + Sync,
+>(rt: &Rt, alloc: Global, threads: usize, parts: P, answer: &F, wanted: &[T])
+    requires accepts { (x : P.Item) → P.may parts x → F.pre answer.now x }
+{
+    let answers = map_parallel(rt, alloc, number(rt, threads), parts, answer);
+    lists(rt, threads, answers, wanted);
+}
 
 // A piece's first item, and how many it has.
 fn first_and_len(piece: &[u8]) -> (u8, usize) {
@@ -20,64 +37,49 @@ fn first_and_len(piece: &[u8]) -> (u8, usize) {
 
 #[test]
 fn a_slice_comes_in_pieces_the_last_one_short(rt: HostRuntime) {
-    let alloc = rt.alloc();
-    let items = [1u8, 2, 3, 4, 5, 6, 7, 8, 9, 10, 11];
+    let slice = [1u8, 2, 3, 4, 5, 6, 7, 8, 9, 10, 11];
+    let wanted = [(1, 3), (4, 3), (7, 3), (10, 2)];
     for threads in [1, 2, 4] {
         let list = Chunks {
-            slice: &items,
+            slice: &slice,
             size: number(&rt, 3),
         };
-        let seen = map_parallel(
-            &rt,
-            alloc,
-            number(&rt, threads),
-            ProducerParts { list },
-            &first_and_len,
-        )
-        .expect(&rt, "memory");
-        let wanted = [(1, 3), (4, 3), (7, 3), (10, 2)];
-        row(&rt, threads, seen.as_slice(), wanted.as_slice());
+        let parts = ProducerParts { list };
+        comes(&rt, rt.alloc(), threads, parts, &first_and_len, &wanted);
     }
 }
 
 #[test]
 fn pieces_are_counted(rt: HostRuntime) {
     let items = [1u8, 2, 3, 4, 5, 6, 7];
-    for (size, count) in [(1, 7), (3, 3), (7, 1), (usize::MAX, 1)] {
+    for (len, size, count) in [
+        (7, 1, 7),
+        (7, 3, 3),
+        (7, 7, 1),
+        (7, usize::MAX, 1),
+        (0, 3, 0),
+    ] {
         let pieces = Chunks {
-            slice: &items,
+            slice: items.get(..len).unwrap_or(&[]),
             size: number(&rt, size),
         };
         row(&rt, size, pieces.len(), count);
     }
-    let none = Chunks {
-        slice: &items[..0],
-        size: number(&rt, 3),
-    };
-    same(&rt, none.len(), 0);
+}
+
+fn sum_of_two(pair: (&u32, u32)) -> u32 {
+    pair.0.wrapping_add(pair.1)
 }
 
 #[test]
 fn lists_come_pair_by_pair(rt: HostRuntime) {
-    let alloc = rt.alloc();
     let left = [1u32, 2, 3, 4, 5, 6, 7];
     let right = [10u32, 20, 30, 40, 50];
+    let wanted = [11, 22, 33, 44, 55];
     for threads in [1, 2, 4] {
         let list = Zipped::new(left.as_slice(), Copies { slice: &right });
-        let sums = map_parallel(
-            &rt,
-            alloc,
-            number(&rt, threads),
-            ProducerParts { list },
-            &|pair: (&u32, u32)| pair.0.wrapping_add(pair.1),
-        )
-        .expect(&rt, "memory");
-        row(
-            &rt,
-            threads,
-            sums.as_slice(),
-            [11, 22, 33, 44, 55].as_slice(),
-        );
+        let parts = ProducerParts { list };
+        comes(&rt, rt.alloc(), threads, parts, &sum_of_two, &wanted);
     }
 }
 
@@ -88,49 +90,39 @@ fn pairs_end_with_the_lists(rt: HostRuntime) {
     same(&rt, pairs.len(), 2);
     let mut items = Producer::into_items(pairs);
     same(&rt, items.size_hint(), (2, Some(2)));
-    same(&rt, items.next(), Some((1, 7)));
-    same(&rt, items.next(), Some((2, 8)));
-    same(&rt, items.next(), None);
+    for wanted in [Some((1, 7)), Some((2, 8)), None] {
+        same(&rt, items.next(), wanted);
+    }
+}
+
+const LETTERS: [u8; 5] = [b'a', b'b', b'c', b'd', b'e'];
+
+// The number and the letter themselves.
+fn itself(item: (usize, u8)) -> (usize, u8) {
+    item
 }
 
 #[test]
 fn items_come_with_their_indices_in_the_whole_list(rt: HostRuntime) {
-    let alloc = rt.alloc();
-    let letters = [b'a', b'b', b'c', b'd', b'e'];
+    let slice = LETTERS;
+    let wanted = [(0, b'a'), (1, b'b'), (2, b'c'), (3, b'd'), (4, b'e')];
     for threads in [1, 2, 4] {
-        let list = Enumerated::new(Copies { slice: &letters });
-        let seen = map_parallel(
-            &rt,
-            alloc,
-            number(&rt, threads),
-            ProducerParts { list },
-            &|item: (usize, u8)| item,
-        )
-        .expect(&rt, "memory");
-        let wanted = [(0, b'a'), (1, b'b'), (2, b'c'), (3, b'd'), (4, b'e')];
-        row(&rt, threads, seen.as_slice(), wanted.as_slice());
+        let list = Enumerated::new(Copies { slice: &slice });
+        let parts = ProducerParts { list };
+        comes(&rt, rt.alloc(), threads, parts, &itself, &wanted);
     }
 }
 
 #[test]
 fn iterators_that_know_their_number_come_whole_and_cut(rt: HostRuntime) {
-    let alloc = rt.alloc();
-    let letters = [b'a', b'b', b'c', b'd', b'e'];
+    let slice = LETTERS;
+    let wanted = [(3, b'a'), (4, b'b'), (5, b'c'), (6, b'd'), (7, b'e')];
     for threads in [1, 2, 4] {
         let list = Counted {
-            iter: letters.iter().copied().zip(3..9usize),
+            iter: (3..9usize).zip(slice.iter().copied()),
         };
         row(&rt, threads, Parts::len(&list), 5);
-        let seen = map_parallel(
-            &rt,
-            alloc,
-            number(&rt, threads),
-            list,
-            &|item: (u8, usize)| item,
-        )
-        .expect(&rt, "memory");
-        let wanted = [(b'a', 3), (b'b', 4), (b'c', 5), (b'd', 6), (b'e', 7)];
-        row(&rt, threads, seen.as_slice(), wanted.as_slice());
+        comes(&rt, rt.alloc(), threads, list, &itself, &wanted);
     }
 }
 
@@ -144,6 +136,13 @@ fn an_iterator_that_knows_its_number_says_what_is_left(rt: HostRuntime) {
         row(&rt, left, Parts::len(&list), left);
         list.iter.next();
     }
-    same(&rt, Parts::len(&Counted { iter: 5..5usize }), 0);
-    same(&rt, Parts::len(&Counted { iter: 9..5usize }), 0);
+    for start in [5, 9] {
+        same(
+            &rt,
+            Parts::len(&Counted {
+                iter: start..5usize,
+            }),
+            0,
+        );
+    }
 }

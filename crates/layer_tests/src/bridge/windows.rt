@@ -23,6 +23,13 @@ pub(crate) struct Counts {
     gone: AtomicU64,
 }
 
+impl Counts {
+    // How many were made.
+    pub(crate) fn made(&self) -> u64 {
+        self.made.load(Ordering::SeqCst)
+    }
+}
+
 pub(crate) struct Counted<'a> {
     counts: &'a Counts,
     pub(crate) place: usize,
@@ -65,6 +72,19 @@ pub(crate) fn all_gone_but(counts: &Counts, left: usize) -> bool {
     gone.wrapping_add(left as u64) == counts.made.load(Ordering::SeqCst)
 }
 
+// The place of an item that is there.
+fn place_of(item: Option<&Counted<'_>>) -> Option<usize> {
+    match item {
+        Some(item) => Some(item.place),
+        None => None,
+    }
+}
+
+// The same of one that was taken, and is let go.
+fn place_taken(item: Option<Counted<'_>>) -> Option<usize> {
+    place_of(item.as_ref())
+}
+
 // Maps that many counted items on that many threads. Memory may be refused.
 fn map_counted<R: Threads + Sync + Abort>(rt: &R, alloc: Global, threads: usize, len: usize) {
     let counts = no_counts();
@@ -75,11 +95,7 @@ fn map_counted<R: Threads + Sync + Abort>(rt: &R, alloc: Global, threads: usize,
     if let Ok(answers) = map_parallel(rt, alloc, number(rt, threads), parts, &answer) {
         same(rt, answers.len(), count);
         for place in 0..count {
-            same(
-                rt,
-                answers.get(place).map(|answer| answer.place),
-                Some(place),
-            );
+            same(rt, place_of(answers.get(place)), Some(place));
         }
         assert!(rt; all_gone_but(&counts, count));
     }
@@ -131,12 +147,12 @@ fn drain_counted<R: Abort>(rt: &R, alloc: Global, len: usize, front: usize, back
     let count = items.len();
     let mut drain = DrainProducer::from_vec(items).drain();
     for place in 0..front.min(count) {
-        same(rt, drain.next().map(|item| item.place), Some(place));
+        same(rt, place_taken(drain.next()), Some(place));
     }
     let left = drain.len();
     for taken in 0..back.min(left) {
         let place = count.wrapping_sub(taken).wrapping_sub(1);
-        same(rt, drain.next_back().map(|item| item.place), Some(place));
+        same(rt, place_taken(drain.next_back()), Some(place));
     }
     assert!(rt; all_gone_but(&counts, drain.len()));
     drop(drain);
@@ -205,7 +221,7 @@ fn pair_counted<R: Threads + Sync + Abort>(rt: &R, alloc: Global, threads: usize
     } else {
         None
     };
-    same(rt, odd.as_ref().map(|item| item.place), last);
+    same(rt, place_of(odd.as_ref()), last);
     let places = |pair: (Counted<'_>, Counted<'_>)| (pair.0.place, pair.1.place);
     if let Ok(answers) = map_parallel(rt, alloc, number(rt, threads), pairs, &places) {
         same(rt, answers.len(), count / 2);
@@ -267,7 +283,9 @@ fn values_of_size_zero_are_mapped_in_order(rt: HostRuntime) {
         &rt, "memory",
     );
     row(&rt, 2, ones.len(), 5000);
-    assert!(rt; ones.iter().all(|one| *one == 1));
+    for one in &ones {
+        same(&rt, *one, 1);
+    }
 }
 
 #[test]

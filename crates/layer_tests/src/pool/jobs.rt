@@ -1,16 +1,13 @@
 //! Queues of numbered jobs: which job comes next, and a refused push.
 ghost use Rattle.std.specs.Prelude.{◌≡◌, ◌<◌, length, vec_len};
 
-use crate::pool::pools::becomes;
-use crate::same::{row, same};
-use parallel_pool::rayon::{
-    BroadcastContext, JobDeque, JobQueues, JobSeat, OwnedJob, Queue, ThreadPool,
-};
+use crate::pool::tally::{Act, becomes, empty_tally, job, read};
+use crate::same::{lists, row, same};
+use parallel_pool::rayon::{BroadcastContext, JobDeque, JobQueues, JobSeat, Queue, ThreadPool};
 use std::alloc::Global;
 use std::collections::VecDeque;
 use std::num::NonZeroUsize;
 use std::process::Abort;
-use std::sync::Arc;
 use std::sync::atomic::{AtomicU64, Ordering};
 
 // The queues of two workers, the seat of one thread and the first worker's deque.
@@ -67,19 +64,15 @@ fn each_worker_gets_the_job_of_its_own(rt: HostRuntime) {
 
 #[test]
 fn an_owned_job_is_called_with_the_index_of_its_worker(rt: HostRuntime) {
-    let called = Arc::new(rt.alloc(), AtomicU64::new(0)).expect(&rt, "memory");
-    let theirs = Arc::try_clone(&called).expect(&rt, "memory");
-    let job = OwnedJob::new(Box::new(rt.alloc(), move |index: usize| {
-        theirs.store(index as u64, Ordering::SeqCst);
-    })
-    .expect(&rt, "memory"));
+    let tally = empty_tally(&rt, rt.alloc());
+    let job = job(&rt, rt.alloc(), &tally, Act::AddsAt(7));
     let (queues, _owned) = JobQueues::new(rt.alloc(), NonZeroUsize::MIN).expect(&rt, "memory");
     let mut seat = queues.seat(rt.alloc()).expect(&rt, "memory");
     assert!(rt; seat.push(&rt, Queue::Injected, job).is_ok());
     if let Some(job) = seat.take(&rt, Queue::Injected) {
         job.call(7);
     }
-    same(&rt, called.load(Ordering::SeqCst), 7);
+    same(&rt, read(&tally.called), 1);
 }
 
 fn ten_times_the_index(context: BroadcastContext) -> u64 {
@@ -93,29 +86,23 @@ fn threads_of(context: BroadcastContext) -> usize {
 #[test]
 fn a_broadcast_answers_for_each_thread(rt: HostRuntime) {
     let pool = ThreadPool::new(NonZeroUsize::MIN.saturating_add(3));
-    let answers = pool
-        .broadcast(&rt, rt.alloc(), &ten_times_the_index)
-        .expect(&rt, "memory");
-    same(&rt, answers.as_slice(), [0, 10, 20, 30].as_slice());
-    let counts = pool
-        .broadcast(&rt, rt.alloc(), &threads_of)
-        .expect(&rt, "memory");
-    same(&rt, counts.as_slice(), [4, 4, 4, 4].as_slice());
+    let answers = pool.broadcast(&rt, rt.alloc(), &ten_times_the_index);
+    lists(&rt, "indices", answers, &[0, 10, 20, 30]);
+    let counts = pool.broadcast(&rt, rt.alloc(), &threads_of);
+    lists(&rt, "threads", counts, &[4, 4, 4, 4]);
 }
 
 #[test]
 fn the_calls_of_a_broadcast_see_each_other(rt: HostRuntime) {
     let pool = ThreadPool::new(NonZeroUsize::MIN.saturating_add(2));
     let begun = AtomicU64::new(0);
-    let seen = pool
-        .broadcast(
-            &rt,
-            rt.alloc(),
-            &|_context| {
-                begun.fetch_add(1, Ordering::SeqCst);
-                becomes(&rt, &begun, 3)
-            },
-        )
-        .expect(&rt, "memory");
-    same(&rt, seen.as_slice(), [true, true, true].as_slice());
+    let seen = pool.broadcast(
+        &rt,
+        rt.alloc(),
+        &|_context| {
+            begun.fetch_add(1, Ordering::SeqCst);
+            becomes(&rt, &begun, 3)
+        },
+    );
+    lists(&rt, "seen", seen, &[true, true, true]);
 }

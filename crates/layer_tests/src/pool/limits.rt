@@ -3,33 +3,29 @@ ghost use Rattle.std.specs.Prelude.{◌≡◌, All};
 ghost use Rattle.parallel_pool.specs.Latch.{IsLatchSeatOf};
 
 use crate::pool::latches::core_latch;
-use crate::pool::pools::becomes;
-use crate::pool::threads::give_all;
+use crate::pool::tally::{awaits, becomes, built, let_it_sleep};
+use crate::pool::waits::{give_all, one_sleep};
 use crate::same::{row, same};
 use crossbeam_utils::sync::Parker;
 use parallel_pool::latch::{CoreLatch, CountLatch, LatchSeat, LockLatch};
 use parallel_pool::rayon::ThreadPoolBuilder;
 use parallel_pool::sleep::Sleep;
+use std::alloc::Global;
 use std::num::NonZeroUsize;
+use std::process::Abort;
 use std::sync::atomic::{AtomicU64, Ordering};
 use std::sync::{Arc, Wait};
-use std::thread;
-use std::time::{Clock, Duration};
+use std::thread::{self, Threads};
+use std::time::Clock;
 
-// By then a thread that was started sleeps where it is to wait.
-fn let_it_sleep(rt: &impl Clock) {
-    thread::sleep(rt, Duration::from_millis(30));
+// A word that is zero.
+fn word(rt: &impl Abort, alloc: Global) -> Arc<AtomicU64> {
+    Arc::new(alloc, AtomicU64::new(0)).expect(rt, "memory")
 }
 
-// Whether a flag is raised within ten seconds.
-fn is_raised(rt: &impl Clock, flag: &AtomicU64) -> bool {
-    for _ in 0..10_000 {
-        if flag.load(Ordering::SeqCst) == 1 {
-            return true;
-        }
-        thread::sleep(rt, Duration::from_millis(1));
-    }
-    false
+// Another handle of it.
+fn handle<T>(rt: &impl Abort, one: &Arc<T>) -> Arc<T> {
+    Arc::try_clone(one).expect(rt, "a handle")
 }
 
 #[test]
@@ -37,11 +33,8 @@ fn the_last_give_wakes_who_sleeps(rt: HostRuntime) {
     let two = NonZeroUsize::MIN.saturating_add(1);
     let (latch, shares) = CountLatch::with_count(rt.alloc(), two).expect(&rt, "memory");
     let latch = Arc::new(rt.alloc(), latch).expect(&rt, "memory");
-    let passed = Arc::new(rt.alloc(), AtomicU64::new(0)).expect(&rt, "memory");
-    let (theirs, flag) = (
-        Arc::try_clone(&latch).expect(&rt, "memory"),
-        Arc::try_clone(&passed).expect(&rt, "memory"),
-    );
+    let passed = word(&rt, rt.alloc());
+    let (theirs, flag) = (handle(&rt, &latch), handle(&rt, &passed));
     let waiter = thread::spawn(&rt, move || {
         theirs.wait(&rt);
         flag.store(1, Ordering::SeqCst);
@@ -50,7 +43,7 @@ fn the_last_give_wakes_who_sleeps(rt: HostRuntime) {
     let_it_sleep(&rt);
     same(&rt, passed.load(Ordering::SeqCst), 0);
     same(&rt, give_all(&latch, shares), 1);
-    assert!(rt; is_raised(&rt, &passed));
+    awaits(&rt, &passed, 1, "the waiter is woken");
     waiter.join(&rt);
 }
 
@@ -59,12 +52,9 @@ fn a_lock_latch_is_reset_and_wakes_who_sleeps(rt: HostRuntime) {
     let latch = Arc::new(rt.alloc(), LockLatch::new()).expect(&rt, "memory");
     latch.set(&rt);
     latch.wait_and_reset(&rt);
-    let passed = Arc::new(rt.alloc(), AtomicU64::new(0)).expect(&rt, "memory");
+    let passed = word(&rt, rt.alloc());
     for _ in 0..2 {
-        let (theirs, count) = (
-            Arc::try_clone(&latch).expect(&rt, "memory"),
-            Arc::try_clone(&passed).expect(&rt, "memory"),
-        );
+        let (theirs, count) = (handle(&rt, &latch), handle(&rt, &passed));
         thread::spawn(&rt, move || {
             theirs.wait(&rt);
             count.fetch_add(1, Ordering::SeqCst);
@@ -74,7 +64,7 @@ fn a_lock_latch_is_reset_and_wakes_who_sleeps(rt: HostRuntime) {
     let_it_sleep(&rt);
     row(&rt, "the latch was reset", passed.load(Ordering::SeqCst), 0);
     latch.set(&rt);
-    assert!(rt; becomes(&rt, &passed, 2), "both waiters are woken");
+    awaits(&rt, &passed, 2, "both waiters are woken");
 }
 
 // An idle worker for which a job is always there, until it has tried to sleep. It answers whether
@@ -97,25 +87,8 @@ fn idle_with_a_job<R: Wait>(
     idle.rounds() == 0 && latch.get_sleepy(&mut seat)
 }
 
-#[test]
-fn a_worker_asks_for_jobs_before_it_sleeps(rt: HostRuntime) {
-    let awake = Arc::new(rt.alloc(), AtomicU64::new(0)).expect(&rt, "memory");
-    let flag = Arc::try_clone(&awake).expect(&rt, "memory");
-    let (sleep, mut parkers) = Sleep::new(rt.alloc(), NonZeroUsize::MIN).expect(&rt, "memory");
-    let parker = parkers.pop().expect(&rt, "a parker");
-    let (latch, seat) = core_latch(&rt, rt.alloc());
-    let worker = thread::spawn(&rt, move || {
-        if idle_with_a_job(&rt, &sleep, &parker, &latch, seat) {
-            flag.store(1, Ordering::SeqCst);
-        }
-    })
-    .expect(&rt, "memory");
-    assert!(rt; is_raised(&rt, &awake));
-    worker.join(&rt);
-}
-
 // What a worker is told that asks whether jobs were injected.
-fn no_jobs() -> bool {
+pub(crate) fn no_jobs() -> bool {
     false
 }
 
@@ -143,36 +116,74 @@ fn idle_before_a_job<R: Wait>(
     is_back && idle.recorded() == Some(2) && sleep.counters(rt).events() == 2
 }
 
-#[test]
-fn a_job_behind_its_announcement_keeps_a_worker_awake(rt: HostRuntime) {
-    let awake = Arc::new(rt.alloc(), AtomicU64::new(0)).expect(&rt, "memory");
-    let flag = Arc::try_clone(&awake).expect(&rt, "memory");
-    let (sleep, mut parkers) = Sleep::new(rt.alloc(), NonZeroUsize::MIN).expect(&rt, "memory");
-    let parker = parkers.pop().expect(&rt, "a parker");
-    let (latch, seat) = core_latch(&rt, rt.alloc());
-    let worker = thread::spawn(&rt, move || {
-        if idle_before_a_job(&rt, &sleep, &parker, &latch, seat) {
+// When a job is there for an idle worker.
+#[derive(Clone, Copy)]
+enum Comes {
+    Always,
+    OnceAnnounced,
+}
+
+// The one or the other idle worker.
+fn idles<R: Wait>(
+    rt: &R,
+    sleep: &Sleep,
+    parker: &Parker,
+    latch: &CoreLatch,
+    seat: LatchSeat,
+    comes: Comes,
+) -> bool
+    requires { IsLatchSeatOf latch.now seat }
+{
+    match comes {
+        Comes::Always => idle_with_a_job(rt, sleep, parker, latch, seat),
+        Comes::OnceAnnounced => idle_before_a_job(rt, sleep, parker, latch, seat),
+    }
+}
+
+// Whether a worker of its own thread stays awake, for ten seconds at most.
+fn stays_awake<R: Threads + Wait + Abort + Clock + Copy + Send + 'static>(
+    rt: &R,
+    alloc: Global,
+    comes: Comes,
+) -> bool {
+    let awake = word(rt, alloc);
+    let flag = handle(rt, &awake);
+    let (sleep, parker) = one_sleep(rt, alloc);
+    let (latch, seat) = core_latch(rt, alloc);
+    let own = *rt;
+    let worker = thread::spawn(rt, move || {
+        if idles(&own, &sleep, &parker, &latch, seat, comes) {
             flag.store(1, Ordering::SeqCst);
         }
     })
-    .expect(&rt, "memory");
-    assert!(rt; is_raised(&rt, &awake));
-    worker.join(&rt);
+    .expect(rt, "memory");
+    let is_awake = becomes(rt, &awake, 1);
+    if is_awake {
+        worker.join(rt);
+    }
+    is_awake
+}
+
+#[test]
+fn a_worker_asks_for_jobs_before_it_sleeps(rt: HostRuntime) {
+    assert!(rt; stays_awake(&rt, rt.alloc(), Comes::Always));
+}
+
+#[test]
+fn a_job_behind_its_announcement_keeps_a_worker_awake(rt: HostRuntime) {
+    assert!(rt; stays_awake(&rt, rt.alloc(), Comes::OnceAnnounced));
 }
 
 #[test]
 fn a_pool_without_jobs_is_closed(rt: HostRuntime) {
-    let passed = Arc::new(rt.alloc(), AtomicU64::new(0)).expect(&rt, "memory");
-    let flag = Arc::try_clone(&passed).expect(&rt, "memory");
-    let (pool, _none) = ThreadPoolBuilder::new()
-        .num_threads(2)
-        .build(&rt, rt.alloc())
-        .expect(&rt, "a pool");
+    let passed = word(&rt, rt.alloc());
+    let flag = handle(&rt, &passed);
+    let pool = built(&rt, rt.alloc(), ThreadPoolBuilder::new().num_threads(2));
     let closer = thread::spawn(&rt, move || {
         pool.close(&rt);
         flag.store(1, Ordering::SeqCst);
     })
     .expect(&rt, "memory");
-    assert!(rt; is_raised(&rt, &passed));
+    awaits(&rt, &passed, 1, "the waiter is woken");
     closer.join(&rt);
 }

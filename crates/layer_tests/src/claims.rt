@@ -3,9 +3,9 @@ ghost use Rattle.std.specs.Prelude.{◌≡◌, ◌≢◌, ◌*◌, ◌^◌, ◌<
 ghost use Rattle.std.specs.Int.NonZero.{non_zero_usize_get};
 ghost use Rattle.parallel_shares.specs.Seats.{AreSeatsOf};
 
-use crate::same::{row, same};
+use crate::same::{lists, row, same};
 use parallel_shares::machine::{Event, Outcome, Plan, State, replay};
-use parallel_shares::{Seat, Shares, Tried, pack, stretches};
+use parallel_shares::{Seat, Shares, Stretch, Tried, pack, stretches};
 use std::alloc::Global;
 use std::num::NonZeroUsize;
 use std::ops::Range;
@@ -333,36 +333,31 @@ fn seats_share_a_row_by_a_steal(rt: HostRuntime) {
     );
 }
 
-#[test]
-fn a_replay_steals_and_loses_a_stale_claim(rt: HostRuntime) {
-    let alloc = rt.alloc();
-    let plan = planned(&rt, 1, 8, 1, 2, false);
-    let look_0 = Event::Load { seat: 0, share: 0 };
-    let look_1 = Event::Load { seat: 1, share: 1 };
-    let across = Event::Load { seat: 0, share: 1 };
-    let claim_0 = Event::Claim { seat: 0 };
-    let claim_1 = Event::Claim { seat: 1 };
-    let steal_0 = Event::Steal { seat: 0 };
-    let fill_0 = Event::Refill { seat: 0 };
-    let events = [
-        look_1, look_0, claim_0, look_0, claim_0, look_0, claim_0, look_0, claim_0, across,
-        steal_0, claim_1, fill_0, look_0, claim_0, look_0, claim_0, look_1, claim_1, look_1,
-        claim_1,
-    ];
-    let (state, outcomes) = replay(alloc, &plan, &events).expect(&rt, "memory");
-    let told = [
-        (10, Outcome::Taken(6..8)),
-        (11, Outcome::Lost),
-        (12, Outcome::Refilled(393_224)),
-        (17, Outcome::Loaded(262_150)),
-    ];
-    for (at, outcome) in &told {
-        row(&rt, *at, outcomes.get(*at), Some(outcome));
+// The events of two seats and their shares.
+const LOOK_0: Event = Event::Load { seat: 0, share: 0 };
+
+const LOOK_1: Event = Event::Load { seat: 1, share: 1 };
+
+const ACROSS: Event = Event::Load { seat: 0, share: 1 };
+
+const CLAIM_0: Event = Event::Claim { seat: 0 };
+
+const CLAIM_1: Event = Event::Claim { seat: 1 };
+
+const STEAL_0: Event = Event::Steal { seat: 0 };
+
+const FILL_0: Event = Event::Refill { seat: 0 };
+
+// The outcomes at these places are these.
+fn tells(rt: &impl Abort, outcomes: &[Outcome], told: &[(usize, Outcome)]) {
+    for (at, outcome) in told {
+        row(rt, *at, outcomes.get(*at), Some(outcome));
     }
-    same(&rt, state.words(), [pack(8, 8), pack(6, 6)].as_slice());
-    assert!(rt; plan.workers() == 2);
-    claims_stretches(&rt, alloc, state.claims(0), 8, &[(0, 0..4), (0, 6..8)]);
-    claims_stretches(&rt, alloc, state.claims(1), 8, &[(0, 4..6)]);
+}
+
+// Some cells of a row.
+fn cells(row: usize, columns: Range<usize>) -> Stretch {
+    Stretch { row, columns }
 }
 
 // The stretches of a seat's claims over rows of so many cells.
@@ -371,30 +366,51 @@ fn claims_stretches(
     alloc: Global,
     claims: &[Range<usize>],
     len: usize,
-    wanted: &[(usize, Range<usize>)],
+    wanted: &[Stretch],
 )
     requires { len ≢ 0 }
 {
-    let cut = stretches(alloc, claims, len).expect(rt, "memory");
-    same(rt, cut.len(), wanted.len());
-    for (stretch, (row, columns)) in cut.iter().zip(wanted) {
-        same(rt, (stretch.row, &stretch.columns), (*row, columns));
-    }
+    lists(rt, len, stretches(alloc, claims, len), wanted);
+}
+
+#[test]
+fn a_replay_steals_and_loses_a_stale_claim(rt: HostRuntime) {
+    let alloc = rt.alloc();
+    let plan = planned(&rt, 1, 8, 1, 2, false);
+    let events = [
+        LOOK_1, LOOK_0, CLAIM_0, LOOK_0, CLAIM_0, LOOK_0, CLAIM_0, LOOK_0, CLAIM_0, ACROSS,
+        STEAL_0, CLAIM_1, FILL_0, LOOK_0, CLAIM_0, LOOK_0, CLAIM_0, LOOK_1, CLAIM_1, LOOK_1,
+        CLAIM_1,
+    ];
+    let (state, outcomes) = replay(alloc, &plan, &events).expect(&rt, "memory");
+    let told = [
+        (10, Outcome::Taken(6..8)),
+        (11, Outcome::Lost),
+        (12, Outcome::Refilled(393_224)),
+        (17, Outcome::Loaded(262_150)),
+    ];
+    tells(&rt, outcomes.as_slice(), &told);
+    same(&rt, state.words(), [pack(8, 8), pack(6, 6)].as_slice());
+    assert!(rt; plan.workers() == 2);
+    let wanted = [cells(0, 0..4), cells(0, 6..8)];
+    claims_stretches(&rt, alloc, state.claims(0), 8, &wanted);
+    claims_stretches(&rt, alloc, state.claims(1), 8, &[cells(0, 4..6)]);
 }
 
 #[test]
 fn a_small_cut_plan_is_claimed_across_rows(rt: HostRuntime) {
     let alloc = rt.alloc();
     let plan = planned(&rt, 3, 5, 2, 2, false);
-    let load = Event::Load { seat: 0, share: 0 };
-    let claim = Event::Claim { seat: 0 };
-    let events = [load, claim, load, claim, load, claim, load, claim];
+    let events = [
+        LOOK_0, CLAIM_0, LOOK_0, CLAIM_0, LOOK_0, CLAIM_0, LOOK_0, CLAIM_0,
+    ];
     let (state, outcomes) = replay(alloc, &plan, &events).expect(&rt, "memory");
-    same(&rt, outcomes.get(0), Some(&Outcome::Loaded(8)));
+    tells(&rt, outcomes.as_slice(), &[(0, Outcome::Loaded(8))]);
     same(&rt, state.words(), [pack(8, 8), 524_303].as_slice());
     assert!(rt; plan.workers() == 2);
     same(&rt, state.claims(0), [0..2, 2..4, 4..6, 6..8].as_slice());
-    claims_stretches(&rt, alloc, state.claims(0), 5, &[(0, 0..5), (1, 0..3)]);
+    let wanted = [cells(0, 0..5), cells(1, 0..3)];
+    claims_stretches(&rt, alloc, state.claims(0), 5, &wanted);
 }
 
 // Counts cells and calls.

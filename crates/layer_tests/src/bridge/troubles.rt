@@ -104,33 +104,37 @@ fn check(item: usize, bad: usize) -> Result<usize, usize> {
     if item == bad { Err(item) } else { Ok(item) }
 }
 
-// What the answers for eight items, halved three times over, come to when they are written.
-fn filled<Rt: Threads + Sync>(
+// Which call is asked for the eight items: their answers written on so many threads, halved three
+// times over, or one of the calls that gather them.
+#[derive(Clone, Copy, Debug)]
+enum Asked {
+    Fill(usize),
+    Map,
+    Bridge,
+    Fold,
+}
+
+// The answers for the items, written where they stay.
+fn mapped<Rt: Threads + Sync + Abort>(
     rt: &Rt,
     alloc: Global,
-    threads: usize,
+    asked: Asked,
     parts: ProducerParts<Refusing>,
     bad: usize,
 ) -> Result<(), Trouble<usize>>
     requires { parts.list.list.end - parts.list.list.start ≡ 8 }
 {
     let answer = |item: usize| check(item, bad);
+    let Asked::Fill(threads) = asked else {
+        let values = try_map_parallel(rt, alloc, number(rt, 4), parts, &answer)?;
+        drop(values);
+        return Ok(());
+    };
     let (room, home) = Home::reserve(alloc, 8)?;
     let writer = TryMapWriter { map_op: &answer };
     let (room, done) = fill(rt, alloc, 3, threads, parts, &writer, room);
     home.free(room);
     done
-}
-
-#[test]
-fn the_leftmost_trouble_is_answered_on_each_number_of_threads(rt: HostRuntime) {
-    let alloc = rt.alloc();
-    for (start, end, bad, wanted) in ROWS {
-        for threads in [1, 2, 4] {
-            let done = filled(&rt, alloc, threads, eight(start, end), bad);
-            row(&rt, (start, end, bad, threads), blamed(done), Err(wanted));
-        }
-    }
 }
 
 fn no_place() -> usize {
@@ -141,35 +145,55 @@ fn last_of(_left: usize, right: usize) -> usize {
     right
 }
 
+// The last of the items.
+fn folded<Rt: Threads + Sync + Abort>(
+    rt: &Rt,
+    alloc: Global,
+    asked: Asked,
+    parts: ProducerParts<Refusing>,
+    bad: usize,
+) -> Result<usize, Trouble<usize>>
+    requires { parts.list.list.end - parts.list.list.start ≡ 8 }
+{
+    let step = |_: usize, item: usize| check(item, bad);
+    let four = number(rt, 4);
+    if matches!(asked, Asked::Fold) {
+        return try_fold_parallel(rt, alloc, four, parts, &no_place, &step, &last_of);
+    }
+    let base = TryReduceConsumer {
+        identity: &no_place,
+        reduce_op: &last_of,
+    };
+    let consumer = TryFoldConsumer {
+        base,
+        identity: &no_place,
+        fold_op: &step,
+    };
+    bridge(rt, alloc, four, parts, consumer)
+}
+
+// Each row is answered as it says by a call.
+fn blames<Rt: Threads + Sync + Abort>(rt: &Rt, alloc: Global, asked: Asked) {
+    for (start, end, bad, wanted) in ROWS {
+        let parts = eight(start, end);
+        let blamed = match asked {
+            Asked::Fill(_) | Asked::Map => blamed(mapped(rt, alloc, asked, parts, bad)),
+            Asked::Bridge | Asked::Fold => blamed(folded(rt, alloc, asked, parts, bad)),
+        };
+        row(rt, (asked, start, end, bad), blamed, Err(wanted));
+    }
+}
+
+#[test]
+fn the_leftmost_trouble_is_answered_on_each_number_of_threads(rt: HostRuntime) {
+    for threads in [1, 2, 4] {
+        blames(&rt, rt.alloc(), Asked::Fill(threads));
+    }
+}
+
 #[test]
 fn the_leftmost_trouble_is_answered_by_each_call(rt: HostRuntime) {
-    let alloc = rt.alloc();
-    let four = number(&rt, 4);
-    for (start, end, bad, wanted) in ROWS {
-        let answer = |item: usize| check(item, bad);
-        let done = try_map_parallel(&rt, alloc, four, eight(start, end), &answer);
-        row(&rt, ("map", start, end, bad), blamed(done), Err(wanted));
-        let step = |_: usize, item: usize| check(item, bad);
-        let base = TryReduceConsumer {
-            identity: &no_place,
-            reduce_op: &last_of,
-        };
-        let consumer = TryFoldConsumer {
-            base,
-            identity: &no_place,
-            fold_op: &step,
-        };
-        let done = bridge(&rt, alloc, four, eight(start, end), consumer);
-        row(&rt, ("bridge", start, end, bad), blamed(done), Err(wanted));
-        let done = try_fold_parallel(
-            &rt,
-            alloc,
-            four,
-            eight(start, end),
-            &no_place,
-            &step,
-            &last_of,
-        );
-        row(&rt, ("fold", start, end, bad), blamed(done), Err(wanted));
+    for asked in [Asked::Map, Asked::Bridge, Asked::Fold] {
+        blames(&rt, rt.alloc(), asked);
     }
 }

@@ -5,14 +5,17 @@ ghost use Rattle.parallel_pool.specs.Latch.{IsLatchSeatOf};
 
 use crate::pool::count_latches::give_one;
 use crate::pool::latches::core_latch;
+use crate::pool::limits::no_jobs;
 use crate::same::same;
 use crossbeam_utils::sync::Parker;
 use parallel_pool::latch::{CoreLatch, CountLatch, CountShare, LatchSeat, LockLatch};
 use parallel_pool::sleep::Sleep;
+use std::alloc::Global;
 use std::num::NonZeroUsize;
+use std::process::Abort;
 use std::sync::Wait;
 use std::sync::atomic::{AtomicU64, Ordering};
-use std::thread::join;
+use std::thread::{Threads, join};
 use std::time::{Clock, Duration};
 
 #[test]
@@ -70,7 +73,7 @@ fn idle_until_woken<R: Wait>(
     };
     for _ in 0..100 {
         let before = idle.rounds();
-        sleep.no_work_found(rt, &mut idle, &parker, latch, &mut seat, || false);
+        sleep.no_work_found(rt, &mut idle, &parker, latch, &mut seat, no_jobs);
         if before == 33 && idle.rounds() == 0 {
             sleep.work_found(rt, idle);
             return true;
@@ -89,39 +92,48 @@ fn await_sleeper(rt: &(impl Wait + Clock), sleep: &Sleep) {
     }
 }
 
-#[test]
-fn new_jobs_wake_a_sleeper(rt: HostRuntime) {
-    let (sleep, mut parkers) = Sleep::new(rt.alloc(), NonZeroUsize::MIN).expect(&rt, "memory");
-    let parker = parkers.pop().expect(&rt, "a parker");
-    let (latch, seat) = core_latch(&rt, rt.alloc());
-    let (wait, asleep, until) = (&rt, &sleep, &latch);
+// The sleep of one worker, and its parker.
+pub(crate) fn one_sleep(rt: &impl Abort, alloc: Global) -> (Sleep, Parker) {
+    let (sleep, mut parkers) = Sleep::new(alloc, NonZeroUsize::MIN).expect(rt, "memory");
+    (sleep, parkers.pop().expect(rt, "a parker"))
+}
+
+// What wakes a sleeper.
+#[derive(Clone, Copy)]
+enum Waker {
+    Jobs,
+    Latch,
+}
+
+// What a sleeper's counters say once it was woken, and where it found one job more if jobs did.
+fn wakes<R: Threads + Wait + Clock + Abort + Sync>(rt: &R, alloc: Global, waker: Waker) -> u64 {
+    let (sleep, parker) = one_sleep(rt, alloc);
+    let (latch, seat) = core_latch(rt, alloc);
+    let (asleep, until) = (&sleep, &latch);
     let (woken, ()) = join(
-        &rt,
-        move || idle_until_woken(wait, asleep, parker, until, seat),
+        rt,
+        move || idle_until_woken(rt, asleep, parker, until, seat),
         || {
-            await_sleeper(&rt, &sleep);
-            sleep.new_injected_jobs(&rt, 1, true);
+            await_sleeper(rt, asleep);
+            match waker {
+                Waker::Jobs => asleep.new_injected_jobs(rt, 1, true),
+                Waker::Latch => asleep.notify_worker_latch_is_set(rt, 0),
+            }
         },
     );
     assert!(rt; woken);
-    sleep.new_internal_jobs(&rt, 1, false);
-    same(&rt, sleep.counters(&rt).word(), 4_294_967_296);
+    if matches!(waker, Waker::Jobs) {
+        sleep.new_internal_jobs(rt, 1, false);
+    }
+    sleep.counters(rt).word()
+}
+
+#[test]
+fn new_jobs_wake_a_sleeper(rt: HostRuntime) {
+    same(&rt, wakes(&rt, rt.alloc(), Waker::Jobs), 4_294_967_296);
 }
 
 #[test]
 fn a_latch_that_is_set_wakes_its_sleeper(rt: HostRuntime) {
-    let (sleep, mut parkers) = Sleep::new(rt.alloc(), NonZeroUsize::MIN).expect(&rt, "memory");
-    let parker = parkers.pop().expect(&rt, "a parker");
-    let (latch, seat) = core_latch(&rt, rt.alloc());
-    let (wait, asleep, until) = (&rt, &sleep, &latch);
-    let (woken, ()) = join(
-        &rt,
-        move || idle_until_woken(wait, asleep, parker, until, seat),
-        || {
-            await_sleeper(&rt, &sleep);
-            sleep.notify_worker_latch_is_set(&rt, 0);
-        },
-    );
-    assert!(rt; woken);
-    same(&rt, sleep.counters(&rt).word(), 0);
+    same(&rt, wakes(&rt, rt.alloc(), Waker::Latch), 0);
 }

@@ -1,8 +1,8 @@
 //! A machine without memory, as a test makes it: it takes all the addresses that the process may
 //! have, untouched, and then each request is refused until some of them are let go.
 //!
-//! Where allocations are checked, as by `rt try`, small requests are granted from a store that has
-//! no end: there is no such machine then, but one that has no place for large blocks.
+//! Where allocations are checked, as by `rt try`, small requests are granted from a store without
+//! end: there is no such machine then, but one that has no place for large blocks.
 use std::alloc::Global;
 
 // Asks for blocks of a size until one is refused, and keeps them; for so many at most. Answers
@@ -19,11 +19,11 @@ fn take_all(alloc: Global, size: usize, most: u32, held: &mut Vec<Vec<u8>>) -> b
     false
 }
 
-/// All places for blocks of 64 MiB and more: while they are held, each request of so much is
+/// All places for blocks of 1 MiB and more: while they are held, each request of so much is
 /// refused. None where such places have no end.
-pub(crate) fn all_places(alloc: Global) -> Option<Vec<Vec<u8>>> {
+pub fn all_places(alloc: Global) -> Option<Vec<Vec<u8>>> {
     let mut held = Vec::with_capacity(alloc, 70_000).ok()?;
-    for halvings in 0..21u32 {
+    for halvings in 0..27u32 {
         if !take_all(alloc, (1usize << 46) >> halvings, 60_000, &mut held) {
             return None;
         }
@@ -33,7 +33,7 @@ pub(crate) fn all_places(alloc: Global) -> Option<Vec<Vec<u8>>> {
 
 /// All memory that is left, in blocks of all sizes: while they are held, each request is refused.
 /// None where memory has no end.
-pub(crate) fn all_memory(alloc: Global) -> Option<Vec<Vec<u8>>> {
+pub fn all_memory(alloc: Global) -> Option<Vec<Vec<u8>>> {
     let mut held = Vec::with_capacity(alloc, 70_000).ok()?;
     for halvings in 0..43u32 {
         let most = if halvings < 26 { 60_000 } else { 1000 };

@@ -1,6 +1,6 @@
 -- The seats stay seats of the shares.
 use Rattle.parallel_shares.specs.Seats.{AreSeatsOf}
-use Rattle.layer_tests.proofs.shares.last_claim.Given as goal
+use Rattle.layer_tests.proofs.claims.last_claim.Given as goal
 
 abbrev pub invariant-loop : goal.invariant-loop
 invariant-loop g l = record {

@@ -5,7 +5,7 @@ ghost use Rattle.parallel_bridge.specs.GateRule.{newcomer};
 ghost use Rattle.parallel_bridge.specs.Gates.{IsGateSeatOf, known, stands_for};
 
 use crate::bridge::number;
-use crate::bridge::windows::{Counted, all_gone_but, counted_items, no_counts};
+use crate::bridge::windows::{Counted, Counts, all_gone_but, counted_items, no_counts};
 use crate::same::same;
 use parallel_bridge::fill::try_map::TryMapWriter;
 use parallel_bridge::gate::{Gate, GateSeat, GateWatch};
@@ -128,32 +128,34 @@ fn await_error(failed: &AtomicU64) {
     }
 }
 
-#[test]
-fn segments_right_of_a_known_error_stop_early(rt: HostRuntime) {
-    let failed = AtomicU64::new(0);
-    let calls = AtomicU64::new(0);
-    let answer = |item: usize| -> Result<usize, usize> {
-        calls.fetch_add(1, Ordering::SeqCst);
-        if item == 0 {
-            failed.store(1, Ordering::SeqCst);
-            return Err(item);
+// Whether a map whose first item fails answered that; if not, memory was refused.
+fn is_first<'a>(rt: &impl Abort, answer: Result<Vec<Counted<'a>>, Trouble<usize>>) -> bool {
+    match answer {
+        Ok(values) => {
+            same(rt, values.len(), 0);
+            false
         }
-        await_error(&failed);
-        thread::yield_now();
-        Ok(item)
-    };
-    let parts = ProducerParts {
-        list: Indices {
-            start: 0,
-            end: 64_000,
-        },
-    };
-    // 32 threads make 64 segments of 1000 items each.
-    match try_map_parallel(&rt, rt.alloc(), number(&rt, 32), parts, &answer) {
-        Err(Trouble::Closure(item)) => same(&rt, item, 0),
-        _ => panic!(rt; "the error was lost"),
+        Err(Trouble::Closure(place)) => {
+            same(rt, place, 0);
+            true
+        }
+        Err(Trouble::Fault(_fault)) => false,
     }
-    assert!(rt; calls.load(Ordering::SeqCst) < 16_000);
+}
+
+// The first item fails, and says so; the others wait for that and have a counted value.
+fn counted_behind<'a>(
+    counts: &'a Counts,
+    failed: &AtomicU64,
+    place: usize,
+) -> Result<Counted<'a>, usize> {
+    if place == 0 {
+        failed.store(1, Ordering::SeqCst);
+        return Err(place);
+    }
+    await_error(failed);
+    thread::yield_now();
+    Ok(Counted::new(counts, place))
 }
 
 // Maps that many counted items on that many threads, of which the first fails and the others wait
@@ -162,42 +164,38 @@ fn stop_counted<R: Threads + Sync + Abort>(rt: &R, alloc: Global, threads: usize
     let counts = no_counts();
     let failed = AtomicU64::new(0);
     let items = counted_items(alloc, &counts, len);
-    let answer = |item: Counted<'_>| if item.place == 0 {
-        failed.store(1, Ordering::SeqCst);
-        Err(item.place)
-    } else {
-        await_error(&failed);
-        Ok(Counted::new(&counts, item.place))
-    };
+    let answer = |item: Counted<'_>| counted_behind(&counts, &failed, item.place);
     let parts = DrainProducer::from_vec(items);
-    match try_map_parallel(rt, alloc, number(rt, threads), parts, &answer) {
-        Ok(values) => same(rt, values.len(), 0),
-        Err(Trouble::Closure(place)) => same(rt, place, 0),
-        Err(Trouble::Fault(_fault)) => (),
-    }
+    let told = try_map_parallel(rt, alloc, number(rt, threads), parts, &answer);
+    is_first(rt, told);
     assert!(rt; all_gone_but(&counts, 0));
 }
 
-// The same over a list whose items aren't owned: the values are counted.
-fn stop_values<R: Threads + Sync + Abort>(rt: &R, alloc: Global, threads: usize, len: usize) {
+// The same over a list whose items aren't owned: the values are counted. Answers how many there
+// were, if memory wasn't refused.
+fn stop_values<R: Threads + Sync + Abort>(
+    rt: &R,
+    alloc: Global,
+    threads: usize,
+    len: usize,
+) -> Option<u64> {
     let counts = no_counts();
     let failed = AtomicU64::new(0);
-    let answer = |place: usize| if place == 0 {
-        failed.store(1, Ordering::SeqCst);
-        Err(place)
-    } else {
-        await_error(&failed);
-        Ok(Counted::new(&counts, place))
-    };
+    let answer = |place: usize| counted_behind(&counts, &failed, place);
     let parts = ProducerParts {
         list: Indices { start: 0, end: len },
     };
-    match try_map_parallel(rt, alloc, number(rt, threads), parts, &answer) {
-        Ok(values) => same(rt, values.len(), 0),
-        Err(Trouble::Closure(place)) => same(rt, place, 0),
-        Err(Trouble::Fault(_fault)) => (),
-    }
+    let told = try_map_parallel(rt, alloc, number(rt, threads), parts, &answer);
+    let is_told = is_first(rt, told);
     assert!(rt; all_gone_but(&counts, 0));
+    if is_told { Some(counts.made()) } else { None }
+}
+
+#[test]
+fn segments_right_of_a_known_error_stop_early(rt: HostRuntime) {
+    // 32 threads make 64 segments of 1000 items each.
+    let values = stop_values(&rt, rt.alloc(), 32, 64_000).expect(&rt, "the error is told");
+    assert!(rt; values < 16_000);
 }
 
 #[test]

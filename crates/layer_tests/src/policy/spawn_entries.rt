@@ -171,7 +171,7 @@ fn an_inline_estimate_recovers_by_its_probes(rt: HostRuntime) {
         }
     }
     let inline = entry.estimate(SpawnSample::InlineRun);
-    assert!(rt; inline.is_some_and(|inline| inline <= 50_000));
+    assert!(rt; matches!(inline, Some(inline) if inline <= 50_000));
     let overhead = entry.estimate(SpawnSample::Overhead);
     same(&rt, overhead, Some(50_000));
     same(&rt, entry.estimate(SpawnSample::Job), Some(2_000));

@@ -11,6 +11,7 @@ use parallel_policy::site::Site;
 use parallel_policy::spawn::SpawnEntry;
 use std::alloc::Global;
 use std::collections::HashSet;
+use std::fmt::Debug;
 use std::process::Abort;
 
 const SITE: Site = Site {
@@ -44,39 +45,41 @@ fn values_print_their_parts(rt: HostRuntime) {
     prints(&rt, alloc, &policy, text);
 }
 
+// The parts of a key: those of its site, its length, its work and its number of threads.
+type KeyParts = (&'static str, u32, u32, usize, usize, usize);
+
 // How many of the keys differ, by their hashes and by `==`.
-fn distinct(rt: &impl Abort, alloc: Global, keys: &[Key]) -> usize {
+fn distinct(rt: &impl Abort, alloc: Global, keys: &[KeyParts]) -> usize {
     let mut all = HashSet::new(alloc);
-    for key in keys {
-        all.insert(*key).expect(rt, "memory");
+    for (file, line, column, len, work, parallelism) in keys {
+        let site = Site {
+            file: *file,
+            line: *line,
+            column: *column,
+        };
+        let key = Key::new(site, *len, *work, *parallelism);
+        all.insert(key).expect(rt, "memory");
     }
     all.len()
 }
 
 #[test]
 fn keys_are_told_apart_by_each_part(rt: HostRuntime) {
-    let key = Key::new(SITE, 64, 64, 4);
-    let copy = key;
-    same(&rt, copy.clone().expect(&rt, "memory"), key);
-    let elsewhere = Site {
-        file: "others",
-        ..SITE
-    };
     let keys = [
-        key,
-        Key::new(elsewhere, 64, 64, 4),
-        Key::new(Site { line: 4, ..SITE }, 64, 64, 4),
-        Key::new(Site { column: 6, ..SITE }, 64, 64, 4),
-        Key::new(SITE, 63, 64, 4),
-        Key::new(SITE, 64, 128, 4),
-        Key::new(SITE, 64, 64, 5),
-        Key::new(SITE, 127, 100, 4),
+        ("tests", 3, 5, 64, 64, 4),
+        ("others", 3, 5, 64, 64, 4),
+        ("tests", 4, 5, 64, 64, 4),
+        ("tests", 3, 6, 64, 64, 4),
+        ("tests", 3, 5, 63, 64, 4),
+        ("tests", 3, 5, 64, 128, 4),
+        ("tests", 3, 5, 64, 64, 5),
+        ("tests", 3, 5, 127, 100, 4),
     ];
     same(&rt, distinct(&rt, rt.alloc(), &keys), 7);
     let keys = [
-        Key::new(SITE, 1, 1, 4),
-        Key::new(SITE, 2, 2, 4),
-        Key::new(SITE, 3, 3, 4),
+        ("tests", 3, 5, 1, 1, 4),
+        ("tests", 3, 5, 2, 2, 4),
+        ("tests", 3, 5, 3, 3, 4),
     ];
     same(&rt, distinct(&rt, rt.alloc(), &keys), 2);
 }
@@ -97,23 +100,27 @@ fn lengths_count_by_their_binary_digits(rt: HostRuntime) {
     }
 }
 
+// A value's clone is the value, and another one isn't.
+fn is_copied<T: Clone + PartialEq + Debug + Drop>(rt: &impl Abort, one: &T, other: &T) {
+    let copy = one.clone().expect(rt, "a copy");
+    same(rt, &copy, one);
+    assert!(rt; one != other);
+}
+
 #[test]
 fn executions_and_entries_are_copied_and_compared(rt: HostRuntime) {
-    let serial = RunExecution::Serial;
-    let inline = SpawnExecution::Inline;
-    same(&rt, serial.clone().expect(&rt, "a copy"), serial);
-    assert!(rt; serial != RunExecution::Parallel);
-    same(&rt, inline.clone().expect(&rt, "a copy"), inline);
-    assert!(rt; inline != SpawnExecution::Offload);
+    is_copied(&rt, &RunExecution::Serial, &RunExecution::Parallel);
+    is_copied(&rt, &SpawnExecution::Inline, &SpawnExecution::Offload);
+    is_copied(&rt, &Key::new(SITE, 64, 64, 4), &Key::new(SITE, 64, 64, 5));
     let before = Estimate::default();
     let mut estimate = before;
     estimate.record(5);
-    assert!(rt; before != estimate);
+    is_copied(&rt, &before, &estimate);
     same(&rt, [before.get(), estimate.get()], [None, Some(5)]);
     let before = Cadence::default();
     let mut cadence = before;
     cadence.saturate();
-    assert!(rt; before != cadence);
+    is_copied(&rt, &before, &cadence);
     same(&rt, cadence.arbitrate(1, 2, 10, 10, true), (2, true));
     same(&rt, before, cadence);
 }

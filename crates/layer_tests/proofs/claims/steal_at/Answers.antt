@@ -1,7 +1,7 @@
 -- The seat that took the step is back in its place.
 use Rattle.std.proofs.Common.{rules}
 use Rattle.parallel_shares.proofs.GatherSeats.{seats_stepped}
-use Rattle.layer_tests.proofs.shares.steal_at.Goals as goal
+use Rattle.layer_tests.proofs.claims.steal_at.Goals as goal
 
 pub returns : goal.returns
 returns g c =

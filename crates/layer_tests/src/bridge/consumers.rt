@@ -1,0 +1,161 @@
+//! Consumers, their folders and a splitter at concrete types.
+use crate::bridge::number;
+use crate::same::{lists, row, same};
+use parallel_bridge::bridge::bridge;
+use parallel_bridge::consumer::collect::CollectConsumer;
+use parallel_bridge::consumer::list_vec::{ListVecConsumer, ListVecFolder};
+use parallel_bridge::consumer::map::MapConsumer;
+use parallel_bridge::consumer::map_init::MapInitConsumer;
+use parallel_bridge::consumer::try_fold::TryFoldFolder;
+use parallel_bridge::consumer::try_reduce::TryReduceFolder;
+use parallel_bridge::consumer::while_some::{WhileSomeConsumer, WhileSomeFolder};
+use parallel_bridge::parts::ProducerParts;
+use parallel_bridge::plumbing::Folder;
+use parallel_bridge::producer::{Copies, DrainProducer};
+use parallel_bridge::splitter::LengthSplitter;
+use parallel_fault::Fault;
+use std::alloc::Global;
+
+#[test]
+fn each_segment_keeps_what_stands_before_its_first_none(rt: HostRuntime) {
+    let alloc = rt.alloc();
+    let items = vec![in alloc; Some(1u8), None, Some(3), Some(4), Some(5), None, Some(7)].expect(
+        &rt, "memory",
+    );
+    let consumer = WhileSomeConsumer {
+        base: ListVecConsumer,
+    };
+    let parts = DrainProducer::from_vec(items);
+    let lists = bridge(&rt, alloc, number(&rt, 1), parts, consumer).expect(&rt, "memory");
+    let mut kept = Vec::new(alloc);
+    for list in lists {
+        let mut more = list;
+        kept.append(&mut more).expect(&rt, "memory");
+    }
+    same(&rt, kept.as_slice(), [1, 4, 5].as_slice());
+}
+
+// Whether a folder is full before an item that makes no difference to that, behind it, and behind
+// one that fails.
+fn fullness<X: Drop, R, E, F: Folder<X, R, E>>(
+    alloc: Global,
+    folder: F,
+    good: X,
+    bad: X,
+) -> Result<[bool; 3], Fault>
+    requires ready { F.ready folder }
+    requires good { F.takes folder good }
+    requires bad { F.takes folder bad }
+{
+    let before = folder.full();
+    let folder = folder.consume(alloc, good)?;
+    let between = folder.full();
+    let folder = folder.consume(alloc, bad)?;
+    Ok([before, between, folder.full()])
+}
+
+// A number below 5, or the number as an error.
+fn check(number: u32) -> Result<u32, u32> {
+    if number < 5 { Ok(number) } else { Err(number) }
+}
+
+fn add(left: u32, right: u32) -> u32 {
+    left.wrapping_add(right)
+}
+
+// The sum, where it is below 5.
+fn add_checked(sum: u32, item: u32) -> Result<u32, u32> {
+    check(sum.wrapping_add(item))
+}
+
+// Twice a number.
+fn twice(item: u8) -> u8 {
+    item.wrapping_mul(2)
+}
+
+fn no_sum() -> u8 {
+    0
+}
+
+// The number and those before it in its segment, added up.
+fn so_far(sum: &mut u8, item: u8) -> u8 {
+    *sum = sum.wrapping_add(item);
+    *sum
+}
+
+#[test]
+fn consumers_that_map_hand_on_to_another(rt: HostRuntime) {
+    let alloc = rt.alloc();
+    let items = [1u8, 2, 3, 4, 5];
+    let doubling = MapConsumer {
+        base: CollectConsumer,
+        map_op: &twice,
+    };
+    let parts = ProducerParts {
+        list: Copies { slice: &items },
+    };
+    let doubled: Result<Vec<u8>, _> = bridge(&rt, alloc, number(&rt, 2), parts, doubling);
+    lists(&rt, "doubled", doubled, &[2, 4, 6, 8, 10]);
+
+    let adding = MapInitConsumer {
+        base: CollectConsumer,
+        init: &no_sum,
+        map_op: &so_far,
+    };
+    let parts = ProducerParts {
+        list: Copies { slice: &items },
+    };
+    let sums: Result<Vec<u8>, _> = bridge(&rt, alloc, number(&rt, 1), parts, adding);
+    // (for one thread the list is halved once, and the state begins anew)
+    lists(&rt, "sums", sums, &[1, 3, 3, 7, 12]);
+}
+
+#[test]
+fn a_splitter_by_length_leaves_no_part_too_short(rt: HostRuntime) {
+    let mut splitter = LengthSplitter::new(number(&rt, 4), 3);
+    for (step, len, is_split, left) in [
+        (1, 5, false, 4),
+        (2, 6, true, 2),
+        (3, 6, true, 1),
+        (4, 6, true, 0),
+        (5, 6, false, 0),
+    ] {
+        row(&rt, step, splitter.try_split(len), is_split);
+        row(&rt, step, splitter.inner.splits, left);
+    }
+}
+
+#[test]
+fn a_folder_of_options_is_full_behind_none(rt: HostRuntime) {
+    let alloc = rt.alloc();
+    let base = ListVecFolder {
+        vec: Vec::new(alloc),
+    };
+    let folder = WhileSomeFolder { base, full: false };
+    let full = fullness::<Option<u32>, _, u32, _>(alloc, folder, Some(4), None);
+    same(&rt, full, Ok([false, false, true]));
+}
+
+#[test]
+fn a_folder_of_a_fallible_reduction_is_full_behind_an_error(rt: HostRuntime) {
+    let folder = TryReduceFolder {
+        control: Ok(0),
+        reduce_op: &add,
+    };
+    let full = fullness(rt.alloc(), folder, Ok(4), Err(5));
+    same(&rt, full, Ok([false, false, true]));
+}
+
+#[test]
+fn a_folder_of_a_fallible_fold_is_full_behind_an_error(rt: HostRuntime) {
+    let folder = TryFoldFolder {
+        base: TryReduceFolder {
+            control: Ok(0),
+            reduce_op: &add,
+        },
+        control: Ok(0),
+        fold_op: &add_checked,
+    };
+    let full = fullness(rt.alloc(), folder, 4, 5);
+    same(&rt, full, Ok([false, false, true]));
+}
