@@ -1,7 +1,7 @@
 -- How often shares were loaded: never less often, whatever the seat tries.
 use Rattle.parallel_shares.proofs.Common.{◌≡◌, ◌≢◌, ℕ, true, None, [], ◌+◌, ◌≤◌, ◌∙◌, inl, inr, refl, sym, ap, subst, arith, cases_eq, cases_lt}
-use Rattle.parallel_shares.proofs.Common.{Shares, Seat, shares_of, share_of, loaded_at, loads_at, loads_since, times, plan_of, known, index_of, claims_of, transit_of, has_emptied, own_share, own_loads}
-use Rattle.parallel_shares.proofs.Common.{own_word, IsEmptyWord, IsSameSeat, OthersStay, LoadsGrow, LoadsOthers, NonePays, TriesClaim, TriesSteal, FoundNothing, GainsTry}
+use Rattle.parallel_shares.proofs.Common.{Shares, Seat, shares_of, share_of, loaded_at, loads_at, loads_since, times, plan_of, known, index_of, claims_of, transit_of, has_emptied}
+use Rattle.parallel_shares.proofs.Common.{own_share, own_loads, own_word, IsEmptyWord, IsSameSeat, OthersStay, LoadsGrow, LoadsOthers, NonePays, TriesClaim, TriesSteal, FoundNothing, GainsTry}
 use Rattle.parallel_shares.specs.declared.shares.seat.Tried.{Tried}
 use Rattle.parallel_shares.specs.declared.shares.seat.Tried.TheVariants.{Claimed, Empty, Lost, Nothing, Taken}
 
@@ -63,7 +63,8 @@ module _ (shares : Shares) (before seen after : Seat) where
         );
         empty = subst (λ w. IsEmptyWord w) (sym (ap (loaded_at (known after)) own ∙ there.1)) empty;
         since = λ k h o. looks.since k h (apart k o) ∙ ap (λ xs. times k xs + 1) since;
-        last = ap (loads_since (known after)) own ∙ there.2 ∙ ap (times (own_share shares seen)) since;
+        last = ap (loads_since (known after)) own ∙ there.2
+            ∙ ap (times (own_share shares seen)) since;
         more = λ k h o. omega (arith, first k, looks.once k h (apart k o));
         within = λ k h o. looks.within k h (apart k o);
         none_pays = λ k h o. none_pays k h (apart k o);
