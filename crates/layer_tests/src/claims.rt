@@ -4,7 +4,7 @@ ghost use Rattle.std.specs.Int.NonZero.{non_zero_usize_get};
 ghost use Rattle.parallel_shares.specs.Seats.{AreSeatsOf};
 
 use crate::same::{lists, row, same};
-use parallel_shares::machine::{Event, Outcome, Plan, State, replay};
+use parallel_shares::machine::{Event, Outcome, Plan, State, replay, step};
 use parallel_shares::{Seat, Shares, Stretch, Tried, pack, stretches};
 use std::alloc::Global;
 use std::num::NonZeroUsize;
@@ -231,6 +231,27 @@ fn the_machine_opens_with_the_same_words(rt: HostRuntime) {
     opens_with(&rt, rt.alloc(), &greatest, &[32_769]);
     let small = planned(&rt, 1, 4, 2, 2, false);
     opens_with(&rt, rt.alloc(), &small, &[2, 131_076]);
+}
+
+// One step answers so.
+fn takes(rt: &impl Abort, plan: &Plan, state: &mut State, event: Event, wanted: Outcome) {
+    same(rt, step(plan, state, event), Ok(wanted));
+}
+
+// Two plans of as many words and seats, the second over twice as many cells.
+#[test]
+fn a_state_of_another_plan_is_left_as_it_was(rt: HostRuntime) {
+    let plan = planned(&rt, 3, 2, 1, 2, true);
+    let other = planned(&rt, 3, 4, 1, 2, true);
+    let mut state = State::new(rt.alloc(), &plan).expect(&rt, "memory");
+    let load = Event::Load { seat: 0, share: 0 };
+    let claim = Event::Claim { seat: 0 };
+    takes(&rt, &other, &mut state, load, Outcome::Refused);
+    takes(&rt, &plan, &mut state, claim, Outcome::Refused);
+    takes(&rt, &plan, &mut state, load, Outcome::Loaded(3));
+    takes(&rt, &other, &mut state, claim, Outcome::Refused);
+    same(&rt, state.words(), [3].as_slice());
+    takes(&rt, &plan, &mut state, claim, Outcome::Claimed(0..2));
 }
 
 #[test]
