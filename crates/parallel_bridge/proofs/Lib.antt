@@ -16,6 +16,7 @@ pub mod Statefuls
 pub mod TryBracketings
 pub mod Drivers
 pub mod Paths
+mod Loads
 pub mod Sorting
 pub mod OverLists
 pub mod FirstFailing
@@ -48,6 +49,7 @@ pub use Halts.*
 pub use Halves.*
 pub use IteratorItems.*
 pub use Laws.*
+pub use Loads.*
 pub use Neighbours.*
 pub use Outcomes.*
 pub use OverLists.*
