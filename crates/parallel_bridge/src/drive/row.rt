@@ -327,7 +327,11 @@ fn drive_two<Rt: Threads + Sync, T: Task>(
     inner: Load<T>,
     mut loads: Vec<Load<T>>,
     done: Vec<(T::Done, T::Done)>,
-) -> ((T::Done, T::Done), (T::Done, T::Done), Vec<(T::Done, T::Done)>)
+) -> (
+    (T::Done, T::Done),
+    (T::Done, T::Done),
+    Vec<(T::Done, T::Done)>,
+)
     requires grain { 0 < grain }
     requires outer { T.able outer.left × T.able outer.right }
     requires inner { T.able inner.left × T.able inner.right }
