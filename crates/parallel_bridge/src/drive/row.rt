@@ -2,9 +2,9 @@
 //!
 //! A thread that was just started may have to share a processor with the one that started it. So
 //! whoever has threads to share starts all of them before it works itself: `join` is given a load
-//! for a new thread, and all the others beside it. As those have no type in common, they are a list,
-//! and what they come to is another. Both lists have their places from the start, so that nothing is
-//! refused on the way.
+//! for a new thread, and all the others beside it. As those have no type in common, they are a
+//! list, and what they come to is another. Both lists have their places from the start, so that
+//! nothing is refused on the way.
 ghost use Rattle.std.specs.Prelude.{◌≡◌, ◌+◌, ◌<◌, ◌≤◌, ◌++◌, ◌∷◌, [], IfOk, vec_capacity, vec_len};
 ghost use Rattle.std.specs.Thread.{IsSync, IsSend};
 ghost use Rattle.parallel_bridge.specs.Loads.{AreAble, CameTo};
@@ -74,8 +74,8 @@ fn lists<L: Drop, D: Drop>(alloc: Global) -> Result<(Vec<L>, Vec<D>), AllocError
     Ok((loads, done))
 }
 
-// All loads, the last one first. One of more than `grain` threads is split into two; one of fewer is
-// for a new thread, which starts those that share it.
+// All loads, the last one first. One of more than `grain` threads is split into two; one of no more
+// is for a new thread, which starts those that share it.
 #[cycle(row)]
 fn drive_row<Rt: Threads + Sync, T: Task>(
     rt: &Rt,

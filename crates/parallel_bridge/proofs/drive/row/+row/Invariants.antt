@@ -1,5 +1,5 @@
--- Each load counts the steps that it may take, and a split takes one of them; between two steps, the
--- functions and the closures have numbers of their own.
+-- Each load counts the steps that it may take, and a split takes one of them; between two steps,
+-- the functions and the closures have numbers of their own.
 use Rattle.parallel_bridge.proofs.{◌+◌, ◌-◌, ◌*◌, steps_left}
 use Rattle.parallel_bridge.proofs.drive.row.+row.Given as goal
 
