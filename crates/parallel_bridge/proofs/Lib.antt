@@ -31,6 +31,7 @@ mod GateEnds
 pub mod Halts
 pub mod Unhalt
 mod GatedFolds
+mod Fronts
 pub mod Zips
 pub mod Pieces
 pub mod OverViews
@@ -41,6 +42,7 @@ pub use CollectChains.*
 pub use Drivers.*
 pub use FirstFailing.*
 pub use FoldersAppend.*
+pub use Fronts.*
 pub use GateEnds.*
 pub use GateSteps.*
 pub use GatedFolds.*
