@@ -1,5 +1,5 @@
 -- All of a list, or its first items.
-use Rattle.parallel_bridge.proofs.Common.{◌≡◌, ℕ, zero, suc, ◌+◌, ◌-◌, ◌≤◌, List, [], ◌∷◌, ◌++◌, length, map, take, zip, refl, sym, ap, subst, ◌∙◌, arith, inl, inr, Bor, IsFront}
+use Rattle.parallel_bridge.proofs.Common.{◌≡◌, ℕ, zero, suc, ◌+◌, ◌-◌, ◌≤◌, List, [], ◌∷◌, ◌++◌, length, map, take, zip, refl, sym, ap, ◌∙◌, arith, inl, inr, Bor, IsFront}
 use Rattle.parallel_bridge.proofs.Common.{range_with_len, common_steps, length-map, map-append, take_all}
 use Rattle.parallel_bridge.proofs.IteratorItems.{some_borrows}
 use Rattle.parallel_bridge.proofs.Ranges.{indices_long, indices_split}
