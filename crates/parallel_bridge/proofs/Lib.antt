@@ -32,6 +32,7 @@ mod GateEnds
 pub mod Halts
 pub mod Unhalt
 mod GatedFolds
+mod Fronts
 pub mod Zips
 pub mod Pieces
 pub mod OverViews
@@ -42,6 +43,7 @@ pub use CollectChains.*
 pub use Drivers.*
 pub use FirstFailing.*
 pub use FoldersAppend.*
+pub use Fronts.*
 pub use GateEnds.*
 pub use GateSteps.*
 pub use GatedFolds.*
