@@ -16,6 +16,7 @@ pub mod Statefuls
 pub mod TryBracketings
 pub mod Drivers
 pub mod Paths
+mod Loads
 pub mod Sorting
 pub mod OverLists
 pub mod FirstFailing
@@ -31,6 +32,7 @@ mod GateEnds
 pub mod Halts
 pub mod Unhalt
 mod GatedFolds
+mod Fronts
 pub mod Zips
 pub mod Pieces
 pub mod OverViews
@@ -41,6 +43,7 @@ pub use CollectChains.*
 pub use Drivers.*
 pub use FirstFailing.*
 pub use FoldersAppend.*
+pub use Fronts.*
 pub use GateEnds.*
 pub use GateSteps.*
 pub use GatedFolds.*
@@ -48,6 +51,7 @@ pub use Halts.*
 pub use Halves.*
 pub use IteratorItems.*
 pub use Laws.*
+pub use Loads.*
 pub use Neighbours.*
 pub use Outcomes.*
 pub use OverLists.*

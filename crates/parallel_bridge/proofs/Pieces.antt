@@ -2,7 +2,8 @@
 use Rattle.parallel_bridge.proofs.Common.{◌≡◌, ℕ, zero, suc, min, ◌≤◌, ◌<◌, ◌+◌, ◌-◌, ◌*◌, List, ◌∷◌, ◌++◌, length, map, take, drop, refl, sym, ap, subst, ◌∙◌, arith, inl, inr, suc-mul}
 use Rattle.parallel_bridge.proofs.Common.{mul-le-mul_right, add-mul, length-take, length-drop, take-take, drop-drop, take_all, zero-add, zero-mul, take-append_seam, drop-append_seam, cases_lt}
 use Rattle.parallel_bridge.proofs.Common.{div_ceil_times, drop_all, drop-take, length-map, map-append, take_rest, Contains-append_left, Contains-append_right, YieldsList, Bor, div_ceil, Contains}
-use Rattle.parallel_bridge.proofs.Common.{AlwaysYields, chunks_of, pieces_of}
+use Rattle.parallel_bridge.proofs.Common.{AlwaysYields, IsFront, chunks_of, pieces_of}
+use Rattle.parallel_bridge.proofs.Fronts.{borrows_front}
 use Rattle.std.specs.Slice.Iter.{chunks_rest, chunks_size, chunks_steps}
 use Rattle.std.specs.declared.slice.Chunks.{Chunks}
 
@@ -134,6 +135,15 @@ module _ {A : Type 0} where
         → map (λ (x : Bor (List A)). x.now) front ≡ chunks_of size (take m xs) → length front ≡ i
     front_long front one = sym (length-map front (λ (x : Bor (List A)). x.now)) ∙ ap length one
         ∙ length_pieces (div_ceil (length (take m xs)) size) size (take m xs) ∙ front_count
+
+    pub chunks_front : (front : List (Bor (List A)))
+        → map (λ (x : Bor (List A)). x.now) front ≡ chunks_of size (take m xs)
+        → (all : List (Bor (List A))) × (map (λ (x : Bor (List A)). x.now) all ≡ chunks_of size xs)
+        × IsFront i front all
+    chunks_front front one = borrows_front i front (chunks_of size (take m xs))
+        (chunks_of size (drop m xs)) (chunks_of size xs)
+        (length_pieces (div_ceil (length (take m xs)) size) size (take m xs) ∙ front_count)
+        (sym chunks_cut) one
 
     -- the pieces of either part are pieces of the whole
     pub chunk_of_front : (p : List A) → Contains (chunks_of size (take m xs)) p

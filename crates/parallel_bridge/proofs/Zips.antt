@@ -1,6 +1,7 @@
 -- Two lists pair by pair, and a list with its indices: a cut of them, and what may come of a part.
 use Rattle.parallel_bridge.proofs.Common.{◌≡◌, ℕ, ◌+◌, min, List, [], ◌∷◌, ◌++◌, Option, length, map, refl, sym, ap, subst, ◌∙◌, arith, Drains, HoldsAlong, Yields, All, AllByRecursion, enumerate_from}
-use Rattle.parallel_bridge.proofs.Common.{range_with_len, zip, All-from_recursion, recursion_from_All, PairsOf, zipped_steps}
+use Rattle.parallel_bridge.proofs.Common.{◌≤◌, IsFront, range_with_len, zip, All-from_recursion, recursion_from_All, PairsOf, zipped_steps}
+use Rattle.parallel_bridge.proofs.Fronts.{fronts_zipped, whole_front}
 use Rattle.std.proofs.lemmas.Slice.Zip.{length-zip}
 use Rattle.parallel_bridge.specs.declared.zipped.ZippedIter.{ZippedIter}
 
@@ -38,6 +39,27 @@ module _ {A B : Type 0} where
       ap (λ l. l ++ back) same ∙ ap (λ l. zip xs ys ++ l) rest
           ∙ sym (zip_append xs more ys others (first xs one ∙ sym (second ys two))),
     )
+
+  module _ (n : ℕ) (P P' : List A → Type 0) (Q Q' : List B → Type 0)
+      (left : (xs : List A) → P' xs → (all : List A) × P all × IsFront n xs all)
+      (right : (ys : List B) → Q' ys → (all : List B) × Q all × IsFront n ys all) where
+    pub zipped_front : (zs : List (A × B)) → PairsOf P' Q' zs
+        → (all : List (A × B)) × PairsOf P Q all × IsFront n zs all
+    zipped_front zs (xs, ys, one, two, same) =
+        let (all, whole, first) = left xs one in let (others, full, second) = right ys two in (
+          zip all others,
+          (all, others, whole, full, refl),
+          subst (λ l. IsFront n l (zip all others))
+              (sym same) (fronts_zipped n xs all ys others first second),
+        )
+
+    -- no pair is lost, where there are no more than n
+    pub zipped_whole : (zs : List (A × B))
+        → ((all : List (A × B)) → PairsOf P Q all → length all ≤ n) → PairsOf P' Q' zs
+        → PairsOf P Q zs
+    zipped_whole zs most pairs =
+        let (all, whole, front) = zipped_front zs pairs in
+        subst (PairsOf P Q) (sym (whole_front n zs all (most all whole) front)) whole
 
 module _ {S T A B : Type 0} (steps : S → Option A → S → Type 0)
     (others : T → Option B → T → Type 0) where

@@ -20,3 +20,4 @@ pub mod Zips
 pub mod ExactSizes
 pub mod Serials
 pub mod Chunks
+pub mod Loads

@@ -1,6 +1,6 @@
 -- What maps and folds over a list may answer. A closure enters by the relation of its arguments to
 -- the answers that it may give, so a closure with several answers to one argument is covered too.
-use Rattle.std.specs.Prelude.{◌≡◌, List, [], ◌∷◌, ◌++◌}
+use Rattle.std.specs.Prelude.{◌≡◌, ◌⊎◌, ℕ, List, [], ◌∷◌, ◌++◌, take}
 use Rattle.std.specs.List.{AllZip}
 
 -- as many answers as items, and each one allowed for the item in its place
@@ -28,3 +28,7 @@ pub data Brackets {X R : Type 0} (segment : List X → R → Type 0)
 abbrev pub Bracketing : {X R : Type 0} → (R → Type 0) → (R → X → R → Type 0) → (R → R → R → Type 0)
     → List X → R → Type 0
 Bracketing identity step reduce xs r = Brackets (FoldSegment identity step) reduce xs r
+
+-- all items of a list, or the first n
+abbrev pub IsFront : {X : Type 0} → ℕ → List X → List X → Type 0
+IsFront n xs all = (xs ≡ all) ⊎ (xs ≡ take n all)

@@ -52,6 +52,15 @@ impl<'a, T: Sync> Producer for Chunks<'a, T> {
         Ok((front, back))
     }
 
+    fn into_front(self, index: usize) -> Self {
+        let size = self.size;
+        let middle = middle_of(self.slice.len(), size, index);
+        Chunks {
+            slice: &self.slice[..middle],
+            size,
+        }
+    }
+
     fn into_items(self) -> std::slice::Chunks<'a, T> {
         let size = self.size.get();
         self.slice.chunks(size)

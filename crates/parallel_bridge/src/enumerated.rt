@@ -58,6 +58,12 @@ impl<P: Producer> Producer for Enumerated<P> {
         Ok((Enumerated { pairs: front }, Enumerated { pairs: back }))
     }
 
+    fn into_front(self, index: usize) -> Self {
+        Enumerated {
+            pairs: self.pairs.into_front(index),
+        }
+    }
+
     fn into_items(self) -> ZippedIter<Range<usize>, P::Iter> {
         self.pairs.into_items()
     }

@@ -4,6 +4,7 @@ ghost use Rattle.std.specs.Borrow.{Bor};
 ghost use Rattle.std.specs.Iterator.{Drains, HoldsAlong, IsFinite, YieldsFirst, YieldsLast, item_count};
 ghost use Rattle.std.specs.List.{All, Contains, range_with_len};
 ghost use Rattle.parallel_fault.specs.Trouble.{IsMemoryOnErr};
+ghost use Rattle.parallel_bridge.specs.Lists.{IsFront};
 
 use crate::window::block::Block;
 use parallel_fault::Fault;
@@ -54,6 +55,18 @@ pub trait Producer: Send + Sized + Drop {
         ensures may_back { IfOk result (λ parts. (x : Self.Item) → may parts.1 x → may self x) }
         ensures fault { IsMemoryOnErr result };
 
+    /// A producer of the first `index` items, where the others may be left out at no cost; of all
+    /// items otherwise, as it is written here.
+    fn into_front(self, index: usize) -> Self
+        requires { index ≤ count self }
+        ensures front { (xs : List Self.Item) → gives result xs
+            → (all : List Self.Item) × gives self all × IsFront index xs all }
+        ensures may_front { (x : Self.Item) → may result x → may self x }
+    {
+        let _len = index;
+        self
+    }
+
     /// An iterator over the items, in order.
     fn into_items(self) -> Self::Iter
         ensures can { Self.Iter.can_next result }
@@ -81,6 +94,10 @@ impl<'a, T: Sync> Producer for &'a [T] {
 
     fn split_at(self, _alloc: Global, index: usize) -> Result<(Self, Self), Fault> {
         Ok((&self[..index], &self[index..]))
+    }
+
+    fn into_front(self, index: usize) -> Self {
+        &self[..index]
     }
 
     fn into_items(self) -> std::slice::Iter<'a, T> {
@@ -118,6 +135,12 @@ impl<'a, T: Copy + Send + Sync + Drop> Producer for Copies<'a, T> {
             slice: &self.slice[index..],
         };
         Ok((front, back))
+    }
+
+    fn into_front(self, index: usize) -> Self {
+        Copies {
+            slice: &self.slice[..index],
+        }
     }
 
     fn into_items(self) -> std::iter::Copied<std::slice::Iter<'a, T>> {
@@ -164,6 +187,16 @@ impl Producer for Indices {
             end: self.end,
         };
         Ok((front, back))
+    }
+
+    fn into_front(self, index: usize) -> Self {
+        if self.end <= self.start {
+            return self;
+        }
+        Indices {
+            start: self.start,
+            end: self.start + index,
+        }
     }
 
     fn into_items(self) -> Range<usize> {

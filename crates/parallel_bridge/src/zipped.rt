@@ -1,6 +1,6 @@
 //! Two lists, pair by pair.
-ghost use Rattle.std.specs.Prelude.{◌≡◌, List, min};
-ghost use Rattle.std.specs.Iterator.{IsFinite, YieldsThen};
+ghost use Rattle.std.specs.Prelude.{◌≡◌, List, MatchOption, Some, min};
+ghost use Rattle.std.specs.Iterator.{IsFinite, YieldsThen, count_min};
 
 use crate::producer::Producer;
 use parallel_fault::Fault;
@@ -57,10 +57,19 @@ impl<L: Producer, R: Producer> Producer for Zipped<L, R> {
         Ok((front, back))
     }
 
+    fn into_front(self, index: usize) -> Self {
+        Zipped {
+            left: self.left.into_front(index),
+            right: self.right.into_front(index),
+        }
+    }
+
+    // Where a longer side can be cut to the shorter one, nothing is passed over.
     fn into_items(self) -> ZippedIter<L::Iter, R::Iter> {
+        let pairs = self.len();
         ZippedIter {
-            left: self.left.into_items(),
-            right: self.right.into_items(),
+            left: self.left.into_front(pairs).into_items(),
+            right: self.right.into_front(pairs).into_items(),
         }
     }
 }
@@ -89,7 +98,7 @@ where
 
     ghost next_gives = { zipped_steps A.next_gives B.next_gives };
 
-    ghost remaining = { λ s. A.remaining s.left };
+    ghost remaining = { λ s. count_min (A.remaining s.left) (B.remaining s.right) };
 
     fn next(&mut self) -> Option<(A::Item, B::Item)> {
         match self.left.next() {
@@ -108,7 +117,20 @@ where
     }
 
     fn size_hint(&self) -> (usize, Option<usize>) {
-        self.left.size_hint()
+        let (left, left_most) = self.left.size_hint();
+        let (right, right_most) = self.right.size_hint();
+        (left.min(right), lesser(left_most, right_most))
+    }
+}
+
+// The lesser of two bounds, where there is one.
+fn lesser(left: Option<usize>, right: Option<usize>) -> Option<usize>
+    ensures { MatchOption left (result ≡ right)
+        (λ n. MatchOption right (result ≡ left) (λ m. result ≡ Some (min n m))) }
+{
+    match (left, right) {
+        (Some(left), Some(right)) => Some(left.min(right)),
+        (None, most) | (most, None) => most,
     }
 }
 

@@ -8,6 +8,7 @@ ghost use Rattle.parallel_bridge.specs.Sources.{GivesSome};
 ghost use Rattle.parallel_bridge.specs.States.{MapStep, StateSegment, StatesFrom, StatesContinue};
 
 use crate::plumbing::{Consumer, Folder};
+use crate::room::with_places;
 use parallel_fault::{Fault, Trouble};
 use std::alloc::Global;
 
@@ -146,7 +147,7 @@ pub(crate) fn map_init_from<I: Iterator, S: Drop, T: Drop, F: Fn(&mut S, I::Item
         (λ xs. StatesContinue (MapStep (F.post map_op.now)) state.old xs ys.items state.new)) }
     ensures fault { IsMemoryOnErr result }
 {
-    let mut answers = Vec::with_capacity(alloc, iter.size_hint().0)?;
+    let mut answers = with_places(alloc, iter.size_hint().0);
     for item in iter {
         answers.push(map_op(state, item))?;
     }

@@ -16,6 +16,7 @@ use crate::gate::{Gate, GateWatch};
 use crate::halt::unhalt;
 use crate::parts::Parts;
 use crate::path::Path;
+use crate::room::with_places;
 use crate::window::home::Home;
 use parallel_fault::{Fault, Trouble};
 use std::alloc::Global;
@@ -38,7 +39,7 @@ where
     ensures maps { UnlessRefused result (λ out. GivesSome (Drains I.next_gives) iter
         (λ xs. TryMapOf (F.post map_op.now) xs (listed out))) }
 {
-    let mut values = Vec::with_capacity(alloc, iter.size_hint().0)?;
+    let mut values = with_places(alloc, iter.size_hint().0);
     let mut failed = None;
     try_map_from(&mut values, &mut failed, iter, map_op)?;
     match failed {
