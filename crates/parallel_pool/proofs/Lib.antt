@@ -10,6 +10,7 @@ mod JobSteps
 mod JobSeats
 mod WorkerCalls
 mod Probes
+mod RowPlaces
 pub use Common.*
 pub use CountLearns.*
 pub use CountSteps.*
@@ -18,5 +19,6 @@ pub use JobSteps.*
 pub use LatchLearns.*
 pub use LatchSteps.*
 pub use Probes.*
+pub use RowPlaces.*
 pub use Standings.*
 pub use WorkerCalls.*

@@ -20,3 +20,4 @@ pub mod JobQueues
 pub mod BuildErrors
 pub mod WorkerThread
 pub mod Rows
+pub mod InRow

@@ -7,12 +7,12 @@ ghost use Rattle.parallel_shares.specs.Seats.{plan_of, index_of, IsSeatOf, AreSe
 ghost use Rattle.shapes_command.specs.Drain.{HasEachOnce, IsDrained, AreDrained, seat_of, listed};
 
 use parallel_fault::Fault;
+use parallel_pool::rayon::map_in_row;
 use parallel_shares::{Seat, Shares};
 use std::alloc::{AllocError, Global};
 use std::num::NonZeroUsize;
 use std::ops::Range;
 use std::sync::Wait;
-use std::thread;
 use std::thread::Threads;
 
 /// A seat whose worker has found the queue empty, and the cells that it claimed.
@@ -49,7 +49,7 @@ pub fn drained_rows<R: Threads + Wait + Sync>(
 }
 
 /// Lets each fresh seat of the shares claim in a thread of its own, where one can be made, until it
-/// has found its word empty.
+/// has found its word empty. The caller starts these threads one after another.
 ///
 /// The seats come back in their order, each with the list of all that it claimed, as `AreDrained`
 /// says. The one refusal is `Fault::Memory`: a list could not grow, and the seats are gone.
@@ -64,8 +64,9 @@ pub fn drain<R: Threads + Wait + Sync>(
     ensures drained { IfOk result (λ drained. AreDrained shares.now drained.items) }
     ensures fault { IfErr result (λ refusal. refusal ≡ Fault.Memory) }
 {
-    let parts = thread::map_vec(
+    let parts = map_in_row(
         rt,
+        alloc,
         seats,
         &|seat: Seat| -> Result<Drained, AllocError>
             requires { IsSeatOf shares.now seat × IsFresh seat }

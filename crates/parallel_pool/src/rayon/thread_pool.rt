@@ -1,11 +1,13 @@
 //! A pool that holds a number of threads, and the call that runs a closure on a worker.
 ghost use Rattle.std.specs.Prelude.{◌≡◌, ◌≤◌, ◌<◌, ℕ, min, vec_len, slice_index_or, IfOk};
+ghost use Rattle.std.specs.List.{range_with_len};
 ghost use Rattle.std.specs.NonZero.{non_zero_usize_get};
 ghost use Rattle.parallel_fault.specs.Trouble.{IsMemoryOnErr};
 
 use crate::rayon::broadcast_context::BroadcastContext;
+use crate::rayon::in_row::map_in_row;
 use parallel_fault::Fault;
-use std::alloc::Global;
+use std::alloc::{AllocError, Global};
 use std::fmt::{Debug, Formatter, Write};
 use std::num::NonZeroUsize;
 use std::thread::Threads;
@@ -116,8 +118,9 @@ impl<W: Drop> ThreadPool<W> {
 
     /// Runs `op` once for each of the pool's threads and lists the answers, by index.
     ///
-    /// Each call runs on a scoped worker where the system makes one. `Fault::Memory` where the list
-    /// can't grow; the answers so far are dropped.
+    /// The calls run at the same time, all but one each on a scoped worker where the system makes
+    /// one; the caller starts these one after another (`map_in_row`). `Fault::Memory` where a list
+    /// can't grow; `op` has not been called then.
     pub fn broadcast<R: Threads + Sync, T: Send + Drop, F: Fn(BroadcastContext) -> T + Sync>(
         &self,
         rt: &R,
@@ -134,10 +137,11 @@ impl<W: Drop> ThreadPool<W> {
         ensures fault { IsMemoryOnErr result }
     {
         let num_threads = self.current_num_threads();
-        let answers = thread::map_indices(
+        let indices = indices(alloc, num_threads)?;
+        let answers = map_in_row(
             rt,
             alloc,
-            num_threads,
+            indices,
             &|index: usize| -> T
                 requires { F.pre op.now (context index num_threads) }
                 ensures { F.post op.entry.now (context index num_threads) result }
@@ -145,6 +149,13 @@ impl<W: Drop> ThreadPool<W> {
         )?;
         Ok(answers)
     }
+}
+
+// The numbers below `count`, in order.
+fn indices(alloc: Global, count: usize) -> Result<Vec<usize>, AllocError>
+    ensures { IfOk result (λ indices. indices.items ≡ range_with_len 0 count) }
+{
+    (0..count).collect(alloc)
 }
 
 /// Runs `op` on a worker of its own and answers what it answered, as `ThreadPool::install` does,

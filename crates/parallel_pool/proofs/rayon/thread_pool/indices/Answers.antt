@@ -1,0 +1,9 @@
+-- What a range gives is collected.
+use Rattle.parallel_pool.proofs.{refl, arith}
+use Rattle.std.proofs.lemmas.Iterator.{YieldsList-from_range, items_from_collect}
+use Rattle.parallel_pool.proofs.rayon.thread_pool.indices.Goals as goal
+
+pub returns : goal.returns
+returns c =
+    items_from_collect c.collect.result c.collect.ensures.ran
+    (YieldsList-from_range 0 c.args.count c.args.count refl (omega arith))
