@@ -1,6 +1,6 @@
 -- The way up from another node than a tree has at the place. It leads to another root, unless two
 -- nodes on the way have one digest.
-use Rattle.std.proofs.Common.{◌≡◌, ◌≢◌, ℕ, zero, suc, ◌+◌, ◌/◌, ◌<◌, ◌≤◌, List, length, get_or, drop, Option, Some, None, refl, sym, subst, ◌∙◌, ap, arith, add-one, inl, inr, ◌⊎◌}
+use Rattle.std.proofs.Common.{◌≡◌, ◌≢◌, ℕ, ◌+◌, ◌/◌, ◌<◌, ◌≤◌, List, length, get_or, drop, Option, Some, None, refl, sym, subst, ◌∙◌, ap, arith, add-one, inl, inr, ◌⊎◌}
 use Rattle.std.proofs.lemmas.Bool.{cases_lt}
 use Rattle.std.specs.Int.{div_ceil}
 use Rattle.uses.specs.Merkle.{climb, level_above, merkle_root, next_level, one_up}
