@@ -113,8 +113,8 @@ impl<'scope, S: Strategy, P: Place> Batches<'scope, S, P> {
 
     /// The answers of `map_op` for the items that `prepare` makes of the ranges, in the items'
     /// order (`MapOf`). A whole batch is mapped on the caller's thread, and any other is handed to
-    /// the batch's strategy with the batch's place. By which of the two it went no clause says:
-    /// tests see it by the threads that the closure is called on.
+    /// the batch's strategy with the batch's place. By which of the two it went no clause says: a
+    /// test counts how often the strategy is asked.
     ///
     /// # Errors
     ///

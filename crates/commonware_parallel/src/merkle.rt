@@ -2,6 +2,10 @@
 //!
 //! An odd last node goes up unchanged, one leaf is its own root, and no leaf gives None
 //! (`MerkleRoot`).
+//!
+//! `combine` isn't told leaves from nodes, and a root says nothing of how many leaves there were:
+//! before membership is checked against it, hash leaves and nodes behind different bytes, and
+//! publish a digest of the number of leaves and the root, as `uses::merkle` does.
 ghost use Rattle.std.specs.Prelude.{IfOk};
 ghost use Rattle.parallel_fault.specs.Trouble.{IsMemoryOnErr};
 ghost use Rattle.commonware_parallel.specs.Merkle.{MerkleRoot, NextLevel};
