@@ -1,4 +1,5 @@
 //! The tests that cross crates, at concrete types. Expected values stand in the tests.
+mod asked;
 mod batches;
 mod blocks;
 mod clocks;
@@ -9,7 +10,6 @@ mod errors;
 mod explorers;
 mod folds;
 mod gates;
-mod known;
 mod layers;
 mod machine;
 mod maps;

@@ -4,14 +4,21 @@
 //! All memory is taken first but for a room, of which each further try of a call is left 16 bytes
 //! more, so that the first request is refused, then the second, and so on. Where memory has no end
 //! (`no_memory`) each call is tried once: that is for runs in which each allocation fails in turn.
-use crate::tests::errors::{Counted, Counts, counted_items};
+use crate::tests::errors::{Counted, Counts, again, count_again, counted_items, greater};
 use crate::tests::no_memory::all_memory;
 use crate::tests::same::row;
-use crate::tests::steps::{add_counts, no_count};
+use crate::tests::steps::{Gives, add_counts, no_count, zero};
 use crate::tests::strategies::{SITE, Stopped, number};
 use commonware_parallel::merkle::root;
-use commonware_parallel::{Fault, Rayon, Sequential, Strategy, Trouble};
+use commonware_parallel::mocks::{ExploreError, explore};
+use commonware_parallel::rayon::ThreadPoolBuildError;
+use commonware_parallel::{
+    Batches, Chooser, Fault, Grid, Rayon, Sequential, Site, Strategy, Trouble,
+};
 use std::alloc::Global;
+use std::cmp::Ordering;
+use std::num::NonZeroUsize;
+use std::ops::Range;
 use std::process::Abort;
 use std::sync::Wait;
 use std::thread::Threads;
@@ -32,26 +39,42 @@ enum Tried {
     MapOfIterator,
     Fold,
     FoldOfIterator,
+    MultipliedMap,
+    MapWithState,
+    MultipliedMapWithState,
+    FoldWithState,
+    Partition,
+    Sort,
+    UnstableSort,
+    Batch,
+    FallibleBatch,
+    Tiles,
+    MergedTiles,
+    Spawn,
+    Explore,
 }
 
-// What the closures of a try made and let go.
-#[derive(Drop)]
-struct Seen {
-    counts: Counts,
-}
-
-impl Seen {
-    fn new() -> Seen {
-        Seen {
-            counts: Counts::new(),
-        }
-    }
-
-    // A further value, of a place.
-    fn value(&self, place: usize) -> Counted<'_> {
-        Counted::new(&self.counts, place)
-    }
-}
+// All calls that are tried.
+const ALL: [Tried; 18] = [
+    Tried::Root,
+    Tried::Map,
+    Tried::MapOfIterator,
+    Tried::Fold,
+    Tried::FoldOfIterator,
+    Tried::MultipliedMap,
+    Tried::MapWithState,
+    Tried::MultipliedMapWithState,
+    Tried::FoldWithState,
+    Tried::Partition,
+    Tried::Sort,
+    Tried::UnstableSort,
+    Tried::Batch,
+    Tried::FallibleBatch,
+    Tried::Tiles,
+    Tried::MergedTiles,
+    Tried::Spawn,
+    Tried::Explore,
+];
 
 // Whether a list is that of all places in their order.
 fn are_all(values: &[Counted<'_>]) -> bool {
@@ -65,20 +88,27 @@ fn are_all(values: &[Counted<'_>]) -> bool {
     place == LEN
 }
 
-// Whether the root is of the last leaf's place, which is the greatest.
-fn is_root<Rt: Threads + Wait + Sync, S: Strategy>(
-    rt: &Rt,
-    alloc: Global,
-    strategy: &S,
-    seen: &Seen,
-    items: Vec<Counted<'_>>,
-) -> Result<bool, Trouble<usize>> {
-    let combine = |left: Counted<'_>, right: Counted<'_>| seen.value(left.place.max(right.place));
-    let found = root(rt, alloc, strategy, SITE, items, combine)?;
-    Ok(match found {
-        Some(node) => node.place.saturating_add(1) == LEN,
-        None => false,
-    })
+// A further value for an item, by a map that doesn't fail.
+fn another(item: Counted<'_>) -> Counted<'_> {
+    item.at(item.place)
+}
+
+fn another_by_state<'a>(_state: &mut u32, item: Counted<'a>) -> Counted<'a> {
+    item.at(item.place)
+}
+
+fn count_by_state(count: usize, _state: &mut u32, item: Counted<'_>) -> usize {
+    count.wrapping_add(usize::from(item.place < LEN))
+}
+
+// The items as keys, and a further value for each but the last.
+fn keyed(item: Counted<'_>) -> (Counted<'_>, Option<Counted<'_>>) {
+    let value = if item.place < 8 {
+        Some(item.at(item.place))
+    } else {
+        None
+    };
+    (item, value)
 }
 
 // Whether a map of the items, as a list or as they come, answers each.
@@ -86,63 +116,232 @@ fn is_map<Rt: Threads + Wait + Sync, S: Strategy>(
     rt: &Rt,
     alloc: Global,
     strategy: &S,
-    seen: &Seen,
+    tried: Tried,
     items: Vec<Counted<'_>>,
-    as_list: bool,
 ) -> Result<bool, Trouble<usize>> {
-    let map = |item: Counted<'_>| -> Result<Counted<'_>, usize> { Ok(seen.value(item.place)) };
-    let values = if as_list {
-        strategy.try_map_collect_vec(rt, alloc, SITE, items, map)?
-    } else {
-        let items = items
-            .into_iter()
-            .filter(|item: &Counted<'_>| item.place < LEN);
-        strategy.try_map_collect_vec(rt, alloc, SITE, items, map)?
+    let values = match tried {
+        Tried::Map => strategy.try_map_collect_vec(rt, alloc, SITE, items, again)?,
+        Tried::MapOfIterator => {
+            strategy.try_map_collect_vec(rt, alloc, SITE, items.into_iter(), again)?
+        }
+        Tried::MultipliedMap => {
+            strategy.map_collect_vec_with_multiplier(rt, alloc, SITE, items, 3, another)?
+        }
+        Tried::MapWithState => {
+            strategy.map_init_collect_vec(rt, alloc, SITE, items, zero, another_by_state)?
+        }
+        _ => strategy.map_init_collect_vec_with_multiplier(
+            rt,
+            alloc,
+            SITE,
+            items,
+            3,
+            zero,
+            another_by_state,
+        )?,
     };
     Ok(are_all(&values))
 }
 
-// The same of a fold that counts them.
+// Whether a fold counts the items, a partition has none in its place, or the root is of the last
+// one's place, which is the greatest.
 fn is_fold<Rt: Threads + Wait + Sync, S: Strategy>(
     rt: &Rt,
     alloc: Global,
     strategy: &S,
-    seen: &Seen,
+    tried: Tried,
     items: Vec<Counted<'_>>,
-    as_list: bool,
 ) -> Result<bool, Trouble<usize>> {
-    let step = |count: usize, item: Counted<'_>| -> Result<usize, usize> {
-        let value = seen.value(item.place);
-        Ok(count.wrapping_add(usize::from(value.place < LEN)))
-    };
-    let count = if as_list {
-        strategy.try_fold(rt, alloc, SITE, items, no_count, step, add_counts)?
-    } else {
-        let items = items
-            .into_iter()
-            .filter(|item: &Counted<'_>| item.place < LEN);
-        strategy.try_fold(rt, alloc, SITE, items, no_count, step, add_counts)?
+    let count = match tried {
+        Tried::Fold => {
+            strategy.try_fold(rt, alloc, SITE, items, no_count, count_again, add_counts)?
+        }
+        Tried::FoldOfIterator => {
+            let items = items.into_iter();
+            strategy.try_fold(rt, alloc, SITE, items, no_count, count_again, add_counts)?
+        }
+        Tried::FoldWithState => strategy.fold_init(
+            rt,
+            alloc,
+            SITE,
+            items,
+            zero,
+            no_count,
+            count_by_state,
+            add_counts,
+        )?,
+        Tried::Partition => {
+            let (values, keys) = strategy.map_partition_collect_vec(rt, alloc, SITE, items, keyed)?;
+            values.len().wrapping_add(keys.len())
+        }
+        _ => match root(rt, alloc, strategy, SITE, items, greater)? {
+            Some(node) => node.place.saturating_add(1),
+            None => 0,
+        },
     };
     Ok(count == LEN)
 }
 
-// Tries a call once: whether it was refused.
-fn try_one<Rt: Threads + Wait + Abort + Sync, S: Strategy>(
+// From the greatest number down.
+fn descending(left: &usize, right: &usize) -> Ordering {
+    right.cmp(left)
+}
+
+// Whether a sort of numbers that aren't in one run leaves them in order.
+fn is_sort<Rt: Threads + Wait + Sync, S: Strategy>(
+    rt: &Rt,
+    alloc: Global,
+    strategy: &S,
+    is_stable: bool,
+) -> Result<bool, Trouble<usize>> {
+    let mut numbers = [0usize; 64];
+    for (place, number) in numbers.iter_mut().enumerate() {
+        *number = place ^ 1;
+    }
+    if is_stable {
+        strategy.sort_by(rt, alloc, SITE, &mut numbers, descending)?;
+    } else {
+        strategy.sort_unstable_by(rt, alloc, SITE, &mut numbers, descending)?;
+    }
+    Ok(numbers.is_sorted_by(|left: &usize, right: &usize| left > right))
+}
+
+// Whether a batch of the items' places answers each that is prepared.
+fn is_batch<Rt: Threads + Wait + Sync, S: Strategy>(
+    rt: &Rt,
+    alloc: Global,
+    strategy: &S,
+    counts: &Counts,
+    may_fail: bool,
+) -> Result<bool, Trouble<usize>> {
+    let least = NonZeroUsize::MIN;
+    let values = strategy.run_batches(
+        rt,
+        alloc,
+        SITE,
+        LEN,
+        least,
+        1,
+        |batches: Batches<'_, S, Site>| {
+            let prepare = |_: &[Range<usize>]| counted_items(alloc, counts, LEN);
+            if may_fail {
+                batches.try_map_collect_vec(rt, alloc, prepare, again)
+            } else {
+                let values = batches.map_collect_vec(rt, alloc, prepare, another);
+                values.map_err(Trouble::Fault)
+            }
+        },
+    )?;
+    Ok(are_all(&values?))
+}
+
+// Adds the cells to a stretch's place.
+fn fill(stretch: &mut Counted<'_>, _row: usize, columns: Range<usize>) {
+    stretch.place = stretch.place.saturating_add(columns.len());
+}
+
+// The stretch's cells, of which the next row has none yet.
+fn finish<'a>(stretch: &mut Counted<'a>, _row: usize) -> Counted<'a> {
+    let cells = stretch.place;
+    stretch.place = 0;
+    stretch.at(cells)
+}
+
+fn merge<'a>(left: Counted<'a>, right: Counted<'a>) -> Counted<'a> {
+    left.at(left.place.saturating_add(right.place))
+}
+
+// Whether tiles of three rows of 9 fill each cell.
+fn are_tiles<Rt: Threads + Wait + Abort + Sync, S: Strategy>(
+    rt: &Rt,
+    alloc: Global,
+    strategy: &S,
+    counts: &Counts,
+    is_merged: bool,
+) -> Result<bool, Trouble<usize>> {
+    let grids = [Grid {
+        rows: 3,
+        tile_cost: NonZeroUsize::MIN,
+    }];
+    assert!(rt; Grid::fits(&grids, LEN));
+    let values = strategy.run_tiles(rt, alloc, SITE, LEN, &grids, 1, |tiles| {
+        let init = || Counted::new(counts, 0);
+        if is_merged {
+            tiles.fill_merge_collect_vec(rt, alloc, init, fill, finish, merge)
+        } else {
+            tiles.fill_collect_vec(rt, alloc, init, fill, finish)
+        }
+    })??;
+    let mut cells = 0usize;
+    for value in &values {
+        cells = cells.saturating_add(value.place);
+    }
+    Ok(cells == 27)
+}
+
+// Whether a search answers.
+fn is_search<Rt: Threads>(rt: &Rt, alloc: Global) -> Result<bool, Trouble<usize>> {
+    let told = explore(rt, alloc, |explorer| explorer.planning().get());
+    match told {
+        Ok(planned) => Ok(planned == 8),
+        Err(ExploreError::Build(ThreadPoolBuildError::Memory)) => Err(Trouble::Fault(
+            Fault::Memory,
+        )),
+        Err(_) => Ok(false),
+    }
+}
+
+// Whether a job is begun. Where no stack is to be had, its worker is refused.
+fn is_spawned<Rt: Threads + Wait + Copy + Send + 'static, S: Strategy>(
+    rt: &Rt,
+    alloc: Global,
+    strategy: &S,
+) -> Result<bool, Trouble<usize>> {
+    match strategy.spawn(rt, alloc, SITE, 1, Gives(7)) {
+        Ok(_) | Err(Fault::Worker) => Ok(true),
+        Err(fault) => Err(Trouble::Fault(fault)),
+    }
+}
+
+// Makes a call once: whether its answer is the right one.
+fn outcome<Rt: Threads + Wait + Abort + Copy + Send + Sync + 'static, S: Strategy>(
     rt: &Rt,
     alloc: Global,
     strategy: &S,
     tried: Tried,
-    seen: &Seen,
+    counts: &Counts,
+    items: Vec<Counted<'_>>,
+) -> Result<bool, Trouble<usize>> {
+    match tried {
+        Tried::Map
+        | Tried::MapOfIterator
+        | Tried::MultipliedMap
+        | Tried::MapWithState
+        | Tried::MultipliedMapWithState => is_map(rt, alloc, strategy, tried, items),
+        Tried::Sort => is_sort(rt, alloc, strategy, true),
+        Tried::UnstableSort => is_sort(rt, alloc, strategy, false),
+        Tried::Batch => is_batch(rt, alloc, strategy, counts, false),
+        Tried::FallibleBatch => is_batch(rt, alloc, strategy, counts, true),
+        Tried::Tiles => are_tiles(rt, alloc, strategy, counts, false),
+        Tried::MergedTiles => are_tiles(rt, alloc, strategy, counts, true),
+        Tried::Spawn => is_spawned(rt, alloc, strategy),
+        Tried::Explore => is_search(rt, alloc),
+        _ => is_fold(rt, alloc, strategy, tried, items),
+    }
+}
+
+// Tries a call once: whether it was refused.
+fn try_one<Rt: Threads + Wait + Abort + Copy + Send + Sync + 'static, S: Strategy>(
+    rt: &Rt,
+    alloc: Global,
+    strategy: &S,
+    tried: Tried,
+    counts: &Counts,
     items: Vec<Counted<'_>>,
 ) -> bool {
-    let found = match tried {
-        Tried::Root => is_root(rt, alloc, strategy, seen, items),
-        Tried::Map => is_map(rt, alloc, strategy, seen, items, true),
-        Tried::MapOfIterator => is_map(rt, alloc, strategy, seen, items, false),
-        Tried::Fold => is_fold(rt, alloc, strategy, seen, items, true),
-        Tried::FoldOfIterator => is_fold(rt, alloc, strategy, seen, items, false),
-    };
-    let is_refused = match found {
+    let found = outcome(rt, alloc, strategy, tried, counts, items);
+    row(rt, tried, counts.left(), 0);
+    match found {
         Ok(is_right) => {
             row(rt, tried, is_right, true);
             false
@@ -151,9 +350,7 @@ fn try_one<Rt: Threads + Wait + Abort + Sync, S: Strategy>(
             row(rt, tried, trouble, Trouble::Fault(Fault::Memory));
             true
         }
-    };
-    row(rt, tried, seen.counts.left(), 0);
-    is_refused
+    }
 }
 
 // The greatest block, up to a size, that is still to be had.
@@ -169,7 +366,7 @@ fn greatest(alloc: Global, most: usize) -> Vec<u8> {
 
 // Tries a call with more and more memory, up to its first answer. It answers how often it was
 // refused, and whether it answered at last.
-fn refused<Rt: Threads + Wait + Abort + Sync, S: Strategy>(
+fn refused<Rt: Threads + Wait + Abort + Copy + Send + Sync + 'static, S: Strategy>(
     rt: &Rt,
     alloc: Global,
     strategy: &S,
@@ -178,10 +375,10 @@ fn refused<Rt: Threads + Wait + Abort + Sync, S: Strategy>(
     let mut count = 0u64;
     for step in 0..500usize {
         let rest = ROOM.saturating_sub(ITEMS);
-        let seen = Seen::new();
-        let items = counted_items(alloc, &seen.counts, LEN).expect(rt, "room for the items");
+        let counts = Counts::new();
+        let items = counted_items(alloc, &counts, LEN).expect(rt, "room for the items");
         let plug = greatest(alloc, rest.saturating_sub(step.saturating_mul(16)));
-        let is_refused = try_one(rt, alloc, strategy, tried, &seen, items);
+        let is_refused = try_one(rt, alloc, strategy, tried, &counts, items);
         drop(plug);
         if !is_refused {
             return (count, true);
@@ -191,37 +388,34 @@ fn refused<Rt: Threads + Wait + Abort + Sync, S: Strategy>(
     (count, false)
 }
 
-// All calls that are tried.
-const ALL: [Tried; 5] = [
-    Tried::Root,
-    Tried::Map,
-    Tried::MapOfIterator,
-    Tried::Fold,
-    Tried::FoldOfIterator,
-];
-
 // Tries each call once, whatever is refused.
-fn try_all<Rt: Threads + Wait + Abort + Sync, S: Strategy>(rt: &Rt, alloc: Global, strategy: &S) {
+fn try_all<Rt: Threads + Wait + Abort + Copy + Send + Sync + 'static, S: Strategy>(
+    rt: &Rt,
+    alloc: Global,
+    strategy: &S,
+) {
     for tried in ALL {
-        let seen = Seen::new();
-        if let Ok(items) = counted_items(alloc, &seen.counts, LEN) {
-            try_one(rt, alloc, strategy, tried, &seen, items);
+        let counts = Counts::new();
+        if let Ok(items) = counted_items(alloc, &counts, LEN) {
+            try_one(rt, alloc, strategy, tried, &counts, items);
         }
     }
 }
 
-// Tries each call with more and more memory. It answers how often they were refused.
-fn refuse_all<Rt: Threads + Wait + Abort + Sync, S: Strategy>(
+// Tries each call with more and more memory. It answers how often they were refused, and how many
+// of them were at all.
+fn refuse_all<Rt: Threads + Wait + Abort + Copy + Send + Sync + 'static, S: Strategy>(
     rt: &Rt,
     alloc: Global,
     strategy: &S,
-) -> u64 {
-    let mut total = 0u64;
+) -> (u64, u64) {
+    let (mut total, mut calls) = (0u64, 0u64);
     for tried in ALL {
         let (count, _) = refused(rt, alloc, strategy, tried);
         total = total.saturating_add(count);
+        calls = calls.saturating_add(count.min(1));
     }
-    total
+    (total, calls)
 }
 
 #[test]
@@ -234,8 +428,9 @@ fn each_growth_is_refused_in_turn(rt: HostRuntime) {
         return;
     };
     try_all(&rt, alloc, &Sequential);
-    try_all(&rt, alloc, &four);
-    try_all(&rt, alloc, &learning);
+    for strategy in [&four, &learning] {
+        try_all(&rt, alloc, strategy);
+    }
     let Ok(room) = Vec::<u8>::with_capacity(alloc, ROOM) else {
         return;
     };
@@ -250,6 +445,6 @@ fn each_growth_is_refused_in_turn(rt: HostRuntime) {
     let parallel = refuse_all(&rt, alloc, &four);
     drop(held);
     let _told = eprintln!(rt;
-        "{roots} roots, {serial} serial and {parallel} parallel calls were refused"
+        "{roots} roots; of serial calls {serial:?} and of parallel ones {parallel:?} were refused"
     );
 }

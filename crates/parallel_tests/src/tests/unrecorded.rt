@@ -1,16 +1,14 @@
 //! What a policy keeps of a call that is refused or fails, through a pool: that it was asked, where
 //! it was, and no time. The clock goes on by a second at each reading, so that a time of such a
 //! call would be seen in the estimates.
-ghost use Rattle.std.specs.Prelude.{◌≡◌, ⊤};
-
 use crate::tests::clocks::{Stepping, learning};
 use crate::tests::entries::{Times, times};
 use crate::tests::no_memory::{all_memory, all_places};
 use crate::tests::same::{answers, row};
-use crate::tests::steps::{descending, zero};
+use crate::tests::steps::{Gives, descending, zero};
 use crate::tests::strategies::SITE;
 use commonware_parallel::policy::{Key, RunExecution, SpawnExecution, SpawnSample};
-use commonware_parallel::{Fault, Indices, Job, Policy, Rayon, Strategy, Trouble};
+use commonware_parallel::{Fault, Indices, Policy, Rayon, Strategy, Trouble};
 use std::alloc::Global;
 use std::process::Abort;
 use std::sync::Wait;
@@ -242,20 +240,6 @@ fn a_run_that_fails_is_not_recorded(rt: HostRuntime) {
         (known, then),
         (moved, (RunExecution::Parallel, false)),
     );
-}
-
-// Answers its number.
-#[derive(Drop)]
-struct Gives(u64);
-
-impl<S: Drop> Job<S, u64> for Gives {
-    ghost may_run = { λ _ _. ⊤ };
-
-    ghost may_answer = { λ job _ answer. answer ≡ job.0 };
-
-    fn run_on(self, _strategy: S) -> u64 {
-        self.0
-    }
 }
 
 // Spawns jobs with more and more memory until a worker is refused: how often memory was, before
