@@ -13,7 +13,6 @@ mod gates;
 mod layers;
 mod machine;
 mod maps;
-mod memory;
 mod no_memory;
 mod one_place;
 mod plans;

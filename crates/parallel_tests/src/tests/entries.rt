@@ -28,6 +28,9 @@ pub fn times<Rt: Wait>(rt: &Rt, policy: &Policy, site: Site, len: usize, work: u
     Some((parallel, entry.estimate(RunExecution::Serial)))
 }
 
+// By how much the clocks go on.
+const STEP: u64 = 100_000;
+
 // One measured run in parallel, and an entry without a time.
 const ONCE: Times = Some((Some(100_000), None));
 
@@ -37,9 +40,15 @@ fn fresh(rt: &impl Abort, alloc: Global) -> Policy {
     Policy::new(alloc).expect(rt, "memory for a policy")
 }
 
-// A pool of four threads for which that policy chooses.
-fn by_policy<Rt: Threads + Abort>(rt: &Rt, alloc: Global, policy: &Policy) -> Rayon<Stepping> {
-    let strategy = learning(rt, alloc, Stepping::new(rt, alloc, 100_000));
+/// A pool of four threads for which that policy chooses, by a clock that goes on by so much at each
+/// reading.
+pub fn by_policy<Rt: Threads + Abort>(
+    rt: &Rt,
+    alloc: Global,
+    policy: &Policy,
+    step: u64,
+) -> Rayon<Stepping> {
+    let strategy = learning(rt, alloc, Stepping::new(rt, alloc, step));
     strategy.with_policy(policy.clone().expect(rt, "a handle"))
 }
 
@@ -124,7 +133,7 @@ fn work_at(place: u32) -> usize {
 fn each_operation_is_recorded_at_its_place(rt: HostRuntime) {
     let alloc = rt.alloc();
     let policy = fresh(&rt, alloc);
-    let strategy = by_policy(&rt, alloc, &policy);
+    let strategy = by_policy(&rt, alloc, &policy, STEP);
     row(&rt, "maps", maps(&rt, alloc, &strategy), Ok(()));
     row(&rt, "folds", folds_and_sorts(&rt, alloc, &strategy), Ok(()));
     row(&rt, "bodies", bodies(&rt, alloc, &strategy), Ok(()));
@@ -161,7 +170,7 @@ fn joins_and_spawns<Rt: Threads + Wait + Copy + Send + Sync + 'static, S: Strate
 fn a_join_has_no_entry_and_a_job_none_of_a_run(rt: HostRuntime) {
     let alloc = rt.alloc();
     let policy = fresh(&rt, alloc);
-    let strategy = by_policy(&rt, alloc, &policy);
+    let strategy = by_policy(&rt, alloc, &policy, STEP);
     answers(&rt, 1, joins_and_spawns(&rt, alloc, &strategy), ());
     row(&rt, "join", times(&rt, &policy, at(1), 2, 2), None);
     let of_join = has_job_or_run(&rt, &policy, at(1));
@@ -190,7 +199,7 @@ fn a_join_has_no_entry_and_a_job_none_of_a_run(rt: HostRuntime) {
 fn what_has_no_policy_leaves_no_entry(rt: HostRuntime) {
     let alloc = rt.alloc();
     let policy = fresh(&rt, alloc);
-    let strategy = by_policy(&rt, alloc, &policy);
+    let strategy = by_policy(&rt, alloc, &policy, STEP);
     assert!(rt; strategy.policy().is_some());
     let fixed = strategy.without_policy().expect(&rt, "memory");
     assert!(rt; fixed.policy().is_none());
@@ -225,8 +234,8 @@ fn takes<Rt: Wait + Abort>(
 fn strategies_over_one_policy_learn_from_each_other(rt: HostRuntime) {
     let alloc = rt.alloc();
     let policy = fresh(&rt, alloc);
-    let first = by_policy(&rt, alloc, &policy);
-    let second = by_policy(&rt, alloc, &policy);
+    let first = by_policy(&rt, alloc, &policy, STEP);
+    let second = by_policy(&rt, alloc, &policy, STEP);
     let both = Some((Some(100_000), Some(100_000)));
     takes(&rt, alloc, &first, &policy, (1, "parallel", ONCE));
     takes(&rt, alloc, &second, &policy, (2, "serial", both));
@@ -259,7 +268,7 @@ fn mapped<Rt: Threads + Wait + Sync, S: Strategy>(
 fn an_entry_is_of_the_digits_of_length_and_work(rt: HostRuntime) {
     let alloc = rt.alloc();
     let policy = fresh(&rt, alloc);
-    let strategy = by_policy(&rt, alloc, &policy);
+    let strategy = by_policy(&rt, alloc, &policy, STEP);
     let both = Some((Some(100_000), Some(100_000)));
     for (len, multiplier, kept) in [
         (1, 1, ONCE),
@@ -342,7 +351,7 @@ fn counted<Rt: Threads + Wait + Sync, S: Strategy>(
 fn a_batch_is_recorded_once_and_only_where_it_answers(rt: HostRuntime) {
     let alloc = rt.alloc();
     let policy = fresh(&rt, alloc);
-    let strategy = by_policy(&rt, alloc, &policy);
+    let strategy = by_policy(&rt, alloc, &policy, STEP);
     for (place, failing, wanted, kept) in [
         (
             1,
@@ -392,7 +401,7 @@ fn ranges<Rt: Wait, S: Strategy>(
 fn a_batch_that_is_too_short_to_be_cut_has_no_entry(rt: HostRuntime) {
     let alloc = rt.alloc();
     let policy = fresh(&rt, alloc);
-    let strategy = by_policy(&rt, alloc, &policy);
+    let strategy = by_policy(&rt, alloc, &policy, STEP);
     let eight = number(&rt, 8);
     for len in [0usize, 1, 7, 8, 15] {
         answers(&rt, len, ranges(&rt, alloc, &strategy, len, eight), 1);

@@ -23,7 +23,7 @@ use std::process::Abort;
 use std::sync::Wait;
 use std::thread::Threads;
 
-// How many items a call has.
+// How many items a call has where its growths are refused in turn.
 const LEN: usize = 9;
 
 // The bytes of such a list of items, and those that a call is left at most beside it.
@@ -76,8 +76,8 @@ const ALL: [Tried; 18] = [
     Tried::Explore,
 ];
 
-// Whether a list is that of all places in their order.
-fn are_all(values: &[Counted<'_>]) -> bool {
+// Whether a list is that of so many places in their order.
+fn are_all(values: &[Counted<'_>], len: usize) -> bool {
     let mut place = 0usize;
     for value in values {
         if value.place != place {
@@ -85,7 +85,7 @@ fn are_all(values: &[Counted<'_>]) -> bool {
         }
         place = place.saturating_add(1);
     }
-    place == LEN
+    place == len
 }
 
 // A further value for an item, by a map that doesn't fail.
@@ -98,7 +98,7 @@ fn another_by_state<'a>(_state: &mut u32, item: Counted<'a>) -> Counted<'a> {
 }
 
 fn count_by_state(count: usize, _state: &mut u32, item: Counted<'_>) -> usize {
-    count.wrapping_add(usize::from(item.place < LEN))
+    count.wrapping_add(usize::from(item.place < usize::MAX))
 }
 
 // The items as keys, and a further value for each but the last.
@@ -119,6 +119,7 @@ fn is_map<Rt: Threads + Wait + Sync, S: Strategy>(
     tried: Tried,
     items: Vec<Counted<'_>>,
 ) -> Result<bool, Trouble<usize>> {
+    let len = items.len();
     let values = match tried {
         Tried::Map => strategy.try_map_collect_vec(rt, alloc, SITE, items, again)?,
         Tried::MapOfIterator => {
@@ -140,7 +141,7 @@ fn is_map<Rt: Threads + Wait + Sync, S: Strategy>(
             another_by_state,
         )?,
     };
-    Ok(are_all(&values))
+    Ok(are_all(&values, len))
 }
 
 // Whether a fold counts the items, a partition has none in its place, or the root is of the last
@@ -152,6 +153,7 @@ fn is_fold<Rt: Threads + Wait + Sync, S: Strategy>(
     tried: Tried,
     items: Vec<Counted<'_>>,
 ) -> Result<bool, Trouble<usize>> {
+    let len = items.len();
     let count = match tried {
         Tried::Fold => {
             strategy.try_fold(rt, alloc, SITE, items, no_count, count_again, add_counts)?
@@ -179,7 +181,7 @@ fn is_fold<Rt: Threads + Wait + Sync, S: Strategy>(
             None => 0,
         },
     };
-    Ok(count == LEN)
+    Ok(count == len)
 }
 
 // From the greatest number down.
@@ -212,18 +214,18 @@ fn is_batch<Rt: Threads + Wait + Sync, S: Strategy>(
     alloc: Global,
     strategy: &S,
     counts: &Counts,
-    may_fail: bool,
+    (len, may_fail): (usize, bool),
 ) -> Result<bool, Trouble<usize>> {
     let least = NonZeroUsize::MIN;
     let values = strategy.run_batches(
         rt,
         alloc,
         SITE,
-        LEN,
+        len,
         least,
         1,
         |batches: Batches<'_, S, Site>| {
-            let prepare = |_: &[Range<usize>]| counted_items(alloc, counts, LEN);
+            let prepare = |_: &[Range<usize>]| counted_items(alloc, counts, len);
             if may_fail {
                 batches.try_map_collect_vec(rt, alloc, prepare, again)
             } else {
@@ -232,7 +234,7 @@ fn is_batch<Rt: Threads + Wait + Sync, S: Strategy>(
             }
         },
     )?;
-    Ok(are_all(&values?))
+    Ok(are_all(&values?, len))
 }
 
 // Adds the cells to a stretch's place.
@@ -251,20 +253,20 @@ fn merge<'a>(left: Counted<'a>, right: Counted<'a>) -> Counted<'a> {
     left.at(left.place.saturating_add(right.place))
 }
 
-// Whether tiles of three rows of 9 fill each cell.
+// Whether tiles of three rows of as many fill each cell.
 fn are_tiles<Rt: Threads + Wait + Abort + Sync, S: Strategy>(
     rt: &Rt,
     alloc: Global,
     strategy: &S,
     counts: &Counts,
-    is_merged: bool,
+    (len, is_merged): (usize, bool),
 ) -> Result<bool, Trouble<usize>> {
     let grids = [Grid {
         rows: 3,
         tile_cost: NonZeroUsize::MIN,
     }];
-    assert!(rt; Grid::fits(&grids, LEN));
-    let values = strategy.run_tiles(rt, alloc, SITE, LEN, &grids, 1, |tiles| {
+    assert!(rt; Grid::fits(&grids, len));
+    let values = strategy.run_tiles(rt, alloc, SITE, len, &grids, 1, |tiles| {
         let init = || Counted::new(counts, 0);
         if is_merged {
             tiles.fill_merge_collect_vec(rt, alloc, init, fill, finish, merge)
@@ -276,7 +278,7 @@ fn are_tiles<Rt: Threads + Wait + Abort + Sync, S: Strategy>(
     for value in &values {
         cells = cells.saturating_add(value.place);
     }
-    Ok(cells == 27)
+    Ok(cells == len.saturating_mul(3))
 }
 
 // Whether a search answers.
@@ -320,10 +322,10 @@ fn outcome<Rt: Threads + Wait + Abort + Copy + Send + Sync + 'static, S: Strateg
         | Tried::MultipliedMapWithState => is_map(rt, alloc, strategy, tried, items),
         Tried::Sort => is_sort(rt, alloc, strategy, true),
         Tried::UnstableSort => is_sort(rt, alloc, strategy, false),
-        Tried::Batch => is_batch(rt, alloc, strategy, counts, false),
-        Tried::FallibleBatch => is_batch(rt, alloc, strategy, counts, true),
-        Tried::Tiles => are_tiles(rt, alloc, strategy, counts, false),
-        Tried::MergedTiles => are_tiles(rt, alloc, strategy, counts, true),
+        Tried::Batch => is_batch(rt, alloc, strategy, counts, (items.len(), false)),
+        Tried::FallibleBatch => is_batch(rt, alloc, strategy, counts, (items.len(), true)),
+        Tried::Tiles => are_tiles(rt, alloc, strategy, counts, (items.len(), false)),
+        Tried::MergedTiles => are_tiles(rt, alloc, strategy, counts, (items.len(), true)),
         Tried::Spawn => is_spawned(rt, alloc, strategy),
         Tried::Explore => is_search(rt, alloc),
         _ => is_fold(rt, alloc, strategy, tried, items),
@@ -388,16 +390,36 @@ fn refused<Rt: Threads + Wait + Abort + Copy + Send + Sync + 'static, S: Strateg
     (count, false)
 }
 
-// Tries each call once, whatever is refused.
+// Tries each call once, with no item, one, two, some and many, whatever is refused.
 fn try_all<Rt: Threads + Wait + Abort + Copy + Send + Sync + 'static, S: Strategy>(
     rt: &Rt,
     alloc: Global,
     strategy: &S,
 ) {
-    for tried in ALL {
-        let counts = Counts::new();
-        if let Ok(items) = counted_items(alloc, &counts, LEN) {
-            try_one(rt, alloc, strategy, tried, &counts, items);
+    for len in [0, 1, 2, LEN, 1000] {
+        for tried in ALL {
+            let counts = Counts::new();
+            if let Ok(items) = counted_items(alloc, &counts, len) {
+                try_one(rt, alloc, strategy, tried, &counts, items);
+            }
+        }
+    }
+}
+
+#[test]
+fn each_call_answers_or_is_refused(rt: HostRuntime) {
+    let alloc = rt.alloc();
+    try_all(&rt, alloc, &Sequential);
+    for threads in [1usize, 2, 4, 8] {
+        // A pool's own memory may be refused too.
+        match Rayon::new(&rt, alloc, number(&rt, threads), Stopped) {
+            Ok(learning) => {
+                try_all(&rt, alloc, &learning);
+                if let Ok(fixed) = learning.without_policy() {
+                    try_all(&rt, alloc, &fixed);
+                }
+            }
+            Err(error) => assert!(rt; matches!(error, ThreadPoolBuildError::Memory)),
         }
     }
 }
@@ -427,10 +449,6 @@ fn each_growth_is_refused_in_turn(rt: HostRuntime) {
     let Ok(four) = learning.without_policy() else {
         return;
     };
-    try_all(&rt, alloc, &Sequential);
-    for strategy in [&four, &learning] {
-        try_all(&rt, alloc, strategy);
-    }
     let Ok(room) = Vec::<u8>::with_capacity(alloc, ROOM) else {
         return;
     };

@@ -75,7 +75,8 @@ fn a_strategy_has_the_number_of_a_pool_that_was_built(rt: HostRuntime) {
     let strategy = Rayon::with_pool(alloc, &built, Stopped).expect(&rt, "memory");
     drop(built);
     row(&rt, 1, numbers_of(&strategy), (3, 3));
-    takes(&rt, alloc, &strategy, 64, "parallel");
+    let taken = strategy.run(&rt, alloc, SITE, 64, serial, parallel);
+    answers(&rt, 2, taken, "parallel");
 }
 
 #[test]
