@@ -199,6 +199,42 @@ where
     answers(rt, of, meet_in(rt, alloc, two, of.0, list), true);
 }
 
+// The same for each list that can be cut: copies, a slice, and a producer of `uses`.
+fn items_of_lists_meet<'a, 's: 'a, Rt: Threads + Wait + Abort + Sync>(
+    rt: &Rt,
+    alloc: Global,
+    two: &Rayon<Stopped>,
+    called: Called,
+    meeting: &Meeting,
+    seats: &'a [Seat<'s>],
+    places: &'a [&'a Seat<'s>],
+) {
+    items_meet(rt, alloc, two, meeting, (called, "slice"), seats);
+    let copies = Copies { slice: places };
+    items_meet(rt, alloc, two, meeting, (called, "copies"), copies);
+    let own = Backwards { slice: places };
+    items_meet(rt, alloc, two, meeting, (called, "own"), own);
+}
+
+// The same for a vector, an iterator, and one that knows its number.
+fn items_as_they_come_meet<'a, 's: 'a, Rt: Threads + Wait + Abort + Sync>(
+    rt: &Rt,
+    alloc: Global,
+    two: &Rayon<Stopped>,
+    called: Called,
+    meeting: &Meeting,
+    places: &'a [&'a Seat<'s>],
+) {
+    let iterator = places.iter().copied();
+    items_meet(rt, alloc, two, meeting, (called, "iterator"), iterator);
+    let counted = Counted {
+        iter: places.iter().copied(),
+    };
+    items_meet(rt, alloc, two, meeting, (called, "counted"), counted);
+    let vector = Vec::from_slice(alloc, places).expect(rt, "memory");
+    items_meet(rt, alloc, two, meeting, (called, "vector"), vector);
+}
+
 #[test]
 fn the_items_of_each_list_call_see_each_other(rt: HostRuntime) {
     let alloc = rt.alloc();
@@ -207,30 +243,8 @@ fn the_items_of_each_list_call_see_each_other(rt: HostRuntime) {
     let seats = meeting.seats();
     let places = [&seats[0], &seats[1]];
     for called in CALLS {
-        let copies = Copies {
-            slice: places.as_slice(),
-        };
-        items_meet(&rt, alloc, &two, &meeting, (called, "copies"), copies);
-        items_meet(
-            &rt,
-            alloc,
-            &two,
-            &meeting,
-            (called, "slice"),
-            seats.as_slice(),
-        );
-        let own = Backwards {
-            slice: places.as_slice(),
-        };
-        items_meet(&rt, alloc, &two, &meeting, (called, "own"), own);
-        let iterator = places.iter().copied();
-        items_meet(&rt, alloc, &two, &meeting, (called, "iterator"), iterator);
-        let counted = Counted {
-            iter: places.iter().copied(),
-        };
-        items_meet(&rt, alloc, &two, &meeting, (called, "counted"), counted);
-        let vector = Vec::from_slice(alloc, &places).expect(&rt, "memory");
-        items_meet(&rt, alloc, &two, &meeting, (called, "vector"), vector);
+        items_of_lists_meet(&rt, alloc, &two, called, &meeting, &seats, &places);
+        items_as_they_come_meet(&rt, alloc, &two, called, &meeting, &places);
     }
 }
 
