@@ -53,10 +53,20 @@ fn other_errors<Rt: Threads + Wait + Sync, S: Strategy>(
 // None in a thousand runs through a pool of four without a policy and one with one. (A test that
 // makes more of them might not end in its time where the machine does much else.)
 fn first_is_answered<Rt: Threads + Wait + Abort + Sync>(rt: &Rt, alloc: Global, failing: Failing) {
-    for strategy in [pool(rt, alloc, 4, 4), fresh(rt, alloc, 4)] {
-        let others = other_errors(rt, alloc, &strategy, failing, 1000);
-        row(rt, failing, others, 0);
-    }
+    let fixed = pool(rt, alloc, 4, 4);
+    row(
+        rt,
+        failing,
+        other_errors(rt, alloc, &fixed, failing, 1000),
+        0,
+    );
+    let learning = fresh(rt, alloc, 4);
+    row(
+        rt,
+        failing,
+        other_errors(rt, alloc, &learning, failing, 1000),
+        0,
+    );
 }
 
 #[test]

@@ -207,21 +207,24 @@ fn tiles_and_sorts_come_out_alike_by_every_rule(rt: HostRuntime) {
     }
 }
 
+// Stops the test where an explorer isn't by the parallel rule, over two threads and planned for
+// three, or where a run in a row isn't parallel.
+fn is_parallel<Rt: Wait + Abort>(rt: &Rt, alloc: Global, explorer: &Explorer) {
+    let numbers = (explorer.thread_number().get(), explorer.planning().get());
+    same(rt, (explorer.rule(), numbers), (Rule::Parallel, (2, 3)));
+    for turn in 0..4 {
+        let taken = explorer.run(rt, alloc, SITE, 64, serial, parallel);
+        answers(rt, turn, taken, "parallel");
+    }
+}
+
 #[test]
 fn an_explorer_keeps_the_numbers_and_asks_no_policy(rt: HostRuntime) {
     let alloc = rt.alloc();
     let strategy = pooled(&rt, alloc, number(&rt, 2), number(&rt, 3), Stopped);
     let explorer = Explorer::parallel(&strategy.expect(&rt, "memory")).expect(&rt, "memory");
-    let copied = explorer.clone().expect(&rt, "memory");
-    for explorer in [explorer, copied] {
-        same(&rt, explorer.rule(), Rule::Parallel);
-        let numbers = (explorer.thread_number().get(), explorer.planning().get());
-        same(&rt, numbers, (2, 3));
-        for turn in 0..4 {
-            let taken = explorer.run(&rt, alloc, SITE, 64, serial, parallel);
-            answers(&rt, turn, taken, "parallel");
-        }
-    }
+    is_parallel(&rt, alloc, &explorer);
+    is_parallel(&rt, alloc, &explorer.clone().expect(&rt, "memory"));
     let alone = inline(&rt, alloc, number(&rt, 4), Stopped).expect(&rt, "memory");
     let numbers = (alone.thread_number().get(), alone.planning().get());
     same(&rt, numbers, (1, 4));
