@@ -32,6 +32,7 @@ mod strategies;
 mod threads;
 mod tiles;
 mod trees;
+mod tried;
 mod tries;
 mod unrecorded;
 mod ways;

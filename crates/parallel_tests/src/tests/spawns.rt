@@ -242,11 +242,11 @@ fn hand_offs<Rt: Threads + Wait + RandomSource + AllocGlobal + Abort + Copy + Se
     rt: &Rt,
     strategy: &Rayon<Scripted>,
 ) -> [bool; 3] {
-    let mut found = [false; 3];
-    for is_aside in &mut found {
-        *is_aside = is_handed_off(rt, strategy, SITE);
-    }
-    found
+    [
+        is_handed_off(rt, strategy, SITE),
+        is_handed_off(rt, strategy, SITE),
+        is_handed_off(rt, strategy, SITE),
+    ]
 }
 
 #[test]

@@ -1,5 +1,5 @@
 //! Maps with a state at hand, partitions, sorts and joins, through each strategy.
-use crate::tests::same::{answers, lists, row, same};
+use crate::tests::same::{answers, lists, same};
 use crate::tests::steps::{
     answer_one, answer_two, ascending, count, descending, tenfold, twice, zero,
 };

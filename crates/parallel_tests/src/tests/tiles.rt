@@ -4,7 +4,7 @@ use crate::tests::steps::{no, no_count};
 use crate::tests::strategies::{SITE, explorers, number, pool, pools};
 use crate::tests::threads::Meeting;
 use commonware_parallel::shares::machine::{Event, Outcome, Plan, replay};
-use commonware_parallel::{Fault, Grid, Sequential, Strategy};
+use commonware_parallel::{Fault, Grid, Sequential, Site, Strategy, Tiles};
 use std::alloc::Global;
 use std::ops::Range;
 use std::process::Abort;
@@ -31,6 +31,23 @@ fn row_and_cells(count: &mut usize, row: usize) -> (usize, usize) {
     (row, cells)
 }
 
+// What tiles answer, each cell of a row of `len` counted in `marks` as it is filled.
+fn fill_tiles<Rt: Threads + Wait + Sync, S: Strategy>(
+    rt: &Rt,
+    alloc: Global,
+    tiles: Tiles<'_, S, Site>,
+    len: usize,
+    marks: &[AtomicU64],
+) -> Result<Told, Fault> {
+    let plan = (tiles.grid(), tiles.workers().get(), tiles.is_cut());
+    let mark = |count: &mut usize, row: usize, columns: Range<usize>| {
+        *count = count.saturating_add(columns.len());
+        mark_cells(marks, row.saturating_mul(len), columns);
+    };
+    let results = tiles.fill_collect_vec(rt, alloc, no_count, mark, row_and_cells)?;
+    Ok((plan, results))
+}
+
 // Fills the grids, and counts in `marks` how often each cell of a row of `len` was filled.
 fn fill<Rt: Threads + Wait + Abort + Sync, S: Strategy>(
     rt: &Rt,
@@ -42,13 +59,7 @@ fn fill<Rt: Threads + Wait + Abort + Sync, S: Strategy>(
 ) -> Result<Told, Fault> {
     assert!(rt; Grid::fits(grids, len));
     strategy.run_tiles(rt, alloc, SITE, len, grids, 1, |tiles| {
-        let plan = (tiles.grid(), tiles.workers().get(), tiles.is_cut());
-        let mark = |count: &mut usize, row: usize, columns: Range<usize>| {
-            *count = count.saturating_add(columns.len());
-            mark_cells(marks, row.saturating_mul(len), columns);
-        };
-        let results = tiles.fill_collect_vec(rt, alloc, no_count, mark, row_and_cells)?;
-        Ok((plan, results))
+        fill_tiles(rt, alloc, tiles, len, marks)
     })?
 }
 
