@@ -1,4 +1,5 @@
 //! The tests that cross crates, at concrete types. Expected values stand in the tests.
+mod asked;
 mod batches;
 mod blocks;
 mod clocks;
@@ -9,11 +10,9 @@ mod errors;
 mod explorers;
 mod folds;
 mod gates;
-mod known;
 mod layers;
 mod machine;
 mod maps;
-mod memory;
 mod no_memory;
 mod one_place;
 mod plans;
@@ -33,6 +32,7 @@ mod strategies;
 mod threads;
 mod tiles;
 mod trees;
+mod tried;
 mod tries;
 mod unrecorded;
 mod ways;

@@ -11,7 +11,6 @@ use std::io::{ErrorKind, Write};
 use std::num::NonZeroUsize;
 use std::process::Abort;
 use std::sync::Wait;
-use std::test::Fail;
 use std::thread::Threads;
 
 // What a command left: its status, and what it wrote to either writer.
@@ -33,17 +32,24 @@ fn words_of(alloc: Global, line: &str) -> Result<Vec<String>, AllocError> {
     Ok(words)
 }
 
-// Runs the words of the line.
-fn run<R: Threads + Wait + Abort + Sync>(rt: &R, alloc: Global, line: &str) -> Ran {
-    let words = words_of(alloc, line).expect(rt, "memory");
-    let mut out = Vec::new(alloc);
-    let mut err = Vec::new(alloc);
+// Runs the words of the line. The words and the writers have their memory before; None where it is
+// refused.
+fn run<R: Threads + Wait + Abort + Sync>(rt: &R, alloc: Global, line: &str) -> Option<Ran> {
+    let Ok(words) = words_of(alloc, line) else {
+        return None;
+    };
+    let Ok(mut out) = Vec::with_capacity(alloc, 64) else {
+        return None;
+    };
+    let Ok(mut err) = Vec::with_capacity(alloc, 64) else {
+        return None;
+    };
     let status = command(rt, alloc, &words, &mut out, &mut err).expect(rt, "writers that write");
-    Ran {
+    Some(Ran {
         status,
         out: text_of(rt, out),
         err: text_of(rt, err),
-    }
+    })
 }
 
 // The text that was written.
@@ -58,7 +64,7 @@ fn leaves<R: Threads + Wait + Abort + Sync>(
     line: &str,
     wanted: (u8, &str, &str),
 ) {
-    let ran = run(rt, alloc, line);
+    let ran = run(rt, alloc, line).expect(rt, "memory");
     row(
         rt,
         line,
@@ -162,7 +168,7 @@ fn words_left<R: Threads + Wait + Abort + Sync>(
     first: &str,
     last: &str,
 ) -> usize {
-    let ran = run(rt, alloc, line);
+    let ran = run(rt, alloc, line).expect(rt, "memory");
     row(rt, line, ran.status, 0);
     assert!(rt;
         ran.out.starts_with(first) && ran.out.ends_with(last),
@@ -392,7 +398,7 @@ fn a_refusal_says_its_text(rt: HostRuntime) {
 // Run with `rt try --test --fail-alloc N` for each N: a refused growth leaves no answer, half or
 // whole.
 #[test]
-fn a_refused_growth_leaves_no_answer(rt: HostRuntime) -> Result<(), Fail> {
+fn a_refused_growth_leaves_no_answer(rt: HostRuntime) {
     let alloc = rt.alloc();
     let lines = [
         ("drain 4 2", "0 1 2 3\n"),
@@ -405,26 +411,16 @@ fn a_refused_growth_leaves_no_answer(rt: HostRuntime) -> Result<(), Fail> {
         ("root 1 2 3", "25\n"),
     ];
     for (line, answer) in lines {
-        // The words and the writers have their memory before the command runs.
-        let Ok(words) = words_of(alloc, line) else {
+        let Some(ran) = run(&rt, alloc, line) else {
             continue;
         };
-        let Ok(mut out) = Vec::with_capacity(alloc, 64) else {
-            continue;
-        };
-        let Ok(mut err) = Vec::with_capacity(alloc, 64) else {
-            continue;
-        };
-        let status = command(&rt, alloc, &words, &mut out, &mut err)?;
-        let (out, err) = (String::from_utf8(out)?, String::from_utf8(err)?);
-        let wanted = if status == 0 {
+        let wanted = if ran.status == 0 {
             (answer, "")
         } else {
             ("", "shapes: out of memory\n")
         };
-        row(&rt, line, (out.as_str(), err.as_str()), wanted);
+        row(&rt, line, (ran.out.as_str(), ran.err.as_str()), wanted);
     }
-    Ok(())
 }
 
 #[test]

@@ -1,22 +1,21 @@
 //! What a policy has of the calls of strategies that it was handed to: at which keys there are
 //! entries, and the times that they keep. The clocks go on by 100000 nanoseconds at each reading,
 //! so each measured run takes as long.
-ghost use Rattle.std.specs.Prelude.{◌≡◌, ⊤};
-
 use crate::tests::clocks::{Stepping, learning};
 use crate::tests::same::{answers, row};
 use crate::tests::steps::{
-    add, add_counted, answer_one, answer_two, ascending, count, descending, zero,
+    Gives, add, add_counted, answer_one, answer_two, as_it_is, ascending, count, descending, zero,
 };
 use crate::tests::strategies::{SITE, number};
 use commonware_parallel::policy::{Key, RunExecution};
-use commonware_parallel::{Batches, Fault, Grid, Job, Policy, Rayon, Site, Strategy, Trouble};
+use commonware_parallel::{Batches, Fault, Grid, Policy, Rayon, Site, Strategy, Trouble};
 use std::alloc::Global;
 use std::num::NonZeroUsize;
 use std::ops::Range;
 use std::process::Abort;
 use std::sync::Wait;
 use std::thread::Threads;
+use uses::batches::batch_ranges;
 use uses::runs::one_of;
 
 /// The times of runs in parallel and of serial ones, where there is an entry.
@@ -29,6 +28,9 @@ pub fn times<Rt: Wait>(rt: &Rt, policy: &Policy, site: Site, len: usize, work: u
     Some((parallel, entry.estimate(RunExecution::Serial)))
 }
 
+// By how much the clocks go on.
+const STEP: u64 = 100_000;
+
 // One measured run in parallel, and an entry without a time.
 const ONCE: Times = Some((Some(100_000), None));
 
@@ -38,9 +40,15 @@ fn fresh(rt: &impl Abort, alloc: Global) -> Policy {
     Policy::new(alloc).expect(rt, "memory for a policy")
 }
 
-// A pool of four threads for which that policy chooses.
-fn by_policy<Rt: Threads + Abort>(rt: &Rt, alloc: Global, policy: &Policy) -> Rayon<Stepping> {
-    let strategy = learning(rt, alloc, Stepping::new(rt, alloc, 100_000));
+/// A pool of four threads for which that policy chooses, by a clock that goes on by so much at each
+/// reading.
+pub fn by_policy<Rt: Threads + Abort>(
+    rt: &Rt,
+    alloc: Global,
+    policy: &Policy,
+    step: u64,
+) -> Rayon<Stepping> {
+    let strategy = learning(rt, alloc, Stepping::new(rt, alloc, step));
     strategy.with_policy(policy.clone().expect(rt, "a handle"))
 }
 
@@ -67,9 +75,8 @@ fn maps<Rt: Threads + Wait + Sync, S: Strategy>(
     alloc: Global,
     strategy: &S,
 ) -> Result<(), Trouble<u8>> {
-    let same = |number: u32| number;
-    strategy.map_collect_vec(rt, alloc, at(1), 0..16u32, same)?;
-    strategy.map_collect_vec_with_multiplier(rt, alloc, at(2), 0..16u32, 2, same)?;
+    strategy.map_collect_vec(rt, alloc, at(1), 0..16u32, as_it_is)?;
+    strategy.map_collect_vec_with_multiplier(rt, alloc, at(2), 0..16u32, 2, as_it_is)?;
     strategy.try_map_collect_vec(rt, alloc, at(3), 0..16u32, checked)?;
     strategy.map_init_collect_vec(rt, alloc, at(4), 0..16u32, zero, count)?;
     let numbers = 0..16u32;
@@ -103,15 +110,7 @@ fn bodies<Rt: Wait + Abort, S: Strategy>(
     one_of(rt, alloc, strategy, at(12), 16, 1u8, 2)?;
     strategy.try_run(rt, alloc, at(13), 16, || checked(1), || checked(2))?;
     let least = NonZeroUsize::MIN;
-    strategy.run_batches(
-        rt,
-        alloc,
-        at(14),
-        16,
-        least,
-        1,
-        |batches| batches.is_whole(),
-    )?;
+    batch_ranges(rt, alloc, strategy, at(14), 16, least)?;
     let grids = [Grid {
         rows: 1,
         tile_cost: least,
@@ -134,7 +133,7 @@ fn work_at(place: u32) -> usize {
 fn each_operation_is_recorded_at_its_place(rt: HostRuntime) {
     let alloc = rt.alloc();
     let policy = fresh(&rt, alloc);
-    let strategy = by_policy(&rt, alloc, &policy);
+    let strategy = by_policy(&rt, alloc, &policy, STEP);
     row(&rt, "maps", maps(&rt, alloc, &strategy), Ok(()));
     row(&rt, "folds", folds_and_sorts(&rt, alloc, &strategy), Ok(()));
     row(&rt, "bodies", bodies(&rt, alloc, &strategy), Ok(()));
@@ -147,20 +146,6 @@ fn each_operation_is_recorded_at_its_place(rt: HostRuntime) {
         row(&rt, (place, "without its multiplier"), kept, None);
     }
     row(&rt, 0, times(&rt, &policy, at(0), 16, 16), None);
-}
-
-// Answers its number.
-#[derive(Drop)]
-struct Gives(u64);
-
-impl<S: Drop> Job<S, u64> for Gives {
-    ghost may_run = { λ _ _. ⊤ };
-
-    ghost may_answer = { λ job _ answer. answer ≡ job.0 };
-
-    fn run_on(self, _strategy: S) -> u64 {
-        self.0
-    }
 }
 
 // Whether a policy has an entry of jobs or of runs at a place, for one item.
@@ -185,7 +170,7 @@ fn joins_and_spawns<Rt: Threads + Wait + Copy + Send + Sync + 'static, S: Strate
 fn a_join_has_no_entry_and_a_job_none_of_a_run(rt: HostRuntime) {
     let alloc = rt.alloc();
     let policy = fresh(&rt, alloc);
-    let strategy = by_policy(&rt, alloc, &policy);
+    let strategy = by_policy(&rt, alloc, &policy, STEP);
     answers(&rt, 1, joins_and_spawns(&rt, alloc, &strategy), ());
     row(&rt, "join", times(&rt, &policy, at(1), 2, 2), None);
     let of_join = has_job_or_run(&rt, &policy, at(1));
@@ -214,7 +199,7 @@ fn a_join_has_no_entry_and_a_job_none_of_a_run(rt: HostRuntime) {
 fn what_has_no_policy_leaves_no_entry(rt: HostRuntime) {
     let alloc = rt.alloc();
     let policy = fresh(&rt, alloc);
-    let strategy = by_policy(&rt, alloc, &policy);
+    let strategy = by_policy(&rt, alloc, &policy, STEP);
     assert!(rt; strategy.policy().is_some());
     let fixed = strategy.without_policy().expect(&rt, "memory");
     assert!(rt; fixed.policy().is_none());
@@ -225,56 +210,43 @@ fn what_has_no_policy_leaves_no_entry(rt: HostRuntime) {
     let one = strategy.with_parallelism(number(&rt, 1));
     row(&rt, 4, bodies(&rt, alloc, &one), Ok(()));
     for place in 1..16u32 {
-        row(
-            &rt,
-            place,
-            times(&rt, &policy, at(place), 16, work_at(place)),
-            None,
-        );
+        let kept = times(&rt, &policy, at(place), 16, work_at(place));
         let alone = policy.run_entry(&rt, Key::new(at(place), 16, work_at(place), 1));
-        assert!(rt; alone.is_none());
+        row(&rt, place, (kept, alone.is_some()), (None, false));
     }
+}
+
+// Stops the test where a run over 16 items doesn't take that body, or where the policy then keeps
+// other times of it.
+fn takes<Rt: Wait + Abort>(
+    rt: &Rt,
+    alloc: Global,
+    strategy: &Rayon<Stepping>,
+    policy: &Policy,
+    (turn, body, kept): (u32, &'static str, Times),
+) {
+    let taken = one_of(rt, alloc, strategy, SITE, 16, "serial", "parallel");
+    answers(rt, turn, taken, body);
+    row(rt, turn, times(rt, policy, SITE, 16, 16), kept);
 }
 
 #[test]
 fn strategies_over_one_policy_learn_from_each_other(rt: HostRuntime) {
     let alloc = rt.alloc();
     let policy = fresh(&rt, alloc);
-    let first = by_policy(&rt, alloc, &policy);
-    let second = by_policy(&rt, alloc, &policy);
-    let other = learning(&rt, alloc, Stepping::new(&rt, alloc, 100_000));
-    answers(
-        &rt,
-        1,
-        one_of(&rt, alloc, &first, SITE, 16, "serial", "parallel"),
-        "parallel",
-    );
-    row(&rt, 1, times(&rt, &policy, SITE, 16, 16), ONCE);
-    answers(
-        &rt,
-        2,
-        one_of(&rt, alloc, &second, SITE, 16, "serial", "parallel"),
-        "serial",
-    );
+    let first = by_policy(&rt, alloc, &policy, STEP);
+    let second = by_policy(&rt, alloc, &policy, STEP);
     let both = Some((Some(100_000), Some(100_000)));
-    row(&rt, 2, times(&rt, &policy, SITE, 16, 16), both);
-    answers(
-        &rt,
-        3,
-        one_of(&rt, alloc, &first, SITE, 16, "serial", "parallel"),
-        "serial",
-    );
+    takes(&rt, alloc, &first, &policy, (1, "parallel", ONCE));
+    takes(&rt, alloc, &second, &policy, (2, "serial", both));
+    let third = one_of(&rt, alloc, &first, SITE, 16, "serial", "parallel");
+    answers(&rt, 3, third, "serial");
     // A strategy with a policy of its own has learnt nothing, and tells them nothing.
+    let other = learning(&rt, alloc, Stepping::new(&rt, alloc, 100_000));
     let own = other.policy().expect(&rt, "a policy");
-    row(&rt, 3, times(&rt, own, SITE, 16, 16), None);
-    answers(
-        &rt,
-        4,
-        one_of(&rt, alloc, &other, SITE, 16, "serial", "parallel"),
-        "parallel",
-    );
-    row(&rt, 4, times(&rt, own, SITE, 16, 16), ONCE);
-    row(&rt, 5, times(&rt, &policy, SITE, 16, 16), both);
+    row(&rt, 4, times(&rt, own, SITE, 16, 16), None);
+    takes(&rt, alloc, &other, own, (5, "parallel", ONCE));
+    row(&rt, 6, times(&rt, &policy, SITE, 16, 16), both);
 }
 
 // Maps so many numbers, of which each stands for so much work.
@@ -285,10 +257,9 @@ fn mapped<Rt: Threads + Wait + Sync, S: Strategy>(
     len: u32,
     multiplier: usize,
 ) -> Result<usize, Fault> {
-    let same = |number: u32| number;
     let numbers = 0..len;
     let mapped = strategy.map_collect_vec_with_multiplier(
-        rt, alloc, SITE, numbers, multiplier, same,
+        rt, alloc, SITE, numbers, multiplier, as_it_is,
     )?;
     Ok(mapped.len())
 }
@@ -297,7 +268,7 @@ fn mapped<Rt: Threads + Wait + Sync, S: Strategy>(
 fn an_entry_is_of_the_digits_of_length_and_work(rt: HostRuntime) {
     let alloc = rt.alloc();
     let policy = fresh(&rt, alloc);
-    let strategy = by_policy(&rt, alloc, &policy);
+    let strategy = by_policy(&rt, alloc, &policy, STEP);
     let both = Some((Some(100_000), Some(100_000)));
     for (len, multiplier, kept) in [
         (1, 1, ONCE),
@@ -308,12 +279,8 @@ fn an_entry_is_of_the_digits_of_length_and_work(rt: HostRuntime) {
         (16, 3, both),
     ] {
         let of = (len, multiplier);
-        answers(
-            &rt,
-            of,
-            mapped(&rt, alloc, &strategy, len, multiplier),
-            len as usize,
-        );
+        let count = mapped(&rt, alloc, &strategy, len, multiplier);
+        answers(&rt, of, count, len as usize);
         let work = (len as usize).saturating_mul(multiplier);
         row(&rt, of, times(&rt, &policy, SITE, len as usize, work), kept);
     }
@@ -384,7 +351,7 @@ fn counted<Rt: Threads + Wait + Sync, S: Strategy>(
 fn a_batch_is_recorded_once_and_only_where_it_answers(rt: HostRuntime) {
     let alloc = rt.alloc();
     let policy = fresh(&rt, alloc);
-    let strategy = by_policy(&rt, alloc, &policy);
+    let strategy = by_policy(&rt, alloc, &policy, STEP);
     for (place, failing, wanted, kept) in [
         (
             1,
@@ -418,43 +385,32 @@ fn a_batch_is_recorded_once_and_only_where_it_answers(rt: HostRuntime) {
     }
 }
 
-// Whether a batch is whole.
-fn is_whole<Rt: Wait, S: Strategy>(
+// How many ranges a batch has.
+fn ranges<Rt: Wait, S: Strategy>(
     rt: &Rt,
     alloc: Global,
     strategy: &S,
     len: usize,
     minimum: NonZeroUsize,
-) -> Result<bool, Fault> {
-    strategy.run_batches(
-        rt,
-        alloc,
-        SITE,
-        len,
-        minimum,
-        1,
-        |batches| batches.is_whole(),
-    )
+) -> Result<usize, Fault> {
+    let ranges = batch_ranges(rt, alloc, strategy, SITE, len, minimum)?;
+    Ok(ranges.len())
 }
 
 #[test]
 fn a_batch_that_is_too_short_to_be_cut_has_no_entry(rt: HostRuntime) {
     let alloc = rt.alloc();
     let policy = fresh(&rt, alloc);
-    let strategy = by_policy(&rt, alloc, &policy);
+    let strategy = by_policy(&rt, alloc, &policy, STEP);
     let eight = number(&rt, 8);
     for len in [0usize, 1, 7, 8, 15] {
-        answers(&rt, len, is_whole(&rt, alloc, &strategy, len, eight), true);
+        answers(&rt, len, ranges(&rt, alloc, &strategy, len, eight), 1);
         row(&rt, len, times(&rt, &policy, SITE, len, len), None);
     }
-    let most = is_whole(&rt, alloc, &strategy, usize::MAX, NonZeroUsize::MAX);
-    answers(&rt, "most", most, true);
-    row(
-        &rt,
-        "most",
-        times(&rt, &policy, SITE, usize::MAX, usize::MAX),
-        None,
-    );
+    let most = ranges(&rt, alloc, &strategy, usize::MAX, NonZeroUsize::MAX);
+    answers(&rt, "most", most, 1);
+    let kept = times(&rt, &policy, SITE, usize::MAX, usize::MAX);
+    row(&rt, "most", kept, None);
     // One that may be cut is whole where its policy chooses the serial way.
     let key = Key::new(SITE, 16, 16, 4);
     for (execution, time) in [
@@ -464,7 +420,7 @@ fn a_batch_that_is_too_short_to_be_cut_has_no_entry(rt: HostRuntime) {
         let recorded = policy.record_run(&rt, key, execution, time);
         answers(&rt, "recorded", recorded, ());
     }
-    answers(&rt, 16, is_whole(&rt, alloc, &strategy, 16, eight), true);
+    answers(&rt, 16, ranges(&rt, alloc, &strategy, 16, eight), 1);
     let kept = Some((Some(100_000), Some(95_000)));
     row(&rt, 16, times(&rt, &policy, SITE, 16, 16), kept);
 }

@@ -1,10 +1,10 @@
 //! Calls whose closures fail at many items, many times over: the first failing item's error is
 //! answered each time, and each item and each answer is let go once.
-use crate::tests::same::row;
-use crate::tests::steps::no_count;
-use crate::tests::strategies::{SITE, Stopped, number, pool};
+use crate::tests::same::{answers, row};
+use crate::tests::steps::{add_counts, no_count};
+use crate::tests::strategies::{SITE, explorers, fresh, pool};
 use commonware_parallel::mocks::explore;
-use commonware_parallel::{Fault, Rayon, Strategy, Trouble};
+use commonware_parallel::{Fault, Strategy, Trouble};
 use std::alloc::Global;
 use std::process::Abort;
 use std::sync::Wait;
@@ -23,41 +23,88 @@ fn fails_at<Rt: Threads + Wait + Sync, S: Strategy>(
     strategy.try_map_collect_vec(rt, alloc, SITE, 0..100u32, check)
 }
 
+// Which of the numbers fail: one, and those from a further one on; and the first of them.
+type Failing = (u32, u32, u32);
+
+const TWO: Failing = (57, 99, 57);
+
+const EACH: Failing = (0, 0, 0);
+
+const MANY: Failing = (25, 25, 25);
+
 // In how many of so many runs another error was answered than the first one.
 fn other_errors<Rt: Threads + Wait + Sync, S: Strategy>(
     rt: &Rt,
     alloc: Global,
     strategy: &S,
+    (one, from, first): Failing,
     runs: u32,
 ) -> u32 {
     let mut others = 0u32;
     for _ in 0..runs {
-        for (one, from, first) in [(57, 99, 57), (0, 0, 0), (25, 25, 25)] {
-            let answer = fails_at(rt, alloc, strategy, one, from);
-            if !matches!(answer, Err(Trouble::Closure(error)) if error == first) {
-                others = others.saturating_add(1);
-            }
+        let answer = fails_at(rt, alloc, strategy, one, from);
+        if !matches!(answer, Err(Trouble::Closure(error)) if error == first) {
+            others = others.saturating_add(1);
         }
     }
     others
 }
 
-#[test]
-fn the_first_error_is_answered_in_each_of_a_thousand_runs(rt: HostRuntime) {
-    let alloc = rt.alloc();
-    for threads in 2..9usize {
-        let strategy = pool(&rt, alloc, threads, threads);
-        row(&rt, threads, other_errors(&rt, alloc, &strategy, 100), 0);
-    }
-    let learning = Rayon::new(&rt, alloc, number(&rt, 4), Stopped).expect(&rt, "memory");
-    row(&rt, "policy", other_errors(&rt, alloc, &learning, 100), 0);
-    // By six rules.
-    let explored = explore(
-        &rt,
-        alloc,
-        |explorer| other_errors(&rt, alloc, explorer, 34),
+// None in a thousand runs through a pool of four without a policy and one with one. (A test that
+// makes more of them might not end in its time where the machine does much else.)
+fn first_is_answered<Rt: Threads + Wait + Abort + Sync>(rt: &Rt, alloc: Global, failing: Failing) {
+    let fixed = pool(rt, alloc, 4, 4);
+    row(
+        rt,
+        failing,
+        other_errors(rt, alloc, &fixed, failing, 1000),
+        0,
     );
-    row(&rt, "explorers", explored.expect(&rt, "memory"), 0);
+    let learning = fresh(rt, alloc, 4);
+    row(
+        rt,
+        failing,
+        other_errors(rt, alloc, &learning, failing, 1000),
+        0,
+    );
+}
+
+#[test]
+fn the_first_of_two_errors_is_answered_in_each_of_a_thousand_runs(rt: HostRuntime) {
+    first_is_answered(&rt, rt.alloc(), TWO);
+}
+
+#[test]
+fn the_first_error_is_answered_in_each_of_a_thousand_runs_where_each_item_fails(rt: HostRuntime) {
+    first_is_answered(&rt, rt.alloc(), EACH);
+}
+
+#[test]
+fn the_first_of_many_errors_is_answered_in_each_of_a_thousand_runs(rt: HostRuntime) {
+    first_is_answered(&rt, rt.alloc(), MANY);
+}
+
+// None in 167 runs by each of six rules.
+fn a_search_answers_the_first<Rt: Threads + Wait + Abort + Sync>(
+    rt: &Rt,
+    alloc: Global,
+    failing: Failing,
+) {
+    let explored = explore(rt, alloc, |explorer| {
+        other_errors(rt, alloc, explorer, failing, 167)
+    });
+    answers(rt, failing, explored, 0);
+}
+
+#[test]
+fn a_search_answers_the_first_of_two_errors_in_each_of_a_thousand_runs(rt: HostRuntime) {
+    a_search_answers_the_first(&rt, rt.alloc(), TWO);
+}
+
+#[test]
+fn a_search_answers_the_first_error_in_each_of_a_thousand_runs(rt: HostRuntime) {
+    a_search_answers_the_first(&rt, rt.alloc(), EACH);
+    a_search_answers_the_first(&rt, rt.alloc(), MANY);
 }
 
 // Maps the numbers below so many to 0 or 1, by a word that all calls share: how many answers come,
@@ -79,26 +126,33 @@ fn unsteady_answers<Rt: Threads + Wait + Sync, S: Strategy>(
 #[test]
 fn an_unsteady_closure_answers_each_item_by_each_rule(rt: HostRuntime) {
     let alloc = rt.alloc();
-    for count in [0usize, 1, 2, 1000] {
-        let explored = explore(&rt, alloc, |explorer| {
-            unsteady_answers(&rt, alloc, explorer, count).ok()
-        });
-        row(&rt, count, explored.expect(&rt, "memory"), Some((count, 0)));
+    let explorers = explorers(&rt, alloc);
+    for explorer in &explorers {
+        for count in [0usize, 1, 2, 1000] {
+            let told = unsteady_answers(&rt, alloc, explorer, count);
+            answers(&rt, (explorer.rule(), count), told, (count, 0));
+        }
     }
 }
 
-/// Counts those that were made and those that were let go.
+/// Counts those that were made and those that were let go, and says at which place one fails.
 #[derive(Drop)]
 pub struct Counts {
     made: AtomicU64,
     gone: AtomicU64,
+    fails: usize,
 }
 
 impl Counts {
     pub fn new() -> Counts {
+        Counts::failing(usize::MAX)
+    }
+
+    pub fn failing(fails: usize) -> Counts {
         Counts {
             made: AtomicU64::new(0),
             gone: AtomicU64::new(0),
+            fails,
         }
     }
 
@@ -119,6 +173,11 @@ impl<'a> Counted<'a> {
     pub fn new(counts: &'a Counts, place: usize) -> Self {
         counts.made.fetch_add(1, Ordering::SeqCst);
         Counted { counts, place }
+    }
+
+    /// A further one, of a place.
+    pub fn at(&self, place: usize) -> Counted<'a> {
+        Counted::new(self.counts, place)
     }
 }
 
@@ -142,54 +201,60 @@ pub fn counted_items<'a>(
     Ok(items)
 }
 
-// A further value for an item, or the item's place where it is that one.
-fn another(item: &Counted<'_>, fails: usize) -> Result<usize, usize> {
-    if item.place == fails {
+/// A further value for an item, or the item's place where it is the one that fails.
+pub fn again_of<'a>(item: &Counted<'a>) -> Result<Counted<'a>, usize> {
+    if item.place == item.counts.fails {
         Err(item.place)
     } else {
-        Ok(item.place)
+        Ok(item.at(item.place))
     }
+}
+
+/// The same, which takes the item.
+pub fn again(item: Counted<'_>) -> Result<Counted<'_>, usize> {
+    again_of(&item)
+}
+
+/// One more, by a further value for the item.
+pub fn count_again(count: usize, item: Counted<'_>) -> Result<usize, usize> {
+    match again(item) {
+        Ok(_) => Ok(count.wrapping_add(1)),
+        Err(place) => Err(place),
+    }
+}
+
+/// A further value for two, of the greater one's place.
+pub fn greater<'a>(left: Counted<'a>, right: Counted<'a>) -> Counted<'a> {
+    left.at(left.place.max(right.place))
 }
 
 // What a map of counted items answered, of which one fails, and what is left of items and answers.
 fn map_left(
     rt: &impl Abort,
     counts: &Counts,
-    (len, fails): (usize, usize),
+    len: usize,
     mapped: Result<Vec<Counted<'_>>, Trouble<usize>>,
     kept: usize,
 ) {
+    let of = (len, counts.fails);
     match mapped {
         Ok(values) => {
-            row(rt, (len, fails), (values.len(), fails < len), (len, false));
-            row(
-                rt,
-                (len, fails),
-                counts.left(),
-                len.saturating_add(kept) as u64,
-            );
+            row(rt, of, (values.len(), counts.fails < len), (len, false));
+            row(rt, of, counts.left(), len.saturating_add(kept) as u64);
         }
-        Err(trouble) => row(rt, (len, fails), trouble, Trouble::Closure(fails)),
+        Err(trouble) => row(rt, of, trouble, Trouble::Closure(counts.fails)),
     }
-    row(rt, (len, fails), counts.left(), kept as u64);
+    row(rt, of, counts.left(), kept as u64);
 }
 
 // The same of a fold that counts the items.
-fn fold_left(
-    rt: &impl Abort,
-    counts: &Counts,
-    (len, fails): (usize, usize),
-    folded: Result<usize, Trouble<usize>>,
-) {
+fn fold_left(rt: &impl Abort, counts: &Counts, len: usize, folded: Result<usize, Trouble<usize>>) {
+    let of = (len, counts.fails);
     match folded {
-        Ok(count) => row(rt, (len, fails), (count, fails < len), (len, false)),
-        Err(trouble) => row(rt, (len, fails), trouble, Trouble::Closure(fails)),
+        Ok(count) => row(rt, of, (count, counts.fails < len), (len, false)),
+        Err(trouble) => row(rt, of, trouble, Trouble::Closure(counts.fails)),
     }
-    row(rt, (len, fails), counts.left(), 0);
-}
-
-fn add(left: usize, right: usize) -> usize {
-    left.wrapping_add(right)
+    row(rt, of, counts.left(), 0);
 }
 
 // Maps and folds so many counted items of a slice, of a vector and of an iterator.
@@ -200,34 +265,22 @@ fn all_left<Rt: Threads + Wait + Abort + Sync, S: Strategy>(
     len: usize,
     fails: usize,
 ) {
-    let counts = Counts::new();
-    let of = (len, fails);
-    let borrowed = |item: &Counted<'_>| match another(item, fails) {
-        Ok(place) => Ok(Counted::new(&counts, place)),
-        Err(place) => Err(place),
-    };
-    let map = |item: Counted<'_>| match another(&item, fails) {
-        Ok(place) => Ok(Counted::new(&counts, place)),
-        Err(place) => Err(place),
-    };
-    let step = |count: usize, item: Counted<'_>| match another(&item, fails) {
-        Ok(_) => Ok(count.wrapping_add(1)),
-        Err(place) => Err(place),
-    };
+    let counts = Counts::failing(fails);
     let items = counted_items(alloc, &counts, len).expect(rt, "memory");
-    let mapped = strategy.try_map_collect_vec(rt, alloc, SITE, items.as_slice(), borrowed);
-    map_left(rt, &counts, of, mapped, len);
-    let mapped = strategy.try_map_collect_vec(rt, alloc, SITE, items, map);
-    map_left(rt, &counts, of, mapped, 0);
+    let mapped = strategy.try_map_collect_vec(rt, alloc, SITE, items.as_slice(), again_of);
+    map_left(rt, &counts, len, mapped, len);
+    let mapped = strategy.try_map_collect_vec(rt, alloc, SITE, items, again);
+    map_left(rt, &counts, len, mapped, 0);
     let items = counted_items(alloc, &counts, len).expect(rt, "memory");
-    let folded = strategy.try_fold(rt, alloc, SITE, items, no_count, step, add);
-    fold_left(rt, &counts, of, folded);
-    let items = (0..len).map(|place: usize| Counted::new(&counts, place));
-    let mapped = strategy.try_map_collect_vec(rt, alloc, SITE, items, map);
-    map_left(rt, &counts, of, mapped, 0);
-    let items = (0..len).map(|place: usize| Counted::new(&counts, place));
-    let folded = strategy.try_fold(rt, alloc, SITE, items, no_count, step, add);
-    fold_left(rt, &counts, of, folded);
+    let folded = strategy.try_fold(rt, alloc, SITE, items, no_count, count_again, add_counts);
+    fold_left(rt, &counts, len, folded);
+    let items = counted_items(alloc, &counts, len).expect(rt, "memory");
+    let mapped = strategy.try_map_collect_vec(rt, alloc, SITE, items.into_iter(), again);
+    map_left(rt, &counts, len, mapped, 0);
+    let items = counted_items(alloc, &counts, len).expect(rt, "memory");
+    let items = items.into_iter();
+    let folded = strategy.try_fold(rt, alloc, SITE, items, no_count, count_again, add_counts);
+    fold_left(rt, &counts, len, folded);
 }
 
 #[test]

@@ -1,23 +1,28 @@
 //! Explorers: what they pick, and what the search through the rules answers.
+ghost use Rattle.std.specs.Prelude.{◌<◌};
 ghost use Rattle.parallel_shares.specs.Grid.{Fits};
 
-use crate::tests::same::{answers, same};
+use crate::tests::same::{answers, lists, row, same, says};
+use crate::tests::states::are_sorted;
 use crate::tests::steps::{
-    add, add_sums, ascending, cells_counted, count, count_cells, no_count, no_sum, parallel,
-    serial, ten, zero,
+    add, add_sums, cells_counted, count, count_cells, no_count, no_sum, parallel, serial, square,
+    ten, zero,
 };
-use crate::tests::strategies::{SITE, Stopped, number, pool};
+use crate::tests::strategies::{RULES, SITE, Stopped, explorers, number, pool};
 use commonware_parallel::mocks::{
     ExploreError, Explorer, Rule, TASKS, WORKERS, explore, inline, mix, pick, pooled,
 };
-use commonware_parallel::{Chooser, Fault, Grid, Site, Strategy, Trouble};
+use commonware_parallel::{Call, Chooser, Fault, Grid, Path, Pick, Site, Strategy, Trouble};
+use parallel_pool::rayon::ThreadPoolBuildError;
 use std::alloc::Global;
-use std::ops::Range;
+use std::num::NonZeroUsize;
 use std::process::Abort;
 use std::sync::Wait;
 use std::sync::atomic::{AtomicU64, Ordering};
 use std::thread::Threads;
+use uses::batches::batch_ranges;
 use uses::explored::{explore_from_ten, explore_from_zero};
+use uses::runs::one_of;
 
 /// The first place of a file whose name is one byte.
 pub const PLACE: Site = Site {
@@ -25,6 +30,10 @@ pub const PLACE: Site = Site {
     line: 1,
     column: 1,
 };
+
+const LOWER: Site = Site { line: 2, ..PLACE };
+
+const FURTHER: Site = Site { column: 2, ..PLACE };
 
 // An explorer over a pool of four threads, planned for eight.
 fn by_seed(rt: &(impl Threads + Abort), alloc: Global, seed: u64) -> Explorer {
@@ -40,161 +49,145 @@ fn the_hash_is_the_same_everywhere(rt: HostRuntime) {
         (2, 100875827, 100875828, 100875890),
         (3, 1244984757, 1244984758, 1244984820),
     ] {
-        assert_eq!(rt; mix(seed, PLACE, 1), none, "seed {seed}");
-        assert_eq!(rt; mix(seed, PLACE, 2), two, "seed {seed}");
-        assert_eq!(rt; mix(seed, PLACE, 64), many, "seed {seed}");
+        row(&rt, (seed, 1), mix(seed, PLACE, 1), none);
+        row(&rt, (seed, 2), mix(seed, PLACE, 2), two);
+        row(&rt, (seed, 64), mix(seed, PLACE, 64), many);
     }
-    let lower = Site { line: 2, ..PLACE };
-    let further = Site { column: 2, ..PLACE };
     let longer = Site {
         file: "aa",
         ..PLACE
     };
     let other = Site { file: "b", ..PLACE };
-    for site in [lower, further, longer, other] {
-        assert!(rt; mix(0, site, 64) != mix(0, PLACE, 64), "{site:?}");
+    for site in [LOWER, FURTHER, longer, other] {
+        row(&rt, site, mix(0, site, 64) == 2107625324, false);
     }
 }
 
 #[test]
 fn a_rule_picks_the_first_the_last_or_by_the_hash(rt: HostRuntime) {
     let (two, eight) = (number(&rt, 2), number(&rt, 8));
-    assert_eq!(rt; pick(Rule::Serial, PLACE, 64, eight), 0);
-    assert_eq!(rt; pick(Rule::Parallel, PLACE, 64, eight), 7);
-    for (seed, of_two, of_eight) in [(0, 0, 4), (1, 1, 7), (2, 0, 2), (3, 0, 4)] {
-        assert_eq!(rt;
-            pick(Rule::Seeded(seed), PLACE, 64, two),
-            of_two,
-            "seed {seed}"
-        );
-        assert_eq!(rt;
-            pick(Rule::Seeded(seed), PLACE, 64, eight),
-            of_eight,
-            "seed {seed}"
-        );
+    for (rule, of_two, of_eight) in [
+        (Rule::Serial, 0, 0),
+        (Rule::Parallel, 1, 7),
+        (Rule::Seeded(0), 0, 4),
+        (Rule::Seeded(1), 1, 7),
+        (Rule::Seeded(2), 0, 2),
+        (Rule::Seeded(3), 0, 4),
+    ] {
+        row(&rt, rule, pick(rule, PLACE, 64, two), of_two);
+        row(&rt, rule, pick(rule, PLACE, 64, eight), of_eight);
     }
 }
 
 #[test]
 fn a_seed_picks_the_body_and_the_number_of_ranges(rt: HostRuntime) {
     let alloc = rt.alloc();
-    for (seed, body, count) in [
-        (0, "serial", 5),
-        (1, "parallel", 8),
-        (2, "serial", 3),
-        (3, "serial", 5),
+    for (seed, site, len, body, count) in [
+        (0, PLACE, 64, "serial", 5),
+        (1, PLACE, 64, "parallel", 8),
+        (2, PLACE, 64, "serial", 3),
+        (3, PLACE, 64, "serial", 5),
+        (0, LOWER, 64, "serial", 7),
+        (0, FURTHER, 64, "parallel", 4),
+        (0, PLACE, 65, "parallel", 6),
+        (1, LOWER, 64, "serial", 1),
+        (1, FURTHER, 64, "serial", 7),
+        (1, PLACE, 65, "serial", 1),
+        (2, LOWER, 64, "parallel", 4),
+        (2, FURTHER, 64, "parallel", 2),
+        (2, PLACE, 65, "parallel", 4),
     ] {
         let explorer = by_seed(&rt, alloc, seed);
-        same(&rt, explorer.rule(), Rule::Seeded(seed));
-        answers(
-            &rt,
-            seed,
-            explorer.run(&rt, alloc, PLACE, 64, serial, parallel),
-            body,
-        );
-        answers(
-            &rt,
-            seed,
-            explorer.run_batches(&rt, alloc, PLACE, 64, number(&rt, 1), 1, |batches| {
-                batches.ranges().len()
-            }),
-            count,
-        );
+        row(&rt, seed, explorer.rule(), Rule::Seeded(seed));
+        let taken = one_of(&rt, alloc, &explorer, site, len, "serial", "parallel");
+        answers(&rt, (seed, site, len), taken, body);
+        let ranges = batch_ranges(&rt, alloc, &explorer, site, len, NonZeroUsize::MIN);
+        let ranges = ranges.expect(&rt, "memory");
+        row(&rt, (seed, site, len), ranges.len(), count);
     }
     let first = by_seed(&rt, alloc, 0);
-    let same = first
-        .run_batches(&rt, alloc, PLACE, 64, number(&rt, 1), 1, |batches| {
-            batches.ranges() == [0..13, 13..26, 26..39, 39..52, 52..64].as_slice()
-        })
-        .expect(&rt, "memory");
-    assert!(rt; same);
+    let ranges = batch_ranges(&rt, alloc, &first, PLACE, 64, NonZeroUsize::MIN);
+    lists(&rt, 0, ranges, &[0..13, 13..26, 26..39, 39..52, 52..64]);
+}
+
+// The workers of tiles of four rows of 64, and whether rows may be cut.
+fn workers_of_tiles<Rt: Wait, S: Strategy>(
+    rt: &Rt,
+    alloc: Global,
+    strategy: &S,
+    grids: &[Grid],
+) -> Result<(NonZeroUsize, bool), Fault>
+    requires { Fits grids.now 64 }
+{
+    strategy.run_tiles(rt, alloc, PLACE, 64, grids, 1, |tiles| {
+        (tiles.workers(), tiles.is_cut())
+    })
 }
 
 #[test]
 fn a_seed_picks_the_number_of_workers_of_tiles(rt: HostRuntime) {
     let alloc = rt.alloc();
-    let grids = [Grid {
-        rows: 64,
-        tile_cost: number(&rt, 1),
-    }];
+    let grid = Grid {
+        rows: 4,
+        tile_cost: NonZeroUsize::MIN,
+    };
+    let grids = [grid];
     assert!(rt; Grid::fits(&grids, 64));
-    for (seed, workers) in [(0, 5), (1, 8), (2, 3), (3, 5)] {
+    for (seed, workers, path) in [(0, 5, 55), (1, 8, 35), (2, 3, 89), (3, 5, 55)] {
         let explorer = by_seed(&rt, alloc, seed);
-        answers(
-            &rt,
-            seed,
-            explorer.run_tiles(&rt, alloc, PLACE, 64, &grids, 1, |tiles| {
-                tiles.workers().get()
-            }),
-            workers,
-        );
+        let told = workers_of_tiles(&rt, alloc, &explorer, &grids);
+        let (found, is_cut) = told.expect(&rt, "memory");
+        row(&rt, seed, (found.get(), is_cut), (workers, true));
+        row(&rt, seed, grid.critical_path(64, found), (path, false));
     }
 }
 
-#[test]
-fn a_seed_picks_apart_by_place_and_by_length(rt: HostRuntime) {
-    let alloc = rt.alloc();
-    let lower = Site { line: 2, ..PLACE };
-    let further = Site { column: 2, ..PLACE };
-    for (seed, calls) in [
-        (
-            0,
-            [
-                (PLACE, 64, "serial", 5),
-                (lower, 64, "serial", 7),
-                (further, 64, "parallel", 4),
-                (PLACE, 65, "parallel", 6),
-            ],
-        ),
-        (
-            1,
-            [
-                (PLACE, 64, "parallel", 8),
-                (lower, 64, "serial", 1),
-                (further, 64, "serial", 7),
-                (PLACE, 65, "serial", 1),
-            ],
-        ),
-        (
-            2,
-            [
-                (PLACE, 64, "serial", 3),
-                (lower, 64, "parallel", 4),
-                (further, 64, "parallel", 2),
-                (PLACE, 65, "parallel", 4),
-            ],
-        ),
-    ] {
-        let explorer = by_seed(&rt, alloc, seed);
-        for (site, len, body, count) in calls {
-            let told = explorer.run(&rt, alloc, site, len, serial, parallel);
-            answers(&rt, (seed, len), told.map(Some), Some(body));
-            let one = number(&rt, 1);
-            let ranges = explorer.run_batches(&rt, alloc, site, len, one, 1, |batches| {
-                batches.ranges().len()
-            });
-            answers(&rt, (seed, len), ranges.map(Some), Some(count));
-        }
-    }
-}
-
-// How many cells tiles of 9 rows of 100 fill, through an explorer.
-fn cells_filled<Rt: Threads + Wait + Sync>(
+/// Whether the explorer picks the last way of such a call.
+pub fn picks_last<Rt: Wait>(
     rt: &Rt,
     alloc: Global,
     explorer: &Explorer,
+    call: Call,
+) -> Result<bool, Fault>
+    requires { 0 < call.max_parts }
+{
+    let (pick, _unmeasured) = explorer.choose(rt, alloc, PLACE, call)?;
+    Ok(pick == Pick::By(Path::Parallel))
+}
+
+#[test]
+fn a_seed_picks_the_way_of_a_join(rt: HostRuntime) {
+    let alloc = rt.alloc();
+    for (seed, hash, is_parallel) in [
+        (0, 2107625262, false),
+        (1, 1104250545, true),
+        (2, 100875828, false),
+        (3, 1244984758, false),
+    ] {
+        let explorer = by_seed(&rt, alloc, seed);
+        row(&rt, seed, mix(seed, PLACE, 2), hash);
+        let picked = picks_last(&rt, alloc, &explorer, Call::join());
+        answers(&rt, seed, picked, is_parallel);
+    }
+}
+
+// How many cells tiles of 9 rows of 100 fill.
+fn cells_filled<Rt: Threads + Wait + Sync, S: Strategy>(
+    rt: &Rt,
+    alloc: Global,
+    strategy: &S,
     grids: &[Grid],
 ) -> Result<usize, Fault>
     requires { Fits grids.now 100 }
 {
-    explorer.run_tiles(rt, alloc, SITE, 100, grids, 1, |tiles| {
-        let counts = tiles.fill_collect_vec(rt, alloc, no_count, count_cells, cells_counted)?;
-        let mut cells = 0_usize;
-        for count in counts {
-            cells = cells.saturating_add(count);
-        }
-        Ok(cells)
-    })?
+    let counts = strategy.run_tiles(rt, alloc, SITE, 100, grids, 1, |tiles| {
+        tiles.fill_collect_vec(rt, alloc, no_count, count_cells, cells_counted)
+    })??;
+    let mut cells = 0_usize;
+    for count in counts {
+        cells = cells.saturating_add(count);
+    }
+    Ok(cells)
 }
 
 #[test]
@@ -205,53 +198,36 @@ fn tiles_and_sorts_come_out_alike_by_every_rule(rt: HostRuntime) {
         tile_cost: number(&rt, 3),
     }];
     assert!(rt; Grid::fits(&grids, 100));
-    answers(
-        &rt,
-        1,
-        explore(&rt, alloc, |explorer| {
-            cells_filled(&rt, alloc, explorer, &grids).ok()
-        }),
-        Some(900),
-    );
-    let mut numbers = Vec::new(alloc);
-    for n in 0..20_000_u32 {
-        numbers
-            .push(n.wrapping_mul(7_919) % 20_011)
-            .expect(&rt, "memory");
+    let explorers = explorers(&rt, alloc);
+    for explorer in &explorers {
+        let filled = cells_filled(&rt, alloc, explorer, &grids);
+        answers(&rt, explorer.rule(), filled, 900);
+        let is_sorted = are_sorted(&rt, alloc, explorer);
+        answers(&rt, explorer.rule(), is_sorted, true);
     }
-    let is_sorted = explore(&rt, alloc, |explorer| {
-        numbers.reverse();
-        explorer
-            .sort_by(&rt, alloc, SITE, &mut numbers, ascending)
-            .is_ok()
-            && numbers.is_sorted()
-    })
-    .expect(&rt, "memory");
-    assert!(rt; is_sorted);
+}
+
+// Stops the test where an explorer isn't by the parallel rule, over two threads and planned for
+// three, or where a run in a row isn't parallel.
+fn is_parallel<Rt: Wait + Abort>(rt: &Rt, alloc: Global, explorer: &Explorer) {
+    let numbers = (explorer.thread_number().get(), explorer.planning().get());
+    same(rt, (explorer.rule(), numbers), (Rule::Parallel, (2, 3)));
+    for turn in 0..4 {
+        let taken = explorer.run(rt, alloc, SITE, 64, serial, parallel);
+        answers(rt, turn, taken, "parallel");
+    }
 }
 
 #[test]
 fn an_explorer_keeps_the_numbers_and_asks_no_policy(rt: HostRuntime) {
     let alloc = rt.alloc();
-    let strategy = pooled(&rt, alloc, number(&rt, 2), number(&rt, 3), Stopped).expect(
-        &rt, "memory",
-    );
-    let explorer = Explorer::parallel(&strategy).expect(&rt, "memory");
-    same(&rt, explorer.thread_number().get(), 2);
-    same(&rt, explorer.planning().get(), 3);
-    for _ in 0..4 {
-        answers(
-            &rt,
-            1,
-            explorer.run(&rt, alloc, SITE, 64, serial, parallel),
-            "parallel",
-        );
-    }
-    let copied = explorer.clone().expect(&rt, "memory");
-    same(&rt, copied.rule(), Rule::Parallel);
+    let strategy = pooled(&rt, alloc, number(&rt, 2), number(&rt, 3), Stopped);
+    let explorer = Explorer::parallel(&strategy.expect(&rt, "memory")).expect(&rt, "memory");
+    is_parallel(&rt, alloc, &explorer);
+    is_parallel(&rt, alloc, &explorer.clone().expect(&rt, "memory"));
     let alone = inline(&rt, alloc, number(&rt, 4), Stopped).expect(&rt, "memory");
-    same(&rt, alone.thread_number().get(), 1);
-    same(&rt, alone.planning().get(), 4);
+    let numbers = (alone.thread_number().get(), alone.planning().get());
+    same(&rt, numbers, (1, 4));
 }
 
 // The fold of the items by addition, from 10.
@@ -267,43 +243,11 @@ fn sum_from_ten<Rt: Threads + Wait + Sync, S: Strategy>(
 #[test]
 fn the_parallel_rule_folds_and_maps_along_the_shape(rt: HostRuntime) {
     let alloc = rt.alloc();
-    let strategy = pooled(&rt, alloc, number(&rt, 2), number(&rt, 3), Stopped).expect(
-        &rt, "memory",
-    );
-    let explorer = Explorer::parallel(&strategy).expect(&rt, "memory");
+    let explorer = Explorer::parallel(&pool(&rt, alloc, 2, 3)).expect(&rt, "memory");
     answers(&rt, 1, sum_from_ten(&rt, alloc, &explorer, &[1, 2, 3]), 66);
     answers(&rt, 2, sum_from_ten(&rt, alloc, &explorer, &[]), 20);
-    let states = explorer
-        .map_init_collect_vec(&rt, alloc, SITE, 0..3u32, zero, count)
-        .expect(&rt, "memory");
-    same(&rt, states.as_slice(), [1, 1, 1].as_slice());
-}
-
-fn square(number: u64) -> u64 {
-    number.wrapping_mul(number)
-}
-
-// Whether a map of the numbers below 100 gives their squares.
-fn are_squares<Rt: Threads + Wait + Sync>(rt: &Rt, alloc: Global, explorer: &Explorer) -> bool {
-    let Ok(squares) = explorer.map_collect_vec(rt, alloc, SITE, 0..100u64, square) else {
-        return false;
-    };
-    let mut number = 0u64;
-    for found in squares {
-        if found != square(number) {
-            return false;
-        }
-        number = number.wrapping_add(1);
-    }
-    number == 100
-}
-
-fn sum_of_numbers<Rt: Threads + Wait + Sync>(
-    rt: &Rt,
-    alloc: Global,
-    explorer: &Explorer,
-) -> Result<u64, Fault> {
-    explorer.fold(rt, alloc, SITE, 0..100u64, no_sum, add_sums, add_sums)
+    let states = explorer.map_init_collect_vec(&rt, alloc, SITE, 0..3u32, zero, count);
+    lists(&rt, 3, states, &[1, 1, 1]);
 }
 
 fn refuse_two(number: u64) -> Result<u64, u64> {
@@ -314,31 +258,34 @@ fn refuse_two(number: u64) -> Result<u64, u64> {
     }
 }
 
-// The error of a map that fails at two of the numbers below 100.
-fn first_refused<Rt: Threads + Wait + Sync>(
+// The sum of the squares of the numbers below 100 that a map answers, their own sum by a fold, and
+// the error of a map that fails at two of them.
+fn outputs<Rt: Threads + Wait + Sync>(
     rt: &Rt,
     alloc: Global,
     explorer: &Explorer,
-) -> Option<u64> {
-    match explorer.try_map_collect_vec(rt, alloc, SITE, 0..100u64, refuse_two) {
-        Err(Trouble::Closure(number)) => Some(number),
-        _ => None,
+) -> Result<(u64, u64, Option<u64>), Fault> {
+    let squares = explorer.map_collect_vec(rt, alloc, SITE, 0..100u64, square)?;
+    let mut total = 0u64;
+    for (number, found) in squares.iter().enumerate() {
+        if *found == square(number as u64) {
+            total = add_sums(total, *found);
+        }
+    }
+    let sum = explorer.fold(rt, alloc, SITE, 0..100u64, no_sum, add_sums, add_sums)?;
+    let failed = explorer.try_map_collect_vec(rt, alloc, SITE, 0..100u64, refuse_two);
+    match failed {
+        Err(Trouble::Closure(number)) => Ok((total, sum, Some(number))),
+        _ => Ok((total, sum, None)),
     }
 }
 
 #[test]
 fn outputs_that_the_shape_does_not_change_are_answered(rt: HostRuntime) {
     let alloc = rt.alloc();
-    let are_squares = explore(&rt, alloc, |explorer| are_squares(&rt, alloc, explorer));
-    answers(&rt, 1, are_squares, true);
-    let sum = explore(
-        &rt,
-        alloc,
-        |explorer| sum_of_numbers(&rt, alloc, explorer).ok(),
-    );
-    answers(&rt, 2, sum, Some(4950));
-    let first = explore(&rt, alloc, |explorer| first_refused(&rt, alloc, explorer));
-    answers(&rt, 3, first, Some(57));
+    let told = explore(&rt, alloc, |explorer| outputs(&rt, alloc, explorer).ok());
+    // (99 * 100 * 199 / 6 is the sum of the squares)
+    answers(&rt, 1, told, Some((328_350, 4950, Some(57))));
 }
 
 #[test]
@@ -367,41 +314,32 @@ fn the_rules_come_in_their_order(rt: HostRuntime) {
     let output = explore(&rt, alloc, |explorer| {
         let numbers = (explorer.thread_number().get(), explorer.planning().get());
         rules.push(explorer.rule()).is_ok() && numbers == (4, 8)
-    })
-    .expect(&rt, "memory");
-    assert!(rt; output);
-    same(
-        &rt,
-        rules.as_slice(),
-        [
-            Rule::Serial,
-            Rule::Parallel,
-            Rule::Seeded(0),
-            Rule::Seeded(1),
-            Rule::Seeded(2),
-            Rule::Seeded(3),
-        ]
-        .as_slice(),
-    );
+    });
+    answers(&rt, 1, output, true);
+    same(&rt, rules.as_slice(), RULES.as_slice());
 }
 
 #[test]
 fn errors_of_a_search_print_their_text(rt: HostRuntime) {
     let alloc = rt.alloc();
-    let parallel = format!(in alloc; "{}", ExploreError::Differs(Rule::Parallel)).expect(
-        &rt, "memory",
-    );
-    same(
-        &rt,
-        parallel.as_str(),
-        "the Parallel run must return the serial run's output",
-    );
-    let seeded = format!(in alloc; "{}", ExploreError::Differs(Rule::Seeded(2))).expect(
-        &rt, "memory",
-    );
-    same(
-        &rt,
-        seeded.as_str(),
-        "the Seeded(2) run must return the serial run's output",
-    );
+    for (error, text) in [
+        (
+            ExploreError::Differs(Rule::Parallel),
+            "the Parallel run must return the serial run's output",
+        ),
+        (
+            ExploreError::Differs(Rule::Seeded(2)),
+            "the Seeded(2) run must return the serial run's output",
+        ),
+        (
+            ExploreError::Build(ThreadPoolBuildError::Memory),
+            "out of memory",
+        ),
+        (
+            ExploreError::Build(ThreadPoolBuildError::Spawn),
+            "a worker thread could not be started",
+        ),
+    ] {
+        says(&rt, alloc, &error, text);
+    }
 }

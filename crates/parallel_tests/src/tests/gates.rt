@@ -37,11 +37,11 @@ impl Calls {
         }
     }
 
-    // The item 1 fails once three further items were asked. Each other item waits for that, and
+    // The first item fails once three further items were asked. Each other item waits for that, and
     // then takes some microseconds more.
-    fn ask(&self, item: u8) -> Result<u64, u64> {
+    fn ask(&self, is_first: bool) -> Result<u64, u64> {
         let call = self.count.fetch_add(1, Ordering::SeqCst);
-        if item == 1 {
+        if is_first {
             await_word(&self.count, 4);
             self.failed.store(1, Ordering::SeqCst);
             return Err(7);
@@ -55,16 +55,8 @@ impl Calls {
         Ok(call)
     }
 
-    // Adds what an item answers.
-    fn add(&self, sum: u64, item: u8) -> Result<u64, u64> {
-        match self.ask(item) {
-            Ok(call) => Ok(sum.wrapping_add(call)),
-            Err(error) => Err(error),
-        }
-    }
-
     // Stops the test where the first item's error isn't the answer, or a quarter of the items was
-    // asked.
+    // asked. Then it begins anew.
     fn were_few<T: Drop>(&self, rt: &impl Abort, of: &str, answer: Result<T, Trouble<u64>>) {
         assert!(rt; matches!(answer, Err(Trouble::Closure(7))), "{of}");
         let asked = self.count.load(Ordering::SeqCst);
@@ -72,55 +64,69 @@ impl Calls {
             4 <= asked && asked < LEN as u64 / 4,
             "{of}: {asked} items were asked"
         );
+        self.count.store(0, Ordering::SeqCst);
+        self.failed.store(0, Ordering::SeqCst);
     }
 }
 
-// The items: the first is 1, and the others are 0.
-fn items(alloc: Global) -> Result<Vec<u8>, Fault> {
+// An item.
+#[derive(Clone, Copy)]
+struct Asked<'a> {
+    calls: &'a Calls,
+    is_first: bool,
+}
+
+fn ask(item: Asked<'_>) -> Result<u64, u64> {
+    item.calls.ask(item.is_first)
+}
+
+fn ask_of(item: &Asked<'_>) -> Result<u64, u64> {
+    ask(*item)
+}
+
+// Adds what an item answers.
+fn add(sum: u64, item: Asked<'_>) -> Result<u64, u64> {
+    match ask(item) {
+        Ok(call) => Ok(sum.wrapping_add(call)),
+        Err(error) => Err(error),
+    }
+}
+
+fn add_of(sum: u64, item: &Asked<'_>) -> Result<u64, u64> {
+    add(sum, *item)
+}
+
+// The items.
+fn items<'a>(alloc: Global, calls: &'a Calls) -> Result<Vec<Asked<'a>>, Fault> {
     let mut items = Vec::with_capacity(alloc, LEN)?;
-    items.push(1)?;
-    for _ in 1..LEN {
-        items.push(0)?;
+    for place in 0..LEN {
+        items.push(Asked {
+            calls,
+            is_first: place == 0,
+        })?;
     }
     Ok(items)
 }
 
-// Maps over a slice, over copies of its items, and over an iterator.
-fn maps_stop<Rt: Threads + Wait + Abort + Sync, S: Strategy>(
+// Maps over a slice, over copies of its items, and over an iterator; folds over a slice and over an
+// iterator.
+fn calls_stop<Rt: Threads + Wait + Abort + Sync, S: Strategy>(
     rt: &Rt,
     alloc: Global,
     strategy: &S,
-    slice: &[u8],
+    calls: &Calls,
+    slice: &[Asked<'_>],
 ) {
-    let calls = Calls::new();
-    let ask = |item: &u8| calls.ask(*item);
-    let mapped = strategy.try_map_collect_vec(rt, alloc, SITE, slice, ask);
+    let mapped = strategy.try_map_collect_vec(rt, alloc, SITE, slice, ask_of);
     calls.were_few(rt, "a map of a slice", mapped);
-    let calls = Calls::new();
-    let ask = |item: u8| calls.ask(item);
     let mapped = strategy.try_map_collect_vec(rt, alloc, SITE, Copies { slice }, ask);
     calls.were_few(rt, "a map of copies", mapped);
-    let calls = Calls::new();
-    let ask = |item: u8| calls.ask(item);
     let mapped = strategy.try_map_collect_vec(rt, alloc, SITE, slice.iter().copied(), ask);
     calls.were_few(rt, "a map of an iterator", mapped);
-}
-
-// Folds over the same.
-fn folds_stop<Rt: Threads + Wait + Abort + Sync, S: Strategy>(
-    rt: &Rt,
-    alloc: Global,
-    strategy: &S,
-    slice: &[u8],
-) {
-    let calls = Calls::new();
-    let step = |sum: u64, item: &u8| calls.add(sum, *item);
-    let folded = strategy.try_fold(rt, alloc, SITE, slice, no_sum, step, add_sums);
+    let folded = strategy.try_fold(rt, alloc, SITE, slice, no_sum, add_of, add_sums);
     calls.were_few(rt, "a fold of a slice", folded);
-    let calls = Calls::new();
-    let step = |sum: u64, item: u8| calls.add(sum, item);
     let items = slice.iter().copied();
-    let folded = strategy.try_fold(rt, alloc, SITE, items, no_sum, step, add_sums);
+    let folded = strategy.try_fold(rt, alloc, SITE, items, no_sum, add, add_sums);
     calls.were_few(rt, "a fold of an iterator", folded);
 }
 
@@ -128,7 +134,7 @@ fn folds_stop<Rt: Threads + Wait + Abort + Sync, S: Strategy>(
 fn what_lies_behind_the_first_error_is_mostly_not_asked(rt: HostRuntime) {
     let alloc = rt.alloc();
     let four = pool(&rt, alloc, 4, 4);
-    let items = items(alloc).expect(&rt, "memory");
-    maps_stop(&rt, alloc, &four, &items);
-    folds_stop(&rt, alloc, &four, &items);
+    let calls = Calls::new();
+    let items = items(alloc, &calls).expect(&rt, "memory");
+    calls_stop(&rt, alloc, &four, &calls, &items);
 }

@@ -1,6 +1,7 @@
 //! Maps through each strategy.
 use crate::tests::same::{lists, row, same};
-use crate::tests::strategies::{SITE, number, pool};
+use crate::tests::steps::square;
+use crate::tests::strategies::{SITE, number, pools};
 use commonware_parallel::{Fault, Pairs, Sequential, Strategy};
 use std::alloc::Global;
 use std::process::Abort;
@@ -22,32 +23,55 @@ const SQUARES: [u64; 100] = [
     7569, 7744, 7921, 8100, 8281, 8464, 8649, 8836, 9025, 9216, 9409, 9604, 9801,
 ];
 
-// Maps 0 to 99 to their squares.
-fn hundred_squares<Rt: Threads + Wait + Sync, S: Strategy>(
+// Numbers with their squares.
+const FEW: [u32; 4] = [3, 0, 4_294_967_295, 1];
+
+const THEIR_SQUARES: [u64; 4] = [9, 0, 18_446_744_065_119_617_025, 1];
+
+// How many of the squares of a range are those of its numbers.
+fn squares_of_range<Rt: Threads + Wait + Sync, S: Strategy>(
     rt: &Rt,
     alloc: Global,
     strategy: &S,
-) -> Result<Vec<u64>, Fault> {
-    strategy.map_collect_vec(rt, alloc, SITE, 0..100u64, |n: u64| n.wrapping_mul(n))
+) -> Result<usize, Fault> {
+    let found = first_squares(rt, alloc, strategy, SITE, 100)?;
+    let mut right = 0usize;
+    for (found, known) in found.iter().zip(SQUARES.iter()) {
+        right = right.wrapping_add(usize::from(*found as u64 == *known));
+    }
+    Ok(right)
+}
+
+// Squares of numbers as they come, of slices and of a range, through each of the strategies.
+fn squares_come<Rt: Threads + Wait + Abort + Sync, S: Strategy>(
+    rt: &Rt,
+    alloc: Global,
+    strategies: &[S],
+) {
+    for (of, strategy) in strategies.iter().enumerate() {
+        let found = strategy.map_collect_vec(rt, alloc, SITE, 0..100u64, square);
+        lists(rt, (of, "iterator"), found, &SQUARES);
+        let found = squares(rt, alloc, strategy, SITE, &FEW);
+        lists(rt, (of, "slice"), found, &THEIR_SQUARES);
+        lists(
+            rt,
+            (of, "none"),
+            squares(rt, alloc, strategy, SITE, &[]),
+            &[],
+        );
+        let right = squares_of_range(rt, alloc, strategy);
+        row(rt, (of, "range"), right, Ok(100));
+    }
 }
 
 #[test]
 fn squares_come_in_order(rt: HostRuntime) {
-    lists(
-        &rt,
-        1,
-        hundred_squares(&rt, rt.alloc(), &Sequential),
-        &SQUARES,
-    );
-    for threads in 1..9usize {
-        let strategy = pool(&rt, rt.alloc(), threads, threads);
-        lists(
-            &rt,
-            threads,
-            hundred_squares(&rt, rt.alloc(), &strategy),
-            &SQUARES,
-        );
-    }
+    let alloc = rt.alloc();
+    squares_come(&rt, alloc, &[Sequential]);
+    squares_come(&rt, alloc, &pools(&rt, alloc));
+    let long = LongLists::new(number(&rt, 4), 3);
+    let found = squares_by_length(&rt, alloc, &long, SITE, &FEW);
+    lists(&rt, "by length", found, &THEIR_SQUARES);
 }
 
 // A value that is neither copied nor cloned.
@@ -56,7 +80,12 @@ struct Held {
     value: u64,
 }
 
-// Two neighbours as one value, the left one in front.
+// The left value in front of the right one.
+fn in_front(pair: (Held, Held)) -> u64 {
+    pair.0.value.wrapping_mul(10).wrapping_add(pair.1.value)
+}
+
+// Two neighbours as one value, the left one in front, and the odd one.
 fn side_by_side<Rt: Threads + Wait + Sync, S: Strategy>(
     rt: &Rt,
     alloc: Global,
@@ -68,187 +97,102 @@ fn side_by_side<Rt: Threads + Wait + Sync, S: Strategy>(
         level.push(Held { value })?;
     }
     let (pairs, odd) = Pairs::new(level);
-    let sums = strategy.map_collect_vec(rt, alloc, SITE, pairs, |pair: (Held, Held)| {
-        pair.0.value.wrapping_mul(10).wrapping_add(pair.1.value)
-    })?;
-    Ok((sums, odd.map(|held: Held| held.value)))
+    let sums = strategy.map_collect_vec(rt, alloc, SITE, pairs, in_front)?;
+    let odd = match odd {
+        Some(held) => Some(held.value),
+        None => None,
+    };
+    Ok((sums, odd))
+}
+
+// Both through each of the strategies.
+fn pairs_come<Rt: Threads + Wait + Abort + Sync, S: Strategy>(
+    rt: &Rt,
+    alloc: Global,
+    strategies: &[S],
+) {
+    let expected = [1, 23, 45, 67];
+    for strategy in strategies {
+        for len in 0..10u64 {
+            let (sums, odd) = side_by_side(rt, alloc, strategy, len).expect(rt, "memory");
+            row(rt, len, sums.as_slice(), &expected[..(len / 2) as usize]);
+            let last = if len % 2 == 1 {
+                Some(len.wrapping_sub(1))
+            } else {
+                None
+            };
+            row(rt, len, odd, last);
+        }
+    }
 }
 
 #[test]
 fn neighbouring_pairs_come_in_order_and_the_odd_item_apart(rt: HostRuntime) {
-    let expected = [1, 23, 45, 67];
-    for threads in 1..9usize {
-        let strategy = pool(&rt, rt.alloc(), threads, threads);
-        for len in 0..10u64 {
-            let (sums, odd) = side_by_side(&rt, rt.alloc(), &strategy, len).expect(&rt, "memory");
-            same(&rt, sums.as_slice(), &expected[..(len / 2) as usize]);
-            same(
-                &rt,
-                odd,
-                if len % 2 == 1 {
-                    Some(len.wrapping_sub(1))
-                } else {
-                    None
-                },
-            );
-        }
-    }
-    let (sums, odd) = side_by_side(&rt, rt.alloc(), &Sequential, 9).expect(&rt, "memory");
-    same(&rt, sums.as_slice(), expected.as_slice());
-    same(&rt, odd, Some(8));
+    let alloc = rt.alloc();
+    pairs_come(&rt, alloc, &[Sequential]);
+    pairs_come(&rt, alloc, &pools(&rt, alloc));
 }
 
-#[test]
-fn squares_of_a_slice_come_in_order(rt: HostRuntime) {
-    let numbers = [3, 0, 4_294_967_295, 1];
-    let expected = [9, 0, 18_446_744_065_119_617_025, 1];
-    for threads in 1..9usize {
-        let strategy = pool(&rt, rt.alloc(), threads, threads);
-        lists(
-            &rt,
-            threads,
-            squares(&rt, rt.alloc(), &strategy, SITE, &numbers),
-            &expected,
-        );
-        let empty = squares(&rt, rt.alloc(), &strategy, SITE, &[]).expect(&rt, "memory");
-        same(&rt, empty.len(), 0);
-    }
-    let long = LongLists::new(number(&rt, 4), 3);
-    lists(
-        &rt,
-        1,
-        squares_by_length(&rt, rt.alloc(), &long, SITE, &numbers),
-        &expected,
-    );
-}
+fn no_item(_number: usize) {}
 
-#[test]
-fn squares_of_a_range_come_in_order(rt: HostRuntime) {
-    let strategy = pool(&rt, rt.alloc(), 3, 3);
-    let answers = first_squares(&rt, rt.alloc(), &strategy, SITE, 100).expect(&rt, "memory");
-    same(&rt, answers.len(), 100);
-    for (index, square) in SQUARES.iter().enumerate() {
-        same(&rt, answers[index] as u64, *square);
-    }
-}
-
-#[test]
-fn a_closure_is_asked_for_the_items_alone(rt: HostRuntime) {
-    let numbers = [3, 0, 2_147_483_647];
-    let expected = [6, 0, 4_294_967_294];
-    lists(
-        &rt,
-        1,
-        doubles(&rt, rt.alloc(), &Sequential, SITE, &numbers),
-        &expected,
-    );
-    let strategy = pool(&rt, rt.alloc(), 3, 3);
-    lists(
-        &rt,
-        2,
-        doubles(&rt, rt.alloc(), &strategy, SITE, &numbers),
-        &expected,
-    );
-}
-
-// The squares of a list from its end, and of a buffer that wraps around.
-fn own_lists_are_mapped<Rt: Threads + Wait + Abort + Sync, S: Strategy>(
-    rt: &Rt,
-    alloc: Global,
-    strategy: &S,
-) {
-    lists(
-        rt,
-        1,
-        squares_backwards(rt, alloc, strategy, SITE, &[1, 2, 3, 4, 5]),
-        &[25, 16, 9, 4, 1],
-    );
-    let none = squares_backwards(rt, alloc, strategy, SITE, &[]).expect(rt, "memory");
-    same(rt, none.len(), 0);
-    lists(
-        rt,
-        2,
-        squares_of_wrapped(rt, alloc, strategy, SITE, &[4, 5], &[1, 2, 3]),
-        &[16, 25, 1, 4, 9],
-    );
-}
-
-#[test]
-fn lists_of_ones_own_are_mapped(rt: HostRuntime) {
-    own_lists_are_mapped(&rt, rt.alloc(), &Sequential);
-    for threads in 1..9usize {
-        own_lists_are_mapped(&rt, rt.alloc(), &pool(&rt, rt.alloc(), threads, threads));
-    }
-    own_lists_are_mapped(&rt, rt.alloc(), &LongLists::new(number(&rt, 2), 4));
-}
-
-#[test]
-fn a_table_is_looked_into_at_the_items(rt: HostRuntime) {
-    let table = [10, 20, 30, 40];
-    lists(
-        &rt,
-        1,
-        last_entries(&rt, rt.alloc(), &Sequential, SITE, &table, 3),
-        &[40, 30, 20],
-    );
-    let strategy = pool(&rt, rt.alloc(), 2, 2);
-    lists(
-        &rt,
-        2,
-        last_entries(&rt, rt.alloc(), &strategy, SITE, &table, 3),
-        &[40, 30, 20],
-    );
-    lists(
-        &rt,
-        3,
-        borrowed_squares(&rt, rt.alloc(), &strategy, SITE, &[3, 4]),
-        &[9, 16],
-    );
-    lists(
-        &rt,
-        4,
-        squares_of_both(&rt, rt.alloc(), &strategy, SITE, &[3], &[4, 5]),
-        &[9, 16, 25],
-    );
-}
-
-// Maps `count` items of size zero, in the order of a counter that each call raises.
+// How many values of size zero come of so many items.
 fn map_nothing<Rt: Threads + Wait + Sync, S: Strategy>(
     rt: &Rt,
     alloc: Global,
     strategy: &S,
     count: usize,
-) -> Result<Vec<()>, Fault> {
-    strategy.map_collect_vec(
-        rt,
-        alloc,
-        SITE,
-        (0..count).map(|_| ()),
-        |nothing: ()| nothing,
-    )
+) -> Result<usize, Fault> {
+    let empty = strategy.map_collect_vec(rt, alloc, SITE, 0..count, no_item)?;
+    let mapped = strategy.map_collect_vec(rt, alloc, SITE, empty, nothing_of)?;
+    Ok(mapped.len())
+}
+
+fn nothing_of(nothing: ()) {
+    nothing
+}
+
+// The squares of a list from its end, and of a buffer that wraps around; entries of a table; what
+// comes of borrowed numbers, of two lists and of numbers that a closure's `requires` is about; and
+// values of size zero.
+fn lists_are_mapped<Rt: Threads + Wait + Abort + Sync, S: Strategy>(
+    rt: &Rt,
+    alloc: Global,
+    strategies: &[S],
+) {
+    for strategy in strategies {
+        let found = squares_backwards(rt, alloc, strategy, SITE, &[1, 2, 3, 4, 5]);
+        lists(rt, "backwards", found, &[25, 16, 9, 4, 1]);
+        lists(
+            rt,
+            "none",
+            squares_backwards(rt, alloc, strategy, SITE, &[]),
+            &[],
+        );
+        let found = squares_of_wrapped(rt, alloc, strategy, SITE, &[4, 5], &[1, 2, 3]);
+        lists(rt, "wrapped", found, &[16, 25, 1, 4, 9]);
+        let found = last_entries(rt, alloc, strategy, SITE, &[10, 20, 30, 40], 3);
+        lists(rt, "table", found, &[40, 30, 20]);
+        let found = borrowed_squares(rt, alloc, strategy, SITE, &[3, 4]);
+        lists(rt, "borrowed", found, &[9, 16]);
+        let found = squares_of_both(rt, alloc, strategy, SITE, &[3], &[4, 5]);
+        lists(rt, "both", found, &[9, 16, 25]);
+        let found = doubles(rt, alloc, strategy, SITE, &[3, 0, 2_147_483_647]);
+        lists(rt, "doubles", found, &[6, 0, 4_294_967_294]);
+        row(
+            rt,
+            "size zero",
+            map_nothing(rt, alloc, strategy, 5000),
+            Ok(5000),
+        );
+    }
 }
 
 #[test]
-fn values_of_size_zero_are_all_there(rt: HostRuntime) {
-    row(
-        &rt,
-        1,
-        map_nothing(&rt, rt.alloc(), &Sequential, 5000)
-            .expect(&rt, "memory")
-            .len(),
-        5000,
-    );
-    for threads in 1..9usize {
-        let strategy = pool(&rt, rt.alloc(), threads, threads);
-        row(
-            &rt,
-            2,
-            map_nothing(&rt, rt.alloc(), &strategy, 5000)
-                .expect(&rt, "memory")
-                .len(),
-            5000,
-        );
-    }
+fn lists_of_each_kind_are_mapped(rt: HostRuntime) {
+    let alloc = rt.alloc();
+    lists_are_mapped(&rt, alloc, &[Sequential]);
+    lists_are_mapped(&rt, alloc, &pools(&rt, alloc));
+    lists_are_mapped(&rt, alloc, &[LongLists::new(number(&rt, 2), 4)]);
 }
 
 // Maps each item to 0 or 1, by a word that all calls share.
@@ -266,20 +210,25 @@ fn map_unsteadily<Rt: Threads + Wait + Abort + Sync, S: Strategy>(
     Ok(answers)
 }
 
+// Each of 1000 items has an answer of its own call, through each of the strategies.
+fn each_is_answered<Rt: Threads + Wait + Abort + Sync, S: Strategy>(
+    rt: &Rt,
+    alloc: Global,
+    strategies: &[S],
+) {
+    for (of, strategy) in strategies.iter().enumerate() {
+        let answers = map_unsteadily(rt, alloc, strategy, 1000).expect(rt, "memory");
+        let ones = answers.iter().filter(|answer| **answer == 1).count();
+        let zeros = answers.iter().filter(|answer| **answer == 0).count();
+        row(rt, of, (zeros, ones), (500, 500));
+    }
+}
+
 #[test]
 fn an_unsteady_closure_answers_each_item_once(rt: HostRuntime) {
-    lists(
-        &rt,
-        1,
-        map_unsteadily(&rt, rt.alloc(), &Sequential, 5),
-        &[0, 1, 0, 1, 0],
-    );
-    for threads in 1..9usize {
-        let strategy = pool(&rt, rt.alloc(), threads, threads);
-        let answers = map_unsteadily(&rt, rt.alloc(), &strategy, 1000).expect(&rt, "memory");
-        same(&rt, answers.len(), 1000);
-        assert!(rt; answers.iter().all(|answer| *answer < 2));
-        let zeros = answers.iter().filter(|answer| **answer == 0).count();
-        same(&rt, zeros, 500);
-    }
+    let alloc = rt.alloc();
+    let serial = map_unsteadily(&rt, alloc, &Sequential, 5);
+    lists(&rt, "serial", serial, &[0, 1, 0, 1, 0]);
+    each_is_answered(&rt, alloc, &[Sequential]);
+    each_is_answered(&rt, alloc, &pools(&rt, alloc));
 }

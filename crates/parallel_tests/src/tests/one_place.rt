@@ -3,26 +3,13 @@ use crate::tests::same::{answers, lists, same};
 use crate::tests::steps::{
     add, add_counted, answer_one, answer_two, ascending, descending, one_more, zero,
 };
-use crate::tests::strategies::{SITE, pool};
-use commonware_parallel::{Fault, Indices, On, Sequential, Strategy, Trouble};
+use crate::tests::strategies::{SITE, pools};
+use commonware_parallel::{Indices, On, Sequential, Strategy, Trouble};
 use std::alloc::Global;
 use std::process::Abort;
 use std::sync::Wait;
 use std::thread::Threads;
 use uses::one_place::squares_and_sum;
-
-#[test]
-fn squares_and_their_sum_come_of_one_place(rt: HostRuntime) {
-    let alloc = rt.alloc();
-    for threads in 1..5usize {
-        let strategy = pool(&rt, alloc, threads, threads);
-        let (squares, sum) = squares_and_sum(&rt, alloc, &strategy, SITE, &[1, 2, 3, 4]).expect(
-            &rt, "memory",
-        );
-        same(&rt, squares.as_slice(), [1, 4, 9, 16].as_slice());
-        same(&rt, sum, 30);
-    }
-}
 
 fn below_three(number: usize) -> Result<usize, usize> {
     if number < 3 { Ok(number) } else { Err(number) }
@@ -123,16 +110,26 @@ fn sorts_and_a_join<Rt: Threads + Wait + Abort + Sync, S: Strategy>(
     answers(rt, 1, on.join(answer_one, answer_two), (1, 2));
 }
 
+// All of them, and squares and their sum by a caller, through each of the strategies.
+fn one_place_answers<Rt: Threads + Wait + Abort + Sync, S: Strategy>(
+    rt: &Rt,
+    alloc: Global,
+    strategies: &[S],
+) {
+    for strategy in strategies {
+        lists_of_five(rt, alloc, strategy);
+        sums_of_five(rt, alloc, strategy);
+        sorts_and_a_join(rt, alloc, strategy);
+        let told = squares_and_sum(rt, alloc, strategy, SITE, &[1, 2, 3, 4]);
+        let (squares, sum) = told.expect(rt, "memory");
+        same(rt, squares.as_slice(), [1, 4, 9, 16].as_slice());
+        same(rt, sum, 30);
+    }
+}
+
 #[test]
 fn each_call_of_one_place_answers(rt: HostRuntime) {
     let alloc = rt.alloc();
-    lists_of_five(&rt, alloc, &Sequential);
-    sums_of_five(&rt, alloc, &Sequential);
-    sorts_and_a_join(&rt, alloc, &Sequential);
-    for threads in 1..5usize {
-        let strategy = pool(&rt, alloc, threads, threads);
-        lists_of_five(&rt, alloc, &strategy);
-        sums_of_five(&rt, alloc, &strategy);
-        sorts_and_a_join(&rt, alloc, &strategy);
-    }
+    one_place_answers(&rt, alloc, &[Sequential]);
+    one_place_answers(&rt, alloc, &pools(&rt, alloc));
 }

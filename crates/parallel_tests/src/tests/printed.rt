@@ -1,14 +1,23 @@
 //! What is printed, and which traits the plain types have.
 use crate::tests::same::{answers, prints, row, says};
 use crate::tests::strategies::{SITE, number, pool};
-use commonware_parallel::{Call, Fault, Grid, Kind, Sequential, Site, Trouble, Unmeasured};
-use parallel_pool::rayon::ThreadPoolBuildError;
-use std::alloc::Global;
+use commonware_parallel::mocks::{ExploreError, Explorer};
+use commonware_parallel::{
+    Batches, Call, Fault, Grid, Kind, Sequential, Site, Trouble, Unmeasured,
+};
+use parallel_pool::rayon::{BroadcastContext, ThreadPool, ThreadPoolBuildError, ThreadPoolBuilder};
+use std::alloc::{AllocError, Global};
 use std::collections::HashSet;
+use std::error::Error;
 use std::hash::Hash;
 use std::num::NonZeroUsize;
 use std::process::Abort;
 use uses::long_lists::LongLists;
+
+// Stops the test where an error isn't written as the text.
+fn errs<E: Error>(rt: &impl Abort, alloc: Global, error: &E, text: &str) {
+    says(rt, alloc, error, text);
+}
 
 #[test]
 fn refusals_print_their_reason(rt: HostRuntime) {
@@ -21,15 +30,21 @@ fn refusals_print_their_reason(rt: HostRuntime) {
             "a handed-off job needs a pool of two threads",
         ),
     ] {
-        says(&rt, alloc, &fault, text);
+        errs(&rt, alloc, &fault, text);
         let trouble: Trouble<u32> = Trouble::Fault(fault);
         says(&rt, alloc, &trouble, text);
     }
     let trouble: Trouble<u32> = Trouble::Closure(57);
     says(&rt, alloc, &trouble, "57");
-    says(&rt, alloc, &ThreadPoolBuildError::Memory, "out of memory");
+    errs(&rt, alloc, &ThreadPoolBuildError::Memory, "out of memory");
     let text = "a worker thread could not be started";
-    says(&rt, alloc, &ThreadPoolBuildError::Spawn, text);
+    errs(&rt, alloc, &ThreadPoolBuildError::Spawn, text);
+    errs(
+        &rt,
+        alloc,
+        &ExploreError::Build(ThreadPoolBuildError::Spawn),
+        text,
+    );
 }
 
 #[test]
@@ -58,6 +73,52 @@ fn values_print_their_parts(rt: HostRuntime) {
 }
 
 #[test]
+fn what_a_strategy_hands_out_prints_its_parts(rt: HostRuntime) {
+    let alloc = rt.alloc();
+    let batches = Batches::whole(alloc, &Sequential, SITE, 5).expect(&rt, "memory");
+    let text = "Batches { strategy: Sequential, \
+         site: Site { file: \"tests\", line: 1, column: 1 }, ranges: [0..5] }";
+    prints(&rt, alloc, &batches, text);
+    let grids = [Grid {
+        rows: 2,
+        tile_cost: NonZeroUsize::MIN,
+    }];
+    assert!(rt; Grid::fits(&grids, 5));
+    let text = "Tiles { strategy: Sequential, \
+         site: Site { file: \"tests\", line: 1, column: 1 }, grid: 0, rows: 2, len: 5, \
+         tile_cost: 1, workers: 1, whole: true }";
+    Sequential.run_tiles(SITE, 5, &grids, 1, |tiles| prints(&rt, alloc, &tiles, text));
+    let explorer = Explorer::seeded(&pool(&rt, alloc, 2, 3), 7).expect(&rt, "memory");
+    let text = "Explorer { pool: ThreadPool { num_threads: 2 }, parallelism: 3, \
+         starts_workers: true, rule: Seeded(7) }";
+    prints(&rt, alloc, &explorer, text);
+}
+
+fn itself(context: BroadcastContext) -> BroadcastContext {
+    context
+}
+
+fn no_name(_index: usize) -> Result<String, AllocError> {
+    Err(AllocError)
+}
+
+#[test]
+fn what_a_pool_hands_out_prints_its_parts(rt: HostRuntime) {
+    let alloc = rt.alloc();
+    let one = ThreadPool::new(NonZeroUsize::MIN);
+    let told = one.broadcast(&rt, alloc, &itself).expect(&rt, "memory");
+    let text = "[BroadcastContext { index: 0, num_threads: 1 }]";
+    prints(&rt, alloc, &told, text);
+    let names = Box::new(alloc, no_name).expect(&rt, "memory");
+    let builder = ThreadPoolBuilder::new().num_threads(2).thread_name(names);
+    let text = "ThreadPoolBuilder { num_threads: 2, use_current_thread: false, \
+         thread_name: Some(<closure>), stack_size: None, start_handler: None, \
+         environment: Environment { num_threads: None, num_cpus: None, machine: None }, label: 0, \
+         unstarted_workers: false }";
+    prints(&rt, alloc, &builder, text);
+}
+
+#[test]
 fn values_are_copied_compared_and_hashed(rt: HostRuntime) {
     let alloc = rt.alloc();
     let fault = Fault::Memory;
@@ -69,6 +130,8 @@ fn values_are_copied_compared_and_hashed(rt: HostRuntime) {
     assert!(rt; trouble != Trouble::Closure(58));
     let unmeasured = Unmeasured;
     answers(&rt, 2, unmeasured.clone(), unmeasured);
+    let serial = Sequential::default().clone().expect(&rt, "a copy");
+    prints(&rt, alloc, &serial, "Sequential");
 
     let other_line = Site { line: 2, ..SITE };
     assert!(rt; SITE != other_line);

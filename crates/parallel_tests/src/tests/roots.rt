@@ -1,11 +1,10 @@
 //! Roots of Merkle trees: the plain program's, through every strategy, and each node let go once.
-use crate::tests::errors::{Counted, Counts, counted_items};
+use crate::tests::errors::{Counts, counted_items, greater};
 use crate::tests::same::{answers, row};
-use crate::tests::strategies::{SITE, Stopped, number, pool};
+use crate::tests::strategies::{SITE, explorers, fresh, pool};
 use crate::tests::threads::Meeting;
 use commonware_parallel::merkle::{plain_root, root};
-use commonware_parallel::mocks::explore;
-use commonware_parallel::{Fault, Rayon, Sequential, Strategy};
+use commonware_parallel::{Fault, Sequential, Strategy};
 use std::alloc::Global;
 use std::process::Abort;
 use std::sync::Wait;
@@ -38,22 +37,24 @@ fn root_of<Rt: Threads + Wait + Sync, S: Strategy>(
     root(rt, alloc, strategy, SITE, leaves, combine)
 }
 
+const SEVEN: [u64; 7] = [1, 2, 3, 4, 5, 6, 7];
+
+// The root of [9], and those of the first of seven numbers.
 fn known_roots<Rt: Threads + Wait + Abort + Sync, S: Strategy>(
     rt: &Rt,
     alloc: Global,
     strategy: &S,
 ) {
-    answers(rt, 0, root_of(rt, alloc, strategy, &[]), None);
-    answers(rt, 1, root_of(rt, alloc, strategy, &[9]), Some(9));
-    answers(rt, 3, root_of(rt, alloc, strategy, &[1, 2, 3]), Some(25));
-    answers(
-        rt,
-        5,
-        root_of(rt, alloc, strategy, &[1, 2, 3, 4, 5]),
-        Some(155),
-    );
-    let seven = [1, 2, 3, 4, 5, 6, 7];
-    answers(rt, 7, root_of(rt, alloc, strategy, &seven), Some(371));
+    answers(rt, "nine", root_of(rt, alloc, strategy, &[9]), Some(9));
+    for (len, known) in [
+        (0usize, None),
+        (3, Some(25)),
+        (5, Some(155)),
+        (7, Some(371)),
+    ] {
+        let leaves = SEVEN.get(..len).expect(rt, "so many leaves");
+        answers(rt, len, root_of(rt, alloc, strategy, leaves), known);
+    }
 }
 
 // Whether the root of so many leaves is the plain program's.
@@ -86,15 +87,13 @@ fn roots_are_the_plain_programs(rt: HostRuntime) {
     are_plain(&rt, alloc, &Sequential);
     for threads in 1..9usize {
         are_plain(&rt, alloc, &pool(&rt, alloc, threads, threads));
-        let learning = Rayon::new(&rt, alloc, number(&rt, threads), Stopped);
-        are_plain(&rt, alloc, &learning.expect(&rt, "memory"));
+        are_plain(&rt, alloc, &fresh(&rt, alloc, threads));
     }
-    let explored = explore(
-        &rt,
-        alloc,
-        |explorer| is_plain(&rt, alloc, explorer, 1000).ok(),
-    );
-    answers(&rt, 1, explored, Some(true));
+    let explorers = explorers(&rt, alloc);
+    for explorer in &explorers {
+        let found = is_plain(&rt, alloc, explorer, 1000);
+        answers(&rt, explorer.rule(), found, true);
+    }
 }
 
 // What is left of the nodes of a tree while its root is there, and then.
@@ -106,10 +105,7 @@ fn nodes_left<Rt: Threads + Wait + Abort + Sync, S: Strategy>(
 ) {
     let counts = Counts::new();
     let leaves = counted_items(alloc, &counts, len).expect(rt, "memory");
-    let combine = |left: Counted<'_>, right: Counted<'_>| {
-        Counted::new(&counts, left.place.max(right.place))
-    };
-    let found = root(rt, alloc, strategy, SITE, leaves, combine).expect(rt, "memory");
+    let found = root(rt, alloc, strategy, SITE, leaves, greater).expect(rt, "memory");
     row(rt, len, found.is_some(), len > 0);
     row(rt, len, counts.left(), len.min(1) as u64);
     drop(found);

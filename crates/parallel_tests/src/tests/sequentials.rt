@@ -1,24 +1,22 @@
 //! `Sequential`'s own functions: one range, a plan for one worker, a job that is run at once, maps.
-ghost use Rattle.std.specs.Prelude.{◌≡◌, ⊤};
-
 use crate::tests::same::{answers, lists, same};
-use crate::tests::steps::{add, count, no_count, zero};
+use crate::tests::steps::{Gives, count, count_cells, no_count, twice, zero};
 use crate::tests::strategies::{SITE, number};
-use commonware_parallel::{Grid, Job, Sequential, Trouble};
+use commonware_parallel::{Fault, Grid, Sequential, Trouble};
+use std::alloc::Global;
 use std::ops::Range;
 
-// Answers its number.
-#[derive(Drop)]
-struct Gives(u64);
+fn half(end: usize) -> usize {
+    end / 2
+}
 
-impl<S: Drop> Job<S, u64> for Gives {
-    ghost may_run = { λ _ _. ⊤ };
-
-    ghost may_answer = { λ job _ answer. answer ≡ job.0 };
-
-    fn run_on(self, _strategy: S) -> u64 {
-        self.0
+// The ranges' ends, of a batch of `Sequential`'s own.
+fn ends(alloc: Global, ranges: &[Range<usize>]) -> Result<Vec<usize>, Fault> {
+    let mut ends = Vec::new(alloc);
+    for range in ranges {
+        ends.push(range.end)?;
     }
+    Ok(ends)
 }
 
 #[test]
@@ -31,19 +29,11 @@ fn all_indices_are_one_range(rt: HostRuntime) {
         });
         answers(&rt, len, told, (true, SITE));
     }
-    let ends = Sequential.try_run_batches(alloc, SITE, 16, five, 1, |batches| {
-        let prepare = |ranges: &[Range<usize>]| {
-            let mut ends = Vec::new(alloc);
-            for range in ranges {
-                ends.push(range.end)?;
-            }
-            Ok(ends)
-        };
-        batches
-            .map_collect_vec(&rt, alloc, prepare, |end: usize| end / 2)
-            .map_err(|_| "memory")
+    let mapped = Sequential.try_run_batches(alloc, SITE, 16, five, 1, |batches| {
+        let prepare = |ranges: &[Range<usize>]| ends(alloc, ranges);
+        batches.map_collect_vec(&rt, alloc, prepare, half)
     });
-    lists(&rt, "ends", ends, &[8]);
+    lists(&rt, "ends", mapped, &[8]);
     let failed: Result<u64, Trouble<&str>> = Sequential.try_run_batches(
         alloc,
         SITE,
@@ -53,6 +43,11 @@ fn all_indices_are_one_range(rt: HostRuntime) {
         |_| Err("closed"),
     );
     same(&rt, failed, Err(Trouble::Closure("closed")));
+}
+
+// The row and the cells that are filled so far.
+fn cells_so_far(cells: &mut usize, row: usize) -> (usize, usize) {
+    (row, *cells)
 }
 
 #[test]
@@ -71,14 +66,8 @@ fn tiles_are_planned_for_one_worker(rt: HostRuntime) {
     assert!(rt; Grid::fits(&grids, 5));
     let (plan, rows) = Sequential.run_tiles(SITE, 5, &grids, usize::MAX, |tiles| {
         let plan = (tiles.grid(), tiles.workers().get(), tiles.is_cut());
-        let fill = |cells: &mut usize, _: usize, columns: Range<usize>| {
-            *cells = cells.saturating_add(columns.len());
-        };
-        let finish = |cells: &mut usize, row: usize| (row, *cells);
-        (
-            plan,
-            tiles.fill_collect_vec(&rt, alloc, no_count, fill, finish),
-        )
+        let rows = tiles.fill_collect_vec(&rt, alloc, no_count, count_cells, cells_so_far);
+        (plan, rows)
     });
     same(&rt, plan, (0, 1, false));
     lists(&rt, "rows", rows, &[(0, 5), (1, 10)]);
@@ -91,11 +80,6 @@ fn a_job_is_run_at_once_and_taken_without_a_wait(rt: HostRuntime) {
     same(&rt, spawned.take_ready(), Some(7));
     assert!(rt; !spawned.is_ready());
     same(&rt, spawned.take_ready(), None);
-}
-
-// Twice a number.
-fn twice(number: u32) -> u32 {
-    add(number, number)
 }
 
 #[test]

@@ -3,8 +3,9 @@ ghost use Rattle.std.specs.Prelude.{◌≡◌, ⊤};
 
 use crate::tests::clocks::learning;
 use crate::tests::same::{answers, row, same};
+use crate::tests::steps::Gives;
 use crate::tests::strategies::{SITE, Stopped, number, pool};
-use commonware_parallel::mocks::{Explorer, inline, pending};
+use commonware_parallel::mocks::{Explorer, Rule, inline, pending};
 use commonware_parallel::rayon::ThreadPoolBuildError;
 use commonware_parallel::{Clock, Fault, Job, Rayon, Sequential, Site, Spawned, Strategy};
 use futures::executor::block_on;
@@ -23,20 +24,6 @@ use uses::spawned_jobs::{counts_beside, two_counts};
 
 // Turns to wait for what another thread counts.
 const TURNS: u64 = 10_000_000;
-
-// Answers its number.
-#[derive(Drop)]
-struct Gives(u64);
-
-impl<S: Drop> Job<S, u64> for Gives {
-    ghost may_run = { λ _ _. ⊤ };
-
-    ghost may_answer = { λ job _ answer. answer ≡ job.0 };
-
-    fn run_on(self, _strategy: S) -> u64 {
-        self.0
-    }
-}
 
 // Counts a word up by its number, and answers the number.
 #[derive(Drop)]
@@ -117,14 +104,15 @@ fn is_handed_off<
 #[test]
 fn a_job_runs_at_once_or_on_a_worker(rt: HostRuntime) {
     let alloc = rt.alloc();
-    assert!(rt; !is_handed_off(&rt, &Sequential, SITE));
-    assert!(rt; !is_handed_off(&rt, &pool(&rt, alloc, 1, 1), SITE));
-    assert!(rt; is_handed_off(&rt, &pool(&rt, alloc, 4, 4), SITE));
+    row(&rt, "serial", is_handed_off(&rt, &Sequential, SITE), false);
     // It goes by the pool's threads, whatever the strategy is planned for.
-    assert!(rt; is_handed_off(&rt, &pool(&rt, alloc, 4, 1), SITE));
-    assert!(rt; !is_handed_off(&rt, &pool(&rt, alloc, 1, 4), SITE));
+    for (threads, planned, is_aside) in [(1, 1, false), (4, 4, true), (4, 1, true), (1, 4, false)] {
+        let strategy = pool(&rt, alloc, threads, planned);
+        let found = is_handed_off(&rt, &strategy, SITE);
+        row(&rt, (threads, planned), found, is_aside);
+    }
     let one = inline(&rt, alloc, number(&rt, 4), Stopped).expect(&rt, "memory");
-    assert!(rt; !is_handed_off(&rt, &one, SITE));
+    row(&rt, "inline", is_handed_off(&rt, &one, SITE), false);
 }
 
 #[test]
@@ -146,16 +134,17 @@ fn an_answer_is_given_once(rt: HostRuntime) {
 fn an_explorer_spawns_by_its_rule(rt: HostRuntime) {
     let alloc = rt.alloc();
     let place = Site { file: "a", ..SITE };
-    let eight = pool(&rt, alloc, 4, 8);
-    for (seed, is_aside) in [(0, true), (1, false), (2, true), (3, true)] {
-        let explorer = Explorer::seeded(&eight, seed).expect(&rt, "memory");
-        assert!(rt;
-            is_handed_off(&rt, &explorer, place) == is_aside,
-            "seed {seed}"
-        );
+    for (threads, planned, rule, is_aside) in [
+        (4, 8, Rule::Seeded(0), true),
+        (4, 8, Rule::Seeded(1), false),
+        (4, 8, Rule::Seeded(2), true),
+        (4, 8, Rule::Seeded(3), true),
+        (2, 1, Rule::Parallel, true),
+    ] {
+        let strategy = pool(&rt, alloc, threads, planned);
+        let explorer = Explorer::by_rule(&strategy, rule).expect(&rt, "memory");
+        row(&rt, rule, is_handed_off(&rt, &explorer, place), is_aside);
     }
-    let planned_for_one = Explorer::parallel(&pool(&rt, alloc, 2, 1)).expect(&rt, "memory");
-    assert!(rt; is_handed_off(&rt, &planned_for_one, place));
     let single = Explorer::parallel(&pool(&rt, alloc, 1, 4)).expect(&rt, "memory");
     let refused = single.spawn(&rt, alloc, place, 1, Gives(7));
     assert!(rt; matches!(refused, Err(Fault::HandOff)));
@@ -186,12 +175,8 @@ fn a_pool_without_workers_leaves_its_jobs_pending(rt: HostRuntime) {
     let explorer = Explorer::parallel(&idle).expect(&rt, "memory");
     assert!(rt; is_never_run(&rt, &explorer));
     // Its other calls go on scoped threads.
-    answers(
-        &rt,
-        1,
-        one_of(&rt, alloc, &fixed, SITE, 2, "serial", "parallel"),
-        "parallel",
-    );
+    let taken = one_of(&rt, alloc, &fixed, SITE, 2, "serial", "parallel");
+    answers(&rt, 1, taken, "parallel");
     let single = pool(&rt, alloc, 1, 1).without_workers();
     assert!(rt; !is_handed_off(&rt, &single, SITE));
 }
@@ -252,9 +237,20 @@ fn a_job_that_nobody_waits_for_runs_all_the_same(rt: HostRuntime) {
     same(&rt, word.load(Ordering::SeqCst), 3);
 }
 
+// Which of the next jobs, one for each, are handed off.
+fn hand_offs<Rt: Threads + Wait + RandomSource + AllocGlobal + Abort + Copy + Send + 'static>(
+    rt: &Rt,
+    strategy: &Rayon<Scripted>,
+) -> [bool; 3] {
+    [
+        is_handed_off(rt, strategy, SITE),
+        is_handed_off(rt, strategy, SITE),
+        is_handed_off(rt, strategy, SITE),
+    ]
+}
+
 #[test]
 fn a_policy_weighs_a_job_against_its_hand_off(rt: HostRuntime) {
-    let alloc = rt.alloc();
     // The first job is handed off, and the next one is the dearer way, to see what it costs.
     for (time, overhead, then) in [
         (2_000, 50_000, [true, false, false]),
@@ -262,15 +258,11 @@ fn a_policy_weighs_a_job_against_its_hand_off(rt: HostRuntime) {
         (1_000_001, 2_000_000, [true, true, true]),
         (50_000, 5_000, [false, true, true]),
     ] {
-        let clock = Scripted::new(&rt, alloc, time, overhead);
-        let strategy = learning(&rt, alloc, clock);
-        assert!(rt; is_handed_off(&rt, &strategy, SITE), "{time}, {overhead}");
-        for is_aside in then {
-            assert!(rt;
-                is_handed_off(&rt, &strategy, SITE) == is_aside,
-                "{time}, {overhead}"
-            );
-        }
+        let clock = Scripted::new(&rt, rt.alloc(), time, overhead);
+        let strategy = learning(&rt, rt.alloc(), clock);
+        let first = is_handed_off(&rt, &strategy, SITE);
+        row(&rt, (time, overhead), first, true);
+        row(&rt, (time, overhead), hand_offs(&rt, &strategy), then);
     }
 }
 
@@ -280,10 +272,10 @@ fn an_inline_run_is_measured_as_one(rt: HostRuntime) {
     let clock = Scripted::new(&rt, alloc, 50_000, 5_000);
     let time = shared(&rt, &clock.time);
     let strategy = learning(&rt, alloc, clock);
-    assert!(rt; is_handed_off(&rt, &strategy, SITE));
+    let first = is_handed_off(&rt, &strategy, SITE);
     time.store(1_000, Ordering::SeqCst);
-    assert!(rt; !is_handed_off(&rt, &strategy, SITE));
-    assert!(rt; !is_handed_off(&rt, &strategy, SITE));
+    let then = hand_offs(&rt, &strategy);
+    same(&rt, (first, then), (true, [false; 3]));
 }
 
 #[test]
@@ -296,20 +288,29 @@ fn a_pool_of_one_thread_measures_no_job(rt: HostRuntime) {
     same(&rt, readings.load(Ordering::SeqCst), 0);
 }
 
+// How many of so many jobs are handed off.
+fn count_handed_off<
+    Rt: Threads + Wait + RandomSource + AllocGlobal + Abort + Copy + Send + 'static,
+>(rt: &Rt, strategy: &Rayon<Scripted>, count: usize) -> usize {
+    let mut aside = 0usize;
+    for _ in 0..count {
+        aside = aside.wrapping_add(usize::from(is_handed_off(rt, strategy, SITE)));
+    }
+    aside
+}
+
 #[test]
 fn a_dear_inline_run_is_tried_once_in_3200_jobs(rt: HostRuntime) {
     let alloc = rt.alloc();
     let clock = Scripted::new(&rt, alloc, 50_000, 5_000);
     let readings = shared(&rt, &clock.readings);
     let strategy = learning(&rt, alloc, clock);
-    assert!(rt; is_handed_off(&rt, &strategy, SITE));
-    assert!(rt; !is_handed_off(&rt, &strategy, SITE));
-    for _ in 1..3200 {
-        assert!(rt; is_handed_off(&rt, &strategy, SITE));
-    }
+    row(&rt, "first", count_handed_off(&rt, &strategy, 1), 1);
+    row(&rt, "second", count_handed_off(&rt, &strategy, 1), 0);
+    row(&rt, "further", count_handed_off(&rt, &strategy, 3199), 3199);
     // One job of ten was measured, besides the first two.
     same(&rt, readings.load(Ordering::SeqCst), 3 * (2 + 319));
-    assert!(rt; !is_handed_off(&rt, &strategy, SITE));
+    row(&rt, "last", count_handed_off(&rt, &strategy, 1), 0);
 }
 
 // The set flags of two lists, each counted in a job of its own, and of one counted in a job beside
@@ -320,20 +321,12 @@ fn flags_in_jobs<
 >(rt: &Rt, strategy: &S) {
     let flags = vec![in rt.alloc(); true, false, false].expect(rt, "memory");
     let others = [true, false, true];
-    answers(
-        rt,
-        "beside",
-        counts_beside(rt, strategy, SITE, flags, &others),
-        (1, 2),
-    );
+    let beside = counts_beside(rt, strategy, SITE, flags, &others);
+    answers(rt, "beside", beside, (1, 2));
     let flags = vec![in rt.alloc(); true, true, true].expect(rt, "memory");
     let more = vec![in rt.alloc(); false, true].expect(rt, "memory");
-    answers(
-        rt,
-        "two",
-        two_counts(rt, strategy, SITE, flags, more),
-        (3, 1),
-    );
+    let two = two_counts(rt, strategy, SITE, flags, more);
+    answers(rt, "two", two, (3, 1));
 }
 
 #[test]

@@ -1,5 +1,8 @@
-//! The steps of the tests' folds, states, runs and sorts. One that stands here is proved once, and
-//! not once for each test that hands it on.
+//! The steps of the tests' maps, folds, states, runs and sorts, and a job. One that stands here is
+//! proved once, and not once for each test that hands it on.
+ghost use Rattle.std.specs.Prelude.{◌≡◌, ⊤};
+
+use commonware_parallel::Job;
 use std::cmp::Ordering;
 use std::ops::Range;
 
@@ -9,6 +12,10 @@ pub fn zero() -> u32 {
 
 pub fn ten() -> u32 {
     10
+}
+
+pub fn hundred() -> u32 {
+    100
 }
 
 pub fn add(left: u32, right: u32) -> u32 {
@@ -25,6 +32,11 @@ pub fn count(state: &mut u32, _item: u32) -> u32 {
 pub fn add_counted(sum: u32, state: &mut u32, item: u32) -> u32 {
     *state = state.wrapping_add(1);
     sum.wrapping_add(item)
+}
+
+/// The sum, by a step that fails nowhere.
+pub fn add_or_fail(sum: u32, item: u32) -> Result<u32, u32> {
+    Ok(add(sum, item))
 }
 
 pub fn no_count() -> usize {
@@ -108,4 +120,39 @@ pub fn ascending(left: &u32, right: &u32) -> Ordering {
 
 pub fn descending(left: &u32, right: &u32) -> Ordering {
     right.cmp(left)
+}
+
+pub fn square(number: u64) -> u64 {
+    number.wrapping_mul(number)
+}
+
+pub fn as_it_is(number: u32) -> u32 {
+    number
+}
+
+pub fn twice(number: u32) -> u32 {
+    add(number, number)
+}
+
+/// The even numbers with ten times themselves, and the odd ones without.
+pub fn tenfold(number: u32) -> (u32, Option<u32>) {
+    if number % 2 == 0 {
+        (number, Some(number.wrapping_mul(10)))
+    } else {
+        (number, None)
+    }
+}
+
+/// A job that answers its number.
+#[derive(Drop)]
+pub struct Gives(pub u64);
+
+impl<S: Drop> Job<S, u64> for Gives {
+    ghost may_run = { λ _ _. ⊤ };
+
+    ghost may_answer = { λ job _ answer. answer ≡ job.0 };
+
+    fn run_on(self, _strategy: S) -> u64 {
+        self.0
+    }
 }

@@ -1,13 +1,16 @@
 //! Parts of a call that run side by side: two calls of a closure each wait, for a bounded number of
 //! turns, until the other one was begun.
-use crate::tests::same::{answers, lists, row, same};
+use crate::tests::same::{answers, lists, same};
 use crate::tests::steps::{ascending, both, nothing, yes};
-use crate::tests::strategies::{SITE, number, pool};
-use commonware_parallel::bridge::Indices;
+use crate::tests::strategies::{SITE, Stopped, pool};
 use commonware_parallel::rayon::{BroadcastContext, ThreadPoolBuilder};
-use commonware_parallel::{Batches, Copies, Counted, Fault, Source, Strategy, Trouble};
+use commonware_parallel::{
+    Batches, Copies, Counted, Fault, Indices, Rayon, Source, Strategy, Trouble,
+};
+use parallel_bridge::{Parts, Segment};
 use std::alloc::Global;
 use std::cmp;
+use std::num::NonZeroUsize;
 use std::ops::Range;
 use std::process::Abort;
 use std::sync::Wait;
@@ -57,176 +60,203 @@ impl Meeting {
     pub fn next(&self) -> bool {
         self.meet(self.calls.fetch_add(1, Ordering::SeqCst) == 0)
     }
+
+    // Takes both flags down.
+    fn part(&self) {
+        self.first.store(false, Ordering::SeqCst);
+        self.second.store(false, Ordering::SeqCst);
+    }
+
+    fn seat(&self, is_first: bool) -> Seat<'_> {
+        Seat {
+            meeting: self,
+            is_first,
+        }
+    }
+
+    // The items that meet there.
+    fn seats(&self) -> [Seat<'_>; 2] {
+        [self.seat(true), self.seat(false)]
+    }
 }
 
-// Whether each of two items saw the other, by a map, a fallible one and one with a state.
-fn meet_in_a_map<Rt: Threads + Wait + Sync, S: Strategy, M, I: Source<M>>(
+// One of two items, which are to see each other.
+#[derive(Clone, Copy)]
+struct Seat<'a> {
+    meeting: &'a Meeting,
+    is_first: bool,
+}
+
+// Whether an item saw the other one, as the closure of each call answers it.
+fn meets(seat: &Seat<'_>) -> bool {
+    seat.meeting.meet(seat.is_first)
+}
+
+fn meets_or_fails(seat: &Seat<'_>) -> Result<bool, u32> {
+    Ok(meets(seat))
+}
+
+fn meets_by_state(_state: &mut (), seat: &Seat<'_>) -> bool {
+    meets(seat)
+}
+
+fn meets_behind(seen: bool, seat: &Seat<'_>) -> bool {
+    seen & meets(seat)
+}
+
+fn meets_behind_or_fails(seen: bool, seat: &Seat<'_>) -> Result<bool, u32> {
+    Ok(seen & meets(seat))
+}
+
+fn meets_with_key(seat: &Seat<'_>) -> (bool, Option<bool>) {
+    (false, Some(meets(seat)))
+}
+
+// The list calls.
+#[derive(Clone, Copy, Debug, PartialEq, Eq)]
+enum Called {
+    Map,
+    FallibleMap,
+    MapWithState,
+    Fold,
+    FallibleFold,
+    Partition,
+}
+
+const CALLS: [Called; 6] = [
+    Called::Map,
+    Called::FallibleMap,
+    Called::MapWithState,
+    Called::Fold,
+    Called::FallibleFold,
+    Called::Partition,
+];
+
+// Whether each of two items saw the other.
+fn are_both(seen: &[bool]) -> bool {
+    seen == [true, true].as_slice()
+}
+
+// The same of the items of such a call.
+fn meet_in<'a, 's: 'a, Rt, S, M, I>(
     rt: &Rt,
     alloc: Global,
     strategy: &S,
-    source: I,
-) -> Result<Vec<bool>, Fault>
-    requires { I.can source }
-{
-    let met = Meeting::new();
-    strategy.map_collect_vec(rt, alloc, SITE, source, |_: I::Item| met.next())
-}
-
-fn meet_in_a_fallible_map<Rt: Threads + Wait + Sync, S: Strategy, M, I: Source<M>>(
-    rt: &Rt,
-    alloc: Global,
-    strategy: &S,
-    source: I,
-) -> Result<Vec<bool>, Trouble<u32>>
-    requires { I.can source }
-{
-    let met = Meeting::new();
-    let map = |_: I::Item| -> Result<bool, u32> { Ok(met.next()) };
-    strategy.try_map_collect_vec(rt, alloc, SITE, source, map)
-}
-
-fn meet_in_a_map_with_a_state<Rt: Threads + Wait + Sync, S: Strategy, M, I: Source<M>>(
-    rt: &Rt,
-    alloc: Global,
-    strategy: &S,
-    source: I,
-) -> Result<Vec<bool>, Fault>
-    requires { I.can source }
-{
-    let met = Meeting::new();
-    let map = |_: &mut (), _: I::Item| met.next();
-    strategy.map_init_collect_vec(rt, alloc, SITE, source, nothing, map)
-}
-
-// Whether both of two items saw the other, by a fold and a fallible one.
-fn meet_in_a_fold<Rt: Threads + Wait + Sync, S: Strategy, M, I: Source<M>>(
-    rt: &Rt,
-    alloc: Global,
-    strategy: &S,
-    source: I,
-) -> Result<bool, Fault>
-    requires { I.can source }
-{
-    let met = Meeting::new();
-    let step = |seen: bool, _: I::Item| seen & met.next();
-    strategy.fold(rt, alloc, SITE, source, yes, step, both)
-}
-
-fn meet_in_a_fallible_fold<Rt: Threads + Wait + Sync, S: Strategy, M, I: Source<M>>(
-    rt: &Rt,
-    alloc: Global,
-    strategy: &S,
+    called: Called,
     source: I,
 ) -> Result<bool, Trouble<u32>>
+where
+    Rt: Threads + Wait + Sync,
+    S: Strategy,
+    I: Source<M, Item = &'a Seat<'s>, Parts: Parts<Segment: Segment<&'a Seat<'s>>>>,
     requires { I.can source }
 {
-    let met = Meeting::new();
-    let step = |seen: bool, _: I::Item| -> Result<bool, u32> { Ok(seen & met.next()) };
-    strategy.try_fold(rt, alloc, SITE, source, yes, step, both)
+    Ok(match called {
+        Called::Map => are_both(&strategy.map_collect_vec(rt, alloc, SITE, source, meets)?),
+        Called::FallibleMap => {
+            are_both(&strategy.try_map_collect_vec(rt, alloc, SITE, source, meets_or_fails)?)
+        }
+        Called::MapWithState => are_both(&strategy.map_init_collect_vec(
+            rt,
+            alloc,
+            SITE,
+            source,
+            nothing,
+            meets_by_state,
+        )?),
+        Called::Fold => strategy.fold(rt, alloc, SITE, source, yes, meets_behind, both)?,
+        Called::FallibleFold => {
+            strategy.try_fold(rt, alloc, SITE, source, yes, meets_behind_or_fails, both)?
+        }
+        Called::Partition => {
+            let (seen, _) = strategy.map_partition_collect_vec(
+                rt,
+                alloc,
+                SITE,
+                source,
+                meets_with_key,
+            )?;
+            are_both(&seen)
+        }
+    })
 }
 
-// Whether each of two items of a partition saw the other.
-fn meet_in_a_partition<Rt: Threads + Wait + Sync, S: Strategy, M, I: Source<M>>(
+// Stops the test where two items of a list don't see each other in such a call.
+fn items_meet<'a, 's: 'a, Rt, M, I>(
     rt: &Rt,
     alloc: Global,
-    strategy: &S,
-    source: I,
-) -> Result<Vec<bool>, Fault>
-    requires { I.can source }
-{
-    let met = Meeting::new();
-    let keep = |item: I::Item| (item, Some(met.next()));
-    let (kept, _) = strategy.map_partition_collect_vec(rt, alloc, SITE, source, keep)?;
-    Ok(kept)
-}
-
-// Each of them, for lists that are made alike.
-fn items_meet<Rt: Threads + Wait + Abort + Sync, S: Strategy, M, I: Source<M>, G: Fn() -> I>(
-    rt: &Rt,
-    alloc: Global,
-    strategy: &S,
-    of: &str,
-    make: G,
+    two: &Rayon<Stopped>,
+    meeting: &Meeting,
+    of: (Called, &str),
+    list: I,
 )
-    requires makes { G.IsAlwaysCallable make }
-    requires can { (source : I) → G.post make source → I.can source }
+where
+    Rt: Threads + Wait + Abort + Sync,
+    I: Source<M, Item = &'a Seat<'s>, Parts: Parts<Segment: Segment<&'a Seat<'s>>>>,
+    requires { I.can list }
 {
-    let each = [true, true];
-    lists(
-        rt,
-        (of, "map"),
-        meet_in_a_map(rt, alloc, strategy, make()),
-        &each,
-    );
-    let tried = meet_in_a_fallible_map(rt, alloc, strategy, make());
-    lists(rt, (of, "fallible map"), tried, &each);
-    let mapped = meet_in_a_map_with_a_state(rt, alloc, strategy, make());
-    lists(rt, (of, "map with a state"), mapped, &each);
-    answers(
-        rt,
-        (of, "fold"),
-        meet_in_a_fold(rt, alloc, strategy, make()),
-        true,
-    );
-    let folded = meet_in_a_fallible_fold(rt, alloc, strategy, make());
-    answers(rt, (of, "fallible fold"), folded, true);
-    lists(
-        rt,
-        (of, "partition"),
-        meet_in_a_partition(rt, alloc, strategy, make()),
-        &each,
-    );
+    meeting.part();
+    answers(rt, of, meet_in(rt, alloc, two, of.0, list), true);
 }
 
-const NUMBERS: &[u32] = &[7, 8];
-
-fn copies() -> Copies<'static, u32> {
-    Copies { slice: NUMBERS }
+// The same for each list that can be cut: copies, a slice, and a producer of `uses`.
+fn items_of_lists_meet<'a, 's: 'a, Rt: Threads + Wait + Abort + Sync>(
+    rt: &Rt,
+    alloc: Global,
+    two: &Rayon<Stopped>,
+    called: Called,
+    meeting: &Meeting,
+    seats: &'a [Seat<'s>],
+    places: &'a [&'a Seat<'s>],
+) {
+    items_meet(rt, alloc, two, meeting, (called, "slice"), seats);
+    let copies = Copies { slice: places };
+    items_meet(rt, alloc, two, meeting, (called, "copies"), copies);
+    let own = Backwards { slice: places };
+    items_meet(rt, alloc, two, meeting, (called, "own"), own);
 }
 
-fn slice() -> &'static [u32] {
-    NUMBERS
-}
-
-fn indices() -> Indices {
-    Indices { start: 3, end: 5 }
-}
-
-fn iterator() -> Range<u32> {
-    0..2
-}
-
-fn counted() -> Counted<Range<usize>> {
-    Counted { iter: 0..2 }
-}
-
-fn backwards() -> Backwards<'static, u32> {
-    Backwards { slice: NUMBERS }
+// The same for a vector, an iterator, and one that knows its number.
+fn items_as_they_come_meet<'a, 's: 'a, Rt: Threads + Wait + Abort + Sync>(
+    rt: &Rt,
+    alloc: Global,
+    two: &Rayon<Stopped>,
+    called: Called,
+    meeting: &Meeting,
+    places: &'a [&'a Seat<'s>],
+) {
+    let iterator = places.iter().copied();
+    items_meet(rt, alloc, two, meeting, (called, "iterator"), iterator);
+    let counted = Counted {
+        iter: places.iter().copied(),
+    };
+    items_meet(rt, alloc, two, meeting, (called, "counted"), counted);
+    let vector = Vec::from_slice(alloc, places).expect(rt, "memory");
+    items_meet(rt, alloc, two, meeting, (called, "vector"), vector);
 }
 
 #[test]
 fn the_items_of_each_list_call_see_each_other(rt: HostRuntime) {
     let alloc = rt.alloc();
     let two = pool(&rt, alloc, 2, 2);
-    items_meet(&rt, alloc, &two, "copies", copies);
-    items_meet(&rt, alloc, &two, "slice", slice);
-    items_meet(&rt, alloc, &two, "indices", indices);
-    items_meet(&rt, alloc, &two, "iterator", iterator);
-    items_meet(&rt, alloc, &two, "counted", counted);
-    items_meet(&rt, alloc, &two, "own", backwards);
-    items_meet(&rt, alloc, &two, "vector", || {
-        vec![in alloc; 7u32, 8].expect(&rt, "memory")
-    });
+    let meeting = Meeting::new();
+    let seats = meeting.seats();
+    let places = [&seats[0], &seats[1]];
+    for called in CALLS {
+        items_of_lists_meet(&rt, alloc, &two, called, &meeting, &seats, &places);
+        items_as_they_come_meet(&rt, alloc, &two, called, &meeting, &places);
+    }
 }
 
-// Whether each of two items of a map whose items stand for more work saw the other.
+// Whether each of two indices of a map that stand for more work saw the other.
 fn meet_in_a_multiplied_map<Rt: Threads + Wait + Sync, S: Strategy>(
     rt: &Rt,
     alloc: Global,
     strategy: &S,
 ) -> Result<Vec<bool>, Fault> {
     let met = Meeting::new();
-    strategy.map_collect_vec_with_multiplier(rt, alloc, SITE, 0..2u32, 9, |_: u32| met.next())
+    let indices = Indices { start: 3, end: 5 };
+    strategy.map_collect_vec_with_multiplier(rt, alloc, SITE, indices, 9, |_: usize| met.next())
 }
 
 #[test]
@@ -236,52 +266,48 @@ fn the_items_of_a_multiplied_map_see_each_other(rt: HostRuntime) {
     lists(&rt, 1, met, &[true, true]);
 }
 
-// One number for each range.
-fn starts_of(alloc: Global, ranges: &[Range<usize>]) -> Result<Vec<usize>, Fault> {
-    let mut starts = Vec::new(alloc);
-    for range in ranges {
-        starts.push(range.start)?;
-    }
-    Ok(starts)
-}
-
-// Whether each of what is prepared of two ranges saw the other, by a map.
+// Whether each of what is prepared of two ranges saw the other, by a map that may fail or can't.
 fn meet_in_a_batch<Rt: Threads + Wait + Sync, S: Strategy>(
     rt: &Rt,
     alloc: Global,
     strategy: &S,
-) -> Result<Vec<bool>, Fault> {
-    let met = Meeting::new();
-    let one = std::num::NonZeroUsize::MIN;
-    strategy.run_batches(rt, alloc, SITE, 10, one, 1, |batches: Batches<'_, S, _>| {
-        let prepare = |ranges: &[Range<usize>]| starts_of(alloc, ranges);
-        batches.map_collect_vec(rt, alloc, prepare, |_: usize| met.next())
-    })?
-}
-
-// The same by a map that may fail.
-fn meet_in_a_fallible_batch<Rt: Threads + Wait + Sync, S: Strategy>(
-    rt: &Rt,
-    alloc: Global,
-    strategy: &S,
+    may_fail: bool,
 ) -> Result<Vec<bool>, Trouble<u32>> {
-    let met = Meeting::new();
-    let one = std::num::NonZeroUsize::MIN;
+    let meeting = Meeting::new();
+    let seats = meeting.seats();
+    let one = NonZeroUsize::MIN;
     let answer = strategy.run_batches(rt, alloc, SITE, 10, one, 1, |batches: Batches<'_, S, _>| {
-        let prepare = |ranges: &[Range<usize>]| starts_of(alloc, ranges);
-        let map = |_: usize| -> Result<bool, u32> { Ok(met.next()) };
-        batches.try_map_collect_vec(rt, alloc, prepare, map)
+        let prepare = |ranges: &[Range<usize>]| seats_of(alloc, &seats, ranges.len());
+        if may_fail {
+            batches.try_map_collect_vec(rt, alloc, prepare, meets_or_fails)
+        } else {
+            let met = batches.map_collect_vec(rt, alloc, prepare, meets);
+            met.map_err(Trouble::Fault)
+        }
     })?;
     answer
+}
+
+// The first so many seats.
+fn seats_of<'a, 's: 'a>(
+    alloc: Global,
+    seats: &'a [Seat<'s>],
+    count: usize,
+) -> Result<Vec<&'a Seat<'s>>, Fault> {
+    let mut first = Vec::new(alloc);
+    for seat in seats.iter().take(count) {
+        first.push(seat)?;
+    }
+    Ok(first)
 }
 
 #[test]
 fn what_is_prepared_of_two_ranges_sees_each_other(rt: HostRuntime) {
     let two = pool(&rt, rt.alloc(), 2, 2);
-    let met = meet_in_a_batch(&rt, rt.alloc(), &two);
-    lists(&rt, "map", met, &[true, true]);
-    let met = meet_in_a_fallible_batch(&rt, rt.alloc(), &two);
-    lists(&rt, "fallible map", met, &[true, true]);
+    for may_fail in [false, true] {
+        let met = meet_in_a_batch(&rt, rt.alloc(), &two, may_fail);
+        lists(&rt, may_fail, met, &[true, true]);
+    }
 }
 
 // How many comparisons of a sort didn't see one of the other half of its items, of which the lower
@@ -313,26 +339,27 @@ fn missed_in_a_sort<Rt: Threads + Wait + Sync, S: Strategy>(
     Ok(missed.load(Ordering::SeqCst))
 }
 
+// Two halves of 4096 numbers, each from its greatest one down.
+fn two_halves(rt: &impl Abort, alloc: Global) -> Vec<u32> {
+    let mut numbers = Vec::with_capacity(alloc, 8192).expect(rt, "memory");
+    for place in 0..8192u32 {
+        let half = (place / 4096).wrapping_add(1).wrapping_mul(4096);
+        let number = half.wrapping_sub(place % 4096);
+        numbers.push(number).expect(rt, "memory");
+    }
+    numbers
+}
+
 #[test]
 fn the_halves_of_a_sort_see_each_other(rt: HostRuntime) {
     let alloc = rt.alloc();
     let two = pool(&rt, alloc, 2, 2);
-    let mut numbers = Vec::new(alloc);
-    for half in [4096u32, 8192] {
-        for number in 0..4096u32 {
-            numbers
-                .push(half.wrapping_sub(number))
-                .expect(&rt, "memory");
-        }
-    }
+    let mut numbers = two_halves(&rt, alloc);
     let missed = missed_in_a_sort(&rt, alloc, &two, numbers.as_mut_slice(), 4097);
     answers(&rt, 1, missed, 0);
     assert!(rt; numbers.is_sorted());
-    same(
-        &rt,
-        (numbers.first().copied(), numbers.len()),
-        (Some(1), 8192),
-    );
+    let ends = (numbers.first().copied(), numbers.len());
+    same(&rt, ends, (Some(1), 8192));
 }
 
 #[test]

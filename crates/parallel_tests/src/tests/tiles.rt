@@ -1,11 +1,10 @@
 //! Tiles: which cells are filled, for how many workers, and what is answered for each row.
-use crate::tests::same::{lists, row, same};
+use crate::tests::same::{answers, lists, row, same};
 use crate::tests::steps::{no, no_count};
-use crate::tests::strategies::{SITE, Stopped, number, pool};
+use crate::tests::strategies::{SITE, explorers, number, pool, pools};
 use crate::tests::threads::Meeting;
-use commonware_parallel::mocks::explore;
 use commonware_parallel::shares::machine::{Event, Outcome, Plan, replay};
-use commonware_parallel::{Fault, Grid, Rayon, Sequential, Site, Strategy, Tiles};
+use commonware_parallel::{Fault, Grid, Sequential, Site, Strategy, Tiles};
 use std::alloc::Global;
 use std::ops::Range;
 use std::process::Abort;
@@ -16,7 +15,7 @@ use uses::tile_rows::above_by_row;
 
 // What tiles answered: the grid, the workers, whether rows may be cut, and for each result its row
 // and the number of cells that were filled for it.
-type Told = (usize, usize, bool, Vec<(usize, usize)>);
+type Told = ((usize, usize, bool), Vec<(usize, usize)>);
 
 fn grid(rt: &impl Abort, rows: usize, tile_cost: usize) -> Grid {
     Grid {
@@ -41,17 +40,12 @@ fn fill_tiles<Rt: Threads + Wait + Sync, S: Strategy>(
     marks: &[AtomicU64],
 ) -> Result<Told, Fault> {
     let plan = (tiles.grid(), tiles.workers().get(), tiles.is_cut());
-    let fill = |count: &mut usize, row: usize, columns: Range<usize>| {
-        *count = count.saturating_add(columns.end.saturating_sub(columns.start));
-        for column in columns {
-            let place = row.saturating_mul(len).saturating_add(column);
-            if let Some(mark) = marks.get(place) {
-                mark.fetch_add(1, Ordering::SeqCst);
-            }
-        }
+    let mark = |count: &mut usize, row: usize, columns: Range<usize>| {
+        *count = count.saturating_add(columns.len());
+        mark_cells(marks, row.saturating_mul(len), columns);
     };
-    let results = tiles.fill_collect_vec(rt, alloc, no_count, fill, row_and_cells)?;
-    Ok((plan.0, plan.1, plan.2, results))
+    let results = tiles.fill_collect_vec(rt, alloc, no_count, mark, row_and_cells)?;
+    Ok((plan, results))
 }
 
 // Fills the grids, and counts in `marks` how often each cell of a row of `len` was filled.
@@ -67,6 +61,15 @@ fn fill<Rt: Threads + Wait + Abort + Sync, S: Strategy>(
     strategy.run_tiles(rt, alloc, SITE, len, grids, 1, |tiles| {
         fill_tiles(rt, alloc, tiles, len, marks)
     })?
+}
+
+// Counts the cells of a row that begins there.
+fn mark_cells(marks: &[AtomicU64], first: usize, columns: Range<usize>) {
+    for column in columns {
+        if let Some(mark) = marks.get(first.saturating_add(column)) {
+            mark.fetch_add(1, Ordering::SeqCst);
+        }
+    }
 }
 
 // The cells that one row's results say were filled.
@@ -88,53 +91,81 @@ fn marks(alloc: Global, cells: usize) -> Result<Vec<AtomicU64>, Fault> {
     Ok(marks)
 }
 
-// Each cell of the grid was filled once, and each row's results have all of its cells.
+fn marked_once(marks: &[AtomicU64]) -> usize {
+    let mut once = 0usize;
+    for mark in marks {
+        once = once.wrapping_add(usize::from(mark.load(Ordering::SeqCst) == 1));
+    }
+    once
+}
+
+// Each cell of the grid was filled once, and each row's results have all of its cells. Answers the
+// plan.
 fn covers<Rt: Threads + Wait + Abort + Sync, S: Strategy>(
     rt: &Rt,
     alloc: Global,
     strategy: &S,
-    rows: usize,
-    len: usize,
-    tile_cost: usize,
-) -> Result<Told, Fault> {
-    let counted = marks(alloc, rows.saturating_mul(len))?;
+    (rows, len, tile_cost): (usize, usize, usize),
+) -> (usize, usize, bool) {
+    let counted = marks(alloc, rows.saturating_mul(len)).expect(rt, "memory");
     let grids = [grid(rt, rows, tile_cost)];
-    let told = fill(rt, alloc, strategy, len, &grids, counted.as_slice())?;
-    for mark in &counted {
-        row(rt, (rows, len), mark.load(Ordering::SeqCst), 1);
-    }
+    let told = fill(rt, alloc, strategy, len, &grids, &counted);
+    let (plan, results) = told.expect(rt, "memory");
+    row(rt, (rows, len), marked_once(&counted), counted.len());
     for at in 0..rows {
-        row(rt, (at, rows), cells_of_row(told.3.as_slice(), at), len);
+        row(rt, (at, rows), cells_of_row(&results, at), len);
     }
-    Ok(told)
+    plan
 }
 
 #[test]
 fn a_serial_plan_fills_each_row_whole(rt: HostRuntime) {
     let alloc = rt.alloc();
     let grids = [grid(&rt, 2, 1), grid(&rt, 1, 9)];
-    let told = fill(&rt, alloc, &Sequential, 5, &grids, &[]).expect(&rt, "memory");
-    same(&rt, (told.0, told.1, told.2), (0, 1, false));
-    same(&rt, told.3.as_slice(), [(0, 5), (1, 5)].as_slice());
+    let told = fill(&rt, alloc, &Sequential, 5, &grids, &[]);
+    let (plan, results) = told.expect(&rt, "memory");
+    same(&rt, plan, (0, 1, false));
+    same(&rt, results.as_slice(), [(0, 5), (1, 5)].as_slice());
 }
 
 #[test]
-fn two_workers_take_whole_rows(rt: HostRuntime) {
+fn two_workers_take_whole_rows_and_eight_cut_them(rt: HostRuntime) {
     let alloc = rt.alloc();
-    let two = pool(&rt, alloc, 2, 2);
-    let told = covers(&rt, alloc, &two, 4, 64, 1).expect(&rt, "memory");
-    same(&rt, (told.0, told.1, told.2), (0, 2, false));
-    same(&rt, told.3.len(), 4);
-}
-
-#[test]
-fn eight_workers_cut_four_rows(rt: HostRuntime) {
-    let alloc = rt.alloc();
-    for threads in [1, 2, 4] {
-        let eight = pool(&rt, alloc, threads, 8);
-        let told = covers(&rt, alloc, &eight, 4, 64, 1).expect(&rt, "memory");
-        same(&rt, (told.0, told.1, told.2), (0, 8, true));
+    for (threads, planned, is_cut) in [(2, 2, false), (1, 8, true), (2, 8, true), (4, 8, true)] {
+        let strategy = pool(&rt, alloc, threads, planned);
+        let plan = covers(&rt, alloc, &strategy, (4, 64, 1));
+        row(&rt, (threads, planned), plan, (0, planned, is_cut));
     }
+}
+
+// Grids of each shape, filled through each of the strategies.
+fn all_cover<Rt: Threads + Wait + Abort + Sync, S: Strategy>(
+    rt: &Rt,
+    alloc: Global,
+    strategies: &[S],
+) {
+    for strategy in strategies {
+        for shape in [
+            (1, 1, 1),
+            (1, 64, 1),
+            (3, 5, 2),
+            (7, 3, 8),
+            (2, 100, 1),
+            (5, 41, 4),
+            (64, 7, 1),
+        ] {
+            covers(rt, alloc, strategy, shape);
+        }
+    }
+}
+
+#[test]
+fn each_cell_is_filled_once(rt: HostRuntime) {
+    let alloc = rt.alloc();
+    all_cover(&rt, alloc, &[Sequential]);
+    all_cover(&rt, alloc, &pools(&rt, alloc));
+    let planned_for_more = [pool(&rt, alloc, 3, 8), pool(&rt, alloc, 3, 16)];
+    all_cover(&rt, alloc, &planned_for_more);
 }
 
 fn fill_nothing(_state: &mut (), _row: usize, _columns: Range<usize>) {}
@@ -148,59 +179,42 @@ fn results_of_nothing<Rt: Threads + Wait + Abort + Sync, S: Strategy>(
     rt: &Rt,
     alloc: Global,
     strategy: &S,
-    len: usize,
-    grids: &[Grid],
+    (rows, len): (usize, usize),
     made: &AtomicU64,
-) -> usize {
-    assert!(rt; Grid::fits(grids, len));
-    let results = strategy.run_tiles(rt, alloc, SITE, len, grids, usize::MAX, |tiles| {
+) -> Result<usize, Fault> {
+    let grids = [grid(rt, rows, 3)];
+    assert!(rt; Grid::fits(&grids, len));
+    let results = strategy.run_tiles(rt, alloc, SITE, len, &grids, usize::MAX, |tiles| {
         let init = || {
             made.fetch_add(1, Ordering::SeqCst);
         };
         tiles.fill_collect_vec(rt, alloc, init, fill_nothing, number_of_row)
-    });
-    let results = results.expect(rt, "memory").expect(rt, "memory");
-    results.len()
+    })??;
+    Ok(results.len())
+}
+
+// None, and no state, through each of the strategies.
+fn nothing_comes<Rt: Threads + Wait + Abort + Sync, S: Strategy>(
+    rt: &Rt,
+    alloc: Global,
+    strategies: &[S],
+) {
+    let made = AtomicU64::new(0);
+    for strategy in strategies {
+        for shape in [(0, 7), (7, 0), (0, 0), (0, usize::MAX)] {
+            let count = results_of_nothing(rt, alloc, strategy, shape, &made);
+            answers(rt, shape, count, 0);
+        }
+    }
+    same(rt, made.load(Ordering::SeqCst), 0);
 }
 
 #[test]
 fn a_grid_without_cells_has_no_results(rt: HostRuntime) {
     let alloc = rt.alloc();
-    let four = pool(&rt, alloc, 2, 4);
-    let learning = Rayon::new(&rt, alloc, number(&rt, 4), Stopped).expect(&rt, "memory");
-    let made = AtomicU64::new(0);
-    for (rows, len) in [(0, 7), (7, 0), (0, 0), (0, usize::MAX)] {
-        let grids = [grid(&rt, rows, 3)];
-        let serial = results_of_nothing(&rt, alloc, &Sequential, len, &grids, &made);
-        let shared = results_of_nothing(&rt, alloc, &four, len, &grids, &made);
-        let chosen = results_of_nothing(&rt, alloc, &learning, len, &grids, &made);
-        row(&rt, (rows, len), (serial, shared, chosen), (0, 0, 0));
-        let explored = explore(&rt, alloc, |explorer| {
-            results_of_nothing(&rt, alloc, explorer, len, &grids, &made)
-        });
-        row(&rt, (rows, len), explored.expect(&rt, "memory"), 0);
-    }
-    same(&rt, made.load(Ordering::SeqCst), 0);
-}
-
-#[test]
-fn each_cell_is_filled_once(rt: HostRuntime) {
-    let alloc = rt.alloc();
-    for (rows, len, tile_cost) in [
-        (1, 1, 1),
-        (1, 64, 1),
-        (3, 5, 2),
-        (7, 3, 8),
-        (2, 100, 1),
-        (5, 41, 4),
-        (64, 7, 1),
-    ] {
-        covers(&rt, alloc, &Sequential, rows, len, tile_cost).expect(&rt, "memory");
-        for planned in [1, 2, 3, 8, 16] {
-            let strategy = pool(&rt, alloc, 3, planned);
-            covers(&rt, alloc, &strategy, rows, len, tile_cost).expect(&rt, "memory");
-        }
-    }
+    nothing_comes(&rt, alloc, &[Sequential]);
+    nothing_comes(&rt, alloc, &pools(&rt, alloc));
+    nothing_comes(&rt, alloc, &explorers(&rt, alloc));
 }
 
 // What a stretch has seen.
@@ -208,57 +222,21 @@ fn has_seen(seen: &mut bool, _row: usize) -> bool {
     *seen
 }
 
-// For each stretch, whether its row saw the other one.
-fn meetings<Rt: Threads + Wait + Sync, S: Strategy>(
-    rt: &Rt,
-    alloc: Global,
-    tiles: Tiles<'_, S, Site>,
-    flags: &Meeting,
-) -> Result<Vec<bool>, Fault> {
-    let fill = |seen: &mut bool, row: usize, _: Range<usize>| *seen = flags.meet(row == 0);
-    tiles.fill_collect_vec(rt, alloc, no, fill, has_seen)
-}
-
-// The same over rows of 8 cells, which stay whole where a tile costs more.
-fn meet_in_tiles<Rt: Threads + Wait + Abort + Sync, S: Strategy>(
+// Of tiles of rows of 64, whether they may be cut, and whether each stretch saw one of the other
+// row, or of the other half of the one row.
+fn stretches_meet<Rt: Threads + Wait + Abort + Sync, S: Strategy>(
     rt: &Rt,
     alloc: Global,
     strategy: &S,
-    flags: &Meeting,
-) -> Result<Vec<bool>, Fault> {
-    let grids = [grid(rt, 2, 9)];
-    assert!(rt; Grid::fits(&grids, 8));
-    strategy.run_tiles(rt, alloc, SITE, 8, &grids, 1, |tiles| {
-        meetings(rt, alloc, tiles, flags)
-    })?
-}
-
-#[test]
-fn two_rows_see_each_other_on_two_threads(rt: HostRuntime) {
-    let alloc = rt.alloc();
-    let two = pool(&rt, alloc, 2, 2);
-    let flags = Meeting::new();
-    lists(
-        &rt,
-        1,
-        meet_in_tiles(&rt, alloc, &two, &flags),
-        &[true, true],
-    );
-}
-
-// For each stretch of one row, whether the half that it is of saw the other half.
-fn halves_meet<Rt: Threads + Wait + Abort + Sync, S: Strategy>(
-    rt: &Rt,
-    alloc: Global,
-    strategy: &S,
-    flags: &Meeting,
+    (rows, tile_cost): (usize, usize),
 ) -> Result<(bool, Vec<bool>), Fault> {
-    let grids = [grid(rt, 1, 1)];
+    let flags = Meeting::new();
+    let grids = [grid(rt, rows, tile_cost)];
     assert!(rt; Grid::fits(&grids, 64));
     strategy.run_tiles(rt, alloc, SITE, 64, &grids, 1, |tiles| {
         let is_cut = tiles.is_cut() && tiles.workers().get() == 2;
-        let fill = |seen: &mut bool, _: usize, columns: Range<usize>| {
-            *seen = flags.meet(columns.start < 32);
+        let fill = |seen: &mut bool, row: usize, columns: Range<usize>| {
+            *seen = flags.meet(row == 0 && columns.start < 32);
         };
         let seen = tiles.fill_collect_vec(rt, alloc, no, fill, has_seen)?;
         Ok((is_cut, seen))
@@ -266,10 +244,18 @@ fn halves_meet<Rt: Threads + Wait + Abort + Sync, S: Strategy>(
 }
 
 #[test]
+fn two_rows_see_each_other_on_two_threads(rt: HostRuntime) {
+    let two = pool(&rt, rt.alloc(), 2, 2);
+    let met = stretches_meet(&rt, rt.alloc(), &two, (2, 99));
+    let (is_cut, seen) = met.expect(&rt, "memory");
+    same(&rt, is_cut, false);
+    same(&rt, seen.as_slice(), [true, true].as_slice());
+}
+
+#[test]
 fn two_workers_of_one_row_see_each_other(rt: HostRuntime) {
-    let alloc = rt.alloc();
-    let two = pool(&rt, alloc, 2, 2);
-    let met = halves_meet(&rt, alloc, &two, &Meeting::new());
+    let two = pool(&rt, rt.alloc(), 2, 2);
+    let met = stretches_meet(&rt, rt.alloc(), &two, (1, 1));
     let (is_cut, seen) = met.expect(&rt, "memory");
     assert!(rt; is_cut && seen.len() > 1);
     assert!(rt; seen.iter().all(|seen| *seen));
@@ -347,41 +333,39 @@ fn stale_steals_claims_and_refills_change_nothing(rt: HostRuntime) {
     }
 }
 
-// The cells of two matrices that are above a threshold, row by row: two short rows, and three that
-// may be cut.
-fn count_rows<Rt: Threads + Wait + Sync, S: Strategy>(
-    rt: &Rt,
-    alloc: Global,
-    strategy: &S,
-) -> Result<(Vec<usize>, Vec<usize>), Fault> {
-    let short = [9, 1, 5, 5, 6, 4, 0, 255];
-    let few = above_by_row(rt, alloc, strategy, SITE, &short, 2, 4, 4)?;
+// Three rows of 700 cells, of which all but three are 9.
+fn long_matrix() -> [u8; 2100] {
     let mut long = [9; 2100];
     long[0] = 4;
     long[700] = 0;
     long[1399] = 4;
-    let many = above_by_row(rt, alloc, strategy, SITE, &long, 3, 700, 4)?;
-    Ok((few, many))
+    long
 }
 
-fn rows_are_counted(rt: &impl Abort, counts: (Vec<usize>, Vec<usize>)) {
-    row(rt, 2, counts.0.as_slice(), &[3, 2]);
-    row(rt, 3, counts.1.as_slice(), &[699, 698, 700]);
+const SHORT: [u8; 8] = [9, 1, 5, 5, 6, 4, 0, 255];
+
+// The cells of two matrices that are above a threshold, row by row, through each of the strategies:
+// two short rows, and three that may be cut.
+fn rows_are_counted<Rt: Threads + Wait + Abort + Sync, S: Strategy>(
+    rt: &Rt,
+    alloc: Global,
+    strategies: &[S],
+) {
+    let long = long_matrix();
+    for (of, strategy) in strategies.iter().enumerate() {
+        let few = above_by_row(rt, alloc, strategy, SITE, &SHORT, 2, 4, 4);
+        lists(rt, of, few, &[3, 2]);
+        let many = above_by_row(rt, alloc, strategy, SITE, &long, 3, 700, 4);
+        lists(rt, of, many, &[699, 698, 700]);
+    }
 }
 
 #[test]
 fn a_kernel_counts_each_row(rt: HostRuntime) {
     let alloc = rt.alloc();
-    let serial = count_rows(&rt, alloc, &Sequential).expect(&rt, "memory");
-    rows_are_counted(&rt, serial);
-    for threads in [1usize, 4, 8] {
-        let strategy = pool(&rt, alloc, threads, threads);
-        let parallel = count_rows(&rt, alloc, &strategy).expect(&rt, "memory");
-        rows_are_counted(&rt, parallel);
-    }
-    let explored = explore(&rt, alloc, |explorer| count_rows(&rt, alloc, explorer).ok());
-    let alike = explored.expect(&rt, "one answer").expect(&rt, "memory");
-    rows_are_counted(&rt, alike);
+    rows_are_counted(&rt, alloc, &[Sequential]);
+    rows_are_counted(&rt, alloc, &pools(&rt, alloc));
+    rows_are_counted(&rt, alloc, &explorers(&rt, alloc));
 }
 
 // Columns of a row from the first one up to the second, with how many of their cells are above 4.
@@ -417,8 +401,7 @@ fn spans_by_row<Rt: Threads + Wait + Abort + Sync, S: Strategy>(
     alloc: Global,
     strategy: &S,
     matrix: &[u8],
-    rows: usize,
-    len: usize,
+    (rows, len): (usize, usize),
 ) -> Result<(bool, Vec<Span>), Fault> {
     let grids = [grid(rt, rows, 64)];
     assert!(rt; Grid::fits(&grids, len));
@@ -442,47 +425,40 @@ fn spans_by_row<Rt: Threads + Wait + Abort + Sync, S: Strategy>(
     })?
 }
 
-// The long matrix of `count_rows` as two rows, which four workers cut.
-fn long_spans<Rt: Threads + Wait + Abort + Sync, S: Strategy>(
+// The spans of two short rows and of the long matrix as two rows, and none of matrices without
+// cells, through each of the strategies. Answers how often rows might be cut.
+fn spans_are_known<Rt: Threads + Wait + Abort + Sync, S: Strategy>(
     rt: &Rt,
     alloc: Global,
-    strategy: &S,
-) -> Result<(bool, Vec<Span>), Fault> {
-    let mut long = [9; 2100];
-    long[0] = 4;
-    long[700] = 0;
-    long[1399] = 4;
-    spans_by_row(rt, alloc, strategy, &long, 2, 1050)
-}
-
-fn spans_are_counted(rt: &impl Abort, spans: &[Span]) {
-    row(rt, 2, spans, &[(0, 1050, 1048), (0, 1050, 1049)]);
+    strategies: &[S],
+) -> usize {
+    let mut cuts = 0usize;
+    let long = long_matrix();
+    for (of, strategy) in strategies.iter().enumerate() {
+        let few = spans_by_row(rt, alloc, strategy, &SHORT, (2, 4)).expect(rt, "memory");
+        row(rt, of, few.1.as_slice(), &[(0, 4, 3), (0, 4, 2)]);
+        let many = spans_by_row(rt, alloc, strategy, &long, (2, 1050)).expect(rt, "memory");
+        row(
+            rt,
+            of,
+            many.1.as_slice(),
+            &[(0, 1050, 1048), (0, 1050, 1049)],
+        );
+        cuts = cuts.wrapping_add(usize::from(many.0));
+        for shape in [(0_usize, 4_usize), (3, 0)] {
+            let none = spans_by_row(rt, alloc, strategy, &[], shape).expect(rt, "memory");
+            row(rt, shape, none.1.len(), 0);
+        }
+    }
+    cuts
 }
 
 #[test]
 fn rows_are_merged_from_left_to_right(rt: HostRuntime) {
     let alloc = rt.alloc();
-    let short = [9, 1, 5, 5, 6, 4, 0, 255];
-    let few = spans_by_row(&rt, alloc, &Sequential, &short, 2, 4).expect(&rt, "memory");
-    same(&rt, few.1.as_slice(), [(0, 4, 3), (0, 4, 2)].as_slice());
-    let serial = long_spans(&rt, alloc, &Sequential).expect(&rt, "memory");
-    spans_are_counted(&rt, serial.1.as_slice());
-    let four = pool(&rt, alloc, 4, 4);
-    let parallel = long_spans(&rt, alloc, &four).expect(&rt, "memory");
-    same(&rt, parallel.0, true);
-    spans_are_counted(&rt, parallel.1.as_slice());
-    let explored = explore(&rt, alloc, |explorer| {
-        long_spans(&rt, alloc, explorer).map(|told| told.1).ok()
-    });
-    let alike = explored.expect(&rt, "one answer").expect(&rt, "memory");
-    spans_are_counted(&rt, alike.as_slice());
-}
-
-#[test]
-fn a_grid_without_cells_has_no_values(rt: HostRuntime) {
-    let alloc = rt.alloc();
-    for (rows, len) in [(0_usize, 4_usize), (3, 0)] {
-        let none = spans_by_row(&rt, alloc, &Sequential, &[], rows, len).expect(&rt, "memory");
-        row(&rt, rows, none.1.len(), 0);
-    }
+    same(&rt, spans_are_known(&rt, alloc, &[Sequential]), 0);
+    let four = [pool(&rt, alloc, 4, 4)];
+    same(&rt, spans_are_known(&rt, alloc, &four), 1);
+    let cuts = spans_are_known(&rt, alloc, &explorers(&rt, alloc));
+    assert!(rt; cuts > 0);
 }

@@ -1,11 +1,9 @@
 //! Calls whose closures may fail. The first failing item's error is the answer, whichever part of
 //! the list ended first.
 use crate::tests::same::{answers, row, same};
-use crate::tests::steps::{add, error_of_five, seven_or_error, zero};
-use crate::tests::strategies::{SITE, Stopped, number, pool};
-use commonware_parallel::mocks::explore;
-use commonware_parallel::{Rayon, Sequential, Strategy, Trouble};
-use known_answers::segments::{try_fold_along_shape, try_fold_in_one, try_fold_planned_for_one};
+use crate::tests::steps::{add, error_of_five, hundred, seven_or_error, zero};
+use crate::tests::strategies::{SITE, explorers, pool, pools};
+use commonware_parallel::{Copies, Sequential, Strategy, Trouble};
 use std::alloc::Global;
 use std::process::Abort;
 use std::sync::Wait;
@@ -29,54 +27,81 @@ fn map_or_fail<Rt: Threads + Wait + Sync, S: Strategy>(
     })
 }
 
-// Row: 57 and 99 fail, and 57 is answered; with 25 failing too, 25 is.
-fn first_error_wins<Rt: Threads + Wait + Abort + Sync, S: Strategy>(
+// Each call answers its own number, and the calls from the one of this number on fail by it.
+fn map_unsteadily<Rt: Threads + Wait + Sync, S: Strategy>(
     rt: &Rt,
     alloc: Global,
     strategy: &S,
+    from: u32,
+) -> Result<Vec<u32>, Trouble<u32>> {
+    let calls = AtomicU32::new(0);
+    strategy.try_map_collect_vec(rt, alloc, SITE, 0..100u32, |_: u32| {
+        let call = calls.fetch_add(1, Ordering::SeqCst);
+        if call < from { Ok(call) } else { Err(call) }
+    })
+}
+
+// An even number, or an odd one as an error.
+fn even(number: u32) -> Result<u32, u32> {
+    if number % 2 == 0 {
+        Ok(number)
+    } else {
+        Err(number)
+    }
+}
+
+// Row: 57 and 99 fail, and 57 is answered; with 25 failing too, 25 is. Of four numbers of which two
+// are odd, the first odd one is.
+fn first_error_wins<Rt: Threads + Wait + Abort + Sync, S: Strategy>(
+    rt: &Rt,
+    alloc: Global,
+    strategies: &[S],
 ) {
-    for (more, first) in [(99, 57), (25, 25), (0, 0)] {
-        let answer = map_or_fail(rt, alloc, strategy, more);
-        assert!(rt; matches!(answer, Err(Trouble::Closure(error)) if error == first));
+    for (of, strategy) in strategies.iter().enumerate() {
+        for (more, first) in [(99, 57), (25, 25), (0, 0)] {
+            let answer = map_or_fail(rt, alloc, strategy, more);
+            row(rt, (of, more), answer.err(), Some(Trouble::Closure(first)));
+        }
+        let few = Copies {
+            slice: &[2, 7, 4, 9],
+        };
+        let odd = strategy.try_map_collect_vec(rt, alloc, SITE, few, even);
+        row(rt, (of, "odd"), odd.err(), Some(Trouble::Closure(7)));
     }
 }
 
 #[test]
 fn the_first_error_is_answered(rt: HostRuntime) {
-    first_error_wins(&rt, rt.alloc(), &Sequential);
-    for threads in 1..9usize {
-        first_error_wins(&rt, rt.alloc(), &pool(&rt, rt.alloc(), threads, threads));
-    }
-    let learning = Rayon::new(&rt, rt.alloc(), number(&rt, 4), Stopped).expect(&rt, "memory");
-    first_error_wins(&rt, rt.alloc(), &learning);
+    let alloc = rt.alloc();
+    first_error_wins(&rt, alloc, &[Sequential]);
+    first_error_wins(&rt, alloc, &pools(&rt, alloc));
+    first_error_wins(&rt, alloc, &explorers(&rt, alloc));
 }
 
-// Each call answers its own number, and the calls from the 50th on fail by it.
-fn map_unsteadily<Rt: Threads + Wait + Sync, S: Strategy>(
+// Where calls from the 50th on fail, the error is one of theirs; where none does, each of a hundred
+// items has an answer.
+fn errors_are_its_own<Rt: Threads + Wait + Abort + Sync, S: Strategy>(
     rt: &Rt,
     alloc: Global,
-    strategy: &S,
-    count: u32,
-) -> Result<Vec<u32>, Trouble<u32>> {
-    let calls = AtomicU32::new(0);
-    strategy.try_map_collect_vec(rt, alloc, SITE, 0..count, |_: u32| {
-        let call = calls.fetch_add(1, Ordering::SeqCst);
-        if call < 50 { Ok(call) } else { Err(call) }
-    })
+    strategies: &[S],
+) {
+    for strategy in strategies {
+        let failed = map_unsteadily(rt, alloc, strategy, 50);
+        assert!(rt; matches!(failed, Err(Trouble::Closure(call)) if 50 <= call && call < 100));
+        let answered = map_unsteadily(rt, alloc, strategy, 100).expect(rt, "memory");
+        same(rt, answered.len(), 100);
+        assert!(rt; answered.iter().all(|call| *call < 100));
+    }
 }
 
 #[test]
 fn an_unsteady_closure_fails_by_an_error_of_its_own(rt: HostRuntime) {
-    let serial = map_unsteadily(&rt, rt.alloc(), &Sequential, 100);
+    let alloc = rt.alloc();
+    let serial = map_unsteadily(&rt, alloc, &Sequential, 50);
     same(&rt, serial, Err(Trouble::Closure(50)));
-    for threads in 1..9usize {
-        let strategy = pool(&rt, rt.alloc(), threads, threads);
-        let failed = map_unsteadily(&rt, rt.alloc(), &strategy, 100);
-        assert!(rt; matches!(failed, Err(Trouble::Closure(call)) if 50 <= call && call < 100));
-        let answered = map_unsteadily(&rt, rt.alloc(), &strategy, 50).expect(&rt, "memory");
-        same(&rt, answered.len(), 50);
-        assert!(rt; answered.iter().all(|call| *call < 50));
-    }
+    errors_are_its_own(&rt, alloc, &[Sequential]);
+    errors_are_its_own(&rt, alloc, &pools(&rt, alloc));
+    errors_are_its_own(&rt, alloc, &explorers(&rt, alloc));
 }
 
 #[test]
@@ -105,151 +130,111 @@ fn add_to_ten(sum: u32, number: u32) -> Result<u32, u32> {
     if next > 10 { Err(number) } else { Ok(next) }
 }
 
-fn odd_sum<Rt: Threads + Wait + Sync, S: Strategy>(
-    rt: &Rt,
-    alloc: Global,
-    strategy: &S,
-) -> Result<u32, Trouble<u32>> {
-    strategy.try_fold(rt, alloc, SITE, 1..5u32, || 100, add_odd, add)
+fn failed(number: u32) -> Result<u32, Trouble<u32>> {
+    Err(Trouble::Closure(number))
 }
 
-fn sum_to_ten<Rt: Threads + Wait + Sync, S: Strategy>(
+// A fold of the odd numbers of 1 to 4, and one of two sixes that fails where a sum passes 10.
+fn failing_folds<Rt: Threads + Wait + Sync, S: Strategy>(
     rt: &Rt,
     alloc: Global,
     strategy: &S,
-) -> Result<u32, Trouble<u32>> {
-    let sixes = [6, 6];
-    strategy.try_fold(
-        rt,
-        alloc,
-        SITE,
-        sixes.iter().copied(),
-        zero,
-        add_to_ten,
-        add,
-    )
+) -> [Result<u32, Trouble<u32>>; 3] {
+    let sixes = Copies { slice: &[6, 6] };
+    [
+        strategy.try_fold(rt, alloc, SITE, 1..5u32, hundred, add_odd, add),
+        strategy.try_fold(rt, alloc, SITE, sixes, zero, add_to_ten, add),
+        strategy.try_fold(rt, alloc, SITE, 6..8u32, zero, add_to_ten, add),
+    ]
 }
 
 #[test]
 fn a_fold_stops_at_its_first_error(rt: HostRuntime) {
     let alloc = rt.alloc();
-    let two = pool(&rt, alloc, 2, 2);
+    let in_one = [failed(2), failed(6), failed(7)];
+    row(
+        &rt,
+        "serial",
+        failing_folds(&rt, alloc, &Sequential),
+        in_one,
+    );
+    let in_one = [failed(2), failed(6), failed(7)];
     let one = pool(&rt, alloc, 2, 1);
-    row(
-        &rt,
-        1,
-        odd_sum(&rt, alloc, &Sequential),
-        Err(Trouble::Closure(2)),
-    );
-    row(&rt, 2, odd_sum(&rt, alloc, &two), Err(Trouble::Closure(2)));
+    row(&rt, "one", failing_folds(&rt, alloc, &one), in_one);
     // Each segment begins anew, so that in two of them no sum passes 10.
-    row(
-        &rt,
-        3,
-        sum_to_ten(&rt, alloc, &Sequential),
-        Err(Trouble::Closure(6)),
-    );
-    row(
-        &rt,
-        4,
-        sum_to_ten(&rt, alloc, &one),
-        Err(Trouble::Closure(6)),
-    );
-    same(&rt, sum_to_ten(&rt, alloc, &two), Ok(12));
+    let two = pool(&rt, alloc, 2, 2);
+    let in_two = [failed(2), Ok(12), Ok(13)];
+    row(&rt, "two", failing_folds(&rt, alloc, &two), in_two);
     let own = Sequential.try_fold(SITE, 6..8u32, zero, add_to_ten, add);
     same(&rt, own, Err(7));
+}
 
-    let one_piece = try_fold_in_one(
-        &rt,
-        alloc,
-        &Sequential,
-        SITE,
-        6..8u32,
-        zero,
-        add_to_ten,
-        add,
-    );
-    row(&rt, 5, one_piece, Err(Trouble::Closure(7)));
-    let one_piece = try_fold_planned_for_one(
-        &rt,
-        alloc,
-        &one,
-        SITE,
-        6..8u32,
-        zero,
-        add_to_ten,
-        add,
-    );
-    row(&rt, 6, one_piece, Err(Trouble::Closure(7)));
-    answers(
-        &rt,
-        1,
-        try_fold_along_shape(&rt, alloc, &two, SITE, 6..8u32, zero, add_to_ten, add),
-        13,
-    );
+// What runs answer whose serial or whose parallel body fails.
+fn failing_runs<Rt: Wait, S: Strategy>(
+    rt: &Rt,
+    alloc: Global,
+    strategy: &S,
+) -> (Result<u32, Trouble<u32>>, Result<u32, Trouble<u32>>) {
+    (
+        strategy.try_run(rt, alloc, SITE, 4, error_of_five, seven_or_error),
+        strategy.try_run(rt, alloc, SITE, 4, seven_or_error, error_of_five),
+    )
 }
 
 #[test]
 fn a_run_answers_the_error_of_its_body(rt: HostRuntime) {
     let alloc = rt.alloc();
     let two = pool(&rt, alloc, 2, 2);
-    let serial: Result<u32, Trouble<u32>> = Sequential
-        .try_run(SITE, 4, error_of_five, seven_or_error)
-        .map_err(Trouble::Closure);
-    row(&rt, 1, serial, Err(Trouble::Closure(5)));
-    let parallel: Result<u32, Trouble<u32>> = two.try_run(
+    row(
         &rt,
-        alloc,
-        SITE,
-        4,
-        error_of_five,
-        seven_or_error,
+        1,
+        failing_runs(&rt, alloc, &Sequential),
+        (failed(5), Ok(7)),
     );
-    row(&rt, 2, parallel, Ok(7));
-    let failed: Result<u32, Trouble<u32>> = two.try_run(
-        &rt,
-        alloc,
-        SITE,
-        4,
-        seven_or_error,
-        error_of_five,
-    );
-    row(&rt, 3, failed, Err(Trouble::Closure(5)));
-    let through: Result<u32, Trouble<u32>> = Strategy::try_run(
-        &Sequential,
-        &rt,
-        alloc,
-        SITE,
-        4,
-        seven_or_error,
-        error_of_five,
-    );
-    row(&rt, 4, through, Ok(7));
+    row(&rt, 2, failing_runs(&rt, alloc, &two), (Ok(7), failed(5)));
+    let own = Sequential.try_run(SITE, 4, error_of_five, seven_or_error);
+    row(&rt, 3, own, Err(5));
 }
 
-// What a verifier and a checked sum answer of numbers of which the third is over the limit.
+fn below_20(number: u64) -> bool {
+    number < 20
+}
+
+fn below_31(number: u64) -> bool {
+    number < 31
+}
+
+fn is_even(number: u64) -> bool {
+    number % 2 == 0
+}
+
+// What a verifier and a checked sum answer of numbers of which the third is over the limit or odd.
 fn find_the_third<Rt: Threads + Wait + Abort + Sync, S: Strategy>(
     rt: &Rt,
     alloc: Global,
-    strategy: &S,
+    strategies: &[S],
 ) {
     let numbers = [4, 7, 21, 3, 30];
-    let found = verify_all(rt, alloc, strategy, SITE, &numbers, |n: u64| n < 20);
-    same(rt, found, Err(Trouble::Closure(2)));
-    let passed = verify_all(rt, alloc, strategy, SITE, &numbers, |n: u64| n < 31);
-    same(rt, passed, Ok(()));
-    let over = sum_within(rt, alloc, strategy, SITE, &numbers, 20);
-    same(rt, over, Err(Trouble::Closure(21)));
-    let sum = sum_within(rt, alloc, strategy, SITE, &numbers, 30);
-    same(rt, sum, Ok(65));
+    for (of, strategy) in strategies.iter().enumerate() {
+        let found = verify_all(rt, alloc, strategy, SITE, &numbers, below_20);
+        row(rt, (of, "below 20"), found, Err(Trouble::Closure(2)));
+        let passed = verify_all(rt, alloc, strategy, SITE, &numbers, below_31);
+        row(rt, (of, "below 31"), passed, Ok(()));
+        let odd = verify_all(rt, alloc, strategy, SITE, &[2, 4, 5, 7], is_even);
+        row(rt, (of, "even"), odd, Err(Trouble::Closure(2)));
+        let over = sum_within(rt, alloc, strategy, SITE, &numbers, 20);
+        row(rt, (of, "within 20"), over, Err(Trouble::Closure(21)));
+        let sum = sum_within(rt, alloc, strategy, SITE, &numbers, 30);
+        row(rt, (of, "within 30"), sum, Ok(65));
+    }
 }
 
 #[test]
 fn a_verifier_finds_the_first_failing_item(rt: HostRuntime) {
-    find_the_third(&rt, rt.alloc(), &Sequential);
-    for threads in 1..9usize {
-        find_the_third(&rt, rt.alloc(), &pool(&rt, rt.alloc(), threads, threads));
-    }
+    let alloc = rt.alloc();
+    find_the_third(&rt, alloc, &[Sequential]);
+    find_the_third(&rt, alloc, &pools(&rt, alloc));
+    find_the_third(&rt, alloc, &explorers(&rt, alloc));
 }
 
 // SHA-256 of no bytes, and of "abc".
@@ -263,78 +248,29 @@ const OF_ABC: [u8; 32] = [
     23, 122, 156, 180, 16, 255, 97, 242, 0, 21, 173,
 ];
 
-// Three messages with their digests, and four of which the third has another's.
+// Three messages with their digests, and four of which the third is given another's.
 fn find_the_mismatch<Rt: Threads + Wait + Abort + Sync, S: Strategy>(
     rt: &Rt,
     alloc: Global,
-    strategy: &S,
+    strategies: &[S],
 ) {
     let none: &[u8] = &[];
-    let checked = verify_digests(
-        rt,
-        alloc,
-        strategy,
-        SITE,
-        &[none, b"abc", none],
-        &[OF_NONE, OF_ABC, OF_NONE],
-    );
-    same(rt, checked.map(|_| ()), Ok(()));
-    let found = verify_digests(
-        rt,
-        alloc,
-        strategy,
-        SITE,
-        &[none, b"abc", b"abd", none],
-        &[OF_NONE, OF_ABC, OF_ABC, OF_ABC],
-    );
-    same(rt, found.map(|_| ()), Err(Trouble::Closure(2)));
+    let true_ones = [none, b"abc", none];
+    let changed = [none, b"abc", b"abd", none];
+    for (of, strategy) in strategies.iter().enumerate() {
+        let digests = [OF_NONE, OF_ABC, OF_NONE];
+        let checked = verify_digests(rt, alloc, strategy, SITE, &true_ones, &digests);
+        row(rt, (of, "true"), checked.err(), None);
+        let digests = [OF_NONE, OF_ABC, OF_ABC, OF_ABC];
+        let found = verify_digests(rt, alloc, strategy, SITE, &changed, &digests);
+        row(rt, (of, "changed"), found.err(), Some(Trouble::Closure(2)));
+    }
 }
 
 #[test]
 fn a_verifier_finds_the_first_mismatch(rt: HostRuntime) {
-    find_the_mismatch(&rt, rt.alloc(), &Sequential);
-    for threads in [1usize, 4, 8] {
-        find_the_mismatch(&rt, rt.alloc(), &pool(&rt, rt.alloc(), threads, threads));
-    }
-}
-
-// The index of the first of four messages whose digest is another's, if one is found.
-fn index_of_mismatch<Rt: Threads + Wait + Sync, S: Strategy>(
-    rt: &Rt,
-    alloc: Global,
-    strategy: &S,
-) -> Option<usize> {
-    let none: &[u8] = &[];
-    let messages = [none, b"abc", b"abd", none];
-    let digests = [OF_NONE, OF_ABC, OF_ABC, OF_ABC];
-    match verify_digests(rt, alloc, strategy, SITE, &messages, &digests) {
-        Err(Trouble::Closure(index)) => Some(index),
-        _ => None,
-    }
-}
-
-// The index of the first of four numbers that isn't even, if one is found.
-fn index_of_odd<Rt: Threads + Wait + Sync, S: Strategy>(
-    rt: &Rt,
-    alloc: Global,
-    strategy: &S,
-) -> Option<usize> {
-    let is_even = |number: u64| number % 2 == 0;
-    match verify_all(rt, alloc, strategy, SITE, &[2u64, 4, 5, 7], is_even) {
-        Err(Trouble::Closure(index)) => Some(index),
-        _ => None,
-    }
-}
-
-#[test]
-fn explorers_find_the_same_first_one(rt: HostRuntime) {
     let alloc = rt.alloc();
-    let mismatch = explore(
-        &rt,
-        alloc,
-        |explorer| index_of_mismatch(&rt, alloc, explorer),
-    );
-    same(&rt, mismatch.expect(&rt, "memory"), Some(2));
-    let odd = explore(&rt, alloc, |explorer| index_of_odd(&rt, alloc, explorer));
-    same(&rt, odd.expect(&rt, "memory"), Some(2));
+    find_the_mismatch(&rt, alloc, &[Sequential]);
+    find_the_mismatch(&rt, alloc, &pools(&rt, alloc));
+    find_the_mismatch(&rt, alloc, &explorers(&rt, alloc));
 }

@@ -1,16 +1,14 @@
 //! What a policy keeps of a call that is refused or fails, through a pool: that it was asked, where
 //! it was, and no time. The clock goes on by a second at each reading, so that a time of such a
 //! call would be seen in the estimates.
-ghost use Rattle.std.specs.Prelude.{◌≡◌, ⊤};
-
-use crate::tests::clocks::{Stepping, learning};
-use crate::tests::entries::{Times, times};
+use crate::tests::clocks::Stepping;
+use crate::tests::entries::{Times, by_policy, times};
 use crate::tests::no_memory::{all_memory, all_places};
 use crate::tests::same::{answers, row};
-use crate::tests::steps::{descending, zero};
+use crate::tests::steps::{Gives, descending, zero};
 use crate::tests::strategies::SITE;
 use commonware_parallel::policy::{Key, RunExecution, SpawnExecution, SpawnSample};
-use commonware_parallel::{Fault, Indices, Job, Policy, Rayon, Strategy, Trouble};
+use commonware_parallel::{Fault, Indices, Policy, Rayon, Strategy, Trouble};
 use std::alloc::Global;
 use std::process::Abort;
 use std::sync::Wait;
@@ -46,12 +44,6 @@ fn after_nine_choices<Rt: Wait + Abort>(rt: &Rt, alloc: Global) -> Policy {
         answers(rt, choice, policy.choose_run(rt, key, 4), (SERIAL, false));
     }
     policy
-}
-
-// A pool of four threads for which that policy chooses.
-fn by_policy<Rt: Threads + Abort>(rt: &Rt, alloc: Global, policy: &Policy) -> Rayon<Stepping> {
-    let strategy = learning(rt, alloc, Stepping::new(rt, alloc, SECOND));
-    strategy.with_policy(policy.clone().expect(rt, "a handle"))
 }
 
 // The calls: a map that gathers its items first, a map and a fallible map that don't, a sort, and a
@@ -187,7 +179,7 @@ fn outcome<Rt: Threads + Wait + Abort + Sync>(
     is_refused: bool,
 ) -> (Result<(), Trouble<u32>>, u64, Times, (RunExecution, bool)) {
     let policy = after_nine_choices(rt, alloc);
-    let strategy = by_policy(rt, alloc, &policy);
+    let strategy = by_policy(rt, alloc, &policy, SECOND);
     let mut numbers = numbers_of(alloc, call).expect(rt, "memory for numbers");
     let sum = sum_of(&numbers);
     let calls = AtomicU64::new(0);
@@ -244,20 +236,6 @@ fn a_run_that_fails_is_not_recorded(rt: HostRuntime) {
     );
 }
 
-// Answers its number.
-#[derive(Drop)]
-struct Gives(u64);
-
-impl<S: Drop> Job<S, u64> for Gives {
-    ghost may_run = { λ _ _. ⊤ };
-
-    ghost may_answer = { λ job _ answer. answer ≡ job.0 };
-
-    fn run_on(self, _strategy: S) -> u64 {
-        self.0
-    }
-}
-
 // Spawns jobs with more and more memory until a worker is refused: how often memory was, before
 // that.
 fn refused_jobs<Rt: Threads + Wait + Abort + Copy + Send + 'static>(
@@ -294,7 +272,7 @@ fn job_times<Rt: Wait>(rt: &Rt, policy: &Policy, key: Key) -> Option<[Option<u64
 fn a_spawn_that_is_refused_is_not_recorded(rt: HostRuntime) {
     let alloc = rt.alloc();
     let policy = Policy::new(alloc).expect(&rt, "memory");
-    let strategy = by_policy(&rt, alloc, &policy);
+    let strategy = by_policy(&rt, alloc, &policy, SECOND);
     let key = Key::new(SITE, 1, 1, 4);
     let first = (SpawnExecution::Offload, true);
     answers(&rt, 1, policy.choose_spawn(&rt, key, 1_000_000), first);

@@ -1,18 +1,20 @@
 //! The ways that explorers take: by the serial and the parallel rule, and by seeds.
-ghost use Rattle.std.specs.Prelude.{◌<◌};
-
-use crate::tests::explorers::PLACE;
+use crate::tests::explorers::{PLACE, picks_last};
 use crate::tests::no_memory::all_places;
 use crate::tests::same::{answers, row, same};
 use crate::tests::steps::{add, add_counts, count, no_count, parallel, serial, zero};
-use crate::tests::strategies::{SITE, number, pool};
+use crate::tests::strategies::{SITE, explorers, pool};
 use crate::tests::threads::Meeting;
 use commonware_parallel::mocks::{Explorer, Rule, TASKS, explore};
-use commonware_parallel::{Call, Chooser, Counted, Fault, Grid, Path, Pick, Strategy, Trouble};
+use commonware_parallel::{Call, Counted, Fault, Grid, Source, Strategy, Trouble};
+use parallel_bridge::{Parts, Segment};
 use std::alloc::Global;
+use std::num::NonZeroUsize;
+use std::ops::Range;
 use std::process::Abort;
 use std::sync::Wait;
 use std::thread::Threads;
+use uses::batches::batch_ranges;
 
 // The ways that an explorer takes: how many ranges of 64 indices and how many workers of a grid of
 // 64 rows, which of two bodies, whether a map of four items is cut, and whether it picks the
@@ -61,29 +63,14 @@ fn last_count<Rt: Threads + Wait + Sync>(
     Ok(counts.last().copied())
 }
 
-// Whether the explorer picks the last way of such a call.
-fn picks_last<Rt: Wait>(
-    rt: &Rt,
-    alloc: Global,
-    explorer: &Explorer,
-    call: Call,
-) -> Result<bool, Fault>
-    requires { 0 < call.max_parts }
-{
-    let (pick, _unmeasured) = explorer.choose(rt, alloc, PLACE, call)?;
-    Ok(pick == Pick::By(Path::Parallel))
-}
-
 // Makes one call of each kind, but for a join and a job, whose picks alone are looked at.
 fn ways_of<Rt: Threads + Wait + Sync + Abort>(
     rt: &Rt,
     alloc: Global,
     explorer: &Explorer,
 ) -> Result<Ways, Fault> {
-    let least = number(rt, 1);
-    let ranges = explorer.run_batches(rt, alloc, PLACE, 64, least, 1, |batches| {
-        batches.ranges().len()
-    })?;
+    let least = NonZeroUsize::MIN;
+    let ranges = batch_ranges(rt, alloc, explorer, PLACE, 64, least)?.len();
     let grids = [Grid {
         rows: 64,
         tile_cost: least,
@@ -205,31 +192,42 @@ fn a_seed_repeats_its_ways_and_seeds_take_each_of_them(rt: HostRuntime) {
     same(&rt, seen, wanted);
 }
 
-// Whether each kind of map of the numbers below 100 answers in their order, and a fallible one the
-// number that fails.
-fn maps_in_order<Rt: Threads + Wait + Sync>(
-    rt: &Rt,
-    alloc: Global,
-    explorer: &Explorer,
-) -> Result<[bool; 4], Trouble<u32>> {
-    let next = |number: u32| -> Result<u32, u32> { Ok(add(number, 1)) };
-    let shifted = explorer.try_map_collect_vec(rt, alloc, SITE, 0..100u32, next)?;
-    let one = |number: u32| if number == 57 {
+fn next_or_error(number: u32) -> Result<u32, u32> {
+    Ok(add(number, 1))
+}
+
+fn but_57(number: u32) -> Result<u32, u32> {
+    if number == 57 {
         Err(number)
     } else {
         Ok(number)
-    };
-    let failed = explorer.try_map_collect_vec(rt, alloc, SITE, 0..100u32, one);
-    let twice = |seen: &mut u32, number: u32| {
-        *seen = number;
-        add(number, number)
-    };
-    let doubled = explorer.map_init_collect_vec(rt, alloc, SITE, 0..100u32, zero, twice)?;
-    let third = |_: &mut u32, number: u32| add(number, 3);
+    }
+}
+
+// Twice the number, which stays in the state.
+fn twice(seen: &mut u32, number: u32) -> u32 {
+    *seen = number;
+    add(number, number)
+}
+
+fn third_next(_state: &mut u32, number: u32) -> u32 {
+    add(number, 3)
+}
+
+// Whether each kind of map of the numbers below 100 answers in their order, and a fallible one the
+// number that fails.
+fn maps_in_order<Rt: Threads + Wait + Sync, S: Strategy>(
+    rt: &Rt,
+    alloc: Global,
+    strategy: &S,
+) -> Result<[bool; 4], Trouble<u32>> {
     let numbers = 0..100u32;
-    let weighted = explorer.map_init_collect_vec_with_multiplier(
-        rt, alloc, SITE, numbers, 4, zero, third,
+    let weighted = strategy.map_init_collect_vec_with_multiplier(
+        rt, alloc, SITE, numbers, 4, zero, third_next,
     )?;
+    let doubled = strategy.map_init_collect_vec(rt, alloc, SITE, 0..100u32, zero, twice)?;
+    let failed = strategy.try_map_collect_vec(rt, alloc, SITE, 0..100u32, but_57);
+    let shifted = strategy.try_map_collect_vec(rt, alloc, SITE, 0..100u32, next_or_error)?;
     Ok([
         counts_by(&shifted, 1, 1),
         failed == Err(Trouble::Closure(57)),
@@ -253,42 +251,28 @@ fn counts_by(list: &[u32], first: u32, step: u32) -> bool {
 #[test]
 fn each_map_keeps_its_order_by_each_rule(rt: HostRuntime) {
     let alloc = rt.alloc();
-    let mapped = explore(
-        &rt,
-        alloc,
-        |explorer| maps_in_order(&rt, alloc, explorer).ok(),
-    );
-    answers(&rt, 1, mapped, Some([true; 4]));
+    let explorers = explorers(&rt, alloc);
+    for explorer in &explorers {
+        let mapped = maps_in_order(&rt, alloc, explorer);
+        answers(&rt, explorer.rule(), mapped, [true; 4]);
+    }
 }
 
-// The sum of the numbers below 1,000,000, which are 8 MB as a list: by an iterator that says how
-// many come.
-fn sum_counted<Rt: Threads + Wait + Sync, S: Strategy>(
+// The numbers below 1,000,000, which are 8 MB as a list.
+const MILLION: Range<usize> = 0..1_000_000;
+
+// The sum of a list's numbers.
+fn sum_of<Rt: Threads + Wait + Sync, S: Strategy, M, I>(
     rt: &Rt,
     alloc: Global,
     strategy: &S,
-) -> Result<usize, Fault> {
-    let numbers = Counted {
-        iter: 0..1_000_000usize,
-    };
+    numbers: I,
+) -> Result<usize, Fault>
+where
+    I: Source<M, Item = usize, Parts: Parts<Segment: Segment<usize>>>,
+    requires { I.can numbers }
+{
     strategy.fold(rt, alloc, PLACE, numbers, no_count, add_counts, add_counts)
-}
-
-// The same by an iterator alone.
-fn sum_gathered<Rt: Threads + Wait + Sync, S: Strategy>(
-    rt: &Rt,
-    alloc: Global,
-    strategy: &S,
-) -> Result<usize, Fault> {
-    strategy.fold(
-        rt,
-        alloc,
-        PLACE,
-        0..1_000_000usize,
-        no_count,
-        add_counts,
-        add_counts,
-    )
 }
 
 #[test]
@@ -297,24 +281,16 @@ fn a_counted_iterator_is_gathered_where_it_goes_parallel_alone(rt: HostRuntime) 
     let pool = pool(&rt, alloc, 2, 2);
     let serial = Explorer::by_rule(&pool, Rule::Serial).expect(&rt, "memory");
     let parallel = Explorer::by_rule(&pool, Rule::Parallel).expect(&rt, "memory");
-    row(
-        &rt,
-        "serial",
-        sum_counted(&rt, alloc, &serial),
-        Ok(499_999_500_000),
-    );
-    row(
-        &rt,
-        "parallel",
-        sum_counted(&rt, alloc, &parallel),
-        Ok(499_999_500_000),
-    );
+    for explorer in [&serial, &parallel] {
+        let sum = sum_of(&rt, alloc, explorer, Counted { iter: MILLION });
+        row(&rt, explorer.rule(), sum, Ok(499_999_500_000));
+    }
     let Some(held) = all_places(alloc) else {
         return;
     };
-    let counted = sum_counted(&rt, alloc, &serial);
-    let gathered = sum_gathered(&rt, alloc, &serial);
-    let cut = sum_counted(&rt, alloc, &parallel);
+    let counted = sum_of(&rt, alloc, &serial, Counted { iter: MILLION });
+    let gathered = sum_of(&rt, alloc, &serial, MILLION);
+    let cut = sum_of(&rt, alloc, &parallel, Counted { iter: MILLION });
     drop(held);
     row(&rt, "counted", counted, Ok(499_999_500_000));
     row(&rt, "gathered", gathered, Err(Fault::Memory));

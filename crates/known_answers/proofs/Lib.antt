@@ -1,4 +1,0 @@
-mod Common
-pub mod OneAnswer
-pub use Common.*
-pub use OneAnswer.*

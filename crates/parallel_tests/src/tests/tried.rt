@@ -1,0 +1,348 @@
+//! The calls whose growths are refused, each with whether its answer is the right one. Their items
+//! and values are counted.
+use crate::tests::errors::{Counted, Counts, again, count_again, counted_items, greater};
+use crate::tests::steps::{Gives, add_counts, no_count, zero};
+use crate::tests::strategies::SITE;
+use commonware_parallel::merkle::root;
+use commonware_parallel::mocks::{ExploreError, explore};
+use commonware_parallel::rayon::ThreadPoolBuildError;
+use commonware_parallel::{Batches, Chooser, Fault, Grid, Site, Strategy, Tiles, Trouble};
+use std::alloc::Global;
+use std::cmp::Ordering;
+use std::num::NonZeroUsize;
+use std::ops::Range;
+use std::process::Abort;
+use std::sync::Wait;
+use std::thread::Threads;
+
+/// Which call is tried.
+#[derive(Clone, Copy, Debug, PartialEq, Eq)]
+pub enum Tried {
+    Root,
+    Map,
+    MapOfIterator,
+    Fold,
+    FoldOfIterator,
+    MultipliedMap,
+    MapWithState,
+    MultipliedMapWithState,
+    FoldWithState,
+    Partition,
+    Sort,
+    UnstableSort,
+    Batch,
+    FallibleBatch,
+    Tiles,
+    MergedTiles,
+    Spawn,
+    Explore,
+}
+
+/// All calls that are tried.
+pub const ALL: [Tried; 18] = [
+    Tried::Root,
+    Tried::Map,
+    Tried::MapOfIterator,
+    Tried::Fold,
+    Tried::FoldOfIterator,
+    Tried::MultipliedMap,
+    Tried::MapWithState,
+    Tried::MultipliedMapWithState,
+    Tried::FoldWithState,
+    Tried::Partition,
+    Tried::Sort,
+    Tried::UnstableSort,
+    Tried::Batch,
+    Tried::FallibleBatch,
+    Tried::Tiles,
+    Tried::MergedTiles,
+    Tried::Spawn,
+    Tried::Explore,
+];
+
+// Whether a list is that of so many places in their order.
+fn are_all(values: &[Counted<'_>], len: usize) -> bool {
+    let mut place = 0usize;
+    for value in values {
+        if value.place != place {
+            return false;
+        }
+        place = place.saturating_add(1);
+    }
+    place == len
+}
+
+// A further value for an item, by a map that doesn't fail.
+fn another(item: Counted<'_>) -> Counted<'_> {
+    item.at(item.place)
+}
+
+fn another_by_state<'a>(_state: &mut u32, item: Counted<'a>) -> Counted<'a> {
+    item.at(item.place)
+}
+
+fn count_by_state(count: usize, _state: &mut u32, item: Counted<'_>) -> usize {
+    count.wrapping_add(usize::from(item.place < usize::MAX))
+}
+
+// The items as keys, and a further value for each but the last.
+fn keyed(item: Counted<'_>) -> (Counted<'_>, Option<Counted<'_>>) {
+    let value = if item.place < 8 {
+        Some(item.at(item.place))
+    } else {
+        None
+    };
+    (item, value)
+}
+
+// Whether a map of the items, as a list or as they come, answers each.
+fn is_map<Rt: Threads + Wait + Sync, S: Strategy>(
+    rt: &Rt,
+    alloc: Global,
+    strategy: &S,
+    tried: Tried,
+    items: Vec<Counted<'_>>,
+) -> Result<bool, Trouble<usize>> {
+    let len = items.len();
+    let values = match tried {
+        Tried::Map => strategy.try_map_collect_vec(rt, alloc, SITE, items, again)?,
+        Tried::MapOfIterator => {
+            strategy.try_map_collect_vec(rt, alloc, SITE, items.into_iter(), again)?
+        }
+        Tried::MultipliedMap => {
+            strategy.map_collect_vec_with_multiplier(rt, alloc, SITE, items, 3, another)?
+        }
+        Tried::MapWithState => {
+            strategy.map_init_collect_vec(rt, alloc, SITE, items, zero, another_by_state)?
+        }
+        _ => strategy.map_init_collect_vec_with_multiplier(
+            rt,
+            alloc,
+            SITE,
+            items,
+            3,
+            zero,
+            another_by_state,
+        )?,
+    };
+    Ok(are_all(&values, len))
+}
+
+// Whether a fold counts the items, a partition has none in its place, or the root is of the last
+// one's place, which is the greatest.
+fn is_fold<Rt: Threads + Wait + Sync, S: Strategy>(
+    rt: &Rt,
+    alloc: Global,
+    strategy: &S,
+    tried: Tried,
+    items: Vec<Counted<'_>>,
+) -> Result<bool, Trouble<usize>> {
+    let len = items.len();
+    let count = match tried {
+        Tried::Fold => {
+            strategy.try_fold(rt, alloc, SITE, items, no_count, count_again, add_counts)?
+        }
+        Tried::FoldOfIterator => {
+            let items = items.into_iter();
+            strategy.try_fold(rt, alloc, SITE, items, no_count, count_again, add_counts)?
+        }
+        Tried::FoldWithState => strategy.fold_init(
+            rt,
+            alloc,
+            SITE,
+            items,
+            zero,
+            no_count,
+            count_by_state,
+            add_counts,
+        )?,
+        Tried::Partition => {
+            let (values, keys) = strategy.map_partition_collect_vec(rt, alloc, SITE, items, keyed)?;
+            values.len().wrapping_add(keys.len())
+        }
+        _ => match root(rt, alloc, strategy, SITE, items, greater)? {
+            Some(node) => node.place.saturating_add(1),
+            None => 0,
+        },
+    };
+    Ok(count == len)
+}
+
+// From the greatest number down.
+fn descending(left: &usize, right: &usize) -> Ordering {
+    right.cmp(left)
+}
+
+fn are_descending(numbers: &[usize]) -> bool {
+    let mut last = usize::MAX;
+    for number in numbers {
+        if *number >= last {
+            return false;
+        }
+        last = *number;
+    }
+    true
+}
+
+// Whether a sort of numbers that aren't in one run leaves them in order.
+fn is_sort<Rt: Threads + Wait + Sync, S: Strategy>(
+    rt: &Rt,
+    alloc: Global,
+    strategy: &S,
+    is_stable: bool,
+) -> Result<bool, Trouble<usize>> {
+    let mut numbers = [0usize; 64];
+    for place in 0..64usize {
+        numbers[place] = place ^ 1;
+    }
+    if is_stable {
+        strategy.sort_by(rt, alloc, SITE, &mut numbers, descending)?;
+    } else {
+        strategy.sort_unstable_by(rt, alloc, SITE, &mut numbers, descending)?;
+    }
+    Ok(are_descending(&numbers))
+}
+
+// What a batch maps of so many prepared items.
+fn mapped<'a, Rt: Threads + Wait + Sync, S: Strategy>(
+    rt: &Rt,
+    alloc: Global,
+    batches: Batches<'_, S, Site>,
+    counts: &'a Counts,
+    (len, may_fail): (usize, bool),
+) -> Result<Vec<Counted<'a>>, Trouble<usize>> {
+    let prepare = |_: &[Range<usize>]| counted_items(alloc, counts, len);
+    if may_fail {
+        return batches.try_map_collect_vec(rt, alloc, prepare, again);
+    }
+    match batches.map_collect_vec(rt, alloc, prepare, another) {
+        Ok(values) => Ok(values),
+        Err(fault) => Err(Trouble::Fault(fault)),
+    }
+}
+
+// Whether a batch answers each item that is prepared.
+fn is_batch<Rt: Threads + Wait + Sync, S: Strategy>(
+    rt: &Rt,
+    alloc: Global,
+    strategy: &S,
+    counts: &Counts,
+    (len, may_fail): (usize, bool),
+) -> Result<bool, Trouble<usize>> {
+    let least = NonZeroUsize::MIN;
+    let values = strategy.run_batches(rt, alloc, SITE, len, least, 1, |batches| {
+        mapped(rt, alloc, batches, counts, (len, may_fail))
+    })?;
+    Ok(are_all(&values?, len))
+}
+
+// Adds the cells to a stretch's place.
+fn fill(stretch: &mut Counted<'_>, _row: usize, columns: Range<usize>) {
+    stretch.place = stretch.place.saturating_add(columns.len());
+}
+
+// The stretch's cells, of which the next row has none yet.
+fn finish<'a>(stretch: &mut Counted<'a>, _row: usize) -> Counted<'a> {
+    let cells = stretch.place;
+    stretch.place = 0;
+    stretch.at(cells)
+}
+
+fn merge<'a>(left: Counted<'a>, right: Counted<'a>) -> Counted<'a> {
+    left.at(left.place.saturating_add(right.place))
+}
+
+// What tiles answer, with each cell counted in the values' places.
+fn filled<'a, Rt: Threads + Wait + Sync, S: Strategy>(
+    rt: &Rt,
+    alloc: Global,
+    tiles: Tiles<'_, S, Site>,
+    counts: &'a Counts,
+    is_merged: bool,
+) -> Result<Vec<Counted<'a>>, Fault> {
+    let init = || Counted::new(counts, 0);
+    if is_merged {
+        tiles.fill_merge_collect_vec(rt, alloc, init, fill, finish, merge)
+    } else {
+        tiles.fill_collect_vec(rt, alloc, init, fill, finish)
+    }
+}
+
+// The sum of the places.
+fn cells_of(values: &[Counted<'_>]) -> usize {
+    let mut cells = 0usize;
+    for value in values {
+        cells = cells.saturating_add(value.place);
+    }
+    cells
+}
+
+// Whether tiles of three rows of as many fill each cell.
+fn are_tiles<Rt: Threads + Wait + Abort + Sync, S: Strategy>(
+    rt: &Rt,
+    alloc: Global,
+    strategy: &S,
+    counts: &Counts,
+    (len, is_merged): (usize, bool),
+) -> Result<bool, Trouble<usize>> {
+    let grids = [Grid {
+        rows: 3,
+        tile_cost: NonZeroUsize::MIN,
+    }];
+    assert!(rt; Grid::fits(&grids, len));
+    let values = strategy.run_tiles(rt, alloc, SITE, len, &grids, 1, |tiles| {
+        filled(rt, alloc, tiles, counts, is_merged)
+    })??;
+    Ok(cells_of(&values) == len.saturating_mul(3))
+}
+
+// Whether a search answers.
+fn is_search<Rt: Threads>(rt: &Rt, alloc: Global) -> Result<bool, Trouble<usize>> {
+    let told = explore(rt, alloc, |explorer| explorer.planning().get());
+    match told {
+        Ok(planned) => Ok(planned == 8),
+        Err(ExploreError::Build(ThreadPoolBuildError::Memory)) => Err(Trouble::Fault(
+            Fault::Memory,
+        )),
+        Err(_) => Ok(false),
+    }
+}
+
+// Whether a job is begun. Where no stack is to be had, its worker is refused.
+fn is_spawned<Rt: Threads + Wait + Copy + Send + 'static, S: Strategy>(
+    rt: &Rt,
+    alloc: Global,
+    strategy: &S,
+) -> Result<bool, Trouble<usize>> {
+    match strategy.spawn(rt, alloc, SITE, 1, Gives(7)) {
+        Ok(_) | Err(Fault::Worker) => Ok(true),
+        Err(fault) => Err(Trouble::Fault(fault)),
+    }
+}
+
+/// Makes a call once: whether its answer is the right one.
+pub fn outcome<Rt: Threads + Wait + Abort + Copy + Send + Sync + 'static, S: Strategy>(
+    rt: &Rt,
+    alloc: Global,
+    strategy: &S,
+    tried: Tried,
+    counts: &Counts,
+    items: Vec<Counted<'_>>,
+) -> Result<bool, Trouble<usize>> {
+    match tried {
+        Tried::Map
+        | Tried::MapOfIterator
+        | Tried::MultipliedMap
+        | Tried::MapWithState
+        | Tried::MultipliedMapWithState => is_map(rt, alloc, strategy, tried, items),
+        Tried::Sort => is_sort(rt, alloc, strategy, true),
+        Tried::UnstableSort => is_sort(rt, alloc, strategy, false),
+        Tried::Batch => is_batch(rt, alloc, strategy, counts, (items.len(), false)),
+        Tried::FallibleBatch => is_batch(rt, alloc, strategy, counts, (items.len(), true)),
+        Tried::Tiles => are_tiles(rt, alloc, strategy, counts, (items.len(), false)),
+        Tried::MergedTiles => are_tiles(rt, alloc, strategy, counts, (items.len(), true)),
+        Tried::Spawn => is_spawned(rt, alloc, strategy),
+        Tried::Explore => is_search(rt, alloc),
+        _ => is_fold(rt, alloc, strategy, tried, items),
+    }
+}
