@@ -11,6 +11,7 @@ mod explorers;
 mod folds;
 mod gates;
 mod layers;
+mod lent;
 mod machine;
 mod maps;
 mod no_memory;
