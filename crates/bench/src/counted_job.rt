@@ -2,7 +2,6 @@
 use crate::work::mixed;
 use parallel_pool::rayon::Execute;
 use std::alloc::{AllocError, Global};
-use std::ops::Range;
 use std::sync::Arc;
 use std::sync::atomic::{AtomicU64, Ordering};
 
@@ -10,7 +9,6 @@ use std::sync::atomic::{AtomicU64, Ordering};
 #[derive(Drop)]
 pub struct Board {
     marks: Vec<AtomicU64>,
-    calls: AtomicU64,
     checksum: AtomicU64,
 }
 
@@ -23,14 +21,8 @@ impl Board {
         }
         Ok(Board {
             marks,
-            calls: AtomicU64::new(0),
             checksum: AtomicU64::new(0),
         })
-    }
-
-    /// How many calls there were, of all jobs together.
-    pub fn calls(&self) -> u64 {
-        self.calls.load(Ordering::SeqCst)
     }
 
     /// Whether each job was called, and none twice.
@@ -45,7 +37,6 @@ impl Board {
         if let Some(mark) = self.marks.get(number) {
             mark.fetch_add(1, Ordering::SeqCst);
         }
-        self.calls.fetch_add(1, Ordering::SeqCst);
     }
 }
 
@@ -84,16 +75,5 @@ impl Execute for CountedJob {
             board.checksum.fetch_add(answer, Ordering::Relaxed);
         }
         board.mark(number);
-    }
-}
-
-/// The numbers of the part at `place`, of so many parts that neighbour each other.
-pub fn part_of(jobs: usize, parts: usize, place: usize) -> Range<usize> {
-    let each = jobs / parts.max(1);
-    let start = each.saturating_mul(place);
-    if place.saturating_add(1) == parts {
-        start..jobs
-    } else {
-        start..start.saturating_add(each)
     }
 }

@@ -4,6 +4,7 @@ ghost use Rattle.std.specs.Int.NonZero.{non_zero_usize_get};
 ghost use Rattle.parallel_shares.specs.Seats.{AreSeatsOf, IsSeatOf, index_of, transit_of};
 ghost use Rattle.bench.specs.Driven.{seat_of};
 
+use crate::request::Pair;
 use crate::work::mixed_once;
 use anyhow::{Result, ensure};
 use parallel_fault::Fault;
@@ -25,13 +26,6 @@ pub const MOST_SEATS: usize = 16;
 
 /// The greatest cost of a tile.
 pub const MOST_COST: usize = 64;
-
-/// How many plans are made, and what the first one's numbers come from.
-#[derive(Clone, Copy)]
-pub struct SoakTrial {
-    pub plans: usize,
-    pub seed: u64,
-}
 
 /// How often a step came to what.
 #[derive(Clone, Copy, Default)]
@@ -116,22 +110,25 @@ pub struct Driven {
     counts: Counts,
 }
 
-/// Makes the plans one after the other, empties each, and prints what was counted.
+/// Makes so many plans one after the other, the first one's numbers from a seed, empties each, and
+/// prints what was counted.
 ///
 /// # Errors
 ///
 /// A refusal of memory, and `cells were lost` where the claims of a plan aren't each cell once.
 pub fn soak<Rt: Print + AllocGlobal + Threads + Wait + Sync>(
     rt: &Rt,
-    trial: SoakTrial,
+    trial: Pair,
 ) -> Result<()> {
     let alloc = rt.alloc();
-    let mut random = Random { state: trial.seed };
+    let mut random = Random {
+        state: trial.second as u64,
+    };
     let mut counts = Counts::default();
-    for _ in 0..trial.plans {
+    for _ in 0..trial.first {
         counts.add(soak_plan(rt, alloc, &mut random)?);
     }
-    report(rt, trial.plans, counts)
+    report(rt, trial.first, counts)
 }
 
 fn report(rt: &impl Print, plans: usize, counts: Counts) -> Result<()> {
