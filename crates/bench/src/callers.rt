@@ -60,7 +60,11 @@ pub fn messages_of<'a>(
     case: Case,
     bytes: &'a [u8],
 ) -> Result<Vec<&'a [u8]>, AllocError> {
-    let bytes = if matches!(case, Case::Tags) { bytes } else { &[] };
+    let bytes = if matches!(case, Case::Tags) {
+        bytes
+    } else {
+        &[]
+    };
     bytes.chunks(MESSAGE).collect(alloc)
 }
 

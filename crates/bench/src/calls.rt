@@ -55,7 +55,13 @@ fn by_slice<Rt: Threads + Wait + Sync, S: Strategy>(
     let number = match case {
         Case::Sort => return sorted(rt, alloc, strategy, items),
         Case::Tiles(rows, cost) => {
-            sum_of_tiles(rt, alloc, strategy, Tiling::of(rows, cost, items.len()), items)?
+            sum_of_tiles(
+                rt,
+                alloc,
+                strategy,
+                Tiling::of(rows, cost, items.len()),
+                items,
+            )?
         }
         Case::TreeLight => {
             let leaves = items.iter().copied().collect(alloc)?;
@@ -96,9 +102,7 @@ fn by_source<
         Case::Map(cost) => Ok(Answer::Numbers(mapped(rt, alloc, strategy, cost, source)?)),
         Case::Fold(cost) => Ok(Answer::Number(folded(rt, alloc, strategy, cost, source)?)),
         Case::FoldInit => {
-            let total = strategy.fold_init(
-                rt, alloc, SITE, source, zero, zero, add_counted, add,
-            )?;
+            let total = strategy.fold_init(rt, alloc, SITE, source, zero, zero, add_counted, add)?;
             Ok(Answer::Number(total))
         }
         Case::TryMapLight => {

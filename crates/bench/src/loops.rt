@@ -28,7 +28,9 @@ pub fn by_loop(
         Case::PartitionLight => parted(alloc, items, parted_lightly),
         Case::PartitionHeavy => parted(alloc, items, parted_heavily),
         Case::Sort => Ok(Answer::Numbers(sorted(alloc, items)?)),
-        Case::Tiles(rows, cost) => Ok(Answer::Number(Tiling::of(rows, cost, items.len()).sum(items))),
+        Case::Tiles(rows, cost) => Ok(Answer::Number(Tiling::of(rows, cost, items.len()).sum(
+            items,
+        ))),
         Case::TreeLight => Ok(Answer::Number(root(alloc, items, combined)?)),
         Case::TreeHeavy => Ok(Answer::Number(root(alloc, items, combined_heavily)?)),
         Case::RowsAbove => Ok(Answer::Number(bytes_above(extras.bytes))),

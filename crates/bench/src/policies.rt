@@ -53,7 +53,8 @@ impl<Rt: Wait> Learner for Shared<'_, Rt> {
     fn ask(&mut self, key: Key, choices: &Choices<'_>, nanoseconds: u64) -> Result<(), Fault> {
         let (execution, measured) = self.policy.choose_run(self.rt, key, choices.threads)?;
         if measured || choices.records_all {
-            self.policy.record_run(self.rt, key, execution, nanoseconds)?;
+            self.policy
+                .record_run(self.rt, key, execution, nanoseconds)?;
         }
         Ok(())
     }
@@ -130,11 +131,7 @@ fn time_rounds<C: Clock, L: Learner>(
 
 // `len` choices one after the other, over the keys in turn. Each is said to have taken half a
 // millisecond, and up to a microsecond more.
-fn ask_all<L: Learner>(
-    learner: &mut L,
-    choices: &Choices<'_>,
-    len: usize,
-) -> Result<(), Fault> {
+fn ask_all<L: Learner>(learner: &mut L, choices: &Choices<'_>, len: usize) -> Result<(), Fault> {
     for number in 0..len {
         let Some(key) = choices.keys.get(number % choices.keys.len().max(1)) else {
             return Ok(());
@@ -145,14 +142,12 @@ fn ask_all<L: Learner>(
 }
 
 // Prints what a choice with its record takes, in nanoseconds.
-fn report(
-    rt: &impl Print,
-    way: &str,
-    records_all: bool,
-    times: Times,
-    len: usize,
-) -> Result<()> {
-    let recorded = if records_all { "each recorded" } else { "recorded where measured" };
+fn report(rt: &impl Print, way: &str, records_all: bool, times: Times, len: usize) -> Result<()> {
+    let recorded = if records_all {
+        "each recorded"
+    } else {
+        "recorded where measured"
+    };
     let best = Decimal::ratio(times.best, len as u64).context("no choice was timed")?;
     let median = Decimal::ratio(times.median, len as u64).context("no choice was timed")?;
     println!(rt; "{way}, {recorded}: best {best} ns, median {median} ns a choice")?;

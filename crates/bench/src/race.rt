@@ -13,10 +13,22 @@ use std::thread::Threads;
 use std::time;
 
 /// The order of the ways in every other round, from the first on.
-const FORTH: [Way; 5] = [Way::Loop, Way::Sequential, Way::Rayon, Way::Policy, Way::Kit];
+const FORTH: [Way; 5] = [
+    Way::Loop,
+    Way::Sequential,
+    Way::Rayon,
+    Way::Policy,
+    Way::Kit,
+];
 
 /// Their order in the rounds between, so that no way always comes after the same other one.
-const BACK: [Way; 5] = [Way::Kit, Way::Policy, Way::Rayon, Way::Sequential, Way::Loop];
+const BACK: [Way; 5] = [
+    Way::Kit,
+    Way::Policy,
+    Way::Rayon,
+    Way::Sequential,
+    Way::Loop,
+];
 
 /// How many calls a policy sees before the first round, at most.
 const WARM_UP: usize = 50_000;

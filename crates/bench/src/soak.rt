@@ -116,10 +116,7 @@ pub struct Driven {
 /// # Errors
 ///
 /// A refusal of memory, and `cells were lost` where the claims of a plan aren't each cell once.
-pub fn soak<Rt: Print + AllocGlobal + Threads + Wait + Sync>(
-    rt: &Rt,
-    trial: Pair,
-) -> Result<()> {
+pub fn soak<Rt: Print + AllocGlobal + Threads + Wait + Sync>(rt: &Rt, trial: Pair) -> Result<()> {
     let alloc = rt.alloc();
     let mut random = Random {
         state: trial.second as u64,

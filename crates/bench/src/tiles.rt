@@ -48,7 +48,10 @@ impl Tiling {
             Rows::Cut => CUT_COST,
         };
         let tile_cost = NonZeroUsize::new(tile_cost).unwrap_or(NonZeroUsize::MIN);
-        let grid = Grid { rows: number, tile_cost };
+        let grid = Grid {
+            rows: number,
+            tile_cost,
+        };
         Tiling { grid, len, cost }
     }
 
