@@ -2,14 +2,12 @@
 //! messages that are checked against their tags.
 use crate::calls::SITE;
 use crate::case::Case;
-use commonware_parallel::{Fault, Strategy, Trouble};
+use commonware_parallel::{Fault, Runtime, Strategy, Trouble};
 use sha2::{Digest as _, Sha256};
 use std::alloc::{AllocError, Global};
-use std::sync::Wait;
-use std::thread::Threads;
 use uses::merkle::Digest;
 use uses::tile_rows::above_by_row;
-use uses::verifier::verify_tags;
+use uses::verifier;
 
 /// How many rows a matrix has. Bytes that fill no row are left out.
 pub const ROWS: usize = 2000;
@@ -79,7 +77,7 @@ pub fn digest_of(message: &&[u8]) -> Digest {
 }
 
 /// How many bytes are above the threshold, counted by row through a strategy.
-pub fn bytes_above<Rt: Threads + Wait + Sync, S: Strategy>(
+pub fn bytes_above<Rt: Runtime, S: Strategy>(
     rt: &Rt,
     alloc: Global,
     strategy: &S,
@@ -99,7 +97,7 @@ pub fn bytes_above<Rt: Threads + Wait + Sync, S: Strategy>(
 
 /// How many messages have their digest as their tag, up to the first one that hasn't, through a
 /// strategy.
-pub fn first_forged<Rt: Threads + Wait + Sync, S: Strategy>(
+pub fn first_forged<Rt: Runtime, S: Strategy>(
     rt: &Rt,
     alloc: Global,
     strategy: &S,
@@ -109,7 +107,7 @@ pub fn first_forged<Rt: Threads + Wait + Sync, S: Strategy>(
     if messages.len() != tags.len() {
         return Ok(0);
     }
-    match verify_tags(rt, alloc, strategy, SITE, messages, tags) {
+    match verifier::verify_tags(rt, alloc, strategy, SITE, messages, tags) {
         Ok(passed) => Ok(passed.len()),
         Err(Trouble::Closure(index)) => Ok(index),
         Err(Trouble::Fault(fault)) => Err(fault),

@@ -7,11 +7,11 @@ use crate::work::{
     add, add_counted, add_heavy, add_rising, ascending, combined, combined_heavily, heavy, light,
     parted_heavily, parted_lightly, rising, try_heavy, try_light, zero,
 };
-use commonware_parallel::{Copies, Counted, Fault, Site, Source, Strategy, Trouble, merkle};
+use commonware_parallel::{
+    Copies, Counted, Fault, Runtime, Site, Source, Strategy, Trouble, merkle,
+};
 use parallel_bridge::{Parts, Segment};
 use std::alloc::Global;
-use std::sync::Wait;
-use std::thread::Threads;
 
 /// The place of every call.
 pub const SITE: Site = Site {
@@ -21,7 +21,7 @@ pub const SITE: Site = Site {
 };
 
 /// The case's answer through a strategy.
-pub fn by_strategy<Rt: Threads + Wait + Sync, S: Strategy>(
+pub fn by_strategy<Rt: Runtime, S: Strategy>(
     rt: &Rt,
     alloc: Global,
     strategy: &S,
@@ -44,7 +44,7 @@ pub fn by_strategy<Rt: Threads + Wait + Sync, S: Strategy>(
 }
 
 // The answer of a case that goes by no source.
-fn by_slice<Rt: Threads + Wait + Sync, S: Strategy>(
+fn by_slice<Rt: Runtime, S: Strategy>(
     rt: &Rt,
     alloc: Global,
     strategy: &S,
@@ -55,13 +55,8 @@ fn by_slice<Rt: Threads + Wait + Sync, S: Strategy>(
     let number = match case {
         Case::Sort => return sorted(rt, alloc, strategy, items),
         Case::Tiles(rows, cost) => {
-            sum_of_tiles(
-                rt,
-                alloc,
-                strategy,
-                Tiling::of(rows, cost, items.len()),
-                items,
-            )?
+            let tiling = Tiling::of(rows, cost, items.len());
+            sum_of_tiles(rt, alloc, strategy, tiling, items)?
         }
         Case::TreeLight => {
             let leaves = items.iter().copied().collect(alloc)?;
@@ -78,7 +73,7 @@ fn by_slice<Rt: Threads + Wait + Sync, S: Strategy>(
     Ok(Answer::Number(number))
 }
 
-fn sorted<Rt: Threads + Wait + Sync, S: Strategy>(
+fn sorted<Rt: Runtime, S: Strategy>(
     rt: &Rt,
     alloc: Global,
     strategy: &S,
@@ -91,7 +86,7 @@ fn sorted<Rt: Threads + Wait + Sync, S: Strategy>(
 
 // The answer of a case over a source.
 fn by_source<
-    Rt: Threads + Wait + Sync,
+    Rt: Runtime,
     S: Strategy,
     M,
     I: Source<M, Item = u64, Parts: Parts<Segment: Segment<u64>>> + Drop,
@@ -122,7 +117,7 @@ fn by_source<
 }
 
 fn mapped<
-    Rt: Threads + Wait + Sync,
+    Rt: Runtime,
     S: Strategy,
     M,
     I: Source<M, Item = u64, Parts: Parts<Segment: Segment<u64>>>,
@@ -137,7 +132,7 @@ fn mapped<
 }
 
 fn folded<
-    Rt: Threads + Wait + Sync,
+    Rt: Runtime,
     S: Strategy,
     M,
     I: Source<M, Item = u64, Parts: Parts<Segment: Segment<u64>>>,

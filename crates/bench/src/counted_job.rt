@@ -9,6 +9,7 @@ use std::sync::atomic::{AtomicU64, Ordering};
 #[derive(Drop)]
 pub struct Board {
     marks: Vec<AtomicU64>,
+    calls: AtomicU64,
     checksum: AtomicU64,
 }
 
@@ -21,8 +22,14 @@ impl Board {
         }
         Ok(Board {
             marks,
+            calls: AtomicU64::new(0),
             checksum: AtomicU64::new(0),
         })
+    }
+
+    /// How many calls there were, of all jobs together.
+    pub fn calls(&self) -> u64 {
+        self.calls.load(Ordering::SeqCst)
     }
 
     /// Whether each job was called, and none twice.
@@ -37,6 +44,7 @@ impl Board {
         if let Some(mark) = self.marks.get(number) {
             mark.fetch_add(1, Ordering::SeqCst);
         }
+        self.calls.fetch_add(1, Ordering::SeqCst);
     }
 }
 

@@ -28,9 +28,10 @@ pub fn by_loop(
         Case::PartitionLight => parted(alloc, items, parted_lightly),
         Case::PartitionHeavy => parted(alloc, items, parted_heavily),
         Case::Sort => Ok(Answer::Numbers(sorted(alloc, items)?)),
-        Case::Tiles(rows, cost) => Ok(Answer::Number(Tiling::of(rows, cost, items.len()).sum(
-            items,
-        ))),
+        Case::Tiles(rows, cost) => {
+            let tiling = Tiling::of(rows, cost, items.len());
+            Ok(Answer::Number(tiling.sum(items)))
+        }
         Case::TreeLight => Ok(Answer::Number(root(alloc, items, combined)?)),
         Case::TreeHeavy => Ok(Answer::Number(root(alloc, items, combined_heavily)?)),
         Case::RowsAbove => Ok(Answer::Number(bytes_above(extras.bytes))),
@@ -118,8 +119,7 @@ fn root<F: Fn(u64, u64) -> u64 + Drop>(
     Ok(nodes.first().copied().unwrap_or(0))
 }
 
-// Writes the level above the first `len` nodes over their front, and answers how many it has. An
-// odd last node goes behind the pairs.
+// Writes the level above the first `len` nodes over their front, and answers how many it has.
 fn next_level<F: Fn(u64, u64) -> u64>(nodes: &mut [u64], len: usize, combine: &F) -> usize
     requires { F.IsAlwaysCallable combine.now }
 {
@@ -127,6 +127,13 @@ fn next_level<F: Fn(u64, u64) -> u64>(nodes: &mut [u64], len: usize, combine: &F
     for pair in 0..pairs {
         nodes[pair] = combine(nodes[2 * pair], nodes[2 * pair + 1]);
     }
+    with_odd(nodes, len)
+}
+
+// Moves an odd last one of the first `len` nodes behind their pairs, and answers how many there
+// are.
+fn with_odd(nodes: &mut [u64], len: usize) -> usize {
+    let pairs = len / 2;
     if len % 2 == 0 || len > nodes.len() {
         return pairs;
     }

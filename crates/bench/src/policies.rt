@@ -64,10 +64,10 @@ impl<Rt: Wait> Learner for Shared<'_, Rt> {
 /// and recording.
 pub fn race_choices<Rt>(rt: &Rt, trial: Pair) -> Result<()>
 where
-    Rt: time::Clock + Print + AllocGlobal + Wait + Clone + Drop + Send + Sync + Debug + 'static,
+    Rt: time::Clock + Print + AllocGlobal + Wait + Copy + Drop + Send + Sync + Debug + 'static,
 {
     let alloc = rt.alloc();
-    let clock = MonotonicClock::new(rt.clone()?)?;
+    let clock = MonotonicClock::new(*rt)?;
     let keys = keys_of(alloc, trial.second)?;
     let mut table = Table::new(alloc);
     let policy = Policy::new(alloc)?;

@@ -1,11 +1,14 @@
 //! Rounds in which the ways of a case run one after the other.
 use crate::callers::{Extras, bytes_of, messages_of, tags_of};
+use crate::calls::by_strategy;
+use crate::kit::by_kit;
+use crate::loops::by_loop;
 use crate::request::Trial;
 use crate::times::{Decimal, Times};
-use crate::ways::{Answer, Items, Strategies, WAYS, Way, by_way};
+use crate::ways::{Answer, Items, WAYS, Way};
 use crate::work::items_of;
 use anyhow::{Context, Result, ensure};
-use commonware_parallel::{Clock, MonotonicClock, Rayon};
+use commonware_parallel::{Clock, Fault, MonotonicClock, Rayon, Runtime, Sequential};
 use std::alloc::Global;
 use std::fmt::Debug;
 use std::sync::Wait;
@@ -42,7 +45,10 @@ struct Bench<'a, Rt, C> {
     rt: &'a Rt,
     alloc: Global,
     clock: &'a C,
-    strategies: Strategies<'a, C>,
+    /// The strategy without a policy.
+    parallel: &'a Rayon<C>,
+    /// The one with its policy.
+    learning: &'a Rayon<C>,
     trial: Trial,
     extras: Extras<'a>,
 }
@@ -67,7 +73,7 @@ where
         + AllocGlobal
         + Threads
         + Wait
-        + Clone
+        + Copy
         + Drop
         + Send
         + Sync
@@ -75,22 +81,19 @@ where
         + 'static,
 {
     let alloc = rt.alloc();
-    let clock = MonotonicClock::new(rt.clone()?)?;
+    let clock = MonotonicClock::new(*rt)?;
     let learning = Rayon::new(rt, alloc, trial.threads, clock.clone()?)?;
     let parallel = learning.without_policy()?;
-    let strategies = Strategies {
-        parallel: &parallel,
-        learning: &learning,
-    };
-    prepare(rt, alloc, &clock, strategies, trial)
+    prepare(rt, alloc, &clock, &parallel, &learning, trial)
 }
 
 /// Makes what the calls of a trial take, and makes them.
-fn prepare<Rt: Print + Threads + Wait + Sync, C: Clock>(
+fn prepare<Rt: Print + Runtime, C: Clock>(
     rt: &Rt,
     alloc: Global,
     clock: &C,
-    strategies: Strategies<'_, C>,
+    parallel: &Rayon<C>,
+    learning: &Rayon<C>,
     trial: Trial,
 ) -> Result<()> {
     let items = items_of(alloc, trial.case, trial.len)?;
@@ -101,7 +104,8 @@ fn prepare<Rt: Print + Threads + Wait + Sync, C: Clock>(
         rt,
         alloc,
         clock,
-        strategies,
+        parallel,
+        learning,
         trial,
         extras: Extras {
             bytes: bytes.as_slice(),
@@ -110,11 +114,7 @@ fn prepare<Rt: Print + Threads + Wait + Sync, C: Clock>(
         },
     };
     match trial.once {
-        Some(way) => {
-            let checksum = bench.call(way, items.as_slice())?.checksum();
-            println!(rt; "{checksum}")?;
-            Ok(())
-        }
+        Some(way) => bench.print_checksum(way, items.as_slice()),
         None => bench.run_rounds(items),
     }
 }
@@ -125,7 +125,13 @@ pub fn rounds_of(len: usize) -> u64 {
     pairs.clamp(3, 500) as u64 * 2 + 1
 }
 
-impl<Rt: Print + Threads + Wait + Sync, C: Clock> Bench<'_, Rt, C> {
+impl<Rt: Print + Runtime, C: Clock> Bench<'_, Rt, C> {
+    fn print_checksum(&self, way: Way, items: &[u64]) -> Result<()> {
+        let checksum = self.call(way, items)?.checksum();
+        println!(self.rt; "{checksum}")?;
+        Ok(())
+    }
+
     // Runs the rounds, and prints what was read of them. The first item is another one in each, so
     // that no round's answer serves for the next.
     fn run_rounds(&self, items: Vec<u64>) -> Result<()> {
@@ -203,22 +209,22 @@ impl<Rt: Print + Threads + Wait + Sync, C: Clock> Bench<'_, Rt, C> {
         Ok(())
     }
 
-    fn call(&self, way: Way, items: &[u64]) -> Result<Answer> {
+    fn call(&self, way: Way, items: &[u64]) -> Result<Answer, Fault> {
         let input = Items::of(self.alloc, self.trial.form, items)?;
         self.call_on(way, input)
     }
 
-    fn call_on(&self, way: Way, input: Items<'_>) -> Result<Answer> {
-        let answer = by_way(
-            self.rt,
-            self.alloc,
-            &self.strategies,
-            way,
-            self.trial.case,
-            input,
-            self.extras,
-        )?;
-        Ok(answer)
+    // The case's answer in a way.
+    #[inline(never)]
+    fn call_on(&self, way: Way, items: Items<'_>) -> Result<Answer, Fault> {
+        let (rt, alloc, case, extras) = (self.rt, self.alloc, self.trial.case, self.extras);
+        match way {
+            Way::Loop => by_loop(alloc, case, items.as_slice(), extras),
+            Way::Sequential => by_strategy(rt, alloc, &Sequential, case, items, extras),
+            Way::Rayon => by_strategy(rt, alloc, self.parallel, case, items, extras),
+            Way::Policy => by_strategy(rt, alloc, self.learning, case, items, extras),
+            Way::Kit => by_kit(rt, alloc, case, items.as_slice()),
+        }
     }
 
     // Prints a line for each way: its times in microseconds, and how many times the loop's they

@@ -16,31 +16,31 @@ use std::sync::Wait;
 use std::thread::{self, Threads};
 
 /// The most rows of a plan.
-pub const MOST_ROWS: usize = 70_000;
+const MOST_ROWS: usize = 70_000;
 
 /// The most cells of a row.
-pub const MOST_CELLS: usize = 400_000;
+const MOST_CELLS: usize = 400_000;
 
 /// The most seats of a plan.
-pub const MOST_SEATS: usize = 16;
+const MOST_SEATS: usize = 16;
 
 /// The greatest cost of a tile.
-pub const MOST_COST: usize = 64;
+const MOST_COST: usize = 64;
 
 /// How often a step came to what.
 #[derive(Clone, Copy, Default)]
 pub struct Counts {
-    pub steps: u64,
+    steps: u64,
     /// Claims that gained cells.
-    pub claimed: u64,
+    claimed: u64,
     /// Claims that met another word.
-    pub lost: u64,
+    lost: u64,
     /// Steals that took units.
-    pub taken: u64,
+    taken: u64,
     /// Steals that met another word.
-    pub missed: u64,
+    missed: u64,
     /// Steals for which no split paid.
-    pub nothing: u64,
+    nothing: u64,
 }
 
 impl Counts {
@@ -53,23 +53,15 @@ impl Counts {
         self.nothing = self.nothing.wrapping_add(other.nothing);
     }
 
-    // Counts what a try to claim came to.
-    fn count_claim(&mut self, tried: &Tried) {
+    // Counts what a try to claim, or to steal, came to.
+    fn count(&mut self, tried: &Tried, is_steal: bool) {
         self.steps = self.steps.wrapping_add(1);
         match tried {
             Tried::Claimed(_) => self.claimed = self.claimed.wrapping_add(1),
+            Tried::Lost if is_steal => self.missed = self.missed.wrapping_add(1),
             Tried::Lost => self.lost = self.lost.wrapping_add(1),
-            _ => {}
-        }
-    }
-
-    // Counts what a try to steal came to.
-    fn count_steal(&mut self, tried: &Tried) {
-        self.steps = self.steps.wrapping_add(1);
-        match tried {
             Tried::Taken => self.taken = self.taken.wrapping_add(1),
-            Tried::Lost => self.missed = self.missed.wrapping_add(1),
-            Tried::Nothing => self.nothing = self.nothing.wrapping_add(1),
+            Tried::Nothing if is_steal => self.nothing = self.nothing.wrapping_add(1),
             _ => {}
         }
     }
@@ -77,8 +69,8 @@ impl Counts {
 
 /// Numbers that look random.
 #[derive(Clone, Copy)]
-pub struct Random {
-    pub state: u64,
+struct Random {
+    state: u64,
 }
 
 impl Random {
@@ -257,11 +249,11 @@ fn step(shares: &Shares, seat: &mut Seat, counts: &mut Counts) -> Tried
     settle(shares, seat, counts);
     if seat.own_empty() {
         let tried = shares.try_steal(seat);
-        counts.count_steal(&tried);
+        counts.count(&tried, true);
         return tried;
     }
     let tried = shares.try_claim(seat);
-    counts.count_claim(&tried);
+    counts.count(&tried, false);
     tried
 }
 

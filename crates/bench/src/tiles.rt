@@ -3,12 +3,10 @@ use crate::calls::SITE;
 use crate::case::{Cost, Rows};
 use crate::loops::folded;
 use crate::work::{add, mixed, zero};
-use commonware_parallel::{Fault, Grid, Strategy};
+use commonware_parallel::{Fault, Grid, Runtime, Strategy};
 use std::alloc::Global;
 use std::num::NonZeroUsize;
 use std::ops::Range;
-use std::sync::Wait;
-use std::thread::Threads;
 
 /// How many rows there are where they are many.
 const MANY_ROWS: usize = 1000;
@@ -91,7 +89,7 @@ fn sum_mixed(cells: &[u64], rounds: u64) -> u64 {
 }
 
 /// The sum over all cells by the tiles of a strategy, each of which adds up its own.
-pub fn sum_of_tiles<Rt: Threads + Wait + Sync, S: Strategy>(
+pub fn sum_of_tiles<Rt: Runtime, S: Strategy>(
     rt: &Rt,
     alloc: Global,
     strategy: &S,

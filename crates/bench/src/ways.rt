@@ -1,13 +1,5 @@
-//! The ways in which a case is run.
-use crate::callers::Extras;
-use crate::calls::by_strategy;
-use crate::case::Case;
-use crate::kit::by_kit;
-use crate::loops::by_loop;
-use commonware_parallel::{Clock, Fault, Rayon, Sequential};
+//! The ways in which a case is run, and what it answers.
 use std::alloc::{AllocError, Global};
-use std::sync::Wait;
-use std::thread::Threads;
 
 /// A way in which a case is run.
 #[derive(Clone, Copy)]
@@ -131,33 +123,4 @@ fn checksum_of(numbers: &[u64]) -> u64 {
         sum = sum.rotate_left(1) ^ *number;
     }
     sum
-}
-
-/// The strategies over a pool.
-#[derive(Drop)]
-pub struct Strategies<'a, C> {
-    /// The one without a policy.
-    pub parallel: &'a Rayon<C>,
-    /// The one with its policy.
-    pub learning: &'a Rayon<C>,
-}
-
-/// The case's answer in a way.
-#[inline(never)]
-pub fn by_way<Rt: Threads + Wait + Sync, C: Clock>(
-    rt: &Rt,
-    alloc: Global,
-    strategies: &Strategies<'_, C>,
-    way: Way,
-    case: Case,
-    items: Items<'_>,
-    extras: Extras<'_>,
-) -> Result<Answer, Fault> {
-    match way {
-        Way::Loop => by_loop(alloc, case, items.as_slice(), extras),
-        Way::Sequential => by_strategy(rt, alloc, &Sequential, case, items, extras),
-        Way::Rayon => by_strategy(rt, alloc, strategies.parallel, case, items, extras),
-        Way::Policy => by_strategy(rt, alloc, strategies.learning, case, items, extras),
-        Way::Kit => by_kit(rt, alloc, case, items.as_slice()),
-    }
 }
