@@ -14,7 +14,7 @@ OTHERS = {
     ("tiles-rows-heavy", 1_000_000): ("0.27", ""),
 }
 # what is wished for: the ratio that a way is to have for a case
-SEQUENTIAL, PARALLEL, LEARNT = "Sequential", "Rayon", "Rayon with its policy"
+SEQUENTIAL, PARALLEL, LEARNT, KIT = "Sequential", "Rayon", "Rayon with its policy", "kit-rayon"
 AIMS = [
     ("a light fold over a slice", PARALLEL, [("fold-light", 1_000_000, "", 0.40), ("fold-light", 10_000_000, "", 0.35)]),
     ("the same", LEARNT, [("fold-light", 1000, "", 2), ("fold-light", 10_000, "", 1.15), ("fold-light", 100_000, "", 1.15), ("fold-light", 1_000_000, "", 0.5)]),
@@ -43,15 +43,15 @@ AIMS = [
     ("uneven tiles", PARALLEL, [("tiles-uneven", 1_000_000, "", 0.35)]),
     ("bytes of 2000 rows of 2000, counted by row", SEQUENTIAL, [("rows-above", 4_000_000, "", 1.1)]),
     ("the same", LEARNT, [("rows-above", 4_000_000, "", 0.6)]),
-    ("messages checked against tags by SHA-256", PARALLEL, [("tags", 100_000, "", 0.30)]),
-    ("the same", LEARNT, [("tags", 100_000, "", 0.30)]),
+    ("messages checked against digests by SHA-256", PARALLEL, [("digests", 100_000, "", 0.30)]),
+    ("the same", LEARNT, [("digests", 100_000, "", 0.30)]),
     ("light tiles of cut rows", PARALLEL, [("tiles-cut-light", 1_000_000, "", 0.8)]),
     ("light tiles, whole rows and cut rows", LEARNT, [("tiles-rows-light", 1_000_000, "", 1.2), ("tiles-cut-light", 1_000_000, "", 1.2)]),
 ]
 NAMES = {SEQUENTIAL: "`Sequential`", PARALLEL: "no policy", LEARNT: "its policy"}
 OVER = {"": "slice", "vec": "vector", "iter": "plain iterator", "counted": "counted iterator", "fresh": "slice, fresh memory"}
-OWN = {"rows-above": "tiles of bytes", "tags": "`Zipped` slices"}
-WAYS = [SEQUENTIAL, PARALLEL, LEARNT]
+OWN = {"rows-above": "tiles of bytes", "digests": "`Zipped` slices"}
+WAYS = [SEQUENTIAL, PARALLEL, LEARNT, KIT]
 LINE = re.compile(r"(.+): best ([0-9.]+) us, median [0-9.]+ us, ([0-9.]+) and ([0-9.]+) of the loop")
 
 
@@ -91,11 +91,11 @@ def aims(found):
 
 
 def main():
-    print("| Case | Items | Over | Loop, best | `Sequential` | `Rayon`, no policy | `Rayon` with its policy | Rust crate | rayon |")
-    print("|---|---|---|---|---|---|---|---|---|")
+    print("| Case | Items | Over | Loop, best | `Sequential` | `Rayon`, no policy | `Rayon` with its policy | the kit's `rayon` | Rust crate | rayon |")
+    print("|---|---|---|---|---|---|---|---|---|---|")
     for (case, items, kind), ways in rows():
         over = OWN.get(case, "tiles" if case.startswith("tiles") else OVER[kind])
-        cells = [f"{share(ways[way][1])} / {share(ways[way][2])}" for way in WAYS]
+        cells = [f"{share(ways[way][1])} / {share(ways[way][2])}" if way in ways else "" for way in WAYS]
         others = OTHERS.get((case, items), ("", "")) if not kind else ("", "")
         print("| " + " | ".join([f"`{case}`", f"{items:,}", over, time(ways["loop"][0]), *cells, *others]) + " |")
     print()

@@ -1,11 +1,17 @@
-//! The same cases by a strategy, over any source of the items.
-use crate::work::{heavy, light, rising, try_heavy, try_light};
-use commonware_parallel::{Fault, Site, Source, Strategy, Trouble};
+//! The same cases through a strategy, over any source of the items.
+use crate::callers::{Extras, bytes_above, first_mismatch};
+use crate::case::{Case, Cost};
+use crate::tiles::{Tiling, sum_of_tiles};
+use crate::ways::{Answer, Items};
+use crate::work::{
+    add, add_counted, add_heavy, add_rising, ascending, combined, combined_heavily, heavy, light,
+    parted_heavily, parted_lightly, rising, try_heavy, try_light, zero,
+};
+use commonware_parallel::{
+    Copies, Counted, Fault, Runtime, Site, Source, Strategy, Trouble, merkle,
+};
 use parallel_bridge::{Parts, Segment};
 use std::alloc::Global;
-use std::cmp::Ordering;
-use std::sync::Wait;
-use std::thread::Threads;
 
 /// The place of every call.
 pub const SITE: Site = Site {
@@ -14,184 +20,143 @@ pub const SITE: Site = Site {
     column: 1,
 };
 
-/// What the light function makes of each item.
-#[inline(never)]
-pub fn map_light<
-    Rt: Threads + Wait + Sync,
-    S: Strategy,
-    M,
-    I: Source<M, Item = u64, Parts: Parts<Segment: Segment<u64>>>,
->(rt: &Rt, alloc: Global, strategy: &S, source: I) -> Result<Vec<u64>, Fault>
-    requires { I.can source }
-{
-    strategy.map_collect_vec(rt, alloc, SITE, source, |item: u64| light(item))
-}
-
-/// What the heavy function makes of each item.
-#[inline(never)]
-pub fn map_heavy<
-    Rt: Threads + Wait + Sync,
-    S: Strategy,
-    M,
-    I: Source<M, Item = u64, Parts: Parts<Segment: Segment<u64>>>,
->(rt: &Rt, alloc: Global, strategy: &S, source: I) -> Result<Vec<u64>, Fault>
-    requires { I.can source }
-{
-    strategy.map_collect_vec(rt, alloc, SITE, source, |item: u64| heavy(item))
-}
-
-/// What the function of rising work makes of each item.
-#[inline(never)]
-pub fn map_rising<
-    Rt: Threads + Wait + Sync,
-    S: Strategy,
-    M,
-    I: Source<M, Item = u64, Parts: Parts<Segment: Segment<u64>>>,
->(rt: &Rt, alloc: Global, strategy: &S, source: I) -> Result<Vec<u64>, Fault>
-    requires { I.can source }
-{
-    strategy.map_collect_vec(rt, alloc, SITE, source, |item: u64| rising(item))
-}
-
-/// The sum of the items.
-#[inline(never)]
-pub fn fold_light<
-    Rt: Threads + Wait + Sync,
-    S: Strategy,
-    M,
-    I: Source<M, Item = u64, Parts: Parts<Segment: Segment<u64>>>,
->(rt: &Rt, alloc: Global, strategy: &S, source: I) -> Result<u64, Fault>
-    requires { I.can source }
-{
-    let add = |left: u64, right: u64| left.wrapping_add(right);
-    strategy.fold(rt, alloc, SITE, source, || 0u64, add, add)
-}
-
-/// The sum of what the heavy function makes of each item.
-#[inline(never)]
-pub fn fold_heavy<
-    Rt: Threads + Wait + Sync,
-    S: Strategy,
-    M,
-    I: Source<M, Item = u64, Parts: Parts<Segment: Segment<u64>>>,
->(rt: &Rt, alloc: Global, strategy: &S, source: I) -> Result<u64, Fault>
-    requires { I.can source }
-{
-    let op = |total: u64, item: u64| total.wrapping_add(heavy(item));
-    let add = |left: u64, right: u64| left.wrapping_add(right);
-    strategy.fold(rt, alloc, SITE, source, || 0u64, op, add)
-}
-
-/// The sum of what the function of rising work makes of each item.
-#[inline(never)]
-pub fn fold_rising<
-    Rt: Threads + Wait + Sync,
-    S: Strategy,
-    M,
-    I: Source<M, Item = u64, Parts: Parts<Segment: Segment<u64>>>,
->(rt: &Rt, alloc: Global, strategy: &S, source: I) -> Result<u64, Fault>
-    requires { I.can source }
-{
-    let op = |total: u64, item: u64| total.wrapping_add(rising(item));
-    let add = |left: u64, right: u64| left.wrapping_add(right);
-    strategy.fold(rt, alloc, SITE, source, || 0u64, op, add)
-}
-
-/// What the light function makes of each item, by a closure that may fail.
-#[inline(never)]
-pub fn try_map_light<
-    Rt: Threads + Wait + Sync,
-    S: Strategy,
-    M,
-    I: Source<M, Item = u64, Parts: Parts<Segment: Segment<u64>>>,
->(rt: &Rt, alloc: Global, strategy: &S, source: I) -> Result<Vec<u64>, Fault>
-    requires { I.can source }
-{
-    let op = |item: u64| try_light(item);
-    match strategy.try_map_collect_vec(rt, alloc, SITE, source, op) {
-        Ok(answers) => Ok(answers),
-        Err(Trouble::Closure(fault)) => Err(fault),
-        Err(Trouble::Fault(fault)) => Err(fault),
+/// The case's answer through a strategy.
+pub fn by_strategy<Rt: Runtime, S: Strategy>(
+    rt: &Rt,
+    alloc: Global,
+    strategy: &S,
+    case: Case,
+    items: Items<'_>,
+    extras: Extras<'_>,
+) -> Result<Answer, Fault> {
+    if !case.takes_source() {
+        return by_slice(rt, alloc, strategy, case, items.as_slice(), extras);
     }
-}
-
-/// What the heavy function makes of each item, or the item at which it fails.
-#[inline(never)]
-pub fn try_map_early<
-    Rt: Threads + Wait + Sync,
-    S: Strategy,
-    M,
-    I: Source<M, Item = u64, Parts: Parts<Segment: Segment<u64>>>,
->(rt: &Rt, alloc: Global, strategy: &S, source: I) -> Result<Result<Vec<u64>, u64>, Fault>
-    requires { I.can source }
-{
-    let op = |item: u64| try_heavy(item);
-    match strategy.try_map_collect_vec(rt, alloc, SITE, source, op) {
-        Ok(answers) => Ok(Ok(answers)),
-        Err(Trouble::Closure(failing)) => Ok(Err(failing)),
-        Err(Trouble::Fault(fault)) => Err(fault),
-    }
-}
-
-/// The sum of the items, with a state at hand that counts them.
-#[inline(never)]
-pub fn fold_init<
-    Rt: Threads + Wait + Sync,
-    S: Strategy,
-    M,
-    I: Source<M, Item = u64, Parts: Parts<Segment: Segment<u64>>>,
->(rt: &Rt, alloc: Global, strategy: &S, source: I) -> Result<u64, Fault>
-    requires { I.can source }
-{
-    let count_and_add = |total: u64, count: &mut u64, item: u64| -> u64 {
-        *count = count.wrapping_add(1);
-        total.wrapping_add(item)
-    };
-    let add = |left: u64, right: u64| left.wrapping_add(right);
-    strategy.fold_init(
-        rt,
-        alloc,
-        SITE,
-        source,
-        || 0u64,
-        || 0u64,
-        count_and_add,
-        add,
-    )
-}
-
-/// What the light function makes of the even items, and the odd items, in order.
-#[inline(never)]
-pub fn partition<
-    Rt: Threads + Wait + Sync,
-    S: Strategy,
-    M,
-    I: Source<M, Item = u64, Parts: Parts<Segment: Segment<u64>>>,
->(rt: &Rt, alloc: Global, strategy: &S, source: I) -> Result<(Vec<u64>, Vec<u64>), Fault>
-    requires { I.can source }
-{
-    let op = |item: u64| -> (u64, Option<u64>) {
-        if item % 2 == 0 {
-            (item, Some(light(item)))
-        } else {
-            (item, None)
+    match items {
+        Items::Slice(items) => by_source(rt, alloc, strategy, case, Copies { slice: items }),
+        Items::Iterator(items) => by_source(rt, alloc, strategy, case, items.iter().copied()),
+        Items::Counted(items) => {
+            let iter = items.iter().copied();
+            by_source(rt, alloc, strategy, case, Counted { iter })
         }
-    };
-    strategy.map_partition_collect_vec(rt, alloc, SITE, source, op)
+        Items::Owned(items) => by_source(rt, alloc, strategy, case, items),
+    }
 }
 
-/// The items in rising order.
-#[inline(never)]
-pub fn sort<
-    Rt: Threads + Wait + Sync,
+// The answer of a case that goes by no source.
+fn by_slice<Rt: Runtime, S: Strategy>(
+    rt: &Rt,
+    alloc: Global,
+    strategy: &S,
+    case: Case,
+    items: &[u64],
+    extras: Extras<'_>,
+) -> Result<Answer, Fault> {
+    let number = match case {
+        Case::Sort => return sorted(rt, alloc, strategy, items),
+        Case::Tiles(rows, cost) => {
+            let tiling = Tiling::of(rows, cost, items.len());
+            sum_of_tiles(rt, alloc, strategy, tiling, items)?
+        }
+        Case::TreeLight => {
+            let leaves = items.iter().copied().collect(alloc)?;
+            merkle::root(rt, alloc, strategy, SITE, leaves, combined)?.unwrap_or(0)
+        }
+        Case::TreeHeavy => {
+            let leaves = items.iter().copied().collect(alloc)?;
+            merkle::root(rt, alloc, strategy, SITE, leaves, combined_heavily)?.unwrap_or(0)
+        }
+        Case::RowsAbove => bytes_above(rt, alloc, strategy, extras.bytes)?,
+        Case::Digests => first_mismatch(rt, alloc, strategy, extras)? as u64,
+        _ => 0,
+    };
+    Ok(Answer::Number(number))
+}
+
+fn sorted<Rt: Runtime, S: Strategy>(
+    rt: &Rt,
+    alloc: Global,
+    strategy: &S,
+    items: &[u64],
+) -> Result<Answer, Fault> {
+    let mut sorted: Vec<u64> = items.iter().copied().collect(alloc)?;
+    strategy.sort_by(rt, alloc, SITE, sorted.as_mut_slice(), ascending)?;
+    Ok(Answer::Numbers(sorted))
+}
+
+// The answer of a case over a source.
+fn by_source<
+    Rt: Runtime,
+    S: Strategy,
+    M,
+    I: Source<M, Item = u64, Parts: Parts<Segment: Segment<u64>>> + Drop,
+>(rt: &Rt, alloc: Global, strategy: &S, case: Case, source: I) -> Result<Answer, Fault>
+    requires { I.can source }
+{
+    match case {
+        Case::Map(cost) => Ok(Answer::Numbers(mapped(rt, alloc, strategy, cost, source)?)),
+        Case::Fold(cost) => Ok(Answer::Number(folded(rt, alloc, strategy, cost, source)?)),
+        Case::FoldInit => {
+            let total = strategy.fold_init(rt, alloc, SITE, source, zero, zero, add_counted, add)?;
+            Ok(Answer::Number(total))
+        }
+        Case::TryMapLight => {
+            tried(strategy.try_map_collect_vec(rt, alloc, SITE, source, try_light))
+        }
+        Case::TryMapEarly => {
+            tried(strategy.try_map_collect_vec(rt, alloc, SITE, source, try_heavy))
+        }
+        Case::PartitionLight => {
+            parted(strategy.map_partition_collect_vec(rt, alloc, SITE, source, parted_lightly))
+        }
+        Case::PartitionHeavy => {
+            parted(strategy.map_partition_collect_vec(rt, alloc, SITE, source, parted_heavily))
+        }
+        _ => Ok(Answer::Number(0)),
+    }
+}
+
+fn mapped<
+    Rt: Runtime,
     S: Strategy,
     M,
     I: Source<M, Item = u64, Parts: Parts<Segment: Segment<u64>>>,
->(rt: &Rt, alloc: Global, strategy: &S, source: I) -> Result<Vec<u64>, Fault>
+>(rt: &Rt, alloc: Global, strategy: &S, cost: Cost, source: I) -> Result<Vec<u64>, Fault>
     requires { I.can source }
 {
-    let mut sorted: Vec<u64> = source.into_items().collect(alloc)?;
-    let rising = |left: &u64, right: &u64| -> Ordering { left.cmp(right) };
-    strategy.sort_by(rt, alloc, SITE, sorted.as_mut_slice(), rising)?;
-    Ok(sorted)
+    match cost {
+        Cost::Light => strategy.map_collect_vec(rt, alloc, SITE, source, light),
+        Cost::Heavy => strategy.map_collect_vec(rt, alloc, SITE, source, heavy),
+        Cost::Rising => strategy.map_collect_vec(rt, alloc, SITE, source, rising),
+    }
+}
+
+fn folded<
+    Rt: Runtime,
+    S: Strategy,
+    M,
+    I: Source<M, Item = u64, Parts: Parts<Segment: Segment<u64>>>,
+>(rt: &Rt, alloc: Global, strategy: &S, cost: Cost, source: I) -> Result<u64, Fault>
+    requires { I.can source }
+{
+    match cost {
+        Cost::Light => strategy.fold(rt, alloc, SITE, source, zero, add, add),
+        Cost::Heavy => strategy.fold(rt, alloc, SITE, source, zero, add_heavy, add),
+        Cost::Rising => strategy.fold(rt, alloc, SITE, source, zero, add_rising, add),
+    }
+}
+
+// What a map answers that may fail.
+fn tried(outcome: Result<Vec<u64>, Trouble<u64>>) -> Result<Answer, Fault> {
+    match outcome {
+        Ok(answers) => Ok(Answer::Numbers(answers)),
+        Err(Trouble::Closure(failing)) => Ok(Answer::Number(failing)),
+        Err(Trouble::Fault(fault)) => Err(fault),
+    }
+}
+
+// What a partition answers.
+fn parted(parts: Result<(Vec<u64>, Vec<u64>), Fault>) -> Result<Answer, Fault> {
+    let (values, keys) = parts?;
+    Ok(Answer::Parts(values, keys))
 }

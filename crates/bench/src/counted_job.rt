@@ -2,7 +2,6 @@
 use crate::work::mixed;
 use parallel_pool::rayon::Execute;
 use std::alloc::{AllocError, Global};
-use std::ops::Range;
 use std::sync::Arc;
 use std::sync::atomic::{AtomicU64, Ordering};
 
@@ -84,16 +83,5 @@ impl Execute for CountedJob {
             board.checksum.fetch_add(answer, Ordering::Relaxed);
         }
         board.mark(number);
-    }
-}
-
-/// The numbers of the part at `place`, of so many parts that neighbour each other.
-pub fn part_of(jobs: usize, parts: usize, place: usize) -> Range<usize> {
-    let each = jobs / parts.max(1);
-    let start = each.saturating_mul(place);
-    if place.saturating_add(1) == parts {
-        start..jobs
-    } else {
-        start..start.saturating_add(each)
     }
 }

@@ -1,8 +1,7 @@
 //! Jobs that are brought to a pool, beside a thread started for each.
 use crate::counted_job::{Board, CountedJob};
-use crate::decimal::Decimal;
-use crate::request::JobTrial;
-use crate::times::Times;
+use crate::request::Pair;
+use crate::times::{Decimal, Times};
 use crate::work::ROUNDS;
 use anyhow::{Context, Result, ensure};
 use commonware_parallel::{Clock, Fault, MonotonicClock};
@@ -10,7 +9,6 @@ use parallel_pool::rayon::{Execute, Staff, ThreadPool, ThreadPoolBuilder, Worker
 use std::alloc::Global;
 use std::collections::VecDeque;
 use std::fmt::Debug;
-use std::num::NonZeroUsize;
 use std::ops::Range;
 use std::sync::atomic::{AtomicU64, Ordering};
 use std::sync::{Arc, Wait};
@@ -30,8 +28,8 @@ const MOST_THREADS: usize = 20_000;
 /// A pool of workers that call `CountedJob`s.
 type Pool = ThreadPool<Staff<CountedJob>>;
 
-/// Times a trial of jobs, and prints a line for each way.
-pub fn race_jobs<Rt>(rt: &Rt, trial: JobTrial) -> Result<()>
+/// Times so many jobs to pools of so many workers, and prints a line for each way.
+pub fn race_jobs<Rt>(rt: &Rt, trial: Pair) -> Result<()>
 where
     Rt: time::Clock
         + Print
@@ -45,18 +43,22 @@ where
         + Debug
         + 'static,
 {
+    let Pair {
+        first: jobs,
+        second: workers,
+    } = trial;
     let alloc = rt.alloc();
     let clock = Arc::new(alloc, MonotonicClock::new(*rt)?)?;
     for (kind, rounds) in [("empty", 0), ("heavy", ROUNDS)] {
         for (way, is_from_worker) in [("spawn", false), ("spawn_from", true)] {
             let taken = time_pool(rt, alloc, &*clock, trial, rounds, is_from_worker)?;
-            report(rt, kind, way, trial.jobs, taken)?;
+            report(rt, kind, way, jobs, taken)?;
         }
-        let jobs = trial.jobs.min(MOST_THREADS);
-        let taken = time_threads(rt, alloc, &*clock, jobs, trial.workers, rounds)?;
-        report(rt, kind, "a thread each", jobs, taken)?;
+        let few = jobs.min(MOST_THREADS);
+        let taken = time_threads(rt, alloc, &*clock, few, workers, rounds)?;
+        report(rt, kind, "a thread each", few, taken)?;
     }
-    let times = time_wakes(rt, alloc, &clock, trial.workers)?;
+    let times = time_wakes(rt, alloc, &clock, workers)?;
     let best = Decimal::microseconds(times.best);
     let median = Decimal::microseconds(times.median);
     println!(rt; "from spawn to the call by a sleeper: best {best} us, median {median} us")?;
@@ -77,12 +79,12 @@ fn time_pool<R: Threads + Wait + Copy + Send + 'static, C: Clock>(
     rt: &R,
     alloc: Global,
     clock: &C,
-    trial: JobTrial,
+    trial: Pair,
     rounds: u64,
     is_from_worker: bool,
 ) -> Result<u64> {
-    let board = board_of(alloc, trial.jobs)?;
-    let mut builder = ThreadPoolBuilder::new().num_threads(trial.workers.get());
+    let board = board_of(alloc, trial.first)?;
+    let mut builder = ThreadPoolBuilder::new().num_threads(trial.second);
     if is_from_worker {
         builder = builder.use_current_thread();
     }
@@ -92,7 +94,7 @@ fn time_pool<R: Threads + Wait + Copy + Send + 'static, C: Clock>(
         "the pool has another worker here than was asked for"
     );
     let start = clock.now();
-    bring_jobs(rt, &pool, worker, &board, rounds, trial.jobs)?;
+    bring_jobs(rt, &pool, worker, &board, rounds, trial.first)?;
     pool.close(rt);
     let end = clock.now();
     ensure!(board.is_each_once(), "jobs were lost");
@@ -178,14 +180,14 @@ fn time_threads<R: Threads, C: Clock>(
     alloc: Global,
     clock: &C,
     jobs: usize,
-    at_once: NonZeroUsize,
+    at_once: usize,
     rounds: u64,
 ) -> Result<u64> {
     let board = board_of(alloc, jobs)?;
     let mut threads = VecDeque::new(alloc);
     let start = clock.now();
     for number in 0..jobs {
-        if threads.len() >= at_once.get() {
+        if threads.len() >= at_once {
             join_first(rt, &mut threads);
         }
         let job = CountedJob::new(&board, number, rounds)?;
@@ -236,10 +238,10 @@ fn time_wakes<R: Threads + Wait + time::Clock + Copy + Send + 'static, C: Clock>
     rt: &R,
     alloc: Global,
     clock: &Arc<C, Global>,
-    workers: NonZeroUsize,
+    workers: usize,
 ) -> Result<Times> {
     let called = Arc::new(alloc, AtomicU64::new(0))?;
-    let builder = ThreadPoolBuilder::new().num_threads(workers.get());
+    let builder = ThreadPoolBuilder::new().num_threads(workers);
     let (pool, _) = builder.build_for::<R, Ring<C>>(rt, alloc)?;
     let mut readings = Vec::new(alloc);
     for _ in 0..WAKES {

@@ -6,28 +6,26 @@
 mod callers;
 mod calls;
 mod case;
-mod choosing;
 mod counted_job;
-mod decimal;
 mod jobs;
-mod learner;
+mod kit;
 mod loops;
+mod policies;
 mod pools;
 mod race;
 mod request;
 mod soak;
 mod tiles;
 mod times;
-mod trees;
 mod ways;
 mod work;
 
 use crate::case::CASES;
-use crate::choosing::race_choices;
 use crate::jobs::race_jobs;
+use crate::policies::race_choices;
 use crate::pools::soak_pools;
-use crate::race::{call_once, race};
-use crate::request::{JOBS, ONCE, POLICY, POOLS, Request, SOAK, parse_request};
+use crate::race::race;
+use crate::request::{COMMANDS, Request, parse_request};
 use crate::soak::soak;
 use anyhow::Result;
 use std::process::ExitCode;
@@ -37,11 +35,10 @@ fn main(rt: HostRuntime) -> io::Result<ExitCode> {
     let outcome = match requested(&rt) {
         Ok(Some(Request::Names)) => names(&rt),
         Ok(Some(Request::Time(trial))) => race(&rt, trial),
-        Ok(Some(Request::Once(trial, way))) => call_once(&rt, trial, way),
-        Ok(Some(Request::Choose(trial))) => race_choices(&rt, trial),
-        Ok(Some(Request::Jobs(trial))) => race_jobs(&rt, trial),
-        Ok(Some(Request::Soak(trial))) => soak(&rt, trial),
-        Ok(Some(Request::Pools(trial))) => soak_pools(&rt, trial),
+        Ok(Some(Request::Policy(pair))) => race_choices(&rt, pair),
+        Ok(Some(Request::Jobs(pair))) => race_jobs(&rt, pair),
+        Ok(Some(Request::Soak(pair))) => soak(&rt, pair),
+        Ok(Some(Request::Pools(pair))) => soak_pools(&rt, pair),
         Ok(None) => {
             eprintln!(rt; "bench: bad arguments")?;
             return Ok(ExitCode::from(2));
@@ -66,12 +63,12 @@ fn requested(rt: &(impl std::rt::Env + AllocGlobal)) -> Result<Option<Request>> 
     Ok(parse_request(words.as_slice()))
 }
 
-/// Prints the cases' names, one a line.
+/// Prints the cases' names and the commands', one a line.
 fn names(rt: &impl Print) -> Result<()> {
-    for case in CASES {
-        rt.println(case.name())?;
+    for (name, _) in CASES {
+        rt.println(name)?;
     }
-    for name in [ONCE, POLICY, JOBS, SOAK, POOLS] {
+    for name in COMMANDS {
         rt.println(name)?;
     }
     Ok(())

@@ -1,7 +1,7 @@
 //! Pools that are brought many jobs by several threads at once, and pools that come and go.
-use crate::counted_job::{Board, CountedJob, part_of};
+use crate::counted_job::{Board, CountedJob};
 use crate::jobs::{board_of, spawn_all};
-use crate::request::PoolTrial;
+use crate::request::Pair;
 use anyhow::{Context, Result, ensure};
 use commonware_parallel::Fault;
 use parallel_pool::rayon::{Staff, ThreadPool, ThreadPoolBuilder};
@@ -31,26 +31,30 @@ const FEW: usize = 100;
 /// The most workers that one of them has.
 const MOST_WORKERS: usize = 7;
 
-/// Brings `trial.jobs` jobs to one pool, by several threads at once, makes `trial.pools` pools one
-/// after the other and drops each with its jobs still to come, and prints what was done.
+/// Brings the first number of jobs to one pool, by several threads at once, makes the second number
+/// of pools one after the other and drops each with its jobs still to come, and prints what was
+/// done.
 ///
 /// # Errors
 ///
 /// A refusal of memory or of a thread, `jobs were lost` where a job wasn't called just once, and
 /// `workers are left` where the process still has more than one thread after ten seconds.
-pub fn soak_pools<Rt>(rt: &Rt, trial: PoolTrial) -> Result<()>
+pub fn soak_pools<Rt>(rt: &Rt, trial: Pair) -> Result<()>
 where
     Rt: Print + AllocGlobal + Files + Clock + Threads + Wait + Copy + Send + Sync + 'static,
 {
+    let Pair {
+        first: jobs,
+        second: pools,
+    } = trial;
     let alloc = rt.alloc();
-    soak_one(rt, alloc, trial.jobs)?;
+    soak_one(rt, alloc, jobs)?;
     let mut workers = 1;
-    for _ in 0..trial.pools {
+    for _ in 0..pools {
         drop_one(rt, alloc, workers)?;
         workers = workers % MOST_WORKERS + 1;
     }
     ensure!(are_gone(rt)?, "workers are left");
-    let PoolTrial { jobs, pools } = trial;
     println!(rt;
         "pools: {jobs} jobs by {BRINGERS} threads to {WORKERS} workers, each called once"
     )?;
@@ -124,6 +128,17 @@ fn bring_parts<R: Clock + Threads + Wait + Sync, P: Bring>(
         &|place: usize| { bring_bursts(rt, pool, board, part_of(jobs, BRINGERS, place)) },
     )?;
     Ok(brought)
+}
+
+// The numbers of the part at `place`, of so many parts that neighbour each other.
+fn part_of(jobs: usize, parts: usize, place: usize) -> Range<usize> {
+    let each = jobs / parts.max(1);
+    let start = each.saturating_mul(place);
+    if place.saturating_add(1) == parts {
+        start..jobs
+    } else {
+        start..start.saturating_add(each)
+    }
 }
 
 // Brings the jobs of these numbers, with a sleep behind each burst.

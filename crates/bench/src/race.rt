@@ -1,23 +1,37 @@
 //! Rounds in which the ways of a case run one after the other.
-use crate::decimal::Decimal;
+use crate::callers::{Extras, bytes_of, digests_of, messages_of};
+use crate::calls::by_strategy;
+use crate::kit::by_kit;
+use crate::loops::by_loop;
 use crate::request::Trial;
-use crate::times::Times;
-use crate::ways::{Answer, Input, Strategies, Way, by_way};
+use crate::times::{Decimal, Times};
+use crate::ways::{Answer, Items, WAYS, Way};
 use crate::work::items_of;
 use anyhow::{Context, Result, ensure};
-use commonware_parallel::{Clock, MonotonicClock, Rayon};
+use commonware_parallel::{Clock, Fault, MonotonicClock, Rayon, Runtime, Sequential};
 use std::alloc::Global;
 use std::fmt::Debug;
-use std::num::NonZeroUsize;
 use std::sync::Wait;
 use std::thread::Threads;
 use std::time;
 
 /// The order of the ways in every other round, from the first on.
-const FORTH: [Way; 4] = [Way::Loop, Way::Sequential, Way::Rayon, Way::Policy];
+const FORTH: [Way; 5] = [
+    Way::Loop,
+    Way::Sequential,
+    Way::Rayon,
+    Way::Policy,
+    Way::Kit,
+];
 
 /// Their order in the rounds between, so that no way always comes after the same other one.
-const BACK: [Way; 4] = [Way::Policy, Way::Rayon, Way::Sequential, Way::Loop];
+const BACK: [Way; 5] = [
+    Way::Kit,
+    Way::Policy,
+    Way::Rayon,
+    Way::Sequential,
+    Way::Loop,
+];
 
 /// How many calls a policy sees before the first round, at most.
 const WARM_UP: usize = 50_000;
@@ -25,78 +39,33 @@ const WARM_UP: usize = 50_000;
 /// After how many nanoseconds no more such calls are made.
 const WARM_UP_TIME: u64 = 3_000_000_000;
 
-/// A number for each way, of one round.
-#[derive(Clone, Copy, Default)]
-pub struct Lap {
-    pub plain: u64,
-    pub sequential: u64,
-    pub parallel: u64,
-    pub learning: u64,
-}
-
-impl Lap {
-    /// Puts a way's number in. Those of the other ways stay.
-    pub fn set(&mut self, way: Way, number: u64) {
-        match way {
-            Way::Loop => self.plain = number,
-            Way::Sequential => self.sequential = number,
-            Way::Rayon => self.parallel = number,
-            Way::Policy => self.learning = number,
-        }
-    }
-
-    /// Whether the numbers of all ways are one.
-    pub fn is_level(&self) -> bool {
-        self.plain == self.sequential && self.plain == self.parallel && self.plain == self.learning
-    }
-}
-
-/// The readings of each way.
+/// What the calls of a trial are made with.
 #[derive(Drop)]
-struct Readings {
-    plain: Vec<u64>,
-    sequential: Vec<u64>,
-    parallel: Vec<u64>,
-    learning: Vec<u64>,
+struct Bench<'a, Rt, C> {
+    rt: &'a Rt,
+    alloc: Global,
+    clock: &'a C,
+    /// The strategy without a policy.
+    parallel: &'a Rayon<C>,
+    /// The one with its policy.
+    learning: &'a Rayon<C>,
+    trial: Trial,
+    extras: Extras<'a>,
 }
 
-impl Readings {
-    fn new(alloc: Global) -> Readings {
-        Readings {
-            plain: Vec::new(alloc),
-            sequential: Vec::new(alloc),
-            parallel: Vec::new(alloc),
-            learning: Vec::new(alloc),
-        }
-    }
-
-    fn push(&mut self, lap: Lap) -> Result<()> {
-        self.plain.push(lap.plain)?;
-        self.sequential.push(lap.sequential)?;
-        self.parallel.push(lap.parallel)?;
-        self.learning.push(lap.learning)?;
-        Ok(())
-    }
-
-    /// Prints a line for each way.
-    fn report(self, rt: &impl Print) -> Result<()> {
-        let plain = Times::of(self.plain)?;
-        report(rt, "loop", plain, plain)?;
-        report(rt, "Sequential", Times::of(self.sequential)?, plain)?;
-        report(rt, "Rayon", Times::of(self.parallel)?, plain)?;
-        report(
-            rt,
-            "Rayon with its policy",
-            Times::of(self.learning)?,
-            plain,
-        )
-    }
+/// What a way took in a round, in nanoseconds.
+#[derive(Clone, Copy)]
+struct Reading {
+    way: Way,
+    time: u64,
 }
 
-/// Times a trial, and prints a line for each way.
+/// Times a trial and prints a line for each way, or calls one way of it once and prints its
+/// answer's checksum, for whoever measures the whole program.
 ///
-/// The first item is another one in each round, so that no round's answer serves for the next. One
-/// policy is kept over all rounds, and its strategy is called a few times before the first.
+/// # Errors
+///
+/// A refusal of a way, and `the answers differ` where the ways' answers do.
 pub fn race<Rt>(rt: &Rt, trial: Trial) -> Result<()>
 where
     Rt: time::Clock
@@ -104,7 +73,7 @@ where
         + AllocGlobal
         + Threads
         + Wait
-        + Clone
+        + Copy
         + Drop
         + Send
         + Sync
@@ -112,91 +81,42 @@ where
         + 'static,
 {
     let alloc = rt.alloc();
-    let clock = MonotonicClock::new(rt.clone()?)?;
-    let (parallel, learning) = rayons(rt, alloc, clock.clone()?, trial.threads)?;
-    let strategies = Strategies {
-        parallel: &parallel,
-        learning: &learning,
-    };
-    run_rounds(rt, alloc, &clock, &strategies, trial)
+    let clock = MonotonicClock::new(*rt)?;
+    let learning = Rayon::new(rt, alloc, trial.threads, clock.clone()?)?;
+    let parallel = learning.without_policy()?;
+    prepare(rt, alloc, &clock, &parallel, &learning, trial)
 }
 
-/// Runs the rounds of a trial, and prints what was read of them.
-fn run_rounds<Rt: Print + Threads + Wait + Sync, C: Clock>(
+/// Makes what the calls of a trial take, and makes them.
+fn prepare<Rt: Print + Runtime, C: Clock>(
     rt: &Rt,
     alloc: Global,
     clock: &C,
-    strategies: &Strategies<'_, C>,
+    parallel: &Rayon<C>,
+    learning: &Rayon<C>,
     trial: Trial,
 ) -> Result<()> {
-    let mut items = items_of(alloc, trial.case, trial.len)?;
-    warm_up(rt, alloc, clock, strategies, trial, items.as_slice())?;
-    let mut readings = Readings::new(alloc);
-    let mut kept = Vec::new(alloc);
-    for number in 0..rounds_of(trial.len) {
-        if let Some(first) = items.first_mut() {
-            *first = number;
-        }
-        let order = if number % 2 == 0 { FORTH } else { BACK };
-        let items = items.as_slice();
-        let lap = run_round(rt, alloc, clock, strategies, order, trial, items, &mut kept)?;
-        readings.push(lap)?;
-    }
-    readings.report(rt)
-}
-
-/// Calls one way of a trial once, and prints its answer's checksum. Nothing else is called, so that
-/// a reading of the whole program is one of this call.
-pub fn call_once<Rt>(rt: &Rt, trial: Trial, way: Way) -> Result<()>
-where
-    Rt: time::Clock
-        + Print
-        + AllocGlobal
-        + Threads
-        + Wait
-        + Clone
-        + Drop
-        + Send
-        + Sync
-        + Debug
-        + 'static,
-{
-    let alloc = rt.alloc();
-    let clock = MonotonicClock::new(rt.clone()?)?;
-    let (parallel, learning) = rayons(rt, alloc, clock, trial.threads)?;
-    let strategies = Strategies {
-        parallel: &parallel,
-        learning: &learning,
-    };
-    let checksum = checksum_by(rt, alloc, &strategies, trial, way)?;
-    println!(rt; "{checksum}")?;
-    Ok(())
-}
-
-/// Calls one way of a trial once, and answers its answer's checksum.
-fn checksum_by<Rt: Threads + Wait + Sync, C: Clock>(
-    rt: &Rt,
-    alloc: Global,
-    strategies: &Strategies<'_, C>,
-    trial: Trial,
-    way: Way,
-) -> Result<u64> {
     let items = items_of(alloc, trial.case, trial.len)?;
-    let input = Input::of(alloc, trial.case, trial.form, items.as_slice())?;
-    let answer = by_way(rt, alloc, strategies, way, trial.case, input)?;
-    Ok(answer.checksum())
-}
-
-/// A strategy without a policy and one with it, over one pool.
-fn rayons<Rt: Threads + Wait + Sync, C: Clock>(
-    rt: &Rt,
-    alloc: Global,
-    clock: C,
-    threads: NonZeroUsize,
-) -> Result<(Rayon<C>, Rayon<C>)> {
-    let learning = Rayon::new(rt, alloc, threads, clock)?;
-    let parallel = learning.without_policy()?;
-    Ok((parallel, learning))
+    let bytes = bytes_of(alloc, trial.case, items.as_slice())?;
+    let messages = messages_of(alloc, trial.case, bytes.as_slice())?;
+    let digests = digests_of(alloc, messages.as_slice())?;
+    let bench = Bench {
+        rt,
+        alloc,
+        clock,
+        parallel,
+        learning,
+        trial,
+        extras: Extras {
+            bytes: bytes.as_slice(),
+            messages: messages.as_slice(),
+            digests: digests.as_slice(),
+        },
+    };
+    match trial.once {
+        Some(way) => bench.print_checksum(way, items.as_slice()),
+        None => bench.run_rounds(items),
+    }
 }
 
 /// An odd number of rounds: 7 for a long list, and up to 1001 for a short one.
@@ -205,80 +125,140 @@ pub fn rounds_of(len: usize) -> u64 {
     pairs.clamp(3, 500) as u64 * 2 + 1
 }
 
-/// Calls the strategy that has a policy, until the policy has settled: 50,000 times, or for three
-/// seconds.
-fn warm_up<Rt: Threads + Wait + Sync, C: Clock>(
-    rt: &Rt,
-    alloc: Global,
-    clock: &C,
-    strategies: &Strategies<'_, C>,
-    trial: Trial,
-    items: &[u64],
-) -> Result<()> {
-    let start = clock.now();
-    for _ in 0..WARM_UP {
-        if clock.now().saturating_sub(start) > WARM_UP_TIME {
-            return Ok(());
-        }
-        let input = Input::of(alloc, trial.case, trial.form, items)?;
-        let _ = by_way(rt, alloc, strategies, Way::Policy, trial.case, input)?;
+impl<Rt: Print + Runtime, C: Clock> Bench<'_, Rt, C> {
+    fn print_checksum(&self, way: Way, items: &[u64]) -> Result<()> {
+        let checksum = self.call(way, items)?.checksum();
+        println!(self.rt; "{checksum}")?;
+        Ok(())
     }
-    Ok(())
-}
 
-/// What each way took in one round, in nanoseconds.
-///
-/// Each call is made once before the clock is read, so that it meets the caches and the allocator
-/// as it leaves them itself, and not as another way left them. Where the memory is to be fresh the
-/// answers of both calls are kept, so that no later call gets their memory. A list that a call
-/// takes is made before the clock is read.
-///
-/// # Errors
-///
-/// A refusal of a way, and `the answers differ` where the ways' answers do.
-fn run_round<Rt: Threads + Wait + Sync, C: Clock>(
-    rt: &Rt,
-    alloc: Global,
-    clock: &C,
-    strategies: &Strategies<'_, C>,
-    order: [Way; 4],
-    trial: Trial,
-    items: &[u64],
-    kept: &mut Vec<Answer>,
-) -> Result<Lap> {
-    let mut lap = Lap::default();
-    let mut checksums = Lap::default();
-    let work = |way: Way, input: Input<'_>| by_way(rt, alloc, strategies, way, trial.case, input);
-    for way in order {
-        let before = work(way, Input::of(alloc, trial.case, trial.form, items)?)?;
-        if trial.is_fresh {
-            kept.push(before)?;
-        } else {
-            drop(before);
+    // Runs the rounds, and prints what was read of them. The first item is another one in each, so
+    // that no round's answer serves for the next.
+    fn run_rounds(&self, items: Vec<u64>) -> Result<()> {
+        let mut items = items;
+        self.warm_up(items.as_slice())?;
+        let mut readings = Vec::new(self.alloc);
+        let mut kept = Vec::new(self.alloc);
+        for number in 0..rounds_of(self.trial.len) {
+            if let Some(first) = items.first_mut() {
+                *first = number;
+            }
+            let order = if number % 2 == 0 { FORTH } else { BACK };
+            self.run_round(order, items.as_slice(), &mut readings, &mut kept)?;
         }
-        let input = Input::of(alloc, trial.case, trial.form, items)?;
-        let start = clock.now();
-        let answer = work(way, input);
-        let end = clock.now();
+        drop(kept);
+        self.report(readings.as_slice())
+    }
+
+    // Calls the strategy that has a policy, until the policy has settled: 50,000 times, or for
+    // three seconds.
+    fn warm_up(&self, items: &[u64]) -> Result<()> {
+        let start = self.clock.now();
+        for _ in 0..WARM_UP {
+            if self.clock.now().saturating_sub(start) > WARM_UP_TIME {
+                return Ok(());
+            }
+            let _ = self.call(Way::Policy, items)?;
+        }
+        Ok(())
+    }
+
+    // One call of each way, whose answers have to be one.
+    fn run_round(
+        &self,
+        order: [Way; 5],
+        items: &[u64],
+        readings: &mut Vec<Reading>,
+        kept: &mut Vec<Answer>,
+    ) -> Result<()> {
+        let mut expected = None;
+        for way in order {
+            if self.trial.includes(way) {
+                let (time, checksum) = self.time_call(way, items, kept)?;
+                let known = *expected.get_or_insert(checksum);
+                ensure!(known == checksum, "the answers differ");
+                readings.push(Reading { way, time })?;
+            }
+        }
+        Ok(())
+    }
+
+    // What a call took, in nanoseconds, and its answer's checksum.
+    //
+    // The call is made once before the clock is read, so that it meets the caches and the allocator
+    // as it leaves them itself, and not as another way left them. Where the memory is to be fresh
+    // the answers of both calls are kept, so that no later call gets their memory. A list that a
+    // call takes is made before the clock is read.
+    fn time_call(&self, way: Way, items: &[u64], kept: &mut Vec<Answer>) -> Result<(u64, u64)> {
+        let before = self.call(way, items)?;
+        self.keep(kept, before)?;
+        let input = Items::of(self.alloc, self.trial.form, items)?;
+        let start = self.clock.now();
+        let answer = self.call_on(way, input);
+        let end = self.clock.now();
         let answer = answer?;
-        lap.set(way, end.saturating_sub(start));
-        checksums.set(way, answer.checksum());
-        if trial.is_fresh {
+        let checksum = answer.checksum();
+        self.keep(kept, answer)?;
+        Ok((end.saturating_sub(start), checksum))
+    }
+
+    fn keep(&self, kept: &mut Vec<Answer>, answer: Answer) -> Result<()> {
+        if self.trial.is_fresh {
             kept.push(answer)?;
         }
+        Ok(())
     }
-    ensure!(checksums.is_level(), "the answers differ");
-    Ok(lap)
+
+    fn call(&self, way: Way, items: &[u64]) -> Result<Answer, Fault> {
+        let input = Items::of(self.alloc, self.trial.form, items)?;
+        self.call_on(way, input)
+    }
+
+    // The case's answer in a way.
+    #[inline(never)]
+    fn call_on(&self, way: Way, items: Items<'_>) -> Result<Answer, Fault> {
+        let (rt, alloc, case, extras) = (self.rt, self.alloc, self.trial.case, self.extras);
+        match way {
+            Way::Loop => by_loop(alloc, case, items.as_slice(), extras),
+            Way::Sequential => by_strategy(rt, alloc, &Sequential, case, items, extras),
+            Way::Rayon => by_strategy(rt, alloc, self.parallel, case, items, extras),
+            Way::Policy => by_strategy(rt, alloc, self.learning, case, items, extras),
+            Way::Kit => by_kit(rt, alloc, case, items.as_slice()),
+        }
+    }
+
+    // Prints a line for each way: its times in microseconds, and how many times the loop's they
+    // are.
+    fn report(&self, readings: &[Reading]) -> Result<()> {
+        let base = Times::of(times_of(self.alloc, readings, Way::Loop)?)?;
+        for (label, way) in WAYS {
+            if self.trial.includes(way) {
+                let times = Times::of(times_of(self.alloc, readings, way)?)?;
+                report(self.rt, label, times, base)?;
+            }
+        }
+        Ok(())
+    }
 }
 
-/// Prints a way's times in microseconds, and how many times the loop's they are.
-fn report(rt: &impl Print, way: &str, times: Times, base: Times) -> Result<()> {
+// What a way took in each round.
+fn times_of(alloc: Global, readings: &[Reading], way: Way) -> Result<Vec<u64>> {
+    let mut times = Vec::new(alloc);
+    for reading in readings {
+        if reading.way == way {
+            times.push(reading.time)?;
+        }
+    }
+    Ok(times)
+}
+
+fn report(rt: &impl Print, label: &str, times: Times, base: Times) -> Result<()> {
     let best = Decimal::microseconds(times.best);
     let median = Decimal::microseconds(times.median);
     let best_ratio = Decimal::ratio(times.best, base.best).context("the clock stands still")?;
     let median_ratio = Decimal::ratio(times.median, base.median).context("the clock stands still")?;
     println!(rt;
-        "{way}: best {best} us, median {median} us, {best_ratio} and {median_ratio} of the loop"
+        "{label}: best {best} us, median {median} us, {best_ratio} and {median_ratio} of the loop"
     )?;
     Ok(())
 }

@@ -4,6 +4,7 @@ ghost use Rattle.std.specs.Int.NonZero.{non_zero_usize_get};
 ghost use Rattle.parallel_shares.specs.Seats.{AreSeatsOf, IsSeatOf, index_of, transit_of};
 ghost use Rattle.bench.specs.Driven.{seat_of};
 
+use crate::request::Pair;
 use crate::work::mixed_once;
 use anyhow::{Result, ensure};
 use parallel_fault::Fault;
@@ -15,38 +16,31 @@ use std::sync::Wait;
 use std::thread::{self, Threads};
 
 /// The most rows of a plan.
-pub const MOST_ROWS: usize = 70_000;
+const MOST_ROWS: usize = 70_000;
 
 /// The most cells of a row.
-pub const MOST_CELLS: usize = 400_000;
+const MOST_CELLS: usize = 400_000;
 
 /// The most seats of a plan.
-pub const MOST_SEATS: usize = 16;
+const MOST_SEATS: usize = 16;
 
 /// The greatest cost of a tile.
-pub const MOST_COST: usize = 64;
-
-/// How many plans are made, and what the first one's numbers come from.
-#[derive(Clone, Copy)]
-pub struct SoakTrial {
-    pub plans: usize,
-    pub seed: u64,
-}
+const MOST_COST: usize = 64;
 
 /// How often a step came to what.
 #[derive(Clone, Copy, Default)]
 pub struct Counts {
-    pub steps: u64,
+    steps: u64,
     /// Claims that gained cells.
-    pub claimed: u64,
+    claimed: u64,
     /// Claims that met another word.
-    pub lost: u64,
+    lost: u64,
     /// Steals that took units.
-    pub taken: u64,
+    taken: u64,
     /// Steals that met another word.
-    pub missed: u64,
+    missed: u64,
     /// Steals for which no split paid.
-    pub nothing: u64,
+    nothing: u64,
 }
 
 impl Counts {
@@ -59,23 +53,15 @@ impl Counts {
         self.nothing = self.nothing.wrapping_add(other.nothing);
     }
 
-    // Counts what a try to claim came to.
-    fn count_claim(&mut self, tried: &Tried) {
+    // Counts what a try to claim, or to steal, came to.
+    fn count(&mut self, tried: &Tried, is_steal: bool) {
         self.steps = self.steps.wrapping_add(1);
         match tried {
             Tried::Claimed(_) => self.claimed = self.claimed.wrapping_add(1),
+            Tried::Lost if is_steal => self.missed = self.missed.wrapping_add(1),
             Tried::Lost => self.lost = self.lost.wrapping_add(1),
-            _ => {}
-        }
-    }
-
-    // Counts what a try to steal came to.
-    fn count_steal(&mut self, tried: &Tried) {
-        self.steps = self.steps.wrapping_add(1);
-        match tried {
             Tried::Taken => self.taken = self.taken.wrapping_add(1),
-            Tried::Lost => self.missed = self.missed.wrapping_add(1),
-            Tried::Nothing => self.nothing = self.nothing.wrapping_add(1),
+            Tried::Nothing if is_steal => self.nothing = self.nothing.wrapping_add(1),
             _ => {}
         }
     }
@@ -83,8 +69,8 @@ impl Counts {
 
 /// Numbers that look random.
 #[derive(Clone, Copy)]
-pub struct Random {
-    pub state: u64,
+struct Random {
+    state: u64,
 }
 
 impl Random {
@@ -116,22 +102,22 @@ pub struct Driven {
     counts: Counts,
 }
 
-/// Makes the plans one after the other, empties each, and prints what was counted.
+/// Makes so many plans one after the other, the first one's numbers from a seed, empties each, and
+/// prints what was counted.
 ///
 /// # Errors
 ///
 /// A refusal of memory, and `cells were lost` where the claims of a plan aren't each cell once.
-pub fn soak<Rt: Print + AllocGlobal + Threads + Wait + Sync>(
-    rt: &Rt,
-    trial: SoakTrial,
-) -> Result<()> {
+pub fn soak<Rt: Print + AllocGlobal + Threads + Wait + Sync>(rt: &Rt, trial: Pair) -> Result<()> {
     let alloc = rt.alloc();
-    let mut random = Random { state: trial.seed };
+    let mut random = Random {
+        state: trial.second as u64,
+    };
     let mut counts = Counts::default();
-    for _ in 0..trial.plans {
+    for _ in 0..trial.first {
         counts.add(soak_plan(rt, alloc, &mut random)?);
     }
-    report(rt, trial.plans, counts)
+    report(rt, trial.first, counts)
 }
 
 fn report(rt: &impl Print, plans: usize, counts: Counts) -> Result<()> {
@@ -263,11 +249,11 @@ fn step(shares: &Shares, seat: &mut Seat, counts: &mut Counts) -> Tried
     settle(shares, seat, counts);
     if seat.own_empty() {
         let tried = shares.try_steal(seat);
-        counts.count_steal(&tried);
+        counts.count(&tried, true);
         return tried;
     }
     let tried = shares.try_claim(seat);
-    counts.count_claim(&tried);
+    counts.count(&tried, false);
     tried
 }
 

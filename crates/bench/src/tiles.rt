@@ -1,73 +1,59 @@
 //! The cells of a grid, added up: each is an item of the list, which is laid out as rows.
 use crate::calls::SITE;
-use crate::case::TileCase;
-use crate::loops::fold_light;
-use crate::work::mixed;
-use commonware_parallel::{Fault, Grid, Strategy};
+use crate::case::{Cost, Rows};
+use crate::loops::folded;
+use crate::work::{add, mixed, zero};
+use commonware_parallel::{Fault, Grid, Runtime, Strategy};
 use std::alloc::Global;
 use std::num::NonZeroUsize;
 use std::ops::Range;
-use std::sync::Wait;
-use std::thread::Threads;
 
 /// How many rows there are where they are many.
-pub const MANY_ROWS: usize = 1000;
+const MANY_ROWS: usize = 1000;
 
 /// How many rows there are where they are few.
-pub const FEW_ROWS: usize = 3;
+const FEW_ROWS: usize = 3;
 
 /// What a tile costs where rows are cut, counted in cells.
-pub const CUT_COST: usize = 64;
+const CUT_COST: usize = 64;
 
 /// How often the number of a heavy cell is mixed, which takes about 30 ns.
-pub const CELL_ROUNDS: u64 = 16;
+const CELL_ROUNDS: u64 = 16;
 
-/// How many rows each round of an uneven cell stands for: row i's cells are mixed i / 16 times.
-pub const ROWS_A_ROUND: usize = 16;
-
-/// What a cell costs.
-#[derive(Clone, Copy)]
-pub enum Cost {
-    /// An addition.
-    Light,
-    /// As many rounds as `CELL_ROUNDS`.
-    Heavy,
-    /// The more rounds the later the row.
-    Uneven,
-}
+/// How many rows each round of a rising cell stands for: row i's cells are mixed i / 16 times.
+const ROWS_A_ROUND: usize = 16;
 
 /// How a list is laid out as rows, and what its cells cost. Items that fill no row are left out.
 #[derive(Clone, Copy)]
 pub struct Tiling {
-    pub grid: Grid,
+    grid: Grid,
     /// How many cells a row has.
-    pub len: usize,
-    pub cost: Cost,
+    len: usize,
+    cost: Cost,
 }
 
 impl Tiling {
     /// The layout of a list of so many items. Rows that are to be kept whole have a tile cost of as
     /// many cells as they have, so that no number of workers cuts them.
-    pub fn of(case: TileCase, items: usize) -> Tiling {
-        let cost = match case {
-            TileCase::RowsLight | TileCase::CutLight => Cost::Light,
-            TileCase::RowsHeavy | TileCase::CutHeavy => Cost::Heavy,
-            TileCase::Uneven => Cost::Uneven,
+    pub fn of(rows: Rows, cost: Cost, items: usize) -> Tiling {
+        let number = match rows {
+            Rows::Whole => MANY_ROWS,
+            Rows::Cut => FEW_ROWS,
         };
-        let is_cut = matches!(case, TileCase::CutLight | TileCase::CutHeavy);
-        let rows = if is_cut { FEW_ROWS } else { MANY_ROWS };
-        let len = items / rows;
-        let tile_cost = if is_cut { CUT_COST } else { len };
+        let len = items / number;
+        let tile_cost = match rows {
+            Rows::Whole => len,
+            Rows::Cut => CUT_COST,
+        };
         let tile_cost = NonZeroUsize::new(tile_cost).unwrap_or(NonZeroUsize::MIN);
-        Tiling {
-            grid: Grid { rows, tile_cost },
-            len,
-            cost,
-        }
+        let grid = Grid {
+            rows: number,
+            tile_cost,
+        };
+        Tiling { grid, len, cost }
     }
 
     /// The sum over all cells, row after row.
-    #[inline(never)]
     pub fn sum(self, items: &[u64]) -> u64 {
         let mut total = 0u64;
         for row in 0..self.grid.rows {
@@ -76,8 +62,8 @@ impl Tiling {
         total
     }
 
-    /// The sum over neighbouring cells of a row.
-    pub fn sum_of(self, items: &[u64], row: usize, columns: Range<usize>) -> u64 {
+    // The sum over neighbouring cells of a row.
+    fn sum_of(self, items: &[u64], row: usize, columns: Range<usize>) -> u64 {
         let first = row.saturating_mul(self.len);
         let start = first.saturating_add(columns.start);
         let end = first.saturating_add(columns.end);
@@ -85,14 +71,14 @@ impl Tiling {
             return 0;
         };
         match self.cost {
-            Cost::Light => fold_light(cells),
+            Cost::Light => folded(cells, add),
             Cost::Heavy => sum_mixed(cells, CELL_ROUNDS),
-            Cost::Uneven => sum_mixed(cells, (row / ROWS_A_ROUND) as u64),
+            Cost::Rising => sum_mixed(cells, (row / ROWS_A_ROUND) as u64),
         }
     }
 }
 
-/// The sum of what so many rounds make of each cell.
+// The sum of what so many rounds make of each cell.
 #[inline(never)]
 fn sum_mixed(cells: &[u64], rounds: u64) -> u64 {
     let mut total = 0u64;
@@ -103,8 +89,7 @@ fn sum_mixed(cells: &[u64], rounds: u64) -> u64 {
 }
 
 /// The sum over all cells by the tiles of a strategy, each of which adds up its own.
-#[inline(never)]
-pub fn sum_of_tiles<Rt: Threads + Wait + Sync, S: Strategy>(
+pub fn sum_of_tiles<Rt: Runtime, S: Strategy>(
     rt: &Rt,
     alloc: Global,
     strategy: &S,
@@ -118,13 +103,15 @@ pub fn sum_of_tiles<Rt: Threads + Wait + Sync, S: Strategy>(
     let fill = |sum: &mut u64, row: usize, columns: Range<usize>| {
         *sum = sum.wrapping_add(tiling.sum_of(items, row, columns));
     };
-    let finish = |sum: &mut u64, _row: usize| -> u64 {
-        let total = *sum;
-        *sum = 0;
-        total
-    };
     let sums = strategy.run_tiles(rt, alloc, SITE, tiling.len, &grids, 1, |tiles| {
-        tiles.fill_collect_vec(rt, alloc, || 0u64, fill, finish)
+        tiles.fill_collect_vec(rt, alloc, zero, fill, row_done)
     })??;
-    Ok(fold_light(sums.as_slice()))
+    Ok(folded(sums.as_slice(), add))
+}
+
+// The sum of a row, of which the next one has none yet.
+fn row_done(sum: &mut u64, _row: usize) -> u64 {
+    let total = *sum;
+    *sum = 0;
+    total
 }

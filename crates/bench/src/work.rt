@@ -1,54 +1,32 @@
-//! The functions of an item, and the list that they are called on.
+//! The functions of an item, the steps of folds and sorts, and the list that they are called on. A
+//! call is passed them by name, so that each is proved once.
 use crate::case::Case;
-use commonware_parallel::Fault;
 use std::alloc::{AllocError, Global};
+use std::cmp::Ordering;
 
 /// In how many rounds the heavy function mixes its number, which takes about a microsecond.
 pub const ROUNDS: u64 = 512;
 
 /// What a round multiplies by: the factor of Knuth's generator of 64 bits.
-pub const FACTOR: u64 = 6_364_136_223_846_793_005;
+const FACTOR: u64 = 6_364_136_223_846_793_005;
 
 /// What a round adds: the summand of that generator.
-pub const SUMMAND: u64 = 1_442_695_040_888_963_407;
+const SUMMAND: u64 = 1_442_695_040_888_963_407;
+
+/// What the nodes of a tree are taken modulo.
+const MODULUS: u64 = 1_000_003;
+
+/// The one item that `try_heavy` fails at.
+const FAILING: u64 = u64::MAX;
 
 /// A function that takes a nanosecond or less.
 pub fn light(item: u64) -> u64 {
     item.wrapping_mul(2).wrapping_add(1)
 }
 
-/// The light function as one that may fail, though it never does.
-pub fn try_light(item: u64) -> Result<u64, Fault> {
-    Ok(light(item))
-}
-
 /// A function that takes about a microsecond.
 pub fn heavy(item: u64) -> u64 {
     mixed(item, ROUNDS)
-}
-
-/// What the nodes of a tree are taken modulo.
-const MODULUS: u64 = 1_000_003;
-
-/// The node above two neighbours of a tree, in a few nanoseconds.
-pub fn combined(left: u64, right: u64) -> u64 {
-    (2 * (left % MODULUS) + 3 * (right % MODULUS)) % MODULUS
-}
-
-/// The node above two neighbours of a tree, in about a microsecond.
-pub fn combined_heavily(left: u64, right: u64) -> u64 {
-    heavy(combined(left, right))
-}
-
-/// The one item that `try_heavy` fails at.
-pub const FAILING: u64 = u64::MAX;
-
-/// The heavy function as one that fails at one item, by that item.
-pub fn try_heavy(item: u64) -> Result<u64, u64> {
-    if item == FAILING {
-        return Err(item);
-    }
-    Ok(heavy(item))
 }
 
 /// A function that takes as many rounds as its item is great.
@@ -72,6 +50,79 @@ pub fn mixed_once(state: u64) -> u64 {
         .wrapping_add(SUMMAND)
 }
 
+/// The light function as one that may fail, though it never does.
+pub fn try_light(item: u64) -> Result<u64, u64> {
+    Ok(light(item))
+}
+
+/// The heavy function as one that fails at one item, by that item.
+pub fn try_heavy(item: u64) -> Result<u64, u64> {
+    if item == FAILING {
+        return Err(item);
+    }
+    Ok(heavy(item))
+}
+
+/// An even item with what the light function makes of it, and an odd one as a key alone.
+pub fn parted_lightly(item: u64) -> (u64, Option<u64>) {
+    if item % 2 == 0 {
+        (item, Some(light(item)))
+    } else {
+        (item, None)
+    }
+}
+
+/// The same with the heavy function, which is called for odd items too.
+pub fn parted_heavily(item: u64) -> (u64, Option<u64>) {
+    let answer = heavy(item);
+    if item % 2 == 0 {
+        (item, Some(answer))
+    } else {
+        (answer, None)
+    }
+}
+
+/// What a fold begins at.
+pub fn zero() -> u64 {
+    0
+}
+
+/// A step of a fold that adds up.
+pub fn add(left: u64, right: u64) -> u64 {
+    left.wrapping_add(right)
+}
+
+/// A step that adds what the heavy function makes of an item.
+pub fn add_heavy(total: u64, item: u64) -> u64 {
+    total.wrapping_add(heavy(item))
+}
+
+/// A step that adds what the function of rising work makes of an item.
+pub fn add_rising(total: u64, item: u64) -> u64 {
+    total.wrapping_add(rising(item))
+}
+
+/// A step that adds an item, and counts it in a state.
+pub fn add_counted(total: u64, count: &mut u64, item: u64) -> u64 {
+    *count = count.wrapping_add(1);
+    total.wrapping_add(item)
+}
+
+/// The order of a sort.
+pub fn ascending(left: &u64, right: &u64) -> Ordering {
+    left.cmp(right)
+}
+
+/// The node above two neighbours of a tree, in a few nanoseconds.
+pub fn combined(left: u64, right: u64) -> u64 {
+    (2 * (left % MODULUS) + 3 * (right % MODULUS)) % MODULUS
+}
+
+/// The node above two neighbours of a tree, in about a microsecond.
+pub fn combined_heavily(left: u64, right: u64) -> u64 {
+    heavy(combined(left, right))
+}
+
 /// The items that a case is timed over, `len` of them: the numbers from 0 on where the work is to
 /// rise, and a shuffled list elsewhere, with the item that fails at a tenth of it where one is to.
 pub fn items_of(alloc: Global, case: Case, len: usize) -> Result<Vec<u64>, AllocError> {
@@ -80,7 +131,7 @@ pub fn items_of(alloc: Global, case: Case, len: usize) -> Result<Vec<u64>, Alloc
     for index in 0..len as u64 {
         items.push(index.wrapping_mul(factor))?;
     }
-    if case.fails_early()
+    if matches!(case, Case::TryMapEarly)
         && let Some(failing) = items.get_mut(len / 10)
     {
         *failing = FAILING;
