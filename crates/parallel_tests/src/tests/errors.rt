@@ -257,7 +257,62 @@ fn fold_left(rt: &impl Abort, counts: &Counts, len: usize, folded: Result<usize,
     row(rt, of, counts.left(), 0);
 }
 
-// Maps and folds so many counted items of a slice, of a vector and of an iterator.
+// How a list of items comes.
+#[derive(Clone, Copy, Debug, PartialEq, Eq)]
+enum As {
+    Vector,
+    Iterator,
+}
+
+// Maps so many counted items of a slice.
+fn slice_left<Rt: Threads + Wait + Abort + Sync, S: Strategy>(
+    rt: &Rt,
+    alloc: Global,
+    strategy: &S,
+    counts: &Counts,
+    len: usize,
+) {
+    let items = counted_items(alloc, counts, len).expect(rt, "memory");
+    let mapped = strategy.try_map_collect_vec(rt, alloc, SITE, items.as_slice(), again_of);
+    map_left(rt, counts, len, mapped, len);
+}
+
+// Maps so many counted items of a vector or of an iterator.
+fn mapped_left<Rt: Threads + Wait + Abort + Sync, S: Strategy>(
+    rt: &Rt,
+    alloc: Global,
+    strategy: &S,
+    counts: &Counts,
+    (len, list): (usize, As),
+) {
+    let items = counted_items(alloc, counts, len).expect(rt, "memory");
+    let mapped = match list {
+        As::Vector => strategy.try_map_collect_vec(rt, alloc, SITE, items, again),
+        As::Iterator => strategy.try_map_collect_vec(rt, alloc, SITE, items.into_iter(), again),
+    };
+    map_left(rt, counts, len, mapped, 0);
+}
+
+// Folds them.
+fn folded_left<Rt: Threads + Wait + Abort + Sync, S: Strategy>(
+    rt: &Rt,
+    alloc: Global,
+    strategy: &S,
+    counts: &Counts,
+    (len, list): (usize, As),
+) {
+    let items = counted_items(alloc, counts, len).expect(rt, "memory");
+    let folded = match list {
+        As::Vector => strategy.try_fold(rt, alloc, SITE, items, no_count, count_again, add_counts),
+        As::Iterator => {
+            let items = items.into_iter();
+            strategy.try_fold(rt, alloc, SITE, items, no_count, count_again, add_counts)
+        }
+    };
+    fold_left(rt, counts, len, folded);
+}
+
+// All of them, of which the item at a place fails.
 fn all_left<Rt: Threads + Wait + Abort + Sync, S: Strategy>(
     rt: &Rt,
     alloc: Global,
@@ -266,21 +321,11 @@ fn all_left<Rt: Threads + Wait + Abort + Sync, S: Strategy>(
     fails: usize,
 ) {
     let counts = Counts::failing(fails);
-    let items = counted_items(alloc, &counts, len).expect(rt, "memory");
-    let mapped = strategy.try_map_collect_vec(rt, alloc, SITE, items.as_slice(), again_of);
-    map_left(rt, &counts, len, mapped, len);
-    let mapped = strategy.try_map_collect_vec(rt, alloc, SITE, items, again);
-    map_left(rt, &counts, len, mapped, 0);
-    let items = counted_items(alloc, &counts, len).expect(rt, "memory");
-    let folded = strategy.try_fold(rt, alloc, SITE, items, no_count, count_again, add_counts);
-    fold_left(rt, &counts, len, folded);
-    let items = counted_items(alloc, &counts, len).expect(rt, "memory");
-    let mapped = strategy.try_map_collect_vec(rt, alloc, SITE, items.into_iter(), again);
-    map_left(rt, &counts, len, mapped, 0);
-    let items = counted_items(alloc, &counts, len).expect(rt, "memory");
-    let items = items.into_iter();
-    let folded = strategy.try_fold(rt, alloc, SITE, items, no_count, count_again, add_counts);
-    fold_left(rt, &counts, len, folded);
+    slice_left(rt, alloc, strategy, &counts, len);
+    for list in [As::Vector, As::Iterator] {
+        mapped_left(rt, alloc, strategy, &counts, (len, list));
+        folded_left(rt, alloc, strategy, &counts, (len, list));
+    }
 }
 
 #[test]

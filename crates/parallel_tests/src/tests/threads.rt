@@ -7,7 +7,6 @@ use commonware_parallel::rayon::{BroadcastContext, ThreadPoolBuilder};
 use commonware_parallel::{
     Batches, Copies, Counted, Fault, Indices, Rayon, Source, Strategy, Trouble,
 };
-use parallel_bridge::{Parts, Segment};
 use std::alloc::Global;
 use std::cmp;
 use std::num::NonZeroUsize;
@@ -61,12 +60,6 @@ impl Meeting {
         self.meet(self.calls.fetch_add(1, Ordering::SeqCst) == 0)
     }
 
-    // Takes both flags down.
-    fn part(&self) {
-        self.first.store(false, Ordering::SeqCst);
-        self.second.store(false, Ordering::SeqCst);
-    }
-
     fn seat(&self, is_first: bool) -> Seat<'_> {
         Seat {
             meeting: self,
@@ -80,36 +73,20 @@ impl Meeting {
     }
 }
 
-// One of two items, which are to see each other.
+// One of two prepared items, which are to see each other.
 #[derive(Clone, Copy)]
 struct Seat<'a> {
     meeting: &'a Meeting,
     is_first: bool,
 }
 
-// Whether an item saw the other one, as the closure of each call answers it.
+// Whether an item saw the other one.
 fn meets(seat: &Seat<'_>) -> bool {
     seat.meeting.meet(seat.is_first)
 }
 
 fn meets_or_fails(seat: &Seat<'_>) -> Result<bool, u32> {
     Ok(meets(seat))
-}
-
-fn meets_by_state(_state: &mut (), seat: &Seat<'_>) -> bool {
-    meets(seat)
-}
-
-fn meets_behind(seen: bool, seat: &Seat<'_>) -> bool {
-    seen & meets(seat)
-}
-
-fn meets_behind_or_fails(seen: bool, seat: &Seat<'_>) -> Result<bool, u32> {
-    Ok(seen & meets(seat))
-}
-
-fn meets_with_key(seat: &Seat<'_>) -> (bool, Option<bool>) {
-    (false, Some(meets(seat)))
 }
 
 // The list calls.
@@ -132,119 +109,173 @@ const CALLS: [Called; 6] = [
     Called::Partition,
 ];
 
-// Whether each of two items saw the other.
-fn are_both(seen: &[bool]) -> bool {
-    seen == [true, true].as_slice()
+// Whether each of two items saw the other, by a map, a fallible one and one with a state.
+fn meet_in_a_map<Rt: Threads + Wait + Sync, S: Strategy, M, I: Source<M>>(
+    rt: &Rt,
+    alloc: Global,
+    strategy: &S,
+    source: I,
+) -> Result<Vec<bool>, Fault>
+    requires { I.can source }
+{
+    let met = Meeting::new();
+    strategy.map_collect_vec(rt, alloc, SITE, source, |_: I::Item| met.next())
 }
 
-// The same of the items of such a call.
-fn meet_in<'a, 's: 'a, Rt, S, M, I>(
+fn meet_in_a_fallible_map<Rt: Threads + Wait + Sync, S: Strategy, M, I: Source<M>>(
+    rt: &Rt,
+    alloc: Global,
+    strategy: &S,
+    source: I,
+) -> Result<Vec<bool>, Trouble<u32>>
+    requires { I.can source }
+{
+    let met = Meeting::new();
+    let map = |_: I::Item| -> Result<bool, u32> { Ok(met.next()) };
+    strategy.try_map_collect_vec(rt, alloc, SITE, source, map)
+}
+
+fn meet_in_a_map_with_a_state<Rt: Threads + Wait + Sync, S: Strategy, M, I: Source<M>>(
+    rt: &Rt,
+    alloc: Global,
+    strategy: &S,
+    source: I,
+) -> Result<Vec<bool>, Fault>
+    requires { I.can source }
+{
+    let met = Meeting::new();
+    let map = |_: &mut (), _: I::Item| met.next();
+    strategy.map_init_collect_vec(rt, alloc, SITE, source, nothing, map)
+}
+
+// Whether both of two items saw the other, by a fold and a fallible one.
+fn meet_in_a_fold<Rt: Threads + Wait + Sync, S: Strategy, M, I: Source<M>>(
+    rt: &Rt,
+    alloc: Global,
+    strategy: &S,
+    source: I,
+) -> Result<bool, Fault>
+    requires { I.can source }
+{
+    let met = Meeting::new();
+    let step = |seen: bool, _: I::Item| seen & met.next();
+    strategy.fold(rt, alloc, SITE, source, yes, step, both)
+}
+
+fn meet_in_a_fallible_fold<Rt: Threads + Wait + Sync, S: Strategy, M, I: Source<M>>(
+    rt: &Rt,
+    alloc: Global,
+    strategy: &S,
+    source: I,
+) -> Result<bool, Trouble<u32>>
+    requires { I.can source }
+{
+    let met = Meeting::new();
+    let step = |seen: bool, _: I::Item| -> Result<bool, u32> { Ok(seen & met.next()) };
+    strategy.try_fold(rt, alloc, SITE, source, yes, step, both)
+}
+
+// Whether each of two items of a partition saw the other.
+fn meet_in_a_partition<Rt: Threads + Wait + Sync, S: Strategy, M, I: Source<M>>(
+    rt: &Rt,
+    alloc: Global,
+    strategy: &S,
+    source: I,
+) -> Result<Vec<bool>, Fault>
+    requires { I.can source }
+{
+    let met = Meeting::new();
+    let keep = |item: I::Item| (item, Some(met.next()));
+    let (kept, _) = strategy.map_partition_collect_vec(rt, alloc, SITE, source, keep)?;
+    Ok(kept)
+}
+
+// Whether both of two items saw the other, by such a call.
+fn meet_in<Rt: Threads + Wait + Sync, S: Strategy, M, I: Source<M>>(
     rt: &Rt,
     alloc: Global,
     strategy: &S,
     called: Called,
     source: I,
 ) -> Result<bool, Trouble<u32>>
-where
-    Rt: Threads + Wait + Sync,
-    S: Strategy,
-    I: Source<M, Item = &'a Seat<'s>, Parts: Parts<Segment: Segment<&'a Seat<'s>>>>,
     requires { I.can source }
 {
-    Ok(match called {
-        Called::Map => are_both(&strategy.map_collect_vec(rt, alloc, SITE, source, meets)?),
-        Called::FallibleMap => {
-            are_both(&strategy.try_map_collect_vec(rt, alloc, SITE, source, meets_or_fails)?)
-        }
-        Called::MapWithState => are_both(&strategy.map_init_collect_vec(
-            rt,
-            alloc,
-            SITE,
-            source,
-            nothing,
-            meets_by_state,
-        )?),
-        Called::Fold => strategy.fold(rt, alloc, SITE, source, yes, meets_behind, both)?,
-        Called::FallibleFold => {
-            strategy.try_fold(rt, alloc, SITE, source, yes, meets_behind_or_fails, both)?
-        }
-        Called::Partition => {
-            let (seen, _) = strategy.map_partition_collect_vec(
-                rt,
-                alloc,
-                SITE,
-                source,
-                meets_with_key,
-            )?;
-            are_both(&seen)
-        }
-    })
+    let seen = match called {
+        Called::Map => meet_in_a_map(rt, alloc, strategy, source)?,
+        Called::FallibleMap => meet_in_a_fallible_map(rt, alloc, strategy, source)?,
+        Called::MapWithState => meet_in_a_map_with_a_state(rt, alloc, strategy, source)?,
+        Called::Partition => meet_in_a_partition(rt, alloc, strategy, source)?,
+        Called::Fold => return Ok(meet_in_a_fold(rt, alloc, strategy, source)?),
+        Called::FallibleFold => return meet_in_a_fallible_fold(rt, alloc, strategy, source),
+    };
+    Ok(seen.as_slice() == [true, true].as_slice())
+}
+
+const NUMBERS: &[u32] = &[7, 8];
+
+fn copies() -> Copies<'static, u32> {
+    Copies { slice: NUMBERS }
+}
+
+fn slice() -> &'static [u32] {
+    NUMBERS
+}
+
+fn indices() -> Indices {
+    Indices { start: 3, end: 5 }
+}
+
+fn iterator() -> Range<u32> {
+    0..2
+}
+
+fn counted() -> Counted<Range<usize>> {
+    Counted { iter: 0..2 }
+}
+
+fn backwards() -> Backwards<'static, u32> {
+    Backwards { slice: NUMBERS }
 }
 
 // Stops the test where two items of a list don't see each other in such a call.
-fn items_meet<'a, 's: 'a, Rt, M, I>(
-    rt: &Rt,
-    alloc: Global,
-    two: &Rayon<Stopped>,
-    meeting: &Meeting,
-    of: (Called, &str),
-    list: I,
-)
-where
-    Rt: Threads + Wait + Abort + Sync,
-    I: Source<M, Item = &'a Seat<'s>, Parts: Parts<Segment: Segment<&'a Seat<'s>>>>,
-    requires { I.can list }
-{
-    meeting.part();
-    answers(rt, of, meet_in(rt, alloc, two, of.0, list), true);
-}
-
-// The same for each list that can be cut: copies, a slice, and a producer of `uses`.
-fn items_of_lists_meet<'a, 's: 'a, Rt: Threads + Wait + Abort + Sync>(
+fn items_meet<Rt: Threads + Wait + Abort + Sync>(
     rt: &Rt,
     alloc: Global,
     two: &Rayon<Stopped>,
     called: Called,
-    meeting: &Meeting,
-    seats: &'a [Seat<'s>],
-    places: &'a [&'a Seat<'s>],
 ) {
-    items_meet(rt, alloc, two, meeting, (called, "slice"), seats);
-    let copies = Copies { slice: places };
-    items_meet(rt, alloc, two, meeting, (called, "copies"), copies);
-    let own = Backwards { slice: places };
-    items_meet(rt, alloc, two, meeting, (called, "own"), own);
+    let met = meet_in(rt, alloc, two, called, copies());
+    answers(rt, (called, "copies"), met, true);
+    let met = meet_in(rt, alloc, two, called, slice());
+    answers(rt, (called, "slice"), met, true);
+    let met = meet_in(rt, alloc, two, called, indices());
+    answers(rt, (called, "indices"), met, true);
+    let met = meet_in(rt, alloc, two, called, backwards());
+    answers(rt, (called, "own"), met, true);
 }
 
-// The same for a vector, an iterator, and one that knows its number.
-fn items_as_they_come_meet<'a, 's: 'a, Rt: Threads + Wait + Abort + Sync>(
+// The same of what is no list that can be cut.
+fn items_as_they_come_meet<Rt: Threads + Wait + Abort + Sync>(
     rt: &Rt,
     alloc: Global,
     two: &Rayon<Stopped>,
     called: Called,
-    meeting: &Meeting,
-    places: &'a [&'a Seat<'s>],
 ) {
-    let iterator = places.iter().copied();
-    items_meet(rt, alloc, two, meeting, (called, "iterator"), iterator);
-    let counted = Counted {
-        iter: places.iter().copied(),
-    };
-    items_meet(rt, alloc, two, meeting, (called, "counted"), counted);
-    let vector = Vec::from_slice(alloc, places).expect(rt, "memory");
-    items_meet(rt, alloc, two, meeting, (called, "vector"), vector);
+    let met = meet_in(rt, alloc, two, called, iterator());
+    answers(rt, (called, "iterator"), met, true);
+    let met = meet_in(rt, alloc, two, called, counted());
+    answers(rt, (called, "counted"), met, true);
+    let vector = Vec::from_slice(alloc, NUMBERS).expect(rt, "memory");
+    let met = meet_in(rt, alloc, two, called, vector);
+    answers(rt, (called, "vector"), met, true);
 }
 
 #[test]
 fn the_items_of_each_list_call_see_each_other(rt: HostRuntime) {
-    let alloc = rt.alloc();
-    let two = pool(&rt, alloc, 2, 2);
-    let meeting = Meeting::new();
-    let seats = meeting.seats();
-    let places = [&seats[0], &seats[1]];
+    let two = pool(&rt, rt.alloc(), 2, 2);
     for called in CALLS {
-        items_of_lists_meet(&rt, alloc, &two, called, &meeting, &seats, &places);
-        items_as_they_come_meet(&rt, alloc, &two, called, &meeting, &places);
+        items_meet(&rt, rt.alloc(), &two, called);
+        items_as_they_come_meet(&rt, rt.alloc(), &two, called);
     }
 }
 
@@ -289,11 +320,11 @@ fn meet_in_a_batch<Rt: Threads + Wait + Sync, S: Strategy>(
 }
 
 // The first so many seats.
-fn seats_of<'a, 's: 'a>(
+fn seats_of<'a>(
     alloc: Global,
-    seats: &'a [Seat<'s>],
+    seats: &'a [Seat<'a>],
     count: usize,
-) -> Result<Vec<&'a Seat<'s>>, Fault> {
+) -> Result<Vec<&'a Seat<'a>>, Fault> {
     let mut first = Vec::new(alloc);
     for seat in seats.iter().take(count) {
         first.push(seat)?;

@@ -6,11 +6,9 @@ use crate::tests::steps::{add, add_counts, count, no_count, parallel, serial, ze
 use crate::tests::strategies::{SITE, explorers, pool};
 use crate::tests::threads::Meeting;
 use commonware_parallel::mocks::{Explorer, Rule, TASKS, explore};
-use commonware_parallel::{Call, Counted, Fault, Grid, Source, Strategy, Trouble};
-use parallel_bridge::{Parts, Segment};
+use commonware_parallel::{Call, Counted, Fault, Grid, Strategy, Trouble};
 use std::alloc::Global;
 use std::num::NonZeroUsize;
-use std::ops::Range;
 use std::process::Abort;
 use std::sync::Wait;
 use std::thread::Threads;
@@ -258,21 +256,34 @@ fn each_map_keeps_its_order_by_each_rule(rt: HostRuntime) {
     }
 }
 
-// The numbers below 1,000,000, which are 8 MB as a list.
-const MILLION: Range<usize> = 0..1_000_000;
-
-// The sum of a list's numbers.
-fn sum_of<Rt: Threads + Wait + Sync, S: Strategy, M, I>(
+// The sum of the numbers below 1,000,000, which are 8 MB as a list: by an iterator that says how
+// many come.
+fn sum_counted<Rt: Threads + Wait + Sync, S: Strategy>(
     rt: &Rt,
     alloc: Global,
     strategy: &S,
-    numbers: I,
-) -> Result<usize, Fault>
-where
-    I: Source<M, Item = usize, Parts: Parts<Segment: Segment<usize>>>,
-    requires { I.can numbers }
-{
+) -> Result<usize, Fault> {
+    let numbers = Counted {
+        iter: 0..1_000_000usize,
+    };
     strategy.fold(rt, alloc, PLACE, numbers, no_count, add_counts, add_counts)
+}
+
+// The same by an iterator alone.
+fn sum_gathered<Rt: Threads + Wait + Sync, S: Strategy>(
+    rt: &Rt,
+    alloc: Global,
+    strategy: &S,
+) -> Result<usize, Fault> {
+    strategy.fold(
+        rt,
+        alloc,
+        PLACE,
+        0..1_000_000usize,
+        no_count,
+        add_counts,
+        add_counts,
+    )
 }
 
 #[test]
@@ -282,15 +293,15 @@ fn a_counted_iterator_is_gathered_where_it_goes_parallel_alone(rt: HostRuntime) 
     let serial = Explorer::by_rule(&pool, Rule::Serial).expect(&rt, "memory");
     let parallel = Explorer::by_rule(&pool, Rule::Parallel).expect(&rt, "memory");
     for explorer in [&serial, &parallel] {
-        let sum = sum_of(&rt, alloc, explorer, Counted { iter: MILLION });
+        let sum = sum_counted(&rt, alloc, explorer);
         row(&rt, explorer.rule(), sum, Ok(499_999_500_000));
     }
     let Some(held) = all_places(alloc) else {
         return;
     };
-    let counted = sum_of(&rt, alloc, &serial, Counted { iter: MILLION });
-    let gathered = sum_of(&rt, alloc, &serial, MILLION);
-    let cut = sum_of(&rt, alloc, &parallel, Counted { iter: MILLION });
+    let counted = sum_counted(&rt, alloc, &serial);
+    let gathered = sum_gathered(&rt, alloc, &serial);
+    let cut = sum_counted(&rt, alloc, &parallel);
     drop(held);
     row(&rt, "counted", counted, Ok(499_999_500_000));
     row(&rt, "gathered", gathered, Err(Fault::Memory));
