@@ -370,12 +370,12 @@ fn missed_in_a_sort<Rt: Threads + Wait + Sync, S: Strategy>(
     Ok(missed.load(Ordering::SeqCst))
 }
 
-// Two halves of 4096 numbers, each from its greatest one down.
+// Two halves of 8192 numbers, each from its greatest one down.
 fn two_halves(rt: &impl Abort, alloc: Global) -> Vec<u32> {
-    let mut numbers = Vec::with_capacity(alloc, 8192).expect(rt, "memory");
-    for place in 0..8192u32 {
-        let half = (place / 4096).wrapping_add(1).wrapping_mul(4096);
-        let number = half.wrapping_sub(place % 4096);
+    let mut numbers = Vec::with_capacity(alloc, 16_384).expect(rt, "memory");
+    for place in 0..16_384u32 {
+        let half = (place / 8192).wrapping_add(1).wrapping_mul(8192);
+        let number = half.wrapping_sub(place % 8192);
         numbers.push(number).expect(rt, "memory");
     }
     numbers
@@ -386,11 +386,11 @@ fn the_halves_of_a_sort_see_each_other(rt: HostRuntime) {
     let alloc = rt.alloc();
     let two = pool(&rt, alloc, 2, 2);
     let mut numbers = two_halves(&rt, alloc);
-    let missed = missed_in_a_sort(&rt, alloc, &two, numbers.as_mut_slice(), 4097);
+    let missed = missed_in_a_sort(&rt, alloc, &two, numbers.as_mut_slice(), 8193);
     answers(&rt, 1, missed, 0);
     assert!(rt; numbers.is_sorted());
     let ends = (numbers.first().copied(), numbers.len());
-    same(&rt, ends, (Some(1), 8192));
+    same(&rt, ends, (Some(1), 16_384));
 }
 
 #[test]
