@@ -36,3 +36,4 @@ mod tried;
 mod tries;
 mod unrecorded;
 mod ways;
+mod zips;
