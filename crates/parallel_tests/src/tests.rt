@@ -37,3 +37,4 @@ mod tried;
 mod tries;
 mod unrecorded;
 mod ways;
+mod zips;
