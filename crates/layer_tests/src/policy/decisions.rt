@@ -12,7 +12,6 @@ use parallel_policy::execution::RunExecution;
 use parallel_policy::key::Key;
 use parallel_policy::site::Site;
 use parallel_policy::table::Table;
-use std::alloc::Global;
 use std::sync::Wait;
 use std::sync::atomic::{AtomicU64, Ordering};
 
@@ -71,40 +70,30 @@ fn estimates_of(table: &Table, key: Key) -> Option<[Option<u64>; 2]> {
     Some([entry.estimate(P), entry.estimate(S)])
 }
 
-// The paths of three runs of a fresh table's entry, by a clock that goes on so far at each reading,
-// and what the table's samples say then.
-fn decided<Rt: Wait>(
-    rt: &Rt,
-    alloc: Global,
-    start: u64,
-    step: u64,
-) -> (
-    [Result<RunExecution, Trouble<u8>>; 3],
-    Option<[Option<u64>; 2]>,
-) {
-    let mut table = Table::new(alloc);
-    let key = Key::new(SITE, 64, 64, 4);
-    let ticks = AtomicU64::new(start);
-    let mut now = || ticks.fetch_add(step, Ordering::SeqCst);
-    let first = path_of(rt, &mut table, key, &mut now);
-    let second = path_of(rt, &mut table, key, &mut now);
-    let third = path_of(rt, &mut table, key, &mut now);
-    ([first, second, third], estimates_of(&table, key))
-}
-
 #[test]
 fn a_decided_run_records_what_it_took(rt: HostRuntime) {
-    let (paths, estimates) = decided(&rt, rt.alloc(), 0, 100_000);
-    same(&rt, paths, [Ok(P), Ok(S), Ok(S)]);
+    let mut table = Table::new(rt.alloc());
+    let key = Key::new(SITE, 64, 64, 4);
+    let ticks = AtomicU64::new(0);
+    let mut now = || ticks.fetch_add(100_000, Ordering::SeqCst);
+    let first = path_of(&rt, &mut table, key, &mut now);
+    let second = path_of(&rt, &mut table, key, &mut now);
+    let third = path_of(&rt, &mut table, key, &mut now);
+    same(&rt, [first, second, third], [Ok(P), Ok(S), Ok(S)]);
+    let estimates = estimates_of(&table, key);
     same(&rt, estimates, Some([Some(100_000), Some(100_000)]));
 }
 
 #[test]
 fn a_clock_that_goes_back_gives_no_time(rt: HostRuntime) {
-    let back = 0u64.wrapping_sub(100_000);
-    let (paths, estimates) = decided(&rt, rt.alloc(), 1_000_000, back);
-    same(&rt, paths, [Ok(P), Ok(S), Ok(S)]);
-    same(&rt, estimates, Some([Some(0), Some(0)]));
+    let mut table = Table::new(rt.alloc());
+    let key = Key::new(SITE, 64, 64, 4);
+    let ticks = AtomicU64::new(1_000_000);
+    let mut now = || ticks.fetch_sub(100_000, Ordering::SeqCst);
+    let first = path_of(&rt, &mut table, key, &mut now);
+    let second = path_of(&rt, &mut table, key, &mut now);
+    same(&rt, [first, second], [Ok(P), Ok(S)]);
+    same(&rt, estimates_of(&table, key), Some([Some(0), Some(0)]));
 }
 
 #[test]

@@ -194,60 +194,29 @@ fn records_of_jobs_feed_their_choices(rt: HostRuntime) {
     same(&rt, entries, (true, false));
 }
 
-// A run over `len` items of so much work, planned for so many threads.
-#[derive(Drop)]
-struct Run<'a> {
-    len: usize,
-    work: usize,
-    planned: usize,
-    // How far the clock goes on as it is read.
-    reading: u64,
-    // How far it goes on in the body, in parallel and serially.
-    takes: [u64; 2],
-    // Which paths fail, by 57.
-    fails: &'a [RunExecution],
-}
-
-// Over 64 items, by a clock that stands still.
-const STILL: Run<'static> = Run {
-    len: 64,
-    work: 64,
-    planned: 4,
-    reading: 0,
-    takes: [0, 0],
-    fails: &[],
-};
-
-// The path of a run, where that doesn't fail.
+// The path of a run over 64 items of so much work, by a clock that stands still.
 fn path_of<Rt: Wait>(
     rt: &Rt,
     policy: &Policy,
-    ticks: &AtomicU64,
-    run: &Run<'_>,
+    work: usize,
+    planned: usize,
 ) -> Result<RunExecution, Trouble<u8>> {
-    let now = || ticks.fetch_add(run.reading, Ordering::SeqCst);
-    let body = |path: RunExecution| -> Result<RunExecution, u8> {
-        let takes = match path {
-            RunExecution::Parallel => run.takes[0],
-            RunExecution::Serial => run.takes[1],
-        };
-        ticks.fetch_add(takes, Ordering::SeqCst);
-        if run.fails.contains(&path) {
-            Err(57)
-        } else {
-            Ok(path)
-        }
-    };
-    policy.try_run(rt, SITE, run.len, run.work, run.planned, &now, body)
+    policy.try_run(
+        rt,
+        SITE,
+        64,
+        work,
+        planned,
+        &|| 0,
+        |path: RunExecution| -> Result<RunExecution, u8> { Ok(path) },
+    )
 }
 
 #[test]
 fn a_run_planned_for_one_asks_no_policy(rt: HostRuntime) {
     let policy = fresh(&rt, rt.alloc());
-    let ticks = AtomicU64::new(0);
     for planned in [0, 1] {
-        let run = Run { planned, ..STILL };
-        same(&rt, path_of(&rt, &policy, &ticks, &run), Ok(S));
+        same(&rt, path_of(&rt, &policy, 64, planned), Ok(S));
         assert!(rt;
             policy
                 .run_entry(&rt, Key::new(SITE, 64, 64, planned))
@@ -271,41 +240,66 @@ fn has_runs_of(rt: &impl Wait, policy: &Policy, of: [(usize, usize, usize); 4]) 
 #[test]
 fn a_fresh_policy_runs_in_parallel_and_then_serially(rt: HostRuntime) {
     let policy = fresh(&rt, rt.alloc());
-    let ticks = AtomicU64::new(0);
-    let run = Run { work: 640, ..STILL };
     for path in [P, S, S] {
-        same(&rt, path_of(&rt, &policy, &ticks, &run), Ok(path));
+        same(&rt, path_of(&rt, &policy, 640, 4), Ok(path));
     }
-    let of = [(64, 640, 4), (64, 64, 4), (640, 64, 4), (64, 640, 1)];
-    let found = has_runs_of(&rt, &policy, of);
-    same(&rt, found, [true, false, false, false]);
+    same(
+        &rt,
+        has_runs_of(
+            &rt,
+            &policy,
+            [(64, 640, 4), (64, 64, 4), (640, 64, 4), (64, 640, 1)],
+        ),
+        [true, false, false, false],
+    );
 }
 
+// The clock stands still but while a body runs: 70000 nanoseconds in parallel, 30000 serially.
 #[test]
 fn a_policy_measures_what_passes_in_the_body(rt: HostRuntime) {
     let policy = fresh(&rt, rt.alloc());
     let ticks = AtomicU64::new(5);
-    let run = Run {
-        takes: [70_000, 30_000],
-        ..STILL
+    let now = || ticks.load(Ordering::SeqCst);
+    let body = |path: RunExecution| -> Result<RunExecution, u8> {
+        let takes = match path {
+            RunExecution::Parallel => 70_000,
+            RunExecution::Serial => 30_000,
+        };
+        let _before = ticks.fetch_add(takes, Ordering::SeqCst);
+        Ok(path)
     };
     for path in [P, S] {
-        same(&rt, path_of(&rt, &policy, &ticks, &run), Ok(path));
+        let answer = policy.try_run(&rt, SITE, 64, 64, 4, &now, body);
+        same(&rt, answer, Ok(path));
     }
     let estimates = estimates_of(&rt, &policy, Key::new(SITE, 64, 64, 4));
     same(&rt, estimates, Some([Some(70_000), Some(30_000)]));
 }
 
-// Over ten items, by a clock that goes on by 1000 at each reading.
-fn of_ten(fails: &[RunExecution]) -> Run<'_> {
-    Run {
-        len: 10,
-        work: 10,
-        planned: 4,
-        reading: 1_000,
-        takes: [0, 0],
-        fails,
-    }
+// One run over ten items, by a clock that goes on by 1000 at each reading. It answers 7, or fails
+// by 57 where it is of `fails`.
+fn run_of_ten<Rt: Wait>(
+    rt: &Rt,
+    policy: &Policy,
+    ticks: &AtomicU64,
+    fails: &[RunExecution],
+) -> Result<u8, Trouble<u8>> {
+    let now = || ticks.fetch_add(1_000, Ordering::SeqCst);
+    policy.try_run(
+        rt,
+        SITE,
+        10,
+        10,
+        4,
+        &now,
+        |path: RunExecution| -> Result<u8, u8> {
+            if fails.contains(&path) {
+                Err(57)
+            } else {
+                Ok(7)
+            }
+        },
+    )
 }
 
 #[test]
@@ -313,20 +307,16 @@ fn success_is_recorded_and_errors_are_not(rt: HostRuntime) {
     let policy = fresh(&rt, rt.alloc());
     let key = Key::new(SITE, 10, 10, 4);
     let ticks = AtomicU64::new(0);
-    let failed = path_of(&rt, &policy, &ticks, &of_ten(&[P, S]));
+    let failed = run_of_ten(&rt, &policy, &ticks, &[P, S]);
     same(&rt, failed, Err(Trouble::Closure(57)));
     same(&rt, estimates_of(&rt, &policy, key), Some([None, None]));
-    same(&rt, path_of(&rt, &policy, &ticks, &of_ten(&[])), Ok(P));
+    same(&rt, run_of_ten(&rt, &policy, &ticks, &[]), Ok(7));
     for _ in 0..20 {
-        let answer = path_of(&rt, &policy, &ticks, &of_ten(&[P]));
-        assert!(rt; matches!(answer, Ok(RunExecution::Serial) | Err(Trouble::Closure(57))));
+        let answer = run_of_ten(&rt, &policy, &ticks, &[P]);
+        assert!(rt; matches!(answer, Ok(7) | Err(Trouble::Closure(57))));
     }
     let estimates = estimates_of(&rt, &policy, key);
     same(&rt, estimates, Some([Some(1_000), Some(1_000)]));
-}
-
-fn stands_still() -> u64 {
-    0
 }
 
 // A body that asks the same policy would wait forever if the policy's lock were held.
@@ -339,7 +329,7 @@ fn a_body_runs_without_the_lock(rt: HostRuntime) {
         inner.record_run(&rt, key, path, 5)?;
         Ok(path)
     };
-    let answer = policy.try_run(&rt, SITE, 64, 64, 4, &stands_still, body);
+    let answer = policy.try_run(&rt, SITE, 64, 64, 4, &|| 0, body);
     same(&rt, answer, Ok(P));
     let estimates = estimates_of(&rt, &policy, Key::new(SITE, 1, 1, 2));
     same(&rt, estimates, Some([Some(5), None]));
