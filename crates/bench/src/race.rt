@@ -100,6 +100,25 @@ fn prepare<Rt: Print + Runtime, C: Clock>(
     let bytes = bytes_of(alloc, trial.case, items.as_slice())?;
     let messages = messages_of(alloc, trial.case, bytes.as_slice())?;
     let digests = digests_of(alloc, messages.as_slice())?;
+    let extras = Extras {
+        bytes: bytes.as_slice(),
+        messages: messages.as_slice(),
+        digests: digests.as_slice(),
+    };
+    measure(rt, alloc, clock, parallel, learning, trial, extras, items)
+}
+
+/// Makes the calls of a trial.
+fn measure<'a, Rt: Print + Runtime, C: Clock>(
+    rt: &'a Rt,
+    alloc: Global,
+    clock: &'a C,
+    parallel: &'a Rayon<C>,
+    learning: &'a Rayon<C>,
+    trial: Trial,
+    extras: Extras<'a>,
+    items: Vec<u64>,
+) -> Result<()> {
     let bench = Bench {
         rt,
         alloc,
@@ -107,11 +126,7 @@ fn prepare<Rt: Print + Runtime, C: Clock>(
         parallel,
         learning,
         trial,
-        extras: Extras {
-            bytes: bytes.as_slice(),
-            messages: messages.as_slice(),
-            digests: digests.as_slice(),
-        },
+        extras,
     };
     match trial.once {
         Some(way) => bench.print_checksum(way, items.as_slice()),
