@@ -1,8 +1,10 @@
 -- When all seats are back, one view has all that was claimed, and the words have the rest.
 use Rattle.parallel_shares.proofs.Common.{◌≡◌, ℕ, suc, ◌+◌, ◌/◌, ◌<◌, Bool, true, false, cond, List, [], ◌∷◌, length, get_or, refl, sym, ap, subst, ◌∙◌, arith, some, get_elem?, State, View, Seat}
 use Rattle.parallel_shares.proofs.Common.{Shares, start_of, end_of, IsEmptyWord, Sizes, shares_of, opening_words, inside, in_word, in_ranges, same_number, total, times, in_view, IsSharingOf}
-use Rattle.parallel_shares.proofs.Common.{ranges_of, known, index_of, claims_of, AreSeatsOf, IsPartition, AllDone, AllEmpty, EachCellOnce, HasAll}
+use Rattle.parallel_shares.proofs.Common.{place_of, used, Spaced, ranges_of, known, index_of, claims_of, AreSeatsOf, IsPartition, AllDone, AllEmpty, EachCellOnce, HasAll}
+use Rattle.atomic_table.specs.Table.{Final, Seen}
 use Rattle.parallel_shares.proofs.Counts.{inside_nothing}
+use Rattle.parallel_shares.proofs.Spacing.{all_read}
 use Rattle.parallel_shares.proofs.Totals.{total_two, total_alone, total_zero, total_some, total_both, total_of_none, no_numbers, one_more, same_once}
 
 -- seats that are numbered from one number on have each number once
@@ -128,3 +130,23 @@ module _ (shares : Shares) (seats : List Seat) (all : AreSeatsOf shares seats)
   opening_stands none_of =
       k.opening (total_alone (λ v. v.changes) s.views id view at (λ j y e n. (others j y e n).2)
       ∙ has.changes ∙ none_of)
+
+-- a table that was closed had the words that were read of it, each at the place of its share
+pub last_state : (key plan : Sizes) → key ≡ plan → (id : ℕ) (view : View) (all : List ℕ)
+    (slots : List (Unit {0})) (found : List ℕ)
+    → Final (Seen (Spaced (IsSharingOf key)) id view) all slots → length found ≡ shares_of plan
+    → ((share : ℕ) → share < shares_of plan
+    → get_or found share 0 ≡ get_or all (place_of share) 0)
+    → (s : State (Unit {0}) View) × IsSharingOf plan s × (get_elem? s.views id ≡ some view)
+    × (found ≡ s.words)
+last_state key plan is id view all slots found last count each =
+    let words = last.1.0.0 in
+    let s = used last.0 words in
+    let k = subst (λ z. IsSharingOf z s) is last.1.0.2 in (
+      s,
+      k,
+      last.1.1,
+      all_read found words (omega (arith, count, k.shares)) (λ share h. each share
+          (omega (arith, h, k.shares))
+          ∙ ap (λ ws. get_or ws (place_of share) 0) (sym last.2 ∙ last.1.0.1)),
+    )

@@ -17,6 +17,8 @@ pub use Rattle.parallel_shares.specs.Seats.{TriesClaim, claims_of, has_emptied, 
 pub use Rattle.parallel_shares.specs.Sharing.{Empties, Exchanges, Idle, IsSharingOf, LooksAt, LooksOwn, PutsDown, SomeSplitPays, TakesBack, TakesFront, back_half, dealt, dealt_from, fresh_view}
 pub use Rattle.parallel_shares.specs.Sharing.{gathered, in_view, loaded_at, loads_at, loads_since, looked, looked_own, missed, put_down, ranges_of, spent, took_back, took_front, undealt}
 pub use Rattle.parallel_shares.specs.Sizes.{IsSound, Sizes, Work, opening_size, opening_start, share_of, shares_of, sizes_of}
+pub use Rattle.parallel_shares.specs.Spaced.{Spaced, line_of, place_of, share_at, used}
+unfoldable pub use Rattle.parallel_shares.specs.Spaced.{spaced}
 pub use Rattle.parallel_shares.specs.Steals.{FoundNothing, GainsTry, IsBest, IsBetter, IsNoBetter, LoadsOthers, LooksRound, NonePays, OnlyLooks, TriesSteal}
 pub use Rattle.parallel_shares.specs.Stretches.{AreApart, CutsCells, Grown, IsPiece, IsStretch, Parted, StartsAnew, all_cells, cut_cells, piece_cells, range_cells, stretch_cells, stretch_of}
 pub use Rattle.parallel_shares.specs.Stretches.{stretches_of}

@@ -4,6 +4,7 @@ pub mod CutSteps
 pub mod ChooseGrid
 pub mod SoundSizes
 pub mod Words
+pub mod Spacing
 pub mod Counts
 pub mod ListWrites
 pub mod Openings
@@ -40,6 +41,7 @@ pub use Openings.*
 pub use ReplaysReach.*
 pub use ShareOfSeat.*
 pub use SoundSizes.*
+pub use Spacing.*
 pub use StepsKeepSharing.*
 pub use Stretching.*
 pub use Victims.*

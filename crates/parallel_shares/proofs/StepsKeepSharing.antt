@@ -3,13 +3,14 @@ use Rattle.parallel_shares.proofs.Common.{◌≡◌, ℕ, false, cond, ◌+◌, 
 use Rattle.parallel_shares.proofs.Common.{eq-eqb, ne_eqb, length-set, get_or-set_other, mul-le, Range, some, none, get_elem?, State, Me, step, Act, keeps, Valid, stepped, carried_after, Allows}
 use Rattle.parallel_shares.proofs.Common.{at_set, exchanged, View, start_of, end_of, packed, IsEmptyWord, IsWithin, Sizes, shares_of, share_of, IsSound, claim_stop, claim_cells, middle_of, Pays}
 use Rattle.parallel_shares.proofs.Common.{inside, in_word, in_range, in_ranges, total, times, SomeSplitPays, in_view, Empties, Idle, IsSharingOf, looked_own, took_front, missed, looked, took_back}
-use Rattle.parallel_shares.proofs.Common.{back_half, put_down, LooksOwn, TakesFront, LooksAt, TakesBack, PutsDown, Exchanges}
+use Rattle.parallel_shares.proofs.Common.{back_half, put_down, LooksOwn, TakesFront, LooksAt, TakesBack, PutsDown, Exchanges, place_of, Spaced}
 use prog.Atomic.{either}
 use Rattle.parallel_shares.proofs.Words.{start_of_packed, end_of_packed, within_packed}
 use Rattle.parallel_shares.proofs.Counts.{inside_below, inside_nothing, inside_cells, inside_no_cells}
 use Rattle.parallel_shares.proofs.ListWrites.{each_set, in_ranges_push}
 use Rattle.parallel_shares.proofs.EventsMoveUnits.{cut_front, cut_back}
 use Rattle.parallel_shares.proofs.Totals.{total_set, total_two, total_put, set_get, is_same, same_once}
+use Rattle.parallel_shares.proofs.Spacing.{share_at_place, allows_spaced}
 
 -- the table as the rule sees it
 abbrev Table : Type 0
@@ -193,9 +194,11 @@ module _ (sizes : Sizes) (sound : IsSound sizes) where
       → me.0.owns ≡ index ∷ []
       → ((s : Table) → IsSharingOf sizes s → get_elem? s.views id ≡ some me.0
       → get_or s.words share 0 ≡ old → IsSharingOf sizes (written s share new id hit))
-      → Allows (IsSharingOf sizes) slots id me share (λ n. either (n == old) new n)
-      (Exchanges me old hit)
-  exchanges slots id share index old new me hit owns keeps_rule s k h e b =
+      → Allows (Spaced (IsSharingOf sizes)) slots id me (place_of share)
+      (λ n. either (n == old) new n) (Exchanges me old hit)
+  exchanges slots id share index old new me hit owns keeps_rule =
+      allows_spaced (IsSharingOf sizes) slots id me share (λ n. either (n == old) new n)
+      (Exchanges me old hit) (λ s k h e b.
       let word = get_or s.words share 0 in
       exchanged word old new
       (λ m. (w : View) × (a : Act (Unit {0})) × Valid s.homes me.1 a
@@ -209,7 +212,7 @@ module _ (sizes : Sizes) (sound : IsSound sizes) where
         words_stay s k id me.0 (missed me.0 word) e share refl refl refl refl
             (not_empty me.0.owns index owns) (k.each id me.0 e).0,
         (λ no. absurd (miss no), λ _. refl, refl),
-      ))
+      )))
 
   -- ---- a load
 
@@ -234,9 +237,11 @@ module _ (sizes : Sizes) (sound : IsSound sizes) where
 
   pub looks_own : (slots id share index : ℕ) (me : Me (Unit {0}) View) → me.0.plan ≡ sizes
       → me.0.owns ≡ index ∷ [] → share ≡ share_of sizes index
-      → Allows (IsSharingOf sizes) slots id me share (λ n. n)
-      (LooksOwn (step slots share 0 0 none) me)
-  looks_own slots id share index me plan owns own s k h e b =
+      → Allows (Spaced (IsSharingOf sizes)) slots id me (place_of share) (λ n. n)
+      (LooksOwn (step slots (place_of share) 0 0 none) me)
+  looks_own slots id share index me plan owns own =
+      allows_spaced (IsSharingOf sizes) slots id me share (λ n. n)
+      (LooksOwn (step slots (place_of share) 0 0 none) me) (λ s k h e b.
       let word = get_or s.words share 0 in
       let w = looked_own me.0 share word in (
         w,
@@ -244,8 +249,12 @@ module _ (sizes : Sizes) (sound : IsSound sizes) where
         tt,
         words_stay s k id me.0 w e share refl refl refl refl (not_empty me.0.owns index owns)
             (sees_own_word s k id me.0 e share index owns own),
-        (subst (λ (z : Sizes). IsWithin z.units word) (sym plan) (k.within share), refl, refl),
-      )
+        (
+          subst (λ (z : Sizes). IsWithin z.units word) (sym plan) (k.within share),
+          ap (λ i. looked_own me.0 i word) (sym (share_at_place share)),
+          refl,
+        ),
+      ))
 
   -- ---- a claim
 
@@ -300,8 +309,8 @@ module _ (sizes : Sizes) (sound : IsSound sizes) where
   pub takes_front : (slots id share index old new : ℕ) (me : Me (Unit {0}) View) → me.0.plan ≡ sizes
       → me.0.owns ≡ index ∷ [] → share < shares_of sizes → IsWithin sizes.units old
       → ¬ IsEmptyWord old → new ≡ packed (claim_stop sizes old) (end_of old)
-      → Allows (IsSharingOf sizes) slots id me share (λ n. either (n == old) new n)
-      (TakesFront (step slots share old new none) me)
+      → Allows (Spaced (IsSharingOf sizes)) slots id me (place_of share)
+      (λ n. either (n == old) new n) (TakesFront (step slots (place_of share) old new none) me)
   takes_front slots id share index old new me plan owns exists inner some_left is =
       exchanges slots id share index old new me (took_front me.0 old) owns
       (λ s k e found. rw is (takes share index old me.0 plan owns exists inner some_left s k id e
@@ -310,9 +319,12 @@ module _ (sizes : Sizes) (sound : IsSound sizes) where
   -- ---- a load of another share
 
   pub looks_at : (slots id share index : ℕ) (me : Me (Unit {0}) View) → me.0.plan ≡ sizes
-      → me.0.owns ≡ index ∷ [] → Allows (IsSharingOf sizes) slots id me share (λ n. n)
-      (LooksAt (step slots share 0 0 none) me)
-  looks_at slots id share index me plan owns s k h e b =
+      → me.0.owns ≡ index ∷ []
+      → Allows (Spaced (IsSharingOf sizes)) slots id me (place_of share) (λ n. n)
+      (LooksAt (step slots (place_of share) 0 0 none) me)
+  looks_at slots id share index me plan owns =
+      allows_spaced (IsSharingOf sizes) slots id me share (λ n. n)
+      (LooksAt (step slots (place_of share) 0 0 none) me) (λ s k h e b.
       let word = get_or s.words share 0 in
       let w = looked me.0 share word in (
         w,
@@ -323,10 +335,10 @@ module _ (sizes : Sizes) (sound : IsSound sizes) where
         (
           subst (λ (z : Sizes). IsWithin z.units word) (sym plan) (k.within share),
           subst (λ (z : Sizes). Pays z word → SomeSplitPays z) (sym plan) (k.splits share),
-          refl,
+          ap (λ i. looked me.0 i word) (sym (share_at_place share)),
           refl,
         ),
-      )
+      ))
 
   -- ---- a steal
 
@@ -367,8 +379,8 @@ module _ (sizes : Sizes) (sound : IsSound sizes) where
   pub takes_back : (slots id share index old new : ℕ) (me : Me (Unit {0}) View)
       → me.0.owns ≡ index ∷ [] → me.0.transit ≡ [] → share < shares_of sizes
       → IsWithin sizes.units old → Pays sizes old → new ≡ packed (start_of old) (middle_of old)
-      → Allows (IsSharingOf sizes) slots id me share (λ n. either (n == old) new n)
-      (TakesBack (step slots share old new none) me)
+      → Allows (Spaced (IsSharingOf sizes)) slots id me (place_of share)
+      (λ n. either (n == old) new n) (TakesBack (step slots (place_of share) old new none) me)
   takes_back slots id share index old new me owns bare exists inner pays is =
       exchanges slots id share index old new me (took_back me.0 old) owns
       (λ s k e found. rw is (steals share index old me.0 owns bare exists inner pays s k id e
@@ -441,14 +453,16 @@ module _ (sizes : Sizes) (sound : IsSound sizes) where
       → me.0.owns ≡ index ∷ [] → me.0.empties ≡ index ∷ [] → me.0.transit ≡ units ∷ []
       → sizes.whole ≡ false → units.start < units.end → units.end ≤ sizes.units
       → index < shares_of sizes → share ≡ index → new ≡ packed units.start units.end
-      → Allows (IsSharingOf sizes) slots id me share (λ _. new)
-      (λ _. PutsDown (step slots share new 0 none) me new)
-  puts_down slots id share index units new me owns empties carries cut some_units inner exists at is
-      s k h e b = (
+      → Allows (Spaced (IsSharingOf sizes)) slots id me (place_of share) (λ _. new)
+      (λ _. PutsDown (step slots (place_of share) new 0 none) me new)
+  puts_down slots id share index units new me owns empties carries cut some_units inner exists at
+      is =
+      allows_spaced (IsSharingOf sizes) slots id me share (λ _. new)
+      (λ _. PutsDown (step slots (place_of share) new 0 none) me new) (λ s k h e b. (
         put_down me.0 share new,
         keeps,
         tt,
         rw (at, is) (fills index units me.0 owns empties carries cut some_units inner exists s k id
             e),
-        (refl, refl),
-      )
+        (ap (λ i. put_down me.0 i new) (sym (share_at_place share)), refl),
+      ))

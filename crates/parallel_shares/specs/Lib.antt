@@ -13,3 +13,4 @@ pub mod Steals
 pub mod Stretches
 pub mod Fillings
 pub mod Fronts
+pub mod Spaced

@@ -12,6 +12,7 @@ use Rattle.parallel_shares.specs.Machine.{opening_words}
 use Rattle.parallel_shares.specs.Answers.{claim_cells, middle_of, Pays}
 use Rattle.parallel_shares.specs.Holders.{inside, in_word, in_ranges}
 use Rattle.parallel_shares.specs.Totals.{total, times}
+use Rattle.parallel_shares.specs.Spaced.{share_at}
 
 -- ---- what a seat knows
 
@@ -158,7 +159,7 @@ put_down view share word =
 -- a load of the seat's own share tells a range of units
 abbrev pub LooksOwn : Step (Unit {0}) → Me (Unit {0}) View → ℕ → Me (Unit {0}) View → Type 0
 LooksOwn step before word after =
-    IsWithin before.0.plan.units word × (after.0 ≡ looked_own before.0 step.word word)
+    IsWithin before.0.plan.units word × (after.0 ≡ looked_own before.0 (share_at step.word) word)
     × (after.1 ≡ before.1)
 
 -- an exchange of a loaded word leaves its seat with one view where it finds that word, and takes
@@ -178,7 +179,7 @@ TakesFront step before word after =
 abbrev pub LooksAt : Step (Unit {0}) → Me (Unit {0}) View → ℕ → Me (Unit {0}) View → Type 0
 LooksAt step before word after =
     IsWithin before.0.plan.units word × (Pays before.0.plan word → SomeSplitPays before.0.plan)
-    × (after.0 ≡ looked before.0 step.word word) × (after.1 ≡ before.1)
+    × (after.0 ≡ looked before.0 (share_at step.word) word) × (after.1 ≡ before.1)
 
 -- an exchange takes the back half of the word that was loaded
 abbrev pub TakesBack : Step (Unit {0}) → Me (Unit {0}) View → ℕ → Me (Unit {0}) View → Type 0
@@ -187,7 +188,7 @@ TakesBack step before word after =
 
 -- a store puts what is in transit down in the seat's own share
 abbrev pub PutsDown : Step (Unit {0}) → Me (Unit {0}) View → ℕ → Me (Unit {0}) View → Type 0
-PutsDown step before word after = (after.0 ≡ put_down before.0 step.word word)
+PutsDown step before word after = (after.0 ≡ put_down before.0 (share_at step.word) word)
     × (after.1 ≡ before.1)
 
 -- ---- how seats are dealt and gathered

@@ -1,12 +1,17 @@
 //! A share of the work is a word that packs the range of the units that are left in it.
-ghost use Rattle.std.specs.Prelude.{◌≡◌, ◌≢◌, ◌+◌, ◌*◌, ◌/◌, ◌^◌, ◌<◌, ◌≤◌, ◌++◌, [], ◌∷◌, length, vec_len, vec_capacity, true, false, None, IfOk, IsFalse};
+//!
+//! Each word lies on a cache line of its own: a share takes 128 bytes, and the most shares, 65,535,
+//! take 8 MiB.
+ghost use Rattle.std.specs.Prelude.{◌≡◌, ◌≢◌, ℕ, ◌+◌, ◌*◌, ◌/◌, ◌^◌, ◌<◌, ◌≤◌, ◌++◌, [], ◌∷◌, length, slice_index, vec_len, vec_capacity, true, false, None, IfOk, IsFalse};
 ghost use Rattle.std.specs.Slots.{slots_items, slots_len, IsFull};
 ghost use Rattle.std.specs.Int.NonZero.{non_zero_usize_get};
 ghost use Rattle.parallel_shares.specs.Sizes.{Sizes, shares_of, IsSound};
 ghost use Rattle.parallel_shares.specs.Sharing.{fresh_view};
+ghost use Rattle.parallel_shares.specs.Spaced.{place_of};
 ghost use Rattle.parallel_fault.specs.Trouble.{IsMemoryOnErr};
 
 mod claim;
+mod lines;
 mod rule;
 mod run;
 mod seat;
@@ -15,6 +20,7 @@ mod stretch;
 
 use crate::machine::{Plan, opening_words};
 use atomic_table::{Closed, Table};
+use lines::{place_of, spaced_words};
 use parallel_fault::Fault;
 pub use rule::View;
 use rule::{Deal, Gather, LookOwn, Partition, TakeFront};
@@ -53,13 +59,13 @@ pub struct Shares {
     last: Vec<u64>,
     ghost sound: { IsSound plan },
     ghost key: { table.shared.key ≡ plan },
-    ghost words: { table.shared.table_id.words ≡ shares_of plan },
+    ghost words: { table.shared.table_id.words ≡ shares_of plan * 16 },
     ghost no_slots: { table.shared.table_id.slots ≡ 0 },
     ghost room: { (vec_len last ≡ 0) × (shares_of plan ≤ vec_capacity last) },
 }
 
 impl Shares {
-    ghost use Rattle.std.specs.Prelude.{ℕ, replicate, slice_index};
+    ghost use Rattle.std.specs.Prelude.{replicate};
     ghost use Rattle.parallel_shares.specs.Sizes.{sizes_for, share_of};
     ghost use Rattle.parallel_shares.specs.Words.{IsWithin, IsEmptyWord, packed, end_of};
     ghost use Rattle.parallel_shares.specs.Machine.{opening_words};
@@ -100,7 +106,8 @@ impl Shares {
         let plan = Plan::new(rows, len, tile_cost, workers, whole);
         let words = opening_words(alloc, &plan)?;
         let last = Vec::with_capacity(alloc, words.len())?;
-        let (table, first) = Table::of_words(alloc, &words, &plan)?;
+        let all = spaced_words(alloc, &words)?;
+        let (table, first) = Table::of_words(alloc, &all, &plan)?;
         let shares = Shares::over(table, plan, last);
         let seats = shares.deal(alloc, first)?;
         Ok((shares, seats))
@@ -110,7 +117,7 @@ impl Shares {
     fn over(table: Table<(), View, Plan, Partition, Global>, plan: Plan, last: Vec<u64>) -> Shares
         requires sound { IsSound plan }
         requires key { table.shared.key ≡ plan }
-        requires words { table.shared.table_id.words ≡ shares_of plan }
+        requires words { table.shared.table_id.words ≡ shares_of plan * 16 }
         requires no_slots { table.shared.table_id.slots ≡ 0 }
         requires room { (vec_len last ≡ 0) × (shares_of plan ≤ vec_capacity last) }
         ensures { (result.table ≡ table) × (result.plan ≡ plan) }
@@ -254,8 +261,8 @@ impl Shares {
             (own_share self.now seat.old) result }
         ensures emptied { LoadsOwn result seat.old seat.new }
     {
-        let share = self.plan.share_of(seat.index);
-        let word = self.table.shared.load::<LookOwn>(&mut seat.seat, share);
+        let place = self.own_place(seat);
+        let word = self.table.shared.load::<LookOwn>(&mut seat.seat, place);
         let (start, end) = unpack(word);
         seat.own_empty = seat.own_empty || start == end;
         word
@@ -273,23 +280,26 @@ impl Shares {
         ensures emptied { has_emptied seat.new ≡ has_emptied seat.old }
         ensures met { MeetsFront word (known seat.old) result (known seat.new) }
     {
-        let share = self.plan.share_of(seat.index);
+        let place = self.own_place(seat);
         self.table
             .shared
-            .compare_exchange::<TakeFront>(&mut seat.seat, share, word, next)
+            .compare_exchange::<TakeFront>(&mut seat.seat, place, word, next)
     }
 }
 
-// The words of a closed table, in a list with room for them.
+// The words that are used of a closed table, in a list with room for them.
 fn final_words(closed: &Closed<(), Global>, count: usize, mut last: Vec<u64>) -> Vec<u64>
     requires full { IsFull closed.now.words }
-    requires count { length (slots_items closed.now.words) ≡ count }
-    requires there { slots_len closed.now.words ≡ count }
+    requires few { count ≤ 65535 }
+    requires there { slots_len closed.now.words ≡ count * 16 }
     requires room { (vec_len last ≡ 0) × (count ≤ vec_capacity last) }
-    ensures { result.items ≡ slots_items closed.now.words }
+    ensures count { vec_len result ≡ count }
+    ensures length { length result.items ≡ count }
+    ensures each { (share : ℕ) → share < count → slice_index result.items share
+        ≡ slice_index (slots_items closed.now.words) (place_of share) }
 {
     for share in 0..count {
-        last.push_reserved(closed.word(share));
+        last.push_reserved(closed.word(place_of(share)));
     }
     last
 }

@@ -31,13 +31,15 @@ pub struct View {
     pub plan: Plan,
 }
 
-/// Each cell is in one place: in a word, in transit or in a claim. `IsSharingOf` says it whole.
+/// Each cell is in one place: in a word, in transit or in a claim. `IsSharingOf` says it whole, of
+/// the words that are used (`Spaced`).
 pub struct Partition;
 
 impl TableRule<(), View, Plan> for Partition {
     ghost use Rattle.parallel_shares.specs.Sharing.{IsSharingOf, undealt};
+    ghost use Rattle.parallel_shares.specs.Spaced.{Spaced};
 
-    ghost holds = { IsSharingOf };
+    ghost holds = { λ sizes. Spaced (IsSharingOf sizes) };
 
     ghost first = { λ sizes. undealt sizes 0 };
 }

@@ -96,7 +96,7 @@ fn fill_claim<T, R: Drop, L: Fn(&mut T, usize, Range<usize>), N: Fn(&mut T, usiz
     let mut opened = opened;
     let mut at = claim.start;
     while at < claim.end {
-        let piece = front(at, claim.end, len);
+        let piece = front(opened, at, claim.end, len);
         opened = Some(fill_piece(results, opened, piece, state, fill, finish)?);
         at += piece.end - piece.start;
     }

@@ -76,11 +76,11 @@ impl Shares {
         let Some(units) = seat.in_transit() else {
             unreachable!()
         };
-        let share = self.plan.share_of(seat.index);
+        let place = self.own_place(seat);
         let word = pack(units.start, units.end);
         self.table
             .shared
-            .store::<PutDown>(&mut seat.seat, share, word);
+            .store::<PutDown>(&mut seat.seat, place, word);
         seat.transit = None;
         seat.own_empty = false;
     }
@@ -120,7 +120,8 @@ impl Shares {
         ensures splits { Pays (plan_of self.now) result → SomeSplitPays (plan_of self.now) }
         ensures view { known seat.new ≡ looked (known seat.old) share result }
     {
-        self.table.shared.load::<LookAt>(&mut seat.seat, share)
+        let place = self.place(share);
+        self.table.shared.load::<LookAt>(&mut seat.seat, place)
     }
 
     // Tries to exchange the victim's word for its front half, and answers the word that was met.
@@ -140,10 +141,11 @@ impl Shares {
         let (start, end) = unpack(victim.word);
         let middle = start + (end - start) / 2;
         let next = pack(start, middle);
+        let place = self.place(victim.share);
         let found = self
             .table
             .shared
-            .compare_exchange::<TakeBack>(&mut seat.seat, victim.share, victim.word, next);
+            .compare_exchange::<TakeBack>(&mut seat.seat, place, victim.word, next);
         if found == victim.word {
             seat.transit = Some(middle..end);
         }

@@ -59,7 +59,7 @@ fn add_claim(
     let mut opened = opened;
     let mut at = claim.start;
     while at < claim.end {
-        let piece = front(at, claim.end, len);
+        let piece = front(opened, at, claim.end, len);
         opened = Some(add(found, opened, piece)?);
         at += piece.end - piece.start;
     }
@@ -95,20 +95,36 @@ fn close(found: &mut Vec<Stretch>, opened: Option<Piece>) -> Result<(), Fault>
 }
 
 /// The cells from `start` up to `end`, as far as the row goes on in which they start.
-pub(super) fn front(start: usize, end: usize, len: usize) -> Piece
+pub(super) fn front(opened: Option<Piece>, start: usize, end: usize, len: usize) -> Piece
     requires some { start < end }
     requires wide { len ≢ 0 }
     ensures piece { IsPiece len result }
     ensures start { result.row * len + result.start ≡ start }
     ensures within { result.end - result.start ≤ end - start }
 {
-    let column = start % len;
+    let (row, column) = row_and_column(opened, start, len);
     let width = (len - column).min(end - start);
     Piece {
-        row: start / len,
+        row,
         start: column,
         end: column + width,
     }
+}
+
+// The row and the column of a cell: where the open stretch ends, if that is there, else by division.
+fn row_and_column(opened: Option<Piece>, cell: usize, len: usize) -> (usize, usize)
+    requires { len ≢ 0 }
+    ensures column { result.1 < len }
+    ensures cell { result.0 * len + result.1 ≡ cell }
+{
+    if let Some(open) = opened
+        && open.end < len
+        && open.end <= cell
+        && open.row.checked_mul(len) == Some(cell - open.end)
+    {
+        return (open.row, open.end);
+    }
+    (cell / len, cell % len)
 }
 
 /// The open stretch with the piece behind it, where the piece goes on in the row and column at

@@ -1,5 +1,5 @@
 -- Each seat gets the next number of the first view, and the last seat is what is left of it.
-use Rattle.parallel_shares.proofs.{◌≡◌, ◌+◌, ◌-◌, ◌<◌, ◌∷◌, [], ◌∙◌, ap, arith, fresh_view, undealt, dealt_from, dealt, some_shares, splits, rest_dealt}
+use Rattle.parallel_shares.proofs.{◌≡◌, ◌+◌, ◌-◌, ◌<◌, ◌∷◌, [], ◌∙◌, ap, arith, fresh_view, undealt, dealt_from, dealt, IsSharingOf, some_shares, splits, splits_spaced, rest_dealt}
 use Rattle.parallel_shares.proofs.{first_dealt, last_left, is_seat, is_fresh, Dealt, dealt_none, dealt_more, all_dealt}
 use Rattle.parallel_shares.proofs.shares.Shares.deal.Goals as goal
 use Rattle.parallel_shares.proofs.shares.Shares.deal.Goals.{In_ok-push-2}
@@ -14,11 +14,13 @@ loop-index-init c = record {
 pub split_seat-seat-requires : goal.split_seat-seat-requires
 split_seat-seat-requires c =
     let shares = c.args.self.now in
-    let view = ap (λ m. m.0) c.loop-index.invariant.view in (
+    let view = ap (λ m. m.0) c.loop-index.invariant.view in
+    let left = undealt shares.plan c.loop-index.index in (
       c.loop-index.invariant.table,
       omega (arith, shares.words, some_shares shares.plan shares.sound),
-      rw (shares.key, view) (splits shares.plan shares.sound c.loop-index.first.id
-          c.loop-index.index),
+      rw (shares.key, view) (splits_spaced (IsSharingOf shares.plan) c.loop-index.first.id left
+          (dealt_from left) (dealt left) (splits shares.plan shares.sound c.loop-index.first.id
+          c.loop-index.index)),
     )
 
 pub seated-requires : goal.seated-requires

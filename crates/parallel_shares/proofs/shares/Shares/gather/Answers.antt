@@ -1,5 +1,5 @@
 -- Each seat that is taken in adds what it has.
-use Rattle.parallel_shares.proofs.{rules, ◌∙◌, ap, subst, sym, arith, IsSeatOf, some_shares, joins, Gathering, gathers_one, gathers_more, each_left, the_last}
+use Rattle.parallel_shares.proofs.{rules, ◌∙◌, ap, subst, sym, arith, IsSeatOf, IsSharingOf, gathered, spent, some_shares, joins, joins_spaced, Gathering, gathers_one, gathers_more, each_left, the_last}
 use Rattle.parallel_shares.proofs.shares.Shares.gather.Goals as goal
 
 pub loop-seat-init : goal.loop-seat-init
@@ -26,8 +26,10 @@ join_seat-requires c =
       last.table,
       x.no_slots,
       omega (arith, shares.words, some_shares shares.plan shares.sound),
-      rw shares.key (joins shares.plan shares.sound c.loop-seat.all.id x.seat.id
-          c.loop-seat.all.me.0 x.seat.me.0),
+      rw shares.key (joins_spaced (IsSharingOf shares.plan) c.loop-seat.all.id
+          c.loop-seat.all.me.0 x.seat.id x.seat.me.0 (gathered c.loop-seat.all.me.0 x.seat.me.0)
+          spent (joins shares.plan shares.sound c.loop-seat.all.id x.seat.id
+          c.loop-seat.all.me.0 x.seat.me.0)),
     )
 
 pub loop-seat-preserved : goal.loop-seat-preserved

@@ -7,7 +7,8 @@ load-requires c =
     let shares = c.args.self.now in
     let seat = c.args.seat.now in (
       c.requires.belongs.table,
-      omega (arith, shares.words, c.requires.exists),
-      rw shares.key (looks_at shares.plan shares.sound shares.table.shared.table_id.slots
-          seat.seat.id c.args.share seat.index seat.seat.me c.requires.belongs.plan seat.owns),
+      omega (arith, shares.words, c.place-place.ensures, c.requires.exists),
+      rw (shares.key, c.place-place.ensures) (looks_at shares.plan shares.sound
+          shares.table.shared.table_id.slots seat.seat.id c.args.share seat.index seat.seat.me
+          c.requires.belongs.plan seat.owns),
     )

@@ -15,12 +15,13 @@ store-requires c =
     let exists : seat.index < shares_of plan =
     subst (λ n. n < shares_of plan) own (share_exists plan seat.index asks.index) in (
       asks.table,
-      omega (arith, shares.words, c.share_of-share.ensures, own, exists),
-      rw shares.key (puts_down plan shares.sound shares.table.shared.table_id.slots seat.seat.id
-          c.share_of-share.result seat.index units c.pack-word.result seat.seat.me seat.owns
+      omega (arith, shares.words, c.own_place-place.ensures, own, exists),
+      rw (shares.key, c.own_place-place.ensures) (puts_down plan shares.sound
+          shares.table.shared.table_id.slots seat.seat.id (share_of plan seat.index) seat.index
+          units c.pack-word.result seat.seat.me seat.owns
           (seat.empties ∙ ap (λ b. cond b (seat.index ∷ []) []) carried.2)
-          (seat.carries ∙ ap ranges_of transit) carried.3 carried.0 carried.1 exists
-          (c.share_of-share.ensures ∙ own) c.pack-word.ensures),
+          (seat.carries ∙ ap ranges_of transit) carried.3 carried.0 carried.1 exists own
+          c.pack-word.ensures),
     )
 
 pub returns-clause-stored : goal.returns-clause-stored
