@@ -1,9 +1,8 @@
 -- What follows for ranges that cut a line of indices, and for balanced ones.
 use Rattle.parallel_shares.proofs.Common.{flat_map, range_with_len, zero, add-zero, zero-add, ◌∙◌, ◌≡◌, ℕ, suc, ◌+◌, ◌-◌, ◌*◌, ◌/◌, ◌<◌, ◌≤◌, inl, inr, List, [], ◌∷◌, ◌++◌, length, All, refl, sym, ap}
 use Rattle.parallel_shares.proofs.Common.{subst, arith, sum_by, All-nil, All-cons, All-head, All-tail, All-weaker, cases_lt, le-div, Range, range_length, CutsFrom, IsEven, BalancedCut}
-use Rattle.std.proofs.lemmas.List.Sums.{sum_by-cons, sum_by-le}
-use Rattle.std.proofs.Math.Nat.{div-eq_of_lt-le, div-mul-le_self, mul-le-mul_left, mul-le-mul_right}
-use Rattle.std.proofs.Props.{props}
+use Rattle.std.proofs.lemmas.List.Sums.{sum_by-cons}
+use Rattle.std.proofs.Math.Nat.{div-eq_of_lt-le, div-mul-le_self, mul-le-mul_right}
 
 -- two cuts, the second from where the first ends, are one cut
 pub CutsFrom-append : (from middle to : ℕ) (rs ss : List (Range ℕ)) → CutsFrom from rs middle
@@ -27,39 +26,12 @@ CutsFrom-ordered from to (r ∷ rs) cuts =
     let rest = CutsFrom-ordered r.end to rs cuts.2 in
     omega arith
 
--- the range lies within a cut
-abbrev pub IsWithin : ℕ → ℕ → Range ℕ → Type 0
-IsWithin from to r = (from ≤ r.start) × (r.start ≤ r.end) × (r.end ≤ to)
-
--- each range of a cut lies within it
-pub CutsFrom-within : (from to : ℕ) (rs : List (Range ℕ)) → CutsFrom from rs to
-    → All (IsWithin from to) rs
-CutsFrom-within from to [] cuts = All-nil (IsWithin from to)
-CutsFrom-within from to (r ∷ rs) cuts =
-    let rest = CutsFrom-ordered r.end to rs cuts.2 in
-    let first : IsWithin from to r = (omega arith, cuts.1, rest) in
-    All-cons (IsWithin from to) r rs first
-    (All-weaker (IsWithin r.end to) (IsWithin from to) (λ s h. (omega arith, h.1, h.2)) rs
-    (CutsFrom-within r.end to rs cuts.2))
-
 -- the lengths of a cut's ranges add up to the number of its indices
 pub CutsFrom-sum : (from to : ℕ) (rs : List (Range ℕ)) → CutsFrom from rs to
     → from + sum_by range_length rs ≡ to
 CutsFrom-sum from to [] cuts = omega (arith, cuts)
 CutsFrom-sum from to (r ∷ rs) cuts =
     omega (arith, sum_by-cons range_length r rs, CutsFrom-sum r.end to rs cuts.2)
-
--- each range ends at or before the number of indices
-pub BalancedCut-ends : (len : ℕ) (rs : List (Range ℕ)) → BalancedCut len rs
-    → All (λ r. r.end ≤ len) rs
-BalancedCut-ends len rs cut =
-    All-weaker (IsWithin 0 len) (λ r. r.end ≤ len) (λ r h. h.2) rs (CutsFrom-within 0 len rs cut.0)
-
--- each range begins at or before its end
-pub BalancedCut-ordered : (len : ℕ) (rs : List (Range ℕ)) → BalancedCut len rs
-    → All (λ r. r.start ≤ r.end) rs
-BalancedCut-ordered len rs cut = All-weaker (IsWithin 0 len) (λ r. r.start ≤ r.end) (λ r h. h.1) rs
-    (CutsFrom-within 0 len rs cut.0)
 
 -- the second range has no more indices than the first, and at most one less
 abbrev IsLaterOf : Range ℕ → Range ℕ → Type 0
@@ -72,11 +44,6 @@ IsEven-head r rs even = λ k d within. even 0 (suc k) d (omega arith) (omega ari
 -- the ranges behind the first are even
 IsEven-tail : (r : Range ℕ) (rs : List (Range ℕ)) → IsEven (r ∷ rs) → IsEven rs
 IsEven-tail r rs even = λ i j d before within. even (suc i) (suc j) d (omega arith) (omega arith)
-
--- one range from 0 up to the number of indices is a balanced cut
-pub BalancedCut-whole : (r : Range ℕ) → r.start ≡ 0 → BalancedCut r.end (r ∷ [])
-BalancedCut-whole r starts =
-    ((starts, omega arith, refl), λ i j d before within. absurd (omega arith))
 
 -- ranges that each have at least m indices
 sum_by-at_least : (m : ℕ) (rs : List (Range ℕ)) → All (λ r. m ≤ range_length r) rs
@@ -91,21 +58,6 @@ sum_by-at_least m (r ∷ rs) all =
       longer,
       sum_by-cons range_length r rs,
       sum_by-at_least m rs (All-tail (λ s. m ≤ range_length s) r rs all),
-    )
-
--- ranges that each have at least one index less than m
-sum_by-almost : (m : ℕ) (rs : List (Range ℕ)) → All (λ r. m ≤ range_length r + 1) rs
-    → length rs * m ≤ sum_by range_length rs + length rs
-sum_by-almost m [] all = omega arith
-sum_by-almost m (r ∷ rs) all =
-    let first : m ≤ range_length r + 1 = All-head (λ s. m ≤ range_length s + 1) r rs all in
-    let longer : length (r ∷ rs) * m ≡ (length rs + 1) * m = ap (λ n. n * m) (omega arith) in
-    omega (
-      arith,
-      first,
-      longer,
-      sum_by-cons range_length r rs,
-      sum_by-almost m rs (All-tail (λ s. m ≤ range_length s + 1) r rs all),
     )
 
 -- the range has `shorter` indices or one more
@@ -175,12 +127,6 @@ pub BalancedCut-at_least : (len : ℕ) (rs : List (Range ℕ)) → BalancedCut l
 BalancedCut-at_least len rs cut some = All-weaker (IsNear (len / length rs))
     (λ r. len / length rs ≤ range_length r) (λ r h. h.0) rs (BalancedCut-near len rs cut some)
 
--- each range has at most one index more than its share
-pub BalancedCut-at_most : (len : ℕ) (rs : List (Range ℕ)) → BalancedCut len rs → 0 < length rs
-    → All (λ r. range_length r ≤ len / length rs + 1) rs
-BalancedCut-at_most len rs cut some = All-weaker (IsNear (len / length rs))
-    (λ r. range_length r ≤ len / length rs + 1) (λ r h. h.1) rs (BalancedCut-near len rs cut some)
-
 -- no more ranges than the indices have room for: none is shorter than the minimum
 pub BalancedCut-minimum : (len minimum : ℕ) (rs : List (Range ℕ)) → BalancedCut len rs
     → length rs * minimum ≤ len → All (λ r. minimum ≤ range_length r) rs
@@ -197,67 +143,6 @@ pub BalancedCut-minimum_share : (len minimum : ℕ) (rs : List (Range ℕ)) → 
 BalancedCut-minimum_share len minimum rs cut few =
     let room : length rs * minimum ≤ len / minimum * minimum = mul-le-mul_right minimum few in
     BalancedCut-minimum len minimum rs cut (omega (arith, div-mul-le_self len minimum))
-
--- even ranges have no more indices than if all were as long as the first, and no fewer than if the
--- others were shorter by one
-IsEven-sum : (r : Range ℕ) (rs : List (Range ℕ)) → IsEven (r ∷ rs)
-    → (sum_by range_length (r ∷ rs) ≤ length (r ∷ rs) * range_length r)
-    × (length (r ∷ rs) * range_length r ≤ sum_by range_length (r ∷ rs) + length rs)
-IsEven-sum r rs even =
-    let apart = IsEven-head r rs even in
-    let longer : length (r ∷ rs) * range_length r ≡ (length rs + 1) * range_length r =
-    ap (λ n. n * range_length r) (omega arith) in
-    let most = sum_by-le range_length (range_length r) rs
-    (All-weaker (IsLaterOf r) (λ s. range_length s ≤ range_length r) (λ s h. h.0) rs apart) in
-    let least = sum_by-almost (range_length r) rs
-    (All-weaker (IsLaterOf r) (λ s. range_length r ≤ range_length s + 1) (λ s h. h.1) rs apart)
-    in
-    let first = sum_by-cons range_length r rs in
-    (omega (arith, longer, most, first), omega (arith, longer, least, first))
-
--- a sum and a number of terms settle the greatest of terms that differ by at most one
-greatest_once : (n a b total : ℕ) → 0 < n → total ≤ n * a → n * b ≤ total + n - 1 → b ≤ a
-greatest_once n a b total some most least =
-    elim (cases_lt a b) [
-      | inl less ↦ let far : n * (a + 1) ≤ n * b =
-          mul-le-mul_left n (omega arith) in absurd (omega arith)
-      | inr more ↦ more
-    ]
-
--- two even cuts of the same indices into as many ranges are the same
-CutsFrom-unique : (from to : ℕ) (rs ss : List (Range ℕ)) → CutsFrom from rs to → CutsFrom from ss to
-    → IsEven rs → IsEven ss → length rs ≡ length ss → rs ≡ ss
-CutsFrom-unique from to [] [] cut other even also same = refl
-CutsFrom-unique from to [] (s ∷ ss) cut other even also same = absurd (omega (arith, same))
-CutsFrom-unique from to (r ∷ rs) [] cut other even also same = absurd (omega (arith, same))
-CutsFrom-unique from to (r ∷ rs) (s ∷ ss) cut other even also same =
-    let one = IsEven-sum r rs even in
-    let two = IsEven-sum s ss also in
-    let total = CutsFrom-sum from to (r ∷ rs) cut in
-    let again = CutsFrom-sum from to (s ∷ ss) other in
-    let n = length (r ∷ rs) in
-    let turned : length (s ∷ ss) * range_length s ≡ n * range_length s =
-    ap (λ k. k * range_length s) (sym same) in
-    let tails : length rs ≡ length ss = omega (arith, same) in
-    let below : range_length s ≤ range_length r = greatest_once n (range_length r) (range_length s)
-    (sum_by range_length (r ∷ rs)) (omega arith) one.0
-    (omega (arith, two.1, turned, total, again, tails)) in
-    let above : range_length r ≤ range_length s = greatest_once n (range_length s) (range_length r)
-    (sum_by range_length (r ∷ rs)) (omega arith) (omega (arith, two.0, turned, total, again))
-    (omega (arith, one.1)) in
-    let starts : r.start ≡ s.start = cut.0 ∙ sym other.0 in
-    let ends : r.end ≡ s.end = omega (arith, starts, below, above, cut.1, other.1) in
-    let first : r ≡ s = λ i. record { start = starts i; end = ends i } in
-    let P : ℕ → Type 0 = λ n. CutsFrom n ss to in
-    let rest : rs ≡ ss = CutsFrom-unique r.end to rs ss cut.2 (subst P (sym ends) other.2)
-    (IsEven-tail r rs even) (IsEven-tail s ss also) tails in
-    λ i. first i ∷ rest i
-
--- the number of indices and the number of ranges settle a balanced cut
-pub BalancedCut-unique : (len : ℕ) (rs ss : List (Range ℕ)) → BalancedCut len rs
-    → BalancedCut len ss → length rs ≡ length ss → rs ≡ ss
-BalancedCut-unique len rs ss cut other same =
-    CutsFrom-unique 0 len rs ss cut.0 other.0 cut.1 other.1 same
 
 -- a range's indices
 abbrev pub indices_of : Range ℕ → List ℕ
@@ -297,12 +182,3 @@ pub BalancedCut-indices : (len : ℕ) (rs : List (Range ℕ)) → BalancedCut le
     → flat_map indices_of rs ≡ range_with_len 0 len
 BalancedCut-indices len rs cut = CutsFrom-indices 0 len rs cut.0
     ∙ ap (λ n. range_with_len 0 n) (omega arith)
-
--- ranges are a cut in one way alone
-pub CutsFrom-prop : (from : ℕ) (rs : List (Range ℕ)) (to : ℕ) → IsProp (CutsFrom from rs to)
-CutsFrom-prop from [] to = hlevel props
-CutsFrom-prop from (r ∷ rs) to = let rest = CutsFrom-prop r.end rs to in hlevel (props, rest)
-
--- ranges are a balanced cut in one way alone, as a ghost field asks
-pub BalancedCut-prop : (len : ℕ) (rs : List (Range ℕ)) → IsProp (BalancedCut len rs)
-BalancedCut-prop len rs = let cuts = CutsFrom-prop 0 rs len in hlevel (props, cuts)
