@@ -5,7 +5,9 @@ mod balanced;
 pub mod grid;
 pub mod machine;
 pub mod shares;
+mod word;
 
 pub use balanced::cut;
 pub use grid::Grid;
-pub use shares::{Seat, Shares, Stretch, Tried, pack, stretches, unpack};
+pub use shares::{Seat, Shares, Stretch, Tried, stretches};
+pub use word::{pack, unpack};

@@ -19,6 +19,8 @@ mod steal;
 mod stretch;
 
 use crate::machine::{Plan, opening_words};
+use crate::word::is_empty;
+pub use crate::word::{pack, unpack};
 use atomic_table::{Closed, Table};
 use lines::{place_of, spaced_words};
 use parallel_fault::Fault;
@@ -28,28 +30,6 @@ pub use seat::{Seat, Tried};
 use std::alloc::Global;
 use std::num::NonZeroUsize;
 pub use stretch::{Stretch, stretches};
-
-/// Packs a range of units into a word: `start * 65536 + end`.
-///
-/// Both ends are at most 65535.
-pub fn pack(start: usize, end: usize) -> u64
-    requires start_fits { start ≤ 65535 }
-    requires end_fits { end ≤ 65535 }
-    ensures { result ≡ start * 65536 + end }
-{
-    (start * 65536 + end) as u64
-}
-
-/// The start and the end of the range of units that `pack` packed into the word.
-pub fn unpack(word: u64) -> (usize, usize)
-    requires { word ≤ 4294967295 }
-    ensures start_fits { result.0 ≤ 65535 }
-    ensures end_fits { result.1 ≤ 65535 }
-    ensures packed { word ≡ result.0 * 65536 + result.1 }
-{
-    let word = word as usize;
-    (word / 65536, word % 65536)
-}
 
 /// The cells of a grid, shared out among seats, over words that change in single atomic steps.
 #[derive(Drop)]
@@ -195,13 +175,11 @@ impl Shares {
             (own_word self.now seat.new) seat.old result seat.new }
     {
         let word = self.look_own(seat);
-        let (start, end) = unpack(word);
-        if start == end {
+        let Some((cells, left)) = self.plan.claim_from(word) else {
             return Tried::Empty;
-        }
-        let stop = start + self.plan.claim().min(end - start);
-        if self.take_front(seat, word, pack(stop, end)) == word {
-            Tried::Claimed(self.plan.cells_of(start, stop))
+        };
+        if self.take_front(seat, word, left) == word {
+            Tried::Claimed(cells)
         } else {
             Tried::Lost
         }
@@ -263,8 +241,7 @@ impl Shares {
     {
         let place = self.own_place(seat);
         let word = self.table.shared.load::<LookOwn>(&mut seat.seat, place);
-        let (start, end) = unpack(word);
-        seat.own_empty = seat.own_empty || start == end;
+        seat.own_empty = seat.own_empty || is_empty(word);
         word
     }
 

@@ -2,7 +2,7 @@
 ghost use Rattle.std.specs.Prelude.{◌≡◌, ◌≢◌, ◌+◌, ◌*◌, ◌/◌, ◌%◌, ◌^◌, ◌<◌, ◌≤◌, ◌-◌, ◌↔◌, IfSome, IfNone, IsFalse, IsTrue};
 ghost use Rattle.std.specs.Int.NonZero.{non_zero_usize_get};
 
-use crate::shares::unpack;
+use crate::word::{back, front, is_empty, unpack};
 use std::marker::Model;
 use std::num::NonZeroUsize;
 use std::ops::Range;
@@ -51,8 +51,8 @@ impl Model for Plan {
 
 impl Plan {
     ghost use Rattle.parallel_shares.specs.Sizes.{Sizes, sizes_for, shares_of, share_of, cells_to, opening_size, IsSound};
-    ghost use Rattle.parallel_shares.specs.Words.{IsWithin, IsEmptyWord};
-    ghost use Rattle.parallel_shares.specs.Answers.{cells_in, middle_of, Pays};
+    ghost use Rattle.parallel_shares.specs.Words.{start_of, end_of, packed, IsWithin, IsEmptyWord};
+    ghost use Rattle.parallel_shares.specs.Answers.{claim_stop, claim_cells, cells_in, middle_of, Pays};
 
     /// The plan for `rows` rows of `len` cells each, where a tile costs `tile_cost` cells and there
     /// are at most `workers` workers.
@@ -209,20 +209,39 @@ impl Plan {
         cells.end - cells.start
     }
 
-    /// Where a word is split, or None where its split does not pay.
-    pub(crate) fn split(&self, word: u64) -> Option<usize>
+    /// The cells that a claim takes of a word, and the word that it leaves, or None where no unit is
+    /// left.
+    pub(crate) fn claim_from(&self, word: u64) -> Option<(Range<usize>, u64)>
         requires { IsWithin self.now.units word }
-        ensures pays { IfSome result (λ middle. (middle ≡ middle_of word) × Pays self.now word) }
-        ensures not { IfNone result (¬ Pays self.now word) }
+        ensures some { IfSome result (λ taken. (¬ IsEmptyWord word)
+            × (taken.0 ≡ claim_cells self.now word)
+            × (taken.1 ≡ packed (claim_stop self.now word) (end_of word))) }
+        ensures none { IfNone result (IsEmptyWord word) }
+    {
+        if is_empty(word) {
+            return None;
+        }
+        let (units, left) = front(word, self.claim);
+        Some((self.cells_of(units.start, units.end), left))
+    }
+
+    /// The units that a steal takes of a word, and the word that it leaves, or None where the word's
+    /// split does not pay.
+    pub(crate) fn steal_from(&self, word: u64) -> Option<(Range<usize>, u64)>
+        requires { IsWithin self.now.units word }
+        ensures some { IfSome result (λ taken. Pays self.now word
+            × (taken.0 ≡ record { start = middle_of word; end = end_of word })
+            × (taken.1 ≡ packed (start_of word) (middle_of word))) }
+        ensures none { IfNone result (¬ Pays self.now word) }
     {
         let (start, end) = unpack(word);
         if end - start < 2 {
             return None;
         }
-        let middle = start + (end - start) / 2;
-        let back = self.cells_of(middle, end);
-        if back.end - back.start > self.split_cost {
-            Some(middle)
+        let (units, left) = back(word);
+        let cells = self.cells_of(units.start, units.end);
+        if cells.end - cells.start > self.split_cost {
+            Some((units, left))
         } else {
             None
         }

@@ -5,7 +5,7 @@ ghost use Rattle.parallel_shares.specs.Machine.{opening_words, fresh};
 ghost use Rattle.parallel_fault.specs.Trouble.{IsMemoryOnErr};
 
 use super::plan::Plan;
-use crate::shares::pack;
+use crate::word::pack;
 use parallel_fault::Fault;
 use std::alloc::Global;
 use std::marker::Model;

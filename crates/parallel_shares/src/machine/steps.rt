@@ -1,6 +1,5 @@
 //! One event on a state: what it answers, and what it changes.
-ghost use Rattle.std.specs.Prelude.{◌≡◌, ◌≤◌, ◌↔◌, Ok, IfOk, OnErr, IsTrue};
-ghost use Rattle.parallel_shares.specs.Words.{IsEmptyWord};
+ghost use Rattle.std.specs.Prelude.{◌≡◌, Ok, IfOk, OnErr};
 ghost use Rattle.parallel_shares.specs.Machine.{IsStateOf};
 ghost use Rattle.parallel_shares.specs.Answers.{Answers, AddsClaim, LoadAnswers, ClaimAnswers, StealAnswers, RefillAnswers};
 ghost use Rattle.parallel_shares.specs.Holders.{StepsByMoves};
@@ -12,7 +11,7 @@ use super::event::{Event, Outcome};
 use super::plan::Plan;
 use super::rows::{Remembered, Rows};
 use super::state::State;
-use crate::shares::{pack, unpack};
+use crate::word::{is_empty, pack};
 use parallel_fault::Fault;
 
 /// Takes one event on a state, which keeps the plan that it was made for.
@@ -90,20 +89,17 @@ fn claim(plan: &Plan, rows: &mut Rows, seat: usize) -> Result<Outcome, Fault>
     if load.share != own {
         return Ok(Outcome::Refused);
     }
-    let (start, end) = unpack(load.word);
-    if start == end {
+    let Some((cells, left)) = plan.claim_from(load.word) else {
         rows.forget(seat);
         return Ok(Outcome::Empty);
-    }
+    };
     if rows.word(own) != load.word {
         rows.forget(seat);
         return Ok(Outcome::Lost);
     }
-    let stop = start + plan.claim().min(end - start);
-    let cells = plan.cells_of(start, stop);
     rows.gain(seat, cells.start..cells.end)?;
     rows.forget(seat);
-    rows.store(own, pack(stop, end));
+    rows.store(own, left);
     Ok(Outcome::Claimed(cells))
 }
 
@@ -119,7 +115,7 @@ fn steal(plan: &Plan, rows: &mut Rows, seat: usize) -> Outcome
     if load.share == own || rows.carried(seat).is_some() || !is_empty(rows.word(own)) {
         return Outcome::Refused;
     }
-    let Some(middle) = plan.split(load.word) else {
+    let Some((units, left)) = plan.steal_from(load.word) else {
         rows.forget(seat);
         return Outcome::Nothing;
     };
@@ -127,11 +123,10 @@ fn steal(plan: &Plan, rows: &mut Rows, seat: usize) -> Outcome
         rows.forget(seat);
         return Outcome::Lost;
     }
-    let (start, end) = unpack(load.word);
     rows.forget(seat);
-    rows.carry(seat, Some(middle..end));
-    rows.store(load.share, pack(start, middle));
-    Outcome::Taken(middle..end)
+    rows.carry(seat, Some(units.start..units.end));
+    rows.store(load.share, left);
+    Outcome::Taken(units)
 }
 
 /// A seat stores what it has in transit into its own empty share.
@@ -150,13 +145,4 @@ fn refill(plan: &Plan, rows: &mut Rows, seat: usize) -> Outcome
     rows.carry(seat, None);
     rows.store(own, word);
     Outcome::Refilled(word)
-}
-
-/// Whether no unit is left in a word.
-fn is_empty(word: u64) -> bool
-    requires { word ≤ 4294967295 }
-    ensures { IsTrue result ↔ IsEmptyWord word }
-{
-    let (start, end) = unpack(word);
-    start == end
 }

@@ -5,10 +5,11 @@ ghost use Rattle.parallel_shares.specs.Words.{IsWithin, packed};
 ghost use Rattle.parallel_shares.specs.Answers.{Pays};
 ghost use Rattle.parallel_shares.specs.Steals.{IsBetter, IsNoBetter};
 
+use super::Shares;
 use super::rule::{LookAt, PutDown, TakeBack};
 use super::seat::{Seat, Tried};
-use super::{Shares, pack, unpack};
 use crate::machine::Plan;
+use crate::word::{back, pack};
 
 /// A share, and the word that was loaded there.
 #[derive(Clone, Copy)]
@@ -138,16 +139,14 @@ impl Shares {
         ensures emptied { has_emptied seat.new ≡ has_emptied seat.old }
         ensures met { MeetsBack victim.word seat.old result seat.new }
     {
-        let (start, end) = unpack(victim.word);
-        let middle = start + (end - start) / 2;
-        let next = pack(start, middle);
+        let (units, next) = back(victim.word);
         let place = self.place(victim.share);
         let found = self
             .table
             .shared
             .compare_exchange::<TakeBack>(&mut seat.seat, place, victim.word, next);
         if found == victim.word {
-            seat.transit = Some(middle..end);
+            seat.transit = Some(units);
         }
         found
     }
@@ -161,7 +160,7 @@ fn is_better(plan: &Plan, best: &Option<Victim>, word: u64) -> bool
     ensures { MatchBool result (IsBetter plan.now best.now word)
         (IsNoBetter plan.now best.now word) }
 {
-    if plan.split(word).is_none() {
+    if plan.steal_from(word).is_none() {
         return false;
     }
     match best {

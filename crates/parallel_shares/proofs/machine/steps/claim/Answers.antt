@@ -2,5 +2,5 @@
 use Rattle.parallel_shares.proofs.{rules}
 use Rattle.parallel_shares.proofs.machine.steps.claim.Goals as goal
 
-pub returns-then-start-end-clause-refused : goal.returns-then-start-end-clause-refused
-returns-then-start-end-clause-refused c = search rules
+pub returns-in_default-claim_from-clause-refused : goal.returns-in_default-claim_from-clause-refused
+returns-in_default-claim_from-clause-refused c = search rules

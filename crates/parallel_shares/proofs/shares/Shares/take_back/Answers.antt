@@ -11,7 +11,7 @@ compare_exchange-found-requires c =
       omega (arith, shares.words, c.place-place.ensures, c.requires.exists),
       rw (shares.key, c.place-place.ensures) (takes_back shares.plan shares.sound
           shares.table.shared.table_id.slots seat.seat.id c.args.victim.share seat.index
-          c.args.victim.word c.pack-next.result seat.seat.me seat.owns
+          c.args.victim.word c.back-next.result.1 seat.seat.me seat.owns
           (seat.carries ∙ ap ranges_of c.requires.empty_handed) c.requires.exists
-          c.requires.within c.requires.pays (omega (arith, c.pack-next.ensures))),
+          c.requires.within c.requires.pays c.back-next.ensures.left),
     )
