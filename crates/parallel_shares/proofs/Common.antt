@@ -1,6 +1,6 @@
 -- The names of std, of the crates below and of `specs/` that proofs here cite, passed on from one
 -- place. Declares nothing.
-pub use Rattle.atomic_table.proofs.Lists.{at_set, at_snoc, drop_at, exchanged, set_else}
+pub use Rattle.atomic_table.proofs.Lists.{at_set, at_snoc, exchanged, set_else}
 pub use Rattle.atomic_table.specs.Table.{Act, Allows, Joins, Me, Splits, State, Valid, carried_after, keeps, step, stepped}
 pub use Rattle.parallel_shares.specs.Answers.{Answers, CanClaim, CanRefill, CanSteal, ClaimAnswers, LoadAnswers, Pays, RefillAnswers, Replays, StealAnswers, cells_in, claim_cells, claim_stop}
 pub use Rattle.parallel_shares.specs.Answers.{middle_of}
@@ -35,8 +35,8 @@ pub use Rattle.parallel_shares.specs.declared.shares.rule.View.{View}
 pub use Rattle.parallel_shares.specs.declared.shares.seat.Seat.{Seat}
 pub use Rattle.parallel_shares.specs.declared.shares.stretch.Piece.{Piece}
 pub use Rattle.parallel_shares.specs.declared.shares.stretch.Stretch.{Stretch}
-pub use Rattle.std.proofs.Common.{All, Bool, Err, HoldsAt, IfOk, IfSome, IsFalse, List, None, Ok, OnErr, Option, Result, Some, [], add-one, add-zero, ap, append-nil, append_assoc, arith, cond, drop}
-pub use Rattle.std.proofs.Common.{eqb, false, get_or, inl, inr, length, ltb, map, min, refl, replicate, rules, set, slice_index, subst, suc, sum_by, sym, take, true, vec_capacity, zero, zero-add, ℕ}
+pub use Rattle.std.proofs.Common.{All, Bool, Err, HoldsAt, IfOk, IfSome, IsFalse, List, None, Ok, OnErr, Option, Result, Some, [], add-one, ap, append-nil, append_assoc, arith, cond, drop}
+pub use Rattle.std.proofs.Common.{eqb, false, get_or, inl, inr, length, ltb, map, min, refl, replicate, rules, set, slice_index, subst, suc, sum_by, sym, take, true, vec_capacity, zero, ℕ}
 pub use Rattle.std.proofs.Common.{◌%◌, ◌*◌, ◌++◌, ◌+◌, ◌-◌, ◌/◌, ◌<◌, ◌==◌, ◌^◌, ◌∙◌, ◌∷◌, ◌≡◌, ◌≢◌, ◌≤◌, ◌⊎◌}
 pub use Rattle.std.proofs.lemmas.Bool.{cases_eq, cases_lt, cases_order, cond_both, eq-eqb, ne_eqb}
 pub use Rattle.std.proofs.lemmas.Bool.Decides.{nat_tests}

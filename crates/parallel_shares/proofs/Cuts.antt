@@ -1,6 +1,7 @@
 -- What follows for ranges that cut a line of indices, and for balanced ones.
-use Rattle.parallel_shares.proofs.Common.{flat_map, range_with_len, zero, add-zero, zero-add, ◌∙◌, ◌≡◌, ℕ, suc, ◌+◌, ◌-◌, ◌*◌, ◌/◌, ◌<◌, ◌≤◌, inl, inr, List, [], ◌∷◌, ◌++◌, length, All, refl, sym, ap}
+use Rattle.parallel_shares.proofs.Common.{flat_map, range_with_len, ◌∙◌, ◌≡◌, ℕ, suc, ◌+◌, ◌-◌, ◌*◌, ◌/◌, ◌<◌, ◌≤◌, inl, inr, List, [], ◌∷◌, ◌++◌, length, All, refl, sym, ap}
 use Rattle.parallel_shares.proofs.Common.{subst, arith, sum_by, All-nil, All-cons, All-head, All-tail, All-weaker, cases_lt, le-div, Range, range_length, CutsFrom, IsEven, BalancedCut}
+use Rattle.parallel_shares.proofs.Stretching.{numbers_cut}
 use Rattle.std.proofs.lemmas.List.Sums.{sum_by-cons}
 use Rattle.std.proofs.Math.Nat.{div-eq_of_lt-le, div-mul-le_self, mul-le-mul_right}
 
@@ -148,23 +149,13 @@ BalancedCut-minimum_share len minimum rs cut few =
 abbrev pub indices_of : Range ℕ → List ℕ
 indices_of r = range_with_len r.start (range_length r)
 
--- so many numbers and then so many more are one run of numbers
-range_with_len-append : (a n m : ℕ)
-    → range_with_len a n ++ range_with_len (a + n) m ≡ range_with_len a (n + m)
-range_with_len-append a zero m = rw (add-zero, zero-add) refl
-range_with_len-append a (suc n) m =
-    let ih = range_with_len-append (a + 1) n m in
-    let here : a + suc n ≡ a + 1 + n = omega arith in
-    let more : suc n + m ≡ suc (n + m) = omega arith in
-    rw (here, more) (ap (λ xs. a ∷ xs) ih)
-
 -- a run of numbers, and then the numbers that go on from it, are one run
 range_with_len-joined : (a b c n m total : ℕ) (xs : List ℕ) → b ≡ a → c ≡ a + n
     → xs ≡ range_with_len c m → n + m ≡ total → range_with_len b n ++ xs ≡ range_with_len a total
 range_with_len-joined a b c n m total xs starts goes_on more all =
     ap (λ k. range_with_len k n ++ xs) starts
     ∙ ap (λ ys. range_with_len a n ++ ys) (more ∙ ap (λ k. range_with_len k m) goes_on)
-    ∙ range_with_len-append a n m
+    ∙ sym (numbers_cut a n m)
     ∙ ap (λ k. range_with_len a k) all
 
 -- the indices of a cut's ranges, one range after another, are all of its indices in order

@@ -1,11 +1,12 @@
 -- Every event leads from holders that the machine showed to holders that it shows.
-use Rattle.parallel_shares.proofs.Common.{◌≡◌, ℕ, ◌+◌, ◌<◌, ◌≤◌, inl, inr, Bool, true, false, cond, [], ◌∷◌, length, Some, None, refl, sym, ap, ◌∙◌, arith, cases_eq, length-set, Range, Event, Load}
+use Rattle.parallel_shares.proofs.Common.{◌≡◌, ℕ, ◌+◌, ◌<◌, ◌≤◌, inl, inr, [], ◌∷◌, length, Some, None, refl, sym, ap, ◌∙◌, arith, cases_eq, length-set, Range, Event, Load}
 use Rattle.parallel_shares.proofs.Common.{Claim, Steal, Refill, Outcome, Loaded, Empty, Lost, Claimed, Nothing, Taken, Refilled, Refused, Remembered, start_of, end_of, packed, IsEmptyWord, Sizes}
 use Rattle.parallel_shares.proofs.Common.{shares_of, share_of, Machine, word_at, row_at, with_word, remembers, forgets, gains, carries, IsStateOf, CanClaim, CanSteal, CanRefill, claim_stop}
 use Rattle.parallel_shares.proofs.Common.{claim_cells, middle_of, Pays, LoadAnswers, ClaimAnswers, StealAnswers, RefillAnswers, Answers, pending, carried, claimed, Holders, Claims, Steals, Refills}
 use Rattle.parallel_shares.proofs.Common.{claim, steal, refill, inside, in_word, in_transit, in_ranges, same, Shows, StepsByMoves}
-use Rattle.parallel_shares.proofs.Words.{start_of_packed, end_of_packed}
-use Rattle.parallel_shares.proofs.Counts.{side, within, before, after, inside_within, inside_cut, inside_nothing, inside_cells, inside_no_cells}
+use Rattle.parallel_shares.proofs.Words.{start_of_packed, end_of_packed, cut_front, cut_back, claim_front, two_halves}
+use Rattle.parallel_shares.proofs.ShareOfSeat.{share_exists}
+use Rattle.parallel_shares.proofs.Counts.{side, within, before, after, inside_within, inside_nothing, inside_cells, inside_no_cells}
 use Rattle.parallel_shares.proofs.ListWrites.{in_ranges_push}
 use Rattle.parallel_shares.proofs.MachineChanges.{word_there, word_elsewhere, remembers_transit, remembers_claims, forgets_transit, forgets_claims, gains_transit}
 use Rattle.parallel_shares.proofs.MachineChanges.{gains_there, gains_elsewhere, carries_claims, carries_there, carries_elsewhere, rememberer, carrier}
@@ -36,25 +37,7 @@ remembered sizes machine seat load =
     still sizes machine (remembers machine seat load) (λ _. refl)
     (remembers_transit machine seat load) (remembers_claims machine seat load)
 
--- ---- parts of a word
-
--- a word is its front and what is left behind it
-pub cut_front : (u word stop : ℕ) → start_of word ≤ stop → stop ≤ end_of word → end_of word ≤ 65535
-    → in_word u (packed stop (end_of word)) + inside u (start_of word) stop ≡ in_word u word
-cut_front u word stop a b f =
-    rw (start_of_packed stop (end_of word) f, end_of_packed stop (end_of word) f)
-    (omega (arith, inside_cut u (start_of word) stop (end_of word) a b))
-
--- a word is its back and what is left before it
-pub cut_back : (u word middle : ℕ) → start_of word ≤ middle → middle ≤ end_of word
-    → end_of word ≤ 65535 → in_word u (packed (start_of word) middle) + inside u middle
-    (end_of word) ≡ in_word u word
-cut_back u word middle a b f =
-    rw (
-      start_of_packed (start_of word) middle (omega arith),
-      end_of_packed (start_of word) middle (omega arith),
-    )
-    (inside_cut u (start_of word) middle (end_of word) a b)
+-- ---- holders
 
 -- a unit in a range stands between its ends
 between : (u start end : ℕ) → inside u start end ≡ 1 → (start ≤ u) × (u < end)
@@ -112,11 +95,7 @@ module _ (sizes : Sizes) (old : Machine) (state : IsStateOf sizes old) (seat : �
   -- the claim is a nonempty front of the word
   front : (start_of had < claim_stop sizes had) × (claim_stop sizes had ≤ end_of had)
       × (end_of had ≤ sizes.units)
-  front =
-      let w = state.words own in
-      let s = state.sound.claim_counts in
-      let l : start_of had < end_of had = omega (arith, w.0, some) in
-      (omega arith, omega arith, w.1)
+  front = claim_front sizes state.sound had (state.words own) some
 
   claim_changes : Changes sizes (start_of had) (claim_stop sizes had) (pending own)
       (claimed seat) old claimer
@@ -212,10 +191,7 @@ module _ (sizes : Sizes) (old : Machine) (state : IsStateOf sizes old) (seat : �
   -- the back half is nonempty, and so is what is left
   halves : (start_of loaded < middle_of loaded) × (middle_of loaded < end_of loaded)
       × (end_of loaded ≤ sizes.units)
-  halves =
-      let w = (remembered_within sizes old state seat load can.0).1 in
-      let p = pays.0 in
-      (omega arith, omega arith, w.1)
+  halves = two_halves sizes loaded (remembered_within sizes old state seat load can.0).1 pays
 
   steal_changes : Changes sizes (middle_of loaded) (end_of loaded) (pending load.share)
       (carried seat) old thief
@@ -301,12 +277,6 @@ module _ (sizes : Sizes) (old : Machine) (state : IsStateOf sizes old) (seat : �
 
 -- ---- a refill
 
--- the share that a seat claims from exists
-own_share : (whole : Bool) (workers seat : ℕ) → seat < workers
-    → cond whole 0 seat < cond whole 1 workers
-own_share true workers seat h = omega arith
-own_share false workers seat h = h
-
 module _ (sizes : Sizes) (old : Machine) (state : IsStateOf sizes old) (seat : ℕ) (units : Range ℕ)
     (can : CanRefill sizes old seat units) where
   abbrev mine : ℕ
@@ -316,7 +286,7 @@ module _ (sizes : Sizes) (old : Machine) (state : IsStateOf sizes old) (seat : �
   filled = with_word (carries old seat None) mine (packed units.start units.end)
 
   mine_exists : mine < shares_of sizes
-  mine_exists = own_share sizes.whole sizes.workers seat
+  mine_exists = share_exists sizes seat
       (omega (arith, carrier old seat units can.0, state.seats))
 
   refill_changes : Changes sizes units.start units.end (carried seat) (pending mine) old filled

@@ -1,22 +1,10 @@
 -- The opening words are a balanced cut of the units.
-use Rattle.parallel_shares.proofs.Common.{◌≡◌, ℕ, zero, suc, ◌+◌, ◌<◌, ◌≤◌, List, [], ◌∷◌, ◌++◌, map, length, get_or, refl, sym, ap, ◌∙◌, subst, arith, nat_tests, map-append, length-map, Range}
+use Rattle.parallel_shares.proofs.Common.{◌≡◌, ℕ, zero, suc, ◌+◌, ◌<◌, ◌≤◌, [], ◌∷◌, ◌++◌, map, get_or, get_or-map, refl, sym, ap, ◌∙◌, subst, arith, nat_tests, map-append, length-map, Range}
 use Rattle.parallel_shares.proofs.Common.{range_length, CutsFrom, IsEven, BalancedCut, start_of, end_of, range_of, packed, Sizes, shares_of, opening_size, opening_start, IsSound, opening_words}
 use Rattle.parallel_shares.proofs.Common.{opening}
+use Rattle.parallel_shares.proofs.Cuts.{CutsFrom-push}
 use Rattle.parallel_shares.proofs.Words.{start_of_packed, end_of_packed}
 use Rattle.parallel_shares.proofs.Openings.{in_order, at_end, within_units, length_opening, opening_word}
-
--- one more range at the end of a cut
-cuts_push : (from middle : ℕ) (rs : List (Range ℕ)) (r : Range ℕ) → CutsFrom from rs middle
-    → r.start ≡ middle → r.start ≤ r.end → CutsFrom from (rs ++ r ∷ []) r.end
-cuts_push from middle [] r c s o = (s ∙ sym c, o, refl)
-cuts_push from middle (q ∷ qs) r c s o = (c.0, c.1, cuts_push q.end middle qs r c.2 s o)
-
--- what stands in a mapped list
-mapped : {A B : Type 0} (f : A → B) (xs : List A) (i : ℕ) (a : A) (b : B) → i < length xs
-    → get_or (map f xs) i b ≡ f (get_or xs i a)
-mapped f [] i a b h = absurd (omega arith)
-mapped f (x ∷ xs) zero a b h = refl
-mapped f (x ∷ xs) (suc i) a b h = mapped f xs i a b (omega arith)
 
 module _ (sizes : Sizes) (sound : IsSound sizes) where
   end_fits : (k : ℕ) → k ≤ shares_of sizes → opening_start sizes k ≤ 65535
@@ -37,8 +25,9 @@ module _ (sizes : Sizes) (sound : IsSound sizes) where
       rw (map-append range_of (opening_words sizes k) (packed a b ∷ []))
       (subst (λ (to : ℕ). CutsFrom 0
       (map range_of (opening_words sizes k) ++ range_of (packed a b) ∷ []) to) e
-      (cuts_push 0 a (map range_of (opening_words sizes k)) (range_of (packed a b))
-      (cuts k (omega arith)) s o))
+      (CutsFrom-push 0 (map range_of (opening_words sizes k)) (range_of (packed a b))
+      (subst (λ (from : ℕ). CutsFrom 0 (map range_of (opening_words sizes k)) from) (sym s)
+      (cuts k (omega arith))) o))
 
   -- how many units the word of a share holds
   size : (k : ℕ) (d : Range ℕ) → k < shares_of sizes
@@ -50,7 +39,7 @@ module _ (sizes : Sizes) (sound : IsSound sizes) where
       let b : ℕ = opening_start sizes (suc k) in
       let fit = end_fits (suc k) (omega arith) in
       let w : get_or (map range_of (opening_words sizes n)) k d ≡ range_of (packed a b) =
-      mapped range_of (opening_words sizes n) k 0 d (omega (arith, length_opening sizes n))
+      get_or-map range_of (opening_words sizes n) k 0 d (omega (arith, length_opening sizes n))
       ∙ ap range_of (opening_word sizes n k h) in
       ap range_length w ∙ omega (arith, start_of_packed a b fit, end_of_packed a b fit)
 

@@ -5,10 +5,9 @@ use Rattle.parallel_shares.proofs.Common.{at_set, exchanged, View, start_of, end
 use Rattle.parallel_shares.proofs.Common.{inside, in_word, in_range, in_ranges, total, times, SomeSplitPays, in_view, Empties, Idle, IsSharingOf, looked_own, took_front, missed, looked, took_back}
 use Rattle.parallel_shares.proofs.Common.{back_half, put_down, LooksOwn, TakesFront, LooksAt, TakesBack, PutsDown, Exchanges, place_of, Spaced}
 use prog.Atomic.{either}
-use Rattle.parallel_shares.proofs.Words.{start_of_packed, end_of_packed, within_packed}
+use Rattle.parallel_shares.proofs.Words.{start_of_packed, end_of_packed, within_packed, cut_front, cut_back, claim_front, two_halves}
 use Rattle.parallel_shares.proofs.Counts.{inside_below, inside_nothing, inside_cells, inside_no_cells}
 use Rattle.parallel_shares.proofs.ListWrites.{each_set, in_ranges_push}
-use Rattle.parallel_shares.proofs.EventsMoveUnits.{cut_front, cut_back}
 use Rattle.parallel_shares.proofs.Totals.{total_set, total_two, total_put, set_get, is_same, same_once}
 use Rattle.parallel_shares.proofs.Spacing.{share_at_place, allows_spaced}
 
@@ -269,9 +268,7 @@ module _ (sizes : Sizes) (sound : IsSound sizes) where
 
     -- the claim is a front of the word
     front : (start_of word < stop) × (stop ≤ end_of word) × (end_of word ≤ sizes.units)
-    front =
-        let l : start_of word < end_of word = omega (arith, inner.0, some_left) in
-        (omega (arith, sound.claim_counts), omega arith, inner.1)
+    front = claim_front sizes sound word inner some_left
 
     fits : end_of word ≤ 65535
     fits = omega (arith, front.2, sound.units_fit)
@@ -352,8 +349,8 @@ module _ (sizes : Sizes) (sound : IsSound sizes) where
     left = packed (start_of word) middle
 
     -- both halves have units
-    halves : (start_of word < middle) × (middle < end_of word) × (end_of word ≤ 65535)
-    halves = (omega (arith, pays.0), omega (arith, pays.0), omega (arith, inner.1, sound.units_fit))
+    halves : (start_of word < middle) × (middle < end_of word) × (end_of word ≤ sizes.units)
+    halves = two_halves sizes word inner pays
 
     not_none : ¬ IsEmptyWord word
     not_none empty = absurd (omega (arith, pays.0, empty))
@@ -369,7 +366,7 @@ module _ (sizes : Sizes) (sound : IsSound sizes) where
         (λ c h. omega (
           arith,
           cut_back (c / sizes.unit) word middle (omega (arith, halves.0)) (omega (arith, halves.1))
-              halves.2,
+              (omega (arith, halves.2, sound.units_fit)),
           ap (in_ranges (c / sizes.unit)) bare,
         ))
         (λ c h. refl)

@@ -1,7 +1,4 @@
 //! A share of the work is a word that packs the range of the units that are left in it.
-//!
-//! Each word lies on a cache line of its own: a share takes 128 bytes, and the most shares, 65,535,
-//! take 8 MiB.
 ghost use Rattle.std.specs.Prelude.{◌≡◌, ◌≢◌, ℕ, ◌+◌, ◌*◌, ◌/◌, ◌^◌, ◌<◌, ◌≤◌, ◌++◌, [], ◌∷◌, length, slice_index, vec_len, vec_capacity, true, false, None, IfOk, IsFalse};
 ghost use Rattle.std.specs.Slots.{slots_items, slots_len, IsFull};
 ghost use Rattle.std.specs.Int.NonZero.{non_zero_usize_get};
@@ -32,6 +29,9 @@ use std::num::NonZeroUsize;
 pub use stretch::{Stretch, stretches};
 
 /// The cells of a grid, shared out among seats, over words that change in single atomic steps.
+///
+/// A share takes 128 bytes, so that its word lies on a cache line of its own: 8 MiB for the most
+/// shares, 65,535.
 #[derive(Drop)]
 pub struct Shares {
     table: Table<(), View, Plan, Partition, Global>,
