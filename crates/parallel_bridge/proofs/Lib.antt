@@ -31,6 +31,7 @@ mod GateSteps
 mod GateEnds
 pub mod Halts
 pub mod Unhalt
+pub mod Watches
 mod GatedFolds
 mod Fronts
 pub mod Zips

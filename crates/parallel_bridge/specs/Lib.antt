@@ -16,6 +16,8 @@ pub mod Fills
 pub mod GateRule
 pub mod Gates
 pub mod Halting
+pub mod Endings
+pub mod WatchLaws
 pub mod Zips
 pub mod ExactSizes
 pub mod Serials

@@ -3,25 +3,27 @@
 ghost use Rattle.std.specs.Prelude.{◌≡◌, ◌+◌, ◌<◌, ◌≤◌, ◌⊎◌, List, IfOk, length};
 ghost use Rattle.std.specs.List.{Contains};
 ghost use Rattle.std.specs.Vec.Ownership.{FitsInBlock};
+ghost use Rattle.parallel_bridge.specs.Endings.{ending_of};
 ghost use Rattle.parallel_bridge.specs.Fills.{Answered, Fillable, Filled, IsFull, OneAfterAnother, written};
+ghost use Rattle.parallel_bridge.specs.Halting.{halting};
 ghost use Rattle.parallel_bridge.specs.Outcomes.{PutTogether};
 ghost use Rattle.parallel_bridge.specs.Windows.{Follows};
 
 use crate::drive::{Task, drive};
 use crate::fill::writer::Writer;
+use crate::halt::{Halt, unhalt};
 use crate::parts::Parts;
 use crate::segment::Segment;
+use crate::watch::{Unwatched, Watch};
 use crate::window::part::Window;
 use parallel_fault::Trouble;
 use std::alloc::Global;
 use std::marker::PhantomData;
 use std::thread::Threads;
 
-pub mod gated;
 pub mod map;
 pub mod map_init;
 pub mod try_map;
-pub mod watched;
 pub mod writer;
 
 /// Writes the answers for the items of a list into the room for them, where the segments of the
@@ -45,59 +47,97 @@ where
     ensures { Filled P.gives parts (Answered (W.so_far writer.now) (W.fails writer.now)) depth room
         result.0 result.1 }
 {
+    let (room, done, _) = fill_watched(rt, alloc, depth, threads, parts, writer, room, Unwatched);
+    (room, unhalt(done))
+}
+
+/// What `fill` does under a watch, which looks before the first item of each segment and after each
+/// item, and is told where a segment fails. It comes back as the watch of the whole list.
+pub fn fill_watched<Rt: Threads + Sync, P: Parts, W: Writer<P::Item> + Sync, G: Watch + Send>(
+    rt: &Rt,
+    alloc: Global,
+    depth: usize,
+    threads: usize,
+    parts: P,
+    writer: &W,
+    room: Window<W::Answer>,
+    watch: G,
+) -> (Window<W::Answer>, Result<(), Trouble<Halt<W::Error>>>, G)
+where
+    W::Answer: Send,
+    W::Error: Send,
+    W::State: Send,
+    requires ready { W.ready writer.now }
+    requires fits { Fillable W.Answer.row P.count P.may (W.takes writer.now) parts room }
+    requires watch { G.may watch (P.count parts) }
+    ensures filled { Filled P.gives parts (halting
+        (Answered (W.so_far writer.now) (W.fails writer.now))) depth room result.0 result.1 }
+    ensures ends { G.ends watch (P.count parts) result.2 (ending_of result.1) }
+{
     let (segment, home) = match parts.into_segment(alloc) {
         Ok(made) => made,
-        Err(fault) => return (room, Err(Trouble::Fault(fault))),
+        Err(fault) => return (room, Err(Trouble::Fault(fault)), watch),
     };
     let filling = Filling {
         parts: segment,
         writer,
         room,
+        watch,
         items: PhantomData,
     };
-    let (room, done, rest) = drive(rt, alloc, depth, threads, filling);
+    let (room, done, rest, watch) = drive(rt, alloc, depth, threads, filling);
     P::put_away(home, rest);
-    (room, done)
+    (room, done, watch)
 }
 
-// A part of a list with what answers it and the room for the answers.
+// A part of a list with what answers it, the room for the answers, and its watch.
 #[derive(Drop)]
-struct Filling<'w, X: Send + Drop, S: Segment<X>, W: Writer<X>> {
+struct Filling<'w, X: Send + Drop, S: Segment<X>, W: Writer<X>, G> {
     parts: S,
     writer: &'w W,
     room: Window<W::Answer>,
+    watch: G,
     items: PhantomData<X>,
 }
 
-impl<'w, X: Send + Drop, S: Segment<X>, W: Writer<X> + Sync> Task for Filling<'w, X, S, W>
+impl<'w, X: Send + Drop, S: Segment<X>, W: Writer<X> + Sync, G: Watch + Send> Task
+    for Filling<'w, X, S, W, G>
 where
     W::Answer: Send,
     W::Error: Send,
     W::State: Send,
 {
-    type Done = (Window<W::Answer>, Result<(), Trouble<W::Error>>, S::Rest);
+    type Done = (
+        Window<W::Answer>,
+        Result<(), Trouble<Halt<W::Error>>>,
+        S::Rest,
+        G,
+    );
 
     type Seam = ();
 
     ghost able = { λ s. S.sound s.parts × W.ready s.writer.now
-        × Fillable W.Answer.row S.count S.may (W.takes s.writer.now) s.parts s.room };
+        × Fillable W.Answer.row S.count S.may (W.takes s.writer.now) s.parts s.room
+        × G.may s.watch (S.count s.parts) };
 
     ghost long = { λ s. 2 ≤ S.count s.parts };
 
     ghost short = { λ depth s. (xs : List X) → S.gives s.parts xs → (depth ≡ 0) ⊎ (length xs < 2) };
 
-    ghost ends = { λ depth s d. Filled S.gives s.parts (Answered (W.so_far s.writer.now)
-        (W.fails s.writer.now)) depth s.room d.0 d.1 × S.leaves s.parts d.2 };
+    ghost ends = { λ depth s d. Filled S.gives s.parts (halting
+        (Answered (W.so_far s.writer.now) (W.fails s.writer.now))) depth s.room d.0 d.1
+        × S.leaves s.parts d.2 × G.ends s.watch (S.count s.parts) d.3 (ending_of d.1) };
 
     ghost meet = { λ seam a b. Follows W.Answer.row a.0 b.0
         × FitsInBlock W.Answer.row (a.0.room + b.0.room)
         × IfOk a.1 (λ _. IsFull a.0) × IfOk b.1 (λ _. IsFull b.0)
-        × ((whole : S) × S.meets whole a.2 b.2) };
+        × ((whole : S) × S.meets whole a.2 b.2) × G.meets a.3 b.3 };
 
     ghost together = { λ seam a b c. (c.0.start ≡ a.0.start) × (c.0.room ≡ a.0.room + b.0.room)
         × IfOk c.1 (λ _. IsFull c.0)
         × PutTogether OneAfterAnother (written a.0 a.1) (written b.0 b.1) (written c.0 c.1)
-        × ((whole : S) → S.meets whole a.2 b.2 → S.leaves whole c.2) };
+        × ((whole : S) → S.meets whole a.2 b.2 → S.leaves whole c.2)
+        × G.joins a.3 b.3 c.3 };
 
     fn is_leaf(&self, depth: usize) -> bool {
         depth == 0 || self.parts.len() < 2
@@ -106,56 +146,96 @@ where
     fn split(
         self,
         alloc: Global,
-    ) -> Result<(Self, Self, ()), (Window<W::Answer>, Result<(), Trouble<W::Error>>, S::Rest)> {
+    ) -> Result<
+        (Self, Self, ()),
+        (
+            Window<W::Answer>,
+            Result<(), Trouble<Halt<W::Error>>>,
+            S::Rest,
+            G,
+        ),
+    > {
         let len = self.parts.len();
         let Filling {
             parts,
             writer,
             room,
+            watch,
             items: _,
         } = self;
         let (front, back) = match parts.split_at(alloc, len / 2) {
             Ok(halves) => halves,
-            Err((rest, fault)) => return Err((room, Err(Trouble::Fault(fault)), rest)),
+            Err((rest, fault)) => return Err((room, Err(Trouble::Fault(fault)), rest, watch)),
         };
         let (left, right) = room.split(len / 2);
+        let (left_watch, right_watch) = watch.halve(len);
         let first = Filling {
             parts: front,
             writer,
             room: left,
+            watch: left_watch,
             items: PhantomData,
         };
         let second = Filling {
             parts: back,
             writer,
             room: right,
+            watch: right_watch,
             items: PhantomData,
         };
         Ok((first, second, ()))
     }
 
-    fn run(self, _alloc: Global) -> (Window<W::Answer>, Result<(), Trouble<W::Error>>, S::Rest) {
+    fn run(
+        self,
+        _alloc: Global,
+    ) -> (
+        Window<W::Answer>,
+        Result<(), Trouble<Halt<W::Error>>>,
+        S::Rest,
+        G,
+    ) {
         let Filling {
             parts,
             writer,
             room,
+            watch,
             items: _,
         } = self;
         let mut room = room;
-        let (done, rest) = parts.write(writer, &mut room);
+        let mut watch = watch;
+        let (done, rest) = parts.write(writer, &mut room, &mut watch);
         match done {
-            Ok(()) => (room, Ok(()), rest),
-            Err(error) => (room, Err(Trouble::Closure(error)), rest),
+            Ok(()) => (room, Ok(()), rest, watch),
+            Err(halt) => (room, Err(Trouble::Closure(halt)), rest, watch),
         }
     }
 
     fn join(
         _seam: (),
-        left: (Window<W::Answer>, Result<(), Trouble<W::Error>>, S::Rest),
-        right: (Window<W::Answer>, Result<(), Trouble<W::Error>>, S::Rest),
-    ) -> (Window<W::Answer>, Result<(), Trouble<W::Error>>, S::Rest) {
-        let (room, done) = put_together((left.0, left.1), (right.0, right.1));
-        (room, done, S::join(left.2, right.2))
+        left: (
+            Window<W::Answer>,
+            Result<(), Trouble<Halt<W::Error>>>,
+            S::Rest,
+            G,
+        ),
+        right: (
+            Window<W::Answer>,
+            Result<(), Trouble<Halt<W::Error>>>,
+            S::Rest,
+            G,
+        ),
+    ) -> (
+        Window<W::Answer>,
+        Result<(), Trouble<Halt<W::Error>>>,
+        S::Rest,
+        G,
+    ) {
+        let (first_room, first, first_rest, first_watch) = left;
+        let (second_room, second, second_rest, second_watch) = right;
+        let (room, done) = put_together((first_room, first), (second_room, second));
+        let rest = S::join(first_rest, second_rest);
+        (room, done, rest, first_watch.join(second_watch))
     }
 }
 

@@ -22,6 +22,7 @@ pub mod segment;
 pub mod segments;
 pub mod source;
 pub mod splitter;
+pub mod watch;
 pub mod window;
 pub mod zipped;
 
@@ -55,6 +56,7 @@ pub use producer::{Copies, DrainProducer, Indices, Producer, SliceDrain};
 pub use segment::{ProducerSegment, Segment, WindowSegment};
 pub use source::{ByCount, ByIter, ByPairs, ByParts, ByVec, Source};
 pub use splitter::{LengthSplitter, Splitter};
+pub use watch::{Unwatched, Watch};
 pub use window::block::Block;
 pub use window::home::Home;
 pub use window::part::Window;

@@ -4,18 +4,18 @@ ghost use Rattle.std.specs.Iterator.{YieldsFirst, item_count};
 ghost use Rattle.std.specs.List.{Contains};
 ghost use Rattle.std.specs.Vec.Ownership.{FitsInBlock};
 ghost use Rattle.parallel_fault.specs.Trouble.{IsMemoryOnErr};
+ghost use Rattle.parallel_bridge.specs.Endings.{Goes, IsUnderway, ending};
 ghost use Rattle.parallel_bridge.specs.Fills.{Answered, IsFull, IsRoom, SamePlaces, kept};
-ghost use Rattle.parallel_bridge.specs.Gates.{IsWatching, MayTell, SameWatch, known};
-ghost use Rattle.parallel_bridge.specs.Halting.{TellsAs, halting};
+ghost use Rattle.parallel_bridge.specs.Halting.{halting};
 ghost use Rattle.parallel_bridge.specs.Pairs.{odd_of, pair_items, pair_rest, pairs_of};
 ghost use Rattle.parallel_bridge.specs.Windows.{Follows, IsSite};
 
 use crate::fill::writer::Writer;
-use crate::gate::GateWatch;
 use crate::halt::Halt;
 use crate::parts::Parts;
 use crate::plumbing::Folder;
 use crate::segment::Segment;
+use crate::watch::Watch;
 use crate::window::block::Block;
 use crate::window::home::Home;
 use crate::window::part::Window;
@@ -143,26 +143,14 @@ impl<T: Send + Drop> Segment<(T, T)> for PairSegment<T> {
     }
 
     #[tactic(auto, using(crate::proofs::Neighbours::length_pairs))]
-    fn write<W: Writer<(T, T)>>(
+    fn write<W: Writer<(T, T)>, G: Watch>(
         self,
         writer: &W,
         room: &mut Window<W::Answer>,
-    ) -> (Result<(), W::Error>, Window<T>) {
-        let mut window = self.window;
-        let written = write_pairs(writer, &mut window, room);
-        window.clear();
-        (written, window)
-    }
-
-    #[tactic(auto, using(crate::proofs::Neighbours::length_pairs))]
-    fn write_watched<'g, W: Writer<(T, T)>>(
-        self,
-        writer: &W,
-        room: &mut Window<W::Answer>,
-        watch: &mut GateWatch<'g>,
+        watch: &mut G,
     ) -> (Result<(), Halt<W::Error>>, Window<T>) {
         let mut window = self.window;
-        let written = write_pairs_watched(writer, &mut window, room, watch);
+        let written = write_pairs(writer, &mut window, room, watch);
         window.clear();
         (written, window)
     }
@@ -203,52 +191,27 @@ fn feed_pairs<T: Drop, R: Drop, E: Drop, F: Folder<(T, T), R, E>>(
 }
 
 // Writes the answers for a window's pairs, each taken from its places, up to the first pair that
-// fails, whose error it answers. There is a place for each answer. It takes no memory.
-fn write_pairs<T: Drop, W: Writer<(T, T)>>(
+// fails, whose error it answers, or to the look that stops it. There is a place for each answer. It
+// looks before the first pair and after each, and tells the watch of its own error at once. It takes
+// no memory.
+fn write_pairs<T: Drop, W: Writer<(T, T)>, G: Watch>(
     writer: &W,
     items: &mut Window<T>,
     room: &mut Window<W::Answer>,
-) -> Result<(), W::Error>
-    requires ready { W.ready writer.now }
-    requires items { (x : T × T) → Contains (pairs_of items.old.items) x → W.takes writer.now x }
-    requires room { IsRoom room.old }
-    requires enough { length (pairs_of items.old.items) ≡ room.old.room }
-    ensures place { SamePlaces room.old room.new }
-    ensures full { IfOk result (λ _. IsFull room.new) }
-    ensures gives { Answered (W.so_far writer.now) (W.fails writer.now) (pairs_of items.old.items)
-        (kept result room.new.items) }
-    ensures left { SamePlaces items.old items.new }
-{
-    let mut state = writer.begin();
-    while items.len() > 1 {
-        let pair = take_pair(items);
-        let answer = writer.answer(&mut state, pair)?;
-        room.put(answer);
-    }
-    Ok(())
-}
-
-// The same under the eye of a gate: it looks before the first pair and after each, and tells the
-// gate of its own error at once.
-fn write_pairs_watched<'g, T: Drop, W: Writer<(T, T)>>(
-    writer: &W,
-    items: &mut Window<T>,
-    room: &mut Window<W::Answer>,
-    watch: &mut GateWatch<'g>,
+    watch: &mut G,
 ) -> Result<(), Halt<W::Error>>
     requires ready { W.ready writer.now }
     requires items { (x : T × T) → Contains (pairs_of items.old.items) x → W.takes writer.now x }
     requires room { IsRoom room.old }
     requires enough { length (pairs_of items.old.items) ≡ room.old.room }
-    requires watch { MayTell watch.old }
+    requires watch { IsUnderway G.ends watch.old }
     ensures place { SamePlaces room.old room.new }
     ensures full { IfOk result (λ _. IsFull room.new) }
     ensures gives { halting (Answered (W.so_far writer.now) (W.fails writer.now))
         (pairs_of items.old.items) (kept result room.new.items) }
     ensures left { SamePlaces items.old items.new }
-    ensures same { SameWatch watch.old watch.new }
-    ensures watching { IsWatching watch.new }
-    ensures told { TellsAs watch.old.start (known watch.new.seat) result }
+    ensures goes { Goes G.ends watch.old watch.new (ending result) }
+    ensures looks { IfOk result (λ _. G.looked watch.old (room.old.room + 1) watch.new) }
 {
     let mut state = writer.begin();
     while items.len() > 1 {

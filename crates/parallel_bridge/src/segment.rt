@@ -5,18 +5,17 @@ ghost use Rattle.std.specs.List.{Contains};
 ghost use Rattle.std.specs.Vec.Ownership.{FitsInBlock};
 ghost use Rattle.parallel_fault.specs.Trouble.{IsMemoryOnErr};
 ghost use Rattle.parallel_fault.specs.declared.fault.Fault.TheVariants.{Memory};
+ghost use Rattle.parallel_bridge.specs.Endings.{Goes, IsUnderway, ending};
 ghost use Rattle.parallel_bridge.specs.Fills.{Answered, IsFull, IsRoom, SamePlaces, kept};
-ghost use Rattle.parallel_bridge.specs.Gates.{IsWatching, MayTell, SameWatch, known};
-ghost use Rattle.parallel_bridge.specs.Halting.{TellsAs, halting};
+ghost use Rattle.parallel_bridge.specs.Halting.{halting};
 ghost use Rattle.parallel_bridge.specs.Sources.{GivesSome};
 ghost use Rattle.parallel_bridge.specs.Windows.{Follows};
 
-use crate::fill::watched::{write_iter_watched, write_window_watched};
 use crate::fill::writer::{Writer, write_iter, write_window};
-use crate::gate::GateWatch;
 use crate::halt::Halt;
 use crate::plumbing::Folder;
 use crate::producer::Producer;
+use crate::watch::Watch;
 use crate::window::part::Window;
 use parallel_fault::Fault;
 use std::alloc::Global;
@@ -91,46 +90,28 @@ pub trait Segment<Item: Send + Drop>: Send + Sized + Drop {
         ensures rest { leaves self result.1 };
 
     /// Writes the answers for the items into the room for them, in order, up to the first item that
-    /// fails, and drops the items behind it.
-    fn write<W: Writer<Item>>(
+    /// fails, or to the look that stops it, and drops the items behind. It looks before the first
+    /// item and after each, and tells the watch of its own error at once.
+    fn write<W: Writer<Item>, G: Watch>(
         self,
         writer: &W,
         room: &mut Window<W::Answer>,
-    ) -> (Result<(), W::Error>, Self::Rest)
-        requires sound { sound self }
-        requires ready { W.ready writer.now }
-        requires items { (x : Item) → may self x → W.takes writer.now x }
-        requires room { IsRoom room.old }
-        requires enough { room.old.room ≡ count self }
-        ensures place { SamePlaces room.old room.new }
-        ensures full { IfOk result.0 (λ _. IsFull room.new) }
-        ensures gives { GivesSome gives self (λ xs.
-            Answered (W.so_far writer.now) (W.fails writer.now) xs (kept result.0 room.new.items)) }
-        ensures rest { leaves self result.1 };
-
-    /// The same under the eye of a gate: it looks before the first item and after each, and where
-    /// it is stopped, drops the items that are left. It tells the gate of its own error at once.
-    fn write_watched<'g, W: Writer<Item>>(
-        self,
-        writer: &W,
-        room: &mut Window<W::Answer>,
-        watch: &mut GateWatch<'g>,
+        watch: &mut G,
     ) -> (Result<(), Halt<W::Error>>, Self::Rest)
         requires sound { sound self }
         requires ready { W.ready writer.now }
         requires items { (x : Item) → may self x → W.takes writer.now x }
         requires room { IsRoom room.old }
         requires enough { room.old.room ≡ count self }
-        requires watch { MayTell watch.old }
+        requires watch { IsUnderway G.ends watch.old }
         ensures place { SamePlaces room.old room.new }
         ensures full { IfOk result.0 (λ _. IsFull room.new) }
         ensures gives { GivesSome gives self (λ xs. halting
             (Answered (W.so_far writer.now) (W.fails writer.now)) xs
             (kept result.0 room.new.items)) }
         ensures rest { leaves self result.1 }
-        ensures same { SameWatch watch.old watch.new }
-        ensures watching { IsWatching watch.new }
-        ensures told { TellsAs watch.old.start (known watch.new.seat) result.0 };
+        ensures goes { Goes G.ends watch.old watch.new (ending result.0) }
+        ensures looks { IfOk result.0 (λ _. G.looked watch.old (count self + 1) watch.new) };
 }
 
 /// What a producer gives. Nothing is left of it.
@@ -181,26 +162,14 @@ impl<P: Producer> Segment<P::Item> for ProducerSegment<P> {
         (folder.consume_iter(alloc, self.parts.into_items()), ())
     }
 
-    fn write<W: Writer<P::Item>>(
+    fn write<W: Writer<P::Item>, G: Watch>(
         self,
         writer: &W,
         room: &mut Window<W::Answer>,
-    ) -> (Result<(), W::Error>, ()) {
-        let _len = self.parts.len();
-        (write_iter(writer, self.parts.into_items(), room), ())
-    }
-
-    fn write_watched<'g, W: Writer<P::Item>>(
-        self,
-        writer: &W,
-        room: &mut Window<W::Answer>,
-        watch: &mut GateWatch<'g>,
+        watch: &mut G,
     ) -> (Result<(), Halt<W::Error>>, ()) {
         let _len = self.parts.len();
-        (
-            write_iter_watched(writer, self.parts.into_items(), room, watch),
-            (),
-        )
+        (write_iter(writer, self.parts.into_items(), room, watch), ())
     }
 }
 
@@ -261,25 +230,14 @@ impl<T: Send + Drop> Segment<T> for WindowSegment<T> {
         (fed, window)
     }
 
-    fn write<W: Writer<T>>(
+    fn write<W: Writer<T>, G: Watch>(
         self,
         writer: &W,
         room: &mut Window<W::Answer>,
-    ) -> (Result<(), W::Error>, Window<T>) {
-        let mut window = self.window;
-        let written = write_window(writer, &mut window, room);
-        window.clear();
-        (written, window)
-    }
-
-    fn write_watched<'g, W: Writer<T>>(
-        self,
-        writer: &W,
-        room: &mut Window<W::Answer>,
-        watch: &mut GateWatch<'g>,
+        watch: &mut G,
     ) -> (Result<(), Halt<W::Error>>, Window<T>) {
         let mut window = self.window;
-        let written = write_window_watched(writer, &mut window, room, watch);
+        let written = write_window(writer, &mut window, room, watch);
         window.clear();
         (written, window)
     }

@@ -11,6 +11,7 @@ ghost use Rattle.parallel_bridge.specs.Halting.{Begins, HaltContinues, TellsAs};
 use crate::gate::GateWatch;
 use crate::halt::Halt;
 use crate::plumbing::Folder;
+use crate::watch::Watch;
 use parallel_fault::{Fault, Trouble};
 use std::alloc::Global;
 use std::convert::Infallible;

@@ -3,8 +3,12 @@ ghost use Rattle.std.specs.Prelude.{◌≡◌, ◌++◌, ◌+◌, ◌<◌, ◌�
 ghost use Rattle.std.specs.Iterator.{Drains, HoldsAlong, IsFinite};
 ghost use Rattle.std.specs.List.{All, Contains};
 ghost use Rattle.parallel_bridge.specs.Fills.{Answered, IsFull, IsRoom, SamePlaces, kept};
+ghost use Rattle.parallel_bridge.specs.Endings.{Goes, IsUnderway, ending};
+ghost use Rattle.parallel_bridge.specs.Halting.{halting};
 ghost use Rattle.parallel_bridge.specs.Sources.{GivesSome};
 
+use crate::halt::Halt;
+use crate::watch::Watch;
 use crate::window::part::Window;
 
 /// Answers the items of a segment one by one, with a state that goes from item to item and is fresh
@@ -44,13 +48,15 @@ pub trait Writer<Item: Drop>: Sized + Drop {
 }
 
 /// Writes the answers for the items that come, in their order, up to the first item that fails,
-/// whose error it answers. There is a place for each item. Items behind an error are passed over.
-/// It takes no memory.
-pub(crate) fn write_iter<I: Iterator, W: Writer<I::Item>>(
+/// whose error it answers, or to the look that stops it. There is a place for each item. It looks
+/// before the first item and after each, and tells the watch of its own error at once. Items behind
+/// an error or a stop are passed over. It takes no memory.
+pub(crate) fn write_iter<I: Iterator, W: Writer<I::Item>, G: Watch>(
     writer: &W,
     iter: I,
     room: &mut Window<W::Answer>,
-) -> Result<(), W::Error>
+    watch: &mut G,
+) -> Result<(), Halt<W::Error>>
 where
     I::Item: Drop,
     requires ready { W.ready writer.now }
@@ -59,26 +65,37 @@ where
     requires items { HoldsAlong I.next_gives iter (All (W.takes writer.now)) }
     requires room { IsRoom room.old }
     requires enough { (xs : List I.Item) → Drains I.next_gives iter xs → length xs ≡ room.old.room }
+    requires watch { IsUnderway G.ends watch.old }
     ensures place { SamePlaces room.old room.new }
     ensures full { IfOk result (λ _. IsFull room.new) }
-    ensures gives { GivesSome (Drains I.next_gives) iter (λ xs.
-        Answered (W.so_far writer.now) (W.fails writer.now) xs (kept result room.new.items)) }
+    ensures gives { GivesSome (Drains I.next_gives) iter (λ xs. halting
+        (Answered (W.so_far writer.now) (W.fails writer.now)) xs (kept result room.new.items)) }
+    ensures goes { Goes G.ends watch.old watch.new (ending result) }
+    ensures looks { IfOk result (λ _. G.looked watch.old (room.old.room + 1) watch.new) }
 {
     let mut iter = iter;
     let mut state = writer.begin();
     while room.len() < room.room() {
+        if watch.stopped() {
+            pass_over(iter);
+            return Err(Halt::Stopped);
+        }
         let Some(item) = iter.next() else {
             return Ok(());
         };
         match writer.answer(&mut state, item) {
             Ok(answer) => room.put(answer),
             Err(error) => {
+                watch.failed();
                 pass_over(iter);
-                return Err(error);
+                return Err(Halt::Failed(error));
             }
         }
     }
     pass_over(iter);
+    if watch.stopped() {
+        return Err(Halt::Stopped);
+    }
     Ok(())
 }
 
@@ -94,27 +111,43 @@ where
 }
 
 /// Writes the answers for a window's items, each taken from its place, up to the first item that
-/// fails, whose error it answers. There is a place for each answer. It takes no memory.
-pub(crate) fn write_window<X: Drop, W: Writer<X>>(
+/// fails, whose error it answers, or to the look that stops it. There is a place for each answer.
+/// It looks and tells as `write_iter` does. It takes no memory.
+pub(crate) fn write_window<X: Drop, W: Writer<X>, G: Watch>(
     writer: &W,
     items: &mut Window<X>,
     room: &mut Window<W::Answer>,
-) -> Result<(), W::Error>
+    watch: &mut G,
+) -> Result<(), Halt<W::Error>>
     requires ready { W.ready writer.now }
     requires items { (x : X) → Contains items.old.items x → W.takes writer.now x }
     requires room { IsRoom room.old }
     requires enough { length items.old.items ≡ room.old.room }
+    requires watch { IsUnderway G.ends watch.old }
     ensures place { SamePlaces room.old room.new }
     ensures full { IfOk result (λ _. IsFull room.new) }
-    ensures gives { Answered (W.so_far writer.now) (W.fails writer.now) items.old.items
+    ensures gives { halting (Answered (W.so_far writer.now) (W.fails writer.now)) items.old.items
         (kept result room.new.items) }
     ensures left { SamePlaces items.old items.new }
+    ensures goes { Goes G.ends watch.old watch.new (ending result) }
+    ensures looks { IfOk result (λ _. G.looked watch.old (room.old.room + 1) watch.new) }
 {
     let mut state = writer.begin();
     while items.len() > 0 {
+        if watch.stopped() {
+            return Err(Halt::Stopped);
+        }
         let item = items.take();
-        let answer = writer.answer(&mut state, item)?;
-        room.put(answer);
+        match writer.answer(&mut state, item) {
+            Ok(answer) => room.put(answer),
+            Err(error) => {
+                watch.failed();
+                return Err(Halt::Failed(error));
+            }
+        }
+    }
+    if watch.stopped() {
+        return Err(Halt::Stopped);
     }
     Ok(())
 }

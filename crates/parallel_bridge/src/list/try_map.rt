@@ -9,7 +9,7 @@ ghost use Rattle.parallel_bridge.specs.Sources.{GivesSome};
 ghost use Rattle.parallel_bridge.specs.Tries.{TryMapOf};
 
 use crate::bridge::depth_of;
-use crate::fill::gated::fill_gated;
+use crate::fill::fill_watched;
 use crate::fill::try_map::TryMapWriter;
 use crate::gate::watch::seats_for;
 use crate::gate::{Gate, GateWatch};
@@ -74,7 +74,7 @@ pub fn try_map_parallel<
         seat,
         start: 0,
     };
-    let (values, done, seat) = fill_gated(
+    let (values, done, watch) = fill_watched(
         rt,
         alloc,
         depth,
@@ -84,6 +84,11 @@ pub fn try_map_parallel<
         room,
         watch,
     );
+    let GateWatch {
+        gate: _,
+        seat,
+        start: _,
+    } = watch;
     gate.close_joined(seat);
     match unhalt(done) {
         Ok(()) => Ok(values.into_vec(home)),

@@ -1,5 +1,6 @@
--- an answer for each item that came
+-- an answer for each item that came; a part that might end well still may
 use Rattle.parallel_bridge.proofs.{◌≡◌, ◌-◌, List, length, IsFinite, Yields, SamePlaces}
+use Rattle.parallel_bridge.specs.Endings.{Goes, well}
 use Rattle.parallel_bridge.proofs.fill.writer.write_iter.Given as goal
 
 abbrev pub invariant-loop-room : goal.invariant-loop-room
@@ -10,6 +11,8 @@ invariant-loop-room g l = record {
   ends : IsFinite (g.I.Iterator.remaining l.iter);
   place : SamePlaces l.initial.room l.room;
   first : l.room.before ≡ 0;
+  goes : Goes g.G.Watch.ends l.initial.watch l.watch well;
+  looked : g.G.Watch.looked l.initial.watch (length l.room.items) l.watch;
 }
 
 abbrev pub decreases-loop-room : goal.decreases-loop-room

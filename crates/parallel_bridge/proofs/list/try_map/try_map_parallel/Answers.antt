@@ -1,10 +1,12 @@
 -- What was written into the segments' rooms, side by side, or the leftmost error, which is no stop.
-use Rattle.parallel_bridge.proofs.{Shape, Driven, GivesSome, EachOk, FirstErr, TryAlongCut, TryMapOf, Ok, ◌≡◌, ◌++◌, List, subst, sym, ap, ◌∙◌, arith, Answered, OneAfterAnother, written, stands_for}
-use Rattle.parallel_bridge.proofs.{fresh_watch, never_stopped, tried_error, tried_shape, driven_unhalted, ok_meets, written_not_stopped, written_unhalted}
+use Rattle.parallel_bridge.proofs.{Shape, Driven, GivesSome, EachOk, FirstErr, TryAlongCut, TryMapOf, Ok, subst, sym, ap, ◌∙◌, arith, Answered, OneAfterAnother, written, stands_for}
+use Rattle.parallel_bridge.proofs.{fresh_watch, tried_error, tried_shape}
+use Rattle.parallel_bridge.proofs.Watches.{filled_unhalted, list_unstopped, not_stopped}
+use Rattle.parallel_bridge.specs.Endings.{ending_of}
 use Rattle.parallel_bridge.proofs.list.try_map.try_map_parallel.Goals as goal
 
-pub fill_gated-values-requires-clause-watch : goal.fill_gated-values-requires-clause-watch
-fill_gated-values-requires-clause-watch g c κs within =
+pub fill_watched-values-requires-clause-watch : goal.fill_watched-values-requires-clause-watch
+fill_watched-values-requires-clause-watch g c κs within =
     fresh_watch c.in_ok-gate.gate c.in_ok-gate.seat _ (g.P.Parts.count c.args.parts)
     c.in_ok-gate.ensures.belongs c.in_ok-gate.ensures.fresh (omega (arith, c.seats_for.ensures))
     (omega (arith, c.seats_for.ensures, c.len-len.ensures.counted))
@@ -12,17 +14,16 @@ fill_gated-values-requires-clause-watch g c κs within =
 
 pub close_joined-requires-clause-all : goal.close_joined-requires-clause-all
 close_joined-requires-clause-all g c =
-    c.fill_gated-values.ensures.ends.0 ∙ ap (λ v. v.seats) c.in_ok-gate.ensures.fresh
+    c.fill_watched-values.ensures.ends.4.0 ∙ ap (λ v. v.seats) c.in_ok-gate.ensures.fresh
     ∙ sym c.in_ok-gate.ensures.seats
 
 pub unhalt-requires : goal.unhalt-requires
 unhalt-requires g c =
-    let values = c.fill_gated-values.result.0 in let done = c.fill_gated-values.result.1 in
-    let count = g.P.Parts.count c.args.parts in
-    written_not_stopped values done
-    (never_stopped count (stands_for c.in_ok-gate.seat) c.close_joined.result
-    c.fill_gated-values.result.2.seat.me.0 (written values done)
-    (omega (arith, c.len-len.ensures.counted)) c.fill_gated-values.ensures.ends
+    let done = c.fill_watched-values.result.1 in
+    not_stopped done
+    (list_unstopped (g.P.Parts.count c.args.parts) (stands_for c.in_ok-gate.seat)
+    c.close_joined.result c.fill_watched-values.result.2.seat.seat.me.0 (ending_of done)
+    (omega (arith, c.len-len.ensures.counted)) c.fill_watched-values.ensures.ends.4
     c.close_joined.ensures.stopped)
 
 pub returns-in-Ok : goal.returns-in-Ok
@@ -30,13 +31,11 @@ returns-in-Ok g c =
     let allowed = goal.F-post g c.args.map_op.now in
     let leaf = Answered {S = Unit {0}} (λ l s ys. EachOk allowed l ys) (FirstErr allowed) in
     let gives = g.P.Parts.gives in let depth = c.depth_of-depth.result in
-    let values = c.fill_gated-values.result.0 in let done = c.fill_gated-values.result.1 in
+    let values = c.fill_watched-values.result.0 in let done = c.fill_watched-values.result.1 in
     let after = c.unhalt.result in
     let all : Driven gives c.args.parts leaf OneAfterAnother depth (written values after) =
-    driven_unhalted leaf OneAfterAnother OneAfterAnother
-    (ok_meets (λ (a b l : List g.row.T.Denot). l ≡ a ++ b))
-    gives c.args.parts depth (written values done) (written values after)
-    c.fill_gated-values.ensures.filled.2 (written_unhalted values done after c.unhalt.ensures) in
+    (filled_unhalted gives c.args.parts leaf depth c.in_ok-room.room values done after
+    c.unhalt.ensures c.fill_watched-values.ensures.filled).2 in
     let w : GivesSome gives c.args.parts
     (λ xs. TryAlongCut leaf OneAfterAnother (Shape depth xs) (Ok values.items)) =
     subst (λ d. Driven gives c.args.parts leaf OneAfterAnother depth (written values d)) c.in-Ok.is
@@ -55,13 +54,11 @@ returns-in-Err g c =
     let allowed = goal.F-post g c.args.map_op.now in
     let leaf = Answered {S = Unit {0}} (λ l s ys. EachOk allowed l ys) (FirstErr allowed) in
     let gives = g.P.Parts.gives in let depth = c.depth_of-depth.result in
-    let values = c.fill_gated-values.result.0 in let done = c.fill_gated-values.result.1 in
+    let values = c.fill_watched-values.result.0 in let done = c.fill_watched-values.result.1 in
     let after = c.unhalt.result in
     let all : Driven gives c.args.parts leaf OneAfterAnother depth (written values after) =
-    driven_unhalted leaf OneAfterAnother OneAfterAnother
-    (ok_meets (λ (a b l : List g.row.T.Denot). l ≡ a ++ b))
-    gives c.args.parts depth (written values done) (written values after)
-    c.fill_gated-values.ensures.filled.2 (written_unhalted values done after c.unhalt.ensures) in
+    (filled_unhalted gives c.args.parts leaf depth c.in_ok-room.room values done after
+    c.unhalt.ensures c.fill_watched-values.ensures.filled).2 in
     record {
       maps = tried_error allowed gives c.args.parts depth c.in-Err.trouble
           (subst (λ d. Driven gives c.args.parts leaf OneAfterAnother depth (written values d))
