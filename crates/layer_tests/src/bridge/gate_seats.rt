@@ -112,7 +112,7 @@ fn a_segment_right_of_a_known_error_calls_nothing(rt: HostRuntime) {
         parts: Copies { slice: &numbers },
     };
     let writer = TryMapWriter { map_op: &answer };
-    let (done, ()) = segment.write_watched(&writer, &mut room, &mut watch);
+    let (done, ()) = segment.write(&writer, &mut room, &mut watch);
     home.free(room);
     same(&rt, done, Err(Halt::Stopped));
     same(&rt, calls.load(Ordering::SeqCst), 0);
