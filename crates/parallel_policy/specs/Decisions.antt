@@ -1,10 +1,12 @@
 -- A call that is decided by a policy's choice, and measured.
-use Rattle.std.specs.Prelude.{◌≡◌, ℕ, ◌-◌, Bool, Ok, Err, Result, MatchBool}
+use Rattle.std.specs.Prelude.{◌≡◌, ℕ, ◌-◌, Bool, Ok, Err, Result, MatchBool, MatchOption, None, Option, Some, false, true}
 use Rattle.std.specs.Borrow.{MutBor}
 use Rattle.std.specs.Fn.{Once, Mut, Called}
 use Rattle.parallel_fault.specs.declared.fault.Fault.TheVariants.{Memory}
 use Rattle.parallel_fault.specs.declared.fault.Trouble.{Trouble}
 use Rattle.parallel_fault.specs.declared.fault.Trouble.TheVariants.{Closure, Fault as OfFault}
+use Rattle.parallel_fault.specs.declared.fault.Fault.{Fault}
+use Rattle.parallel_policy.specs.declared.choices.Ticket.{Ticket}
 use Rattle.parallel_policy.specs.declared.execution.RunExecution.{RunExecution}
 use Rattle.parallel_policy.specs.declared.execution.RunExecution.TheVariants.{Serial}
 
@@ -93,3 +95,29 @@ module _ {S Q C R E : Type 0} (chooses : S → Q → ℕ → RunExecution × Boo
       × MatchBool measured (FailsMeasured path earlier e later) (runs earlier path (Err e) later)
   Decides old key parallelism earlier (Err (OfFault f)) new later = (f ≡ Memory)
       × refused old key new × (later ≡ earlier)
+
+module _ {S Q C : Type 0} (chooses : S → Q → ℕ → RunExecution × Bool → S → Type 0)
+    (refused : S → Q → S → Type 0) (reads : C → ℕ → C → Type 0) where
+  -- a run begins: the clock is read if the run is measured, and else it isn't
+  abbrev pub Begins : Bool → Option ℕ → C → C → Type 0
+  Begins measured (Some start) earlier later = (measured ≡ true) × reads earlier start later
+  Begins measured None earlier later = (measured ≡ false) × (later ≡ earlier)
+
+  -- the choices went on by one choice, which the ticket has, and the run has begun; a refused
+  -- choice is a want of memory, and the clock wasn't read
+  abbrev pub Asks : S → Q → ℕ → C → Result Ticket Fault → S → C → Type 0
+  Asks old key parallelism earlier (Ok ticket) new later = (measured : Bool)
+      × chooses old key parallelism (ticket.execution, measured) new
+      × Begins measured ticket.start earlier later
+  Asks old key parallelism earlier (Err f) new later = (f ≡ Memory) × refused old key new
+      × (later ≡ earlier)
+
+-- a measured run has ended: the clock was read, and one sample was recorded, of the ticket's path
+-- and of the time since the ticket's reading, a clock that went back as 0; of any other run nothing
+-- was recorded, and the clock wasn't read
+abbrev pub Tells : {S Q C : Type 0} → (S → Q → RunExecution → ℕ → S → Type 0)
+    → (C → ℕ → C → Type 0) → S → Q → Ticket → C → S → C → Type 0
+Tells records reads old key ticket earlier new later =
+    MatchOption ticket.start ((new ≡ old) × (later ≡ earlier))
+    (λ start. (stop : ℕ) × reads earlier stop later
+    × records old key ticket.execution (stop - start) new)

@@ -1,7 +1,7 @@
-//! One call, decided by a policy's choice and measured.
+//! One call, decided by a policy's choice and measured: whole, and in its two halves.
 ghost use Rattle.std.specs.Prelude.{◌≡◌, ℕ, ◌<◌, ◌≤◌, Bool, Result, IfOk, OnErr};
 ghost use Rattle.parallel_policy.specs.declared.execution.RunExecution.{RunExecution};
-ghost use Rattle.parallel_policy.specs.Decisions.{AnswersOn, DecidesAs, Decides, ReadsAs, RunsSomewhen, RunsSerially, RunsWith};
+ghost use Rattle.parallel_policy.specs.Decisions.{AnswersOn, Asks, DecidesAs, Decides, ReadsAs, RunsSomewhen, RunsSerially, RunsWith, Tells};
 ghost use Rattle.parallel_fault.specs.Trouble.{IsMemoryOnErr};
 
 use crate::execution::RunExecution;
@@ -38,6 +38,63 @@ pub trait Choices<Q> {
     /// Records that a run of that kind took so many nanoseconds.
     fn record<Rt: Wait>(&mut self, rt: &Rt, key: Q, execution: RunExecution, nanoseconds: u64)
         ensures { records self.old key execution nanoseconds self.new };
+}
+
+/// What a run that was asked about is told by when it has ended: the way that was chosen for it,
+/// and where it is to be measured the reading of the clock at which it began.
+#[derive(Clone, Copy, Debug, PartialEq, Eq)]
+pub struct Ticket {
+    /// How the run is to go.
+    pub execution: RunExecution,
+    /// When it began, where it is to be measured.
+    pub start: Option<u64>,
+}
+
+/// Asks `choices` how a run is to go, and reads the clock where it is to be measured.
+///
+/// What `tell` is then given begins here: a run that is asked about is to go on at once.
+///
+/// # Errors
+///
+/// `Fault::Memory` where the choice was refused memory; the clock isn't read.
+pub fn ask<Rt: Wait, Q: Copy, C: Choices<Q>, N: FnMut() -> u64>(
+    rt: &Rt,
+    choices: &mut C,
+    key: Q,
+    parallelism: usize,
+    now: &mut N,
+) -> Result<Ticket, Fault>
+    requires clock { N.IsAlwaysCallable now.now }
+    ensures asks { Asks C.chooses C.refused (ReadsAs N.FnMut) choices.old key parallelism now.old
+        result choices.new now.new }
+    ensures clock { N.IsAlwaysCallable now.new }
+    ensures fault { IsMemoryOnErr result }
+{
+    let (execution, measured) = choices.choose(rt, key, parallelism)?;
+    let start = if measured { Some(now()) } else { None };
+    Ok(Ticket { execution, start })
+}
+
+/// Tells `choices` that a run has ended: where it was measured, its time is recorded, which is the
+/// reading of the clock now less the one in the ticket, and 0 where the clock went back. Else
+/// nothing is read and nothing is recorded.
+///
+/// For a run that answered. Of one that failed nothing is told: its ticket is dropped.
+pub fn tell<Rt: Wait, Q: Copy, C: Choices<Q>, N: FnMut() -> u64>(
+    rt: &Rt,
+    choices: &mut C,
+    key: Q,
+    ticket: Ticket,
+    now: &mut N,
+)
+    requires clock { N.IsAlwaysCallable now.now }
+    ensures tells { Tells C.records (ReadsAs N.FnMut) choices.old key ticket now.old choices.new
+        now.new }
+{
+    if let Some(start) = ticket.start {
+        let nanoseconds = now().saturating_sub(start);
+        choices.record(rt, key, ticket.execution, nanoseconds);
+    }
 }
 
 /// Runs `body` as `choices` chooses for `key`, and records how long it took where it was to be
@@ -84,14 +141,9 @@ pub fn decide<
     if parallelism <= 1 {
         return run_on(now, RunExecution::Serial, body);
     }
-    let (execution, measured) = choices.choose(rt, key, parallelism)?;
-    if !measured {
-        return run_on(now, execution, body);
-    }
-    let start = now();
-    let answer = run_on(now, execution, body)?;
-    let nanoseconds = now().saturating_sub(start);
-    choices.record(rt, key, execution, nanoseconds);
+    let ticket = ask(rt, choices, key, parallelism, now)?;
+    let answer = run_on(now, ticket.execution, body)?;
+    tell(rt, choices, key, ticket, now);
     Ok(answer)
 }
 

@@ -21,7 +21,7 @@ pub mod table;
 
 pub use bucket::len_bucket;
 pub use cadence::Cadence;
-pub use choices::{Choices, decide};
+pub use choices::{Choices, Ticket, ask, decide, tell};
 pub use clock::{Clock, MonotonicClock};
 pub use estimate::Estimate;
 pub use execution::{RunExecution, SpawnExecution};
