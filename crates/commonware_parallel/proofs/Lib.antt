@@ -1,4 +1,5 @@
 mod Common
+pub mod Batched
 pub mod ListCalls
 pub mod Outcomes
 pub mod Picks
@@ -14,6 +15,7 @@ pub mod NamedResults
 pub mod SortedStretches
 pub mod RowMerges
 pub mod RowLaws
+pub use Batched.*
 pub use Common.*
 pub use FilledRows.*
 pub use Hashes.*

@@ -1,36 +1,51 @@
--- At which path and thread number a list call's fact holds.
-use Rattle.commonware_parallel.proofs.Common.{◌≡◌, ℕ, List, Result, Ok, Err, IfOk, subst, Trouble, Closure, UnlessRefused, Path, AtSomePath, Pick, By}
+-- At which path, call and thread number a list call's fact holds.
+use Rattle.commonware_parallel.proofs.Common.{◌≡◌, ℕ, List, length, Result, Ok, Err, IfOk, subst, Trouble, Closure, UnlessRefused, Path, AtSomePath, Call, Pick, By}
 use Rattle.parallel_fault.specs.declared.fault.Trouble.TheVariants.{Fault as OfFault}
 use Rattle.parallel_bridge.specs.Shapes.{cutdepth}
-use Rattle.parallel_bridge.specs.Sources.{GivesSome}
 
--- a fact at the depth for the thread number that the code took holds at the one for the clause's
-pub at_threads : {Q X : Type 0} (gives : Q → List X → Type 0) (parts : Q) (takes : Pick → Type 0)
-    (fact : ℕ → Path → List X → Type 0) (taken threads : ℕ) → taken ≡ threads
-    → (path : Path) → takes (By path) → GivesSome gives parts (λ xs. fact (cutdepth taken) path xs)
-    → GivesSome gives parts (λ xs. AtSomePath takes (λ p. fact (cutdepth threads) p xs))
-at_threads gives parts takes fact taken threads same path takes_it h =
-    (h.0, h.1, (path, takes_it, subst (λ n. fact (cutdepth n) path h.0) same h.2))
+module _ (call_of : ℕ → Call) (call : Call) (takes : Call → Pick → Type 0) (taken threads : ℕ)
+    (path : Path) where
+  -- the path, at the call over the list's length, and a fact at the depth for the strategy's number
+  at_length : {X : Type 0} (xs : List X) (way : ℕ → Type 0) → taken ≡ threads
+      → call ≡ call_of (length xs) → takes call (By path) → way (cutdepth taken)
+      → takes (call_of (length xs)) (By path) × way (cutdepth threads)
+  at_length xs way same counted chosen h =
+      (subst (λ c. takes c (By path)) counted chosen, subst (λ n. way (cutdepth n)) same h)
 
--- the same of an outcome
-pub outcome_at_threads : {Q X R E : Type 0} (gives : Q → List X → Type 0) (parts : Q)
-    (takes : Pick → Type 0) (fact : ℕ → Path → List X → Result R E → Type 0) (taken threads : ℕ)
-    → taken ≡ threads
-    → (result : Result R (Trouble E)) (answered : Path → Type 0)
-    → UnlessRefused result (λ _. AtSomePath takes answered)
-    → ((path : Path) → answered path → UnlessRefused result
-    (λ out. GivesSome gives parts (λ xs. fact (cutdepth taken) path xs out)))
-    → UnlessRefused result (λ out. GivesSome gives parts
-    (λ xs. AtSomePath takes (λ path. fact (cutdepth threads) path xs out)))
-outcome_at_threads gives parts takes fact taken threads same (Ok r) answered w says =
-    at_threads gives parts takes (λ depth path xs. fact depth path xs (Ok r)) taken threads same w.0
-    w.1 (says w.0 w.2)
-outcome_at_threads gives parts takes fact taken threads same
-    (Err (Closure e)) answered w says =
-    at_threads gives parts takes (λ depth path xs. fact depth path xs (Err e)) taken threads same
-    w.0 w.1 (says w.0 w.2)
-outcome_at_threads gives parts takes fact taken threads same
-    (Err (OfFault f)) answered w says = w
+  -- what a call by a path says of the list that came of a source's parts it says of one of the
+  -- source: at the call over its length, and at the strategy's own thread number in place of the
+  -- one that the code took
+  pub along_source : {X R E : Type 0} {came comes : List X → Type 0}
+      (way : ℕ → Path → List X → R → Type 0) (result : Result R E)
+      → taken ≡ threads → takes call (By path)
+      → ((xs : List X) → came xs → call ≡ call_of (length xs))
+      → ((xs : List X) → came xs → comes xs)
+      → IfOk result (λ y. (xs : List X) × came xs × way (cutdepth taken) path xs y)
+      → IfOk result (λ y. (xs : List X) × comes xs × AtSomePath (takes (call_of (length xs)))
+      (λ p. way (cutdepth threads) p xs y))
+  along_source way (Ok y) same chosen counted given w =
+      let at = at_length w.0 (λ depth. way depth path w.0 y) same (counted w.0 w.1) chosen w.2 in
+      (w.0, given w.0 w.1, (path, at.0, at.1))
+  along_source way (Err e) same chosen counted given w = tt
+
+  -- the same of an outcome
+  pub outcome_along_source : {X R E : Type 0} {came comes : List X → Type 0}
+      (way : ℕ → Path → List X → Result R E → Type 0)
+      (result : Result R (Trouble E)) → taken ≡ threads → takes call (By path)
+      → ((xs : List X) → came xs → call ≡ call_of (length xs))
+      → ((xs : List X) → came xs → comes xs)
+      → UnlessRefused result (λ out. (xs : List X) × came xs × way (cutdepth taken) path xs out)
+      → UnlessRefused result (λ out. (xs : List X) × comes xs
+      × AtSomePath (takes (call_of (length xs))) (λ p. way (cutdepth threads) p xs out))
+  outcome_along_source way (Ok r) same chosen counted given w =
+      let at = at_length w.0 (λ depth. way depth path w.0 (Ok r)) same (counted w.0 w.1) chosen
+      w.2 in
+      (w.0, given w.0 w.1, (path, at.0, at.1))
+  outcome_along_source way (Err (Closure e)) same chosen counted given w =
+      let at = at_length w.0 (λ depth. way depth path w.0 (Err e)) same (counted w.0 w.1) chosen
+      w.2 in
+      (w.0, given w.0 w.1, (path, at.0, at.1))
+  outcome_along_source way (Err (OfFault f)) same chosen counted given w = w
 
 -- what a call says of the list that came of a source's iterator it says of one of the source
 pub over_source : {X R E : Type 0} {came comes : List X → Type 0} {said says : List X → R → Type 0}

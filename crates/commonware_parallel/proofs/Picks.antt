@@ -1,6 +1,6 @@
--- Which path a pick is, and what a body that is told one says.
-use Rattle.commonware_parallel.proofs.Common.{◌≡◌, ◌∙◌, ◌<◌, ◌≤◌, ℕ, zero, Bool, true, false, ap, refl, nat_le, if◌then◌else◌, Path, Serial, OnParts, OnPath, AtSomePath, HasPick, body_call, nth_path}
-use Rattle.commonware_parallel.proofs.Common.{Call, Pick, By, Into, Explorer}
+-- Which path a pick is, or which number of parts.
+use Rattle.commonware_parallel.proofs.Common.{◌≡◌, ◌∙◌, ℕ, zero, Bool, true, false, ap, refl, nat_le, if◌then◌else◌, Path, Serial, body_call, nth_path}
+use Rattle.commonware_parallel.proofs.Common.{Pick, By, Into, Explorer}
 use Rattle.parallel_policy.specs.declared.Site.{Site}
 use Rattle.commonware_parallel.specs.Explorers.{ExplorerTakes, picked, plans_of, rule_of}
 use Rattle.commonware_parallel.specs.declared.mocks.rule.Rule.TheVariants.{Serial as SerialRule}
@@ -32,16 +32,3 @@ pub explored_serially : (explorer : Explorer) (site : Site) (len : ℕ) (path : 
 explored_serially explorer site len path rule takes =
     ap path_of (takes.0 ∙ ap (λ r. picked (plans_of explorer) r site (body_call len)) rule)
     ∙ serial_either_way (nat_le (plans_of explorer) 1)
-
--- a fact of a body that is told a path, where the strategy tells a pick
-pub path_told : (call : Call) (takes : Pick → Type 0) (fact : Path → Type 0) (pick : Pick)
-    → HasPick call pick × takes pick → OnPath pick fact → AtSomePath takes fact
-path_told call takes fact (By path) has h = (path, has.1, h)
-path_told call takes fact (Into parts) has h = absurd h
-
--- the same of a body that is told a number of parts
-pub parts_told : (call : Call) (takes : Pick → Type 0) (fact : ℕ → Type 0) (pick : Pick)
-    → HasPick call pick × takes pick → OnParts pick fact
-    → (parts : ℕ) × ((0 < parts) × (parts ≤ call.max_parts) × takes (Into parts)) × fact parts
-parts_told call takes fact (By path) has h = absurd h
-parts_told call takes fact (Into parts) has h = (parts, (has.0.1, has.0.2, has.1), h)

@@ -1,9 +1,7 @@
 -- what a call answers, by what its body was told
-use Rattle.std.specs.Prelude.{ℕ, Result, Ok, Err}
+use Rattle.std.specs.Prelude.{Result, Ok, Err}
 use Rattle.parallel_bridge.specs.declared.path.Path.{Path}
 use Rattle.parallel_bridge.specs.declared.path.Path.TheVariants.{Serial, Parallel}
-use Rattle.commonware_parallel.specs.declared.call.Pick.{Pick}
-use Rattle.commonware_parallel.specs.declared.call.Pick.TheVariants.{By, Into}
 use Rattle.parallel_fault.specs.declared.fault.Fault.{Fault}
 use Rattle.parallel_fault.specs.declared.fault.Trouble.{Trouble}
 use Rattle.parallel_fault.specs.declared.fault.Trouble.TheVariants.{Closure}
@@ -26,16 +24,6 @@ OneOf serial parallel Parallel = parallel
 -- an answer of the first serially, of the second in parallel
 abbrev pub OfOne : {R : Type 0} → (R → Type 0) → (R → Type 0) → Path → R → Type 0
 OfOne serial parallel path answer = OneOf (serial answer) (parallel answer) path
-
--- a pick that is a path, and a fact of it
-abbrev pub OnPath : Pick → (Path → Type 0) → Type 0
-OnPath (By path) fact = fact path
-OnPath (Into parts) fact = ⊥
-
--- a pick that is a number of parts, and a fact of it
-abbrev pub OnParts : Pick → (ℕ → Type 0) → Type 0
-OnParts (By path) fact = ⊥
-OnParts (Into parts) fact = fact parts
 
 -- allowed holds of the answer, or of the closure's error, and refused of a refusal
 abbrev pub UnlessFaulty : {R E : Type 0} → Result R (Trouble E) → (Result R E → Type 0)

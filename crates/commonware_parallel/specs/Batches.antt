@@ -38,12 +38,6 @@ IsWholeBatch strategy place len batches =
     (ranges_of batches ≡ record { start = 0; end = len } ∷ [])
     × (strategy_of batches ≡ strategy) × (place_of batches ≡ place)
 
--- allowed holds of some batch of so many ranges, through the strategy and with the place
-abbrev pub OnBatch : {S P : Type 0} → S → P → ℕ → ℕ → ℕ → (Batches S P → Type 0) → Type 0
-OnBatch strategy place len parts minimum allowed = (batches : Batches _ _)
-    × IsBatch len parts minimum (ranges_of batches) × (strategy_of batches ≡ strategy)
-    × (place_of batches ≡ place) × allowed batches
-
 -- allowed holds of some batch: of as many ranges as the strategy may take for the call, over its
 -- inner strategy and with the call's place
 abbrev pub OnSomeBatch : {S P : Type 0} (takes : S → Site → Call → Pick → Type 0)

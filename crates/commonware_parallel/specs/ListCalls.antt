@@ -1,8 +1,6 @@
 -- what a list call says of the list that it went over, the path that it took and the call that the
 -- strategy was asked about
 use Rattle.std.specs.Prelude.{ℕ, List, length, ⊤}
-use Rattle.std.specs.Int.NonZero.{non_zero_usize_get}
-use Rattle.std.specs.declared.num.NonZeroUsize.{NonZeroUsize}
 use Rattle.parallel_bridge.specs.Shapes.{cutdepth}
 use Rattle.parallel_bridge.specs.Sources.{GivesSome}
 use Rattle.parallel_bridge.specs.declared.path.Path.{Path}
@@ -21,22 +19,10 @@ abbrev pub AskedOver : {I X : Type 0} → (I → List X → Type 0) → I → (C
 AskedOver gives source takes call_of = GivesSome gives source
     (λ xs. Asked (takes (call_of (length xs))))
 
--- a list that may come, and the answer went as the way says of it, at the depth for so many threads
-abbrev pub GoesOver : {I X R : Type 0} → (I → List X → Type 0) → I → NonZeroUsize → Path
-    → (ℕ → Path → List X → R → Type 0) → R → Type 0
-GoesOver gives source threads path way answer = GivesSome gives source
-    (λ xs. way (cutdepth (non_zero_usize_get threads)) path xs answer)
-
 module _ {I X S R : Type 0} (gives : I → List X → Type 0) (source : I)
     (takes : S → Site → Call → Pick → Type 0) (threads : S → ℕ) (strategy : S) (site : Site) where
-  -- a list that may come, and a path that the strategy may take for the call, by which the answer
-  -- went as the way says, at the depth for the strategy's thread number
-  abbrev pub GoesBy : Call → (ℕ → Path → List X → R → Type 0) → R → Type 0
-  GoesBy call way answer = GivesSome gives source
-      (λ xs. AtSomePath (takes strategy site call)
-      (λ path. way (cutdepth (threads strategy)) path xs answer))
-
-  -- the same of the call over the list's length
+  -- a list that may come, and a path that the strategy may take for the call over its length, by
+  -- which the answer went as the way says, at the depth for the strategy's thread number
   abbrev pub GoesByLength : (ℕ → Call) → (ℕ → Path → List X → R → Type 0) → R → Type 0
   GoesByLength call_of way answer = GivesSome gives source
       (λ xs. AtSomePath (takes strategy site (call_of (length xs)))

@@ -17,10 +17,10 @@ pub use Rattle.parallel_fault.specs.declared.fault.Fault.{Fault}
 pub use Rattle.parallel_fault.specs.declared.fault.Fault.TheVariants.{Memory}
 pub use Rattle.parallel_fault.specs.declared.fault.Trouble.TheVariants.{Fault as OfFault}
 pub use Rattle.parallel_shares.specs.Grid.{Fits}
-pub use Rattle.commonware_parallel.specs.Answers.{AnswersAs, OfOne, OnParts, OnPath, OneOf}
-pub use Rattle.commonware_parallel.specs.Batches.{IsBatch, OnBatch, OnSomeBatch, ranges_of}
+pub use Rattle.commonware_parallel.specs.Answers.{AnswersAs, OfOne, OneOf}
+pub use Rattle.commonware_parallel.specs.Batches.{IsBatch, OnSomeBatch, ranges_of}
 pub use Rattle.commonware_parallel.specs.Calls.{AtSomePath, body_call, goes_by_path, join_call, multiplied_call, spawn_call}
-pub use Rattle.commonware_parallel.specs.ListCalls.{Asked, AskedOver, GoesBy, GoesByLength, GoesOver}
+pub use Rattle.commonware_parallel.specs.ListCalls.{Asked, AskedOver, GoesByLength}
 pub use Rattle.commonware_parallel.specs.Spawned.{BeginsAs, FailsToSpawn, gives_answer}
 pub use Rattle.commonware_parallel.specs.Tiles.{IsSerialCost, IsTiling, OnSomeTiles, tiles_place, tiles_strategy}
 pub use Rattle.commonware_parallel.specs.declared.batches.Batches.{Batches}

@@ -9,11 +9,9 @@ ghost use Rattle.std.specs.Int.NonZero.{non_zero_usize_get};
 ghost use Rattle.parallel_fault.specs.Trouble.{IsMemoryOnErr};
 ghost use Rattle.parallel_shares.specs.Cut.{BalancedCut, range_length};
 
-mod dispatched;
 mod prepared;
 
 use crate::strategy::Strategy;
-pub(crate) use dispatched::{batches_through, try_batches_through};
 use parallel_fault::{Fault, Trouble};
 use parallel_policy::Place;
 use parallel_shares::cut;

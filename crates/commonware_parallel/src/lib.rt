@@ -9,7 +9,7 @@
 
 mod batches;
 mod call;
-mod dispatch;
+mod chosen;
 mod list;
 pub mod merkle;
 mod meter;

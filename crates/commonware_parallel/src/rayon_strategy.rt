@@ -1,5 +1,5 @@
 //! The strategy over several threads, with the policy that it asks.
-ghost use Rattle.std.specs.Prelude.{◌≡◌, ◌≢◌, ◌<◌, ◌≤◌, true, false, ◌-◌, ◌⊎◌, min, nat_eq, Some, IsSome, is_some, IfOk, IfErr};
+ghost use Rattle.std.specs.Prelude.{◌≡◌, ◌≢◌, ◌<◌, ◌≤◌, true, false, min, nat_eq, Some, IsSome, is_some, IfOk, IfErr};
 ghost use Rattle.std.specs.Option.{option_copied};
 ghost use Rattle.std.specs.Int.NonZero.{non_zero_usize_get};
 ghost use Rattle.parallel_fault.specs.Trouble.{IsMemoryOnErr};
@@ -11,9 +11,9 @@ mod machine;
 use crate::call::{Call, Kind, Pick};
 use crate::meter::{Measured, Sample, Told};
 use crate::strategy::Chooser;
-use parallel_fault::{Fault, Trouble};
+use parallel_fault::Fault;
 use parallel_policy::policy::INLINE_BUDGET;
-use parallel_policy::{Clock, Key, Place, Policy, RunExecution, Site, SpawnExecution};
+use parallel_policy::{Clock, Key, Place, Policy, RunExecution, Site, SpawnExecution, ask, tell};
 use parallel_pool::rayon::{MAX_THREADS, ThreadPool, ThreadPoolBuildError};
 use std::alloc::Global;
 use std::num::NonZeroUsize;
@@ -269,32 +269,6 @@ impl<C: Clock> Chooser for Rayon<C> {
         self.without_policy()
     }
 
-    fn dispatch<Rt: Wait, P: Place, R, E, B: FnOnce(Pick) -> Result<R, E>>(
-        &self,
-        rt: &Rt,
-        _alloc: Global,
-        site: P,
-        call: Call,
-        body: B,
-    ) -> Result<R, Trouble<E>> {
-        let Some(policy) = self.asked(call) else {
-            return body(self.pick(call)).map_err(Trouble::Closure);
-        };
-        let (first, last) = (call.first(), call.last());
-        let run = move |execution: RunExecution| -> Result<R, E>
-            requires { B.pre body first × B.pre body last }
-            ensures { B.post body first result ⊎ B.post body last result }
-        {
-            match execution {
-                RunExecution::Serial => body(first),
-                RunExecution::Parallel => body(last),
-            }
-        };
-        let clock = &self.clock;
-        let now = move || clock.now();
-        policy.try_run(rt, site, call.len, call.work, self.planned(call), &now, run)
-    }
-
     fn choose<Rt: Wait, P: Place>(
         &self,
         rt: &Rt,
@@ -306,21 +280,20 @@ impl<C: Clock> Chooser for Rayon<C> {
             return Ok((self.pick(call), Measured::nothing()));
         };
         let key = self.key(site.site(), call);
-        let (pick, measured, sample) = match call.kind {
-            Kind::Spawn => match policy.choose_spawn(rt, key, INLINE_BUDGET)? {
-                (SpawnExecution::Inline, measured) => (call.first(), measured, Sample::Inline),
-                (SpawnExecution::Offload, measured) => {
-                    (call.last(), measured, Sample::Offloaded)
-                }
-            },
-            _ => match policy.choose_run(rt, key, self.planned(call))? {
-                (RunExecution::Serial, measured) => {
-                    (call.first(), measured, Sample::Run(RunExecution::Serial))
-                }
-                (RunExecution::Parallel, measured) => {
-                    (call.last(), measured, Sample::Run(RunExecution::Parallel))
-                }
-            },
+        if call.kind != Kind::Spawn {
+            let clock = &self.clock;
+            let mut now = || clock.now();
+            let ticket = ask(rt, &mut policy.locked(), key, self.planned(call), &mut now)?;
+            let pick = match ticket.execution {
+                RunExecution::Serial => call.first(),
+                RunExecution::Parallel => call.last(),
+            };
+            return Ok((pick, Measured::run(key, ticket)));
+        }
+        let (execution, measured) = policy.choose_spawn(rt, key, INLINE_BUDGET)?;
+        let pick = match execution {
+            SpawnExecution::Inline => call.first(),
+            SpawnExecution::Offload => call.last(),
         };
         if !measured {
             return Ok((pick, Measured::nothing()));
@@ -330,10 +303,19 @@ impl<C: Clock> Chooser for Rayon<C> {
             policy: policy.clone()?,
             clock: self.clock.clone()?,
             key,
-            sample,
+            execution,
             chosen,
             begun: chosen,
         };
-        Ok((pick, Measured::of(told)))
+        Ok((pick, Measured::job(told)))
+    }
+
+    // Tells the policy how long a run took that it wanted measured.
+    fn tell<Rt: Wait>(&self, rt: &Rt, measure: Measured<C>) {
+        let Some(policy) = &self.policy else { return };
+        if let Sample::Run(key, ticket) = measure.sample {
+            let clock = &self.clock;
+            tell(rt, &mut policy.locked(), key, ticket, &mut || clock.now());
+        }
     }
 }

@@ -416,17 +416,6 @@ impl Chooser for Sequential {
         Ok(Sequential)
     }
 
-    fn dispatch<Rt: Wait, P: Place, R, E, B: FnOnce(Pick) -> Result<R, E>>(
-        &self,
-        _rt: &Rt,
-        _alloc: Global,
-        _site: P,
-        call: Call,
-        body: B,
-    ) -> Result<R, Trouble<E>> {
-        body(call.first()).map_err(Trouble::Closure)
-    }
-
     fn choose<Rt: Wait, P: Place>(
         &self,
         _rt: &Rt,

@@ -8,17 +8,16 @@ ghost use Rattle.commonware_parallel.specs.Words.{ranges_of, spawn_call};
 
 mod chooser;
 
-use crate::batches::{Batches, batches_through, try_batches_through};
+use crate::batches::Batches;
 use crate::call::Call;
-use crate::dispatch::{choose_path, dispatch_path, dispatch_unfailing};
+use crate::chosen::{Running, begin_path, choose_parts, choose_path, end_run};
 use crate::list::{
-    body_over, fold_init_iter, fold_init_through, fold_iter, fold_through, map_init_iter,
-    map_init_through, map_iter, map_through, multiplied_body_over, partition_iter,
-    partition_through, try_fold_as_it_comes, try_fold_through, try_map_iter, try_map_through,
+    body_over, fold_by, fold_init_by, fold_init_iter, fold_iter, map_by, map_init_by,
+    map_init_iter, map_iter, multiplied_body_over, partition_by, partition_iter,
+    try_fold_as_it_comes, try_fold_by, try_map_by, try_map_iter,
 };
-use crate::meter::Meter;
 use crate::spawned::{Job, Spawned, begin};
-use crate::tiles::{Tiles, tiles_through};
+use crate::tiles::{Tiles, serial_cost};
 pub use chooser::Chooser;
 use parallel_bridge::list::sort::sort_parallel;
 use parallel_bridge::{Path, Source};
@@ -81,11 +80,13 @@ pub trait Strategy: Chooser {
         ensures refused { IfErr result (Self.refuses self.now (P.site_of site) (body_call len)) }
         ensures fault { IsMemoryOnErr result }
     {
-        let body = move |path| match path {
+        let (path, running) = begin_path(self, rt, alloc, site, Call::body(len))?;
+        let answer = match path {
             Path::Serial => serial(),
             Path::Parallel => parallel(),
         };
-        dispatch_unfailing(self, rt, alloc, site, Call::body(len), body)
+        end_run(self, rt, running, true);
+        Ok(answer)
     }
 
     /// As `run`, of two bodies that may fail by an error of their own (`AnswersAs`, `OneOf`).
@@ -115,11 +116,13 @@ pub trait Strategy: Chooser {
             (OfOne (A.post serial) (B.post parallel)) result }
         ensures fault { IsMemoryOnFault result }
     {
-        let body = move |path| match path {
+        let (path, running) = begin_path(self, rt, alloc, site, Call::body(len))?;
+        let outcome = match path {
             Path::Serial => serial(),
             Path::Parallel => parallel(),
         };
-        dispatch_path(self, rt, alloc, site, Call::body(len), body)
+        end_run(self, rt, running, outcome.is_ok());
+        outcome.map_err(Trouble::Closure)
     }
 
     /// An answer of each of two closures, which are run serially one after the other, and in
@@ -143,11 +146,13 @@ pub trait Strategy: Chooser {
         ensures refused { IfErr result (Self.refuses self.now (P.site_of site) join_call) }
         ensures fault { IsMemoryOnErr result }
     {
-        let body = move |path| match path {
+        let (path, running) = begin_path(self, rt, alloc, site, Call::join())?;
+        let answers = match path {
             Path::Serial => (a(), b()),
             Path::Parallel => thread::join(rt, a, b),
         };
-        dispatch_unfailing(self, rt, alloc, site, Call::join(), body)
+        end_run(self, rt, running, true);
+        Ok(answers)
     }
 
     /// A job, run on a clone of this strategy: serially at once, and in parallel on a worker of its
@@ -182,9 +187,9 @@ pub trait Strategy: Chooser {
             (FailsToSpawn (Self.takes self.now (P.site_of site) (spawn_call len))
             (Self.refuses self.now (P.site_of site) (spawn_call len)) (Self.starts self.now)) }
     {
-        let (path, meter) = choose_path(self, rt, alloc, site, Call::spawn(len))?;
+        let (path, measure) = choose_path(self, rt, alloc, site, Call::spawn(len))?;
         let own = self.clone()?;
-        begin(*rt, alloc, path, self.starts_workers(), meter, own, job)
+        begin(*rt, alloc, path, self.starts_workers(), measure, own, job)
     }
 
     /// Sorts the items by an order; items that tie keep their order. Serially the caller's thread
@@ -213,15 +218,14 @@ pub trait Strategy: Chooser {
             (Asked (Self.takes self.now (P.site_of site) (body_call (length items.old)))) }
         ensures fault { IsMemoryOnErr result }
     {
-        let (path, mut meter) = choose_path(self, rt, alloc, site, Call::body(items.len()))?;
+        let (path, running) = begin_path(self, rt, alloc, site, Call::body(items.len()))?;
         let threads = match path {
             Path::Serial => NonZeroUsize::MIN,
             Path::Parallel => self.thread_number(),
         };
-        meter.begin();
-        sort_parallel(rt, alloc, threads, items, &compare)?;
-        meter.end(rt);
-        Ok(())
+        let sorted = sort_parallel(rt, alloc, threads, items, &compare);
+        end_run(self, rt, running, sorted.is_ok());
+        sorted
     }
 
     /// Sorts the items by an order, as `sort_by` does; items that tie may change places.
@@ -272,7 +276,11 @@ pub trait Strategy: Chooser {
             return map_iter(alloc, source.into_items(), &map_op);
         }
         let parts = source.into_parts(alloc)?;
-        map_through(self, rt, alloc, site, body_over(&parts), parts, &map_op)
+        let (path, running) = begin_path(self, rt, alloc, site, body_over(&parts))?;
+        let threads = self.thread_number();
+        let answers = map_by(rt, alloc, threads, path, parts, &map_op);
+        end_run(self, rt, running, answers.is_ok());
+        answers
     }
 
     /// As `map_collect_vec`, for items that each stand for the work of `multiplier`: a policy tells
@@ -306,7 +314,11 @@ pub trait Strategy: Chooser {
         }
         let parts = source.into_parts(alloc)?;
         let call = multiplied_body_over(&parts, multiplier);
-        map_through(self, rt, alloc, site, call, parts, &map_op)
+        let (path, running) = begin_path(self, rt, alloc, site, call)?;
+        let threads = self.thread_number();
+        let answers = map_by(rt, alloc, threads, path, parts, &map_op);
+        end_run(self, rt, running, answers.is_ok());
+        answers
     }
 
     /// The items folded in neighbouring segments, each from an identity of its own, and the
@@ -350,9 +362,13 @@ pub trait Strategy: Chooser {
         }
         let parts = source.into_parts(alloc)?;
         let call = body_over(&parts);
-        fold_through(
-            self, rt, alloc, site, call, parts, &identity, &fold_op, &reduce_op,
-        )
+        let (path, running) = begin_path(self, rt, alloc, site, call)?;
+        let threads = self.thread_number();
+        let answer = fold_by(
+            rt, alloc, threads, path, parts, &identity, &fold_op, &reduce_op,
+        );
+        end_run(self, rt, running, answer.is_ok());
+        answer
     }
 
     /// The items folded as by `fold`, with a state at hand that goes from item to item of a segment
@@ -399,9 +415,13 @@ pub trait Strategy: Chooser {
         }
         let parts = source.into_parts(alloc)?;
         let call = body_over(&parts);
-        fold_init_through(
-            self, rt, alloc, site, call, parts, &init, &identity, &fold_op, &reduce_op,
-        )
+        let (path, running) = begin_path(self, rt, alloc, site, call)?;
+        let threads = self.thread_number();
+        let answer = fold_init_by(
+            rt, alloc, threads, path, parts, &init, &identity, &fold_op, &reduce_op,
+        );
+        end_run(self, rt, running, answer.is_ok());
+        answer
     }
 
     /// The items folded up to the first step that fails, in neighbouring segments, each from an
@@ -447,9 +467,13 @@ pub trait Strategy: Chooser {
         }
         let parts = source.into_parts(alloc)?;
         let call = body_over(&parts);
-        try_fold_through(
-            self, rt, alloc, site, call, parts, &identity, &fold_op, &reduce_op,
-        )
+        let (path, running) = begin_path(self, rt, alloc, site, call)?;
+        let threads = self.thread_number();
+        let outcome = try_fold_by(
+            rt, alloc, threads, path, parts, &identity, &fold_op, &reduce_op,
+        );
+        end_run(self, rt, running, outcome.is_ok());
+        outcome
     }
 
     /// The values that `map_op` answers for the items, in the items' order, or the error of the
@@ -481,7 +505,11 @@ pub trait Strategy: Chooser {
             return try_map_iter(alloc, source.into_items(), &map_op);
         }
         let parts = source.into_parts(alloc)?;
-        try_map_through(self, rt, alloc, site, body_over(&parts), parts, &map_op)
+        let (path, running) = begin_path(self, rt, alloc, site, body_over(&parts))?;
+        let threads = self.thread_number();
+        let outcome = try_map_by(rt, alloc, threads, path, parts, &map_op);
+        end_run(self, rt, running, outcome.is_ok());
+        outcome
     }
 
     /// The answers of `map_op` for the items, in the items' order, with a state at hand that goes
@@ -523,7 +551,11 @@ pub trait Strategy: Chooser {
         }
         let parts = source.into_parts(alloc)?;
         let call = body_over(&parts);
-        map_init_through(self, rt, alloc, site, call, parts, &init, &map_op)
+        let (path, running) = begin_path(self, rt, alloc, site, call)?;
+        let threads = self.thread_number();
+        let answers = map_init_by(rt, alloc, threads, path, parts, &init, &map_op);
+        end_run(self, rt, running, answers.is_ok());
+        answers
     }
 
     /// As `map_init_collect_vec`, for items that each stand for the work of `multiplier`: a policy
@@ -565,7 +597,11 @@ pub trait Strategy: Chooser {
         }
         let parts = source.into_parts(alloc)?;
         let call = multiplied_body_over(&parts, multiplier);
-        map_init_through(self, rt, alloc, site, call, parts, &init, &map_op)
+        let (path, running) = begin_path(self, rt, alloc, site, call)?;
+        let threads = self.thread_number();
+        let mapped = map_init_by(rt, alloc, threads, path, parts, &init, &map_op);
+        end_run(self, rt, running, mapped.is_ok());
+        mapped
     }
 
     /// The values that `map_op` answers, and the keys of the items for which it answers none, both
@@ -599,7 +635,11 @@ pub trait Strategy: Chooser {
             return partition_iter(alloc, source.into_items(), &map_op);
         }
         let parts = source.into_parts(alloc)?;
-        partition_through(self, rt, alloc, site, body_over(&parts), parts, &map_op)
+        let (path, running) = begin_path(self, rt, alloc, site, body_over(&parts))?;
+        let threads = self.thread_number();
+        let sides = partition_by(rt, alloc, threads, path, parts, &map_op);
+        end_run(self, rt, running, sides.is_ok());
+        sides
     }
 
     /// An answer of `run` over a batch of `0..len`: balanced ranges, as many as the strategy picks.
@@ -630,7 +670,14 @@ pub trait Strategy: Chooser {
             (λ batches. F.post run batches answer)) }
         ensures fault { IsMemoryOnErr result }
     {
-        batches_through(self, rt, alloc, site, len, minimum, multiplier, run)
+        let inner = self.inner()?;
+        let call = Call::batches(self.planning(), len, minimum, multiplier);
+        let (parts, measure) = choose_parts(self, rt, alloc, site, call)?;
+        let batches = Batches::in_parts(alloc, &inner, site, len, parts, minimum)?;
+        let running = Running::begun(measure);
+        let answer = run(batches);
+        end_run(self, rt, running, true);
+        Ok(answer)
     }
 
     /// As `run_batches`, with a closure that may fail by an error of its own.
@@ -656,7 +703,21 @@ pub trait Strategy: Chooser {
             Self.threads Self.starts P.site_of self.now site len minimum multiplier
             (λ batches. F.post run batches out)) }
     {
-        try_batches_through(self, rt, alloc, site, len, minimum, multiplier, run)
+        let inner = self.inner()?;
+        let call = Call::batches(self.planning(), len, minimum, multiplier);
+        let (parts, measure) = choose_parts(self, rt, alloc, site, call)?;
+        let batches = Batches::in_parts(alloc, &inner, site, len, parts, minimum)?;
+        let running = Running::begun(measure);
+        match run(batches) {
+            Ok(answer) => {
+                end_run(self, rt, running, true);
+                Ok(answer)
+            }
+            Err(error) => {
+                end_run(self, rt, running, false);
+                Err(Trouble::Closure(error))
+            }
+        }
     }
 
     /// An answer of `run` over tiles of one of `grids`, on rows of `len` columns: of the first one
@@ -689,7 +750,15 @@ pub trait Strategy: Chooser {
             (λ tiles. F.post run tiles answer)) }
         ensures fault { IsMemoryOnErr result }
     {
-        tiles_through(self, rt, alloc, site, len, grids, multiplier, run)
+        let inner = self.inner()?;
+        let cost = serial_cost(grids, len);
+        let call = Call::tiles(self.planning(), len, cost, multiplier);
+        let (workers, measure) = choose_parts(self, rt, alloc, site, call)?;
+        let tiles = Tiles::for_workers(&inner, site, grids, len, workers);
+        let running = Running::begun(measure);
+        let answer = run(tiles);
+        end_run(self, rt, running, true);
+        Ok(answer)
     }
 }
 

@@ -10,14 +10,14 @@ ghost use Rattle.commonware_parallel.specs.Chains.{OneChain};
 ghost use Rattle.commonware_parallel.specs.MergedRows.{FillsCut};
 ghost use Rattle.commonware_parallel.specs.Rectangles.{IsInGrid};
 
-mod dispatched;
+mod cost;
 mod law;
 mod merged;
 mod rows;
 mod seats;
 
 use crate::strategy::Strategy;
-pub(crate) use dispatched::tiles_through;
+pub(crate) use cost::serial_cost;
 pub use law::merge_law;
 use merged::{fill_parts, merge_sorted};
 use parallel_fault::Fault;

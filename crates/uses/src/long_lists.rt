@@ -8,9 +8,7 @@ ghost use Rattle.parallel_bridge.specs.Sources.{GivesSome};
 ghost use Rattle.uses.specs.LongLists.{from_of, shape_of};
 
 use crate::squares::squares;
-use commonware_parallel::{
-    Call, Chooser, Fault, Pick, Place, Source, Strategy, Trouble, Unmeasured,
-};
+use commonware_parallel::{Call, Chooser, Fault, Pick, Place, Source, Strategy, Unmeasured};
 use std::alloc::Global;
 use std::num::NonZeroUsize;
 use std::sync::Wait;
@@ -18,9 +16,9 @@ use std::thread::Threads;
 
 /// Runs a call over few items on the caller's thread and any longer one in parallel.
 ///
-/// It shows all that a strategy of one's own takes. The functions below choose a pick, which is a
-/// path or a number of parts, and hand out two numbers; the ghost members say which picks are
-/// taken. Maps, folds, runs and batches come from the trait, with their contracts proved once for
+/// It shows all that a strategy of one's own takes. `choose` chooses a pick, which is a path or a
+/// number of parts, and the other functions hand out two numbers; the ghost members say which picks
+/// are taken. Maps, folds, runs and batches come from the trait, with their contracts proved once for
 /// every strategy, so nothing here can break them.
 #[derive(Clone, Copy, Debug, PartialEq, Eq)]
 pub struct LongLists {
@@ -29,8 +27,7 @@ pub struct LongLists {
 }
 
 impl LongLists {
-    ghost use Rattle.uses.specs.LongLists.{from_of, thread_number_of, TakesByLength};
-    ghost use Rattle.commonware_parallel.specs.Calls.{HasPick};
+    ghost use Rattle.uses.specs.LongLists.{from_of, thread_number_of};
 
     /// A strategy that runs calls over `from` items and more in parallel, in as many parts as
     /// `threads` threads ask for.
@@ -39,20 +36,6 @@ impl LongLists {
         ensures from { from_of result ≡ from }
     {
         LongLists { threads, from }
-    }
-
-    // The one decision: the first pick is the serial one, and the last one splits most. A method of
-    // its own, since both functions of the trait that choose have to choose alike.
-    fn pick(&self, call: Call) -> Pick
-        requires { 0 < call.max_parts }
-        ensures has { HasPick call result }
-        ensures takes { TakesByLength (from_of self.now) call result }
-    {
-        if call.len < self.from {
-            call.first()
-        } else {
-            call.last()
-        }
     }
 }
 
@@ -99,17 +82,6 @@ impl Chooser for LongLists {
         Ok(*self)
     }
 
-    fn dispatch<Rt: Wait, P: Place, R, E, B: FnOnce(Pick) -> Result<R, E>>(
-        &self,
-        _rt: &Rt,
-        _alloc: Global,
-        _site: P,
-        call: Call,
-        body: B,
-    ) -> Result<R, Trouble<E>> {
-        body(self.pick(call)).map_err(Trouble::Closure)
-    }
-
     fn choose<Rt: Wait, P: Place>(
         &self,
         _rt: &Rt,
@@ -117,7 +89,13 @@ impl Chooser for LongLists {
         _site: P,
         call: Call,
     ) -> Result<(Pick, Unmeasured), Fault> {
-        Ok((self.pick(call), Unmeasured))
+        // The one decision: the first pick is the serial one, and the last one splits most.
+        let pick = if call.len < self.from {
+            call.first()
+        } else {
+            call.last()
+        };
+        Ok((pick, Unmeasured))
     }
 }
 

@@ -9,7 +9,7 @@ use crate::mocks::rule::Rule;
 use crate::rayon_strategy::Rayon;
 use crate::strategy::Chooser;
 use parallel_bridge::Path;
-use parallel_fault::{Fault, Trouble};
+use parallel_fault::Fault;
 use parallel_policy::{Place, Site};
 use parallel_pool::rayon::ThreadPool;
 use std::alloc::Global;
@@ -157,17 +157,6 @@ impl Chooser for Explorer {
             starts_workers: self.starts_workers,
             rule: self.rule,
         })
-    }
-
-    fn dispatch<Rt: Wait, P: Place, R, E, B: FnOnce(Pick) -> Result<R, E>>(
-        &self,
-        _rt: &Rt,
-        _alloc: Global,
-        site: P,
-        call: Call,
-        body: B,
-    ) -> Result<R, Trouble<E>> {
-        body(self.picked(site.site(), call)).map_err(Trouble::Closure)
     }
 
     fn choose<Rt: Wait, P: Place>(

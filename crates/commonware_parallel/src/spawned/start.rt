@@ -3,6 +3,7 @@ ghost use Rattle.std.specs.Prelude.{IfErr, IfOk, true};
 ghost use Rattle.parallel_bridge.specs.declared.path.Path.TheVariants.{Parallel, Serial};
 ghost use Rattle.commonware_parallel.specs.Spawned.{BeginsAs, FailsToBegin, gives_answer};
 
+use crate::chosen::Running;
 use crate::meter::Meter;
 use crate::spawned::ending::Ending;
 use crate::spawned::job::{Job, Kept};
@@ -60,10 +61,9 @@ fn run_here<R: Wait, M: Meter, S, F: Job<S, T>, T>(
     ensures gives { (x : T) → gives_answer F.may_answer result x → F.may_answer job strategy x }
     ensures form { BeginsAs true Serial result }
 {
-    let mut meter = meter;
-    meter.begin();
+    let running = Running::begun(meter);
     let answer = job.run_on(strategy);
-    meter.end(&rt);
+    running.ended(&rt);
     Spawned::at(rt, Stage::Ready(answer))
 }
 
@@ -84,14 +84,13 @@ fn hand_off<
     let ending = Arc::new(alloc, Ending::new())?;
     let theirs = Arc::try_clone(&ending)?;
     let kept = Kept::of(&job, &strategy);
-    let mut meter = meter;
     let run = move || -> T
         requires { F.may_run job strategy }
         ensures { F.may_answer job strategy result }
     {
-        meter.begin();
+        let running = Running::begun(meter);
         let answer = job.run_on(strategy);
-        meter.end(&rt);
+        running.ended(&rt);
         theirs.end(&rt);
         answer
     };

@@ -1,23 +1,23 @@
 //! What a strategy writes: how it chooses.
 ghost use Rattle.std.specs.Prelude.{◌≡◌, ◌≢◌, ◌<◌, ℕ, Bool, IfErr, IfOk, IsTrue};
 ghost use Rattle.std.specs.Int.NonZero.{non_zero_usize_get};
-ghost use Rattle.parallel_fault.specs.Trouble.{IsMemoryOnErr, IsMemoryOnFault};
-ghost use Rattle.commonware_parallel.specs.Answers.{AnswersAs};
+ghost use Rattle.parallel_fault.specs.Trouble.{IsMemoryOnErr};
 ghost use Rattle.commonware_parallel.specs.Calls.{HasPick, IsInnerOf};
 
 use crate::call::{Call, Kind, Pick};
 use crate::meter::Meter;
-use parallel_fault::{Fault, Trouble};
+use parallel_fault::Fault;
 use parallel_policy::{Place, Site};
 use std::alloc::Global;
 use std::fmt::Debug;
 use std::num::NonZeroUsize;
 use std::sync::Wait;
 
-/// What a strategy writes: two functions that choose, `dispatch` and `choose`, readers of its
-/// numbers, `inner`, the type `Measure`, and six ghost members, in which it says what it may pick.
+/// What a strategy writes: `choose`, readers of its numbers, `inner`, the type `Measure`, and six
+/// ghost members, in which it says what it may pick. One that learns by measuring writes `tell` too.
 ///
-/// Whatever chooses is a `Strategy`, so bounds name that trait.
+/// A strategy is asked before a run, and told how long it went where it has answered; the run
+/// itself is the trait's. Whatever chooses is a `Strategy`, so bounds name that trait.
 pub trait Chooser: Clone + Send + Sync + Debug + 'static {
     ghost use Rattle.parallel_policy.specs.declared.Site.{Site};
     ghost use Rattle.parallel_fault.specs.declared.fault.Fault.{Fault};
@@ -78,39 +78,12 @@ pub trait Chooser: Clone + Send + Sync + Debug + 'static {
         ensures inner { IfOk result (IsInnerOf takes refuses plans threads starts self.now) }
         ensures fault { IsMemoryOnErr result };
 
-    /// Picks for the call, tells the body on the caller's thread, and answers what it answered.
-    ///
-    /// The body runs inside, so that an implementation can time it and tell an error of it apart.
-    /// An answer or an error of the body's own is one that it allows at a pick that the call has
-    /// and that the strategy may take (`AnswersAs`).
-    ///
-    /// # Errors
-    ///
-    /// `Trouble::Closure` with the body's own error. `Trouble::Fault` with a refusal that `refuses`
-    /// allows, which is `Fault::Memory`; the body wasn't called then, or its answer is gone.
-    fn dispatch<Rt: Wait, P: Place, R, E, B: FnOnce(Pick) -> Result<R, E>>(
-        &self,
-        rt: &Rt,
-        alloc: Global,
-        site: P,
-        call: Call,
-        body: B,
-    ) -> Result<R, Trouble<E>>
-        requires parts { 0 < call.max_parts }
-        requires kind { call.kind ≢ Spawn }
-        requires accepts { (pick : Pick) → HasPick call pick
-            → takes self.now (P.site_of site) call pick → B.pre body pick }
-        ensures answers { AnswersAs
-            (λ pick. HasPick call pick × takes self.now (P.site_of site) call pick)
-            (refuses self.now (P.site_of site) call)
-            (B.post body) result }
-        ensures memory { IsMemoryOnFault result };
-
-    /// Measures what goes on after a choice was handed out.
+    /// Measures a run, from when its pick was handed out until it has ended.
     type Measure: Meter + Send + 'static;
 
-    /// Hands out a pick for the call, with a meter of the run to come, where the body can't run
-    /// inside: for a job that goes on on a worker, and for a body that writes through a `&mut`.
+    /// Hands out a pick for the call, with a measure of the run to come.
+    ///
+    /// The run begins at once, so an implementation may take its time from here.
     ///
     /// # Errors
     ///
@@ -127,4 +100,12 @@ pub trait Chooser: Clone + Send + Sync + Debug + 'static {
             × takes self.now (P.site_of site) call chosen.0) }
         ensures refused { IfErr result (refuses self.now (P.site_of site) call) }
         ensures memory { call.kind ≢ Spawn → IsMemoryOnErr result };
+
+    /// Is told that a run for which it chose has answered. Of one that failed, or was refused,
+    /// nothing is told. A job ends away from its strategy, so its measure alone is told of its end.
+    ///
+    /// Nothing is claimed of what is learnt. Where it isn't written the measure is ended.
+    fn tell<Rt: Wait>(&self, rt: &Rt, measure: Self::Measure) {
+        measure.end(rt);
+    }
 }

@@ -1,11 +1,11 @@
 //! Which calls a strategy is asked about, by one of the tests' own that counts them.
-ghost use Rattle.std.specs.Prelude.{◌≡◌, ◌<◌, false, true};
-ghost use Rattle.commonware_parallel.specs.Calls.{HasPick, last_pick};
+ghost use Rattle.std.specs.Prelude.{◌≡◌, false, true};
+ghost use Rattle.commonware_parallel.specs.Calls.{last_pick};
 
 use crate::tests::batches::mapped_starts;
 use crate::tests::same::row;
 use crate::tests::strategies::number;
-use commonware_parallel::{Call, Chooser, Fault, Pick, Place, Trouble, Unmeasured};
+use commonware_parallel::{Call, Chooser, Fault, Pick, Place, Unmeasured};
 use std::alloc::Global;
 use std::num::NonZeroUsize;
 use std::process::Abort;
@@ -28,15 +28,6 @@ impl Asked {
 
     fn times(&self) -> u64 {
         self.times.load(Ordering::SeqCst)
-    }
-
-    fn ask(&self, call: Call) -> Pick
-        requires { 0 < call.max_parts }
-        ensures has { HasPick call result }
-        ensures last { result ≡ last_pick call }
-    {
-        self.times.fetch_add(1, Ordering::SeqCst);
-        call.last()
     }
 }
 
@@ -76,17 +67,6 @@ impl Chooser for Asked {
         Ok(Asked { times })
     }
 
-    fn dispatch<Rt: Wait, P: Place, R, E, B: FnOnce(Pick) -> Result<R, E>>(
-        &self,
-        _rt: &Rt,
-        _alloc: Global,
-        _site: P,
-        call: Call,
-        body: B,
-    ) -> Result<R, Trouble<E>> {
-        body(self.ask(call)).map_err(Trouble::Closure)
-    }
-
     fn choose<Rt: Wait, P: Place>(
         &self,
         _rt: &Rt,
@@ -94,7 +74,8 @@ impl Chooser for Asked {
         _site: P,
         call: Call,
     ) -> Result<(Pick, Unmeasured), Fault> {
-        Ok((self.ask(call), Unmeasured))
+        self.times.fetch_add(1, Ordering::SeqCst);
+        Ok((call.last(), Unmeasured))
     }
 }
 

@@ -1,5 +1,6 @@
--- Over the source as it comes there is one state.
-use Rattle.commonware_parallel.proofs.{rules, refl, length, ℕ, Serial, stateful_from_segment, multiplied_call, Call, over_source}
+-- Over the source as it comes there is one state; by a path they change as the strategy's thread
+-- number says.
+use Rattle.commonware_parallel.proofs.{rules, refl, length, ℕ, Serial, stateful_from_segment, MutBor, multiplied_call, Call, Pick, MapStep, MappedInitAs, along_source, over_source}
 use Rattle.commonware_parallel.proofs.strategy.Strategy.map_init_collect_vec_with_multiplier.Goals as goal
 
 pub returns-then-is_serial-clause-stateful : goal.returns-then-is_serial-clause-stateful
@@ -17,3 +18,18 @@ returns-then-is_serial-clause-along g c =
       c.is_serial.ensures.first (search rules) site (call_of (length xs)) refl,
       (stateful_from_segment _ _ xs ys.items h, h),
     ))
+
+pub returns-clause-along : goal.returns-clause-along
+returns-clause-along g c =
+    let site = g.P.Place.site_of c.args.site in
+    let call_of : ℕ → Call = λ n. multiplied_call n c.args.multiplier in
+    let init = λ (s : g.row.S.Denot). g.N.Fn.post c.args.init tt s in
+    let step =
+    MapStep (λ (p : MutBor g.row.S.Denot) (x : g.row.I-Item.Denot) (y : g.row.T.Denot)
+    (q : MutBor g.row.S.Denot). g.F.Fn.post c.args.map_op (p, (x, tt)) (y, (q, tt))) in
+    along_source call_of _
+    (λ (call : Call) (pick : Pick). g.Self.Chooser.takes c.args.self.now site call pick) _ _ _
+    (λ depth path xs ys. MappedInitAs init step depth path xs ys.items)
+    c.map_init_by-mapped.result c.thread_number-threads.ensures.number c.in_ok-path.ensures.takes
+    c.multiplied_body_over-call.ensures.counted c.in_ok-parts.ensures.gives
+    c.map_init_by-mapped.ensures.maps

@@ -1,5 +1,6 @@
--- Over the source as it comes the list is one segment.
-use Rattle.commonware_parallel.proofs.{rules, refl, length, Serial, body_call, outcome_over_source}
+-- Over the source as it comes the list is one segment; by a path it goes as the strategy's thread
+-- number says.
+use Rattle.commonware_parallel.proofs.{rules, refl, length, Result, Serial, body_call, Call, Pick, TryFoldedAs, outcome_along_source, outcome_over_source}
 use Rattle.parallel_bridge.specs.Tries.{of_try_segment}
 use Rattle.commonware_parallel.proofs.strategy.Strategy.try_fold.Goals as goal
 
@@ -17,3 +18,20 @@ returns-then-is_serial-clause-along g c =
       c.is_serial.ensures.first (search rules) site (body_call (length xs)) refl,
       (of_try_segment h, h),
     ))
+
+pub returns-clause-along : goal.returns-clause-along
+returns-clause-along g c =
+    let site = g.P.Place.site_of c.args.site in
+    let identity = λ (e : g.row.R.Denot). g.ID.Fn.post c.args.identity tt e in
+    let step =
+    λ (a : g.row.R.Denot) (x : g.row.I-Item.Denot)
+    (o : Result g.row.R.Denot g.row.E.Denot). g.F.Fn.post c.args.fold_op (a, (x, tt)) o in
+    let reduce =
+    λ (a : g.row.R.Denot) (b : g.row.R.Denot) (r : g.row.R.Denot). g.G.Fn.post
+    c.args.reduce_op (a, (b, tt)) r in
+    outcome_along_source body_call _
+    (λ (call : Call) (pick : Pick). g.Self.Chooser.takes c.args.self.now site call pick) _ _ _
+    (λ depth path xs out. TryFoldedAs identity step reduce depth path xs out)
+    c.try_fold_by-outcome.result c.thread_number-threads.ensures.number c.in_ok-path.ensures.takes
+    c.body_over-call.ensures.counted c.in_ok-parts.ensures.gives
+    c.try_fold_by-outcome.ensures.folds

@@ -1,0 +1,116 @@
+//! Picks by the kind of a call, and runs from their beginning to their end.
+//!
+//! A strategy picks for every kind of call. Which picks a call has goes by its kind: so one that
+//! goes by a path is given a path here, and any other a number of parts.
+ghost use Rattle.std.specs.Prelude.{◌<◌, ◌≡◌, ◌≢◌, ◌≤◌, IfErr, IfOk, false, true};
+ghost use Rattle.commonware_parallel.specs.Words.{By, Into, IsMemoryOnErr, Spawn, goes_by_path};
+
+use crate::call::{Call, Pick};
+use crate::meter::Meter;
+use crate::strategy::Strategy;
+use parallel_bridge::Path;
+use parallel_fault::Fault;
+use parallel_policy::Place;
+use std::alloc::Global;
+use std::sync::Wait;
+
+/// A run that has begun, with what it is measured by.
+///
+/// It can't be dropped: who begins a run has to say that it has ended, and how. A function that
+/// leaves this out on one of its ways doesn't compile.
+pub(crate) struct Running<M> {
+    measure: M,
+}
+
+impl<M: Meter> Running<M> {
+    /// The run begins.
+    pub(crate) fn begun(measure: M) -> Running<M> {
+        let mut measure = measure;
+        measure.begin();
+        Running { measure }
+    }
+
+    /// The run has ended away from its strategy, and its measure tells so by itself.
+    pub(crate) fn ended<Rt: Wait>(self, rt: &Rt) {
+        let Running { measure } = self;
+        measure.end(rt);
+    }
+}
+
+/// The run has ended. Its strategy is told where it has answered: of an error nothing is told.
+pub(crate) fn end_run<S: Strategy, Rt: Wait>(
+    strategy: &S,
+    rt: &Rt,
+    running: Running<S::Measure>,
+    has_answered: bool,
+) {
+    let Running { measure } = running;
+    if has_answered {
+        strategy.tell(rt, measure);
+    }
+}
+
+/// A path that the strategy takes for the call, with a measure of the run to come.
+pub(crate) fn choose_path<S: Strategy, Rt: Wait, P: Place>(
+    strategy: &S,
+    rt: &Rt,
+    alloc: Global,
+    site: P,
+    call: Call,
+) -> Result<(Path, S::Measure), Fault>
+    requires parts { 0 < call.max_parts }
+    requires by_path { goes_by_path call.kind ≡ true }
+    ensures takes { IfOk result (λ chosen. S.takes strategy.now (P.site_of site) call
+        (By chosen.0)) }
+    ensures refused { IfErr result (S.refuses strategy.now (P.site_of site) call) }
+    ensures memory { call.kind ≢ Spawn → IsMemoryOnErr result }
+{
+    match strategy.choose(rt, alloc, site, call) {
+        Ok((Pick::By(path), measure)) => Ok((path, measure)),
+        Ok((Pick::Into(_), _)) => unreachable!(),
+        Err(fault) => Err(fault),
+    }
+}
+
+/// A number of parts that the strategy takes for the call, with a measure of the run to come.
+pub(crate) fn choose_parts<S: Strategy, Rt: Wait, P: Place>(
+    strategy: &S,
+    rt: &Rt,
+    alloc: Global,
+    site: P,
+    call: Call,
+) -> Result<(usize, S::Measure), Fault>
+    requires parts { 0 < call.max_parts }
+    requires in_parts { goes_by_path call.kind ≡ false }
+    ensures some { IfOk result (λ chosen. 0 < chosen.0) }
+    ensures fit { IfOk result (λ chosen. chosen.0 ≤ call.max_parts) }
+    ensures takes { IfOk result (λ chosen. S.takes strategy.now (P.site_of site) call
+        (Into chosen.0)) }
+    ensures memory { IsMemoryOnErr result }
+{
+    match strategy.choose(rt, alloc, site, call) {
+        Ok((Pick::Into(parts), measure)) => Ok((parts, measure)),
+        Ok((Pick::By(_), _)) => unreachable!(),
+        Err(fault) => Err(fault),
+    }
+}
+
+/// A path that the strategy takes for the call, by which the run has begun.
+pub(crate) fn begin_path<S: Strategy, Rt: Wait, P: Place>(
+    strategy: &S,
+    rt: &Rt,
+    alloc: Global,
+    site: P,
+    call: Call,
+) -> Result<(Path, Running<S::Measure>), Fault>
+    requires parts { 0 < call.max_parts }
+    requires by_path { goes_by_path call.kind ≡ true }
+    requires kind { call.kind ≢ Spawn }
+    ensures takes { IfOk result (λ begun. S.takes strategy.now (P.site_of site) call
+        (By begun.0)) }
+    ensures refused { IfErr result (S.refuses strategy.now (P.site_of site) call) }
+    ensures memory { IsMemoryOnErr result }
+{
+    let (path, measure) = choose_path(strategy, rt, alloc, site, call)?;
+    Ok((path, Running::begun(measure)))
+}
