@@ -174,10 +174,7 @@ impl ThreadPoolBuilder {
     {
         let ThreadPoolBuilder { plan, names, start } = self;
         let num_threads = plan.planned_threads();
-        let (staff, mut workers) = staff(alloc, num_threads, plan.label)?;
-        let current = current(&plan, num_threads, &mut workers)?;
-        let named = named(alloc, &plan, names, start, workers)?;
-        let staff = started(rt, alloc, &plan, staff, named)?;
+        let (staff, current) = staffed(rt, alloc, &plan, num_threads, names, start)?;
         Ok((ThreadPool::over(num_threads, plan.label, staff), current))
     }
 }
@@ -211,6 +208,45 @@ fn placeholder(is_set: bool) -> Option<Closure> {
     if is_set { Some(Closure) } else { None }
 }
 
+// The staff, with its workers started; and the worker of the thread that builds the pool.
+fn staffed<R: Threads + Wait + Copy + Send + 'static, T: Execute + Send + 'static>(
+    rt: &R,
+    alloc: Global,
+    plan: &PoolPlan,
+    num_threads: NonZeroUsize,
+    names: Option<Names>,
+    start: Option<StartHandler>,
+) -> Result<(Staff<T>, Option<WorkerThread<T>>), ThreadPoolBuildError>
+    requires { non_zero_usize_get num_threads ≤ MAX_THREADS }
+    ensures { IfOk result (λ made. MatchOption made.1
+        (plan.now.use_current_thread ≡ false)
+        (λ worker. (plan.now.use_current_thread ≡ true)
+        × IsFirstWorker plan.now.label (non_zero_usize_get num_threads) worker)) }
+{
+    let (staff, current, workers) = unstarted(alloc, plan, num_threads)?;
+    let named = named(alloc, plan, names, start, workers)?;
+    let staff = started(rt, alloc, plan, staff, named)?;
+    Ok((staff, current))
+}
+
+// The staff, of which no worker is started; the worker of the thread that builds the pool; and the
+// others.
+fn unstarted<T: Execute>(
+    alloc: Global,
+    plan: &PoolPlan,
+    num_threads: NonZeroUsize,
+) -> Result<(Staff<T>, Option<WorkerThread<T>>, Vec<WorkerThread<T>>), ThreadPoolBuildError>
+    requires { non_zero_usize_get num_threads ≤ MAX_THREADS }
+    ensures { IfOk result (λ made. MatchOption made.1
+        (plan.now.use_current_thread ≡ false)
+        (λ worker. (plan.now.use_current_thread ≡ true)
+        × IsFirstWorker plan.now.label (non_zero_usize_get num_threads) worker)) }
+{
+    let (staff, mut workers) = staff(alloc, num_threads, plan.label)?;
+    let current = current(plan, num_threads, &mut workers)?;
+    Ok((staff, current, workers))
+}
+
 // The queues of a pool, and its workers, in order, of which none is started.
 fn staff<T: Execute>(
     alloc: Global,
@@ -219,12 +255,33 @@ fn staff<T: Execute>(
 ) -> Result<(Staff<T>, Vec<WorkerThread<T>>), ThreadPoolBuildError>
     requires { non_zero_usize_get num_threads ≤ MAX_THREADS }
 {
-    let (queues, deques) = of_memory(JobQueues::new(alloc, num_threads))?;
-    let (registry, rests) = of_memory(Registry::new(alloc, num_threads))?;
-    let registry = Arc::new(alloc, registry)?;
-    let workers = workers(alloc, label, &queues, &registry, deques, rests)?;
-    let seat = seat(alloc, &queues, &registry)?;
+    let (registry, rests) = registry(alloc, num_threads)?;
+    let (seat, workers) = seated(alloc, num_threads, label, &registry, rests)?;
     Ok((Staff::new(seat, Hold::new(registry)), workers))
+}
+
+// What the threads of the pool share, and what each worker rests by.
+fn registry(
+    alloc: Global,
+    num_threads: NonZeroUsize,
+) -> Result<(Arc<Registry, Global>, Vec<Rest>), ThreadPoolBuildError>
+    requires { non_zero_usize_get num_threads ≤ MAX_THREADS }
+{
+    let (registry, rests) = of_memory(Registry::new(alloc, num_threads))?;
+    Ok((Arc::new(alloc, registry)?, rests))
+}
+
+// The pool's seat of its queues, and the workers.
+fn seated<T: Execute>(
+    alloc: Global,
+    num_threads: NonZeroUsize,
+    label: u64,
+    registry: &Arc<Registry, Global>,
+    rests: Vec<Rest>,
+) -> Result<(JobSeat<T>, Vec<WorkerThread<T>>), ThreadPoolBuildError> {
+    let (queues, deques) = of_memory(JobQueues::new(alloc, num_threads))?;
+    let workers = workers(alloc, label, &queues, registry, deques, rests)?;
+    Ok((seat(alloc, &queues, registry)?, workers))
 }
 
 // A refusal of the pool's lists and queues is one of memory.
@@ -241,8 +298,11 @@ fn seat<T: Execute>(
     queues: &JobQueues<T>,
     registry: &Arc<Registry, Global>,
 ) -> Result<JobSeat<T>, ThreadPoolBuildError> {
-    let seat = of_memory(queues.seat(alloc))?;
-    Ok(seat.counted_by(Arc::try_clone(registry)?))
+    let registry = Arc::try_clone(registry)?;
+    match queues.seat(alloc) {
+        Ok(seat) => Ok(seat.counted_by(registry)),
+        Err(_) => Err(ThreadPoolBuildError::Memory),
+    }
 }
 
 // The workers, each over its own deque.
@@ -256,18 +316,42 @@ fn workers<T: Execute>(
 ) -> Result<Vec<WorkerThread<T>>, ThreadPoolBuildError> {
     let mut all = Vec::new(alloc);
     for (own, rest) in deques.into_iter().zip(rests) {
-        let jobs = seat(alloc, queues, registry)?;
-        let registry = Arc::try_clone(registry)?;
-        all.push(WorkerThread {
-            index: all.len(),
-            label,
-            own,
-            jobs,
-            rest,
-            registry,
-        })?;
+        let index = all.len();
+        let made = worker(alloc, index, label, queues, registry, own, rest);
+        listed(&mut all, made)?;
     }
     Ok(all)
+}
+
+// Adds what was made to a list.
+fn listed<X: Drop>(
+    all: &mut Vec<X>,
+    made: Result<X, ThreadPoolBuildError>,
+) -> Result<(), ThreadPoolBuildError> {
+    all.push(made?)?;
+    Ok(())
+}
+
+// The worker of an index.
+fn worker<T: Execute>(
+    alloc: Global,
+    index: usize,
+    label: u64,
+    queues: &JobQueues<T>,
+    registry: &Arc<Registry, Global>,
+    own: JobDeque<T>,
+    rest: Rest,
+) -> Result<WorkerThread<T>, ThreadPoolBuildError> {
+    let jobs = seat(alloc, queues, registry)?;
+    let registry = Arc::try_clone(registry)?;
+    Ok(WorkerThread {
+        index,
+        label,
+        own,
+        jobs,
+        rest,
+        registry,
+    })
 }
 
 // The worker of the thread that builds the pool, taken out of the list, whose first one it is.
@@ -313,18 +397,38 @@ fn named<T: Execute>(
     start: Option<StartHandler>,
     workers: Vec<WorkerThread<T>>,
 ) -> Result<Vec<(Option<String>, Starter<T>)>, ThreadPoolBuildError> {
-    let mut names = names;
-    let start = shared(alloc, start)?;
-    let mut all = Vec::new(alloc);
     if plan.unstarted_workers {
-        return Ok(all);
+        return Ok(Vec::new(alloc));
     }
+    let start = shared(alloc, start)?;
+    each_named(alloc, names, &start, workers)
+}
+
+// Each of the workers, so.
+fn each_named<T: Execute>(
+    alloc: Global,
+    names: Option<Names>,
+    start: &Option<Arc<StartHandler, Global>>,
+    workers: Vec<WorkerThread<T>>,
+) -> Result<Vec<(Option<String>, Starter<T>)>, ThreadPoolBuildError> {
+    let mut names = names;
+    let mut all = Vec::new(alloc);
     for worker in workers {
-        let name = name_of(&mut names, worker.index())?;
-        let start = again(&start)?;
-        all.push((name, Starter { worker, start }))?;
+        let made = starter(&mut names, start, worker);
+        listed(&mut all, made)?;
     }
     Ok(all)
+}
+
+// One of them.
+fn starter<T: Execute>(
+    names: &mut Option<Names>,
+    start: &Option<Arc<StartHandler, Global>>,
+    worker: WorkerThread<T>,
+) -> Result<(Option<String>, Starter<T>), ThreadPoolBuildError> {
+    let name = name_of(names, worker.index())?;
+    let start = again(start)?;
+    Ok((name, Starter { worker, start }))
 }
 
 // The handler, for all workers.
