@@ -32,16 +32,24 @@ impl<T: Execute> Work for Starter<T> {
     }
 }
 
-/// Starts each worker, with its name, and lists the threads, for which there is room.
+/// Starts each worker, with its name.
 ///
-/// `ThreadPoolBuildError::Spawn` where a start was refused: those before it run.
+/// An Err has the threads of those that were started before, which run:
+/// `ThreadPoolBuildError::Memory` where there is no room to list them, of which there are none
+/// then; `Spawn` where a start was refused.
 pub(crate) fn start_workers<R: Threads + Wait + Copy + Send + 'static, T: Execute + Send + 'static>(
     rt: &R,
+    alloc: Global,
     stack_size: Option<usize>,
     workers: Vec<(Option<String>, Starter<T>)>,
-    started: &mut Vec<JoinHandle<()>>,
-) -> Result<(), ThreadPoolBuildError> {
-    start_all::<R, Starter<T>>(rt, stack_size, workers, started)
+) -> Result<(), (ThreadPoolBuildError, Vec<JoinHandle<()>>)> {
+    let Ok(mut started) = Vec::with_capacity(alloc, workers.len()) else {
+        return Err((ThreadPoolBuildError::Memory, Vec::new(alloc)));
+    };
+    match start_all::<R, Starter<T>>(rt, stack_size, workers, &mut started) {
+        Ok(()) => Ok(()),
+        Err(error) => Err((error, started)),
+    }
 }
 
 fn start_all<R: Threads + Wait + Copy + Send + 'static, W: Work + Send + 'static>(

@@ -223,28 +223,26 @@ fn staffed<R: Threads + Wait + Copy + Send + 'static, T: Execute + Send + 'stati
         (λ worker. (plan.now.use_current_thread ≡ true)
         × IsFirstWorker plan.now.label (non_zero_usize_get num_threads) worker)) }
 {
-    let (staff, current, workers) = unstarted(alloc, plan, num_threads)?;
-    let named = named(alloc, plan, names, start, workers)?;
-    let staff = started(rt, alloc, plan, staff, named)?;
-    Ok((staff, current))
-}
-
-// The staff, of which no worker is started; the worker of the thread that builds the pool; and the
-// others.
-fn unstarted<T: Execute>(
-    alloc: Global,
-    plan: &PoolPlan,
-    num_threads: NonZeroUsize,
-) -> Result<(Staff<T>, Option<WorkerThread<T>>, Vec<WorkerThread<T>>), ThreadPoolBuildError>
-    requires { non_zero_usize_get num_threads ≤ MAX_THREADS }
-    ensures { IfOk result (λ made. MatchOption made.1
-        (plan.now.use_current_thread ≡ false)
-        (λ worker. (plan.now.use_current_thread ≡ true)
-        × IsFirstWorker plan.now.label (non_zero_usize_get num_threads) worker)) }
-{
     let (staff, mut workers) = staff(alloc, num_threads, plan.label)?;
     let current = current(plan, num_threads, &mut workers)?;
-    Ok((staff, current, workers))
+    match run(rt, alloc, plan, names, start, staff, workers) {
+        Ok(staff) => Ok((staff, current)),
+        Err(error) => Err(error),
+    }
+}
+
+// The staff, with those workers started.
+fn run<R: Threads + Wait + Copy + Send + 'static, T: Execute + Send + 'static>(
+    rt: &R,
+    alloc: Global,
+    plan: &PoolPlan,
+    names: Option<Names>,
+    start: Option<StartHandler>,
+    staff: Staff<T>,
+    workers: Vec<WorkerThread<T>>,
+) -> Result<Staff<T>, ThreadPoolBuildError> {
+    let named = named(alloc, plan, names, start, workers)?;
+    started(rt, alloc, plan, staff, named)
 }
 
 // The queues of a pool, and its workers, in order, of which none is started.
@@ -342,16 +340,17 @@ fn worker<T: Execute>(
     own: JobDeque<T>,
     rest: Rest,
 ) -> Result<WorkerThread<T>, ThreadPoolBuildError> {
-    let jobs = seat(alloc, queues, registry)?;
-    let registry = Arc::try_clone(registry)?;
-    Ok(WorkerThread {
-        index,
-        label,
-        own,
-        jobs,
-        rest,
-        registry,
-    })
+    match (seat(alloc, queues, registry), Arc::try_clone(registry)) {
+        (Ok(jobs), Ok(registry)) => Ok(WorkerThread {
+            index,
+            label,
+            own,
+            jobs,
+            rest,
+            registry,
+        }),
+        _ => Err(ThreadPoolBuildError::Memory),
+    }
 }
 
 // The worker of the thread that builds the pool, taken out of the list, whose first one it is.
@@ -368,14 +367,22 @@ fn current<T: Execute>(
     if !plan.use_current_thread {
         return Ok(None);
     }
-    if workers.is_empty() {
+    let Some(worker) = first_of(workers) else {
         return Err(ThreadPoolBuildError::Memory);
-    }
-    let worker = workers.remove(0);
+    };
     if is_first(&worker, plan.label, num_threads) {
         Ok(Some(worker))
     } else {
         Err(ThreadPoolBuildError::Memory)
+    }
+}
+
+// Takes the first of a list.
+fn first_of<X: Drop>(list: &mut Vec<X>) -> Option<X> {
+    if list.is_empty() {
+        None
+    } else {
+        Some(list.remove(0))
     }
 }
 
@@ -426,9 +433,10 @@ fn starter<T: Execute>(
     start: &Option<Arc<StartHandler, Global>>,
     worker: WorkerThread<T>,
 ) -> Result<(Option<String>, Starter<T>), ThreadPoolBuildError> {
-    let name = name_of(names, worker.index())?;
-    let start = again(start)?;
-    Ok((name, Starter { worker, start }))
+    match (name_of(names, worker.index()), again(start)) {
+        (Ok(name), Ok(start)) => Ok((name, Starter { worker, start })),
+        _ => Err(ThreadPoolBuildError::Memory),
+    }
 }
 
 // The handler, for all workers.
@@ -468,11 +476,10 @@ fn started<R: Threads + Wait + Copy + Send + 'static, T: Execute + Send + 'stati
     workers: Vec<(Option<String>, Starter<T>)>,
 ) -> Result<Staff<T>, ThreadPoolBuildError> {
     let first = usize::from(plan.use_current_thread);
-    let count = workers.len();
-    let mut handles = Vec::with_capacity(alloc, count)?;
-    match start_workers(rt, plan.stack_size, workers, &mut handles) {
-        Ok(()) => Ok(staff.with_started(first..first.saturating_add(count))),
-        Err(error) => {
+    let last = first.saturating_add(workers.len());
+    match start_workers(rt, alloc, plan.stack_size, workers) {
+        Ok(()) => Ok(staff.with_started(first..last)),
+        Err((error, handles)) => {
             drop(staff);
             join_all(rt, handles);
             Err(error)
