@@ -236,7 +236,7 @@ fn write_pairs<T: Drop, W: Writer<(T, T)>, G: Watch>(
 /// Gives owned items from the front, two neighbours at a time, each one once.
 #[derive(Drop)]
 pub struct PairDrain<T> {
-    rest: Block<T>,
+    rest: Block<T, Global>,
 }
 
 impl<T: Drop> Iterator for PairDrain<T> {

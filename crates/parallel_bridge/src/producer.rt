@@ -207,7 +207,7 @@ impl Producer for Indices {
 /// Owned items that may be split in two, each part with its own items.
 #[derive(Drop)]
 pub struct DrainProducer<T> {
-    items: Block<T>,
+    items: Block<T, Global>,
     ghost first: { items.before ≡ 0 },
 }
 
@@ -271,7 +271,7 @@ impl<T: Send + Drop> Producer for DrainProducer<T> {
 /// Gives owned items from both ends, each one once.
 #[derive(Drop)]
 pub struct SliceDrain<T> {
-    rest: Block<T>,
+    rest: Block<T, Global>,
 }
 
 impl<T: Drop> Iterator for SliceDrain<T> {

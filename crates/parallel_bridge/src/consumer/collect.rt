@@ -15,7 +15,7 @@ pub struct CollectConsumer;
 /// The items of a segment so far, in order.
 #[derive(Drop)]
 pub struct CollectResult<T> {
-    items: Block<T>,
+    items: Block<T, Global>,
     ghost first: { items.before ≡ 0 },
 }
 

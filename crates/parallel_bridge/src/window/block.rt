@@ -5,18 +5,18 @@ ghost use Rattle.parallel_bridge.specs.Windows.{part};
 use crate::window::cells::Deed;
 use crate::window::part::Window;
 use crate::window::vector::{close, open};
-use std::alloc::{AllocError, Global};
+use std::alloc::{AllocError, Allocator};
 use std::marker::Model;
 
 /// A window over all places of a block, with the right to free it. A block that is let go drops its
 /// items and is freed. A clause sees it as it sees its window.
-pub struct Block<T> {
+pub struct Block<T, A: Allocator> {
     window: Window<T>,
-    deed: Deed<T, Global>,
-    vec: Vec<T>,
+    deed: Deed<T, A>,
+    vec: Vec<T, A>,
 }
 
-impl<T> Model for Block<T> {
+impl<T, A: Allocator> Model for Block<T, A> {
     ghost use Rattle.std.specs.Prelude.{◌≡◌, ◌<◌, ◌^◌};
     ghost use Rattle.parallel_bridge.specs.Windows.{View, view_code};
 
@@ -31,10 +31,10 @@ impl<T> Model for Block<T> {
         × (b.vec.cap ≡ 0) × (b.window.room < 2 ^ 63) };
 }
 
-impl<T> Block<T> {
+impl<T, A: Allocator> Block<T, A> {
     /// A vector's own block, with its items where they lie and its spare places behind them.
     /// Nothing is copied.
-    pub fn from_vec(vec: Vec<T>) -> Self
+    pub fn from_vec(vec: Vec<T, A>) -> Self
         ensures { result ≡ part result.start vec.cap 0 vec.items }
     {
         let mut vec = vec;
@@ -52,7 +52,7 @@ impl<T> Block<T> {
     }
 
     /// The items as a vector, which has the block. Nothing is copied.
-    pub fn into_vec(self) -> Vec<T>
+    pub fn into_vec(self) -> Vec<T, A>
         requires { self.before ≡ 0 }
         ensures { result.items ≡ self.items }
     {
@@ -100,7 +100,7 @@ impl<T> Block<T> {
     }
 }
 
-impl<T: Drop> Block<T> {
+impl<T: Drop, A: Allocator> Block<T, A> {
     /// The block with one item more, behind the others. Where it has no room left, its items move
     /// into a bigger one.
     ///
@@ -126,7 +126,7 @@ impl<T: Drop> Block<T> {
     /// # Errors
     ///
     /// `AllocError` where memory for a bigger block is refused; the items are then gone.
-    pub fn append(self, more: Vec<T>) -> Result<Self, AllocError>
+    pub fn append(self, more: Vec<T, A>) -> Result<Self, AllocError>
         requires { self.before ≡ 0 }
         ensures { IfOk result (λ b. (b.items ≡ self.items ++ more.items) × (b.before ≡ 0)) }
     {
@@ -142,6 +142,8 @@ impl<T: Drop> Block<T> {
     ///
     /// `AllocError` where memory for the second block is refused; the items are then gone.
     pub fn split_off(self, index: usize) -> Result<(Self, Self), AllocError>
+    where
+        A: Clone,
         requires { (self.before ≡ 0) × (index ≤ length self.items) }
         ensures front { IfOk result (λ p. (p.0.items ≡ take index self.items) × (p.0.before ≡ 0)) }
         ensures back { IfOk result (λ p. (p.1.items ≡ drop index self.items) × (p.1.before ≡ 0)) }
@@ -152,7 +154,7 @@ impl<T: Drop> Block<T> {
     }
 }
 
-impl<T: Drop> Drop for Block<T> {
+impl<T: Drop, A: Allocator> Drop for Block<T, A> {
     fn drop(mut self) {
         self.window.clear();
         drop(self.into_vec());
