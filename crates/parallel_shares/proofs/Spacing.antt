@@ -1,5 +1,5 @@
 -- Words that lie apart in a table are stepped on as if they lay side by side.
-use Rattle.parallel_shares.proofs.Common.{◌≡◌, ℕ, zero, suc, ◌+◌, ◌-◌, ◌*◌, ◌/◌, ◌<◌, ◌^◌, List, [], ◌∷◌, ◌++◌, length, get_or, set, take, flat_map, take_more, refl, sym, ap, subst, ◌∙◌, arith, some, some-injective, some-ne-none, get_elem?, State, Me, Allows, Splits, Joins}
+use Rattle.parallel_shares.proofs.Common.{◌≡◌, ℕ, zero, suc, ◌+◌, ◌-◌, ◌*◌, ◌<◌, List, [], ◌∷◌, ◌++◌, length, get_or, set, take, flat_map, take_more, refl, sym, ap, subst, ◌∙◌, arith, some, some-injective, some-ne-none, get_elem?, State, Me, Allows, Splits, Joins}
 use Rattle.parallel_shares.proofs.Common.{line_of, spaced, place_of, share_at, used, Spaced}
 use Rattle.std.proofs.lemmas.List.{get_or-append_right, set-append_right, ext_get_or, flat_map_more}
 

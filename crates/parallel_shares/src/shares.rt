@@ -1,5 +1,5 @@
 //! A share of the work is a word that packs the range of the units that are left in it.
-ghost use Rattle.std.specs.Prelude.{◌≡◌, ◌≢◌, ℕ, ◌+◌, ◌*◌, ◌/◌, ◌^◌, ◌<◌, ◌≤◌, ◌++◌, [], ◌∷◌, length, slice_index, vec_len, vec_capacity, true, false, None, IfOk, IsFalse};
+ghost use Rattle.std.specs.Prelude.{◌≡◌, ◌≢◌, ℕ, ◌+◌, ◌*◌, ◌/◌, ◌^◌, ◌<◌, ◌≤◌, [], ◌∷◌, length, slice_index, vec_len, vec_capacity, false, None, IfOk, IsFalse};
 ghost use Rattle.std.specs.Slots.{slots_items, slots_len, IsFull};
 ghost use Rattle.std.specs.Int.NonZero.{non_zero_usize_get};
 ghost use Rattle.parallel_shares.specs.Sizes.{Sizes, shares_of, IsSound};
@@ -45,14 +45,13 @@ pub struct Shares {
 }
 
 impl Shares {
-    ghost use Rattle.std.specs.Prelude.{replicate};
-    ghost use Rattle.parallel_shares.specs.Sizes.{sizes_for, share_of};
+    ghost use Rattle.parallel_shares.specs.Sizes.{sizes_for};
     ghost use Rattle.parallel_shares.specs.Words.{IsWithin, IsEmptyWord, packed, end_of};
     ghost use Rattle.parallel_shares.specs.Machine.{opening_words};
     ghost use Rattle.parallel_shares.specs.Answers.{claim_stop};
     ghost use Rattle.parallel_shares.specs.Totals.{total};
     ghost use Rattle.parallel_shares.specs.Gathered.{HasAll};
-    ghost use Rattle.parallel_shares.specs.Sharing.{undealt, loaded_at, loads_at, looked_own};
+    ghost use Rattle.parallel_shares.specs.Sharing.{undealt, looked_own};
     ghost use Rattle.parallel_shares.specs.Seats.{plan_of, known, has_emptied, own_share, own_word, own_loads};
     ghost use Rattle.parallel_shares.specs.Seats.{IsSeatOf, AreSeatsOf, AreFresh, IsSameSeat, OthersStay, TriesClaim, LoadsOwn};
     ghost use Rattle.parallel_shares.specs.Seats.{MeetsFront, IsPartition, AllDone, AllEmpty, EachCellOnce};

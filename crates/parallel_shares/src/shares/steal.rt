@@ -1,5 +1,5 @@
 //! A seat whose own share is empty takes the back half of another's, and puts it into its own.
-ghost use Rattle.std.specs.Prelude.{◌≡◌, ◌≢◌, ◌+◌, ◌<◌, ◌≤◌, ◌↔◌, true, false, None, IfSome, IsSome, MatchBool};
+ghost use Rattle.std.specs.Prelude.{◌≡◌, ◌≢◌, ◌<◌, true, false, None, IfSome, IsSome, MatchBool};
 ghost use Rattle.parallel_shares.specs.Sizes.{shares_of};
 ghost use Rattle.parallel_shares.specs.Words.{IsWithin, packed};
 ghost use Rattle.parallel_shares.specs.Answers.{Pays};

@@ -1,6 +1,5 @@
 //! Claimed cells, cut at the ends of the rows.
-ghost use Rattle.std.specs.Prelude.{◌≡◌, ◌≢◌, ◌+◌, ◌*◌, ◌-◌, ◌<◌, ◌≤◌, ◌++◌, ◌∷◌, [], ℕ, List, Some, IfOk};
-ghost use Rattle.std.specs.List.{range_with_len};
+ghost use Rattle.std.specs.Prelude.{◌≡◌, ◌≢◌, ◌+◌, ◌*◌, ◌-◌, ◌<◌, ◌≤◌, ◌++◌, ℕ, List, Some, IfOk};
 ghost use Rattle.parallel_shares.specs.Stretches.{Cutting, Parted, IsPiece, Grown, stretches_of, piece_cells, range_cells};
 ghost use Rattle.parallel_fault.specs.Trouble.{IsMemoryOnErr};
 
