@@ -20,8 +20,8 @@ use std::thread::Threads;
 /// further one, where a segment that fails tells a gate of its start and stops those with a greater
 /// one. A segment looks before its first item and after each.
 ///
-/// The seat that comes back is all seats of the watch joined, as in `fill_gated`. It is lost where
-/// the outcome of a part was a refusal in the middle of a segment.
+/// The seat that comes back is all seats of the watch joined. It is lost where the outcome of a part
+/// was a refusal in the middle of a segment.
 pub fn fold_gated<
     'g,
     Rt: Threads + Sync,
