@@ -1,4 +1,5 @@
-//! The pool on whose threads the calls of a strategy run, latches, and the sleep of idle workers.
+//! A pool's number of threads, by which the calls of a strategy start scoped ones; the workers and
+//! queues of a pool that is built; latches, and the sleep of idle workers.
 #![tactic(auto)]
 
 pub mod latch;
