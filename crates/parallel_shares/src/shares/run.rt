@@ -132,7 +132,10 @@ fn fill_piece<T, R: Drop, L: Fn(&mut T, usize, Range<usize>), N: Fn(&mut T, usiz
     Ok(piece)
 }
 
-// Finishes the stretch that is open, if one is.
+// Finishes the stretch that is open, if one is. Out of line, as are a steal and a refill, so that the
+// loop over claims keeps its numbers in registers.
+#[cold]
+#[inline(never)]
 fn finish_open<T, R: Drop, N: Fn(&mut T, usize) -> R>(
     results: &mut Vec<R>,
     opened: Option<Piece>,

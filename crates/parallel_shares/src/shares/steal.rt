@@ -35,6 +35,8 @@ impl Shares {
     /// comes only where no loaded word's split pays: so always in a plan of whole rows, which has
     /// no other share, and in one in which no opening word's split pays. The seat has seen its own
     /// word empty, and has nothing in transit. No memory is taken, and nothing is waited for.
+    #[cold]
+    #[inline(never)]
     pub fn try_steal(&self, seat: &mut Seat) -> Tried
         requires belongs { IsSeatOf self.now seat.old }
         requires own_empty { has_emptied seat.old ≡ true }
@@ -61,6 +63,8 @@ impl Shares {
     ///
     /// The units become the seat's own word, and the claims stay. Something has to be in transit.
     /// No memory is taken, and nothing is waited for.
+    #[cold]
+    #[inline(never)]
     pub fn refill(&self, seat: &mut Seat)
         requires belongs { IsSeatOf self.now seat.old }
         requires carries { IsSome (transit_of seat.old) }
