@@ -6,7 +6,7 @@ pub use Rattle.parallel_bridge.specs.Fills.{Answered, IsFull, OneAfterAnother, S
 pub use Rattle.parallel_bridge.specs.Folds.{FoldLaws, IsPlainFold}
 pub use Rattle.parallel_bridge.specs.GateRule.{FitsGate, IsGateOf, KeepsGate, WasTold, back_half, front_half, gathered, greatest, looking, newcomer, one_less, telling}
 pub use Rattle.parallel_bridge.specs.Gates.{IsAtMost, IsGateSeatOf, IsWatching, MayTell, SameWatch, ToldByOne, known, seats_of, stands_for}
-pub use Rattle.parallel_bridge.specs.Halting.{Begins, EndsAs, HaltContinues, IsKeptOf, IsUnhalted, IsUnhaltedLost, JoinsKept, KeptEnds, NotStopped, SeatAfter, TellsAs, halting}
+pub use Rattle.parallel_bridge.specs.Halting.{IsUnhalted, NotStopped, halting, unstopped}
 pub use Rattle.parallel_bridge.specs.Lists.{Bracketing, Brackets, Chain, FoldSegment, IsFront, MapOf, of_parts, of_segment}
 pub use Rattle.parallel_bridge.specs.Loads.{CameTo, steps_left}
 pub use Rattle.parallel_bridge.specs.Onto.{PartitionOnto, ReducesTo, TryContinues, TryMapBehind, TryMapOnto}

@@ -1,7 +1,8 @@
 -- What the bridge gives along a list's shape, by the consumers that are driven along it.
 use Rattle.parallel_bridge.proofs.Common.{◌≡◌, ℕ, List, [], ◌∷◌, ◌++◌, Result, Ok, Err, Option, IfOk, sym, subst, inl, inr, Trouble, Fault, FoldSegment, Cut, segment, halves, cut_items, Shape}
-use Rattle.parallel_bridge.proofs.Common.{AlongLeaves, UnlessRefused, TryAlongCut, OnlyOk, PartitionOf, Vec, Global}
+use Rattle.parallel_bridge.proofs.Common.{AlongLeaves, UnlessRefused, TryAlongCut, TryAlongLeaves, TryFoldSegment, TryReducedSegment, ReducesTo, OnlyOk, PartitionOf, Vec, Global, ◌∙◌}
 use Rattle.parallel_bridge.proofs.Shapes.{Shape-items}
+use Rattle.parallel_bridge.proofs.TryShapes.{try_along_wider}
 use Rattle.parallel_bridge.proofs.FoldersAppend.{PartitionOf-append}
 
 -- of an answer that is handed on holds what follows from what is said of the outcome
@@ -31,6 +32,30 @@ module _ {X R : Type 0} (E : Type 0) (identity : R → Type 0) (allowed : List X
   fold_driven (halves p q) r (inl (a, b, h, i, n)) = (a, b, fold_driven p a h, fold_driven q b i, n)
   fold_driven (halves p q) r (inr (inl (e, same, h))) = absurd (cc same)
   fold_driven (halves p q) r (inr (inr (a, e, same, h, i))) = absurd (cc same)
+
+module _ {X R E : Type 0} (identity : R → Type 0) (allowed : List X → Result R E → Type 0)
+    (reduce : R → R → R → Type 0) where
+  -- so is the value of a segment whose steps may fail, and an error stands
+  try_reduced : (xs : List X) (v out : Result R E) → allowed xs v
+      → TryFoldSegment identity (ReducesTo reduce) (v ∷ []) out
+      → TryReducedSegment identity allowed reduce xs out
+  try_reduced xs (Ok b) out h (e, first, inl (m, (r, is, one), last)) =
+      subst (TryReducedSegment identity allowed reduce xs) (sym (last ∙ is)) (e, b, first, h, one)
+  try_reduced xs (Ok b) out h (e, first, inr (x, (r, is, one), last)) = absurd (cc is)
+  try_reduced xs (Err x) out h (e, first, inl (m, is, last)) = absurd (cc is)
+  try_reduced xs (Err x) out h (e, first, inr (y, is, last)) =
+      subst (TryReducedSegment identity allowed reduce xs) (sym (last ∙ is)) h
+
+  pub try_fold_driven : (cut : Cut X) (out : Result R E)
+      → TryAlongCut (λ l o. (v : Result R E) × allowed l v
+      × TryFoldSegment identity (ReducesTo reduce) (v ∷ []) o) (λ a b. OnlyOk (reduce a b)) cut out
+      → TryAlongLeaves identity allowed reduce cut out
+  try_fold_driven cut out h = try_along_wider
+      (λ l o. (v : Result R E) × allowed l v
+      × TryFoldSegment identity (ReducesTo reduce) (v ∷ []) o)
+      (TryReducedSegment identity allowed reduce) (λ a b. OnlyOk (reduce a b))
+      (λ a b. OnlyOk (reduce a b))
+      (λ xs o (v, i, n). try_reduced xs v o i n) (λ a b o n. n) cut out h
 
 module _ {X K U V : Type 0} (E : Type 0) (values : V → List U) (keys : V → List K)
     (allowed : X → (K × Option U) → Type 0) where

@@ -1,7 +1,8 @@
 -- Which list comes of an iterator, and which items may.
-use Rattle.parallel_bridge.proofs.Common.{◌≡◌, List, [], ◌∷◌, ◌++◌, Option, refl, sym, ap, ◌∙◌, subst, map, All, AllByRecursion, Contains, Yields, AlwaysYields, Drains, HoldsAlong, All-from_recursion}
+use Rattle.parallel_bridge.proofs.Common.{◌≡◌, List, [], ◌∷◌, ◌++◌, Option, None, Some, refl, sym, ap, ◌∙◌, subst, map, All, AllByRecursion, Contains, Yields, AlwaysYields, Drains, HoldsAlong, All-from_recursion}
 use Rattle.parallel_bridge.proofs.Common.{recursion_from_All, All-contains_itself, All-contains, YieldsList, items_from_drains, map-id, Bor, MayCome}
 use Rattle.parallel_bridge.proofs.CollectChains.{yields_push}
+use Rattle.std.specs.Option.{IfSome}
 
 -- what came of a run, as v reads it, is the list that every run gives
 pub came : {S A B : Type 0} {steps : S → Option A → S → Type 0} {v : A → B} {s : S} {all : List B}
@@ -52,6 +53,18 @@ module _ {S A : Type 0} (steps : S → Option A → S → Type 0) (s : S) where
   pub may_of : (xs : List A) → Drains steps s xs → (x : A) → Contains xs x → MayCome steps s x
   may_of xs (u, (t, gave, ends)) x within =
       All-contains (MayCome steps s) xs x (may_along xs t gave) within
+
+-- the item of one call of `next` may come, and so may those that may come behind it
+module _ {S A : Type 0} (steps : S → Option A → S → Type 0) (s t : S) where
+  pub item_may_come : (out : Option A) → steps s out t → IfSome out (λ x. MayCome steps s x)
+  item_may_come None h = tt
+  item_may_come (Some x) h = ([], s, t, refl, h)
+
+  pub others_may_come : (out : Option A) → steps s out t
+      → IfSome out (λ x. (y : A) → MayCome steps t y → MayCome steps s y)
+  others_may_come None h = tt
+  others_may_come (Some x) h =
+      λ y (before, u, v, led, step). (x ∷ before, u, v, (t, h, led), step)
 
 -- a list of values may be borrowed
 pub some_borrows : {T : Type 0} (ys : List T) → (xs : List (Bor T)) × (map (λ x. x.now) xs ≡ ys)

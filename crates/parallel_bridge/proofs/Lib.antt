@@ -29,10 +29,9 @@ pub mod Writes
 pub mod Neighbours
 mod GateSteps
 mod GateEnds
-pub mod Halts
+pub mod Feeds
 pub mod Unhalt
 pub mod Watches
-mod GatedFolds
 mod Fronts
 pub mod Zips
 pub mod Pieces
@@ -47,8 +46,6 @@ pub use FoldersAppend.*
 pub use Fronts.*
 pub use GateEnds.*
 pub use GateSteps.*
-pub use GatedFolds.*
-pub use Halts.*
 pub use Halves.*
 pub use IteratorItems.*
 pub use Laws.*

@@ -1,5 +1,5 @@
 -- For `unhalt`: an outcome that is no stop goes along the shape as if there were no gate.
-use Rattle.parallel_bridge.proofs.Common.{Trouble, Closure, OfFault, Cut, segment, halves, Shape, Driven, OnlyOk, TryAlongCut, Halt, Failed, Stopped, halting, IsUnhalted, IsUnhaltedLost, NotStopped}
+use Rattle.parallel_bridge.proofs.Common.{Trouble, Closure, OfFault, Cut, segment, halves, Shape, Driven, OnlyOk, TryAlongCut, Halt, Failed, Stopped, halting, IsUnhalted}
 use Rattle.parallel_bridge.proofs.Common.{written, View, ℕ, List, Result, Ok, Err, refl, sym, subst, inl, inr}
 
 module _ {X R E : Type 0} (leaf : List X → Result R E → Type 0)
@@ -60,23 +60,7 @@ module _ {X R E : Type 0} (leaf : List X → Result R E → Type 0)
   driven_unhalted gives parts depth (Err (OfFault f)) result h is =
       subst (Driven gives parts leaf node depth) (sym is) h
 
-  -- and where the seats were lost
-  pub driven_lost : {P : Type 0} (gives : P → List X → Type 0) (parts : P) (depth : ℕ)
-      (outcome : Result R (Trouble (Halt E))) (result : Result R (Trouble E))
-      → Driven gives parts (halting leaf) meeting depth outcome → IsUnhaltedLost outcome result
-      → Driven gives parts leaf node depth result
-  driven_lost gives parts depth (Err (Closure Stopped)) result h is =
-      subst (Driven gives parts leaf node depth) (sym is) refl
-  driven_lost gives parts depth outcome result h is =
-      driven_unhalted gives parts depth outcome result h is
-
 -- the values don't matter to what an outcome is
-pub written_not_stopped : {T E : Type 0} (window : View T)
-    (done : Result (Unit {0}) (Trouble (Halt E))) → NotStopped (written window done)
-    → NotStopped done
-written_not_stopped window (Ok u) h = h
-written_not_stopped window (Err t) h = h
-
 pub written_unhalted : {T E : Type 0} (window : View T)
     (done : Result (Unit {0}) (Trouble (Halt E))) (result : Result (Unit {0}) (Trouble E))
     → IsUnhalted done result → IsUnhalted (written window done) (written window result)

@@ -1,11 +1,15 @@
 -- How two halves of a part end together, and what the seats of their watches then say, joined.
 use Rattle.parallel_bridge.proofs.Common.{◌≡◌, ℕ, ◌+◌, ◌-◌, ◌/◌, ◌≤◌, ◌<◌, List, [], ◌++◌, All, Contains, IfOk, Result, Ok, Err, refl, sym, subst, ◌∙◌, arith, All-append, All-weaker, All-contains}
-use Rattle.parallel_bridge.proofs.Common.{Trouble, Closure, OfFault, PutTogether, UnlessRefused, Halt, Failed, Stopped, GateView, GateWatch, greatest, gathered, front_half, back_half, known, stands_for}
+use Rattle.parallel_bridge.proofs.Common.{Trouble, Closure, OfFault, PutTogether, UnlessRefused, Halt, Failed, Stopped, GateSeat, GateView, GateWatch, greatest, gathered, newcomer, IsGateSeatOf, All-nil, front_half, back_half, known, stands_for}
 use Rattle.parallel_bridge.proofs.Common.{IsFull, OneAfterAnother, View, written, IsUnhalted, NotStopped, halting}
 use Rattle.parallel_bridge.specs.Endings.{EndTogether, Ending, IsUnstopped, SeatEnds, ToldAfter, WatchEnds, WatchesJoin, ending, ending_of, failing, refusing, stopping, well}
 use Rattle.parallel_bridge.specs.Fills.{Filled}
-use Rattle.parallel_bridge.proofs.Halts.{silent}
+use Rattle.parallel_bridge.specs.declared.gate.Gate.{Gate}
 use Rattle.parallel_bridge.proofs.Unhalt.{driven_unhalted, ok_meets, written_unhalted}
+
+-- who told nothing told no start in front of anything
+silent : (P : ℕ → Type 0) (told : List ℕ) → told ≡ [] → All P told
+silent P told none = subst (All P) (sym none) (All-nil P)
 
 -- ---- two halves under the eye of a gate
 
@@ -102,6 +106,19 @@ list_unstopped count seats word v stopping small (same, from, (at, near, less, b
     let under = end.0 in
     omega arith
 list_unstopped count seats word v refusing small ends closed = tt
+
+-- a seat that stands for all of a gate that was just opened may watch so many items, from the first
+-- one on
+pub fresh_watch : (gate : Gate) (seat : GateSeat) (n count : ℕ) → IsGateSeatOf gate seat
+    → known seat ≡ newcomer n → 0 < n → count ≤ n → count ≤ greatest
+    → (IsGateSeatOf gate seat × (0 < stands_for seat) × ((known seat).told ≡ []))
+    × (count ≤ stands_for seat) × (0 + count ≤ greatest)
+fresh_watch gate seat n count belongs fresh positive enough small =
+    let seats : stands_for seat ≡ n = λ i. (fresh i).seats in (
+      (belongs, omega (arith, seats), λ i. (fresh i).told),
+      omega (arith, seats),
+      omega arith,
+    )
 
 -- ---- outcomes
 

@@ -1,5 +1,5 @@
 -- How a part of a list ended, whatever its values and its errors are, and what a watch says of it.
-use Rattle.std.specs.Prelude.{◌≡◌, ℕ, ◌+◌, ◌<◌, ◌≤◌, [], All, Result, Ok, Err}
+use Rattle.std.specs.Prelude.{◌≡◌, ℕ, ◌+◌, ◌<◌, ◌≤◌, ◌⊎◌, List, [], ◌∷◌, ◌++◌, length, All, Result, Ok, Err}
 use Rattle.parallel_fault.specs.declared.fault.Trouble.{Trouble}
 use Rattle.parallel_fault.specs.declared.fault.Trouble.TheVariants.{Closure}
 use Rattle.parallel_fault.specs.declared.fault.Trouble.TheVariants.{Fault as OfFault}
@@ -64,6 +64,19 @@ Goes {W = W} ends old new how =
 abbrev pub LooksOnce : {W : Type 0} → (W → ℕ → W → Type 0) → W → W → Type 0
 LooksOnce {W = W} looked old new =
     (first : W) (count : ℕ) → looked first count old → looked first (count + 1) new
+
+-- it has looked so many times more
+abbrev pub LooksMore : {W : Type 0} → (W → ℕ → W → Type 0) → ℕ → W → W → Type 0
+LooksMore {W = W} looked more old new =
+    (first : W) (count : ℕ) → looked first count old → looked first (count + more) new
+
+-- it has looked once for each item of a list that may come: up to its last item, or in front of one
+-- behind which no item makes a difference
+abbrev pub LooksAlong : {W S X : Type 0} → (W → ℕ → W → Type 0) → W → W → (S → List X → Type 0)
+    → S → (List X → Type 0) → Type 0
+LooksAlong {X = X} looked old new gives items settled = (front rest : List X)
+    × gives items (front ++ rest) × LooksMore looked (length front) old new
+    × ((rest ≡ []) ⊎ ((x : X) × ((more : List X) → settled (front ++ x ∷ more))))
 
 -- ---- of a watch of a gate
 

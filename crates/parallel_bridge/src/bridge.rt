@@ -3,15 +3,21 @@ ghost use Rattle.std.specs.Prelude.{◌≡◌, ◌-◌, ◌*◌, ◌^◌, ◌<�
 ghost use Rattle.std.specs.Int.NonZero.{non_zero_usize_get};
 ghost use Rattle.std.specs.List.{Contains};
 ghost use Rattle.parallel_fault.specs.Trouble.{IsMemoryOnErr};
+ghost use Rattle.parallel_bridge.specs.Endings.{ending_of};
+ghost use Rattle.parallel_bridge.specs.Halting.{halting, unstopped};
 ghost use Rattle.parallel_bridge.specs.Outcomes.{PutTogether, UnlessRefused};
 ghost use Rattle.parallel_bridge.specs.Shapes.{cutdepth, Shape, leaf_lengths};
 ghost use Rattle.parallel_bridge.specs.Sources.{Driven, GivesSome, Suits};
 ghost use Rattle.parallel_bridge.specs.Tries.{TryAlongCut};
 
+use crate::bridge::feed::feed_items;
+use crate::cursor::Cursor;
 use crate::drive::{Task, drive};
+use crate::halt::{Halt, unhalt};
 use crate::parts::Parts;
-use crate::plumbing::{Consumer, Folder, Reducer};
+use crate::plumbing::{Consumer, Reducer};
 use crate::segment::Segment;
+use crate::watch::{Unwatched, Watch};
 use parallel_fault::{Fault, Trouble};
 use std::alloc::Global;
 use std::convert::Infallible;
@@ -19,7 +25,7 @@ use std::marker::PhantomData;
 use std::num::NonZeroUsize;
 use std::thread::Threads;
 
-pub mod gated;
+pub mod feed;
 
 /// How many times over a list may be halved for that many threads: the binary digits of the number.
 pub fn depth_of(threads: NonZeroUsize) -> usize
@@ -52,15 +58,42 @@ pub fn bridge<Rt: Threads + Sync, P: Parts, C: Consumer<P::Item> + Send>(
         → length (leaf_lengths (Shape (cutdepth (non_zero_usize_get threads)) xs)) ≤ length xs }
 {
     let depth = depth_of(threads);
-    let (segment, home) = parts.into_segment(alloc)?;
+    let (done, _) = bridge_watched(rt, alloc, depth, threads.get(), parts, consumer, Unwatched);
+    unhalt(done)
+}
+
+/// What `bridge` does under a watch, which looks before the first item of each segment and after
+/// each item, and is told where a segment fails. It comes back as the watch of the whole list.
+pub fn bridge_watched<Rt: Threads + Sync, P: Parts, C: Consumer<P::Item> + Send, G: Watch + Send>(
+    rt: &Rt,
+    alloc: Global,
+    depth: usize,
+    threads: usize,
+    parts: P,
+    consumer: C,
+    watch: G,
+) -> (Result<C::Result, Trouble<Halt<C::Error>>>, G)
+    requires ready { C.ready consumer }
+    requires fits { C.fits consumer (P.count parts) }
+    requires items { (x : P.Item) → P.may parts x → C.takes consumer x }
+    requires watch { G.may watch (P.count parts) }
+    ensures along { Driven P.gives parts (halting (C.leaf_gives consumer))
+        (λ a. unstopped (C.node_gives consumer a)) depth result.0 }
+    ensures ends { G.ends watch (P.count parts) result.1 (ending_of result.0) }
+{
+    let (segment, home) = match parts.into_segment(alloc) {
+        Ok(made) => made,
+        Err(fault) => return (Err(Trouble::Fault(fault)), watch),
+    };
     let handing = Handing {
         parts: segment,
         consumer,
+        watch,
         items: PhantomData,
     };
-    let (answer, rest) = drive(rt, alloc, depth, threads.get(), handing);
+    let (answer, rest, watch) = drive(rt, alloc, depth, threads, handing);
     P::put_away(home, rest);
-    answer
+    (answer, watch)
 }
 
 /// The answer of a call whose closures have no error of their own.
@@ -75,34 +108,40 @@ pub(crate) fn unfailing<R: Drop>(answer: Result<R, Trouble<Infallible>>) -> Resu
     }
 }
 
-// A part of a list with the consumer that it is handed to.
+// A part of a list with the consumer that it is handed to, and its watch.
 #[derive(Drop)]
-struct Handing<X: Send + Drop, S: Segment<X>, C: Consumer<X>> {
+struct Handing<X: Send + Drop, S: Segment<X>, C: Consumer<X>, G> {
     parts: S,
     consumer: C,
+    watch: G,
     items: PhantomData<X>,
 }
 
-impl<X: Send + Drop, S: Segment<X>, C: Consumer<X> + Send> Task for Handing<X, S, C> {
-    type Done = (Result<C::Result, Trouble<C::Error>>, S::Rest);
+impl<X: Send + Drop, S: Segment<X>, C: Consumer<X> + Send, G: Watch + Send> Task
+    for Handing<X, S, C, G> {
+    type Done = (Result<C::Result, Trouble<Halt<C::Error>>>, S::Rest, G);
 
     type Seam = C::Reducer;
 
     ghost able = { λ s. S.sound s.parts
-        × Suits C.ready C.fits C.takes S.count S.may s.parts s.consumer };
+        × Suits C.ready C.fits C.takes S.count S.may s.parts s.consumer
+        × G.may s.watch (S.count s.parts) };
 
     ghost long = { λ s. 2 ≤ S.count s.parts };
 
     ghost short = { λ depth s. (xs : List X) → S.gives s.parts xs → (depth ≡ 0) ⊎ (length xs < 2) };
 
-    ghost ends = { λ depth s d. Driven S.gives s.parts (C.leaf_gives s.consumer)
-        (C.node_gives s.consumer) depth d.0 × S.leaves s.parts d.1 };
+    ghost ends = { λ depth s d. Driven S.gives s.parts (halting (C.leaf_gives s.consumer))
+        (λ a. unstopped (C.node_gives s.consumer a)) depth d.0 × S.leaves s.parts d.1
+        × G.ends s.watch (S.count s.parts) d.2 (ending_of d.0) };
 
     ghost meet = { λ seam a b. ((p q : C.Result) → C.Reducer.can_reduce seam p q)
-        × ((whole : S) × S.meets whole a.1 b.1) };
+        × ((whole : S) × S.meets whole a.1 b.1) × G.meets a.2 b.2 };
 
-    ghost together = { λ seam a b c. PutTogether (C.Reducer.reduce_gives seam) a.0 b.0 c.0
-        × ((whole : S) → S.meets whole a.1 b.1 → S.leaves whole c.1) };
+    ghost together = { λ seam a b c. PutTogether
+        (λ p. unstopped (C.Reducer.reduce_gives seam p)) a.0 b.0 c.0
+        × ((whole : S) → S.meets whole a.1 b.1 → S.leaves whole c.1)
+        × G.joins a.2 b.2 c.2 };
 
     fn is_leaf(&self, depth: usize) -> bool {
         depth == 0 || self.parts.len() < 2
@@ -111,59 +150,71 @@ impl<X: Send + Drop, S: Segment<X>, C: Consumer<X> + Send> Task for Handing<X, S
     fn split(
         self,
         alloc: Global,
-    ) -> Result<(Self, Self, C::Reducer), (Result<C::Result, Trouble<C::Error>>, S::Rest)> {
+    ) -> Result<
+        (Self, Self, C::Reducer),
+        (Result<C::Result, Trouble<Halt<C::Error>>>, S::Rest, G),
+    > {
         let len = self.parts.len();
         let (left, right, reducer) = match self.consumer.split_at(len / 2) {
             Ok(consumers) => consumers,
-            Err(fault) => return Err((Err(Trouble::Fault(fault)), self.parts.leave())),
+            Err(fault) => {
+                let rest = self.parts.into_items().rest();
+                return Err((Err(Trouble::Fault(fault)), rest, self.watch));
+            }
         };
         let (front, back) = match self.parts.split_at(alloc, len / 2) {
             Ok(halves) => halves,
-            Err((rest, fault)) => return Err((Err(Trouble::Fault(fault)), rest)),
+            Err((rest, fault)) => return Err((Err(Trouble::Fault(fault)), rest, self.watch)),
         };
+        let (left_watch, right_watch) = self.watch.halve(len);
         let first = Handing {
             parts: front,
             consumer: left,
+            watch: left_watch,
             items: PhantomData,
         };
         let second = Handing {
             parts: back,
             consumer: right,
+            watch: right_watch,
             items: PhantomData,
         };
         Ok((first, second, reducer))
     }
 
-    fn run(self, alloc: Global) -> (Result<C::Result, Trouble<C::Error>>, S::Rest) {
+    fn run(self, alloc: Global) -> (Result<C::Result, Trouble<Halt<C::Error>>>, S::Rest, G) {
+        let items = self.parts.into_items();
+        let mut watch = self.watch;
+        let stopped = watch.stopped();
+        if stopped {
+            return (Err(Trouble::Closure(Halt::Stopped)), items.rest(), watch);
+        }
         let folder = match self.consumer.into_folder(alloc) {
             Ok(folder) => folder,
-            Err(fault) => return (Err(Trouble::Fault(fault)), self.parts.leave()),
+            Err(fault) => return (Err(Trouble::Fault(fault)), items.rest(), watch),
         };
-        let (fed, rest) = self.parts.feed(alloc, folder);
-        match fed {
-            Ok(folder) => (folder.complete(alloc), rest),
-            Err(fault) => (Err(Trouble::Fault(fault)), rest),
-        }
+        let (answer, rest) = feed_items(alloc, items, folder, &mut watch);
+        (answer, rest, watch)
     }
 
     fn join(
         seam: C::Reducer,
-        left: (Result<C::Result, Trouble<C::Error>>, S::Rest),
-        right: (Result<C::Result, Trouble<C::Error>>, S::Rest),
-    ) -> (Result<C::Result, Trouble<C::Error>>, S::Rest) {
+        left: (Result<C::Result, Trouble<Halt<C::Error>>>, S::Rest, G),
+        right: (Result<C::Result, Trouble<Halt<C::Error>>>, S::Rest, G),
+    ) -> (Result<C::Result, Trouble<Halt<C::Error>>>, S::Rest, G) {
         let answer = put_together(left.0, right.0, seam);
-        (answer, S::join(left.1, right.1))
+        (answer, S::join(left.1, right.1), left.2.join(right.2))
     }
 }
 
 // The answers of two neighbouring parts put together: the left one's trouble first.
 fn put_together<R: Drop, E: Drop, G: Reducer<R, E>>(
-    first: Result<R, Trouble<E>>,
-    second: Result<R, Trouble<E>>,
+    first: Result<R, Trouble<Halt<E>>>,
+    second: Result<R, Trouble<Halt<E>>>,
     reducer: G,
-) -> Result<R, Trouble<E>>
+) -> Result<R, Trouble<Halt<E>>>
     requires { (a b : R) → G.can_reduce reducer a b }
-    ensures { PutTogether (G.reduce_gives reducer) first second result }
+    ensures { PutTogether (λ a. unstopped (G.reduce_gives reducer a)) first second result }
 {
     let left = match first {
         Ok(left) => left,
@@ -173,5 +224,10 @@ fn put_together<R: Drop, E: Drop, G: Reducer<R, E>>(
         Ok(right) => right,
         Err(trouble) => return Err(trouble),
     };
-    reducer.reduce(left, right)
+    let answer = reducer.reduce(left, right);
+    match answer {
+        Ok(value) => Ok(value),
+        Err(Trouble::Closure(error)) => Err(Trouble::Closure(Halt::Failed(error))),
+        Err(Trouble::Fault(fault)) => Err(Trouble::Fault(fault)),
+    }
 }

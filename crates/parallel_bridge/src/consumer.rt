@@ -2,7 +2,6 @@
 pub mod collect;
 pub mod fold;
 pub mod fold_init;
-pub mod gated_fold;
 pub mod list_vec;
 pub mod map;
 pub mod map_init;

@@ -1,7 +1,7 @@
 //! Why a segment of a list ends before its last item.
-ghost use Rattle.parallel_bridge.specs.Halting.{IsUnhalted, IsUnhaltedLost, NotStopped};
+ghost use Rattle.parallel_bridge.specs.Halting.{IsUnhalted, NotStopped};
 
-use parallel_fault::{Fault, Trouble};
+use parallel_fault::Trouble;
 
 /// Why a segment ended early: it failed by an error of its own, or a gate stopped it, since a
 /// segment to its left had failed.
@@ -26,20 +26,5 @@ pub(crate) fn unhalt<R: Drop, E: Drop>(
         Err(Trouble::Fault(fault)) => Err(Trouble::Fault(fault)),
         Err(Trouble::Closure(Halt::Failed(error))) => Err(Trouble::Closure(error)),
         Err(Trouble::Closure(Halt::Stopped)) => unreachable!(),
-    }
-}
-
-/// The same where the seats of the gate were lost with a refusal, which then stands in the place of
-/// a stop.
-pub(crate) fn unhalt_lost<R: Drop, E: Drop>(
-    outcome: Result<R, Trouble<Halt<E>>>,
-) -> Result<R, Trouble<E>>
-    ensures { IsUnhaltedLost outcome result }
-{
-    match outcome {
-        Ok(value) => Ok(value),
-        Err(Trouble::Fault(fault)) => Err(Trouble::Fault(fault)),
-        Err(Trouble::Closure(Halt::Failed(error))) => Err(Trouble::Closure(error)),
-        Err(Trouble::Closure(Halt::Stopped)) => Err(Trouble::Fault(Fault::Memory)),
     }
 }

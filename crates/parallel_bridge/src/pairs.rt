@@ -10,10 +10,10 @@ ghost use Rattle.parallel_bridge.specs.Halting.{halting};
 ghost use Rattle.parallel_bridge.specs.Pairs.{odd_of, pair_items, pair_rest, pairs_of};
 ghost use Rattle.parallel_bridge.specs.Windows.{Follows, IsSite};
 
+use crate::cursor::Cursor;
 use crate::fill::writer::Writer;
 use crate::halt::Halt;
 use crate::parts::Parts;
-use crate::plumbing::Folder;
 use crate::segment::Segment;
 use crate::watch::Watch;
 use crate::window::block::Block;
@@ -96,6 +96,8 @@ pub struct PairSegment<T: Drop> {
 impl<T: Send + Drop> Segment<(T, T)> for PairSegment<T> {
     type Rest = Window<T>;
 
+    type Items = PairSegment<T>;
+
     ghost sound = { λ s. IsFull s.window × FitsInBlock T.row s.window.room };
 
     ghost gives = { λ s xs. xs ≡ pairs_of s.window.items };
@@ -125,21 +127,8 @@ impl<T: Send + Drop> Segment<(T, T)> for PairSegment<T> {
         left.join(right)
     }
 
-    fn leave(self) -> Window<T> {
-        let mut window = self.window;
-        window.clear();
-        window
-    }
-
-    fn feed<R: Drop, E: Drop, F: Folder<(T, T), R, E>>(
-        self,
-        alloc: Global,
-        folder: F,
-    ) -> (Result<F, Fault>, Window<T>) {
-        let mut window = self.window;
-        let fed = feed_pairs(alloc, &mut window, folder);
-        window.clear();
-        (fed, window)
+    fn into_items(self) -> PairSegment<T> {
+        self
     }
 
     #[tactic(auto, using(crate::proofs::Neighbours::length_pairs))]
@@ -156,6 +145,35 @@ impl<T: Send + Drop> Segment<(T, T)> for PairSegment<T> {
     }
 }
 
+impl<T: Drop> Cursor<(T, T), Window<T>> for PairSegment<T> {
+    ghost sound = { λ s. Unit {0} };
+
+    ghost gives = { λ s xs. xs ≡ pairs_of s.window.items };
+
+    ghost may = { λ s x. Contains (pairs_of s.window.items) x };
+
+    ghost left = { λ s. length s.window.items };
+
+    ghost leaves = { λ s rest. SamePlaces s.window rest × (rest.items ≡ []) };
+
+    fn next(&mut self) -> Option<(T, T)> {
+        if self.window.len() < 2 {
+            return None;
+        }
+        Some(take_pair(&mut self.window))
+    }
+
+    fn rest(self) -> Window<T> {
+        let mut window = self.window;
+        window.clear();
+        window
+    }
+
+    fn end(self) -> Window<T> {
+        Cursor::rest(self)
+    }
+}
+
 // Moves the first two items out.
 fn take_pair<T>(window: &mut Window<T>) -> (T, T)
     requires { 1 < length window.old.items }
@@ -166,28 +184,6 @@ fn take_pair<T>(window: &mut Window<T>) -> (T, T)
     let left = window.take();
     let right = window.take();
     (left, right)
-}
-
-// Hands a window's pairs to a folder, in order, each taken from its places, up to a refusal.
-fn feed_pairs<T: Drop, R: Drop, E: Drop, F: Folder<(T, T), R, E>>(
-    alloc: Global,
-    window: &mut Window<T>,
-    folder: F,
-) -> Result<F, Fault>
-    requires ready { F.ready folder }
-    requires items { (x : T × T) → Contains (pairs_of window.old.items) x → F.takes folder x }
-    ensures ready { IfOk result (λ f. F.ready f) }
-    ensures gives { IfOk result (λ f. (more : List (T × T)) (out : Result R E) → F.gives f more out
-        → F.gives folder (pairs_of window.old.items ++ more) out) }
-    ensures fault { IsMemoryOnErr result }
-    ensures place { SamePlaces window.old window.new }
-{
-    let mut folder = folder;
-    while window.len() > 1 {
-        let pair = take_pair(window);
-        folder = folder.consume(alloc, pair)?;
-    }
-    Ok(folder)
 }
 
 // Writes the answers for a window's pairs, each taken from its places, up to the first pair that

@@ -1,9 +1,8 @@
 //! Parts of a list that are split, and then handed over item by item. What is left of a part, the
 //! memory of its items for one, comes back, and that of two neighbours is put together again.
-ghost use Rattle.std.specs.Prelude.{◌≡◌, ◌++◌, ◌-◌, ◌+◌, ◌≤◌, ℕ, List, Result, [], IfErr, IfOk, length};
+ghost use Rattle.std.specs.Prelude.{◌≡◌, ◌++◌, ◌-◌, ◌+◌, ◌≤◌, ℕ, List, [], IfErr, IfOk, length};
 ghost use Rattle.std.specs.List.{Contains};
 ghost use Rattle.std.specs.Vec.Ownership.{FitsInBlock};
-ghost use Rattle.parallel_fault.specs.Trouble.{IsMemoryOnErr};
 ghost use Rattle.parallel_fault.specs.declared.fault.Fault.TheVariants.{Memory};
 ghost use Rattle.parallel_bridge.specs.Endings.{Goes, IsUnderway, ending};
 ghost use Rattle.parallel_bridge.specs.Fills.{Answered, IsFull, IsRoom, SamePlaces, kept};
@@ -11,9 +10,9 @@ ghost use Rattle.parallel_bridge.specs.Halting.{halting};
 ghost use Rattle.parallel_bridge.specs.Sources.{GivesSome};
 ghost use Rattle.parallel_bridge.specs.Windows.{Follows};
 
+use crate::cursor::{Cursor, IterCursor};
 use crate::fill::writer::{Writer, write_iter, write_window};
 use crate::halt::Halt;
-use crate::plumbing::Folder;
 use crate::producer::Producer;
 use crate::watch::Watch;
 use crate::window::part::Window;
@@ -24,6 +23,9 @@ use std::alloc::Global;
 pub trait Segment<Item: Send + Drop>: Send + Sized + Drop {
     /// What is left of a part whose items were handed over.
     type Rest: Send + Drop;
+
+    /// What gives its items, and then what is left of it.
+    type Items: Cursor<Item, Self::Rest> + Send;
 
     /// Whether the part may be used.
     ghost sound: { Self → Type 0 };
@@ -68,26 +70,13 @@ pub trait Segment<Item: Send + Drop>: Send + Sized + Drop {
         requires { (whole : Self) × meets whole left right }
         ensures { (whole : Self) → meets whole left right → leaves whole result };
 
-    /// Drops the items.
-    fn leave(self) -> Self::Rest
+    /// What gives the items one by one.
+    fn into_items(self) -> Self::Items
         requires { sound self }
-        ensures { leaves self result };
-
-    /// Hands the items to a folder, in order, and drops those that it doesn't take.
-    fn feed<R: Drop, E: Drop, F: Folder<Item, R, E>>(
-        self,
-        alloc: Global,
-        folder: F,
-    ) -> (Result<F, Fault>, Self::Rest)
-        requires sound { sound self }
-        requires ready { F.ready folder }
-        requires items { (x : Item) → may self x → F.takes folder x }
-        ensures ready { IfOk result.0 (λ f. F.ready f) }
-        ensures gives { IfOk result.0 (λ f. GivesSome gives self (λ xs.
-            (more : List Item) (out : Result R E) → F.gives f more out
-            → F.gives folder (xs ++ more) out)) }
-        ensures fault { IsMemoryOnErr result.0 }
-        ensures rest { leaves self result.1 };
+        ensures sound { Self.Items.sound result }
+        ensures gives { (xs : List Item) → Self.Items.gives result xs → gives self xs }
+        ensures may { (x : Item) → Self.Items.may result x → may self x }
+        ensures leaves { (rest : Self.Rest) → Self.Items.leaves result rest → leaves self rest };
 
     /// Writes the answers for the items into the room for them, in order, up to the first item that
     /// fails, or to the look that stops it, and drops the items behind. It looks before the first
@@ -124,6 +113,8 @@ pub struct ProducerSegment<P> {
 impl<P: Producer> Segment<P::Item> for ProducerSegment<P> {
     type Rest = ();
 
+    type Items = IterCursor<P::Iter>;
+
     ghost sound = { λ s. Unit {0} };
 
     ghost gives = { λ s xs. P.gives s.parts xs };
@@ -152,14 +143,10 @@ impl<P: Producer> Segment<P::Item> for ProducerSegment<P> {
 
     fn join(_left: (), _right: ()) {}
 
-    fn leave(self) {}
-
-    fn feed<R: Drop, E: Drop, F: Folder<P::Item, R, E>>(
-        self,
-        alloc: Global,
-        folder: F,
-    ) -> (Result<F, Fault>, ()) {
-        (folder.consume_iter(alloc, self.parts.into_items()), ())
+    fn into_items(self) -> IterCursor<P::Iter> {
+        IterCursor {
+            iter: self.parts.into_items(),
+        }
     }
 
     fn write<W: Writer<P::Item>, G: Watch>(
@@ -182,6 +169,8 @@ pub struct WindowSegment<T: Drop> {
 
 impl<T: Send + Drop> Segment<T> for WindowSegment<T> {
     type Rest = Window<T>;
+
+    type Items = WindowSegment<T>;
 
     ghost sound = { λ s. IsFull s.window × FitsInBlock T.row s.window.room };
 
@@ -213,21 +202,8 @@ impl<T: Send + Drop> Segment<T> for WindowSegment<T> {
         left.join(right)
     }
 
-    fn leave(self) -> Window<T> {
-        let mut window = self.window;
-        window.clear();
-        window
-    }
-
-    fn feed<R: Drop, E: Drop, F: Folder<T, R, E>>(
-        self,
-        alloc: Global,
-        folder: F,
-    ) -> (Result<F, Fault>, Window<T>) {
-        let mut window = self.window;
-        let fed = feed_window(alloc, &mut window, folder);
-        window.clear();
-        (fed, window)
+    fn into_items(self) -> WindowSegment<T> {
+        self
     }
 
     fn write<W: Writer<T>, G: Watch>(
@@ -243,24 +219,31 @@ impl<T: Send + Drop> Segment<T> for WindowSegment<T> {
     }
 }
 
-// Hands a window's items to a folder, in order, each taken from its place, up to a refusal.
-fn feed_window<T: Drop, R: Drop, E: Drop, F: Folder<T, R, E>>(
-    alloc: Global,
-    window: &mut Window<T>,
-    folder: F,
-) -> Result<F, Fault>
-    requires ready { F.ready folder }
-    requires items { (x : T) → Contains window.old.items x → F.takes folder x }
-    ensures ready { IfOk result (λ f. F.ready f) }
-    ensures gives { IfOk result (λ f. (more : List T) (out : Result R E) → F.gives f more out
-        → F.gives folder (window.old.items ++ more) out) }
-    ensures fault { IsMemoryOnErr result }
-    ensures place { SamePlaces window.old window.new }
-{
-    let mut folder = folder;
-    while window.len() > 0 {
-        let item = window.take();
-        folder = folder.consume(alloc, item)?;
+impl<T: Drop> Cursor<T, Window<T>> for WindowSegment<T> {
+    ghost sound = { λ s. Unit {0} };
+
+    ghost gives = { λ s xs. xs ≡ s.window.items };
+
+    ghost may = { λ s x. Contains s.window.items x };
+
+    ghost left = { λ s. length s.window.items };
+
+    ghost leaves = { λ s rest. SamePlaces s.window rest × (rest.items ≡ []) };
+
+    fn next(&mut self) -> Option<T> {
+        if self.window.len() == 0 {
+            return None;
+        }
+        Some(self.window.take())
     }
-    Ok(folder)
+
+    fn rest(self) -> Window<T> {
+        let mut window = self.window;
+        window.clear();
+        window
+    }
+
+    fn end(self) -> Window<T> {
+        Cursor::rest(self)
+    }
 }

@@ -7,6 +7,7 @@ ghost use Rattle.parallel_bridge.specs.Endings.{Goes, IsUnderway, ending};
 ghost use Rattle.parallel_bridge.specs.Halting.{halting};
 ghost use Rattle.parallel_bridge.specs.Sources.{GivesSome};
 
+use crate::cursor::pass_over;
 use crate::halt::Halt;
 use crate::watch::Watch;
 use crate::window::part::Window;
@@ -97,17 +98,6 @@ where
         return Err(Halt::Stopped);
     }
     Ok(())
-}
-
-/// Drops the items that are left of an iterator.
-pub(crate) fn pass_over<I: Iterator>(iter: I)
-where
-    I::Item: Drop,
-    requires can { I.can_next iter }
-    requires ends { IsFinite (I.remaining iter) }
-    ensures { (xs : List I.Item) × Drains I.next_gives iter xs }
-{
-    for _item in iter {}
 }
 
 /// Writes the answers for a window's items, each taken from its place, up to the first item that

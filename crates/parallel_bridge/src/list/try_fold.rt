@@ -9,12 +9,12 @@ ghost use Rattle.parallel_bridge.specs.Sources.{GivesSome};
 ghost use Rattle.parallel_bridge.specs.Tries.{TryAlong, TryFoldSegment};
 ghost use Rattle.parallel_bridge.specs.Ways.{TryFoldedAs};
 
-use crate::bridge::depth_of;
-use crate::bridge::gated::fold_gated;
-use crate::consumer::try_fold::try_fold_from;
+use crate::bridge::{bridge_watched, depth_of};
+use crate::consumer::try_fold::{TryFoldConsumer, try_fold_from};
+use crate::consumer::try_reduce::TryReduceConsumer;
 use crate::gate::watch::seats_for;
 use crate::gate::{Gate, GateWatch};
-use crate::halt::{unhalt, unhalt_lost};
+use crate::halt::unhalt;
 use crate::parts::Parts;
 use crate::path::Path;
 use parallel_fault::Trouble;
@@ -75,30 +75,29 @@ pub fn try_fold_parallel<
         (Shape (levels threads) xs) out)) }
 {
     let (gate, seat) = Gate::open(alloc, seats_for(parts.len()))?;
+    let base = TryReduceConsumer {
+        identity,
+        reduce_op,
+    };
+    let folding = TryFoldConsumer {
+        base,
+        identity,
+        fold_op,
+    };
     let watch = GateWatch {
         gate: &gate,
         seat,
         start: 0,
     };
     let depth = depth_of(threads);
-    let (done, seat) = fold_gated(
-        rt,
-        alloc,
-        depth,
-        threads.get(),
-        parts,
-        identity,
-        fold_op,
-        reduce_op,
-        watch,
-    );
-    match seat {
-        Some(seat) => {
-            gate.close_joined(seat);
-            unhalt(done)
-        }
-        None => unhalt_lost(done),
-    }
+    let (done, watch) = bridge_watched(rt, alloc, depth, threads.get(), parts, folding, watch);
+    let GateWatch {
+        gate: _,
+        seat,
+        start: _,
+    } = watch;
+    gate.close_joined(seat);
+    unhalt(done)
 }
 
 /// The items of a list folded up to the first step that fails: serially as they come and in one

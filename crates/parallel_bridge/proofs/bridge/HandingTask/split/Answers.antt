@@ -1,35 +1,57 @@
--- The outcomes of the halves go along the shape, and of two errors the left one stands.
-use Rattle.parallel_bridge.proofs.{rules, ◌/◌, arith, refl, driven_node}
+-- The outcomes of the halves go along the shape, of two errors the left one stands, and their
+-- watches are joined.
+use Rattle.parallel_bridge.proofs.{rules, ◌≡◌, ◌-◌, ◌/◌, arith, refl, subst, driven_node, halting, unstopped}
+use Rattle.parallel_bridge.proofs.Feeds.{halting_weaker, unstopped_weaker}
+use Rattle.parallel_bridge.proofs.Watches.{ends_together}
+use Rattle.parallel_bridge.specs.Endings.{ending_of}
 use Rattle.parallel_bridge.proofs.bridge.HandingTask.split.Goals as goal
 
 pub returns-clause-meet : goal.returns-clause-meet
-returns-clause-meet g c depth a b left right = (
-  c.in-Ok.ensures.reducer,
-  (
-    c.args.self.parts,
-    c.in-Ok-split_at.ensures.rests a.1 b.1 left.1 right.1,
-  ),
-)
+returns-clause-meet g c depth a b left right =
+    let S = g.S.Segment in let parts = c.in-Ok-split_at.ensures in
+    let counted = c.len-len.ensures.counted in let watches = c.halve-left_watch.result in
+    let back : S.count c.in-Ok-split_at.halves.1 ≡ c.len-len.result - c.len-len.result / 2 =
+    omega (arith, parts.counts.1, counted) in (
+      c.in-Ok.ensures.reducer,
+      (c.args.self.parts, parts.rests a.1 b.1 left.1 right.1),
+      c.halve-left_watch.ensures.meet (ending_of a.0) (ending_of b.0) a.2 b.2
+          (subst (λ n. g.G.Watch.ends watches.0 n a.2 (ending_of a.0)) parts.counts.0 left.2)
+          (subst (λ n. g.G.Watch.ends watches.1 n b.2 (ending_of b.0)) back right.2),
+    )
 
 pub returns-clause-node : goal.returns-clause-node
 returns-clause-node g c depth a b all above left right together =
-    let C = g.C.Consumer in let self = c.args.self in let parts = c.in-Ok-split_at.ensures in
-    let halves = c.in-Ok.ensures in let l = c.in-Ok.consumers.0 in
-    let r = c.in-Ok.consumers.1 in (
-      driven_node g.S.Segment.gives self.parts c.in-Ok-split_at.halves.0 c.in-Ok-split_at.halves.1
-          (C.leaf_gives self.consumer) (C.leaf_gives l) (C.leaf_gives r)
-          (C.node_gives self.consumer) (C.node_gives l) (C.node_gives r)
-          (g.C.Reducer.Reducer.reduce_gives c.in-Ok.consumers.2)
-          (c.len-len.result / 2) c.len-len.result depth above
-          (omega (arith, c.requires.long, c.len-len.ensures.counted)) refl
+    let S = g.S.Segment in let C = g.C.Consumer in let self = c.args.self in
+    let parts = c.in-Ok-split_at.ensures in let halves = c.in-Ok.ensures in
+    let l = c.in-Ok.consumers.0 in let r = c.in-Ok.consumers.1 in
+    let reduce = g.C.Reducer.Reducer.reduce_gives c.in-Ok.consumers.2 in
+    let half = c.len-len.result / 2 in let counted = c.len-len.ensures.counted in
+    let watches = c.halve-left_watch.result in
+    let back : S.count c.in-Ok-split_at.halves.1 ≡ c.len-len.result - half =
+    omega (arith, parts.counts.1, counted) in (
+      driven_node S.gives self.parts c.in-Ok-split_at.halves.0 c.in-Ok-split_at.halves.1
+          (halting (C.leaf_gives self.consumer)) (halting (C.leaf_gives l))
+          (halting (C.leaf_gives r)) (λ p. unstopped (C.node_gives self.consumer p))
+          (λ p. unstopped (C.node_gives l p)) (λ p. unstopped (C.node_gives r p))
+          (λ p. unstopped (reduce p)) half c.len-len.result depth above
+          (omega (arith, c.requires.long, counted)) refl
           c.len-len.ensures.each parts.joined parts.front parts.some
-          halves.left_leaf halves.right_leaf halves.left_node halves.right_node halves.node
+          (λ xs. halting_weaker (C.leaf_gives l) (C.leaf_gives self.consumer) xs xs
+          (halves.left_leaf xs))
+          (λ xs. halting_weaker (C.leaf_gives r) (C.leaf_gives self.consumer) xs xs
+          (halves.right_leaf xs))
+          (λ p q. unstopped_weaker (C.node_gives l p) (C.node_gives self.consumer p) q
+          (halves.left_node p q))
+          (λ p q. unstopped_weaker (C.node_gives r p) (C.node_gives self.consumer p) q
+          (halves.right_node p q))
+          (λ p q. unstopped_weaker (reduce p) (C.node_gives self.consumer p) q (halves.node p q))
           a.0 b.0 all.0 left.0 right.0 together.0,
       together.1 self.parts (parts.rests a.1 b.1 left.1 right.1),
+      subst (λ n. g.G.Watch.ends self.watch n all.2 (ending_of all.0)) counted
+          (c.halve-left_watch.ensures.joined (ending_of a.0) (ending_of b.0) (ending_of all.0)
+          a.2 b.2 all.2
+          (subst (λ n. g.G.Watch.ends watches.0 n a.2 (ending_of a.0)) parts.counts.0 left.2)
+          (subst (λ n. g.G.Watch.ends watches.1 n b.2 (ending_of b.0)) back right.2) together.2
+          (ends_together (λ p. unstopped (reduce p)) (λ p q none. none) a.0 b.0 all.0
+          together.0)),
     )
-
-pub returns-clause-left : goal.returns-clause-left
-returns-clause-left g c = search rules
-
-pub returns-clause-right : goal.returns-clause-right
-returns-clause-right g c = search rules

@@ -1,7 +1,7 @@
 -- What was written into the segments' rooms, side by side, or the leftmost error, which is no stop.
 use Rattle.parallel_bridge.proofs.{Shape, Driven, GivesSome, EachOk, FirstErr, TryAlongCut, TryMapOf, Ok, subst, sym, ap, ◌∙◌, arith, Answered, OneAfterAnother, written, stands_for}
-use Rattle.parallel_bridge.proofs.{fresh_watch, tried_error, tried_shape}
-use Rattle.parallel_bridge.proofs.Watches.{filled_unhalted, list_unstopped, not_stopped}
+use Rattle.parallel_bridge.proofs.{tried_error, tried_shape}
+use Rattle.parallel_bridge.proofs.Watches.{filled_unhalted, fresh_watch, list_unstopped, not_stopped}
 use Rattle.parallel_bridge.specs.Endings.{ending_of}
 use Rattle.parallel_bridge.proofs.list.try_map.try_map_parallel.Goals as goal
 
