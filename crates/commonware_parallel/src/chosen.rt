@@ -6,8 +6,8 @@ ghost use Rattle.std.specs.Prelude.{◌<◌, ◌≡◌, ◌≢◌, ◌≤◌, If
 ghost use Rattle.commonware_parallel.specs.Words.{By, Into, IsMemoryOnErr, Spawn, goes_by_path};
 
 use crate::call::{Call, Pick};
+use crate::chooser::Chooser;
 use crate::meter::Meter;
-use crate::strategy::Strategy;
 use parallel_bridge::Path;
 use parallel_fault::Fault;
 use parallel_policy::Place;
@@ -38,7 +38,7 @@ impl<M: Meter> Running<M> {
 }
 
 /// The run has ended. Its strategy is told where it has answered: of an error nothing is told.
-pub(crate) fn end_run<S: Strategy, Rt: Wait>(
+pub(crate) fn end_run<S: Chooser, Rt: Wait>(
     strategy: &S,
     rt: &Rt,
     running: Running<S::Measure>,
@@ -51,7 +51,7 @@ pub(crate) fn end_run<S: Strategy, Rt: Wait>(
 }
 
 /// A path that the strategy takes for the call, with a measure of the run to come.
-pub(crate) fn choose_path<S: Strategy, Rt: Wait, P: Place>(
+pub(crate) fn choose_path<S: Chooser, Rt: Wait, P: Place>(
     strategy: &S,
     rt: &Rt,
     alloc: Global,
@@ -73,7 +73,7 @@ pub(crate) fn choose_path<S: Strategy, Rt: Wait, P: Place>(
 }
 
 /// A number of parts that the strategy takes for the call, with a measure of the run to come.
-pub(crate) fn choose_parts<S: Strategy, Rt: Wait, P: Place>(
+pub(crate) fn choose_parts<S: Chooser, Rt: Wait, P: Place>(
     strategy: &S,
     rt: &Rt,
     alloc: Global,
@@ -96,7 +96,7 @@ pub(crate) fn choose_parts<S: Strategy, Rt: Wait, P: Place>(
 }
 
 /// A path that the strategy takes for the call, by which the run has begun.
-pub(crate) fn begin_path<S: Strategy, Rt: Wait, P: Place>(
+pub(crate) fn begin_path<S: Chooser, Rt: Wait, P: Place>(
     strategy: &S,
     rt: &Rt,
     alloc: Global,

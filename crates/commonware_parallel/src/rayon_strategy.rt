@@ -9,8 +9,8 @@ ghost use Rattle.parallel_pool.specs.ThreadPool.{thread_count};
 mod machine;
 
 use crate::call::{Call, Kind, Pick};
+use crate::chooser::Chooser;
 use crate::meter::{Measured, Sample, Told};
-use crate::strategy::Chooser;
 use parallel_fault::Fault;
 use parallel_policy::policy::INLINE_BUDGET;
 use parallel_policy::{Clock, Key, Place, Policy, RunExecution, Site, SpawnExecution, ask, tell};

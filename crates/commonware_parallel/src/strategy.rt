@@ -6,10 +6,9 @@ ghost use Rattle.commonware_parallel.specs.Words.{IsStableByClosure, IsTiling, M
 ghost use Rattle.commonware_parallel.specs.Words.{TryBracketing, TryFoldedAs, TryMapOf, UnlessRefused, body_call, gives_answer, join_call, listed, multiplied_call, non_zero_usize_get};
 ghost use Rattle.commonware_parallel.specs.Words.{ranges_of, spawn_call};
 
-mod chooser;
-
 use crate::batches::Batches;
 use crate::call::Call;
+use crate::chooser::Chooser;
 use crate::chosen::{Running, begin_path, choose_parts, choose_path, end_run};
 use crate::list::{
     body_over, fold_by, fold_init_by, fold_init_iter, fold_iter, map_by, map_init_by,
@@ -18,7 +17,6 @@ use crate::list::{
 };
 use crate::spawned::{Job, Spawned, begin};
 use crate::tiles::{Tiles, serial_cost};
-pub use chooser::Chooser;
 use parallel_bridge::list::sort::sort_parallel;
 use parallel_bridge::{Path, Source};
 use parallel_fault::{Fault, Trouble};

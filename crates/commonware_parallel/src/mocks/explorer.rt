@@ -3,11 +3,11 @@ ghost use Rattle.std.specs.Prelude.{◌≡◌, ◌<◌, IfOk, nat_eq};
 ghost use Rattle.parallel_fault.specs.Trouble.{IsMemoryOnErr};
 
 use crate::call::{Call, Kind, Pick};
+use crate::chooser::Chooser;
 use crate::meter::Unmeasured;
 use crate::mocks::choice::pick;
 use crate::mocks::rule::Rule;
 use crate::rayon_strategy::Rayon;
-use crate::strategy::Chooser;
 use parallel_bridge::Path;
 use parallel_fault::Fault;
 use parallel_policy::{Place, Site};
