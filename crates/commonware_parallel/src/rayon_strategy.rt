@@ -21,7 +21,7 @@ use std::num::NonZeroUsize;
 use std::sync::{Arc, Wait};
 use std::thread::Threads;
 
-/// Runs each call on a pool of threads, in as many parts as the pool's thread number asks.
+/// Runs each call in as many parts as its pool's thread number asks, on scoped threads.
 ///
 /// Beside the pool it has a planning number and a policy. Planned for one it runs a call serially.
 /// Planned for more the policy chooses between serial and parallel, by what the clock told of
