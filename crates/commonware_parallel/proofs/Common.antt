@@ -52,6 +52,6 @@ pub use Rattle.std.specs.Borrow.{Bor, MutBor}
 pub use Rattle.std.specs.Int.NonZero.{non_zero_usize_get}
 pub use Rattle.std.specs.List.{AllZip, FoldsTo, range_with_len, sum_by}
 pub use Rattle.std.specs.Option.{option_to_list, unwrap_or}
-pub use Rattle.std.specs.Prelude.{MatchOption, if◌then◌else◌, nat_le}
+pub use Rattle.std.specs.Prelude.{MatchOption, MatchResult, if◌then◌else◌, nat_le}
 pub use Rattle.std.specs.Vec.Iter.{into_iter_items, into_iter_len}
 pub use Rattle.std.specs.declared.ops.Range.{Range}

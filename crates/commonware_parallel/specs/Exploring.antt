@@ -2,7 +2,6 @@
 use Rattle.std.specs.Prelude.{◌≡◌, ℕ, List, [], ◌∷◌, ◌++◌, Bool, true, false, Result, Ok, Err}
 use Rattle.std.specs.Borrow.{Bor}
 use Rattle.parallel_pool.specs.declared.rayon.build_error.ThreadPoolBuildError.TheVariants.{Memory}
-use Rattle.commonware_parallel.specs.Explorers.{plans_of, pool_threads, rule_of}
 use Rattle.commonware_parallel.specs.declared.mocks.explore_error.ExploreError.{ExploreError}
 use Rattle.commonware_parallel.specs.declared.mocks.explore_error.ExploreError.TheVariants.{Differs, Build}
 use Rattle.commonware_parallel.specs.declared.mocks.explorer.Explorer.{Explorer}
@@ -11,8 +10,8 @@ use Rattle.commonware_parallel.specs.declared.mocks.rule.Rule.TheVariants.{Seria
 
 -- an explorer by this rule over so many threads, planned for 8
 abbrev pub IsExplorer : ℕ → Rule → Explorer → Type 0
-IsExplorer workers rule explorer = (pool_threads explorer ≡ workers) × (plans_of explorer ≡ 8)
-    × (rule_of explorer ≡ rule)
+IsExplorer workers rule explorer = (explorer.threads ≡ workers) × (explorer.planning ≡ 8)
+    × (explorer.rule ≡ rule)
 
 -- the rules behind the serial one, in their order
 abbrev pub rules_behind : List Rule

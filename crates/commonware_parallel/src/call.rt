@@ -1,5 +1,5 @@
 //! What a strategy is asked, and what it answers: calls and picks.
-ghost use Rattle.std.specs.Prelude.{◌≡◌, ◌<◌, ◌≤◌};
+ghost use Rattle.std.specs.Prelude.{◌≡◌, ◌<◌, ◌≤◌, false, true};
 ghost use Rattle.std.specs.Int.NonZero.{non_zero_usize_get};
 ghost use Rattle.commonware_parallel.specs.Calls.{HasPick, batches_call, body_call, first_pick, goes_by_path, join_call, last_pick, multiplied_call, nth_pick};
 ghost use Rattle.commonware_parallel.specs.Calls.{options_of, spawn_call, tiles_call, work_of};
@@ -193,6 +193,32 @@ impl Call {
         match index {
             0 => Pick::By(Path::Serial),
             _ => Pick::By(Path::Parallel),
+        }
+    }
+
+    /// The path that a pick is, of a call that goes by one.
+    pub(crate) fn path(self, pick: Pick) -> Path
+        requires has { HasPick self pick }
+        requires by_path { goes_by_path self.kind ≡ true }
+        ensures { pick ≡ Pick.By result }
+    {
+        match pick {
+            Pick::By(path) => path,
+            Pick::Into(_) => unreachable!(),
+        }
+    }
+
+    /// The number of parts that a pick is, of a call that is made in parts.
+    pub(crate) fn parts(self, pick: Pick) -> usize
+        requires has { HasPick self pick }
+        requires in_parts { goes_by_path self.kind ≡ false }
+        ensures pick { pick ≡ Pick.Into result }
+        ensures some { 0 < result }
+        ensures fit { result ≤ self.max_parts }
+    {
+        match pick {
+            Pick::Into(parts) => parts,
+            Pick::By(_) => unreachable!(),
         }
     }
 }

@@ -2,14 +2,14 @@
 //!
 //! A strategy picks for every kind of call. Which picks a call has goes by its kind: so one that
 //! goes by a path is given a path here, and any other a number of parts.
-ghost use Rattle.std.specs.Prelude.{◌<◌, ◌≡◌, ◌≢◌, ◌≤◌, IfErr, IfOk, false, true};
+ghost use Rattle.std.specs.Prelude.{◌<◌, ◌≡◌, ◌≢◌, ◌≤◌, Err, IfErr, IfOk, MatchResult, Ok, false, true};
 ghost use Rattle.commonware_parallel.specs.Words.{By, Into, IsMemoryOnErr, Spawn, goes_by_path};
 
-use crate::call::{Call, Pick};
+use crate::call::Call;
+use crate::chooser::Chooser;
 use crate::meter::Meter;
-use crate::strategy::Strategy;
 use parallel_bridge::Path;
-use parallel_fault::Fault;
+use parallel_fault::{Fault, Trouble};
 use parallel_policy::Place;
 use std::alloc::Global;
 use std::sync::Wait;
@@ -38,7 +38,7 @@ impl<M: Meter> Running<M> {
 }
 
 /// The run has ended. Its strategy is told where it has answered: of an error nothing is told.
-pub(crate) fn end_run<S: Strategy, Rt: Wait>(
+pub(crate) fn end_run<S: Chooser, Rt: Wait>(
     strategy: &S,
     rt: &Rt,
     running: Running<S::Measure>,
@@ -50,8 +50,25 @@ pub(crate) fn end_run<S: Strategy, Rt: Wait>(
     }
 }
 
+/// The run has ended with the outcome of a body that may fail, whose error is the closure's.
+pub(crate) fn end_with<S: Chooser, Rt: Wait, R, E>(
+    strategy: &S,
+    rt: &Rt,
+    running: Running<S::Measure>,
+    outcome: Result<R, E>,
+) -> Result<R, Trouble<E>>
+    ensures { MatchResult outcome (λ answer. result ≡ Ok answer)
+        (λ error. result ≡ Err (Trouble.Closure error)) }
+{
+    end_run(strategy, rt, running, outcome.is_ok());
+    match outcome {
+        Ok(answer) => Ok(answer),
+        Err(error) => Err(Trouble::Closure(error)),
+    }
+}
+
 /// A path that the strategy takes for the call, with a measure of the run to come.
-pub(crate) fn choose_path<S: Strategy, Rt: Wait, P: Place>(
+pub(crate) fn choose_path<S: Chooser, Rt: Wait, P: Place>(
     strategy: &S,
     rt: &Rt,
     alloc: Global,
@@ -65,15 +82,12 @@ pub(crate) fn choose_path<S: Strategy, Rt: Wait, P: Place>(
     ensures refused { IfErr result (S.refuses strategy.now (P.site_of site) call) }
     ensures memory { call.kind ≢ Spawn → IsMemoryOnErr result }
 {
-    match strategy.choose(rt, alloc, site, call) {
-        Ok((Pick::By(path), measure)) => Ok((path, measure)),
-        Ok((Pick::Into(_), _)) => unreachable!(),
-        Err(fault) => Err(fault),
-    }
+    let (pick, measure) = strategy.choose(rt, alloc, site, call)?;
+    Ok((call.path(pick), measure))
 }
 
 /// A number of parts that the strategy takes for the call, with a measure of the run to come.
-pub(crate) fn choose_parts<S: Strategy, Rt: Wait, P: Place>(
+pub(crate) fn choose_parts<S: Chooser, Rt: Wait, P: Place>(
     strategy: &S,
     rt: &Rt,
     alloc: Global,
@@ -88,15 +102,12 @@ pub(crate) fn choose_parts<S: Strategy, Rt: Wait, P: Place>(
         (Into chosen.0)) }
     ensures memory { IsMemoryOnErr result }
 {
-    match strategy.choose(rt, alloc, site, call) {
-        Ok((Pick::Into(parts), measure)) => Ok((parts, measure)),
-        Ok((Pick::By(_), _)) => unreachable!(),
-        Err(fault) => Err(fault),
-    }
+    let (pick, measure) = strategy.choose(rt, alloc, site, call)?;
+    Ok((call.parts(pick), measure))
 }
 
 /// A path that the strategy takes for the call, by which the run has begun.
-pub(crate) fn begin_path<S: Strategy, Rt: Wait, P: Place>(
+pub(crate) fn begin_path<S: Chooser, Rt: Wait, P: Place>(
     strategy: &S,
     rt: &Rt,
     alloc: Global,

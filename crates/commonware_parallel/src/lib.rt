@@ -9,6 +9,7 @@
 
 mod batches;
 mod call;
+mod chooser;
 mod chosen;
 mod list;
 pub mod merkle;
@@ -24,6 +25,7 @@ mod tiles;
 
 pub use batches::Batches;
 pub use call::{Call, Kind, Pick};
+pub use chooser::Chooser;
 pub use meter::{Measured, Meter, Unmeasured};
 pub use on::On;
 pub use parallel_bridge as bridge;
@@ -41,5 +43,5 @@ pub use rayon_strategy::Rayon;
 pub use runtime::Runtime;
 pub use sequential::Sequential;
 pub use spawned::{Closure, Job, Spawned};
-pub use strategy::{Chooser, Strategy};
+pub use strategy::Strategy;
 pub use tiles::{Tiles, merge_law};

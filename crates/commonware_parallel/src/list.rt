@@ -5,18 +5,18 @@ ghost use Rattle.commonware_parallel.specs.Words.{Body, Drains, GivesSome, Holds
 
 use crate::call::Call;
 use parallel_bridge::Parts;
-pub use parallel_bridge::list::fold::{fold_by, fold_iter};
-pub use parallel_bridge::list::fold_init::{fold_init_by, fold_init_iter};
-pub use parallel_bridge::list::map::{map_by, map_iter};
-pub use parallel_bridge::list::map_init::{map_init_by, map_init_iter};
-pub use parallel_bridge::list::partition::{partition_by, partition_iter};
-pub use parallel_bridge::list::try_fold::try_fold_by;
+pub(crate) use parallel_bridge::list::fold::{fold_by, fold_iter};
+pub(crate) use parallel_bridge::list::fold_init::{fold_init_by, fold_init_iter};
+pub(crate) use parallel_bridge::list::map::{map_by, map_iter};
+pub(crate) use parallel_bridge::list::map_init::{map_init_by, map_init_iter};
+pub(crate) use parallel_bridge::list::partition::{partition_by, partition_iter};
+pub(crate) use parallel_bridge::list::try_fold::try_fold_by;
 use parallel_bridge::list::try_fold::try_fold_iter;
-pub use parallel_bridge::list::try_map::{try_map_by, try_map_iter};
+pub(crate) use parallel_bridge::list::try_map::{try_map_by, try_map_iter};
 use parallel_fault::Trouble;
 
 /// The choice between a serial and a parallel body over a list.
-pub fn body_over<Q: Parts>(parts: &Q) -> Call
+pub(crate) fn body_over<Q: Parts>(parts: &Q) -> Call
     ensures counted { (xs : List Q.Item) → Q.gives parts.now xs → result ≡ body_call (length xs) }
     ensures kind { result.kind ≡ Body }
     ensures parts { result.max_parts ≡ 1 }
@@ -25,7 +25,7 @@ pub fn body_over<Q: Parts>(parts: &Q) -> Call
 }
 
 /// The same for items that each stand for the work of `multiplier`.
-pub fn multiplied_body_over<Q: Parts>(parts: &Q, multiplier: usize) -> Call
+pub(crate) fn multiplied_body_over<Q: Parts>(parts: &Q, multiplier: usize) -> Call
     ensures counted { (xs : List Q.Item) → Q.gives parts.now xs
         → result ≡ multiplied_call (length xs) multiplier }
     ensures kind { result.kind ≡ Body }
@@ -35,7 +35,7 @@ pub fn multiplied_body_over<Q: Parts>(parts: &Q, multiplier: usize) -> Call
 }
 
 /// A fold by steps that may fail over the items that an iterator gives, as they come.
-pub fn try_fold_as_it_comes<
+pub(crate) fn try_fold_as_it_comes<
     I: Iterator,
     R: Drop,
     E: Drop,

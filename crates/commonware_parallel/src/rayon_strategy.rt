@@ -1,5 +1,5 @@
 //! The strategy over several threads, with the policy that it asks.
-ghost use Rattle.std.specs.Prelude.{◌≡◌, ◌≢◌, ◌<◌, ◌≤◌, true, false, min, nat_eq, Some, IsSome, is_some, IfOk, IfErr};
+ghost use Rattle.std.specs.Prelude.{◌≡◌, ◌≢◌, ◌<◌, ◌≤◌, true, false, min, nat_eq, None, Some, IsSome, is_some, IfOk, IfErr};
 ghost use Rattle.std.specs.Option.{option_copied};
 ghost use Rattle.std.specs.Int.NonZero.{non_zero_usize_get};
 ghost use Rattle.parallel_fault.specs.Trouble.{IsMemoryOnErr};
@@ -9,24 +9,25 @@ ghost use Rattle.parallel_pool.specs.ThreadPool.{thread_count};
 mod machine;
 
 use crate::call::{Call, Kind, Pick};
+use crate::chooser::Chooser;
 use crate::meter::{Measured, Sample, Told};
-use crate::strategy::Chooser;
 use parallel_fault::Fault;
 use parallel_policy::policy::INLINE_BUDGET;
 use parallel_policy::{Clock, Key, Place, Policy, RunExecution, Site, SpawnExecution, ask, tell};
 use parallel_pool::rayon::{MAX_THREADS, ThreadPool, ThreadPoolBuildError};
 use std::alloc::Global;
+use std::marker::Model;
 use std::num::NonZeroUsize;
 use std::sync::{Arc, Wait};
 use std::thread::Threads;
 
-/// Runs each call on a pool of threads, in as many parts as the pool's thread number asks.
+/// Runs each call in as many parts as its pool's thread number asks, on scoped threads.
 ///
 /// Beside the pool it has a planning number and a policy. Planned for one it runs a call serially.
 /// Planned for more the policy chooses between serial and parallel, by what the clock told of
 /// earlier calls at the same site with as many items; without a policy the call runs in parallel. A
 /// join asks no policy and is always parallel. A clone has the same pool, the same numbers and the
-/// same policy.
+/// same policy. A contract sees it as these and whether jobs get workers (`RayonView`).
 #[derive(Clone, Debug, Drop)]
 pub struct Rayon<C> {
     pub(crate) pool: Arc<ThreadPool, Global>,
@@ -36,8 +37,24 @@ pub struct Rayon<C> {
     policy: Option<Policy>,
 }
 
+impl<C> Model for Rayon<C> {
+    ghost use Rattle.std.specs.Arc.{arc_value};
+    ghost use Rattle.std.specs.Int.NonZero.{non_zero_usize_get};
+    ghost use Rattle.parallel_pool.specs.ThreadPool.{thread_count};
+    ghost use Rattle.commonware_parallel.specs.Rayon.{RayonView};
+
+    ghost Value = { RayonView };
+
+    ghost view = { λ r. record {
+      planning = non_zero_usize_get r.parallelism;
+      threads = thread_count (arc_value r.pool);
+      policy = r.policy;
+      starts = r.starts_workers;
+    } };
+}
+
 impl<C: Clock> Rayon<C> {
-    ghost use Rattle.commonware_parallel.specs.Rayon.{planning_of, threads_of, chooses_of, starts_of};
+    ghost use Rattle.commonware_parallel.specs.Rayon.{IsMade};
 
     /// A strategy over a pool of `num_threads` threads, 65535 at most, planned for as many, with a
     /// policy that knows nothing yet and reads the clock.
@@ -52,11 +69,9 @@ impl<C: Clock> Rayon<C> {
         num_threads: NonZeroUsize,
         clock: C,
     ) -> Result<Rayon<C>, ThreadPoolBuildError>
-        ensures threads { IfOk result (λ strategy. threads_of strategy ≡ min
-            (non_zero_usize_get num_threads) MAX_THREADS) }
-        ensures planning { IfOk result (λ strategy. planning_of strategy ≡ threads_of strategy) }
-        ensures chooses { IfOk result (λ strategy. chooses_of strategy ≡ true) }
-        ensures starts { IfOk result (λ strategy. starts_of strategy ≡ true) }
+        ensures made { IfOk result
+            (IsMade (min (non_zero_usize_get num_threads) MAX_THREADS)
+            (min (non_zero_usize_get num_threads) MAX_THREADS) true) }
         ensures refused { IfErr result (λ error. error ≡ ThreadPoolBuildError.Memory) }
     {
         let pool = ThreadPool::new(num_threads);
@@ -77,10 +92,8 @@ impl<C: Clock> Rayon<C> {
         pool: &ThreadPool<W>,
         clock: C,
     ) -> Result<Rayon<C>, Fault>
-        ensures threads { IfOk result (λ strategy. threads_of strategy ≡ thread_count pool.now) }
-        ensures planning { IfOk result (λ strategy. planning_of strategy ≡ thread_count pool.now) }
-        ensures chooses { IfOk result (λ strategy. chooses_of strategy ≡ true) }
-        ensures starts { IfOk result (λ strategy. starts_of strategy ≡ true) }
+        ensures made { IfOk result
+            (IsMade (thread_count pool.now) (thread_count pool.now) true) }
         ensures fault { IsMemoryOnErr result }
     {
         let parallelism = pool.num_threads();
@@ -97,17 +110,14 @@ impl<C: Clock> Rayon<C> {
 }
 
 impl<C> Rayon<C> {
-    ghost use Rattle.commonware_parallel.specs.Rayon.{planning_of, threads_of, chooses_of, starts_of, policy_of, RayonTakes};
+    ghost use Rattle.commonware_parallel.specs.Rayon.{chooses_of, RayonTakes};
     ghost use Rattle.commonware_parallel.specs.Calls.{HasPick, first_pick, last_pick, options_of};
     ghost use Rattle.commonware_parallel.specs.declared.call.Kind.TheVariants.{Join, Spawn};
 
     /// The same strategy, planned for `parallelism`. The pool, its thread number and the policy
     /// stay.
     pub fn with_parallelism(self, parallelism: NonZeroUsize) -> Rayon<C>
-        ensures planning { planning_of result ≡ non_zero_usize_get parallelism }
-        ensures threads { threads_of result ≡ threads_of self }
-        ensures chooses { chooses_of result ≡ chooses_of self }
-        ensures starts { starts_of result ≡ starts_of self }
+        ensures { result ≡ record self { planning = non_zero_usize_get parallelism } }
     {
         let mut planned = self;
         planned.parallelism = parallelism;
@@ -119,20 +129,16 @@ impl<C> Rayon<C> {
     /// A policy's clones are one table. So strategies that are given clones of one policy learn
     /// from each other's calls, and the caller's own clone shows what they learnt.
     pub fn with_policy(self, policy: Policy) -> Rayon<C>
-        ensures policy { policy_of result ≡ Some policy }
-        ensures chooses { chooses_of result ≡ true }
-        ensures planning { planning_of result ≡ planning_of self }
-        ensures threads { threads_of result ≡ threads_of self }
-        ensures starts { starts_of result ≡ starts_of self }
+        ensures { result ≡ record self { policy = Some policy } }
     {
         let mut chosen = self;
         chosen.policy = Some(policy);
         chosen
     }
 
-    /// The policy that chooses the picks, if one does (`policy_of`).
+    /// The policy that chooses the picks, if one does.
     pub fn policy(&self) -> Option<&Policy>
-        ensures policy { option_copied result ≡ policy_of self.now }
+        ensures policy { option_copied result ≡ self.now.policy }
         ensures some { is_some result ≡ chooses_of self.now }
     {
         self.policy.as_ref()
@@ -141,10 +147,7 @@ impl<C> Rayon<C> {
     /// The same strategy, which starts no worker for a job: where it hands a job off the job is
     /// dropped, and its answer stays pending. All other calls go as before, on scoped threads.
     pub fn without_workers(self) -> Rayon<C>
-        ensures starts { starts_of result ≡ false }
-        ensures planning { planning_of result ≡ planning_of self }
-        ensures threads { threads_of result ≡ threads_of self }
-        ensures chooses { chooses_of result ≡ chooses_of self }
+        ensures { result ≡ record self { starts = false } }
     {
         let mut idle = self;
         idle.starts_workers = false;
@@ -153,8 +156,8 @@ impl<C> Rayon<C> {
 
     // The number of threads by which a call is planned.
     fn planned(&self, call: Call) -> usize
-        ensures spawn { call.kind ≡ Spawn → result ≡ threads_of self.now }
-        ensures others { call.kind ≢ Spawn → result ≡ planning_of self.now }
+        ensures spawn { call.kind ≡ Spawn → result ≡ self.now.threads }
+        ensures others { call.kind ≢ Spawn → result ≡ self.now.planning }
     {
         match call.kind {
             Kind::Spawn => self.pool.num_threads().get(),
@@ -165,9 +168,9 @@ impl<C> Rayon<C> {
     // The key by which a policy tells a call apart.
     fn key(&self, site: Site, call: Call) -> Key
         ensures spawn { call.kind ≡ Spawn
-            → result ≡ key_of site call.len call.work (threads_of self.now) }
+            → result ≡ key_of site call.len call.work self.now.threads }
         ensures others { call.kind ≢ Spawn
-            → result ≡ key_of site call.len call.work (planning_of self.now) }
+            → result ≡ key_of site call.len call.work self.now.planning }
     {
         Key::new(site, call.len, call.work, self.planned(call))
     }
@@ -176,8 +179,7 @@ impl<C> Rayon<C> {
     fn pick(&self, call: Call) -> Pick
         requires { 0 < call.max_parts }
         ensures has { HasPick call result }
-        ensures takes { RayonTakes (planning_of self.now) (threads_of self.now)
-            (chooses_of self.now) call result }
+        ensures takes { RayonTakes self.now call result }
     {
         if call.kind == Kind::Join || self.planned(call) > 1 {
             call.last()
@@ -192,10 +194,8 @@ impl<C> Rayon<C> {
         ensures chooses { IsSome result → chooses_of self.now ≡ true }
         ensures kind { IsSome result → call.kind ≢ Join }
         ensures options { IsSome result → 2 ≤ options_of call }
-        ensures first { IsSome result → RayonTakes (planning_of self.now) (threads_of self.now)
-            (chooses_of self.now) call (first_pick call) }
-        ensures last { IsSome result → RayonTakes (planning_of self.now) (threads_of self.now)
-            (chooses_of self.now) call (last_pick call) }
+        ensures first { IsSome result → RayonTakes self.now call (first_pick call) }
+        ensures last { IsSome result → RayonTakes self.now call (last_pick call) }
     {
         if call.kind == Kind::Join || call.options() < 2 || self.planned(call) < 2 {
             return None;
@@ -205,18 +205,13 @@ impl<C> Rayon<C> {
 }
 
 impl<C: Clone> Rayon<C> {
-    ghost use Rattle.commonware_parallel.specs.Rayon.{planning_of, threads_of, chooses_of, starts_of};
-
     /// A strategy over the same pool, with the same planning number, whose picks no policy chooses.
     ///
     /// # Errors
     ///
     /// `Fault::Memory` where the clone was refused memory.
     pub fn without_policy(&self) -> Result<Rayon<C>, Fault>
-        ensures planning { IfOk result (λ strategy. planning_of strategy ≡ planning_of self.now) }
-        ensures threads { IfOk result (λ strategy. threads_of strategy ≡ threads_of self.now) }
-        ensures chooses { IfOk result (λ strategy. chooses_of strategy ≡ false) }
-        ensures starts { IfOk result (λ strategy. starts_of strategy ≡ starts_of self.now) }
+        ensures same { IfOk result (λ strategy. strategy ≡ record self.now { policy = None }) }
         ensures fault { IsMemoryOnErr result }
     {
         let pool = Arc::try_clone(&self.pool)?;
@@ -232,20 +227,19 @@ impl<C: Clone> Rayon<C> {
 }
 
 impl<C: Clock> Chooser for Rayon<C> {
-    ghost use Rattle.commonware_parallel.specs.Rayon.{planning_of, threads_of, chooses_of, starts_of, RayonTakes, RayonRefuses};
+    ghost use Rattle.commonware_parallel.specs.Rayon.{RayonTakes, RayonRefuses};
 
-    ghost takes = { λ strategy _ call pick. RayonTakes (planning_of strategy) (threads_of strategy)
-        (chooses_of strategy) call pick };
+    ghost takes = { λ strategy _ call pick. RayonTakes strategy call pick };
 
-    ghost refuses = { λ strategy _ call fault. RayonRefuses (chooses_of strategy) call fault };
+    ghost refuses = { λ strategy _ call fault. RayonRefuses strategy call fault };
 
-    ghost plans = { λ strategy. planning_of strategy };
+    ghost plans = { λ strategy. strategy.planning };
 
-    ghost threads = { λ strategy. threads_of strategy };
+    ghost threads = { λ strategy. strategy.threads };
 
-    ghost starts = { λ strategy. starts_of strategy };
+    ghost starts = { λ strategy. strategy.starts };
 
-    ghost unasked = { λ strategy. nat_eq (planning_of strategy) 1 };
+    ghost unasked = { λ strategy. nat_eq strategy.planning 1 };
 
     type Measure = Measured<C>;
 
@@ -265,6 +259,7 @@ impl<C: Clock> Chooser for Rayon<C> {
         self.parallelism.get() == 1
     }
 
+    #[tactic(auto, using(crate::proofs::Picks::inner_of_rayon))]
     fn inner(&self) -> Result<Rayon<C>, Fault> {
         self.without_policy()
     }

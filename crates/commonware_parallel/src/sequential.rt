@@ -15,9 +15,9 @@ ghost use Rattle.parallel_bridge.specs.declared.path.Path.TheVariants.{Serial};
 mod parts;
 
 use crate::call::{Call, Pick};
+use crate::chooser::Chooser;
 use crate::meter::Unmeasured;
 use crate::spawned::{Job, Spawned, Stage};
-use crate::strategy::Chooser;
 use parallel_bridge::list::fold::fold_iter;
 use parallel_bridge::list::fold_init::fold_init_iter;
 use parallel_bridge::list::map::map_iter;

@@ -6,11 +6,10 @@ ghost use Rattle.commonware_parallel.specs.Words.{IsStableByClosure, IsTiling, M
 ghost use Rattle.commonware_parallel.specs.Words.{TryBracketing, TryFoldedAs, TryMapOf, UnlessRefused, body_call, gives_answer, join_call, listed, multiplied_call, non_zero_usize_get};
 ghost use Rattle.commonware_parallel.specs.Words.{ranges_of, spawn_call};
 
-mod chooser;
-
 use crate::batches::Batches;
 use crate::call::Call;
-use crate::chosen::{Running, begin_path, choose_parts, choose_path, end_run};
+use crate::chooser::Chooser;
+use crate::chosen::{Running, begin_path, choose_parts, choose_path, end_run, end_with};
 use crate::list::{
     body_over, fold_by, fold_init_by, fold_init_iter, fold_iter, map_by, map_init_by,
     map_init_iter, map_iter, multiplied_body_over, partition_by, partition_iter,
@@ -18,7 +17,6 @@ use crate::list::{
 };
 use crate::spawned::{Job, Spawned, begin};
 use crate::tiles::{Tiles, serial_cost};
-pub use chooser::Chooser;
 use parallel_bridge::list::sort::sort_parallel;
 use parallel_bridge::{Path, Source};
 use parallel_fault::{Fault, Trouble};
@@ -121,8 +119,7 @@ pub trait Strategy: Chooser {
             Path::Serial => serial(),
             Path::Parallel => parallel(),
         };
-        end_run(self, rt, running, outcome.is_ok());
-        outcome.map_err(Trouble::Closure)
+        end_with(self, rt, running, outcome)
     }
 
     /// An answer of each of two closures, which are run serially one after the other, and in
@@ -708,16 +705,8 @@ pub trait Strategy: Chooser {
         let (parts, measure) = choose_parts(self, rt, alloc, site, call)?;
         let batches = Batches::in_parts(alloc, &inner, site, len, parts, minimum)?;
         let running = Running::begun(measure);
-        match run(batches) {
-            Ok(answer) => {
-                end_run(self, rt, running, true);
-                Ok(answer)
-            }
-            Err(error) => {
-                end_run(self, rt, running, false);
-                Err(Trouble::Closure(error))
-            }
-        }
+        let outcome = run(batches);
+        end_with(self, rt, running, outcome)
     }
 
     /// An answer of `run` over tiles of one of `grids`, on rows of `len` columns: of the first one

@@ -11,5 +11,4 @@ pub mod no_memory;
 mod policy;
 #[cfg(test)]
 mod pool;
-#[cfg(test)]
-mod same;
+pub mod same;

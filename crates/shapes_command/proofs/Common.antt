@@ -1,7 +1,7 @@
 -- The names of std, of the crates below and of `specs/` that proofs here cite, passed on from one
 -- place. Declares nothing.
 pub use Rattle.commonware_parallel.proofs.Picks.{one_path}
-pub use Rattle.commonware_parallel.specs.Explorers.{ExplorerTakes, picked, plans_of, pool_threads, rule_of}
+pub use Rattle.commonware_parallel.specs.Explorers.{ExplorerTakes, picked}
 pub use Rattle.commonware_parallel.specs.Merkle.{MerkleRoot, NextLevel, of_level, of_none, of_one}
 pub use Rattle.commonware_parallel.specs.declared.mocks.explorer.Explorer.{Explorer}
 pub use Rattle.commonware_parallel.specs.declared.mocks.rule.Rule.TheVariants.{Serial}
@@ -14,7 +14,7 @@ unfoldable pub use Rattle.parallel_shares.specs.Holders.{inside}
 pub use Rattle.parallel_shares.specs.Holders.{in_ranges, same_number}
 pub use Rattle.parallel_shares.specs.Seats.{AllDone, AreSeatsOf, EachCellOnce, IsSameSeat, IsSeatOf, claims_of, has_emptied, index_of, plan_of, transit_of}
 pub use Rattle.parallel_shares.specs.Totals.{times, total}
-pub use Rattle.shapes_command.specs.Answer.{EndsAtParallel, SumsAlong, combined, range_text, spaced}
+pub use Rattle.shapes_command.specs.Answer.{EndsAtParallel, SumsAlong, combined, over_two, range_text, spaced}
 pub use Rattle.shapes_command.specs.Drain.{AreDrained, HasEachOnce, IsDrained, listed, seat_of}
 pub use Rattle.shapes_command.specs.Number.{CountsOrNone, IsCountOrNone, IsCountUpTo, IsNumberUpTo, IsTextOrNone}
 pub use Rattle.shapes_command.specs.Request.{AreItems, HasForm, IsCallLine, IsExplorerLine, IsInRange, IsItem, IsListLine, IsShareLine, Says, SaysCall, SaysExplorer, SaysList, SaysShare, number_of}

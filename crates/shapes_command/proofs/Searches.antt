@@ -1,5 +1,5 @@
 -- What a search through the rules tells of a closure's outputs.
-use Rattle.shapes_command.proofs.Common.{◌≡◌, Bool, true, false, List, [], ◌∷◌, Result, Ok, Err, IfErr, ap, sym, subst, Bor, plans_of, rule_of, Explorer, Serial, EndsAtParallel}
+use Rattle.shapes_command.proofs.Common.{◌≡◌, Bool, true, false, List, [], ◌∷◌, Result, Ok, Err, IfErr, ap, sym, subst, Bor, Explorer, Serial, EndsAtParallel}
 use Rattle.commonware_parallel.specs.declared.mocks.rule.Rule.TheVariants.{Parallel}
 use Rattle.commonware_parallel.specs.Exploring.{Explored, RunsBy}
 use Rattle.commonware_parallel.specs.declared.mocks.explore_error.ExploreError.{ExploreError}
@@ -14,9 +14,9 @@ first_of rule (x ∷ xs) = x
 module _ {F : Type 0} (step : F → Bor Explorer → Bool → F → Type 0) (eq : Bool → Bool → Bool)
     (apart : ¬ (eq true false ≡ true))
     (is_false : (f g : F) (explorer : Bor Explorer) (out : Bool) → step f explorer out g
-    → rule_of explorer.now ≡ Serial → out ≡ false)
+    → explorer.now.rule ≡ Serial → out ≡ false)
     (is_true : (f g : F) (explorer : Bor Explorer) (out : Bool) → step f explorer out g
-    → plans_of explorer.now ≡ 8 → rule_of explorer.now ≡ Parallel → out ≡ true) where
+    → explorer.now.planning ≡ 8 → explorer.now.rule ≡ Parallel → out ≡ true) where
   -- a serial output and a parallel one aren't found equal
   outputs_differ : (f g h i : F) (serial parallel : Bool) → RunsBy step eq Serial f serial g
       → RunsBy step eq Parallel h parallel i → ¬ (eq parallel serial ≡ true)

@@ -1,22 +1,19 @@
 -- Sums along a list's shape, which don't wrap around.
 use Rattle.shapes_command.proofs.Common.{◌≡◌, ℕ, zero, suc, ◌+◌, ◌*◌, ◌/◌, ◌%◌, ◌^◌, ◌<◌, ◌≤◌, ◌∙◌, List, [], ◌∷◌, length, map, take, drop, ap, refl, sym, subst, arith, All, pow-succ', length-map}
 use Rattle.shapes_command.proofs.Common.{length-take-le, length-drop, take-map, drop-map, All-head, All-tail, All-take, All-drop, Chain, FoldSegment, Shape, cutdepth, Along, AlongLeaves, FoldsAs}
-use Rattle.shapes_command.proofs.Common.{ReducedSegment, ExplorerTakes, picked, plans_of, rule_of, Explorer, one_path, Parallel}
+use Rattle.shapes_command.proofs.Common.{ReducedSegment, ExplorerTakes, picked, Explorer, one_path, over_two, Parallel}
 use Rattle.std.proofs.lemmas.Nat.{leading_top, pow_pos}
 use Rattle.parallel_policy.specs.declared.Site.{Site}
 use Rattle.commonware_parallel.specs.Calls.{body_call}
 use Rattle.commonware_parallel.specs.declared.call.Pick.TheVariants.{By}
-use Rattle.commonware_parallel.specs.declared.mocks.rule.Rule.TheVariants.{Parallel as ParallelRule}
 use Rattle.parallel_bridge.specs.declared.path.Path.{Path}
 
 -- a parallel explorer that is planned for three runs a body in parallel
 pub explored_in_parallel : (explorer : Explorer) (site : Site) (len : ℕ) (path : Path)
-    → plans_of explorer ≡ 3 → rule_of explorer ≡ ParallelRule
-    → ExplorerTakes explorer site (body_call len) (By path) → path ≡ Parallel
-explored_in_parallel explorer site len path planned rule takes =
-    one_path path Parallel (takes.0 ∙ ap
-    (λ p. picked p (rule_of explorer) site (body_call len)) planned
-    ∙ ap (λ r. picked 3 r site (body_call len)) rule)
+    → explorer ≡ over_two → ExplorerTakes explorer site (body_call len) (By path)
+    → path ≡ Parallel
+explored_in_parallel explorer site len path same takes =
+    one_path path Parallel (takes.0 ∙ ap (λ e. picked e site (body_call len)) same)
 
 -- in parallel a fold goes along the list's shape
 pub along_shape : {X R : Type 0} (identity : R → Type 0) (allowed : List X → R → Type 0)

@@ -1,5 +1,5 @@
 -- The text that answers a request.
-use Rattle.std.specs.Prelude.{◌≡◌, ◌+◌, ◌*◌, ◌%◌, ℕ, List, [], ◌∷◌, ◌++◌, map, length, codes, if◌then◌else◌, String, ◌<◌, min, Option, None, Some, MatchOption}
+use Rattle.std.specs.Prelude.{◌≡◌, ◌+◌, ◌*◌, ◌%◌, ℕ, true, List, [], ◌∷◌, ◌++◌, map, length, codes, if◌then◌else◌, String, ◌<◌, min, Option, None, Some, MatchOption}
 use Rattle.std.specs.Borrow.{Bor}
 use Rattle.std.specs.Fmt.{decimal}
 use Rattle.std.specs.List.{join_with_byte, range_with_len, sum_by}
@@ -13,6 +13,7 @@ use Rattle.parallel_shares.specs.Grid.{critical_cost, stays_whole}
 use Rattle.parallel_bridge.specs.Shapes.{Cut, cutdepth, Shape, leaf_lengths, Along}
 use Rattle.parallel_pool.specs.PlannedThreads.{Writes, by_texts, number_or}
 use Rattle.parallel_policy.specs.declared.site.Site.{Site}
+use Rattle.commonware_parallel.specs.Explorers.{ExplorerView}
 use Rattle.commonware_parallel.specs.Merkle.{MerkleRoot}
 use Rattle.commonware_parallel.specs.Mixes.{mix_of}
 use Rattle.commonware_parallel.specs.declared.mocks.explore_error.ExploreError.{ExploreError}
@@ -51,6 +52,10 @@ IsPlannedFor set num_threads num_cpus machine planned =
     × (set ≡ 0 → (threads : Option ℕ) × (cpus : Option ℕ) × SaysNumber num_threads threads
     × SaysNumber num_cpus cpus
     × (planned ≡ min (by_texts threads cpus (number_or 1 non_zero_usize_get machine)) 65535))
+
+-- the parallel explorer over two threads that is planned for three
+abbrev pub over_two : ExplorerView
+over_two = record { planning = 3; threads = 2; rule = Parallel; starts = true }
 
 -- the sum along a cut of the items: each segment is summed from the identity, behind a further one,
 -- and the sums of neighbours are added

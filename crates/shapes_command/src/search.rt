@@ -1,7 +1,6 @@
 //! Searches through the rules of an explorer: for the sum of a list, and for a body that answers
 //! otherwise.
 ghost use Rattle.std.specs.Prelude.{◌≡◌, Bool, true, false, IfOk, IfErr};
-ghost use Rattle.commonware_parallel.specs.Explorers.{plans_of, rule_of};
 ghost use Rattle.commonware_parallel.specs.declared.mocks.rule.Rule.TheVariants.{Parallel, Serial};
 ghost use Rattle.shapes_command.specs.Answer.{EndsAtParallel};
 
@@ -82,8 +81,8 @@ pub fn differing_rule<R: Threads + Wait>(rt: &R, alloc: Global) -> Result<Rule, 
     ensures fault { IfErr result (λ refusal. refusal ≡ Fault.Memory) }
 {
     let run = |explorer: &Explorer| -> bool
-        ensures serial { rule_of explorer.now ≡ Serial → result ≡ false }
-        ensures parallel { plans_of explorer.now ≡ 8 → rule_of explorer.now ≡ Parallel
+        ensures serial { explorer.now.rule ≡ Serial → result ≡ false }
+        ensures parallel { explorer.now.planning ≡ 8 → explorer.now.rule ≡ Parallel
             → result ≡ true }
     { takes_parallel_body(rt, alloc, explorer) };
     match searched(rt, alloc, run) {
@@ -100,9 +99,9 @@ fn searched<R: Threads, F: FnMut(&Explorer) -> bool>(
 ) -> Result<bool, ExploreError>
     requires callable { F.IsAlwaysCallable run }
     requires serial { (f g : F) (explorer : _) (out : Bool) → F.step f explorer out g
-        → rule_of explorer.now ≡ Serial → out ≡ false }
+        → explorer.now.rule ≡ Serial → out ≡ false }
     requires parallel { (f g : F) (explorer : _) (out : Bool) → F.step f explorer out g
-        → plans_of explorer.now ≡ 8 → rule_of explorer.now ≡ Parallel → out ≡ true }
+        → explorer.now.planning ≡ 8 → explorer.now.rule ≡ Parallel → out ≡ true }
     ensures { IfErr result EndsAtParallel }
 {
     explore(rt, alloc, run)
@@ -110,8 +109,8 @@ fn searched<R: Threads, F: FnMut(&Explorer) -> bool>(
 
 // Whether a run over 64 items takes its parallel body, which an explorer's is never refused.
 fn takes_parallel_body<R: Wait>(rt: &R, alloc: Global, explorer: &Explorer) -> bool
-    ensures serial { rule_of explorer.now ≡ Serial → result ≡ false }
-    ensures parallel { plans_of explorer.now ≡ 8 → rule_of explorer.now ≡ Parallel → result ≡ true }
+    ensures serial { explorer.now.rule ≡ Serial → result ≡ false }
+    ensures parallel { explorer.now.planning ≡ 8 → explorer.now.rule ≡ Parallel → result ≡ true }
 {
     match explorer.run(rt, alloc, SITE, 64, || false, || true) {
         Ok(is_parallel) => is_parallel,

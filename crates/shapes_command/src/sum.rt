@@ -1,9 +1,7 @@
 //! The fold of a command line's items.
 ghost use Rattle.std.specs.Prelude.{◌≡◌, ◌+◌, ◌≤◌, IfOk, IfErr, sum_by};
 ghost use Rattle.parallel_bridge.specs.Shapes.{Shape, cutdepth};
-ghost use Rattle.commonware_parallel.specs.Explorers.{plans_of, pool_threads, rule_of};
-ghost use Rattle.commonware_parallel.specs.declared.mocks.rule.Rule.TheVariants.{Parallel};
-ghost use Rattle.shapes_command.specs.Answer.{SumsAlong};
+ghost use Rattle.shapes_command.specs.Answer.{SumsAlong, over_two};
 ghost use Rattle.shapes_command.specs.Request.{AreItems, number_of};
 
 use crate::number::number;
@@ -85,9 +83,7 @@ impl Clock for Still {
 
 // The parallel explorer over two threads, planned for three.
 fn parallel_explorer<R: Threads>(rt: &R, alloc: Global) -> Result<Explorer, Fault>
-    ensures threads { IfOk result (λ explorer. pool_threads explorer ≡ 2) }
-    ensures planning { IfOk result (λ explorer. plans_of explorer ≡ 3) }
-    ensures rule { IfOk result (λ explorer. rule_of explorer ≡ Parallel) }
+    ensures over_two { IfOk result (λ explorer. explorer ≡ over_two) }
     ensures fault { IfErr result (λ refusal. refusal ≡ Fault.Memory) }
 {
     let two = NonZeroUsize::MIN.saturating_add(1);
@@ -106,9 +102,7 @@ fn sum_along<R: Threads + Wait + Sync>(
     identity: usize,
     items: &[String],
 ) -> Result<usize, Fault>
-    requires threads { pool_threads explorer.now ≡ 2 }
-    requires planning { plans_of explorer.now ≡ 3 }
-    requires rule { rule_of explorer.now ≡ Parallel }
+    requires over_two { explorer.now ≡ over_two }
     requires identity { identity ≤ 1000000 }
     requires items { AreItems items.now }
     ensures sum { IfOk result (SumsAlong identity (Shape (cutdepth 2) items.now)) }

@@ -2,7 +2,6 @@
 //! apart by a search through the rules.
 ghost use Rattle.std.specs.Prelude.{◌≡◌, IfOk};
 ghost use Rattle.parallel_fault.specs.Trouble.{IsMemoryOnErr};
-ghost use Rattle.commonware_parallel.specs.Explorers.{rule_of};
 ghost use Rattle.commonware_parallel.specs.declared.mocks.rule.Rule.TheVariants.{Serial};
 
 use commonware_parallel::mocks::{ExploreError, Explorer, explore};
@@ -44,7 +43,7 @@ pub fn explore_from_ten<Rt: Threads + Wait + Sync>(
     ensures fault { IfOk result (λ told. IsMemoryOnErr told) }
 {
     let run = |explorer: &Explorer| -> Result<usize, Fault>
-        ensures sum { rule_of explorer.now ≡ Serial → IfOk result (λ sum. sum ≡ 4960) }
+        ensures sum { explorer.now.rule ≡ Serial → IfOk result (λ sum. sum ≡ 4960) }
         ensures fault { IsMemoryOnErr result }
     { sum_from(rt, alloc, explorer, 10) };
     explore_unequal(rt, alloc, run)
@@ -75,7 +74,7 @@ fn explore_unequal<Rt: Threads, F: FnMut(&Explorer) -> Result<usize, Fault>>(
 ) -> Result<Result<usize, Fault>, ExploreError>
     requires callable { F.IsAlwaysCallable run }
     requires sums { (f g : F) (explorer : _) (out : _) → F.step f explorer out g
-        → rule_of explorer.now ≡ Serial → IfOk out (λ sum. sum ≡ 4960) }
+        → explorer.now.rule ≡ Serial → IfOk out (λ sum. sum ≡ 4960) }
     requires faults { (f g : F) (explorer : _) (out : _) → F.step f explorer out g
         → IsMemoryOnErr out }
     ensures sum { IfOk result (λ told. IfOk told (λ sum. sum ≡ 4960)) }
@@ -92,7 +91,7 @@ fn sum_from<Rt: Threads + Wait + Sync>(
     identity: usize,
 ) -> Result<usize, Fault>
     ensures neutral { identity ≡ 0 → IfOk result (λ sum. sum ≡ 4950) }
-    ensures serial { identity ≡ 10 → rule_of explorer.now ≡ Serial
+    ensures serial { identity ≡ 10 → explorer.now.rule ≡ Serial
         → IfOk result (λ sum. sum ≡ 4960) }
     ensures fault { IsMemoryOnErr result }
 {

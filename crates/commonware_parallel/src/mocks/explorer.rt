@@ -3,16 +3,17 @@ ghost use Rattle.std.specs.Prelude.{◌≡◌, ◌<◌, IfOk, nat_eq};
 ghost use Rattle.parallel_fault.specs.Trouble.{IsMemoryOnErr};
 
 use crate::call::{Call, Kind, Pick};
+use crate::chooser::Chooser;
 use crate::meter::Unmeasured;
 use crate::mocks::choice::pick;
 use crate::mocks::rule::Rule;
 use crate::rayon_strategy::Rayon;
-use crate::strategy::Chooser;
 use parallel_bridge::Path;
 use parallel_fault::Fault;
 use parallel_policy::{Place, Site};
 use parallel_pool::rayon::ThreadPool;
 use std::alloc::Global;
+use std::marker::Model;
 use std::num::NonZeroUsize;
 use std::sync::{Arc, Wait};
 
@@ -21,7 +22,7 @@ use std::sync::{Arc, Wait};
 ///
 /// It has a pool's thread number and a planning number, and no policy. Planned for one it runs
 /// every body serially; joins and jobs go by the rule alone. A clone has the same pool, number and
-/// rule.
+/// rule. A contract sees it as these and whether jobs get workers (`ExplorerView`).
 #[derive(Clone, Debug, Drop)]
 pub struct Explorer {
     pub(crate) pool: Arc<ThreadPool, Global>,
@@ -30,10 +31,25 @@ pub struct Explorer {
     pub(crate) rule: Rule,
 }
 
+impl Model for Explorer {
+    ghost use Rattle.std.specs.Arc.{arc_value};
+    ghost use Rattle.std.specs.Int.NonZero.{non_zero_usize_get};
+    ghost use Rattle.parallel_pool.specs.ThreadPool.{thread_count};
+    ghost use Rattle.commonware_parallel.specs.Explorers.{ExplorerView};
+
+    ghost Value = { ExplorerView };
+
+    ghost view = { λ e. record {
+      planning = non_zero_usize_get e.parallelism;
+      threads = thread_count (arc_value e.pool);
+      rule = e.rule;
+      starts = e.starts_workers;
+    } };
+}
+
 impl Explorer {
-    ghost use Rattle.commonware_parallel.specs.Explorers.{plans_of, pool_threads, rule_of, explorer_starts, picked};
+    ghost use Rattle.commonware_parallel.specs.Explorers.{explorer_of, picked};
     ghost use Rattle.commonware_parallel.specs.Calls.{HasPick};
-    ghost use Rattle.commonware_parallel.specs.Rayon.{planning_of, threads_of, starts_of};
     ghost use Rattle.commonware_parallel.specs.declared.mocks.rule.Rule.TheVariants.{Parallel, Seeded};
 
     /// Over the strategy's pool and planned as it is, by the rule.
@@ -42,12 +58,7 @@ impl Explorer {
     ///
     /// `Fault::Memory` where the pool's handle was refused memory.
     pub fn by_rule<C>(strategy: &Rayon<C>, rule: Rule) -> Result<Explorer, Fault>
-        ensures planning { IfOk result (λ explorer. plans_of explorer ≡ planning_of strategy.now) }
-        ensures threads { IfOk result (λ explorer. pool_threads explorer ≡ threads_of
-            strategy.now) }
-        ensures starts { IfOk result (λ explorer. explorer_starts explorer ≡ starts_of
-            strategy.now) }
-        ensures rule { IfOk result (λ explorer. rule_of explorer ≡ rule) }
+        ensures over { IfOk result (λ explorer. explorer ≡ explorer_of strategy.now rule) }
         ensures fault { IsMemoryOnErr result }
     {
         let pool = Arc::try_clone(&strategy.pool)?;
@@ -65,12 +76,7 @@ impl Explorer {
     ///
     /// `Fault::Memory` where the pool's handle was refused memory.
     pub fn parallel<C>(strategy: &Rayon<C>) -> Result<Explorer, Fault>
-        ensures planning { IfOk result (λ explorer. plans_of explorer ≡ planning_of strategy.now) }
-        ensures threads { IfOk result (λ explorer. pool_threads explorer ≡ threads_of
-            strategy.now) }
-        ensures starts { IfOk result (λ explorer. explorer_starts explorer ≡ starts_of
-            strategy.now) }
-        ensures rule { IfOk result (λ explorer. rule_of explorer ≡ Parallel) }
+        ensures over { IfOk result (λ explorer. explorer ≡ explorer_of strategy.now Parallel) }
         ensures fault { IsMemoryOnErr result }
     {
         Explorer::by_rule(strategy, Rule::Parallel)
@@ -83,12 +89,7 @@ impl Explorer {
     ///
     /// `Fault::Memory` where the pool's handle was refused memory.
     pub fn seeded<C>(strategy: &Rayon<C>, seed: u64) -> Result<Explorer, Fault>
-        ensures planning { IfOk result (λ explorer. plans_of explorer ≡ planning_of strategy.now) }
-        ensures threads { IfOk result (λ explorer. pool_threads explorer ≡ threads_of
-            strategy.now) }
-        ensures starts { IfOk result (λ explorer. explorer_starts explorer ≡ starts_of
-            strategy.now) }
-        ensures rule { IfOk result (λ explorer. rule_of explorer ≡ Seeded seed) }
+        ensures over { IfOk result (λ explorer. explorer ≡ explorer_of strategy.now (Seeded seed)) }
         ensures fault { IsMemoryOnErr result }
     {
         Explorer::by_rule(strategy, Rule::Seeded(seed))
@@ -96,7 +97,7 @@ impl Explorer {
 
     /// By what it picks.
     pub fn rule(&self) -> Rule
-        ensures { result ≡ rule_of self.now }
+        ensures { result ≡ self.now.rule }
     {
         self.rule
     }
@@ -104,7 +105,7 @@ impl Explorer {
     // The pick for a call.
     fn picked(&self, site: Site, call: Call) -> Pick
         requires { 0 < call.max_parts }
-        ensures pick { result ≡ picked (plans_of self.now) (rule_of self.now) site call }
+        ensures pick { result ≡ picked self.now site call }
         ensures has { HasPick call result }
     {
         let options = NonZeroUsize::MIN.saturating_add(call.options() - 1);
@@ -117,19 +118,19 @@ impl Explorer {
 }
 
 impl Chooser for Explorer {
-    ghost use Rattle.commonware_parallel.specs.Explorers.{plans_of, pool_threads, rule_of, explorer_starts, ExplorerTakes, ExplorerRefuses};
+    ghost use Rattle.commonware_parallel.specs.Explorers.{ExplorerTakes, ExplorerRefuses};
 
-    ghost takes = { λ explorer site call pick. ExplorerTakes explorer site call pick };
+    ghost takes = { ExplorerTakes };
 
-    ghost refuses = { λ explorer site call fault. ExplorerRefuses explorer site call fault };
+    ghost refuses = { ExplorerRefuses };
 
-    ghost plans = { λ explorer. plans_of explorer };
+    ghost plans = { λ explorer. explorer.planning };
 
-    ghost threads = { λ explorer. pool_threads explorer };
+    ghost threads = { λ explorer. explorer.threads };
 
-    ghost starts = { λ explorer. explorer_starts explorer };
+    ghost starts = { λ explorer. explorer.starts };
 
-    ghost unasked = { λ explorer. nat_eq (plans_of explorer) 1 };
+    ghost unasked = { λ explorer. nat_eq explorer.planning 1 };
 
     type Measure = Unmeasured;
 
@@ -149,6 +150,7 @@ impl Chooser for Explorer {
         self.parallelism.get() == 1
     }
 
+    #[tactic(auto, using(crate::proofs::Picks::inner_of_explorer))]
     fn inner(&self) -> Result<Explorer, Fault> {
         let pool = Arc::try_clone(&self.pool)?;
         Ok(Explorer {

@@ -2,7 +2,7 @@
 ghost use Rattle.std.specs.Prelude.{◌≡◌, IfOk, IfErr, ◌≤◌, false, min, true};
 ghost use Rattle.std.specs.Int.NonZero.{non_zero_usize_get};
 ghost use Rattle.parallel_pool.specs.declared.rayon.build_error.ThreadPoolBuildError.TheVariants.{Memory};
-ghost use Rattle.commonware_parallel.specs.Rayon.{planning_of, threads_of, chooses_of, starts_of};
+ghost use Rattle.commonware_parallel.specs.Rayon.{IsMade};
 
 use crate::rayon_strategy::Rayon;
 use parallel_policy::Clock;
@@ -24,12 +24,8 @@ pub fn pooled<Rt: Threads, C: Clock>(
     parallelism: NonZeroUsize,
     clock: C,
 ) -> Result<Rayon<C>, ThreadPoolBuildError>
-    ensures threads { IfOk result (λ strategy. threads_of strategy ≡ min
-        (non_zero_usize_get workers) MAX_THREADS) }
-    ensures planning { IfOk result
-        (λ strategy. planning_of strategy ≡ non_zero_usize_get parallelism) }
-    ensures chooses { IfOk result (λ strategy. chooses_of strategy ≡ true) }
-    ensures starts { IfOk result (λ strategy. starts_of strategy ≡ true) }
+    ensures made { IfOk result (IsMade (non_zero_usize_get parallelism)
+        (min (non_zero_usize_get workers) MAX_THREADS) true) }
     ensures refused { IfErr result (λ error. error ≡ Memory) }
 {
     let strategy = Rayon::new(rt, alloc, workers, clock)?;
@@ -47,11 +43,7 @@ pub fn inline<Rt: Threads, C: Clock>(
     parallelism: NonZeroUsize,
     clock: C,
 ) -> Result<Rayon<C>, ThreadPoolBuildError>
-    ensures threads { IfOk result (λ strategy. threads_of strategy ≡ 1) }
-    ensures planning { IfOk result
-        (λ strategy. planning_of strategy ≡ non_zero_usize_get parallelism) }
-    ensures chooses { IfOk result (λ strategy. chooses_of strategy ≡ true) }
-    ensures starts { IfOk result (λ strategy. starts_of strategy ≡ true) }
+    ensures made { IfOk result (IsMade (non_zero_usize_get parallelism) 1 true) }
     ensures refused { IfErr result (λ error. error ≡ Memory) }
 {
     pooled(rt, alloc, NonZeroUsize::MIN, parallelism, clock)
@@ -72,11 +64,8 @@ pub fn pending<Rt: Threads, C: Clock>(
     clock: C,
 ) -> Result<Rayon<C>, ThreadPoolBuildError>
     requires { 2 ≤ non_zero_usize_get workers }
-    ensures threads { IfOk result (λ strategy. threads_of strategy ≡ min
-        (non_zero_usize_get workers) MAX_THREADS) }
-    ensures planning { IfOk result (λ strategy. planning_of strategy ≡ threads_of strategy) }
-    ensures chooses { IfOk result (λ strategy. chooses_of strategy ≡ true) }
-    ensures starts { IfOk result (λ strategy. starts_of strategy ≡ false) }
+    ensures made { IfOk result (IsMade (min (non_zero_usize_get workers) MAX_THREADS)
+        (min (non_zero_usize_get workers) MAX_THREADS) false) }
     ensures refused { IfErr result (λ error. error ≡ Memory) }
 {
     let strategy = Rayon::new(rt, alloc, workers, clock)?;

@@ -1,6 +1,5 @@
 //! A pool of the machine's own size.
-ghost use Rattle.std.specs.Prelude.{◌≡◌, ◌≤◌, ◌<◌, IfOk, true};
-ghost use Rattle.parallel_pool.specs.ThreadPool.{thread_count};
+ghost use Rattle.std.specs.Prelude.{◌≤◌, ◌<◌, IfOk, true};
 
 use crate::rayon_strategy::Rayon;
 use parallel_policy::MonotonicClock;
@@ -15,7 +14,7 @@ use std::{io, time};
 impl<Rt: Threads + time::Clock + Clone + Send + Sync + Debug + Drop + 'static> Rayon<
     MonotonicClock<Rt>,
 > {
-    ghost use Rattle.commonware_parallel.specs.Rayon.{planning_of, threads_of, chooses_of, starts_of};
+    ghost use Rattle.commonware_parallel.specs.Rayon.{IsMade};
 
     /// A strategy over a pool of as many threads as the system says may run at once for this
     /// process, with the runtime's clock and a policy that knows nothing yet. Where the system
@@ -30,11 +29,10 @@ impl<Rt: Threads + time::Clock + Clone + Send + Sync + Debug + Drop + 'static> R
         alloc: Global,
         otherwise: NonZeroUsize,
     ) -> io::Result<Rayon<MonotonicClock<Rt>>>
-        ensures threads { IfOk result (λ strategy. (0 < threads_of strategy)
-            × (threads_of strategy ≤ MAX_THREADS)) }
-        ensures planning { IfOk result (λ strategy. planning_of strategy ≡ threads_of strategy) }
-        ensures chooses { IfOk result (λ strategy. chooses_of strategy ≡ true) }
-        ensures starts { IfOk result (λ strategy. starts_of strategy ≡ true) }
+        ensures made { IfOk result (λ strategy.
+            IsMade strategy.threads strategy.threads true strategy) }
+        ensures threads { IfOk result (λ strategy. (0 < strategy.threads)
+            × (strategy.threads ≤ MAX_THREADS)) }
     {
         let threads = available_parallelism(rt).unwrap_or(otherwise);
         let clock = MonotonicClock::new(rt.clone()?)?;

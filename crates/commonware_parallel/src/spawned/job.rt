@@ -37,7 +37,7 @@ impl<S, T, F: FnOnce(S) -> T> Job<S, T> for Closure<F> {
 
 /// The promise of a worker: its answer is one that the job allows on the strategy.
 #[derive(Drop)]
-pub struct Kept<S, F> {
+pub(crate) struct Kept<S, F> {
     job: Snapshot<F>,
     strategy: Snapshot<S>,
 }

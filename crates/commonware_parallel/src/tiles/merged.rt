@@ -22,14 +22,14 @@ use std::thread::Threads;
 /// A state, with the column at which the open stretch began, if one is open, and the column before
 /// which the fills have come.
 #[derive(Drop)]
-pub struct Noting<T> {
+pub(crate) struct Noting<T> {
     state: T,
     first: Option<usize>,
     end: usize,
 }
 
 /// The result of each stretch of the tiles, with the stretch.
-pub(super) fn fill_parts<
+pub(crate) fn fill_parts<
     S: Strategy,
     P: Place,
     Rt: Threads + Wait + Sync,
@@ -111,7 +111,7 @@ fn finish_naming<T, R, F: Fn(&mut T, usize) -> R>(
 }
 
 /// The results of each row's stretches, merged from left to right.
-pub(super) fn merge_sorted<R: Drop, M: Fn(R, R) -> R>(
+pub(crate) fn merge_sorted<R: Drop, M: Fn(R, R) -> R>(
     alloc: Global,
     rows: usize,
     len: usize,

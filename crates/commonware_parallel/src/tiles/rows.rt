@@ -11,7 +11,7 @@ use std::ops::Range;
 
 /// The results of all rows of `len` columns, each filled by one call, with one state that goes from
 /// row to row.
-pub(super) fn fill_rows<T, R: Drop, L: Fn(&mut T, usize, Range<usize>), F: Fn(&mut T, usize) -> R>(
+pub(crate) fn fill_rows<T, R: Drop, L: Fn(&mut T, usize, Range<usize>), F: Fn(&mut T, usize) -> R>(
     alloc: Global,
     rows: usize,
     len: usize,

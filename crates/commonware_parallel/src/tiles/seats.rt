@@ -23,7 +23,7 @@ use std::thread::Threads;
 
 /// A seat that came back from its run, with the results of its stretches.
 #[derive(Drop)]
-pub struct Worked<R> {
+pub(crate) struct Worked<R> {
     seat: Seat,
     results: Result<Vec<R>, Fault>,
 }
@@ -31,7 +31,7 @@ pub struct Worked<R> {
 /// The results of all cells of a grid of `rows` rows of `len` columns, which are shared out among
 /// workers. Each worker is an item of a list call of the strategy, so that the workers of one
 /// segment have one state.
-pub(super) fn fill_shared<
+pub(crate) fn fill_shared<
     S: Strategy,
     Rt: Threads + Wait + Sync,
     P: Place,
