@@ -1,14 +1,12 @@
 //! Lists handed to a consumer, split along their shape.
-ghost use Rattle.std.specs.Prelude.{◌≡◌, ◌-◌, ◌*◌, ◌^◌, ◌<◌, ◌≤◌, ◌⊎◌, ℕ, List, Ok, IfOk, IsTrue, Result, false, length};
+ghost use Rattle.std.specs.Prelude.{◌≡◌, ◌-◌, ◌*◌, ◌^◌, ◌<◌, ◌≤◌, ◌⊎◌, List, Ok, IfOk, Result, length};
 ghost use Rattle.std.specs.Int.NonZero.{non_zero_usize_get};
-ghost use Rattle.std.specs.List.{Contains};
 ghost use Rattle.parallel_fault.specs.Trouble.{IsMemoryOnErr};
 ghost use Rattle.parallel_bridge.specs.Endings.{ending_of};
 ghost use Rattle.parallel_bridge.specs.Halting.{halting, unstopped};
 ghost use Rattle.parallel_bridge.specs.Outcomes.{PutTogether, UnlessRefused};
 ghost use Rattle.parallel_bridge.specs.Shapes.{cutdepth, Shape, leaf_lengths};
-ghost use Rattle.parallel_bridge.specs.Sources.{Driven, GivesSome, Suits};
-ghost use Rattle.parallel_bridge.specs.Tries.{TryAlongCut};
+ghost use Rattle.parallel_bridge.specs.Sources.{Driven, Suits};
 
 use crate::bridge::feed::feed_items;
 use crate::cursor::Cursor;

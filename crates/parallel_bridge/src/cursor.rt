@@ -1,5 +1,5 @@
 //! What gives the items of a segment one by one, and what is left of the segment behind them.
-ghost use Rattle.std.specs.Prelude.{◌≡◌, ◌∷◌, ◌<◌, ℕ, [], IfNone, IfSome, List};
+ghost use Rattle.std.specs.Prelude.{◌∷◌, ◌<◌, ℕ, [], IfNone, IfSome, List};
 ghost use Rattle.std.specs.Iterator.{Drains, IsFinite, size};
 ghost use Rattle.parallel_bridge.specs.Sources.{MayCome};
 
@@ -71,8 +71,8 @@ where
     fn end(self) {}
 }
 
-/// Drops the items that are left of an iterator.
-pub(crate) fn pass_over<I: Iterator>(iter: I)
+// Drops the items that are left of an iterator.
+fn pass_over<I: Iterator>(iter: I)
 where
     I::Item: Drop,
     requires can { I.can_next iter }

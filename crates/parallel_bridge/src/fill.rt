@@ -10,7 +10,7 @@ ghost use Rattle.parallel_bridge.specs.Outcomes.{PutTogether};
 ghost use Rattle.parallel_bridge.specs.Windows.{Follows};
 
 use crate::drive::{Task, drive};
-use crate::fill::writer::Writer;
+use crate::fill::writer::{Writer, write_items};
 use crate::halt::{Halt, unhalt};
 use crate::parts::Parts;
 use crate::segment::Segment;
@@ -204,7 +204,8 @@ where
         } = self;
         let mut room = room;
         let mut watch = watch;
-        let (done, rest) = parts.write(writer, &mut room, &mut watch);
+        let _len = parts.len();
+        let (done, rest) = write_items(writer, parts.into_items(), &mut room, &mut watch);
         match done {
             Ok(()) => (room, Ok(()), rest, watch),
             Err(halt) => (room, Err(Trouble::Closure(halt)), rest, watch),

@@ -1,21 +1,15 @@
 //! Neighbouring pairs of an owned list, which is cut where it lies.
-ghost use Rattle.std.specs.Prelude.{◌≡◌, ◌++◌, ◌+◌, ◌<◌, ◌/◌, ◌∷◌, [], IfErr, IfOk, List, Result, length};
+ghost use Rattle.std.specs.Prelude.{◌≡◌, ◌+◌, ◌<◌, ◌/◌, ◌∷◌, [], Result, length};
 ghost use Rattle.std.specs.Iterator.{YieldsFirst, item_count};
 ghost use Rattle.std.specs.List.{Contains};
 ghost use Rattle.std.specs.Vec.Ownership.{FitsInBlock};
-ghost use Rattle.parallel_fault.specs.Trouble.{IsMemoryOnErr};
-ghost use Rattle.parallel_bridge.specs.Endings.{Goes, IsUnderway, ending};
-ghost use Rattle.parallel_bridge.specs.Fills.{Answered, IsFull, IsRoom, SamePlaces, kept};
-ghost use Rattle.parallel_bridge.specs.Halting.{halting};
+ghost use Rattle.parallel_bridge.specs.Fills.{IsFull, SamePlaces};
 ghost use Rattle.parallel_bridge.specs.Pairs.{odd_of, pair_items, pair_rest, pairs_of};
 ghost use Rattle.parallel_bridge.specs.Windows.{Follows, IsSite};
 
 use crate::cursor::Cursor;
-use crate::fill::writer::Writer;
-use crate::halt::Halt;
 use crate::parts::Parts;
 use crate::segment::Segment;
-use crate::watch::Watch;
 use crate::window::block::Block;
 use crate::window::home::Home;
 use crate::window::part::Window;
@@ -130,19 +124,6 @@ impl<T: Send + Drop> Segment<(T, T)> for PairSegment<T> {
     fn into_items(self) -> PairSegment<T> {
         self
     }
-
-    #[tactic(auto, using(crate::proofs::Neighbours::length_pairs))]
-    fn write<W: Writer<(T, T)>, G: Watch>(
-        self,
-        writer: &W,
-        room: &mut Window<W::Answer>,
-        watch: &mut G,
-    ) -> (Result<(), Halt<W::Error>>, Window<T>) {
-        let mut window = self.window;
-        let written = write_pairs(writer, &mut window, room, watch);
-        window.clear();
-        (written, window)
-    }
 }
 
 impl<T: Drop> Cursor<(T, T), Window<T>> for PairSegment<T> {
@@ -184,49 +165,6 @@ fn take_pair<T>(window: &mut Window<T>) -> (T, T)
     let left = window.take();
     let right = window.take();
     (left, right)
-}
-
-// Writes the answers for a window's pairs, each taken from its places, up to the first pair that
-// fails, whose error it answers, or to the look that stops it. There is a place for each answer. It
-// looks before the first pair and after each, and tells the watch of its own error at once. It takes
-// no memory.
-fn write_pairs<T: Drop, W: Writer<(T, T)>, G: Watch>(
-    writer: &W,
-    items: &mut Window<T>,
-    room: &mut Window<W::Answer>,
-    watch: &mut G,
-) -> Result<(), Halt<W::Error>>
-    requires ready { W.ready writer.now }
-    requires items { (x : T × T) → Contains (pairs_of items.old.items) x → W.takes writer.now x }
-    requires room { IsRoom room.old }
-    requires enough { length (pairs_of items.old.items) ≡ room.old.room }
-    requires watch { IsUnderway G.ends watch.old }
-    ensures place { SamePlaces room.old room.new }
-    ensures full { IfOk result (λ _. IsFull room.new) }
-    ensures gives { halting (Answered (W.so_far writer.now) (W.fails writer.now))
-        (pairs_of items.old.items) (kept result room.new.items) }
-    ensures left { SamePlaces items.old items.new }
-    ensures goes { Goes G.ends watch.old watch.new (ending result) }
-    ensures looks { IfOk result (λ _. G.looked watch.old (room.old.room + 1) watch.new) }
-{
-    let mut state = writer.begin();
-    while items.len() > 1 {
-        if watch.stopped() {
-            return Err(Halt::Stopped);
-        }
-        let pair = take_pair(items);
-        match writer.answer(&mut state, pair) {
-            Ok(answer) => room.put(answer),
-            Err(error) => {
-                watch.failed();
-                return Err(Halt::Failed(error));
-            }
-        }
-    }
-    if watch.stopped() {
-        return Err(Halt::Stopped);
-    }
-    Ok(())
 }
 
 /// Gives owned items from the front, two neighbours at a time, each one once.

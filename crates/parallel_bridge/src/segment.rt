@@ -4,17 +4,11 @@ ghost use Rattle.std.specs.Prelude.{◌≡◌, ◌++◌, ◌-◌, ◌+◌, ◌�
 ghost use Rattle.std.specs.List.{Contains};
 ghost use Rattle.std.specs.Vec.Ownership.{FitsInBlock};
 ghost use Rattle.parallel_fault.specs.declared.fault.Fault.TheVariants.{Memory};
-ghost use Rattle.parallel_bridge.specs.Endings.{Goes, IsUnderway, ending};
-ghost use Rattle.parallel_bridge.specs.Fills.{Answered, IsFull, IsRoom, SamePlaces, kept};
-ghost use Rattle.parallel_bridge.specs.Halting.{halting};
-ghost use Rattle.parallel_bridge.specs.Sources.{GivesSome};
+ghost use Rattle.parallel_bridge.specs.Fills.{IsFull, SamePlaces};
 ghost use Rattle.parallel_bridge.specs.Windows.{Follows};
 
 use crate::cursor::{Cursor, IterCursor};
-use crate::fill::writer::{Writer, write_iter, write_window};
-use crate::halt::Halt;
 use crate::producer::Producer;
-use crate::watch::Watch;
 use crate::window::part::Window;
 use parallel_fault::Fault;
 use std::alloc::Global;
@@ -77,30 +71,6 @@ pub trait Segment<Item: Send + Drop>: Send + Sized + Drop {
         ensures gives { (xs : List Item) → Self.Items.gives result xs → gives self xs }
         ensures may { (x : Item) → Self.Items.may result x → may self x }
         ensures leaves { (rest : Self.Rest) → Self.Items.leaves result rest → leaves self rest };
-
-    /// Writes the answers for the items into the room for them, in order, up to the first item that
-    /// fails, or to the look that stops it, and drops the items behind. It looks before the first
-    /// item and after each, and tells the watch of its own error at once.
-    fn write<W: Writer<Item>, G: Watch>(
-        self,
-        writer: &W,
-        room: &mut Window<W::Answer>,
-        watch: &mut G,
-    ) -> (Result<(), Halt<W::Error>>, Self::Rest)
-        requires sound { sound self }
-        requires ready { W.ready writer.now }
-        requires items { (x : Item) → may self x → W.takes writer.now x }
-        requires room { IsRoom room.old }
-        requires enough { room.old.room ≡ count self }
-        requires watch { IsUnderway G.ends watch.old }
-        ensures place { SamePlaces room.old room.new }
-        ensures full { IfOk result.0 (λ _. IsFull room.new) }
-        ensures gives { GivesSome gives self (λ xs. halting
-            (Answered (W.so_far writer.now) (W.fails writer.now)) xs
-            (kept result.0 room.new.items)) }
-        ensures rest { leaves self result.1 }
-        ensures goes { Goes G.ends watch.old watch.new (ending result.0) }
-        ensures looks { IfOk result.0 (λ _. G.looked watch.old (count self + 1) watch.new) };
 }
 
 /// What a producer gives. Nothing is left of it.
@@ -148,16 +118,6 @@ impl<P: Producer> Segment<P::Item> for ProducerSegment<P> {
             iter: self.parts.into_items(),
         }
     }
-
-    fn write<W: Writer<P::Item>, G: Watch>(
-        self,
-        writer: &W,
-        room: &mut Window<W::Answer>,
-        watch: &mut G,
-    ) -> (Result<(), Halt<W::Error>>, ()) {
-        let _len = self.parts.len();
-        (write_iter(writer, self.parts.into_items(), room, watch), ())
-    }
 }
 
 /// Owned items, where they lie. Their places are left.
@@ -204,18 +164,6 @@ impl<T: Send + Drop> Segment<T> for WindowSegment<T> {
 
     fn into_items(self) -> WindowSegment<T> {
         self
-    }
-
-    fn write<W: Writer<T>, G: Watch>(
-        self,
-        writer: &W,
-        room: &mut Window<W::Answer>,
-        watch: &mut G,
-    ) -> (Result<(), Halt<W::Error>>, Window<T>) {
-        let mut window = self.window;
-        let written = write_window(writer, &mut window, room, watch);
-        window.clear();
-        (written, window)
     }
 }
 

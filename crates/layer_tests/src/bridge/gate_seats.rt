@@ -8,6 +8,7 @@ use crate::bridge::number;
 use crate::bridge::windows::{Counted, Counts, counted_items, leaves, no_counts};
 use crate::same::same;
 use parallel_bridge::fill::try_map::TryMapWriter;
+use parallel_bridge::fill::writer::write_items;
 use parallel_bridge::gate::{Gate, GateSeat, GateWatch};
 use parallel_bridge::halt::Halt;
 use parallel_bridge::list::try_map::try_map_parallel;
@@ -111,7 +112,7 @@ fn a_segment_right_of_a_known_error_calls_nothing(rt: HostRuntime) {
         parts: Copies { slice: &numbers },
     };
     let writer = TryMapWriter { map_op: &answer };
-    let (done, ()) = segment.write(&writer, &mut room, &mut watch);
+    let (done, ()) = write_items(&writer, segment.into_items(), &mut room, &mut watch);
     home.free(room);
     same(
         &rt,

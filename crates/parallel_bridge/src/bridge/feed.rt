@@ -1,5 +1,5 @@
 //! The loop that hands a segment's items to a folder.
-ghost use Rattle.std.specs.Prelude.{◌≡◌, ◌++◌, ◌+◌, [], IfOk, List, Result};
+ghost use Rattle.std.specs.Prelude.{◌≡◌, [], IfOk, List, Result};
 ghost use Rattle.parallel_bridge.specs.Endings.{Goes, IsUnderway, LooksAlong, LooksOnce, ending_of};
 ghost use Rattle.parallel_bridge.specs.Halting.{halting};
 ghost use Rattle.parallel_bridge.specs.Outcomes.{UnlessRefused};

@@ -1,13 +1,11 @@
-//! What answers the items of a list one by one, and the loops that write the answers.
+//! What answers the items of a list one by one, and the loop that writes the answers.
 ghost use Rattle.std.specs.Prelude.{◌≡◌, ◌++◌, ◌+◌, ◌<◌, ◌∷◌, [], IfErr, IfOk, List, Result, length};
-ghost use Rattle.std.specs.Iterator.{Drains, HoldsAlong, IsFinite};
-ghost use Rattle.std.specs.List.{All, Contains};
 ghost use Rattle.parallel_bridge.specs.Fills.{Answered, IsFull, IsRoom, SamePlaces, kept};
 ghost use Rattle.parallel_bridge.specs.Endings.{Goes, IsUnderway, ending};
 ghost use Rattle.parallel_bridge.specs.Halting.{halting};
 ghost use Rattle.parallel_bridge.specs.Sources.{GivesSome};
 
-use crate::cursor::pass_over;
+use crate::cursor::Cursor;
 use crate::halt::Halt;
 use crate::watch::Watch;
 use crate::window::part::Window;
@@ -50,94 +48,48 @@ pub trait Writer<Item: Drop>: Sized + Drop {
 
 /// Writes the answers for the items that come, in their order, up to the first item that fails,
 /// whose error it answers, or to the look that stops it. There is a place for each item. It looks
-/// before the first item and after each, and tells the watch of its own error at once. Items behind
-/// an error or a stop are passed over. It takes no memory.
-pub(crate) fn write_iter<I: Iterator, W: Writer<I::Item>, G: Watch>(
+/// before the first item and after each, and tells the watch of its own error at once. The items
+/// behind an error or a stop are dropped. It takes no memory.
+pub fn write_items<X: Drop, L, C: Cursor<X, L>, W: Writer<X>, G: Watch>(
     writer: &W,
-    iter: I,
+    items: C,
     room: &mut Window<W::Answer>,
     watch: &mut G,
-) -> Result<(), Halt<W::Error>>
-where
-    I::Item: Drop,
+) -> (Result<(), Halt<W::Error>>, L)
+    requires sound { C.sound items }
     requires ready { W.ready writer.now }
-    requires can { I.can_next iter }
-    requires ends { IsFinite (I.remaining iter) }
-    requires items { HoldsAlong I.next_gives iter (All (W.takes writer.now)) }
+    requires takes { (x : X) → C.may items x → W.takes writer.now x }
     requires room { IsRoom room.old }
-    requires enough { (xs : List I.Item) → Drains I.next_gives iter xs → length xs ≡ room.old.room }
+    requires enough { (xs : List X) → C.gives items xs → length xs ≡ room.old.room }
     requires watch { IsUnderway G.ends watch.old }
     ensures place { SamePlaces room.old room.new }
-    ensures full { IfOk result (λ _. IsFull room.new) }
-    ensures gives { GivesSome (Drains I.next_gives) iter (λ xs. halting
-        (Answered (W.so_far writer.now) (W.fails writer.now)) xs (kept result room.new.items)) }
-    ensures goes { Goes G.ends watch.old watch.new (ending result) }
-    ensures looks { IfOk result (λ _. G.looked watch.old (room.old.room + 1) watch.new) }
+    ensures full { IfOk result.0 (λ _. IsFull room.new) }
+    ensures gives { GivesSome C.gives items (λ xs. halting
+        (Answered (W.so_far writer.now) (W.fails writer.now)) xs (kept result.0 room.new.items)) }
+    ensures leaves { C.leaves items result.1 }
+    ensures goes { Goes G.ends watch.old watch.new (ending result.0) }
+    ensures looks { IfOk result.0 (λ _. G.looked watch.old (room.old.room + 1) watch.new) }
 {
-    let mut iter = iter;
+    let mut items = items;
     let mut state = writer.begin();
     while room.len() < room.room() {
         if watch.stopped() {
-            pass_over(iter);
-            return Err(Halt::Stopped);
+            return (Err(Halt::Stopped), items.rest());
         }
-        let Some(item) = iter.next() else {
-            return Ok(());
+        let Some(item) = items.next() else {
+            return (Ok(()), items.end());
         };
         match writer.answer(&mut state, item) {
             Ok(answer) => room.put(answer),
             Err(error) => {
                 watch.failed();
-                pass_over(iter);
-                return Err(Halt::Failed(error));
+                return (Err(Halt::Failed(error)), items.rest());
             }
         }
     }
-    pass_over(iter);
+    let rest = items.rest();
     if watch.stopped() {
-        return Err(Halt::Stopped);
+        return (Err(Halt::Stopped), rest);
     }
-    Ok(())
-}
-
-/// Writes the answers for a window's items, each taken from its place, up to the first item that
-/// fails, whose error it answers, or to the look that stops it. There is a place for each answer.
-/// It looks and tells as `write_iter` does. It takes no memory.
-pub(crate) fn write_window<X: Drop, W: Writer<X>, G: Watch>(
-    writer: &W,
-    items: &mut Window<X>,
-    room: &mut Window<W::Answer>,
-    watch: &mut G,
-) -> Result<(), Halt<W::Error>>
-    requires ready { W.ready writer.now }
-    requires items { (x : X) → Contains items.old.items x → W.takes writer.now x }
-    requires room { IsRoom room.old }
-    requires enough { length items.old.items ≡ room.old.room }
-    requires watch { IsUnderway G.ends watch.old }
-    ensures place { SamePlaces room.old room.new }
-    ensures full { IfOk result (λ _. IsFull room.new) }
-    ensures gives { halting (Answered (W.so_far writer.now) (W.fails writer.now)) items.old.items
-        (kept result room.new.items) }
-    ensures left { SamePlaces items.old items.new }
-    ensures goes { Goes G.ends watch.old watch.new (ending result) }
-    ensures looks { IfOk result (λ _. G.looked watch.old (room.old.room + 1) watch.new) }
-{
-    let mut state = writer.begin();
-    while items.len() > 0 {
-        if watch.stopped() {
-            return Err(Halt::Stopped);
-        }
-        let item = items.take();
-        match writer.answer(&mut state, item) {
-            Ok(answer) => room.put(answer),
-            Err(error) => {
-                watch.failed();
-                return Err(Halt::Failed(error));
-            }
-        }
-    }
-    if watch.stopped() {
-        return Err(Halt::Stopped);
-    }
-    Ok(())
+    (Ok(()), rest)
 }

@@ -1,6 +1,6 @@
 -- The outcomes of the halves go along the shape, of two errors the left one stands, and their
 -- watches are joined.
-use Rattle.parallel_bridge.proofs.{rules, ◌≡◌, ◌-◌, ◌/◌, arith, refl, subst, driven_node, halting, unstopped}
+use Rattle.parallel_bridge.proofs.{◌≡◌, ◌-◌, ◌/◌, arith, refl, subst, driven_node, halting, unstopped}
 use Rattle.parallel_bridge.proofs.Feeds.{halting_weaker, unstopped_weaker}
 use Rattle.parallel_bridge.proofs.Watches.{ends_together}
 use Rattle.parallel_bridge.specs.Endings.{ending_of}
