@@ -11,4 +11,5 @@ pub mod no_memory;
 mod policy;
 #[cfg(test)]
 mod pool;
-pub mod same;
+#[cfg(test)]
+mod same;
