@@ -186,14 +186,12 @@ fn closes(rt: &impl Abort, shares: Shares, seats: Vec<Seat>, wanted: &[u64])
 #[test]
 fn one_seat_claims_a_whole_queue(rt: HostRuntime) {
     let (shares, mut seats) = opened(&rt, rt.alloc(), 65_536, 3, 1, 4, true);
-    let sizes = [
-        shares.unit(),
-        shares.cells(),
-        shares.workers(),
-        shares.seats(),
-        seats.len(),
-    ];
-    same(&rt, sizes, [6, 196_608, 4, 4, 4]);
+    same(&rt, (shares.unit(), shares.cells()), (6, 196_608));
+    same(
+        &rt,
+        (shares.workers(), shares.seats(), seats.len()),
+        (4, 4, 4),
+    );
     let steps = [
         Step::Empties(3, 196_602..196_608),
         Step::Steals(3, Tried::Nothing, None),
@@ -215,15 +213,10 @@ fn the_last_claim_of_the_greatest_queue_is_its_last_row(rt: HostRuntime) {
 
 #[test]
 fn untouched_shares_have_the_words_of_the_opening(rt: HostRuntime) {
-    let alloc = rt.alloc();
-    let greatest = opened(&rt, alloc, 65_537, 281_470_681_808_895, 1, 1, true);
-    plays(&rt, greatest, &[], &[32_769]);
-    plays(
-        &rt,
-        opened(&rt, alloc, 1, 4, 2, 2, false),
-        &[],
-        &[2, 131_076],
-    );
+    let (shares, seats) = opened(&rt, rt.alloc(), 65_537, 281_470_681_808_895, 1, 1, true);
+    closes(&rt, shares, seats, &[32_769]);
+    let (shares, seats) = opened(&rt, rt.alloc(), 1, 4, 2, 2, false);
+    closes(&rt, shares, seats, &[2, 131_076]);
 }
 
 // A plan's state has these words at first.

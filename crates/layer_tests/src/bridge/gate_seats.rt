@@ -5,7 +5,7 @@ ghost use Rattle.parallel_bridge.specs.GateRule.{newcomer};
 ghost use Rattle.parallel_bridge.specs.Gates.{IsGateSeatOf, known, stands_for};
 
 use crate::bridge::number;
-use crate::bridge::windows::{Counted, Counts, counted_items, leaves, no_counts};
+use crate::bridge::windows::{Counted, Counts, all_gone_but, counted_items, no_counts};
 use crate::same::same;
 use parallel_bridge::fill::try_map::TryMapWriter;
 use parallel_bridge::fill::writer::write_items;
@@ -84,8 +84,9 @@ fn the_least_start_that_was_told_stops_greater_ones(rt: HostRuntime) {
     let mut second = take_one(&gate, &mut seats).expect(&rt, "a seat");
     let mut third = take_one(&gate, &mut seats).expect(&rt, "a seat");
     let ten = after_ten(&gate, &mut first, &mut second, &mut third);
+    same(&rt, ten, [true, false, false]);
     let three = after_three(&gate, &mut first, &mut second, &mut third);
-    same(&rt, (ten, three), ([true, false, false], [true, true]));
+    same(&rt, three, [true, true]);
 }
 
 #[test]
@@ -114,11 +115,8 @@ fn a_segment_right_of_a_known_error_calls_nothing(rt: HostRuntime) {
     let writer = TryMapWriter { map_op: &answer };
     let (done, ()) = write_items(&writer, segment.into_items(), &mut room, &mut watch);
     home.free(room);
-    same(
-        &rt,
-        (done, calls.load(Ordering::SeqCst)),
-        (Err(Halt::Stopped), 0),
-    );
+    same(&rt, done, Err(Halt::Stopped));
+    same(&rt, calls.load(Ordering::SeqCst), 0);
 }
 
 // Waits for an error that another segment makes, but not for ever.
@@ -147,29 +145,31 @@ fn is_first<'a>(rt: &impl Abort, answer: Result<Vec<Counted<'a>>, Trouble<usize>
 }
 
 // The first item fails, and says so; the others wait for that and have a counted value.
-fn counted_behind<'a>(counts: &'a Counts, place: usize) -> Result<Counted<'a>, usize> {
+fn counted_behind<'a>(
+    counts: &'a Counts,
+    failed: &AtomicU64,
+    place: usize,
+) -> Result<Counted<'a>, usize> {
     if place == 0 {
-        counts.failed.store(1, Ordering::SeqCst);
+        failed.store(1, Ordering::SeqCst);
         return Err(place);
     }
-    await_error(&counts.failed);
+    await_error(failed);
     thread::yield_now();
     Ok(Counted::new(counts, place))
-}
-
-// The same of a counted item, which is let go.
-fn behind_first<'a>(item: Counted<'a>) -> Result<Counted<'a>, usize> {
-    counted_behind(item.counts, item.place)
 }
 
 // Maps that many counted items on that many threads, of which the first fails and the others wait
 // for that. Memory may be refused.
 fn stop_counted<R: Threads + Sync + Abort>(rt: &R, alloc: Global, threads: usize, len: usize) {
-    let counts = no_counts(0);
-    let parts = DrainProducer::from_vec(counted_items(alloc, &counts, len));
-    let told = try_map_parallel(rt, alloc, number(rt, threads), parts, &behind_first);
+    let counts = no_counts();
+    let failed = AtomicU64::new(0);
+    let items = counted_items(alloc, &counts, len);
+    let answer = |item: Counted<'_>| counted_behind(&counts, &failed, item.place);
+    let parts = DrainProducer::from_vec(items);
+    let told = try_map_parallel(rt, alloc, number(rt, threads), parts, &answer);
     is_first(rt, told);
-    leaves(rt, &counts, 0);
+    assert!(rt; all_gone_but(&counts, 0));
 }
 
 // The same over a list whose items aren't owned: the values are counted. Answers how many there
@@ -180,14 +180,15 @@ fn stop_values<R: Threads + Sync + Abort>(
     threads: usize,
     len: usize,
 ) -> Option<u64> {
-    let counts = no_counts(0);
-    let answer = |place: usize| counted_behind(&counts, place);
+    let counts = no_counts();
+    let failed = AtomicU64::new(0);
+    let answer = |place: usize| counted_behind(&counts, &failed, place);
     let parts = ProducerParts {
         list: Indices { start: 0, end: len },
     };
     let told = try_map_parallel(rt, alloc, number(rt, threads), parts, &answer);
     let is_told = is_first(rt, told);
-    leaves(rt, &counts, 0);
+    assert!(rt; all_gone_but(&counts, 0));
     if is_told { Some(counts.made()) } else { None }
 }
 
@@ -195,7 +196,7 @@ fn stop_values<R: Threads + Sync + Abort>(
 fn segments_right_of_a_known_error_stop_early(rt: HostRuntime) {
     // 32 threads make 64 segments of 1000 items each.
     let values = stop_values(&rt, rt.alloc(), 32, 64_000).expect(&rt, "the error is told");
-    same(&rt, values < 16_000, true);
+    assert!(rt; values < 16_000);
 }
 
 #[test]

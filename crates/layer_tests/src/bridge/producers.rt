@@ -11,32 +11,30 @@ use parallel_bridge::source::Source;
 fn a_drain_gives_its_items_from_both_ends(rt: HostRuntime) {
     let items = vec![in rt.alloc(); 1u8, 2, 3].expect(&rt, "memory");
     let mut drain = DrainProducer::from_vec(items).drain();
-    let ends = [drain.next(), drain.next_back()];
-    let left = (drain.len(), drain.size_hint());
-    let last = [drain.next(), drain.next()];
-    same(&rt, (ends, last), ([Some(1), Some(3)], [Some(2), None]));
-    same(&rt, left, (1, (1, Some(1))));
+    same(&rt, (drain.next(), drain.next_back()), (Some(1), Some(3)));
+    same(&rt, (drain.len(), drain.size_hint()), (1, (1, Some(1))));
+    same(&rt, (drain.next(), drain.next()), (Some(2), None));
 }
 
 #[test]
 fn indices_and_copies_are_split_in_front_and_rest(rt: HostRuntime) {
     let alloc = rt.alloc();
     let indices = Indices { start: 3, end: 8 };
+    same(&rt, indices.len(), 5);
+    let (front, rest) = indices.split_at(alloc, 2).expect(&rt, "memory");
+    same(&rt, front, Indices { start: 3, end: 5 });
+    same(&rt, rest, Indices { start: 5, end: 8 });
     let none = Indices { start: 8, end: 3 };
+    same(&rt, none.len(), 0);
+
     let numbers = [4u8, 5, 6];
     let copies = Copies { slice: &numbers };
-    let lens = [indices.len(), none.len(), Producer::len(&copies)];
-    same(&rt, lens, [5, 0, 3]);
-    let parts = indices.split_at(alloc, 2).expect(&rt, "memory");
-    let wanted = (Indices { start: 3, end: 5 }, Indices { start: 5, end: 8 });
-    same(&rt, parts, wanted);
+    same(&rt, Producer::len(&copies), 3);
     let (front, rest) = copies.split_at(alloc, 1).expect(&rt, "memory");
-    same(
-        &rt,
-        [front.slice, rest.slice],
-        [[4].as_slice(), [5, 6].as_slice()],
-    );
-    same(&rt, Producer::into_items(rest).last(), Some(6));
+    same(&rt, front.slice, [4].as_slice());
+    same(&rt, rest.slice, [5, 6].as_slice());
+    let last = Producer::into_items(rest).last();
+    same(&rt, last, Some(6));
 }
 
 // The numbers below `left`, from the greatest on, which are said to be `said` at least.

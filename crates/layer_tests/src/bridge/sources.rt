@@ -87,11 +87,12 @@ fn lists_come_pair_by_pair(rt: HostRuntime) {
 fn pairs_end_with_the_lists(rt: HostRuntime) {
     let left = [1u8, 2];
     let pairs = Zipped::new(Copies { slice: &left }, Indices { start: 7, end: 9 });
-    let len = pairs.len();
+    same(&rt, pairs.len(), 2);
     let mut items = Producer::into_items(pairs);
-    same(&rt, (len, items.size_hint()), (2, (2, Some(2))));
-    let came = [items.next(), items.next(), items.next()];
-    same(&rt, came, [Some((1, 7)), Some((2, 8)), None]);
+    same(&rt, items.size_hint(), (2, Some(2)));
+    for wanted in [Some((1, 7)), Some((2, 8)), None] {
+        same(&rt, items.next(), wanted);
+    }
 }
 
 const LETTERS: [u8; 5] = [b'a', b'b', b'c', b'd', b'e'];
@@ -135,6 +136,13 @@ fn an_iterator_that_knows_its_number_says_what_is_left(rt: HostRuntime) {
         row(&rt, left, Parts::len(&list), left);
         list.iter.next();
     }
-    let none = [Counted { iter: 5..5usize }, Counted { iter: 9..5usize }];
-    same(&rt, [Parts::len(&none[0]), Parts::len(&none[1])], [0, 0]);
+    for start in [5, 9] {
+        same(
+            &rt,
+            Parts::len(&Counted {
+                iter: start..5usize,
+            }),
+            0,
+        );
+    }
 }

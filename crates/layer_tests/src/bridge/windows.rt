@@ -21,10 +21,6 @@ use std::thread::Threads;
 pub(crate) struct Counts {
     made: AtomicU64,
     gone: AtomicU64,
-    // The place of the item that fails, if there are as many.
-    end: usize,
-    // 1 once an item has failed.
-    pub(crate) failed: AtomicU64,
 }
 
 impl Counts {
@@ -35,7 +31,7 @@ impl Counts {
 }
 
 pub(crate) struct Counted<'a> {
-    pub(crate) counts: &'a Counts,
+    counts: &'a Counts,
     pub(crate) place: usize,
 }
 
@@ -63,23 +59,15 @@ pub(crate) fn counted_items<'a>(alloc: Global, counts: &'a Counts, len: usize) -
     items
 }
 
-// Nothing is counted yet, and the item at `end` is to fail.
-pub(crate) fn no_counts(end: usize) -> Counts {
+pub(crate) fn no_counts() -> Counts {
     Counts {
         made: AtomicU64::new(0),
         gone: AtomicU64::new(0),
-        end,
-        failed: AtomicU64::new(0),
     }
 }
 
-// Stops the test where not all but so many of those that were made were let go.
-pub(crate) fn leaves(rt: &impl Abort, counts: &Counts, left: usize) {
-    assert!(rt; all_gone_but(counts, left));
-}
-
 // Whether all but so many of those that were made were let go.
-fn all_gone_but(counts: &Counts, left: usize) -> bool {
+pub(crate) fn all_gone_but(counts: &Counts, left: usize) -> bool {
     let gone = counts.gone.load(Ordering::SeqCst);
     gone.wrapping_add(left as u64) == counts.made.load(Ordering::SeqCst)
 }
@@ -97,30 +85,21 @@ fn place_taken(item: Option<Counted<'_>>) -> Option<usize> {
     place_of(item.as_ref())
 }
 
-// Another one at an item's place, which is let go.
-fn again<'a>(item: Counted<'a>) -> Counted<'a> {
-    Counted::new(item.counts, item.place)
-}
-
-// There are so many, each at its place.
-fn stand_in_place(rt: &impl Abort, all: &[Counted<'_>], count: usize) {
-    same(rt, all.len(), count);
-    for place in 0..count {
-        same(rt, place_of(all.get(place)), Some(place));
-    }
-}
-
 // Maps that many counted items on that many threads. Memory may be refused.
 fn map_counted<R: Threads + Sync + Abort>(rt: &R, alloc: Global, threads: usize, len: usize) {
-    let counts = no_counts(len);
+    let counts = no_counts();
     let items = counted_items(alloc, &counts, len);
     let count = items.len();
+    let answer = |item: Counted<'_>| Counted::new(&counts, item.place);
     let parts = DrainProducer::from_vec(items);
-    if let Ok(answers) = map_parallel(rt, alloc, number(rt, threads), parts, &again) {
-        stand_in_place(rt, answers.as_slice(), count);
-        leaves(rt, &counts, count);
+    if let Ok(answers) = map_parallel(rt, alloc, number(rt, threads), parts, &answer) {
+        same(rt, answers.len(), count);
+        for place in 0..count {
+            same(rt, place_of(answers.get(place)), Some(place));
+        }
+        assert!(rt; all_gone_but(&counts, count));
     }
-    leaves(rt, &counts, 0);
+    assert!(rt; all_gone_but(&counts, 0));
 }
 
 fn no_sum() -> usize {
@@ -129,15 +108,6 @@ fn no_sum() -> usize {
 
 fn add(left: usize, right: usize) -> usize {
     left.wrapping_add(right)
-}
-
-// Adds an item's place, or fails at it.
-fn add_place(sum: usize, item: Counted<'_>) -> Result<usize, usize> {
-    if item.place < item.counts.end {
-        Ok(sum.wrapping_add(item.place))
-    } else {
-        Err(item.place)
-    }
 }
 
 // Adds the places of that many counted items up on that many threads, of which the one at `end`
@@ -149,31 +119,30 @@ fn fold_counted<R: Threads + Sync + Abort>(
     len: usize,
     end: usize,
 ) {
-    let counts = no_counts(end);
+    let counts = no_counts();
     let items = counted_items(alloc, &counts, len);
     let count = items.len();
-    let threads = number(rt, threads);
+    let step = |sum: usize, item: Counted<'_>| if item.place < end {
+        Ok(sum.wrapping_add(item.place))
+    } else {
+        Err(item.place)
+    };
     let parts = DrainProducer::from_vec(items);
-    let added = try_fold_parallel(rt, alloc, threads, parts, &no_sum, &add_place, &add);
-    adds_up(rt, added, count, end);
-    leaves(rt, &counts, 0);
-}
-
-// The sum of so many places, or the item at `end`. Memory may be refused.
-fn adds_up(rt: &impl Abort, added: Result<usize, Trouble<usize>>, count: usize, end: usize) {
-    match added {
+    match try_fold_parallel(rt, alloc, number(rt, threads), parts, &no_sum, &step, &add) {
         Ok(sum) => {
+            assert!(rt; count <= end);
             let twice = count.wrapping_mul(count).wrapping_sub(count);
-            same(rt, (sum.wrapping_mul(2), count <= end), (twice, true));
+            same(rt, sum.wrapping_mul(2), twice);
         }
         Err(Trouble::Closure(place)) => same(rt, place, end),
         Err(Trouble::Fault(_fault)) => (),
     }
+    assert!(rt; all_gone_but(&counts, 0));
 }
 
 // Takes so many counted items from the front of a drain and so many from its back, and lets it go.
 fn drain_counted<R: Abort>(rt: &R, alloc: Global, len: usize, front: usize, back: usize) {
-    let counts = no_counts(len);
+    let counts = no_counts();
     let items = counted_items(alloc, &counts, len);
     let count = items.len();
     let mut drain = DrainProducer::from_vec(items).drain();
@@ -185,25 +154,25 @@ fn drain_counted<R: Abort>(rt: &R, alloc: Global, len: usize, front: usize, back
         let place = count.wrapping_sub(taken).wrapping_sub(1);
         same(rt, place_taken(drain.next_back()), Some(place));
     }
-    leaves(rt, &counts, drain.len());
+    assert!(rt; all_gone_but(&counts, drain.len()));
     drop(drain);
-    leaves(rt, &counts, 0);
+    assert!(rt; all_gone_but(&counts, 0));
 }
 
 // Splits counted items at an index, and lets the front one go before the back one.
 fn split_counted<R: Abort>(rt: &R, alloc: Global, len: usize, index: usize) {
-    let counts = no_counts(len);
+    let counts = no_counts();
     let parts = DrainProducer::from_vec(counted_items(alloc, &counts, len));
     let len = parts.len();
     if index <= len
         && let Ok((front, back)) = parts.split_at(alloc, index)
     {
-        let lens = (front.len(), back.len());
-        same(rt, lens, (index, len.wrapping_sub(index)));
+        same(rt, front.len(), index);
         drop(front);
-        leaves(rt, &counts, back.len());
+        assert!(rt; all_gone_but(&counts, len.wrapping_sub(index)));
+        same(rt, back.len(), len.wrapping_sub(index));
     }
-    leaves(rt, &counts, 0);
+    assert!(rt; all_gone_but(&counts, 0));
 }
 
 #[test]
@@ -240,15 +209,10 @@ fn each_folded_item_is_dropped_once_before_and_behind_one_that_fails(rt: HostRun
     }
 }
 
-// The places of two items, which are let go.
-fn places_of(pair: (Counted<'_>, Counted<'_>)) -> (usize, usize) {
-    (pair.0.place, pair.1.place)
-}
-
 // Maps the neighbouring pairs of that many counted items on that many threads. Memory may be
 // refused.
 fn pair_counted<R: Threads + Sync + Abort>(rt: &R, alloc: Global, threads: usize, len: usize) {
-    let counts = no_counts(len);
+    let counts = no_counts();
     let items = counted_items(alloc, &counts, len);
     let count = items.len();
     let (pairs, odd) = Pairs::new(items);
@@ -258,22 +222,18 @@ fn pair_counted<R: Threads + Sync + Abort>(rt: &R, alloc: Global, threads: usize
         None
     };
     same(rt, place_of(odd.as_ref()), last);
-    if let Ok(places) = map_parallel(rt, alloc, number(rt, threads), pairs, &places_of) {
-        are_neighbours(rt, places.as_slice(), count / 2);
+    let places = |pair: (Counted<'_>, Counted<'_>)| (pair.0.place, pair.1.place);
+    if let Ok(answers) = map_parallel(rt, alloc, number(rt, threads), pairs, &places) {
+        same(rt, answers.len(), count / 2);
+        for place in 0..count / 2 {
+            let front = place.wrapping_mul(2);
+            let expected = Some((front, front.wrapping_add(1)));
+            same(rt, answers.get(place).copied(), expected);
+        }
     }
-    leaves(rt, &counts, count % 2);
+    assert!(rt; all_gone_but(&counts, count % 2));
     drop(odd);
-    leaves(rt, &counts, 0);
-}
-
-// There are so many pairs, each of two neighbours.
-fn are_neighbours(rt: &impl Abort, pairs: &[(usize, usize)], count: usize) {
-    same(rt, pairs.len(), count);
-    for place in 0..count {
-        let front = place.wrapping_mul(2);
-        let expected = Some((front, front.wrapping_add(1)));
-        same(rt, pairs.get(place).copied(), expected);
-    }
+    assert!(rt; all_gone_but(&counts, 0));
 }
 
 #[test]
@@ -293,11 +253,12 @@ fn pairs_come_serially_too_and_say_how_many_are_left(rt: HostRuntime) {
     let (pairs, odd) = Pairs::new(items);
     same(&rt, odd, Some(5));
     let mut drain = Source::into_items(pairs);
-    let first = (drain.size_hint(), drain.next());
-    same(&rt, first, ((2, Some(2)), Some((1, 2))));
-    let second = (drain.size_hint(), drain.next());
-    same(&rt, second, ((1, Some(1)), Some((3, 4))));
-    same(&rt, [drain.next(), drain.next()], [None, None]);
+    same(&rt, drain.size_hint(), (2, Some(2)));
+    same(&rt, drain.next(), Some((1, 2)));
+    same(&rt, drain.size_hint(), (1, Some(1)));
+    same(&rt, drain.next(), Some((3, 4)));
+    same(&rt, drain.next(), None);
+    same(&rt, drain.next(), None);
 }
 
 fn let_go(_place: usize) {}
@@ -327,59 +288,49 @@ fn values_of_size_zero_are_mapped_in_order(rt: HostRuntime) {
     }
 }
 
-// So many references to one.
-fn references(rt: &impl Abort, alloc: Global, one: &Arc<usize>, len: usize) -> Vec<Arc<usize>> {
-    let mut items = Vec::new(alloc);
-    for _place in 0..len {
-        let reference = Arc::try_clone(one).expect(rt, "memory");
-        items.push(reference).expect(rt, "memory");
-    }
-    items
-}
-
-fn itself(item: Arc<usize>) -> Arc<usize> {
-    item
-}
-
 #[test]
 fn counted_references_are_given_back(rt: HostRuntime) {
     let alloc = rt.alloc();
     for len in 0..9usize {
         let one = Arc::new(alloc, len).expect(&rt, "memory");
-        let parts = DrainProducer::from_vec(references(&rt, alloc, &one, len));
-        let answers = map_parallel(&rt, alloc, number(&rt, 3), parts, &itself);
-        let answers = answers.expect(&rt, "memory");
+        let mut items = Vec::new(alloc);
+        for _place in 0..len {
+            items
+                .push(Arc::try_clone(&one).expect(&rt, "memory"))
+                .expect(&rt, "memory");
+        }
+        let parts = DrainProducer::from_vec(items);
+        let answers = map_parallel(
+            &rt,
+            alloc,
+            number(&rt, 3),
+            parts,
+            &|item: Arc<usize>| item,
+        ).expect(&rt, "memory");
         same(&rt, answers.len(), len);
         drop(answers);
-        same(&rt, Arc::into_inner(one).is_some(), true);
-    }
-}
-
-// A hundred numbered texts.
-fn hundred_texts(rt: &impl Abort, alloc: Global) -> Vec<String> {
-    let mut items = Vec::new(alloc);
-    for place in 0..100usize {
-        let text = format!(in alloc; "text {place}").expect(rt, "memory");
-        items.push(text).expect(rt, "memory");
-    }
-    items
-}
-
-// The text, as an error where it is one of these.
-fn all_but_one(text: String) -> Result<String, String> {
-    if text.as_str() == "text 57" {
-        Err(text)
-    } else {
-        Ok(text)
+        assert!(rt; Arc::into_inner(one).is_some());
     }
 }
 
 #[test]
 fn texts_before_and_behind_the_first_failing_one_are_let_go(rt: HostRuntime) {
     let alloc = rt.alloc();
-    let parts = DrainProducer::from_vec(hundred_texts(&rt, alloc));
-    match try_map_parallel(&rt, alloc, number(&rt, 4), parts, &all_but_one) {
+    let mut items = Vec::new(alloc);
+    for place in 0..100usize {
+        items
+            .push(format!(in alloc; "text {place}").expect(&rt, "memory"))
+            .expect(&rt, "memory");
+    }
+    let parts = DrainProducer::from_vec(items);
+    let answer = |text: String| if text.as_str() == "text 57" {
+        Err(text)
+    } else {
+        Ok(text)
+    };
+    match try_map_parallel(&rt, alloc, number(&rt, 4), parts, &answer) {
         Err(Trouble::Closure(text)) => same(&rt, text.as_str(), "text 57"),
-        _ => same(&rt, "another answer", "text 57"),
+        Err(Trouble::Fault(_fault)) => assert!(rt; false),
+        Ok(_values) => assert!(rt; false),
     }
 }

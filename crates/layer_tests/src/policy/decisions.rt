@@ -70,49 +70,36 @@ fn estimates_of(table: &Table, key: Key) -> Option<[Option<u64>; 2]> {
     Some([entry.estimate(P), entry.estimate(S)])
 }
 
-// The paths of three runs, by a clock that starts at a time and goes on by so much at each reading,
-// and what the table's samples of them say.
-fn three_by<Rt: Wait>(rt: &Rt, mut table: Table, start: u64, by: u64) -> Three {
-    let key = Key::new(SITE, 64, 64, 4);
-    let ticks = AtomicU64::new(start);
-    let mut now = || ticks.fetch_add(by, Ordering::SeqCst);
-    let paths = [
-        path_of(rt, &mut table, key, &mut now),
-        path_of(rt, &mut table, key, &mut now),
-        path_of(rt, &mut table, key, &mut now),
-    ];
-    (paths, estimates_of(&table, key))
-}
-
-type Three = (
-    [Result<RunExecution, Trouble<u8>>; 3],
-    Option<[Option<u64>; 2]>,
-);
-
 #[test]
 fn a_decided_run_records_what_it_took(rt: HostRuntime) {
-    let three = three_by(&rt, Table::new(rt.alloc()), 0, 100_000);
-    let estimates = Some([Some(100_000), Some(100_000)]);
-    same(&rt, three, ([Ok(P), Ok(S), Ok(S)], estimates));
+    let mut table = Table::new(rt.alloc());
+    let key = Key::new(SITE, 64, 64, 4);
+    let ticks = AtomicU64::new(0);
+    let mut now = || ticks.fetch_add(100_000, Ordering::SeqCst);
+    let first = path_of(&rt, &mut table, key, &mut now);
+    let second = path_of(&rt, &mut table, key, &mut now);
+    let third = path_of(&rt, &mut table, key, &mut now);
+    same(&rt, [first, second, third], [Ok(P), Ok(S), Ok(S)]);
+    let estimates = estimates_of(&table, key);
+    same(&rt, estimates, Some([Some(100_000), Some(100_000)]));
 }
 
-// (the last run is serial, as both take as long)
 #[test]
 fn a_clock_that_goes_back_gives_no_time(rt: HostRuntime) {
-    let back = 100_000u64.wrapping_neg();
-    let three = three_by(&rt, Table::new(rt.alloc()), 1_000_000, back);
-    same(
-        &rt,
-        three,
-        ([Ok(P), Ok(S), Ok(S)], Some([Some(0), Some(0)])),
-    );
+    let mut table = Table::new(rt.alloc());
+    let key = Key::new(SITE, 64, 64, 4);
+    let ticks = AtomicU64::new(1_000_000);
+    let mut now = || ticks.fetch_sub(100_000, Ordering::SeqCst);
+    let first = path_of(&rt, &mut table, key, &mut now);
+    let second = path_of(&rt, &mut table, key, &mut now);
+    same(&rt, [first, second], [Ok(P), Ok(S)]);
+    same(&rt, estimates_of(&table, key), Some([Some(0), Some(0)]));
 }
 
 #[test]
 fn a_body_that_reads_the_clock_reads_it_between(rt: HostRuntime) {
     let mut table = Table::new(rt.alloc());
     let key = Key::new(SITE, 64, 64, 4);
-    let first = first_of(&rt, &mut table, key);
-    let found = (first, estimates_of(&table, key));
-    same(&rt, found, (Ok(P), Some([Some(300), None])));
+    same(&rt, first_of(&rt, &mut table, key), Ok(P));
+    same(&rt, estimates_of(&table, key), Some([Some(300), None]));
 }

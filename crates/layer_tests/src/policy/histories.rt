@@ -47,11 +47,8 @@ fn the_plain_program_answers_the_worked_runs(rt: HostRuntime) {
         RunEvent::Sampled(S, 20_000),
         RunEvent::Sampled(S, 3_000_000),
     ];
-    let estimates = [
-        replay_run_estimate(S, &history),
-        replay_run_estimate(P, &history),
-    ];
-    same(&rt, estimates, [Some(2_404_000), None]);
+    same(&rt, replay_run_estimate(S, &history), Some(2_404_000));
+    same(&rt, replay_run_estimate(P, &history), None);
 }
 
 // What the plain program chooses of jobs that happened, from the last one on.
@@ -103,31 +100,27 @@ fn the_plain_program_answers_the_worked_jobs(rt: HostRuntime) {
 fn a_long_history_of_runs_answers_as_reckoned(rt: HostRuntime) {
     let mut entry = RunEntry::default();
     let mut history = Vec::new(rt.alloc());
-    let mut serial = 0u32;
+    let mut seen = [0u32; 2];
     for at in 0..520u64 {
-        let (path, is_measured) = entry.choose(4);
-        chooses(&rt, &history, path, is_measured);
+        let answer = entry.choose(4);
+        row(&rt, at, answer, replay_run(&history, 4));
         history.insert(0, RunEvent::Chosen(4)).expect(&rt, "memory");
-        if path == S {
-            serial = serial.saturating_add(1);
-        }
-        if is_measured {
-            let sample = sample_at(path, at);
+        let (path, measured) = answer;
+        let place = if path == P { 0 } else { 1 };
+        seen[place] = seen[place].saturating_add(1);
+        if measured {
+            let sample = if path == P {
+                400_000
+            } else {
+                200_000 + at / 150 % 2 * 900_000
+            };
             entry.record(path, sample);
-            let event = RunEvent::Sampled(path, sample);
-            history.insert(0, event).expect(&rt, "memory");
+            history
+                .insert(0, RunEvent::Sampled(path, sample))
+                .expect(&rt, "memory");
         }
     }
-    // (each path was chosen more than 100 times)
-    same(&rt, (serial > 100, serial < 420), (true, true));
-}
-
-// How long the run of a number takes by a path.
-fn sample_at(path: RunExecution, at: u64) -> u64 {
-    match path {
-        RunExecution::Parallel => 400_000,
-        RunExecution::Serial => 200_000 + at / 150 % 2 * 900_000,
-    }
+    assert!(rt; seen[0] > 100 && seen[1] > 100);
 }
 
 // 520 choices of a job that now is shorter and now longer than the hand-off.
@@ -135,21 +128,19 @@ fn sample_at(path: RunExecution, at: u64) -> u64 {
 fn a_long_history_of_jobs_answers_as_reckoned(rt: HostRuntime) {
     let mut entry = SpawnEntry::default();
     let mut history = Vec::new(rt.alloc());
-    let mut inline = 0u32;
+    let mut seen = [0u32; 2];
     for at in 0..520u64 {
         let (way, is_measured) = entry.choose(INLINE_BUDGET);
         chooses_job(&rt, &history, way, is_measured);
         history.insert(0, CHOSEN).expect(&rt, "memory");
-        if way == INLINE {
-            inline = inline.saturating_add(1);
-        }
+        let place = if way == INLINE { 0 } else { 1 };
+        seen[place] = seen[place].saturating_add(1);
         if is_measured {
             let ran = 20_000 + at / 150 % 2 * 60_000;
             recorded(&rt, &mut entry, &mut history, way, ran);
         }
     }
-    // (each way was chosen more than 100 times)
-    same(&rt, (inline > 100, inline < 420), (true, true));
+    assert!(rt; seen[0] > 100 && seen[1] > 100);
 }
 
 // A job that ran so long is recorded, and put in front of the history.

@@ -1,7 +1,7 @@
 //! Calls whose memory may be refused at any point: each answers what it always does, or
 //! `Fault::Memory`, and then the table is as it was and no body was called. Run with each
 //! allocation failing in turn.
-use crate::same::same;
+use crate::same::{row, same};
 use parallel_fault::{Fault, Trouble};
 use parallel_policy::choices::decide;
 use parallel_policy::execution::RunExecution;
@@ -23,13 +23,13 @@ fn a_refused_choice_leaves_the_table(rt: HostRuntime) {
         let key = Key::new(Site { column, ..SITE }, 64, 64, 4);
         match table.choose_run(key, 4) {
             Ok(answer) => {
+                same(&rt, answer, (RunExecution::Parallel, true));
                 let recorded = table.record_run(key, RunExecution::Parallel, 5);
-                let wanted = ((RunExecution::Parallel, true), Ok(()));
-                same(&rt, (answer, recorded), wanted);
+                same(&rt, recorded, Ok(()));
             }
             Err(fault) => {
-                let has_entry = table.run_entry(key).is_some();
-                same(&rt, (fault, has_entry), (Fault::Memory, false));
+                same(&rt, fault, Fault::Memory);
+                assert!(rt; table.run_entry(key).is_none());
             }
         }
     }
@@ -55,11 +55,11 @@ fn a_refused_choice_calls_no_body(rt: HostRuntime) {
         );
         match called {
             Ok(call) => {
-                same(&rt, call, expected);
+                row(&rt, 1, call, expected);
                 expected = expected.wrapping_add(1);
             }
             Err(trouble) => same(&rt, trouble, Trouble::Fault(Fault::Memory)),
         }
     }
-    same(&rt, calls.load(Ordering::SeqCst), expected);
+    row(&rt, 2, calls.load(Ordering::SeqCst), expected);
 }

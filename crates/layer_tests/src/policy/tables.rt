@@ -1,6 +1,5 @@
 //! Tables and policies: which key an answer goes by, and what each call of a policy tells its
 //! table.
-use crate::policy::{its_path, still};
 use crate::same::same;
 use parallel_fault::{Fault, Trouble};
 use parallel_policy::execution::{RunExecution, SpawnExecution};
@@ -108,13 +107,15 @@ fn a_policy_records_the_run_that_it_is_told(rt: HostRuntime) {
     let choices = choices_of_runs(&rt, &policy, &shared, key);
     let wanted = [Ok((P, true)), Ok((S, true)), Ok((S, false))];
     let estimates = estimates_of(&rt, &policy, key);
-    let told = (choices, estimates, policy.spawn_entry(&rt, key).is_some());
-    let wanted = (
-        (wanted, [Ok(()), Ok(())]),
-        Some([Some(100_000), Some(95_001)]),
-        false,
+    same(
+        &rt,
+        (choices, estimates),
+        (
+            (wanted, [Ok(()), Ok(())]),
+            Some([Some(100_000), Some(95_001)]),
+        ),
     );
-    same(&rt, told, wanted);
+    assert!(rt; policy.spawn_entry(&rt, key).is_none());
 }
 
 // Tells a policy of a job, of its overhead and of an inline run.
@@ -200,16 +201,27 @@ fn path_of<Rt: Wait>(
     work: usize,
     planned: usize,
 ) -> Result<RunExecution, Trouble<u8>> {
-    policy.try_run(rt, SITE, 64, work, planned, &still, its_path)
+    policy.try_run(
+        rt,
+        SITE,
+        64,
+        work,
+        planned,
+        &|| 0,
+        |path: RunExecution| -> Result<RunExecution, u8> { Ok(path) },
+    )
 }
 
 #[test]
 fn a_run_planned_for_one_asks_no_policy(rt: HostRuntime) {
     let policy = fresh(&rt, rt.alloc());
     for planned in [0, 1] {
-        let path = path_of(&rt, &policy, 64, planned);
-        let entry = policy.run_entry(&rt, Key::new(SITE, 64, 64, planned));
-        same(&rt, (path, entry.is_some()), (Ok(S), false));
+        same(&rt, path_of(&rt, &policy, 64, planned), Ok(S));
+        assert!(rt;
+            policy
+                .run_entry(&rt, Key::new(SITE, 64, 64, planned))
+                .is_none()
+        );
     }
 }
 
@@ -228,15 +240,18 @@ fn has_runs_of(rt: &impl Wait, policy: &Policy, of: [(usize, usize, usize); 4]) 
 #[test]
 fn a_fresh_policy_runs_in_parallel_and_then_serially(rt: HostRuntime) {
     let policy = fresh(&rt, rt.alloc());
-    let paths = [
-        path_of(&rt, &policy, 640, 4),
-        path_of(&rt, &policy, 640, 4),
-        path_of(&rt, &policy, 640, 4),
-    ];
-    let of = [(64, 640, 4), (64, 64, 4), (640, 64, 4), (64, 640, 1)];
-    let found = (paths, has_runs_of(&rt, &policy, of));
-    let wanted = ([Ok(P), Ok(S), Ok(S)], [true, false, false, false]);
-    same(&rt, found, wanted);
+    for path in [P, S, S] {
+        same(&rt, path_of(&rt, &policy, 640, 4), Ok(path));
+    }
+    same(
+        &rt,
+        has_runs_of(
+            &rt,
+            &policy,
+            [(64, 640, 4), (64, 64, 4), (640, 64, 4), (64, 640, 1)],
+        ),
+        [true, false, false, false],
+    );
 }
 
 // The clock stands still but while a body runs: 70000 nanoseconds in parallel, 30000 serially.
@@ -287,23 +302,18 @@ fn run_of_ten<Rt: Wait>(
     )
 }
 
-fn is_of_ten(answer: Result<u8, Trouble<u8>>) -> bool {
-    matches!(answer, Ok(7) | Err(Trouble::Closure(57)))
-}
-
 #[test]
 fn success_is_recorded_and_errors_are_not(rt: HostRuntime) {
     let policy = fresh(&rt, rt.alloc());
     let key = Key::new(SITE, 10, 10, 4);
     let ticks = AtomicU64::new(0);
     let failed = run_of_ten(&rt, &policy, &ticks, &[P, S]);
-    let none = estimates_of(&rt, &policy, key);
-    let ran = run_of_ten(&rt, &policy, &ticks, &[]);
-    let wanted = (Err(Trouble::Closure(57)), Some([None, None]), Ok(7));
-    same(&rt, (failed, none, ran), wanted);
+    same(&rt, failed, Err(Trouble::Closure(57)));
+    same(&rt, estimates_of(&rt, &policy, key), Some([None, None]));
+    same(&rt, run_of_ten(&rt, &policy, &ticks, &[]), Ok(7));
     for _ in 0..20 {
         let answer = run_of_ten(&rt, &policy, &ticks, &[P]);
-        same(&rt, is_of_ten(answer), true);
+        assert!(rt; matches!(answer, Ok(7) | Err(Trouble::Closure(57))));
     }
     let estimates = estimates_of(&rt, &policy, key);
     same(&rt, estimates, Some([Some(1_000), Some(1_000)]));
@@ -319,7 +329,8 @@ fn a_body_runs_without_the_lock(rt: HostRuntime) {
         inner.record_run(&rt, key, path, 5)?;
         Ok(path)
     };
-    let answer = policy.try_run(&rt, SITE, 64, 64, 4, &still, body);
+    let answer = policy.try_run(&rt, SITE, 64, 64, 4, &|| 0, body);
+    same(&rt, answer, Ok(P));
     let estimates = estimates_of(&rt, &policy, Key::new(SITE, 1, 1, 2));
-    same(&rt, (answer, estimates), (Ok(P), Some([Some(5), None])));
+    same(&rt, estimates, Some([Some(5), None]));
 }

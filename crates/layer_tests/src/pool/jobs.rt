@@ -2,7 +2,7 @@
 ghost use Rattle.std.specs.Prelude.{◌≡◌, ◌<◌, length, vec_len};
 
 use crate::pool::tally::{Act, becomes, empty_tally, job, read};
-use crate::same::{lists, same};
+use crate::same::{lists, row, same};
 use parallel_pool::rayon::{BroadcastContext, JobDeque, JobQueues, JobSeat, Queue, ThreadPool};
 use std::alloc::Global;
 use std::collections::VecDeque;
@@ -25,36 +25,28 @@ fn two_workers(rt: &impl Abort, alloc: Global) -> (JobSeat<u32>, JobDeque<u32>)
 #[test]
 fn an_own_deque_gives_the_last_job_first_and_all_others_the_first(rt: HostRuntime) {
     let (mut seat, mut own) = two_workers(&rt, rt.alloc());
-    let pushed = [own.push(1), own.push(2), own.push(3), own.push(4)];
-    same(&rt, pushed, [Ok(()), Ok(()), Ok(()), Ok(())]);
-    let taken = [
-        own.pop(),
-        seat.take(&rt, Queue::Deque(0)),
-        own.pop(),
-        own.pop(),
-        own.pop(),
-        seat.take(&rt, Queue::Deque(1)),
-    ];
-    same(&rt, taken, [Some(4), Some(1), Some(3), Some(2), None, None]);
+    for job in 1..5 {
+        same(&rt, own.push(job), Ok(()));
+    }
+    same(&rt, own.pop(), Some(4));
+    same(&rt, seat.take(&rt, Queue::Deque(0)), Some(1));
+    same(&rt, own.pop(), Some(3));
+    same(&rt, own.pop(), Some(2));
+    row(&rt, 1, own.pop(), None);
+    row(&rt, 2, seat.take(&rt, Queue::Deque(1)), None);
 }
 
 #[test]
 fn each_queue_has_jobs_of_its_own(rt: HostRuntime) {
     let (mut seat, _own) = two_workers(&rt, rt.alloc());
-    let pushed = [
-        seat.push(&rt, Queue::Injected, 1),
-        seat.push(&rt, Queue::Injected, 2),
-        seat.push(&rt, Queue::Broadcast(1), 3),
-    ];
-    same(&rt, pushed, [Ok(()), Ok(()), Ok(())]);
-    let taken = [
-        seat.take(&rt, Queue::Broadcast(0)),
-        seat.take(&rt, Queue::Injected),
-        seat.take(&rt, Queue::Broadcast(1)),
-        seat.take(&rt, Queue::Injected),
-        seat.take(&rt, Queue::Injected),
-    ];
-    same(&rt, taken, [None, Some(1), Some(3), Some(2), None]);
+    row(&rt, 1, seat.push(&rt, Queue::Injected, 1), Ok(()));
+    row(&rt, 2, seat.push(&rt, Queue::Injected, 2), Ok(()));
+    row(&rt, 3, seat.push(&rt, Queue::Broadcast(1), 3), Ok(()));
+    row(&rt, 4, seat.take(&rt, Queue::Broadcast(0)), None);
+    same(&rt, seat.take(&rt, Queue::Injected), Some(1));
+    same(&rt, seat.take(&rt, Queue::Broadcast(1)), Some(3));
+    same(&rt, seat.take(&rt, Queue::Injected), Some(2));
+    row(&rt, 5, seat.take(&rt, Queue::Injected), None);
 }
 
 #[test]
@@ -63,26 +55,23 @@ fn each_worker_gets_the_job_of_its_own(rt: HostRuntime) {
     let mut jobs = VecDeque::new(rt.alloc());
     jobs.push_back(7).expect(&rt, "memory");
     jobs.push_back(8).expect(&rt, "memory");
-    same(&rt, seat.push_each(&rt, jobs).is_ok(), true);
-    let taken = [
-        seat.take(&rt, Queue::Broadcast(1)),
-        seat.take(&rt, Queue::Broadcast(0)),
-        seat.take(&rt, Queue::Broadcast(0)),
-        seat.take(&rt, Queue::Injected),
-    ];
-    same(&rt, taken, [Some(8), Some(7), None, None]);
+    assert!(rt; seat.push_each(&rt, jobs).is_ok());
+    same(&rt, seat.take(&rt, Queue::Broadcast(1)), Some(8));
+    same(&rt, seat.take(&rt, Queue::Broadcast(0)), Some(7));
+    row(&rt, 1, seat.take(&rt, Queue::Broadcast(0)), None);
+    row(&rt, 2, seat.take(&rt, Queue::Injected), None);
 }
 
 #[test]
 fn an_owned_job_is_called_with_the_index_of_its_worker(rt: HostRuntime) {
-    let alloc = rt.alloc();
-    let tally = empty_tally(&rt, alloc);
-    let job = job(&rt, alloc, &tally, Act::AddsAt(7));
-    let (queues, _owned) = JobQueues::new(alloc, NonZeroUsize::MIN).expect(&rt, "memory");
-    let mut seat = queues.seat(alloc).expect(&rt, "memory");
-    same(&rt, seat.push(&rt, Queue::Injected, job).is_ok(), true);
-    let job = seat.take(&rt, Queue::Injected).expect(&rt, "the job");
-    job.call(7);
+    let tally = empty_tally(&rt, rt.alloc());
+    let job = job(&rt, rt.alloc(), &tally, Act::AddsAt(7));
+    let (queues, _owned) = JobQueues::new(rt.alloc(), NonZeroUsize::MIN).expect(&rt, "memory");
+    let mut seat = queues.seat(rt.alloc()).expect(&rt, "memory");
+    assert!(rt; seat.push(&rt, Queue::Injected, job).is_ok());
+    if let Some(job) = seat.take(&rt, Queue::Injected) {
+        job.call(7);
+    }
     same(&rt, read(&tally.called), 1);
 }
 

@@ -37,41 +37,26 @@ fn once_latch(rt: &impl Abort, alloc: Global, target: usize) -> (OnceLatch, Latc
 #[test]
 fn a_latch_that_is_set_stays_set(rt: HostRuntime) {
     let (latch, mut seat) = core_latch(&rt, rt.alloc());
-    // (the first `set` finds that the worker slept, the second that nobody did)
-    let before = [
-        latch.probe(&mut seat),
-        latch.get_sleepy(&mut seat),
-        latch.fall_asleep(&mut seat),
-        latch.set(&mut seat),
-        latch.set(&mut seat),
-    ];
+    assert!(rt; !latch.probe(&mut seat));
+    assert!(rt; latch.get_sleepy(&mut seat));
+    assert!(rt; latch.fall_asleep(&mut seat));
+    assert!(rt; latch.set(&mut seat), "the worker slept");
+    assert!(rt; !latch.set(&mut seat), "the second time nobody slept");
     latch.wake_up(&mut seat);
-    let after = [latch.probe(&mut seat), latch.get_sleepy(&mut seat)];
-    same(
-        &rt,
-        (before, after),
-        ([false, true, true, true, false], [true, false]),
-    );
+    assert!(rt; latch.probe(&mut seat));
+    assert!(rt; !latch.get_sleepy(&mut seat));
 }
 
 #[test]
 fn a_woken_worker_may_get_sleepy_again(rt: HostRuntime) {
     let (latch, mut seat) = core_latch(&rt, rt.alloc());
-    // (no worker falls asleep before it is sleepy)
-    let before = [
-        latch.fall_asleep(&mut seat),
-        latch.get_sleepy(&mut seat),
-        latch.get_sleepy(&mut seat),
-        latch.fall_asleep(&mut seat),
-    ];
+    assert!(rt; !latch.fall_asleep(&mut seat), "not before it is sleepy");
+    assert!(rt; latch.get_sleepy(&mut seat));
+    assert!(rt; !latch.get_sleepy(&mut seat));
+    assert!(rt; latch.fall_asleep(&mut seat));
     latch.wake_up(&mut seat);
-    // (the worker that `set` finds was only sleepy)
-    let after = [latch.get_sleepy(&mut seat), latch.set(&mut seat)];
-    same(
-        &rt,
-        (before, after),
-        ([false, true, false, true], [true, false]),
-    );
+    assert!(rt; latch.get_sleepy(&mut seat));
+    assert!(rt; !latch.set(&mut seat), "the worker was only sleepy");
 }
 
 // Whoever has learnt what the setter has seen, finds the latch set.
@@ -98,25 +83,21 @@ fn what_one_seat_has_seen_another_may_learn(rt: HostRuntime) {
 #[test]
 fn a_spin_latch_names_the_worker_that_slept(rt: HostRuntime) {
     let (latch, mut seat) = spin_latch(&rt, rt.alloc(), 7);
-    let slept = [
-        latch.as_core_latch().get_sleepy(&mut seat),
-        latch.as_core_latch().fall_asleep(&mut seat),
-        latch.probe(&mut seat),
-    ];
-    let set = [latch.set(&mut seat), latch.set(&mut seat)];
-    let found = (slept, set, latch.probe(&mut seat));
-    same(&rt, found, ([true, true, false], [Some(7), None], true));
+    assert!(rt; latch.as_core_latch().get_sleepy(&mut seat));
+    assert!(rt; latch.as_core_latch().fall_asleep(&mut seat));
+    assert!(rt; !latch.probe(&mut seat));
+    same(&rt, latch.set(&mut seat), Some(7));
+    same(&rt, latch.set(&mut seat), None);
+    assert!(rt; latch.probe(&mut seat));
 }
 
 #[test]
 fn a_once_latch_names_nobody_who_is_awake(rt: HostRuntime) {
     let (latch, mut seat) = once_latch(&rt, rt.alloc(), 7);
     same(&rt, latch.set(&mut seat), None);
-    same(&rt, latch.as_core_latch().probe(&mut seat), true);
+    assert!(rt; latch.as_core_latch().probe(&mut seat));
     let (latch, mut seat) = once_latch(&rt, rt.alloc(), 8);
-    let slept = [
-        latch.as_core_latch().get_sleepy(&mut seat),
-        latch.as_core_latch().fall_asleep(&mut seat),
-    ];
-    same(&rt, (slept, latch.set(&mut seat)), ([true, true], Some(8)));
+    assert!(rt; latch.as_core_latch().get_sleepy(&mut seat));
+    assert!(rt; latch.as_core_latch().fall_asleep(&mut seat));
+    same(&rt, latch.set(&mut seat), Some(8));
 }

@@ -31,10 +31,9 @@ fn handle<T>(rt: &impl Abort, one: &Arc<T>) -> Arc<T> {
 #[test]
 fn the_last_give_wakes_who_sleeps(rt: HostRuntime) {
     let two = NonZeroUsize::MIN.saturating_add(1);
-    let alloc = rt.alloc();
-    let (latch, shares) = CountLatch::with_count(alloc, two).expect(&rt, "memory");
-    let latch = Arc::new(alloc, latch).expect(&rt, "memory");
-    let passed = word(&rt, alloc);
+    let (latch, shares) = CountLatch::with_count(rt.alloc(), two).expect(&rt, "memory");
+    let latch = Arc::new(rt.alloc(), latch).expect(&rt, "memory");
+    let passed = word(&rt, rt.alloc());
     let (theirs, flag) = (handle(&rt, &latch), handle(&rt, &passed));
     let waiter = thread::spawn(&rt, move || {
         theirs.wait(&rt);
@@ -42,19 +41,18 @@ fn the_last_give_wakes_who_sleeps(rt: HostRuntime) {
     })
     .expect(&rt, "memory");
     let_it_sleep(&rt);
-    let before = passed.load(Ordering::SeqCst);
-    same(&rt, (before, give_all(&latch, shares)), (0, 1));
+    same(&rt, passed.load(Ordering::SeqCst), 0);
+    same(&rt, give_all(&latch, shares), 1);
     awaits(&rt, &passed, 1, "the waiter is woken");
     waiter.join(&rt);
 }
 
 #[test]
 fn a_lock_latch_is_reset_and_wakes_who_sleeps(rt: HostRuntime) {
-    let alloc = rt.alloc();
-    let latch = Arc::new(alloc, LockLatch::new()).expect(&rt, "memory");
+    let latch = Arc::new(rt.alloc(), LockLatch::new()).expect(&rt, "memory");
     latch.set(&rt);
     latch.wait_and_reset(&rt);
-    let passed = word(&rt, alloc);
+    let passed = word(&rt, rt.alloc());
     for _ in 0..2 {
         let (theirs, count) = (handle(&rt, &latch), handle(&rt, &passed));
         thread::spawn(&rt, move || {
@@ -84,7 +82,7 @@ fn idle_with_a_job<R: Wait>(
         return false;
     };
     for _ in 0..34 {
-        sleep.no_work_found(rt, &mut idle, parker, latch, &mut seat, a_job);
+        sleep.no_work_found(rt, &mut idle, parker, latch, &mut seat, || true);
     }
     idle.rounds() == 0 && latch.get_sleepy(&mut seat)
 }
@@ -92,10 +90,6 @@ fn idle_with_a_job<R: Wait>(
 // What a worker is told that asks whether jobs were injected.
 pub(crate) fn no_jobs() -> bool {
     false
-}
-
-fn a_job() -> bool {
-    true
 }
 
 // An idle worker to which a job comes once it has announced itself. It answers whether it goes back
@@ -172,24 +166,19 @@ fn stays_awake<R: Threads + Wait + Abort + Clock + Copy + Send + 'static>(
 
 #[test]
 fn a_worker_asks_for_jobs_before_it_sleeps(rt: HostRuntime) {
-    same(&rt, stays_awake(&rt, rt.alloc(), Comes::Always), true);
+    assert!(rt; stays_awake(&rt, rt.alloc(), Comes::Always));
 }
 
 #[test]
 fn a_job_behind_its_announcement_keeps_a_worker_awake(rt: HostRuntime) {
-    same(
-        &rt,
-        stays_awake(&rt, rt.alloc(), Comes::OnceAnnounced),
-        true,
-    );
+    assert!(rt; stays_awake(&rt, rt.alloc(), Comes::OnceAnnounced));
 }
 
 #[test]
 fn a_pool_without_jobs_is_closed(rt: HostRuntime) {
-    let alloc = rt.alloc();
-    let passed = word(&rt, alloc);
+    let passed = word(&rt, rt.alloc());
     let flag = handle(&rt, &passed);
-    let pool = built(&rt, alloc, ThreadPoolBuilder::new().num_threads(2));
+    let pool = built(&rt, rt.alloc(), ThreadPoolBuilder::new().num_threads(2));
     let closer = thread::spawn(&rt, move || {
         pool.close(&rt);
         flag.store(1, Ordering::SeqCst);

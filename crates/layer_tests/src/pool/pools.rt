@@ -3,7 +3,7 @@ use crate::pool::tally::{
     Act, Raise, Tally, awaits, broadcasts, built, empty_tally, job, led, let_it_sleep, raises,
     read, spawn, telling,
 };
-use crate::same::{lists, prints, same};
+use crate::same::{lists, prints, row, same};
 use parallel_pool::rayon::{
     BroadcastContext, Environment, OwnedJob, Queue, Staff, ThreadPool, ThreadPoolBuilder,
     WorkerThread, Yield,
@@ -13,7 +13,6 @@ use std::num::NonZeroUsize;
 use std::process::Abort;
 use std::sync::{Arc, Wait};
 use std::thread::Threads;
-use std::time::Clock;
 
 // A pool of which this thread is the first worker, and none other is started; and that worker.
 fn with_this_thread<R: Threads + Wait + Abort + Copy + Send + 'static>(
@@ -47,15 +46,15 @@ fn hands_in(
 
 #[test]
 fn a_worker_looks_in_its_own_queues_first(rt: HostRuntime) {
-    let alloc = rt.alloc();
-    let order = empty_tally(&rt, alloc);
-    let (pool, mut worker) = with_this_thread(&rt, alloc, 1, 0);
-    same(&rt, hands_in(&rt, alloc, &pool, &mut worker, &order), true);
+    let order = empty_tally(&rt, rt.alloc());
+    let (pool, mut worker) = with_this_thread(&rt, rt.alloc(), 1, 0);
+    let is_in = hands_in(&rt, rt.alloc(), &pool, &mut worker, &order);
+    assert!(rt; is_in);
     for _ in 0..5 {
         same(&rt, pool.yield_now(&rt, &mut worker), Some(Yield::Executed));
     }
-    let found = (read(&order.called), pool.yield_now(&rt, &mut worker));
-    same(&rt, found, (21_534, Some(Yield::Idle)));
+    same(&rt, read(&order.called), 21_534);
+    same(&rt, pool.yield_now(&rt, &mut worker), Some(Yield::Idle));
 }
 
 // What a pool and that of a worker say when the worker yields, after it handed the pool a job.
@@ -81,36 +80,30 @@ fn calls_injected(rt: &impl Wait, worker: &mut WorkerThread) -> bool {
 
 #[test]
 fn a_worker_of_another_pool_injects_its_job(rt: HostRuntime) {
-    let alloc = rt.alloc();
-    let tally = empty_tally(&rt, alloc);
-    let job = job(&rt, alloc, &tally, Act::Adds(1));
-    let (theirs, mut stranger) = with_this_thread(&rt, alloc, 1, 7);
-    let (pool, mut worker) = with_this_thread(&rt, alloc, 1, 0);
+    let tally = empty_tally(&rt, rt.alloc());
+    let job = job(&rt, rt.alloc(), &tally, Act::Adds(1));
+    let (theirs, mut stranger) = with_this_thread(&rt, rt.alloc(), 1, 7);
+    let (pool, mut worker) = with_this_thread(&rt, rt.alloc(), 1, 0);
     let yields = yields_of_a_stranger(&rt, &pool, &theirs, &mut stranger, job);
-    let is_called = calls_injected(&rt, &mut worker);
-    let wanted = (Some((None, Some(Yield::Idle))), true, 1);
-    same(&rt, (yields, is_called, read(&tally.called)), wanted);
+    same(&rt, yields, Some((None, Some(Yield::Idle))));
+    assert!(rt; calls_injected(&rt, &mut worker));
+    same(&rt, read(&tally.called), 1);
 }
 
 #[test]
 fn a_worker_is_known_by_its_label(rt: HostRuntime) {
-    let alloc = rt.alloc();
-    let (pool, worker) = with_this_thread(&rt, alloc, 3, 9);
-    let other = built(&rt, alloc, ThreadPoolBuilder::new());
-    let context = worker.context();
-    let numbers = [
-        pool.current_num_threads(),
-        other.current_num_threads(),
-        worker.index(),
-        context.index(),
-        context.num_threads(),
-    ];
+    let (pool, worker) = with_this_thread(&rt, rt.alloc(), 3, 9);
+    let other = built(&rt, rt.alloc(), ThreadPoolBuilder::new());
+    let counts = (pool.current_num_threads(), other.current_num_threads());
+    same(&rt, counts, (3, 1));
     let indices = (
         pool.current_thread_index(&worker),
         other.current_thread_index(&worker),
     );
-    same(&rt, numbers, [3, 1, 0, 0, 3]);
-    same(&rt, (indices, worker.label()), ((Some(0), None), 9));
+    same(&rt, indices, (Some(0), None));
+    same(&rt, (worker.index(), worker.label()), (0, 9));
+    let context = worker.context();
+    same(&rt, (context.index(), context.num_threads()), (0, 3));
 }
 
 #[test]
@@ -154,16 +147,15 @@ fn index_of(context: BroadcastContext) -> usize {
 
 #[test]
 fn a_pool_of_unstarted_workers_installs_and_broadcasts(rt: HostRuntime) {
-    let alloc = rt.alloc();
-    let tally = empty_tally(&rt, alloc);
+    let tally = empty_tally(&rt, rt.alloc());
     let builder = ThreadPoolBuilder::new().num_threads(2).unstarted_workers();
-    let pool = built(&rt, alloc, builder);
-    let answers = pool.broadcast(&rt, alloc, &index_of);
+    let pool = built(&rt, rt.alloc(), builder);
+    same(&rt, pool.install(&rt, five), 5);
+    let answers = pool.broadcast(&rt, rt.alloc(), &index_of);
     lists(&rt, "indices", answers, &[0, 1]);
-    spawn(&rt, alloc, &pool, &tally, Act::Adds(1));
+    spawn(&rt, rt.alloc(), &pool, &tally, Act::Adds(1));
     let_it_sleep(&rt);
-    // (no worker was started that called the job)
-    same(&rt, (pool.install(&rt, five), read(&tally.called)), (5, 0));
+    row(&rt, "no worker was started", read(&tally.called), 0);
 }
 
 // Where the first text isn't set, the second says 3.
@@ -177,64 +169,41 @@ fn of_three(rt: &impl Abort, alloc: Global) -> Environment {
 
 #[test]
 fn the_environment_says_the_number_that_is_not_set(rt: HostRuntime) {
-    let alloc = rt.alloc();
-    let environment = of_three(&rt, alloc);
+    let environment = of_three(&rt, rt.alloc());
     let builder = ThreadPoolBuilder::default().environment(environment);
     let wanted = "ThreadPoolBuilder { num_threads: 0, use_current_thread: false, \
         thread_name: None, stack_size: None, start_handler: None, environment: Environment { \
         num_threads: None, num_cpus: Some(\"3\"), machine: Some(4) }, label: 0, \
         unstarted_workers: false }";
-    prints(&rt, alloc, &builder, wanted);
-    let pool = built(&rt, alloc, builder.unstarted_workers());
+    prints(&rt, rt.alloc(), &builder, wanted);
+    let pool = built(&rt, rt.alloc(), builder.unstarted_workers());
     same(&rt, pool.current_num_threads(), 3);
-}
-
-// Spawns so many jobs that do the same.
-fn spawns(
-    rt: &(impl Wait + Abort),
-    alloc: Global,
-    pool: &ThreadPool<Staff>,
-    tally: &Arc<Tally>,
-    act: Act,
-    count: usize,
-) {
-    for _ in 0..count {
-        spawn(rt, alloc, pool, tally, act);
-    }
 }
 
 #[test]
 fn a_thousand_jobs_are_called_once_each_and_the_workers_end(rt: HostRuntime) {
-    let alloc = rt.alloc();
-    let tally = empty_tally(&rt, alloc);
-    let pool = telling(&rt, alloc, 4, &tally);
-    spawns(&rt, alloc, &pool, &tally, Act::AddsBehind, 1000);
+    let tally = empty_tally(&rt, rt.alloc());
+    let pool = telling(&rt, rt.alloc(), 4, &tally);
+    for _ in 0..1000 {
+        spawn(&rt, rt.alloc(), &pool, &tally, Act::AddsBehind);
+    }
     drop(pool);
     awaits(&rt, &tally.ended, 1, "each worker has ended");
-    let found = (read(&tally.called), read(&tally.begun));
-    same(&rt, found, (1000, 16_843_009));
-}
-
-// Spawns a job once the workers sleep, and then so many are called.
-fn wakes<R: Wait + Abort + Clock>(
-    rt: &R,
-    alloc: Global,
-    pool: &ThreadPool<Staff>,
-    tally: &Arc<Tally>,
-    called: u64,
-) {
-    let_it_sleep(rt);
-    spawn(rt, alloc, pool, tally, Act::Adds(1));
-    awaits(rt, &tally.called, called, "each job is called");
+    same(
+        &rt,
+        (read(&tally.called), read(&tally.begun)),
+        (1000, 16_843_009),
+    );
 }
 
 #[test]
 fn workers_that_sleep_are_woken_by_jobs_and_by_the_end(rt: HostRuntime) {
-    let alloc = rt.alloc();
-    let tally = empty_tally(&rt, alloc);
-    let pool = telling(&rt, alloc, 2, &tally);
+    let tally = empty_tally(&rt, rt.alloc());
+    let pool = telling(&rt, rt.alloc(), 2, &tally);
     for called in 1..6u64 {
-        wakes(&rt, alloc, &pool, &tally, called);
+        let_it_sleep(&rt);
+        spawn(&rt, rt.alloc(), &pool, &tally, Act::Adds(1));
+        awaits(&rt, &tally.called, called, "each job is called");
     }
     let_it_sleep(&rt);
     drop(pool);
@@ -243,9 +212,8 @@ fn workers_that_sleep_are_woken_by_jobs_and_by_the_end(rt: HostRuntime) {
 
 #[test]
 fn each_worker_calls_the_job_that_was_broadcast_to_it(rt: HostRuntime) {
-    let alloc = rt.alloc();
-    let tally = empty_tally(&rt, alloc);
-    let pool = telling(&rt, alloc, 4, &tally);
+    let tally = empty_tally(&rt, rt.alloc());
+    let pool = telling(&rt, rt.alloc(), 4, &tally);
     let_it_sleep(&rt);
     let acts = [
         Act::AddsAt(0),
@@ -253,34 +221,35 @@ fn each_worker_calls_the_job_that_was_broadcast_to_it(rt: HostRuntime) {
         Act::AddsAt(2),
         Act::AddsAt(3),
     ];
-    same(&rt, broadcasts(&rt, alloc, &pool, &tally, &acts), true);
+    let came = broadcasts(&rt, rt.alloc(), &pool, &tally, &acts);
+    assert!(rt; came);
     awaits(&rt, &tally.called, 4, "each job is called");
     pool.close(&rt);
 }
 
 #[test]
 fn a_pool_calls_jobs_of_ones_own_type(rt: HostRuntime) {
-    let alloc = rt.alloc();
-    let tally = empty_tally(&rt, alloc);
+    let tally = empty_tally(&rt, rt.alloc());
     let builder = ThreadPoolBuilder::new().num_threads(2);
     let (pool, _none) = builder
-        .build_for::<HostRuntime, Raise>(&rt, alloc)
+        .build_for::<HostRuntime, Raise>(&rt, rt.alloc())
         .expect(&rt, "memory");
-    let came = [
-        pool.spawn(&rt, raises(&rt, &tally, 3)).is_ok(),
-        pool.spawn(&rt, raises(&rt, &tally, 4)).is_ok(),
-    ];
+    for by in [3, 4] {
+        let came = pool.spawn(&rt, raises(&rt, &tally, by)).is_ok();
+        assert!(rt; came);
+    }
     pool.close(&rt);
-    same(&rt, (came, read(&tally.called)), ([true, true], 7));
+    same(&rt, read(&tally.called), 7);
 }
 
 #[test]
 fn a_pool_that_is_closed_has_called_each_job_to_its_end(rt: HostRuntime) {
-    let alloc = rt.alloc();
-    let tally = empty_tally(&rt, alloc);
+    let tally = empty_tally(&rt, rt.alloc());
     let builder = ThreadPoolBuilder::new().num_threads(2);
-    let pool = built(&rt, alloc, builder);
-    spawns(&rt, alloc, &pool, &tally, Act::AddsLate, 4);
+    let pool = built(&rt, rt.alloc(), builder);
+    for _ in 0..4 {
+        spawn(&rt, rt.alloc(), &pool, &tally, Act::AddsLate);
+    }
     pool.close(&rt);
     same(&rt, read(&tally.called), 4);
 }

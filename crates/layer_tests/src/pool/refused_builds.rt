@@ -10,7 +10,6 @@ use crate::pool::tally::{Tally, awaits, byte_of, empty_tally, read, told_to, try
 use crate::same::{row, same};
 use parallel_pool::rayon::{ThreadPoolBuildError, ThreadPoolBuilder};
 use std::alloc::{AllocError, Global};
-use std::process::Abort;
 use std::sync::Arc;
 
 #[test]
@@ -87,19 +86,14 @@ fn a_build_works_or_leaves_no_worker(rt: HostRuntime) {
 
 // What is left free of a machine without places: room for so many stacks of the size below, each in
 // a place of its own, between places that stay taken.
-fn places(rt: &impl Abort, alloc: Global, count: usize) -> (Vec<Vec<u8>>, Vec<Vec<u8>>) {
-    let (mut stacks, mut between) = (Vec::new(alloc), Vec::new(alloc));
+fn places(alloc: Global, count: usize) -> Option<(Vec<Vec<u8>>, Vec<Vec<u8>>)> {
+    let mut stacks = Vec::with_capacity(alloc, count).ok()?;
+    let mut between = Vec::with_capacity(alloc, count).ok()?;
     for _ in 0..count {
-        add_place(rt, alloc, &mut stacks);
-        add_place(rt, alloc, &mut between);
+        stacks.push(Vec::with_capacity(alloc, PLACE).ok()?).ok()?;
+        between.push(Vec::with_capacity(alloc, PLACE).ok()?).ok()?;
     }
-    (stacks, between)
-}
-
-// Takes one more place.
-fn add_place(rt: &impl Abort, alloc: Global, places: &mut Vec<Vec<u8>>) {
-    let place = Vec::with_capacity(alloc, PLACE).expect(rt, "a place");
-    places.push(place).expect(rt, "memory");
+    Some((stacks, between))
 }
 
 // A stack fits in a place, and two of them don't. Neither is kept once it is given back.
@@ -111,26 +105,21 @@ const PLACE: usize = 450 << 20;
 const NO_PLACE: usize = 300 << 20;
 
 // So many builders of four workers, which tell a tally.
-fn builders(
-    rt: &impl Abort,
-    alloc: Global,
-    count: usize,
-    tally: &Arc<Tally>,
-) -> Vec<ThreadPoolBuilder> {
-    let mut all = Vec::new(alloc);
+fn builders(alloc: Global, count: usize, tally: &Arc<Tally>) -> Option<Vec<ThreadPoolBuilder>> {
+    let mut all = Vec::with_capacity(alloc, count).ok()?;
     for _ in 0..count {
-        let builder = told_to(alloc, 4, tally).expect(rt, "memory");
-        all.push(builder.stack_size(STACK)).expect(rt, "memory");
+        let builder = told_to(alloc, 4, tally)?;
+        all.push(builder.stack_size(STACK)).ok()?;
     }
-    all
+    Some(all)
 }
 
 #[test]
 fn a_build_that_is_refused_behind_its_first_threads_ends_them(rt: HostRuntime) {
     let alloc = rt.alloc();
     let tally = empty_tally(&rt, alloc);
-    let builders = builders(&rt, alloc, 5, &tally);
-    let (mut stacks, _between) = places(&rt, alloc, 4);
+    let builders = builders(alloc, 5, &tally).expect(&rt, "memory");
+    let (mut stacks, _between) = places(alloc, 4).expect(&rt, "memory");
     let room = Vec::<u8>::with_capacity(alloc, NO_PLACE).expect(&rt, "memory");
     let held = all_places(alloc).expect(&rt, "places that have an end");
     drop(room);
@@ -164,7 +153,7 @@ fn a_build_that_is_refused_behind_its_first_threads_ends_them(rt: HostRuntime) {
 fn a_build_that_is_refused_anywhere_leaves_no_worker(rt: HostRuntime) {
     let alloc = rt.alloc();
     let tally = empty_tally(&rt, alloc);
-    let builders = builders(&rt, alloc, 1000, &tally);
+    let builders = builders(alloc, 1000, &tally).expect(&rt, "memory");
     let mut room = Vec::<u8>::with_capacity(alloc, ROOM).expect(&rt, "memory");
     let Some(held) = all_memory(alloc) else {
         return;

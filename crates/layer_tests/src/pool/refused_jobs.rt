@@ -9,7 +9,7 @@ use crate::pool::tally::{
     Act, Raise, Tally, awaits, becomes, empty_tally, job, jobs, push_by, raises, read, spawn,
     told_to, try_tally, workers,
 };
-use crate::same::same;
+use crate::same::{row, same};
 use parallel_fault::Fault;
 use parallel_pool::rayon::{OwnedJob, Queue, Staff, ThreadPool, WorkerThread, Yield};
 use std::alloc::Global;
@@ -28,11 +28,7 @@ fn halts<R: Wait + Abort + Clock>(
     tally: &Arc<Tally>,
 ) {
     let waits = job(rt, alloc, tally, Act::Waits);
-    same(
-        rt,
-        push_by(rt, worker, Queue::Broadcast(index), waits),
-        true,
-    );
+    assert!(rt; push_by(rt, worker, Queue::Broadcast(index), waits));
     awaits(rt, &tally.entered, 1, "the worker waits");
 }
 
@@ -46,12 +42,11 @@ fn calls_refused(
     let mut refused = 0u64;
     for job in jobs {
         if let Err((fault, job)) = pool.spawn(rt, job) {
-            let before = read(&tally.called);
+            assert!(rt; matches!(fault, Fault::Memory));
+            row(rt, refused, read(&tally.called), refused);
+            refused = refused.wrapping_add(1);
             job.call(0);
-            let found = (fault, before, read(&tally.called));
-            let after = refused.wrapping_add(1);
-            same(rt, found, (Fault::Memory, refused, after));
-            refused = after;
+            row(rt, refused, read(&tally.called), refused);
         }
     }
     refused
@@ -69,17 +64,22 @@ fn a_refused_job_comes_back_and_runs_when_called(rt: HostRuntime) {
     };
     let refused = calls_refused(&rt, &pool, jobs, &tally);
     drop(held);
-    // (the pushes of some of the 100 jobs were refused)
-    same(&rt, (0 < refused, refused < 100), (true, true));
+    assert!(rt;
+        0 < refused && refused < 100,
+        "of {refused} jobs of 100 the push was refused"
+    );
     // (memory is there again)
     spawn(&rt, alloc, &pool, &tally, Act::Adds(1));
     tally.opened.store(1, Ordering::SeqCst);
     drop(pool);
-    awaits(&rt, &tally.ended, 1, UNWAITED);
+    awaits(
+        &rt,
+        &tally.ended,
+        1,
+        "a job that was refused isn't waited for",
+    );
     same(&rt, read(&tally.called), 101);
 }
-
-const UNWAITED: &str = "a job that was refused isn't waited for";
 
 // So many jobs are pushed to each queue.
 const MANY: u32 = 60_000;
@@ -117,7 +117,12 @@ fn many_jobs_are_called_but_those_that_are_refused(rt: HostRuntime) {
     let injected = many_come(&rt, &mut worker, Queue::Injected, &tally);
     let broadcast = many_come(&rt, &mut worker, Queue::Broadcast(1), &tally);
     drop(pool);
-    awaits(&rt, &tally.ended, 1, UNWAITED);
+    awaits(
+        &rt,
+        &tally.ended,
+        1,
+        "a job that was refused isn't waited for",
+    );
     same(&rt, read(&tally.called), injected.wrapping_add(broadcast));
     let _told = eprintln!(rt; "of {MANY} jobs to each queue {injected} and {broadcast} came");
 }
@@ -187,7 +192,7 @@ fn halts_the_third<R: Wait + Abort + Clock>(
 ) {
     for index in [0usize, 1, 3] {
         let job = job(rt, alloc, tally, Act::Fills);
-        same(rt, push_by(rt, worker, Queue::Broadcast(index), job), true);
+        assert!(rt; push_by(rt, worker, Queue::Broadcast(index), job));
     }
     halts(rt, alloc, worker, 2, tally);
     same(rt, pool.yield_now(rt, worker), Some(Yield::Executed));
@@ -213,13 +218,21 @@ fn jobs_that_were_not_broadcast_come_back_in_order(rt: HostRuntime) {
     let Err((fault, refused)) = pushed else {
         panic!(rt; "the third job was queued");
     };
-    let yielded = pool.yield_now(&rt, &mut worker);
-    let found = (fault, refused.len(), yielded);
-    same(&rt, found, (Fault::Memory, 2, Some(Yield::Executed)));
-    same(&rt, come_in_order(&rt, refused, &tally), true);
+    same(&rt, fault, Fault::Memory);
+    same(&rt, refused.len(), 2);
+    same(&rt, pool.yield_now(&rt, &mut worker), Some(Yield::Executed));
+    assert!(rt;
+        come_in_order(&rt, refused, &tally),
+        "those before them are called"
+    );
     tally.opened.store(1, Ordering::SeqCst);
     drop(pool);
-    awaits(&rt, &tally.ended, 1, UNWAITED);
-    let called = (read(&tally.called), read(&tally.filled));
-    same(&rt, called, (of_first(4), came.wrapping_add(3)));
+    awaits(
+        &rt,
+        &tally.ended,
+        1,
+        "a job that was refused isn't waited for",
+    );
+    row(&rt, "each once", read(&tally.called), of_first(4));
+    same(&rt, read(&tally.filled), came.wrapping_add(3));
 }

@@ -51,11 +51,7 @@ fn a_job_that_a_seat_brought_is_counted(rt: HostRuntime) {
     let alloc = rt.alloc();
     let tally = empty_tally(&rt, alloc);
     let (pool, mut worker) = workers(&rt, alloc, 2, &tally);
-    same(
-        &rt,
-        pushes(&rt, alloc, &mut worker, Queue::Injected, &tally),
-        true,
-    );
+    assert!(rt; pushes(&rt, alloc, &mut worker, Queue::Injected, &tally));
     for brought in 2..5u64 {
         spawn(&rt, alloc, &pool, &tally, Act::Adds(1));
         awaits(&rt, &tally.called, brought, "each job is called");
@@ -70,7 +66,7 @@ fn a_job_that_a_seat_took_is_counted(rt: HostRuntime) {
     let alloc = rt.alloc();
     let tally = empty_tally(&rt, alloc);
     let (pool, mut worker) = workers(&rt, alloc, 2, &tally);
-    same(&rt, broadcasts(&rt, alloc, &pool, &tally, &TWO), true);
+    assert!(rt; broadcasts(&rt, alloc, &pool, &tally, &TWO));
     awaits(&rt, &tally.called, 1, "the other worker calls its own");
     let own = own_job(&rt, &mut worker);
     drop(pool);
@@ -79,35 +75,31 @@ fn a_job_that_a_seat_took_is_counted(rt: HostRuntime) {
     same(&rt, read(&tally.called), 2);
 }
 
-// Pushes a job for each of two workers by the seat of one, takes its own and pushes that again.
-fn pushes_and_takes(
-    rt: &(impl Wait + Abort),
-    alloc: Global,
-    worker: &mut WorkerThread,
-    tally: &Arc<Tally>,
-) -> bool {
-    if !pushes_each(rt, alloc, worker, tally) {
-        return false;
-    }
-    let own = own_job(rt, worker);
-    push_by(rt, worker, Queue::Broadcast(0), own)
-}
-
 #[test]
 fn pushes_takes_and_calls_are_counted_in_any_order(rt: HostRuntime) {
     let alloc = rt.alloc();
     let tally = empty_tally(&rt, alloc);
     let (pool, mut worker) = workers(&rt, alloc, 2, &tally);
     for round in 1..6u64 {
-        same(&rt, pushes_and_takes(&rt, alloc, &mut worker, &tally), true);
+        assert!(rt; pushes_each(&rt, alloc, &mut worker, &tally));
+        let own = own_job(&rt, &mut worker);
+        assert!(rt; push_by(&rt, &mut worker, Queue::Broadcast(0), own));
         pool.yield_now(&rt, &mut worker);
-        let called = round.wrapping_mul(2);
-        awaits(&rt, &tally.called, called, "each job is called");
+        awaits(
+            &rt,
+            &tally.called,
+            round.wrapping_mul(2),
+            "each job is called",
+        );
     }
     spawn(&rt, alloc, &pool, &tally, Act::Adds(1));
     drop(pool);
-    let what = "a job that was spawned before the end is called";
-    awaits(&rt, &tally.called, 11, what);
+    awaits(
+        &rt,
+        &tally.called,
+        11,
+        "a job that was spawned before the end is called",
+    );
     awaits(&rt, &tally.ended, 1, "the other worker has ended");
 }
 
@@ -118,11 +110,11 @@ fn a_job_that_a_seat_brings_wakes_a_worker(rt: HostRuntime) {
     let (pool, mut worker) = workers(&rt, alloc, 2, &tally);
     for (queue, called) in [(Queue::Injected, 1), (Queue::Broadcast(1), 2)] {
         let_it_sleep(&rt);
-        same(&rt, pushes(&rt, alloc, &mut worker, queue, &tally), true);
+        assert!(rt; pushes(&rt, alloc, &mut worker, queue, &tally));
         awaits(&rt, &tally.called, called, "the sleeper calls it");
     }
     let_it_sleep(&rt);
-    same(&rt, pushes_each(&rt, alloc, &mut worker, &tally), true);
+    assert!(rt; pushes_each(&rt, alloc, &mut worker, &tally));
     awaits(&rt, &tally.called, 3, "the sleeper calls its own");
     pool.yield_now(&rt, &mut worker);
     pool.close(&rt);
@@ -137,9 +129,13 @@ fn a_job_of_a_workers_own_wakes_another_and_is_counted(rt: HostRuntime) {
     for called in 1..4u64 {
         let_it_sleep(&rt);
         let job = job(&rt, alloc, &tally, Act::Adds(1));
-        same(&rt, pool.spawn_from(&rt, &mut worker, job).is_ok(), true);
-        let what = "the sleeper takes it from the other's deque";
-        awaits(&rt, &tally.called, called, what);
+        assert!(rt; pool.spawn_from(&rt, &mut worker, job).is_ok());
+        awaits(
+            &rt,
+            &tally.called,
+            called,
+            "the sleeper takes it from the other's deque",
+        );
     }
     drop(pool);
     awaits(&rt, &tally.ended, 1, "the other worker has ended");

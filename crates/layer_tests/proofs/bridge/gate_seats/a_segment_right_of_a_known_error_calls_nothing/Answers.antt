@@ -9,8 +9,8 @@ use Rattle.layer_tests.proofs.bridge.gate_seats.a_segment_right_of_a_known_error
 underway : (watch : GateWatch) → MayWatch watch 0 → IsUnderway WatchEnds watch
 underway watch may = (watch, 0, watch_begins watch 0 may)
 
-pub write-done-requires-clause-watch : goal.write-done-requires-clause-watch
-write-done-requires-clause-watch g c =
+pub write_items-done-requires-clause-watch : goal.write_items-done-requires-clause-watch
+write_items-done-requires-clause-watch g c =
     let watch : GateWatch = record {
       gate = record { ref_ptr = _; now = c.expect-gate.result.0 };
       seat = c.expect-seat.result;
