@@ -238,6 +238,9 @@ fn put_behind<T: Drop>(list: Vec<T>, more: Vec<T>) -> Result<Vec<T>, Fault>
 }
 
 /// The lists with the value of one answer more, or with its key where it has none.
+///
+/// Each call is inlined: as a call of its own it would copy both lists' headers for every item.
+#[inline(always)]
 pub(crate) fn push_answer<K: Drop, U: Drop>(
     values: Vec<U>,
     keys: Vec<K>,
