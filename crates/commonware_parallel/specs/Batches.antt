@@ -19,8 +19,8 @@ use Rattle.commonware_parallel.specs.declared.batches.Batches.{Batches}
 abbrev pub ranges_of : {S P : Type 0} → Batches S P → List (Range ℕ)
 ranges_of batches = batches.ranges.items
 
--- balanced ranges of the indices below len, so many, and of two or more none is shorter than the
--- minimum
+-- That many balanced ranges of the indices below len; if there are two or more, none is shorter
+-- than the minimum, but a single one may be.
 abbrev pub IsBatch : ℕ → ℕ → ℕ → List (Range ℕ) → Type 0
 IsBatch len count minimum ranges = BalancedCut len ranges × (length ranges ≡ count)
     × (2 ≤ length ranges → All (λ range. minimum ≤ range_length range) ranges)
@@ -38,8 +38,9 @@ IsWholeBatch strategy place len batches =
     (ranges_of batches ≡ record { start = 0; end = len } ∷ [])
     × (strategy_of batches ≡ strategy) × (place_of batches ≡ place)
 
--- allowed holds of some batch: of as many ranges as the strategy may take for the call, over its
--- inner strategy and with the call's place
+-- What a batch call may return: for some number of parts that the strategy may take for its
+-- `batches_call`, `allowed` holds of a batch of that many ranges (`IsBatch`), over an inner
+-- strategy (`IsInnerOf`) and with the call's place.
 abbrev pub OnSomeBatch : {S P : Type 0} (takes : S → Site → Call → Pick → Type 0)
     (refuses : S → Site → Call → Fault → Type 0) (plans threads : S → ℕ) (starts : S → Bool)
     (site_of : P → Site) (strategy : S) (place : P) (len : ℕ) (minimum : NonZeroUsize)

@@ -56,8 +56,9 @@ goes_by_path Tiles = false
 goes_by_path Spawn = true
 goes_by_path Join = true
 
--- the picks that a call has: either path, or a number of parts, of which there is one at least and
--- no more than there may be
+-- The picks that a call has. A body, a join and a job go by a path: the serial body, one closure
+-- after the other, or the job at once; or the parallel body, side by side, or handed off. Batches
+-- and tiles go in a number of parts, from 1 to the greatest number that the call names.
 abbrev pub HasPick : Call → Pick → Type 0
 HasPick call (By path) = goes_by_path call.kind ≡ true
 HasPick call (Into parts) = (goes_by_path call.kind ≡ false) × (0 < parts)
@@ -84,12 +85,13 @@ nth_path (suc index) = Parallel
 abbrev pub nth_pick : Call → ℕ → Pick
 nth_pick call index = if goes_by_path call.kind then By (nth_path index) else Into (index + 1)
 
--- the fact, at a path that may be taken
+-- The fact holds by a path that may be taken.
 abbrev pub AtSomePath : (Pick → Type 0) → (Path → Type 0) → Type 0
 AtSomePath takes fact = (path : Path) × takes (By path) × fact path
 
--- inner is a strategy like outer that no policy chooses for: it has the same numbers, takes one
--- pick of a call at most, which outer may take too, and refuses no call but a spawn
+-- Inner is a strategy like outer that no policy chooses for: it has the same numbers (planned,
+-- threaded, started), takes at most one pick of a call (settled), which outer may take too
+-- (within), and refuses no call but a spawn (unrefused).
 pub record IsInnerOf {S : Type 0} (takes : S → Site → Call → Pick → Type 0)
     (refuses : S → Site → Call → Fault → Type 0) (plans threads : S → ℕ) (starts : S → Bool)
     (outer inner : S) : Type 0 where

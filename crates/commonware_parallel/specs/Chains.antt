@@ -4,8 +4,9 @@ use Rattle.std.specs.declared.ops.Range.{Range}
 use Rattle.parallel_shares.specs.declared.shares.stretch.Stretch.{Stretch}
 use Rattle.parallel_shares.specs.Fillings.{Finished}
 
--- stretches and results fall into the same chains; each chain begins with a fresh state, which goes
--- from stretch to stretch
+-- Stretches and results fall into the same chains. A chain begins with a value of `init`; each of
+-- its stretches is filled from the current state, column after column, and `finish` gives its
+-- result and leaves the state with which the next stretch begins.
 pub data Chains {T R : Type 0} (init : T → Type 0) (fill : T → ℕ → Range ℕ → T → Type 0)
     (finish : T → ℕ → R → T → Type 0) : List Stretch → List R → Type 0 where
   no_chain : Chains init fill finish [] []

@@ -36,8 +36,9 @@ module _ {F R : Type 0} (step : F → Bor Explorer → R → F → Type 0) (eq :
   Agree serial (rule ∷ rules) f g = (r : R) × (h : F) × RunsBy rule f r h × (eq r serial ≡ true)
       × Agree serial rules h g
 
-  -- the serial output, where the runs by all other rules give equal ones; or the first rule of
-  -- which the run doesn't, those before it do
+  -- The closure is called with an explorer of each rule in turn, over 4 threads and planned for 8.
+  -- The serial output is returned if the runs by all other rules give equal ones; else the first
+  -- rule whose run gave another one, after which the closure isn't called again.
   abbrev pub Explored : F → Result R ExploreError → Type 0
   Explored f (Ok serial) = (g h : F) × RunsBy Serial f serial g × Agree serial rules_behind g h
   Explored f (Err (Differs rule)) = (serial r : R) × (g h i : F) × (before after : List Rule)

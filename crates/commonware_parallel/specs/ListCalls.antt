@@ -9,11 +9,13 @@ use Rattle.commonware_parallel.specs.Calls.{AtSomePath}
 use Rattle.commonware_parallel.specs.declared.call.Call.{Call}
 use Rattle.commonware_parallel.specs.declared.call.Pick.{Pick}
 
--- some path may be taken
+-- Some path may be taken: that is, the strategy was asked about the call that `takes` names, with
+-- that length and that work.
 abbrev pub Asked : (Pick → Type 0) → Type 0
 Asked takes = AtSomePath takes (λ _. ⊤)
 
--- a list that the source may give, and for the call over its length some path may be taken
+-- For a list that the source may give, some path may be taken for the call over its length, as
+-- `call_of` makes it from the length, such as `body_call`.
 abbrev pub AskedOver : {I X : Type 0} → (I → List X → Type 0) → I → (Call → Pick → Type 0)
     → (ℕ → Call) → Type 0
 AskedOver gives source takes call_of = GivesSome gives source
@@ -21,8 +23,9 @@ AskedOver gives source takes call_of = GivesSome gives source
 
 module _ {I X S R : Type 0} (gives : I → List X → Type 0) (source : I)
     (takes : S → Site → Call → Pick → Type 0) (threads : S → ℕ) (strategy : S) (site : Site) where
-  -- a list that may come, and a path that the strategy may take for the call over its length, by
-  -- which the answer went as the way says, at the depth for the strategy's thread number
+  -- For a list that the source may give, and a path that the strategy may take for the call over
+  -- its length, the result came about as `way` says (`FoldedAs`, ..), at the depth for the
+  -- strategy's thread number.
   abbrev pub GoesByLength : (ℕ → Call) → (ℕ → Path → List X → R → Type 0) → R → Type 0
   GoesByLength call_of way answer = GivesSome gives source
       (λ xs. AtSomePath (takes strategy site (call_of (length xs)))

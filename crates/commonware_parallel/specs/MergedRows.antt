@@ -58,7 +58,10 @@ FillsCut init fill finish rows len whole results = (cut : List Stretch)
     × CutsRectangle rows len cut × (whole ≡ true → All (IsWholeRow len) cut)
     × Chains init fill finish cut results
 
--- such chains, and for each row what the results of its stretches are together
+-- There are stretches with their results. The stretches cut the grid, into whole rows if rows stay
+-- whole, and the results come from chains over them; and the values are the results merged row by
+-- row: in order, the stretches tile each row from left to right, and a row's value is its results
+-- merged (`MergesTo`).
 abbrev pub FillsRows : {T R : Type 0} → (T → Type 0) → (T → ℕ → Range ℕ → T → Type 0)
     → (T → ℕ → R → T → Type 0) → (R → R → R → Type 0) → ℕ → ℕ → Bool → List R → Type 0
 FillsRows {R = R} init fill finish merge rows len whole values = (parts : List (Stretch × R))

@@ -9,7 +9,9 @@ NextLevel combine (x ∷ []) nodes = nodes ≡ x ∷ []
 NextLevel combine (x ∷ (y ∷ xs)) [] = ⊥
 NextLevel combine (x ∷ (y ∷ xs)) (node ∷ nodes) = combine x y node × NextLevel combine xs nodes
 
--- none is None, one is itself, else the root of the next level
+-- The root of no leaf is None, that of one leaf is the leaf, and else it is the root of the next
+-- level. If the node above a and b is 2a + 3b modulo 1000003, the leaves 1, 2, 3 have the level 8,
+-- 3 and the root 25, and the leaves 1 to 7 have 8, 18, 28, 7, then 70, 77, and the root 371.
 pub data MerkleRoot {T : Type 0} (combine : T → T → T → Type 0) : List T → Option T → Type 0 where
   of_none : MerkleRoot combine [] None
   of_one : {x : T} → MerkleRoot combine (x ∷ []) (Some x)

@@ -13,8 +13,9 @@ abbrev pub mixed_all : ℕ → List ℕ → ℕ
 mixed_all hash [] = hash
 mixed_all hash (x ∷ xs) = mixed_all (mixed_in hash x) xs
 
--- the hash of a seed, of the length of the file's name and its bytes, of the line, the column and
--- the length
+-- The hash begins at 1. For each of the seed, the number of bytes of the file's name, those bytes,
+-- the line, the column and the length, it is multiplied by 16807 and the value is added, each
+-- reduced modulo 2147483647.
 abbrev pub mix_of : ℕ → Site → ℕ → ℕ
 mix_of seed site len =
     mixed_all 1

@@ -35,8 +35,9 @@ PlansTo planned chooses call pick =
     (planned ≤ 1 → pick ≡ first_pick call) × (1 < planned → chooses ≡ false → pick ≡ last_pick call)
     × ((pick ≡ first_pick call) ⊎ (pick ≡ last_pick call))
 
--- a join is always parallel; a spawned job goes by the thread number, all else by the planning
--- number
+-- Its picks. A join takes the last one. A spawned job goes by the thread number, and every other
+-- call by the planning number: if that is 1 the first pick is taken; if it is more, the last one,
+-- or with a policy the first or the last.
 abbrev pub RayonTakes : RayonView → Call → Pick → Type 0
 RayonTakes strategy call pick =
     (call.kind ≡ Join → pick ≡ last_pick call)
@@ -44,8 +45,8 @@ RayonTakes strategy call pick =
     × (call.kind ≢ Join → call.kind ≢ Spawn
     → PlansTo strategy.planning (chooses_of strategy) call pick)
 
--- only a policy is refused, for memory, and no policy is asked about a join, nor where there is one
--- pick alone
+-- A refusal for memory, if a policy chooses; not of a join, and only if the call has two picks or
+-- more.
 abbrev pub RayonRefuses : RayonView → Call → Fault → Type 0
 RayonRefuses strategy call fault = (fault ≡ Memory) × (chooses_of strategy ≡ true)
     × (call.kind ≢ Join) × (2 ≤ options_of call)

@@ -59,8 +59,9 @@ abbrev pub IsSerialTiling : {S P : Type 0} → S → P → List Grid → ℕ →
 IsSerialTiling strategy place grids len tiles = IsTiling grids len 1 tiles
     × (tiles_strategy tiles ≡ strategy) × (tiles_place tiles ≡ place)
 
--- allowed holds of some tiles: for as many workers as the strategy may take for the call, through
--- its inner strategy and with the call's place
+-- What a tile call may return, as `OnSomeBatch`: for some number of workers that the strategy may
+-- take for the `tiles_call` of the least serial cost, `allowed` holds of tiles for that many
+-- workers.
 abbrev pub OnSomeTiles : {S P : Type 0} (takes : S → Site → Call → Pick → Type 0)
     (refuses : S → Site → Call → Fault → Type 0) (plans threads : S → ℕ) (starts : S → Bool)
     (site_of : P → Site) (strategy : S) (place : P) (grids : List Grid) (len multiplier : ℕ)

@@ -37,8 +37,9 @@ counted count = min (count + 1) 4294967295
 abbrev pub is_due : {P : Type 0} → Contest P → ℕ → Bool
 is_due contest count = nat_le (interval_of contest.winner_time contest.loser_time) (counted count)
 
--- the path that is chosen, and whether it is measured: at the interval the loser where it may be
--- probed, always measured; else the preferred path, measured at each tenth choice
+-- The path that is chosen, and whether it is measured. When the count reaches the interval, the
+-- loser if it may be probed, else the preferred path, measured in either case. Otherwise the
+-- preferred path, measured exactly when the count is a multiple of 10.
 abbrev pub arbitrated : {P : Type 0} → Contest P → ℕ → P × Bool
 arbitrated contest count = cond (is_due contest count)
     (cond contest.probe contest.loser contest.preferred, true)

@@ -69,7 +69,11 @@ run_count (Sampled _ _ ∷ older) = run_count older
 run_count (Chosen parallelism ∷ older) = run_count_after (run_estimate Parallel older)
     (run_estimate Serial older) (run_count older) parallelism
 
--- the path that is chosen after a history, and whether it is measured
+-- The path that is chosen after a history, and whether it is measured. With the estimates p of the
+-- parallel samples and s of the serial ones: without p, Parallel and measured. Without s, or if the
+-- projection or s is 10 ms or more, or if p < s, Parallel is preferred, and the serial path may be
+-- probed if the projection is under 10 ms. Else Serial is preferred, and the parallel path may be
+-- probed.
 abbrev pub run_choice : RunHistory → ℕ → RunExecution × Bool
 run_choice history parallelism = run_answer (run_estimate Parallel history)
     (run_estimate Serial history) (run_count history) parallelism

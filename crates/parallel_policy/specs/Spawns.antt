@@ -67,7 +67,11 @@ spawn_count (Chosen budget ∷ older) =
     spawn_count_after (spawn_estimate Overhead older) (spawn_estimate Job older)
     (spawn_estimate InlineRun older) (spawn_count older) budget
 
--- the way that is chosen after a history, and whether it is measured
+-- The way that is chosen after a history, and whether it is measured. Without an overhead or a job
+-- on a worker, the job is handed off and measured. Else the inline time, or the job's time on a
+-- worker if there is none, is weighed against the lesser of the overhead and the budget: if it is
+-- more, handing off is preferred, and running inline may be probed if the job is under the budget;
+-- else running inline is preferred.
 abbrev pub spawn_choice : SpawnHistory → ℕ → SpawnExecution × Bool
 spawn_choice history budget =
     spawn_answer (spawn_estimate Overhead history) (spawn_estimate Job history)

@@ -44,8 +44,8 @@ abbrev pub HasOtherSpawns : Table → Table → Key → Type 0
 HasOtherSpawns old new key = (other : Key) → same_key key other ≡ false
     → spawn_of new other ≡ spawn_of old other
 
--- a choice carried a table on: the answer is that of each history that the key's entry holds, whose
--- history is longer by the choice, and no other entry changed
+-- What one choice does to a table: it returns `run_choice` of each history that the key's entry
+-- holds, that history is longer by the choice, and no other entry changes.
 pub record ChoosesRun (old : Table) (key : Key) (parallelism : ℕ) (answer : RunExecution × Bool)
     (new : Table) : Type 0 where
   pub answers : (history : RunHistory) → HoldsRunAt old key history

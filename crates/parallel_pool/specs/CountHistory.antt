@@ -76,7 +76,9 @@ abbrev pub CountsFrom : ℕ → ShareView → ShareView → Type 0
 CountsFrom found old new = (before : List ℕ) × (by : ℕ) × GivesShare before by old new
     × (found + length before ≡ old.of) × (new.of ≡ old.of) × (0 < found)
 
--- a share was given
+-- A share was given. The gives that it has seen now are those of a history that begins with all
+-- that it had seen before and hasn't the share, and then the share; no share is in it twice; and
+-- the share is spent. It is the last one exactly if these gives are as many as the latch's shares.
 abbrev pub Given : ShareView → ShareView → Type 0
 Given old new = (before : List ℕ) × (by : ℕ) × GivesShare before by old new
 

@@ -104,11 +104,14 @@ pub record Extends {T : Type 0} (old : JobView T) (e : Event T) (new : JobView T
   pub once : IsEachOnce new.seen
 
 module _ {T : Type 0} where
-  -- a job was pushed
+  -- A job was pushed: what the pass has seen now is a history that begins with all that it had seen
+  -- before and ends with this push. In it each job that was taken was pushed, and none was pushed
+  -- or taken twice.
   abbrev pub HasPushed : JobView T → T → JobView T → Type 0
   HasPushed old job new = (by : ℕ) × (number : ℕ) × Extends old (event by Push number job false) new
 
-  -- a job was taken, to be called or not, in this way
+  -- Likewise, this job was taken, in this way. `called` marks the takes of a worker that takes a
+  -- job to call it; a take by a seat's caller has false.
   abbrev pub HasTaken : Deed → Bool → JobView T → T → JobView T → Type 0
   HasTaken deed called old job new = (by : ℕ) × (number : ℕ)
       × Extends old (event by deed number job called) new

@@ -69,7 +69,7 @@ PushesFrom {T} worker (job ∷ jobs) old new = (mid : SeatView T)
     × Does (Broadcast worker) (λ v w. HasPushed v job w) old mid
     × PushesFrom (worker + 1) jobs mid new
 
--- the jobs that weren't pushed come back, and those before them were pushed
+-- The jobs that come back are the last ones, and those before them were pushed, in order.
 abbrev pub PushesSome : {T : Type 0} → List T → List T → SeatView T → SeatView T → Type 0
 PushesSome {T} jobs back old new = (done : List T) × (jobs ≡ done ++ back)
     × PushesFrom 0 done old new

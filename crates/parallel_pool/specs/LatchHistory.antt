@@ -55,8 +55,11 @@ pub record Makes (act : Act) (before : List Call) (by : ℕ) (old new : View) : 
   pub own : new.own ≡ old.own ++ act ∷ []
   pub once : acts_of by new.seen ≡ new.own
 
--- a seat made one call of this kind, and `said` holds of the phase that the call found, to which
--- the history before it leads
+-- A seat made one call. What it has seen now is a history that begins with all that it had seen
+-- before (begins) and ends with the call (ends), the only one of its own that is new (own, once);
+-- and `said` holds of the phase that the call found. So get_sleepy says whether that phase was
+-- unset, fall_asleep whether it was sleepy, set whether it was sleeping, probe whether it was
+-- latched.
 abbrev pub Called : Act → (Phase → Type 0) → View → View → Type 0
 Called act said old new = (before : List Call) × (by : ℕ) × Makes act before by old new
     × said (phase_after before)

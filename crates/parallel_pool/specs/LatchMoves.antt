@@ -40,7 +40,9 @@ after_wake_up sleepy = sleepy
 after_wake_up sleeping = unset
 after_wake_up latched = latched
 
--- the phase that a call leaves behind
+-- The phase after a call: getting sleepy moves unset to sleepy, falling asleep sleepy to sleeping,
+-- waking up sleeping to unset, and a set each phase to latched, which is for good. Any other phase
+-- stays, and a probe moves none.
 abbrev pub moved : Act → Phase → Phase
 moved GetSleepy phase = after_get_sleepy phase
 moved FallAsleep phase = after_fall_asleep phase

@@ -38,8 +38,9 @@ abbrev pub number_or : {A : Type 0} → ℕ → (A → ℕ) → Option A → ℕ
 number_or other number None = other
 number_or other number (Some a) = number a
 
--- for how many threads a pool is planned of which this is set, and found: what is set, above 0, or
--- else the number by both texts and the machine's
+-- For how many threads a pool is planned: the number set, if above 0; else the first text's number,
+-- where 0 stands for the machine's; without one, the second text's if above 0; else the machine's,
+-- or 1. In each case at most 65535.
 abbrev pub IsPlanned : PoolPlan → ℕ → Type 0
 IsPlanned plan planned =
     (0 < plan.num_threads → planned ≡ min plan.num_threads 65535)

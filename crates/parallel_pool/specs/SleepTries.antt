@@ -33,6 +33,8 @@ SleepsAndWakes old new =
     × OnlyProbes asleep last
     × Called WakeUp (λ _. ⊤) last new
 
--- a latch that fell asleep is always woken up by its worker
+-- What a try to sleep does with its worker's latch, in one of three ways: it wasn't unset, and
+-- nothing more was done; or it got sleepy and was set before the worker fell asleep; or it fell
+-- asleep, and the worker's last act woke it up.
 abbrev pub TriesToSleep : View → View → Type 0
 TriesToSleep old new = StaysAwake old new ⊎ IsKeptAwake old new ⊎ SleepsAndWakes old new

@@ -114,7 +114,8 @@ RefillAnswers sizes before seat Refused after =
     ((units : Range ℕ) → ¬ CanRefill sizes before seat units) × (after ≡ before)
 RefillAnswers sizes before seat _ after = ⊥
 
--- the outcome of an event, and the machine before and after it
+-- The outcome of an event, and the machine before and after it. An event whose need isn't met
+-- (CanLoad, CanClaim, CanSteal, CanRefill) is Refused, and changes nothing.
 abbrev pub Answers : Sizes → Machine → Event → Outcome → Machine → Type 0
 Answers sizes before (Load seat share) outcome after = LoadAnswers before seat share outcome after
 Answers sizes before (Claim seat) outcome after = ClaimAnswers sizes before seat outcome after

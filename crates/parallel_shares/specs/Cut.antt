@@ -16,7 +16,7 @@ abbrev pub IsEven : List (Range ℕ) → Type 0
 IsEven rs =
     AllPairs (λ a b. (range_length b ≤ range_length a) × (range_length a ≤ range_length b + 1)) rs
 
--- the ranges cut the indices from 0 up to len, their lengths differ by at most one, and the longer
--- ones come first
+-- The ranges are in order and without a gap from 0 to len (CutsFrom), their lengths differ by at
+-- most one, and the longer ones come first (IsEven). There is one such list of that many ranges.
 abbrev pub BalancedCut : ℕ → List (Range ℕ) → Type 0
 BalancedCut len rs = CutsFrom 0 rs len × IsEven rs

@@ -30,7 +30,9 @@ abbrev pub stays_whole : Grid → ℕ → ℕ → Bool
 stays_whole grid len workers = nat_lt len (stopping (2 * tile_cost_of grid))
     || nat_le (whole_cost grid len workers) (cut_cost grid len workers)
 
--- the cost of the longest chain of work: that of whole rows or of cut ones
+-- What the longest chain of work costs, where each sum and product stops at the greatest usize.
+-- With row = len + tile_cost, whole = ceil(rows / workers) * row and cut = floor(rows * row /
+-- workers) + 3 * tile_cost, it is cut if 2 * tile_cost <= len and cut < whole, and else whole.
 abbrev pub critical_cost : Grid → ℕ → ℕ → ℕ
 critical_cost grid len workers = if stays_whole grid len workers then whole_cost grid len workers
     else cut_cost grid len workers

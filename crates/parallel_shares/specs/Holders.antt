@@ -53,7 +53,16 @@ pub record Refills (sizes : Sizes) (seat from to : ℕ) (before after : Holders)
   pub empty : (u : ℕ) → u < sizes.units → before u ≢ pending (share_of sizes seat)
   pub hands : Hands sizes.units from to (carried seat) (pending (share_of sizes seat)) before after
 
--- a move of the units from one up to another
+-- A move of the units from one up to another. Since holders are a function of the unit, no unit has
+-- two.
+--
+--                          claim: a front, by a seat that claims from this share
+--      pending at a share ----------------------------------------------------> claimed by the seat
+--          |          ^
+--          |          +------------------------+
+--          | steal: a back part of another's   | refill: all that the seat carries, into its own
+--          v share (cut plans)                 | share, which is empty
+--      carried by a seat ----------------------+
 pub data Move : Type 0 where
   claim : ℕ → ℕ → ℕ → Move
   steal : ℕ → ℕ → ℕ → ℕ → Move

@@ -76,11 +76,11 @@ SomeSplitPays sizes =
     (share : ℕ) × (share < shares_of sizes)
     × Pays sizes (slice_index (opening_words sizes (shares_of sizes)) share)
 
--- each cell of the grid is once in a unit that is left in a word, in a unit in transit or in a
--- claim, and no other cell is claimed; each seat number is with one seat; a word that its seat has
--- seen empty is empty until that seat fills it; until a seat has changed a word, the words are
--- those of the opening; and where no opening word's split pays, no word's does, and nothing is in
--- transit
+-- What holds of the words and all seats' views between any two steps. Each cell of the grid is once
+-- in a unit that is left in a word, in a unit in transit or in a claim, and no other cell is
+-- claimed; each seat number is with one seat; a word that its seat has seen empty is empty until
+-- that seat fills it; until a seat has changed a word, the words are those of the opening; and if
+-- no opening word's split pays, no word's does, and nothing is in transit.
 pub record IsSharingOf (sizes : Sizes) (state : State (Unit {0}) View) : Type 0 where
   pub shares : length state.words ≡ shares_of sizes
   pub within : (share : ℕ) → IsWithin sizes.units (slice_index state.words share)

@@ -60,8 +60,10 @@ sizes_of work =
       whole = work.whole;
     }
 
--- the numbers of the plan for so many rows of so many cells, a tile's cost, workers, and whether
--- rows stay whole
+-- The numbers of a plan. Whole rows: a unit is ceil(rows / 65535) rows, a claim one unit, and one
+-- share has all units. Cut rows: a unit is ceil(cells / 65535) cells, a claim as many units as a
+-- tile costs, a split has to exceed a tile's cost, and there is a share for each worker. There are
+-- no more workers than claims.
 abbrev pub sizes_for : ℕ → ℕ → ℕ → ℕ → Bool → Sizes
 sizes_for rows len tile_cost workers whole =
     sizes_of (record {

@@ -22,7 +22,9 @@ share_at place = place / 16
 abbrev pub used : {S V : Type 0} → State S V → List ℕ → State S V
 used state words = record { words = words; homes = state.homes; views = state.views }
 
--- a rule holds of the words that are used
+-- A rule holds of the words that are used, each of which is the middle one of 16 words of the
+-- table; the others stay 0. The rule, the views and what a step says speak of the used words as if
+-- they were side by side.
 abbrev pub Spaced : {S V : Type 0} → (State S V → Type 0) → State S V → Type 0
 Spaced holds state =
     (words : List ℕ) × (state.words ≡ spaced words) × holds (used state words)

@@ -100,9 +100,10 @@ TriesSteal sizes before Nothing after =
 TriesSteal sizes before (Claimed cells) after = ⊥
 TriesSteal sizes before Empty after = ⊥
 
--- after it was the seat `first`, the seat loaded its own word again, and that word was empty. Since
--- it did so last it loaded each other share once and its own not at all, and no split of the words
--- that it met there pays. Nothing is in transit
+-- Since it was the seat `first`, the seat loaded its own word at least once more, and that word, as
+-- it loaded it last, was empty. Since that load it loaded each other share once and its own not at
+-- all, and no word that it met there has a split that pays. Nothing is in transit. So a seat that
+-- looked round only before it last loaded its own word doesn't satisfy it.
 pub record FoundNothing (shares : Shares) (first seat : Seat) : Type 0 where
   pub grows : LoadsGrow first seat
   pub again : own_loads shares first < own_loads shares seat
