@@ -30,6 +30,10 @@ pub struct Extras<'a> {
 
 /// The cells of a matrix, the highest byte of each number, as many as fill the rows; or the
 /// messages one after the other, a number eight times in each. Nothing for other cases.
+///
+/// # Errors
+///
+/// `AllocError` if an allocation fails.
 pub fn bytes_of(alloc: Global, case: Case, numbers: &[u64]) -> Result<Vec<u8>, AllocError> {
     match case {
         Case::RowsAbove => {
@@ -53,6 +57,10 @@ fn message_bytes(alloc: Global, numbers: &[u64]) -> Result<Vec<u8>, AllocError> 
 }
 
 /// The messages of the case `digests`.
+///
+/// # Errors
+///
+/// `AllocError` if an allocation fails.
 pub fn messages_of<'a>(
     alloc: Global,
     case: Case,
@@ -67,6 +75,10 @@ pub fn messages_of<'a>(
 }
 
 /// The digests of messages.
+///
+/// # Errors
+///
+/// `AllocError` if an allocation fails.
 pub fn digests_of(alloc: Global, messages: &[&[u8]]) -> Result<Vec<Digest>, AllocError> {
     messages.iter().map(digest_of).collect(alloc)
 }

@@ -20,7 +20,7 @@ pub const SITE: Site = Site {
     column: 1,
 };
 
-/// The case's answer through a strategy.
+/// The case's result through a strategy.
 pub fn by_strategy<Rt: Runtime, S: Strategy>(
     rt: &Rt,
     alloc: Global,
@@ -43,7 +43,7 @@ pub fn by_strategy<Rt: Runtime, S: Strategy>(
     }
 }
 
-// The answer of a case that goes by no source.
+// The result of a case that goes by no source.
 fn by_slice<Rt: Runtime, S: Strategy>(
     rt: &Rt,
     alloc: Global,
@@ -84,7 +84,7 @@ fn sorted<Rt: Runtime, S: Strategy>(
     Ok(Answer::Numbers(sorted))
 }
 
-// The answer of a case over a source.
+// The result of a case over a source.
 fn by_source<
     Rt: Runtime,
     S: Strategy,
@@ -146,7 +146,7 @@ fn folded<
     }
 }
 
-// What a map answers that may fail.
+// What a map returns that may fail.
 fn tried(outcome: Result<Vec<u64>, Trouble<u64>>) -> Result<Answer, Fault> {
     match outcome {
         Ok(answers) => Ok(Answer::Numbers(answers)),
@@ -155,7 +155,7 @@ fn tried(outcome: Result<Vec<u64>, Trouble<u64>>) -> Result<Answer, Fault> {
     }
 }
 
-// What a partition answers.
+// What a partition returns.
 fn parted(parts: Result<(Vec<u64>, Vec<u64>), Fault>) -> Result<Answer, Fault> {
     let (values, keys) = parts?;
     Ok(Answer::Parts(values, keys))

@@ -12,7 +12,7 @@ pub enum Case {
     TryMapLight,
     /// A heavy map by a closure that fails early in the list.
     TryMapEarly,
-    /// A light map whose answers are values for every other item, and keys for the rest.
+    /// A light map whose results are values for every other item, and keys for the rest.
     PartitionLight,
     /// The same by a heavy closure.
     PartitionHeavy,

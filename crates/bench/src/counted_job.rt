@@ -14,7 +14,11 @@ pub struct Board {
 }
 
 impl Board {
-    /// A board of so many jobs, of which none was called.
+    /// A board of `jobs` jobs, of which none was called.
+    ///
+    /// # Errors
+    ///
+    /// `AllocError` if an allocation fails.
     pub fn new(alloc: Global, jobs: usize) -> Result<Board, AllocError> {
         let mut marks = Vec::with_capacity(alloc, jobs)?;
         for _ in 0..jobs {
@@ -58,6 +62,10 @@ pub struct CountedJob {
 
 impl CountedJob {
     /// The job of that number.
+    ///
+    /// # Errors
+    ///
+    /// `AllocError` if an allocation fails.
     pub fn new(
         board: &Arc<Board, Global>,
         number: usize,

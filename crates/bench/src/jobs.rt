@@ -28,7 +28,7 @@ const MOST_THREADS: usize = 20_000;
 /// A pool of workers that call `CountedJob`s.
 type Pool = ThreadPool<Staff<CountedJob>>;
 
-/// Times so many jobs to pools of so many workers, and prints a line for each way.
+/// Times that many jobs to pools of that many workers, and prints a line for each way.
 pub fn race_jobs<Rt>(rt: &Rt, trial: Pair) -> Result<()>
 where
     Rt: time::Clock
@@ -101,13 +101,13 @@ fn time_pool<R: Threads + Wait + Copy + Send + 'static, C: Clock>(
     Ok(end.saturating_sub(start))
 }
 
-/// A board for so many jobs, to be shared by them.
+/// A board for that many jobs, to be shared by them.
 pub fn board_of(alloc: Global, jobs: usize) -> Result<Arc<Board, Global>> {
     let board = Board::new(alloc, jobs)?;
     Ok(Arc::new(alloc, board)?)
 }
 
-// Brings so many jobs to the pool, by `spawn` or from a worker of it.
+// Brings that many jobs to the pool, by `spawn` or from a worker of it.
 fn bring_jobs<R: Wait>(
     rt: &R,
     pool: &Pool,
@@ -145,7 +145,7 @@ pub fn spawn_all<R: Wait>(
     Ok(())
 }
 
-// Puts so many jobs onto the worker's own deque.
+// Puts that many jobs onto the worker's own deque.
 fn spawn_all_from<R: Wait>(
     rt: &R,
     pool: &Pool,

@@ -7,7 +7,7 @@ use rayon::prelude::*;
 use std::alloc::{AllocError, Global};
 use std::thread::Threads;
 
-/// The case's answer, and 0 for a case that it has no call for.
+/// The case's result, and 0 for a case that it has no call for.
 ///
 /// It has no pool: a chain starts threads for as many pieces as it makes, two for each processor.
 pub fn by_kit<Rt: Threads + Sync>(

@@ -1,4 +1,4 @@
-//! The plain loops that the calls stand for. A loop that gathers as many answers as there are items
+//! The plain loops that the calls stand for. A loop that gathers as many results as there are items
 //! is a chain, which is its faster form.
 use crate::callers::{Extras, ROWS, THRESHOLD, digest_of};
 use crate::case::{Case, Cost};
@@ -11,7 +11,7 @@ use crate::work::{
 use commonware_parallel::Fault;
 use std::alloc::{AllocError, Global};
 
-/// The case's answer by a plain loop over the items, or over what a caller takes.
+/// The case's result by a plain loop over the items, or over what a caller takes.
 pub fn by_loop(
     alloc: Global,
     case: Case,
@@ -58,7 +58,7 @@ pub fn folded<F: Fn(u64, u64) -> u64 + Drop>(items: &[u64], step: F) -> u64
     total
 }
 
-// The answers, or the first item's error.
+// The results, or the first item's error.
 fn tried<F: Fn(u64) -> Result<u64, u64> + Drop>(
     alloc: Global,
     items: &[u64],
@@ -119,7 +119,7 @@ fn root<F: Fn(u64, u64) -> u64 + Drop>(
     Ok(nodes.first().copied().unwrap_or(0))
 }
 
-// Writes the level above the first `len` nodes over their front, and answers how many it has.
+// Writes the level above the first `len` nodes over their front, and returns how many it has.
 fn next_level<F: Fn(u64, u64) -> u64>(nodes: &mut [u64], len: usize, combine: &F) -> usize
     requires { F.IsAlwaysCallable combine.now }
 {
@@ -130,8 +130,7 @@ fn next_level<F: Fn(u64, u64) -> u64>(nodes: &mut [u64], len: usize, combine: &F
     with_odd(nodes, len)
 }
 
-// Moves an odd last one of the first `len` nodes behind their pairs, and answers how many there
-// are.
+// Moves an odd last one of the first `len` nodes after their pairs, and returns how many there are.
 fn with_odd(nodes: &mut [u64], len: usize) -> usize {
     let pairs = len / 2;
     if len % 2 == 0 || len > nodes.len() {

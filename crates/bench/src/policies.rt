@@ -17,7 +17,7 @@ const SITES: u32 = 8;
 /// How many lengths there are among the keys of a site, each of another number of binary digits.
 const LENGTHS: u32 = 8;
 
-/// Choices for keys that are planned for so many threads. Those that are to be measured are
+/// Choices for keys that are planned for that many threads. Those that are to be measured are
 /// recorded, or all of them.
 #[derive(Drop)]
 struct Choices<'a> {

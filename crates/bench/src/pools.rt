@@ -130,7 +130,7 @@ fn bring_parts<R: Clock + Threads + Wait + Sync, P: Bring>(
     Ok(brought)
 }
 
-// The numbers of the part at `place`, of so many parts that neighbour each other.
+// The numbers of the part at `place`, of that many parts that neighbour each other.
 fn part_of(jobs: usize, parts: usize, place: usize) -> Range<usize> {
     let each = jobs / parts.max(1);
     let start = each.saturating_mul(place);
@@ -141,7 +141,7 @@ fn part_of(jobs: usize, parts: usize, place: usize) -> Range<usize> {
     }
 }
 
-// Brings the jobs of these numbers, with a sleep behind each burst.
+// Brings the jobs of these numbers, with a sleep after each burst.
 fn bring_bursts<R: Clock + Wait, P: Bring>(
     rt: &R,
     pool: &P,
@@ -156,7 +156,7 @@ fn bring_bursts<R: Clock + Wait, P: Bring>(
     Ok(())
 }
 
-// A pool of so many workers that is dropped with its jobs, which are called all the same.
+// A pool of that many workers that is dropped with its jobs, which are called all the same.
 fn drop_one<R: Clock + Threads + Wait + Copy + Send + 'static>(
     rt: &R,
     alloc: Global,

@@ -61,11 +61,11 @@ struct Reading {
 }
 
 /// Times a trial and prints a line for each way, or calls one way of it once and prints its
-/// answer's checksum, for whoever measures the whole program.
+/// result's checksum, for whoever measures the whole program.
 ///
 /// # Errors
 ///
-/// A refusal of a way, and `the answers differ` where the ways' answers do.
+/// A refusal of a way, and `the answers differ` where the ways' results do.
 pub fn race<Rt>(rt: &Rt, trial: Trial) -> Result<()>
 where
     Rt: time::Clock
@@ -148,7 +148,7 @@ impl<Rt: Print + Runtime, C: Clock> Bench<'_, Rt, C> {
     }
 
     // Runs the rounds, and prints what was read of them. The first item is another one in each, so
-    // that no round's answer serves for the next.
+    // that no round's result serves for the next.
     fn run_rounds(&self, items: Vec<u64>) -> Result<()> {
         let mut items = items;
         self.warm_up(items.as_slice())?;
@@ -178,7 +178,7 @@ impl<Rt: Print + Runtime, C: Clock> Bench<'_, Rt, C> {
         Ok(())
     }
 
-    // One call of each way, whose answers have to be one.
+    // One call of each way, whose results have to be one.
     fn run_round(
         &self,
         order: [Way; 5],
@@ -198,11 +198,11 @@ impl<Rt: Print + Runtime, C: Clock> Bench<'_, Rt, C> {
         Ok(())
     }
 
-    // What a call took, in nanoseconds, and its answer's checksum.
+    // What a call took, in nanoseconds, and its result's checksum.
     //
     // The call is made once before the clock is read, so that it meets the caches and the allocator
     // as it leaves them itself, and not as another way left them. Where the memory is to be fresh
-    // the answers of both calls are kept, so that no later call gets their memory. A list that a
+    // the results of both calls are kept, so that no later call gets their memory. A list that a
     // call takes is made before the clock is read.
     fn time_call(&self, way: Way, items: &[u64], kept: &mut Vec<Answer>) -> Result<(u64, u64)> {
         let before = self.call(way, items)?;
@@ -229,7 +229,7 @@ impl<Rt: Print + Runtime, C: Clock> Bench<'_, Rt, C> {
         self.call_on(way, input)
     }
 
-    // The case's answer in a way.
+    // The case's result in a way.
     #[inline(never)]
     fn call_on(&self, way: Way, items: Items<'_>) -> Result<Answer, Fault> {
         let (rt, alloc, case, extras) = (self.rt, self.alloc, self.trial.case, self.extras);

@@ -14,7 +14,7 @@ pub struct Trial {
     pub threads: NonZeroUsize,
     /// What a strategy is given the items by.
     pub form: Form,
-    /// Whether every answer is kept to the end, so that no call meets memory that was freed.
+    /// Whether every result is kept to the end, so that no call meets memory that was freed.
     pub is_fresh: bool,
     /// The one way that is called, once, with nothing beside it.
     pub once: Option<Way>,
@@ -28,7 +28,7 @@ impl Trial {
     }
 }
 
-/// The two numbers behind a command.
+/// The two numbers after a command.
 #[derive(Clone, Copy)]
 pub struct Pair {
     pub first: usize,
@@ -42,20 +42,20 @@ pub enum Request {
     Names,
     /// A case to be timed.
     Time(Trial),
-    /// Rounds of so many choices of a policy, planned for so many threads.
+    /// Rounds of a number of choices of a policy, planned for a number of threads.
     Policy(Pair),
-    /// So many jobs to pools of so many workers.
+    /// A number of jobs, to pools of a number of workers.
     Jobs(Pair),
-    /// So many random plans of shares, the first one's numbers from that seed.
+    /// A number of random plans of shares, the first one's numbers from a seed.
     Soak(Pair),
-    /// So many jobs to one pool, and so many pools.
+    /// A number of jobs to one pool, and a number of pools.
     Pools(Pair),
 }
 
 /// What the words after the program's name ask for: nothing for the names; `policy LEN THREADS`,
 /// `jobs JOBS WORKERS`, `soak PLANS SEED` or `pools JOBS POOLS`; or `CASE LEN THREADS`, with
-/// `iter`, `counted` or `vec`, with `fresh` or with both behind it, in that order, where a case
-/// that goes by no source has none of the first three. There is one thread or worker at least. With
+/// `iter`, `counted` or `vec`, with `fresh` or with both after it, in that order, where a case that
+/// goes by no source has none of the first three. There is one thread or worker at least. With
 /// `once WAY` before a case, `WAY` being `loop`, `sequential`, `rayon`, `policy` or `kit-rayon`,
 /// that way alone is called, once. Any other words ask for nothing.
 pub fn parse_request(words: &[String]) -> Option<Request> {
@@ -71,7 +71,7 @@ pub fn parse_request(words: &[String]) -> Option<Request> {
     }
 }
 
-// What a command asks for with two numbers behind it.
+// What a command asks for with two numbers after it.
 fn parse_pair(name: &str, first: &str, second: &str) -> Option<Request> {
     let pair = Pair {
         first: first.parse().ok()?,
@@ -105,7 +105,7 @@ fn parse_trial(words: &[String], once: Option<Way>) -> Option<Request> {
     (is_known && is_included).then_some(Request::Time(trial))
 }
 
-// The form of the source, and whether answers are kept.
+// The form of the source, and whether results are kept.
 fn parse_options(words: &[String]) -> Option<(Form, bool)> {
     match words {
         [] => Some((Form::Slice, false)),

@@ -74,8 +74,8 @@ struct Random {
 }
 
 impl Random {
-    // A number from 1 to `most`, small ones as often as great ones: the next number without so many
-    // of its last binary digits, 45 to 63 of them.
+    // A number from 1 to `most`, small ones as often as great ones: the next number without that
+    // many of its last binary digits, 45 to 63 of them.
     fn up_to(&mut self, most: usize) -> NonZeroUsize {
         let dropped = 45 + self.next() % 19;
         let number = (self.next() >> dropped) as usize;
@@ -102,8 +102,8 @@ pub struct Driven {
     counts: Counts,
 }
 
-/// Makes so many plans one after the other, the first one's numbers from a seed, empties each, and
-/// prints what was counted.
+/// Makes that many plans one after the other, the first one's numbers from a seed, empties each,
+/// and prints what was counted.
 ///
 /// # Errors
 ///
@@ -162,7 +162,7 @@ fn is_whole(coin: bool, len: usize, tile_cost: NonZeroUsize) -> bool
     coin || len / 2 < tile_cost.get()
 }
 
-// Drives each seat in a thread of its own, and answers the words that are left, all claims, and
+// Drives each seat in a thread of its own, and returns the words that are left, all claims, and
 // what was counted.
 fn empty<Rt: Threads + Wait + Sync>(
     rt: &Rt,

@@ -33,8 +33,8 @@ pub struct Tiling {
 }
 
 impl Tiling {
-    /// The layout of a list of so many items. Rows that are to be kept whole have a tile cost of as
-    /// many cells as they have, so that no number of workers cuts them.
+    /// The layout of a list of that many items. Rows that are to be kept whole have a tile cost of
+    /// as many cells as they have, so that no number of workers cuts them.
     pub fn of(rows: Rows, cost: Cost, items: usize) -> Tiling {
         let number = match rows {
             Rows::Whole => MANY_ROWS,
@@ -78,7 +78,7 @@ impl Tiling {
     }
 }
 
-// The sum of what so many rounds make of each cell.
+// The sum of what `rounds` rounds make of each cell.
 #[inline(never)]
 fn sum_mixed(cells: &[u64], rounds: u64) -> u64 {
     let mut total = 0u64;

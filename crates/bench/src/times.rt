@@ -28,7 +28,7 @@ pub struct Decimal {
 }
 
 impl Decimal {
-    /// So many nanoseconds in microseconds.
+    /// The nanoseconds in microseconds.
     pub fn microseconds(nanoseconds: u64) -> Decimal {
         Decimal {
             thousandths: u128::from(nanoseconds),

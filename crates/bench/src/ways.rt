@@ -1,4 +1,4 @@
-//! The ways in which a case is run, and what it answers.
+//! The ways in which a case is run, and what it returns.
 use std::alloc::{AllocError, Global};
 
 /// A way in which a case is run.
@@ -75,6 +75,10 @@ pub enum Items<'a> {
 
 impl<'a> Items<'a> {
     /// The items, copied where the call takes its list.
+    ///
+    /// # Errors
+    ///
+    /// `AllocError` if an allocation fails.
     pub fn of(alloc: Global, form: Form, items: &'a [u64]) -> Result<Self, AllocError> {
         match form {
             Form::Slice => Ok(Items::Slice(items)),
@@ -95,7 +99,7 @@ impl<'a> Items<'a> {
     }
 }
 
-/// What a case answers.
+/// What a case returns.
 #[derive(Drop)]
 pub enum Answer {
     Numbers(Vec<u64>),
@@ -105,7 +109,7 @@ pub enum Answer {
 }
 
 impl Answer {
-    /// A number by which two answers are told apart.
+    /// A number by which two results are told apart.
     pub fn checksum(&self) -> u64 {
         match self {
             Answer::Numbers(numbers) => checksum_of(numbers.as_slice()),

@@ -34,7 +34,7 @@ pub fn rising(item: u64) -> u64 {
     mixed(item, item)
 }
 
-/// What so many rounds make of an item. Each needs the number that the last one made.
+/// What `rounds` rounds make of an item. Each needs the number that the last one made.
 pub fn mixed(item: u64, rounds: u64) -> u64 {
     let mut state = item;
     for _ in 0..rounds {
@@ -125,6 +125,10 @@ pub fn combined_heavily(left: u64, right: u64) -> u64 {
 
 /// The items that a case is timed over, `len` of them: the numbers from 0 on where the work is to
 /// rise, and a shuffled list elsewhere, with the item that fails at a tenth of it where one is to.
+///
+/// # Errors
+///
+/// `AllocError` if an allocation fails.
 pub fn items_of(alloc: Global, case: Case, len: usize) -> Result<Vec<u64>, AllocError> {
     let factor = if case.is_rising() { 1 } else { FACTOR };
     let mut items = Vec::with_capacity(alloc, len)?;

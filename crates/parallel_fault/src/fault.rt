@@ -1,4 +1,4 @@
-//! Why a call could not be carried out, and why a call whose closures may fail has no answer.
+//! Why a call could not be carried out, and why a call whose closures may fail has no result.
 ghost use Rattle.std.specs.Prelude.{◌≡◌};
 ghost use Rattle.parallel_fault.specs.declared.fault.Fault.TheVariants.{Memory};
 ghost use Rattle.parallel_fault.specs.declared.fault.Trouble.TheVariants.{Fault as OfFault};
@@ -9,7 +9,7 @@ use thiserror::Error;
 
 /// Why a call could not be carried out, for a reason that is none of its caller's closures.
 ///
-/// Each call that answers one says what it leaves behind. `Memory` and `Worker` come only where a
+/// Each call that returns one says what it leaves behind. `Memory` and `Worker` come only where a
 /// growth or a start was really refused.
 #[derive(Clone, Copy, Debug, PartialEq, Eq, Error)]
 pub enum Fault {
@@ -24,11 +24,11 @@ pub enum Fault {
     HandOff,
 }
 
-/// What a call answers whose closures may fail by an error of their own.
+/// What a call returns whose closures may fail by an error of their own.
 #[derive(Debug, PartialEq, Eq, Drop, Error)]
 #[error_bound(E: Display)]
 pub enum Trouble<E> {
-    /// The error that a closure of the caller's answered.
+    /// The error that a closure of the caller's returned.
     #[error("{0}")]
     Closure(E),
     /// A refusal of the call itself.

@@ -1,4 +1,4 @@
-//! The refusals that the other crates answer.
+//! The refusals that the other crates return.
 #![tactic(auto)]
 
 pub mod fault;

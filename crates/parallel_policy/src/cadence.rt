@@ -48,10 +48,10 @@ impl Cadence {
 
     /// Chooses between two paths, and says whether the run is to be measured.
     ///
-    /// The times are nanoseconds. Every so many choices, the more the slower the loser is, the
-    /// loser runs, measured, where `probe_allowed`, and the count begins anew; where it isn't, the
-    /// preferred path is measured in its place. In between the preferred path runs, and each tenth
-    /// is measured (`arbitrated`, `count_after`).
+    /// The times are nanoseconds. After a number of choices, which is the greater the slower the
+    /// loser is, the loser runs, measured, where `probe_allowed`, and the count begins anew; where
+    /// it isn't, the preferred path is measured in its place. In between the preferred path runs,
+    /// and each tenth is measured (`arbitrated`, `count_after`).
     pub fn arbitrate<P: Copy>(
         &mut self,
         preferred: P,

@@ -10,7 +10,7 @@ use std::sync::Wait;
 
 /// Chooses how a run is to go, by a key, and learns how long it took.
 ///
-/// `chooses` says what a choice answers and leaves, `records` what a record leaves, and `refused`
+/// `chooses` says what a choice returns and leaves, `records` what a record leaves, and `refused`
 /// what a choice leaves that was refused memory. The right to wait is for those that take a lock.
 pub trait Choices<Q> {
     ghost chooses: { Self → Q → ℕ → RunExecution × Bool → Self → Type 0 };
@@ -35,7 +35,7 @@ pub trait Choices<Q> {
         ensures fault { IsMemoryOnErr result }
         ensures refused { OnErr result (refused self.old key self.new) };
 
-    /// Records that a run of that kind took so many nanoseconds.
+    /// Records that a run of that kind took that many nanoseconds.
     fn record<Rt: Wait>(&mut self, rt: &Rt, key: Q, execution: RunExecution, nanoseconds: u64)
         ensures { records self.old key execution nanoseconds self.new };
 }
@@ -79,7 +79,7 @@ pub fn ask<Rt: Wait, Q: Copy, C: Choices<Q>, N: FnMut() -> u64>(
 /// reading of the clock now less the one in the ticket, and 0 where the clock went back. Else
 /// nothing is read and nothing is recorded.
 ///
-/// For a run that answered. Of one that failed nothing is told: its ticket is dropped.
+/// For a run that returned `Ok`. Of one that failed nothing is told: its ticket is dropped.
 pub fn tell<Rt: Wait, Q: Copy, C: Choices<Q>, N: FnMut() -> u64>(
     rt: &Rt,
     choices: &mut C,
@@ -98,7 +98,7 @@ pub fn tell<Rt: Wait, Q: Copy, C: Choices<Q>, N: FnMut() -> u64>(
 }
 
 /// Runs `body` as `choices` chooses for `key`, and records how long it took where it was to be
-/// measured and answered `Ok`.
+/// measured and returned `Ok`.
 ///
 /// Planned for one thread the body runs serially and the choices stay as they are. The time is the
 /// reading of the clock `now` after the body less the reading before it, and 0 where the clock went

@@ -39,7 +39,7 @@ impl<R: time::Clock + Drop> MonotonicClock<R> {
 
 impl<R: time::Clock + Clone + Send + Sync + Debug + 'static> Clock for MonotonicClock<R> {
     /// The nanoseconds since the clock was made, and 0 where the runtime's clock can't be read or
-    /// went back behind the start.
+    /// went back after the start.
     fn now(&self) -> u64 {
         match self.start.elapsed(&self.runtime) {
             Ok(elapsed) => nanoseconds(elapsed),

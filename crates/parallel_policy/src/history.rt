@@ -6,7 +6,7 @@ use crate::execution::RunExecution;
 pub enum RunEvent {
     /// A choice for that many threads.
     Chosen(usize),
-    /// A run of that kind took so many nanoseconds.
+    /// A run of that kind took that many nanoseconds.
     Sampled(RunExecution, u64),
 }
 
@@ -26,6 +26,6 @@ pub enum SpawnSample {
 pub enum SpawnEvent {
     /// A choice by that budget for inline runs, in nanoseconds.
     Chosen(u64),
-    /// A sample of so many nanoseconds.
+    /// A sample of that many nanoseconds.
     Sampled(SpawnSample, u64),
 }

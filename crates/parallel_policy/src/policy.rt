@@ -15,7 +15,7 @@ use parallel_fault::{Fault, Trouble};
 use std::alloc::Global;
 use std::sync::{Arc, Mutex, Wait};
 
-/// Up to so many nanoseconds a spawned job may keep its caller.
+/// For up to this many nanoseconds a spawned job may keep its caller.
 pub const INLINE_BUDGET: u64 = 1_000_000;
 
 /// Learns, by key, whether a parallel run pays, and whether a job is worth a hand-off.
@@ -43,7 +43,7 @@ impl Policy {
 
     /// Runs `body` as this policy chooses for a call at `site` over `len` items that stand for
     /// `work`, planned for `parallelism` threads, and records how long it took where it was to be
-    /// measured and answered `Ok` (`decide`). No lock is held while the body runs.
+    /// measured and returned `Ok` (`decide`). No lock is held while the body runs.
     ///
     /// # Errors
     ///
@@ -115,7 +115,7 @@ impl Policy {
         self.table.lock(rt).choose_run(key, parallelism)
     }
 
-    /// Records that a run of that kind took so many nanoseconds (`Table::record_run`).
+    /// Records that a run of that kind took that many nanoseconds (`Table::record_run`).
     ///
     /// # Errors
     ///
@@ -201,8 +201,8 @@ impl Policy {
 
 /// The choices of a policy: its table, locked for each choice and each record.
 ///
-/// Other threads may change the table in between, so nothing is said of an answer. A record that
-/// was refused memory is left out; a key that was chosen for has its entry.
+/// Other threads may change the table in between, so nothing is said of a result. A record that was
+/// refused memory is left out; a key that was chosen for has its entry.
 #[derive(Drop)]
 pub struct Locked<'a> {
     table: &'a Mutex<Table>,

@@ -1,4 +1,4 @@
-//! What an entry answers, reckoned from its whole history: plain, slow, and without an entry.
+//! What an entry returns, reckoned from its whole history: plain, slow, and without an entry.
 ghost use Rattle.std.specs.Prelude.{◌≡◌, Some, ◌<◌, ◌≤◌};
 ghost use Rattle.parallel_policy.specs.declared.execution.RunExecution.{RunExecution};
 ghost use Rattle.parallel_policy.specs.declared.history.SpawnSample.{SpawnSample};
@@ -41,7 +41,7 @@ pub fn replay_run_estimate(path: RunExecution, history: &[RunEvent]) -> Option<u
 }
 
 /// How a run planned for `parallelism` threads is to go after a history, the latest event first,
-/// and whether it is to be measured: the answer of an entry that holds the history.
+/// and whether it is to be measured: the result of an entry that holds the history.
 ///
 /// It goes over the whole history, and so takes time like its length.
 pub fn replay_run(history: &[RunEvent], parallelism: usize) -> (RunExecution, bool)
@@ -82,7 +82,7 @@ fn after_runs(history: &[RunEvent]) -> Runs
     }
 }
 
-// The answer by the two estimates and the count, and the count after it.
+// The result by the two estimates and the count, and the count after it.
 fn decided_run(after: &Runs, parallelism: usize) -> ((RunExecution, bool), u64)
     requires { after.now.count < 4294967296 }
     ensures answer { result.0 ≡ run_answer after.now.parallel after.now.serial after.now.count
@@ -128,7 +128,7 @@ fn decided_run(after: &Runs, parallelism: usize) -> ((RunExecution, bool), u64)
     }
 }
 
-// The answer of a contest of two paths, and the count after it.
+// The result of a contest of two paths, and the count after it.
 fn contest<P: Copy>(
     preferred: P,
     loser: P,
@@ -192,7 +192,7 @@ pub fn replay_spawn_estimate(kind: SpawnSample, history: &[SpawnEvent]) -> Optio
 }
 
 /// Where a job is to run after a history, the latest event first, and whether it is to be measured:
-/// the answer of an entry that holds the history.
+/// the result of an entry that holds the history.
 ///
 /// It goes over the whole history, and so takes time like its length.
 pub fn replay_spawn(history: &[SpawnEvent], budget: u64) -> (SpawnExecution, bool)
@@ -239,7 +239,7 @@ fn after_spawns(history: &[SpawnEvent]) -> Spawns
     }
 }
 
-// The answer by the three estimates and the count, and the count after it.
+// The result by the three estimates and the count, and the count after it.
 fn decided_spawn(after: &Spawns, budget: u64) -> ((SpawnExecution, bool), u64)
     requires { after.now.count < 4294967296 }
     ensures answer { result.0 ≡ spawn_answer after.now.overhead after.now.job after.now.inline

@@ -16,7 +16,7 @@ const SERIAL_SAMPLE_BUDGET: u64 = 10_000_000;
 /// What a policy keeps for one key of runs: how long a serial and a parallel run take, and how many
 /// choices there were since the last probe.
 ///
-/// Its answers are those of its history, the list of choices and samples since it was a default
+/// Its results are those of its history, the list of choices and samples since it was a default
 /// entry (`run_choice`), of which it keeps the two estimates and the count (`HoldsRun`). A contract
 /// sees it as those three (`RunState`).
 #[derive(Clone, Copy, Debug, PartialEq, Eq)]
@@ -110,7 +110,7 @@ impl RunEntry {
         }
     }
 
-    /// Records that a run of that kind took so many nanoseconds.
+    /// Records that a run of that kind took that many nanoseconds.
     pub fn record(&mut self, execution: RunExecution, nanoseconds: u64)
         ensures holds { (history : RunHistory) → HoldsRun self.old history
             → HoldsRun self.new (RunEvent.Sampled execution nanoseconds ∷ history) }

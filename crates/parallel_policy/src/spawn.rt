@@ -15,7 +15,7 @@ use std::marker::Model;
 /// how much longer a handed-off job takes than the job itself, and how many choices there were
 /// since the last probe.
 ///
-/// Its answers are those of its history, the list of choices and samples since it was a default
+/// Its results are those of its history, the list of choices and samples since it was a default
 /// entry (`spawn_choice`), of which it keeps the three estimates and the count (`HoldsSpawn`). A
 /// contract sees it as those four (`SpawnState`).
 #[derive(Clone, Copy, Debug, PartialEq, Eq)]

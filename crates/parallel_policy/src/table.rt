@@ -83,7 +83,7 @@ impl Table {
         change_entry(&mut self.runs, key, |entry| entry.choose(parallelism))
     }
 
-    /// Records that a run of that kind took so many nanoseconds (`RunEntry::record`).
+    /// Records that a run of that kind took that many nanoseconds (`RunEntry::record`).
     ///
     /// # Errors
     ///

@@ -43,7 +43,11 @@ pub struct Sleep {
 }
 
 impl Sleep {
-    /// The sleep of so many workers, who all have work, and a parker for each of them, in order.
+    /// The sleep of that many workers, who all have work, and a parker for each of them, in order.
+    ///
+    /// # Errors
+    ///
+    /// `Fault::Memory` if an allocation fails.
     pub fn new(alloc: Global, workers: NonZeroUsize) -> Result<(Sleep, Vec<Parker>), Fault>
         requires { non_zero_usize_get workers ≤ MAX_THREADS }
         ensures count { IfOk result (λ made. vec_len made.1 ≡ non_zero_usize_get workers) }
@@ -71,7 +75,7 @@ impl Sleep {
         self.state.lock(rt).counters()
     }
 
-    /// A worker that had work looks for more. There is no answer where there is no such worker, or
+    /// A worker that had work looks for more. There is no result where there is no such worker, or
     /// it looks or sleeps already.
     pub fn start_looking<R: Wait>(&self, rt: &R, worker_index: usize) -> Option<IdleState>
         ensures worker { IfSome result (λ idle. worker_of idle ≡ worker_index) }

@@ -12,8 +12,11 @@ use std::ops::Range;
 /// Cuts the indices from 0 up to `len` into `count` ranges, in order and without a gap.
 ///
 /// The lengths of the ranges differ by at most one, and the longer ones come first, as
-/// `BalancedCut` says. Where `count` is above `len` the last ranges are empty. The one refusal is
-/// `Fault::Memory`, where the list could not be reserved.
+/// `BalancedCut` says. Where `count` is above `len` the last ranges are empty.
+///
+/// # Errors
+///
+/// `Fault::Memory` where the list could not be reserved.
 pub fn cut(alloc: Global, len: usize, count: NonZeroUsize) -> Result<Vec<Range<usize>>, Fault>
     ensures balanced { IfOk result (λ ranges. BalancedCut len ranges.items) }
     ensures count { IfOk result (λ ranges. vec_len ranges ≡ non_zero_usize_get count) }

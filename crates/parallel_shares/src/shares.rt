@@ -57,12 +57,15 @@ impl Shares {
     ghost use Rattle.parallel_shares.specs.Seats.{MeetsFront, IsPartition, AllDone, AllEmpty, EachCellOnce};
 
     /// Shares out `rows` rows of `len` cells each, where a tile costs `tile_cost` cells and there
-    /// are at most `workers` workers, and answers a seat for each worker, in order.
+    /// are at most `workers` workers, and returns a seat for each worker, in order.
     ///
     /// The numbers are those of `Plan::new`, which asks for the same. Whole rows have one word for
     /// all seats. Where rows are cut there is a word a seat, and the words are a balanced cut of
-    /// the units. The seats have claimed nothing and have nothing in transit. The one refusal is
-    /// `Fault::Memory`.
+    /// the units. The seats have claimed nothing and have nothing in transit.
+    ///
+    /// # Errors
+    ///
+    /// `Fault::Memory` if an allocation fails.
     pub fn new(
         alloc: Global,
         rows: usize,
@@ -157,7 +160,7 @@ impl Shares {
     /// Tries once to claim the front of the share that the seat claims from: one load of its word,
     /// and at most one exchange.
     ///
-    /// `TriesClaim` says what the answer tells of the word that was loaded. `Claimed` has the cells
+    /// `TriesClaim` says what the result tells of the word that was loaded. `Claimed` has the cells
     /// that the seat's claims gained, and the exchange met the word that was loaded. `Lost` comes
     /// only where it met another word. `Empty` comes only where the loaded word was empty, and the
     /// seat's `own_empty` holds from then on. No other share is loaded (`OthersStay`), so none was
@@ -184,7 +187,7 @@ impl Shares {
         }
     }
 
-    /// Ends the shares with all of their seats, and answers the words that are left.
+    /// Ends the shares with all of their seats, and returns the words that are left.
     ///
     /// `IsPartition` says that each cell is once in a unit of a word, in transit or in a claim.
     /// Where each seat has seen its own word empty and has nothing in transit, every word is empty,
@@ -244,7 +247,7 @@ impl Shares {
         word
     }
 
-    // Tries to exchange the word that was loaded for what a claim leaves of it, and answers the
+    // Tries to exchange the word that was loaded for what a claim leaves of it, and returns the
     // word that was met.
     fn take_front(&self, seat: &mut Seat, word: u64, next: u64) -> u64
         requires seat { IsSeatOf self.now seat.old }

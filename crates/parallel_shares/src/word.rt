@@ -38,7 +38,7 @@ pub(crate) fn is_empty(word: u64) -> bool
     start == end
 }
 
-/// The first units of a word, at most so many, and the word of those behind them.
+/// The first units of a word, at most that many, and the word of those after them.
 pub(crate) fn front(word: u64, most: usize) -> (Range<usize>, u64)
     requires fits { word ≤ 4294967295 }
     requires in_order { start_of word ≤ end_of word }

@@ -28,7 +28,11 @@ pub struct Drained {
 ///
 /// Each worker is a scoped thread with a seat of its own, where threads can be made. That each row
 /// was claimed just once is proved of the lists that the workers give back, before they are put in
-/// order. The one refusal is `Fault::Memory`, where a list could not grow.
+/// order.
+///
+/// # Errors
+///
+/// `Fault::Memory` where a list could not grow.
 pub fn drained_rows<R: Threads + Wait + Sync>(
     rt: &R,
     alloc: Global,
@@ -52,7 +56,11 @@ pub fn drained_rows<R: Threads + Wait + Sync>(
 /// has found its word empty. The caller starts these threads one after another.
 ///
 /// The seats come back in their order, each with the list of all that it claimed, as `AreDrained`
-/// says. The one refusal is `Fault::Memory`: a list could not grow, and the seats are gone.
+/// says.
+///
+/// # Errors
+///
+/// `Fault::Memory`: a list could not grow, and the seats are gone.
 pub fn drain<R: Threads + Wait + Sync>(
     rt: &R,
     alloc: Global,
@@ -81,8 +89,11 @@ pub fn drain<R: Threads + Wait + Sync>(
 /// cells of the lists.
 ///
 /// No unit is left in any word, and each cell of the grid is in the lists just once: that no cell
-/// is left out or twice there is proved of the lists themselves. The one refusal is
-/// `Fault::Memory`.
+/// is left out or twice there is proved of the lists themselves.
+///
+/// # Errors
+///
+/// `Fault::Memory` if an allocation fails.
 pub fn gather(
     alloc: Global,
     shares: Shares,

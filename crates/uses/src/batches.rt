@@ -15,6 +15,10 @@ use std::sync::Wait;
 
 /// The ranges that the strategy runs a batch of `len` indices over, where no range of several is
 /// to be shorter than `minimum`.
+///
+/// # Errors
+///
+/// `Fault::Memory` if an allocation fails.
 pub fn batch_ranges<Rt: Wait, P: Place, S: Strategy>(
     rt: &Rt,
     alloc: Global,
@@ -37,6 +41,10 @@ pub fn batch_ranges<Rt: Wait, P: Place, S: Strategy>(
 
 /// How many of the flags are set, counted range by range. The closure is asked for balanced ranges
 /// of the list's indices alone, so each of them may be cut out of the list.
+///
+/// # Errors
+///
+/// `Fault::Memory` if an allocation fails.
 pub fn count_by_ranges<Rt: Wait, P: Place, S: Strategy>(
     rt: &Rt,
     alloc: Global,

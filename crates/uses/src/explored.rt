@@ -1,4 +1,4 @@
-//! A closure whose answer the shape of a run doesn't change, and one whose answer it does, told
+//! A closure whose result the shape of a run doesn't change, and one whose result it does, told
 //! apart by a search through the rules.
 ghost use Rattle.std.specs.Prelude.{◌≡◌, IfOk};
 ghost use Rattle.parallel_fault.specs.Trouble.{IsMemoryOnErr};
@@ -19,6 +19,10 @@ const SITE: Site = Site {
 
 /// What a search says of the sum of the numbers below 100 from 0 on: nothing is added to a segment
 /// by where it begins, so every run that isn't refused has the list's own sum.
+///
+/// # Errors
+///
+/// `Fault::Memory` if an allocation fails.
 pub fn explore_from_zero<Rt: Threads + Wait + Sync>(
     rt: &Rt,
     alloc: Global,
@@ -35,6 +39,10 @@ pub fn explore_from_zero<Rt: Threads + Wait + Sync>(
 
 /// What a search says of that sum from 10 on: each segment begins from 10, so the parallel run has
 /// a greater sum than the serial one, and `ExploreError::Differs` tells of it.
+///
+/// # Errors
+///
+/// `Fault::Memory` if an allocation fails.
 pub fn explore_from_ten<Rt: Threads + Wait + Sync>(
     rt: &Rt,
     alloc: Global,
@@ -49,7 +57,7 @@ pub fn explore_from_ten<Rt: Threads + Wait + Sync>(
     explore_unequal(rt, alloc, run)
 }
 
-// The search's answer where each run's sum is 4950.
+// The search's result where each run's sum is 4950.
 fn explore_equal<Rt: Threads, F: FnMut(&Explorer) -> Result<usize, Fault>>(
     rt: &Rt,
     alloc: Global,
@@ -66,7 +74,7 @@ fn explore_equal<Rt: Threads, F: FnMut(&Explorer) -> Result<usize, Fault>>(
     explore(rt, alloc, run)
 }
 
-// The search's answer where the serial run's sum is 4960.
+// The search's result where the serial run's sum is 4960.
 fn explore_unequal<Rt: Threads, F: FnMut(&Explorer) -> Result<usize, Fault>>(
     rt: &Rt,
     alloc: Global,

@@ -13,6 +13,10 @@ use std::sync::Wait;
 use std::thread::Threads;
 
 /// The sum of the numbers' squares, which wraps around at 2 to the power of 32.
+///
+/// # Errors
+///
+/// `Fault::Memory` if an allocation fails.
 pub fn sum_of_squares<Rt: Threads + Wait + Sync, P: Place, S: Strategy>(
     rt: &Rt,
     alloc: Global,
@@ -37,6 +41,10 @@ pub fn sum_of_squares<Rt: Threads + Wait + Sync, P: Place, S: Strategy>(
 /// The entries of a table at the places, added up; the sum wraps around at 2 to the power of 64.
 /// The step is asked for the places alone, each of which the table has, so it looks into the table
 /// with no test.
+///
+/// # Errors
+///
+/// `Fault::Memory` if an allocation fails.
 pub fn sum_of_entries<Rt: Threads + Wait + Sync, P: Place, S: Strategy>(
     rt: &Rt,
     alloc: Global,
@@ -67,6 +75,10 @@ pub fn sum_of_entries<Rt: Threads + Wait + Sync, P: Place, S: Strategy>(
 
 /// A fold through any strategy, which is the plain fold from the left wherever its closures keep
 /// the laws that `FoldLaws` names.
+///
+/// # Errors
+///
+/// `Fault::Memory` if an allocation fails.
 pub fn plain_fold<
     Rt: Threads + Wait + Sync,
     P: Place,

@@ -1,4 +1,4 @@
-//! A strategy of a user's own, and what calls through it are known to answer.
+//! A strategy of a user's own, and what calls through it are known to return.
 ghost use Rattle.std.specs.Prelude.{◌≡◌, ◌*◌, ◌<◌, ◌≤◌, false, true, length, map, IfOk};
 ghost use Rattle.std.specs.Int.NonZero.{non_zero_usize_get};
 ghost use Rattle.parallel_fault.specs.Trouble.{IsMemoryOnErr};
@@ -99,8 +99,12 @@ impl Chooser for LongLists {
     }
 }
 
-/// The squares of the numbers in their order, through a caller that was written for any strategy:
-/// a map's answers are no business of the strategy.
+/// The squares of the numbers in their order, through a caller that was written for any strategy: a
+/// map's results are no business of the strategy.
+///
+/// # Errors
+///
+/// `Fault::Memory` if an allocation fails.
 pub fn squares_by_length<Rt: Threads + Wait + Sync, P: Place>(
     rt: &Rt,
     alloc: Global,
@@ -117,6 +121,10 @@ pub fn squares_by_length<Rt: Threads + Wait + Sync, P: Place>(
 /// A fold that goes in one segment where the list is short, and along the list's shape for the
 /// thread number exactly where it is long. Both come from the trait's clause on folds and from what
 /// `LongLists` says that it takes.
+///
+/// # Errors
+///
+/// `Fault::Memory` if an allocation fails.
 pub fn fold_by_length<
     Rt: Threads + Wait + Sync,
     P: Place,

@@ -10,6 +10,10 @@ use std::sync::Wait;
 use std::thread::Threads;
 
 /// The squares of the numbers, which the closure borrows.
+///
+/// # Errors
+///
+/// `Fault::Memory` if an allocation fails.
 pub fn borrowed_squares<Rt: Threads + Wait + Sync, P: Place, S: Strategy>(
     rt: &Rt,
     alloc: Global,
@@ -27,6 +31,10 @@ pub fn borrowed_squares<Rt: Threads + Wait + Sync, P: Place, S: Strategy>(
 
 /// The squares of the numbers below `count`, from 0 up, each of which wraps around at 2 to the
 /// power of 64.
+///
+/// # Errors
+///
+/// `Fault::Memory` if an allocation fails.
 pub fn first_squares<Rt: Threads + Wait + Sync, P: Place, S: Strategy>(
     rt: &Rt,
     alloc: Global,
@@ -50,6 +58,10 @@ pub fn first_squares<Rt: Threads + Wait + Sync, P: Place, S: Strategy>(
 /// The entries of a table at its first `count` indices, from the table's last entry back. The
 /// closure looks into the table at what its item says, which is in range for each index that may
 /// come.
+///
+/// # Errors
+///
+/// `Fault::Memory` if an allocation fails.
 pub fn last_entries<Rt: Threads + Wait + Sync, P: Place, S: Strategy>(
     rt: &Rt,
     alloc: Global,
@@ -77,6 +89,10 @@ pub fn last_entries<Rt: Threads + Wait + Sync, P: Place, S: Strategy>(
 
 /// The squares of two lists' numbers, of the front's first, over an iterator. An iterator's items
 /// are gathered where the strategy is asked by their number.
+///
+/// # Errors
+///
+/// `Fault::Memory` if an allocation fails.
 pub fn squares_of_both<Rt: Threads + Wait + Sync, P: Place, S: Strategy>(
     rt: &Rt,
     alloc: Global,
@@ -97,6 +113,10 @@ pub fn squares_of_both<Rt: Threads + Wait + Sync, P: Place, S: Strategy>(
 
 /// The doubles of numbers below 2 to the power of 31, in the numbers' order. The closure accepts no
 /// greater number, and a map asks it for the list's own items alone.
+///
+/// # Errors
+///
+/// `Fault::Memory` if an allocation fails.
 pub fn doubles<Rt: Threads + Wait + Sync, P: Place, S: Strategy>(
     rt: &Rt,
     alloc: Global,

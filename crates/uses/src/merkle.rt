@@ -1,10 +1,10 @@
 //! A Merkle tree over byte strings, by SHA-256.
 //!
-//! A leaf is hashed behind the byte 0, an inner node behind the byte 1. What is published of a tree
+//! A leaf is hashed after the byte 0, an inner node after the byte 1. What is published of a tree
 //! is its commitment: the digest of the byte 2, of the number of leaves and of the root. So a root
 //! alone, by which nobody can tell trees of two and of three leaves apart, is never what a proof is
 //! checked against. `commonware_parallel::merkle::root` leaves all of this to its caller: its
-//! `combine` isn't told leaves from nodes, and its answer says nothing of how many leaves there
+//! `combine` isn't told leaves from nodes, and its result says nothing of how many leaves there
 //! were.
 mod build;
 mod collision;

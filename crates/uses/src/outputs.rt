@@ -2,9 +2,9 @@
 //!
 //! `prepare` cuts the list by the batch's ranges, and hands out a `Vec` of its parts. Of the list
 //! afterwards clauses say its length alone: what is known of a map's closure is a relation of an
-//! item and an answer, which has no place for what a `&mut` item is left at, and no word says of a
+//! item and a result, which has no place for what a `&mut` item is left at, and no word says of a
 //! `Vec` of parts that their list is left as they are. So where more is to be proved of the
-//! numbers, let the closure answer them.
+//! numbers, let the closure return them.
 ghost use Rattle.std.specs.Prelude.{◌≡◌, length};
 ghost use Rattle.parallel_fault.specs.Trouble.{IsMemoryOnErr};
 ghost use Rattle.parallel_shares.specs.Cut.{BalancedCut, CutsFrom};
@@ -18,7 +18,7 @@ use std::sync::Wait;
 use std::thread::Threads;
 
 /// Puts each number's square, which wraps around at 2 to the power of 64, in the number's place,
-/// and answers how long the ranges were by which it went.
+/// and returns how long the ranges were by which it went.
 ///
 /// # Errors
 ///
@@ -71,7 +71,7 @@ fn parts_of<'a>(
     Ok(parts)
 }
 
-// Squares each number of a part, and answers how many there are.
+// Squares each number of a part, and returns how many there are.
 fn square_each(part: &mut [u64]) -> usize {
     for number in part.iter_mut() {
         *number = number.wrapping_mul(*number);

@@ -57,7 +57,7 @@ impl<'a, T: Copy + Send + Sync + Drop> Producer for Backwards<'a, T> {
 pub struct Wrapped<'a, T> {
     /// The items that come first.
     pub front: &'a [T],
-    /// The items behind them.
+    /// The items after them.
     pub back: &'a [T],
 }
 
@@ -91,6 +91,10 @@ impl<'a, T: Copy + Send + Sync + Drop> Source<ByWrapping> for Wrapped<'a, T> {
 }
 
 /// The squares of the numbers, from the last number back.
+///
+/// # Errors
+///
+/// `Fault::Memory` if an allocation fails.
 pub fn squares_backwards<Rt: Threads + Wait + Sync, P: Place, S: Strategy>(
     rt: &Rt,
     alloc: Global,
@@ -108,6 +112,10 @@ pub fn squares_backwards<Rt: Threads + Wait + Sync, P: Place, S: Strategy>(
 }
 
 /// The squares of the numbers of a buffer that wraps around.
+///
+/// # Errors
+///
+/// `Fault::Memory` if an allocation fails.
 pub fn squares_of_wrapped<Rt: Threads + Wait + Sync, P: Place, S: Strategy>(
     rt: &Rt,
     alloc: Global,

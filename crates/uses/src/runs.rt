@@ -7,8 +7,12 @@ use commonware_parallel::{Fault, Place, Strategy};
 use std::alloc::Global;
 use std::sync::Wait;
 
-/// One of two values, as the strategy chooses for so many items: the first serially, the second in
-/// parallel.
+/// One of two values, as the strategy chooses for that many items: the first serially, the second
+/// in parallel.
+///
+/// # Errors
+///
+/// What the strategy refuses for this call.
 pub fn one_of<Rt: Wait, P: Place, S: Strategy, R: Drop>(
     rt: &Rt,
     alloc: Global,
@@ -28,6 +32,10 @@ pub fn one_of<Rt: Wait, P: Place, S: Strategy, R: Drop>(
 }
 
 /// How many of the flags are set. Both bodies count them all, so it is the same whichever runs.
+///
+/// # Errors
+///
+/// What the strategy refuses for this call.
 pub fn count_set<Rt: Wait, P: Place, S: Strategy>(
     rt: &Rt,
     alloc: Global,

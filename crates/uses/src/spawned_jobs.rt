@@ -12,7 +12,7 @@ use std::random::RandomSource;
 use std::sync::Wait;
 use std::thread::Threads;
 
-// A refused start, as an error of input and output, which is what a wait answers.
+// A refused start, as an error of input and output, which is what a wait returns.
 fn refused(fault: Fault) -> io::Error {
     match fault {
         Fault::Memory => io::Error::from(AllocError),
@@ -20,11 +20,15 @@ fn refused(fault: Fault) -> io::Error {
     }
 }
 
-/// The answer of a job that is handed over while this thread goes on with `meanwhile`, and waited
+/// The result of a job that is handed over while this thread goes on with `meanwhile`, and waited
 /// for.
 ///
 /// A function that names the type of a spawned closure isn't proved, so what spawns closures is
 /// written over any job, as here, and called with a `Closure`.
+///
+/// # Errors
+///
+/// A refused spawn, as an `io::Error`, or the error of a wait.
 pub fn answer_beside<
     Rt: Threads + Wait + RandomSource + AllocGlobal + Copy + Send + 'static,
     P: Place,
@@ -50,6 +54,10 @@ pub fn answer_beside<
 
 /// How many of the flags are set, which a job counts, and how many of the others, counted
 /// meanwhile.
+///
+/// # Errors
+///
+/// A refused spawn, as an `io::Error`, or the error of a wait.
 pub fn counts_beside<
     Rt: Threads + Wait + RandomSource + AllocGlobal + Copy + Send + 'static,
     P: Place,
@@ -81,6 +89,10 @@ impl<S: Drop> Job<S, usize> for CountSet {
 }
 
 /// How many flags of each list are set: two jobs, awaited in one task.
+///
+/// # Errors
+///
+/// A refused spawn, as an `io::Error`, or the error of a wait.
 pub fn two_counts<
     Rt: Threads + Wait + RandomSource + AllocGlobal + Copy + Send + 'static,
     P: Place,
@@ -95,6 +107,10 @@ pub fn two_counts<
 }
 
 /// A job that counts the flags that are set, begun.
+///
+/// # Errors
+///
+/// A refused spawn, as an `io::Error`.
 pub fn begin_count<Rt: Threads + Wait + AllocGlobal + Copy + Send + 'static, P: Place, S: Strategy>(
     rt: &Rt,
     strategy: &S,
@@ -112,7 +128,7 @@ pub fn begin_count<Rt: Threads + Wait + AllocGlobal + Copy + Send + 'static, P: 
     }
 }
 
-// What two such jobs answer, awaited in one task.
+// What two such jobs return, awaited in one task.
 fn both_counts<Rt: Threads + Wait + RandomSource + AllocGlobal + Drop, S: Strategy>(
     rt: &Rt,
     first: Spawned<Rt, S, CountSet, usize>,

@@ -8,6 +8,10 @@ use std::sync::Wait;
 use std::thread::Threads;
 
 /// The squares of the numbers, in the numbers' order.
+///
+/// # Errors
+///
+/// `Fault::Memory` if an allocation fails.
 pub fn squares<Rt: Threads + Wait + Sync, P: Place, S: Strategy>(
     rt: &Rt,
     alloc: Global,

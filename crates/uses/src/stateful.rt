@@ -16,8 +16,12 @@ use std::sync::Wait;
 use std::thread::Threads;
 
 /// The numbers, with a gap where a number repeats the one before it. Where a part of the list
-/// begins anew a repeated number is written out; the numbers can be told from the answer in any
+/// begins anew a repeated number is written out; the numbers can be told from the result in any
 /// case.
+///
+/// # Errors
+///
+/// `Fault::Memory` if an allocation fails.
 pub fn leave_out_repeats<Rt: Threads + Wait + Sync, P: Place, S: Strategy>(
     rt: &Rt,
     alloc: Global,
@@ -45,6 +49,10 @@ pub fn leave_out_repeats<Rt: Threads + Wait + Sync, P: Place, S: Strategy>(
 
 /// A fold with a state at hand, which is the plain fold from the left wherever its closures keep
 /// the laws that `FoldLaws` names at every state.
+///
+/// # Errors
+///
+/// `Fault::Memory` if an allocation fails.
 pub fn plain_fold_init<
     Rt: Threads + Wait + Sync,
     P: Place,

@@ -11,7 +11,7 @@ use std::alloc::Global;
 use std::sync::Wait;
 use std::thread::Threads;
 
-/// Checks each item, as a batch verifier does, and answers the index of the first one that fails.
+/// Checks each item, as a batch verifier does, and returns the index of the first one that fails.
 ///
 /// # Errors
 ///
@@ -86,7 +86,7 @@ fn judge_all<
     strategy.try_map_collect_vec(rt, alloc, site, indices, verdict)
 }
 
-/// Checks messages against the digests by SHA-256 that they are given with, and answers the index
+/// Checks messages against the digests by SHA-256 that they are given with, and returns the index
 /// of the first message of which the digest is another (`IsFirstMismatch`).
 ///
 /// It finds damage, not forgery: whoever changes a message can give it the changed message's

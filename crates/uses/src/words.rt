@@ -9,6 +9,10 @@ use std::sync::Wait;
 use std::thread::Threads;
 
 /// The first of the longest words, and none where there is no word.
+///
+/// # Errors
+///
+/// `Fault::Memory` if an allocation fails.
 pub fn longest_word<'a, Rt: Threads + Wait + Sync, P: Place, S: Strategy>(
     rt: &Rt,
     alloc: Global,

@@ -41,6 +41,10 @@ impl CoreLatch {
     ghost use Rattle.parallel_pool.specs.declared.latch.history.Act.TheVariants.{GetSleepy, FallAsleep, WakeUp, Set, Probe};
 
     /// A latch that isn't set, and its seats, of which each has seen nothing yet.
+    ///
+    /// # Errors
+    ///
+    /// `Fault::Memory` if an allocation fails.
     pub fn new(alloc: Global, seats: NonZeroUsize) -> Result<(CoreLatch, Vec<LatchSeat>), Fault>
         ensures count { IfOk result (λ made. vec_len made.1 ≡ non_zero_usize_get seats) }
         ensures seats { IfOk result (λ made. All (IsLatchSeatOf made.0) made.1.items) }

@@ -34,6 +34,10 @@ impl CountLatch {
     ghost use Rattle.parallel_pool.specs.CountLatch.{IsShareOf, share_count, knows, unspent, gives_seen};
 
     /// A latch of `count` shares, and the shares, of which each has seen no give yet.
+    ///
+    /// # Errors
+    ///
+    /// `Fault::Memory` if an allocation fails.
     pub fn with_count(
         alloc: Global,
         count: NonZeroUsize,
@@ -123,7 +127,7 @@ impl CountLatch {
         self.table.shared.load::<Learning>(&mut share.seat, 0);
     }
 
-    /// Waits until all shares were given. The answer is a spent share that has seen them all.
+    /// Waits until all shares were given. The result is a spent share that has seen them all.
     pub fn wait<R: Wait>(&self, rt: &R) -> CountShare
         ensures all { length (gives_seen result) ≡ share_count self.now }
         ensures once { (by : ℕ) → times_given by (gives_seen result) ≤ 1 }

@@ -31,6 +31,10 @@ impl<K> WorkerLatch<K> {
 
     /// A latch that isn't set, for the worker of this index, and its seats, of which each has seen
     /// nothing yet.
+    ///
+    /// # Errors
+    ///
+    /// `Fault::Memory` if an allocation fails.
     pub fn new(
         alloc: Global,
         seats: NonZeroUsize,
@@ -58,7 +62,7 @@ impl<K> WorkerLatch<K> {
         &self.core_latch
     }
 
-    /// Sets the latch, for good, and answers the index of the worker to wake, which is there
+    /// Sets the latch, for good, and returns the index of the worker to wake, which is there
     /// exactly where that worker was asleep.
     pub fn set(&self, seat: &mut LatchSeat) -> Option<usize>
         requires { IsLatchSeatOf (core_of self.now) seat.old }

@@ -40,6 +40,10 @@ impl Names {
     }
 
     /// The name of the worker of an index.
+    ///
+    /// # Errors
+    ///
+    /// `AllocError` if an allocation fails.
     pub(crate) fn name_of(&mut self, index: usize) -> Result<String, AllocError> {
         (self.call)(index)
     }

@@ -15,14 +15,14 @@ use std::thread::{Threads, join_mut};
 // The most places that go by threads started in a row, each of which takes a place on the stack.
 const ROW: usize = 64;
 
-/// An item that waits for its call, and what the call has answered.
+/// An item that waits for its call, and what the call has returned.
 #[derive(Drop)]
 pub(crate) struct Place<X: Drop, T: Drop> {
     pub(crate) item: Option<X>,
     pub(crate) answer: Option<T>,
 }
 
-/// Calls `op` with each of the items, all at the same time, and lists the answers in the order of
+/// Calls `op` with each of the items, all at the same time, and lists the results in the order of
 /// the items.
 ///
 /// Each call but one has a thread of its own, where one can be made; the others run on the caller's
@@ -65,7 +65,7 @@ fn waiting<X: Drop, T: Drop>(alloc: Global, items: Vec<X>) -> Result<Vec<Place<X
     Ok(places)
 }
 
-// The answers in the places, behind those of the list, which has room for them.
+// The results in the places, after those of the list, which has room for them.
 fn answers_of<X: Drop, T: Drop>(
     places: Vec<Place<X, T>>,
     mut answers: Vec<T>,
@@ -90,7 +90,7 @@ fn add_answer<X: Drop, T: Drop>(answers: &mut Vec<T>, place: Place<X, T>) -> Res
     Ok(())
 }
 
-// The items that wait in the places are answered there, all at the same time.
+// The items that wait in the places get their results there, all at the same time.
 fn answer_all<R: Threads + Sync, X: Send + Drop, T: Send + Drop, F: Fn(X) -> T + Sync>(
     rt: &R,
     op: &F,
@@ -186,7 +186,7 @@ fn at_one<T, F: Fn(usize, &mut T)>(f: &F, index: usize, place: &mut T)
     f(index, place);
 }
 
-// The item that waits in the place, if one does, is answered there.
+// The item that waits in the place, if one does, gets its result there.
 fn answer<X: Drop, T: Drop, F: Fn(X) -> T>(op: &F, place: &mut Place<X, T>)
     requires { AcceptsPlace F.Fn op.now place.old }
     ensures { AnswersPlace F.Fn op.now place.old place.new }

@@ -40,7 +40,11 @@ impl<T: Drop> InletPort<T> {
         InletPort { queue, pass }
     }
 
-    /// Pushes a job behind the others. An Err hands it back where there is no memory for it.
+    /// Pushes a job after the others.
+    ///
+    /// # Errors
+    ///
+    /// The job itself, if there is no memory for it.
     pub(crate) fn push<R: Wait>(&mut self, rt: &R, job: T) -> Result<(), T>
         ensures { MatchResult result (λ _. HasPushed self.old job self.new)
             (λ back. (back ≡ job) × (self.new ≡ self.old)) }

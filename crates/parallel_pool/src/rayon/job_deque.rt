@@ -33,6 +33,10 @@ impl<T: Drop> JobDeque<T> {
     ghost use Rattle.parallel_pool.specs.declared.rayon.job_history.Deed.TheVariants.{TakeLast};
 
     /// A deque to which nothing was pushed yet, with room for 32 jobs before it has to grow.
+    ///
+    /// # Errors
+    ///
+    /// `AllocError` if an allocation fails.
     pub(crate) fn new(alloc: Global) -> Result<JobDeque<T>, AllocError>
         ensures { IfOk result (λ deque. deque ≡ new_pass) }
     {
@@ -41,11 +45,19 @@ impl<T: Drop> JobDeque<T> {
     }
 
     /// What takes jobs at the front of the deque.
+    ///
+    /// # Errors
+    ///
+    /// `AllocError` if an allocation fails.
     pub(crate) fn thief(&self) -> Result<Thief<T>, AllocError> {
         self.own.stealer()
     }
 
-    /// Pushes a job behind the others. An Err hands it back where there is no memory for it.
+    /// Pushes a job after the others.
+    ///
+    /// # Errors
+    ///
+    /// The job itself, if there is no memory for it.
     pub fn push(&mut self, job: T) -> Result<(), T>
         ensures { MatchResult result (λ _. HasPushed self.old job self.new)
             (λ back. (back ≡ job) × (self.new ≡ self.old)) }

@@ -9,7 +9,7 @@ use std::marker::PhantomData;
 /// What is done to a queue of jobs.
 #[derive(Clone, Copy, Debug)]
 pub enum Deed {
-    /// A job is pushed behind the others.
+    /// A job is pushed after the others.
     Push,
     /// The first job is taken.
     TakeFirst,

@@ -33,7 +33,7 @@ fn open_inlet<T: Drop>(alloc: Global) -> Result<Arc<Inlet<T>, Global>, Fault>
     Ok(Arc::new(alloc, queue)?)
 }
 
-// So many empty queues.
+// `count` empty queues.
 fn open_inlets<T: Drop>(alloc: Global, count: usize) -> Result<Vec<Arc<Inlet<T>, Global>>, Fault>
     ensures count { IfOk result (λ made. vec_len made ≡ count) }
     ensures fault { IsMemoryOnErr result }
@@ -45,7 +45,7 @@ fn open_inlets<T: Drop>(alloc: Global, count: usize) -> Result<Vec<Arc<Inlet<T>,
     Ok(all)
 }
 
-// So many empty deques.
+// `count` empty deques.
 fn open_deques<T: Drop>(alloc: Global, count: usize) -> Result<Vec<JobDeque<T>>, Fault>
     ensures count { IfOk result (λ made. vec_len made ≡ count) }
     ensures fresh { IfOk result (λ made. All (λ view. view ≡ new_pass) made.items) }
@@ -104,7 +104,11 @@ impl<T: Drop> JobQueues<T> {
     ghost use Rattle.parallel_pool.specs.JobQueues.{worker_count};
     ghost use Rattle.parallel_pool.specs.JobSeat.{IsFreshSeat};
 
-    /// Empty queues for so many workers, and the workers' own deques, in order.
+    /// Empty queues for that many workers, and the workers' own deques, in order.
+    ///
+    /// # Errors
+    ///
+    /// `Fault::Memory` if an allocation fails.
     pub fn new(
         alloc: Global,
         workers: NonZeroUsize,
@@ -128,6 +132,10 @@ impl<T: Drop> JobQueues<T> {
 
     /// A seat for one thread, which has seen nothing yet. No pool stands over the queues, so
     /// nothing is counted and nobody woken.
+    ///
+    /// # Errors
+    ///
+    /// `Fault::Memory` if an allocation fails.
     pub fn seat(&self, alloc: Global) -> Result<JobSeat<T>, Fault>
         ensures seat { IfOk result (λ seat. IsFreshSeat (worker_count self.now) seat) }
         ensures fault { IsMemoryOnErr result }

@@ -50,8 +50,12 @@ impl<T: Drop> JobSeat<T> {
     ghost use Rattle.parallel_pool.specs.declared.rayon.job_history.Deed.TheVariants.{TakeFirst};
     ghost use Rattle.parallel_pool.specs.declared.rayon.queue.Queue.TheVariants.{Injected, Broadcast, Deque};
 
-    /// Pushes a job to a queue. `Fault::Memory`, with the same job, where there is no memory for
-    /// it, and then it doesn't count as come.
+    /// Pushes a job to a queue.
+    ///
+    /// # Errors
+    ///
+    /// `Fault::Memory`, with the same job, where there is no memory for it, and then it doesn't
+    /// count as come.
     pub fn push<R: Wait>(&mut self, rt: &R, queue: Queue, job: T) -> Result<(), (Fault, T)>
         requires { IsInlet queue self.old }
         ensures { MatchResult result (λ _. Does queue (λ v w. HasPushed v job w) self.old self.new)
@@ -66,6 +70,8 @@ impl<T: Drop> JobSeat<T> {
     }
 
     /// Pushes job 0 to the broadcast queue of worker 0, job 1 to that of worker 1, and so on.
+    ///
+    /// # Errors
     ///
     /// `Fault::Memory`, with the jobs that weren't pushed, in order, where there is no memory for
     /// one of them; those before it stay pushed, and those that come back don't count as come.
@@ -88,6 +94,10 @@ impl<T: Drop> JobSeat<T> {
     }
 
     /// Pushes a job to a queue, as `push` does, and wakes nobody.
+    ///
+    /// # Errors
+    ///
+    /// `Fault::Memory` with the same job, as of `push`.
     pub(crate) fn bring<R: Wait>(&mut self, rt: &R, queue: Queue, job: T) -> Result<(), (Fault, T)>
         requires { IsInlet queue self.old }
         ensures { MatchResult result (λ _. Does queue (λ v w. HasPushed v job w) self.old self.new)
@@ -105,6 +115,10 @@ impl<T: Drop> JobSeat<T> {
     }
 
     /// Pushes a job to each worker's broadcast queue, as `push_each` does, and wakes nobody.
+    ///
+    /// # Errors
+    ///
+    /// `Fault::Memory` with the jobs that weren't pushed, as of `push_each`.
     pub(crate) fn bring_each<R: Wait>(
         &mut self,
         rt: &R,
@@ -211,7 +225,7 @@ impl<T: Drop> JobSeat<T> {
         seat
     }
 
-    /// How many workers the pool has: so many broadcast queues, and so many deques.
+    /// How many workers the pool has: that many broadcast queues, and that many deques.
     pub fn workers(&self) -> usize
         ensures broadcasts { result ≡ length self.now.broadcasts }
     {

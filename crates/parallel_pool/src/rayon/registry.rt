@@ -26,7 +26,11 @@ pub(crate) struct Registry {
 }
 
 impl Registry {
-    /// The registry of so many workers, and what each rests by, in order.
+    /// The registry of that many workers, and what each rests by, in order.
+    ///
+    /// # Errors
+    ///
+    /// `Fault::Memory` if an allocation fails.
     pub(crate) fn new(alloc: Global, workers: NonZeroUsize) -> Result<(Registry, Vec<Rest>), Fault>
         requires { non_zero_usize_get workers ≤ MAX_THREADS }
         ensures fault { IsMemoryOnErr result }
@@ -82,7 +86,7 @@ impl Registry {
     }
 }
 
-// So many latches that aren't set.
+// `count` latches that aren't set.
 fn lock_latches(alloc: Global, count: usize) -> Result<Vec<LockLatch>, Fault>
     ensures fault { IsMemoryOnErr result }
 {

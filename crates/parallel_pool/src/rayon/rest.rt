@@ -24,6 +24,10 @@ pub(crate) struct Rest {
 
 impl Rest {
     /// What the worker of this index rests by, on this parker, with a latch that isn't set.
+    ///
+    /// # Errors
+    ///
+    /// `Fault::Memory` if an allocation fails.
     pub(crate) fn new(alloc: Global, index: usize, parker: Parker) -> Result<Rest, Fault>
         ensures fault { IsMemoryOnErr result }
     {
@@ -40,6 +44,10 @@ impl Rest {
     }
 
     /// The latch, for whoever sets it.
+    ///
+    /// # Errors
+    ///
+    /// `Fault::Memory` if an allocation fails.
     pub(crate) fn latch(&self) -> Result<Arc<OnceLatch, Global>, Fault>
         ensures fault { IsMemoryOnErr result }
     {

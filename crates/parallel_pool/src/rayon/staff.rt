@@ -116,8 +116,11 @@ impl<T: Drop> Debug for ThreadPool<Staff<T>> {
 }
 
 impl<T: Drop> ThreadPool<Staff<T>> {
-    /// Puts a job among the injected ones: a worker will call it once. `Fault::Memory`, with the
-    /// same job, where there is no memory for it.
+    /// Puts a job among the injected ones: a worker will call it once.
+    ///
+    /// # Errors
+    ///
+    /// `Fault::Memory`, with the same job, where there is no memory for it.
     pub fn spawn<R: Wait>(&self, rt: &R, job: T) -> Result<(), (Fault, T)>
         ensures { IfErr result (λ refused. refused ≡ (Fault.Memory, job)) }
     {
@@ -125,8 +128,11 @@ impl<T: Drop> ThreadPool<Staff<T>> {
     }
 
     /// Puts a job onto the worker's own deque where it is one of this pool's, by their labels, and
-    /// else among the injected jobs of this pool. `Fault::Memory`, with the same job, where there
-    /// is no memory for it.
+    /// else among the injected jobs of this pool.
+    ///
+    /// # Errors
+    ///
+    /// `Fault::Memory`, with the same job, where there is no memory for it.
     pub fn spawn_from<R: Wait>(
         &self,
         rt: &R,
@@ -146,9 +152,12 @@ impl<T: Drop> ThreadPool<Staff<T>> {
         }
     }
 
-    /// Gives job i to worker i, for each of the pool's workers. `Fault::Memory`, with the jobs that
-    /// weren't queued, in order, where there is no memory for one of them; those before it stay
-    /// queued.
+    /// Gives job i to worker i, for each of the pool's workers.
+    ///
+    /// # Errors
+    ///
+    /// `Fault::Memory`, with the jobs that weren't queued, in order, where there is no memory for
+    /// one of them; those before it stay queued.
     pub fn spawn_broadcast<R: Wait>(
         &self,
         rt: &R,

@@ -34,6 +34,8 @@ impl<T: Execute> Work for Starter<T> {
 
 /// Starts each worker, with its name.
 ///
+/// # Errors
+///
 /// An Err has the threads of those that were started before, which run:
 /// `ThreadPoolBuildError::Memory` where there is no room to list them, of which there are none
 /// then; `Spawn` where a start was refused.

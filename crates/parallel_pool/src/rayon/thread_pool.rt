@@ -1,4 +1,4 @@
-//! A pool that holds a number of threads, and the call that runs a closure on a worker.
+//! A pool that holds a number of threads, and the calls that run closures on scoped ones.
 ghost use Rattle.std.specs.Prelude.{◌≡◌, ◌≤◌, ◌<◌, ℕ, min, vec_len, slice_index_or, IfOk};
 ghost use Rattle.std.specs.List.{range_with_len};
 ghost use Rattle.std.specs.NonZero.{non_zero_usize_get};
@@ -28,7 +28,7 @@ pub struct ThreadPool<W: Drop = Scoped> {
     pub ghost at_most: { non_zero_usize_get num_threads ≤ 65535 },
 }
 
-/// Behind a pool stands nothing but its number: no thread is kept waiting, and each call that needs
+/// A pool that is nothing but its number: no thread is kept waiting, and each call that needs
 /// a worker starts it and joins it.
 #[derive(Debug, Drop)]
 pub struct Scoped;
@@ -67,7 +67,7 @@ impl<W: Drop> ThreadPool<W> {
     ghost use Rattle.parallel_pool.specs.ThreadPool.{thread_count, label_of};
     ghost use Rattle.parallel_pool.specs.Broadcast.{context};
 
-    /// The pool of so many threads, with this label, and what stands behind it.
+    /// The pool of that many threads, with this label, and what stands behind it.
     pub(crate) fn over(num_threads: NonZeroUsize, label: u64, staff: W) -> ThreadPool<W>
         requires { non_zero_usize_get num_threads ≤ MAX_THREADS }
         ensures count { thread_count result ≡ non_zero_usize_get num_threads }
@@ -104,7 +104,7 @@ impl<W: Drop> ThreadPool<W> {
         self.num_threads
     }
 
-    /// Runs `op` on a worker and answers what it answered.
+    /// Runs `op` on a worker and returns what it returned.
     ///
     /// The worker is a scoped one that ends with `op`; where the system makes no thread, `op` runs
     /// on the caller's. The call counts as one from outside the pool, also where `op` itself
@@ -116,11 +116,14 @@ impl<W: Drop> ThreadPool<W> {
         install(rt, op)
     }
 
-    /// Runs `op` once for each of the pool's threads and lists the answers, by index.
+    /// Runs `op` once for each of the pool's threads and lists the results, by index.
     ///
     /// The calls run at the same time, all but one each on a scoped worker where the system makes
-    /// one; the caller starts these one after another (`map_in_row`). `Fault::Memory` where a list
-    /// can't grow; `op` has not been called then.
+    /// one; the caller starts these one after another (`map_in_row`).
+    ///
+    /// # Errors
+    ///
+    /// `Fault::Memory` where a list can't grow; `op` has not been called then.
     pub fn broadcast<R: Threads + Sync, T: Send + Drop, F: Fn(BroadcastContext) -> T + Sync>(
         &self,
         rt: &R,
@@ -158,7 +161,7 @@ fn indices(alloc: Global, count: usize) -> Result<Vec<usize>, AllocError>
     (0..count).collect(alloc)
 }
 
-/// Runs `op` on a worker of its own and answers what it answered, as `ThreadPool::install` does,
+/// Runs `op` on a worker of its own and returns what it returned, as `ThreadPool::install` does,
 /// for callers that have no pool at hand.
 pub fn install<R: Threads, T: Send, F: FnOnce() -> T + Send>(rt: &R, op: F) -> T
     requires { F.pre op }

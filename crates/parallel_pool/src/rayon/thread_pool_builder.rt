@@ -86,8 +86,8 @@ impl ThreadPoolBuilder {
         set
     }
 
-    /// Names each started worker by what the closure answers to its index. An Err of it counts as a
-    /// refused growth.
+    /// Names each started worker by what the closure returns for its index. An Err of it counts as
+    /// a refused growth.
     pub fn thread_name(
         self,
         name_of: Box<dyn FnMut(usize) -> Result<String, AllocError>>,
@@ -142,6 +142,8 @@ impl ThreadPoolBuilder {
     /// Builds the pool and starts its workers, for boxed jobs. The second part is worker 0, under
     /// `use_current_thread` and not else.
     ///
+    /// # Errors
+    ///
     /// `ThreadPoolBuildError::Memory` where memory was refused, or a name; `Spawn` where the start
     /// of a thread was. No worker is left running then: those that were started have ended.
     pub fn build<R: Threads + Wait + Copy + Send + 'static>(
@@ -160,6 +162,10 @@ impl ThreadPoolBuilder {
     }
 
     /// Builds the pool for jobs of one's own type, as `build` does for boxed ones.
+    ///
+    /// # Errors
+    ///
+    /// As of `build`.
     pub fn build_for<R: Threads + Wait + Copy + Send + 'static, T: Execute + Send + 'static>(
         self,
         rt: &R,
@@ -386,8 +392,8 @@ fn first_of<X: Drop>(list: &mut Vec<X>) -> Option<X> {
     }
 }
 
-// Whether a worker is the first of a pool of this label and of so many threads. The first that was
-// made always is.
+// Whether a worker is the first of a pool of this label and of that many threads. The first that
+// was made always is.
 fn is_first<T: Execute>(worker: &WorkerThread<T>, label: u64, num_threads: NonZeroUsize) -> bool
     ensures { IsTrue result
         → IsFirstWorker label (non_zero_usize_get num_threads) worker.now }

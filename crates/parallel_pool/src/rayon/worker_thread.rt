@@ -80,7 +80,11 @@ impl<T: Drop> WorkerThread<T> {
         &mut self.jobs
     }
 
-    /// Pushes a job to its own deque. An Err hands it back where there is no memory for it.
+    /// Pushes a job to its own deque.
+    ///
+    /// # Errors
+    ///
+    /// `Fault::Memory` with the job, if there is no memory for it.
     pub(crate) fn push<R: Wait>(&mut self, rt: &R, job: T) -> Result<(), (Fault, T)>
         ensures { MatchResult result (λ _. PushesOwn self.old job self.new)
             (λ refused. (refused ≡ (Fault.Memory, job)) × (self.new ≡ self.old)) }

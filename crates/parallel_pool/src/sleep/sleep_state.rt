@@ -63,7 +63,11 @@ impl Model for SleepState {
 }
 
 impl SleepState {
-    /// The state of so many workers, who all have work, with this count of events.
+    /// The state of that many workers, who all have work, with this count of events.
+    ///
+    /// # Errors
+    ///
+    /// `Fault::Memory` if an allocation fails.
     pub fn new(alloc: Global, workers: NonZeroUsize, events: u32) -> Result<SleepState, Fault>
         requires { non_zero_usize_get workers ≤ MAX_THREADS }
         ensures state { IfOk result (λ state. state ≡ record {
@@ -128,7 +132,7 @@ impl SleepState {
         }
     }
 
-    /// A worker that had work looks for more. The answer is its way to sleep, at round 0.
+    /// A worker that had work looks for more. The result is its way to sleep, at round 0.
     pub fn start_looking(&mut self, worker_index: usize) -> IdleState
         requires exists { worker_index < length self.old.workers }
         requires active { is_inactive (standing_at self.old.workers worker_index) ≡ false }
@@ -168,7 +172,7 @@ impl SleepState {
     }
 
     /// The idle worker announces that it is sleepy: from here on the events are even, and it keeps
-    /// their count. The answer is that count.
+    /// their count. The result is that count.
     pub fn announce_sleepy(&mut self, idle: &mut IdleState) -> u32
         ensures answer { result ≡ events_announced self.old.events }
         ensures even { result % 2 ≡ 0 }

@@ -14,11 +14,14 @@ use std::alloc::Global;
 
 /// Takes a list of events, in order, from the opening state of a plan.
 ///
-/// It answers the state after them and an outcome for each, as `Replays` says. Any list of events
+/// It returns the state after them and an outcome for each, as `Replays` says. Any list of events
 /// may be handed in. Whatever they are, the state shows holders that a run of moves leads to from
 /// the opening, as `Reached` says. So each unit has exactly one holder: a share where it is
-/// pending, a seat that carries it, or a seat that has claimed its cells. The one refusal is
-/// `Fault::Memory`, where a list could not be grown.
+/// pending, a seat that carries it, or a seat that has claimed its cells.
+///
+/// # Errors
+///
+/// `Fault::Memory` where a list could not be grown.
 pub fn replay(alloc: Global, plan: &Plan, events: &[Event]) -> Result<(State, Vec<Outcome>), Fault>
     ensures outcomes { IfOk result
         (λ r. Replays plan.now (opening plan.now) events.now r.1.items r.0) }

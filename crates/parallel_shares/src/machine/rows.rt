@@ -95,6 +95,10 @@ impl Rows {
     ghost use Rattle.parallel_shares.specs.Machine.{word_at, row_at, with_word, remembers, forgets, gains, carries, opening};
 
     /// The rows of a plan before any event.
+    ///
+    /// # Errors
+    ///
+    /// `Fault::Memory` if an allocation fails.
     pub(super) fn new(alloc: Global, plan: &Plan) -> Result<Rows, Fault>
         ensures opening { IfOk result (λ rows. rows ≡ opening plan.now) }
         ensures sound { IfOk result (λ _. IsSound plan.now) }
@@ -207,7 +211,11 @@ impl Rows {
         row.transit = units;
     }
 
-    /// Adds to what a seat has claimed. After a refusal the state is as it was.
+    /// Adds to what a seat has claimed.
+    ///
+    /// # Errors
+    ///
+    /// `Fault::Memory` if an allocation fails; the state is then as it was.
     pub(super) fn gain(&mut self, seat: usize, cells: Range<usize>) -> Result<(), Fault>
         requires { seat < length self.old.seat_rows }
         ensures gained { IfOk result (λ _. self.new ≡ gains self.old seat cells) }
@@ -228,6 +236,10 @@ impl Rows {
 }
 
 /// The words of a plan's shares before any event.
+///
+/// # Errors
+///
+/// `Fault::Memory` if an allocation fails.
 pub(crate) fn opening_words(alloc: Global, plan: &Plan) -> Result<Vec<u64>, Fault>
     ensures words { IfOk result (λ words. words.items ≡ opening_words plan.now
         (shares_of plan.now)) }
@@ -245,7 +257,11 @@ pub(crate) fn opening_words(alloc: Global, plan: &Plan) -> Result<Vec<u64>, Faul
     Ok(words)
 }
 
-/// So many rows of seats for which nothing was loaded, taken or claimed.
+/// The rows of `seats` seats for which nothing was loaded, taken or claimed.
+///
+/// # Errors
+///
+/// `Fault::Memory` if an allocation fails.
 fn fresh_seat_rows(alloc: Global, seats: usize) -> Result<Vec<SeatRow>, Fault>
     ensures rows { IfOk result (λ rows. rows.items ≡ replicate seats fresh) }
     ensures fault { IsMemoryOnErr result }

@@ -37,7 +37,11 @@ impl State {
     ///
     /// The shares hold a balanced cut of the units, and each unit is pending at the share that
     /// holds it, as `IsOpening` and `Shows` say. Such a state belongs to its plan, as `IsStateOf`
-    /// says. The one refusal is `Fault::Memory`, where the lists could not be grown.
+    /// says.
+    ///
+    /// # Errors
+    ///
+    /// `Fault::Memory` where the lists could not be grown.
     pub fn new(alloc: Global, plan: &Plan) -> Result<State, Fault>
         ensures opening { IfOk result (λ state. state ≡ opening plan.now) }
         ensures belongs { IfOk result (λ state. IsStateOf plan.now state) }

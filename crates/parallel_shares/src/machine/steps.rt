@@ -1,4 +1,4 @@
-//! One event on a state: what it answers, and what it changes.
+//! One event on a state: what it returns, and what it changes.
 ghost use Rattle.std.specs.Prelude.{◌≡◌, Ok, IfOk, OnErr};
 ghost use Rattle.parallel_shares.specs.Machine.{IsStateOf};
 ghost use Rattle.parallel_shares.specs.Answers.{Answers, AddsClaim, LoadAnswers, ClaimAnswers, StealAnswers, RefillAnswers};
@@ -44,6 +44,10 @@ pub fn step(plan: &Plan, state: &mut State, event: Event) -> Result<Outcome, Fau
 }
 
 /// Takes one event on the rows of this plan.
+///
+/// # Errors
+///
+/// `Fault::Memory` if an allocation fails.
 fn take(plan: &Plan, rows: &mut Rows, event: Event) -> Result<Outcome, Fault>
     requires { IsStateOf plan.now rows.old }
     ensures answers { IfOk result (λ outcome. Answers plan.now rows.old event outcome rows.new) }
@@ -74,6 +78,10 @@ fn load(rows: &mut Rows, seat: usize, share: usize) -> Outcome
 }
 
 /// A seat takes a claim from the front of the share that it claims from.
+///
+/// # Errors
+///
+/// `Fault::Memory` if an allocation fails.
 fn claim(plan: &Plan, rows: &mut Rows, seat: usize) -> Result<Outcome, Fault>
     requires { IsStateOf plan.now rows.old }
     ensures answers { IfOk result (λ outcome. ClaimAnswers plan.now rows.old seat outcome

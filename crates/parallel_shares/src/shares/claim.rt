@@ -37,7 +37,7 @@ impl Shares {
         unreachable!()
     }
 
-    // Tries once to claim, and behind an own word that was empty once to steal.
+    // Tries once to claim, and if its own word was empty, once to steal.
     fn try_each(&self, seat: &mut Seat) -> Tried
         requires belongs { IsSeatOf self.now seat.old }
         requires empty_handed { transit_of seat.old ≡ None }

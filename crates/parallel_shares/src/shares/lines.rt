@@ -42,6 +42,10 @@ pub(super) fn place_of(share: usize) -> usize
 }
 
 /// The words of the table in which these are used.
+///
+/// # Errors
+///
+/// `Fault::Memory` if an allocation fails.
 pub(super) fn spaced_words(alloc: Global, words: &[u64]) -> Result<Vec<u64>, Fault>
     requires { length words.now ≤ 65535 }
     ensures words { IfOk result (λ all. all.items ≡ spaced words.now) }

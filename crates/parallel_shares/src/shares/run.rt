@@ -19,17 +19,20 @@ impl Shares {
     ghost use Rattle.parallel_shares.specs.Seats.{plan_of, index_of, claims_of, transit_of, IsSeatOf};
     ghost use Rattle.parallel_shares.specs.Steals.{FoundNothing};
 
-    /// Claims until nothing is left that pays, on rows of `len` cells, and answers a result for
+    /// Claims until nothing is left that pays, on rows of `len` cells, and returns a result for
     /// each stretch of what it claimed, in order.
     ///
     /// The claims that the seat gained are fronts of words (`IsFront`), and are cut into stretches
     /// as `Cutting` says (`Worked`). Each stretch is filled by calls of `fill` with its row and
-    /// neighbouring columns, and then `finish` answers its result; all calls are lent one state,
+    /// neighbouring columns, and then `finish` returns its result; all calls are lent one state,
     /// which begins as the one handed in (`Finished`). `fill` is asked for columns of cells that
     /// are there alone, at least one, and `finish` for rows that have such cells. The seat ends as
-    /// after a `claim` that answers `None`. The one refusal is `Fault::Memory`, where the list of
-    /// results could not grow: the seat is still one of these shares, its claims have grown by what
-    /// was claimed, and some of that has no result. `rt` is the right to go on trying.
+    /// after a `claim` that returns `None`. `rt` is the right to go on trying.
+    ///
+    /// # Errors
+    ///
+    /// `Fault::Memory` where the list of results could not grow: the seat is still one of these
+    /// shares, its claims have grown by what was claimed, and some of that has no result.
     pub fn run<W: Wait, T, R: Drop, L: Fn(&mut T, usize, Range<usize>), N: Fn(&mut T, usize) -> R>(
         &self,
         rt: &W,
@@ -69,7 +72,7 @@ impl Shares {
     }
 }
 
-// Fills the cells of a claim, and answers the stretch that is open then.
+// Fills the cells of a claim, and returns the stretch that is open then.
 fn fill_claim<T, R: Drop, L: Fn(&mut T, usize, Range<usize>), N: Fn(&mut T, usize) -> R>(
     results: &mut Vec<R>,
     opened: Option<Piece>,
@@ -103,7 +106,7 @@ fn fill_claim<T, R: Drop, L: Fn(&mut T, usize, Range<usize>), N: Fn(&mut T, usiz
     Ok(opened)
 }
 
-// Fills a piece, and answers the stretch that is open then: the one that was, where the piece goes
+// Fills a piece, and returns the stretch that is open then: the one that was, where the piece goes
 // on there; else that one is finished first.
 fn fill_piece<T, R: Drop, L: Fn(&mut T, usize, Range<usize>), N: Fn(&mut T, usize) -> R>(
     results: &mut Vec<R>,

@@ -90,7 +90,7 @@ impl Shares {
         seat.own_empty = false;
     }
 
-    // Loads each other share's word, and answers the victim.
+    // Loads each other share's word, and returns the victim.
     fn find_victim(&self, seat: &mut Seat) -> Option<Victim>
         requires { IsSeatOf self.now seat.old }
         ensures seat { IsSeatOf self.now seat.new }
@@ -129,7 +129,7 @@ impl Shares {
         self.table.shared.load::<LookAt>(&mut seat.seat, place)
     }
 
-    // Tries to exchange the victim's word for its front half, and answers the word that was met.
+    // Tries to exchange the victim's word for its front half, and returns the word that was met.
     fn take_back(&self, seat: &mut Seat, victim: Victim) -> u64
         requires belongs { IsSeatOf self.now seat.old }
         requires own_empty { has_emptied seat.old ≡ true }

@@ -28,7 +28,11 @@ pub struct Piece {
 ///
 /// `Cutting` says what they are: their cells, one after another, are those of the claims, each is
 /// nonempty and in one row, and none begins in the row and column where the one before it ended. A
-/// range without cells adds nothing. The one refusal is `Fault::Memory`.
+/// range without cells adds nothing.
+///
+/// # Errors
+///
+/// `Fault::Memory` if an allocation fails.
 pub fn stretches(alloc: Global, claims: &[Range<usize>], len: usize) -> Result<Vec<Stretch>, Fault>
     requires { len ≢ 0 }
     ensures cutting { IfOk result (λ found. Cutting claims.now len found.items) }
@@ -43,7 +47,7 @@ pub fn stretches(alloc: Global, claims: &[Range<usize>], len: usize) -> Result<V
     Ok(found)
 }
 
-// Adds the cells of a claim to the stretches, and answers the one that is open then.
+// Adds the cells of a claim to the stretches, and returns the one that is open then.
 fn add_claim(
     found: &mut Vec<Stretch>,
     opened: Option<Piece>,
@@ -65,7 +69,7 @@ fn add_claim(
     Ok(opened)
 }
 
-// Adds a piece to the stretches, and answers the one that is open then.
+// Adds a piece to the stretches, and returns the one that is open then.
 fn add(found: &mut Vec<Stretch>, opened: Option<Piece>, piece: Piece) -> Result<Piece, Fault>
     ensures parted { IfOk result (λ next. (len : ℕ) (cells : List ℕ) → IsPiece len piece
         → Parted len cells found.old.items opened
@@ -126,8 +130,8 @@ fn row_and_column(opened: Option<Piece>, cell: usize, len: usize) -> (usize, usi
     (cell / len, cell % len)
 }
 
-/// The open stretch with the piece behind it, where the piece goes on in the row and column at
-/// which the stretch ends.
+/// The open stretch with the piece after it, where the piece goes on in the row and column at which
+/// the stretch ends.
 pub(super) fn grown(opened: Option<Piece>, piece: Piece) -> Option<Piece>
     ensures { Grown opened piece result }
 {

@@ -54,6 +54,10 @@ pub fn root<Rt: Threads + Wait + Sync, P: Place, S: Strategy>(
 }
 
 /// The digests of the leaves, in their order.
+///
+/// # Errors
+///
+/// `Fault::Memory` if an allocation fails.
 pub(crate) fn leaf_digests<Rt: Threads + Wait + Sync, P: Place, S: Strategy>(
     rt: &Rt,
     alloc: Global,
@@ -71,6 +75,10 @@ pub(crate) fn leaf_digests<Rt: Threads + Wait + Sync, P: Place, S: Strategy>(
 }
 
 /// The next level of a tree, which a policy knows by its length.
+///
+/// # Errors
+///
+/// `Fault::Memory` if an allocation fails.
 pub(crate) fn next_level<Rt: Threads + Wait + Sync, P: Place, S: Strategy>(
     rt: &Rt,
     alloc: Global,

@@ -128,9 +128,9 @@ impl Tree {
     /// Two different inputs with one digest, where a claim is accepted against the tree's
     /// commitment and isn't true of the tree. The claim is that the leaf stands at the index of
     /// `count` leaves, and `own` is the tree's leaf there, where the caller has it. None where the
-    /// claim isn't accepted, and where it is true: the tree has so many leaves, and the leaf at the
-    /// index, by its digest and, with `own`, by its bytes (`IsLeafAt`). So whoever gets any other
-    /// claim accepted has found a collision of the hash.
+    /// claim isn't accepted, and where it is true: the tree has that many leaves, and the leaf at
+    /// the index, by its digest and, with `own`, by its bytes (`IsLeafAt`). So whoever gets any
+    /// other claim accepted has found a collision of the hash.
     pub fn collision<'a>(
         &self,
         count: usize,
