@@ -1,4 +1,4 @@
--- what a call answers, by what its body was told
+-- what a call returns, by what its body was told
 use Rattle.std.specs.Prelude.{Result, Ok, Err}
 use Rattle.parallel_bridge.specs.declared.path.Path.{Path}
 use Rattle.parallel_bridge.specs.declared.path.Path.TheVariants.{Serial, Parallel}
@@ -7,7 +7,7 @@ use Rattle.parallel_fault.specs.declared.fault.Trouble.{Trouble}
 use Rattle.parallel_fault.specs.declared.fault.Trouble.TheVariants.{Closure}
 use Rattle.parallel_fault.specs.declared.fault.Trouble.TheVariants.{Fault as OfFault}
 
--- an answer, or an error of the body's own, that the body allows where it is told what it may be
+-- a result, or an error of the body's own, that the body allows where it is told what it may be
 -- told; or a refusal that may be met
 abbrev pub AnswersAs : {Told R E : Type 0} → (Told → Type 0) → (Fault → Type 0)
     → (Told → Result R E → Type 0) → Result R (Trouble E) → Type 0
@@ -21,11 +21,11 @@ abbrev pub OneOf : Type 0 → Type 0 → Path → Type 0
 OneOf serial parallel Serial = serial
 OneOf serial parallel Parallel = parallel
 
--- an answer of the first serially, of the second in parallel
+-- a result of the first body serially, of the second in parallel
 abbrev pub OfOne : {R : Type 0} → (R → Type 0) → (R → Type 0) → Path → R → Type 0
 OfOne serial parallel path answer = OneOf (serial answer) (parallel answer) path
 
--- allowed holds of the answer, or of the closure's error, and refused of a refusal
+-- allowed holds of the result, or of the closure's error, and refused of a refusal
 abbrev pub UnlessFaulty : {R E : Type 0} → Result R (Trouble E) → (Result R E → Type 0)
     → (Fault → Type 0) → Type 0
 UnlessFaulty (Ok r) allowed refused = allowed (Ok r)

@@ -56,7 +56,7 @@ OnSomeBatch takes refuses plans threads starts site_of strategy place len minimu
     × IsInnerOf takes refuses plans threads starts strategy (strategy_of batches)
     × (place_of batches ≡ place) × allowed batches
 
--- a refusal of what prepares the items, or want of memory behind items that were prepared
+-- a refusal of what prepares the items, or want of memory after items that were prepared
 abbrev pub FailsPrepared : {X : Type 0} → (Result X Fault → Type 0) → Fault → Type 0
 FailsPrepared {X = X} prepares fault = ((fault ≡ Memory) × (items : X) × prepares (Ok items))
     ⊎ prepares (Err fault)

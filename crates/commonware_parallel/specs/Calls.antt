@@ -10,7 +10,7 @@ use Rattle.commonware_parallel.specs.declared.call.Kind.TheVariants.{Body, Batch
 use Rattle.commonware_parallel.specs.declared.call.Pick.{Pick}
 use Rattle.commonware_parallel.specs.declared.call.Pick.TheVariants.{By, Into}
 
--- a choice between a serial and a parallel body, over so many items
+-- a choice between a serial and a parallel body, over that many items
 abbrev pub body_call : ℕ → Call
 body_call len = record { kind = Body; len = len; work = len; max_parts = 1 }
 
@@ -18,7 +18,7 @@ body_call len = record { kind = Body; len = len; work = len; max_parts = 1 }
 abbrev pub join_call : Call
 join_call = record { kind = Join; len = 2; work = 2; max_parts = 1 }
 
--- a choice between a job that is run at once and one that is handed off, over so many items
+-- a choice between a job that is run at once and one that is handed off, over that many items
 abbrev pub spawn_call : ℕ → Call
 spawn_call len = record { kind = Spawn; len = len; work = len; max_parts = 1 }
 
@@ -26,7 +26,7 @@ spawn_call len = record { kind = Spawn; len = len; work = len; max_parts = 1 }
 abbrev pub work_of : ℕ → ℕ → ℕ
 work_of len multiplier = min (len * multiplier) (2 ^ 64 - 1)
 
--- a choice between a serial and a parallel body, over so many items that each stand for so much
+-- a choice between a serial and a parallel body, over that many items that each stand for so much
 -- work
 abbrev pub multiplied_call : ℕ → ℕ → Call
 multiplied_call len multiplier =
@@ -43,7 +43,7 @@ batches_call planned len minimum multiplier =
       max_parts = max 1 (min planned (len / minimum));
     }
 
--- a choice among numbers of workers, over rows of so many columns: as many as are planned for
+-- a choice among numbers of workers, over rows of that many columns: as many as are planned for
 abbrev pub tiles_call : ℕ → ℕ → ℕ → ℕ → Call
 tiles_call planned len cost multiplier =
     record { kind = Tiles; len = len; work = work_of cost multiplier; max_parts = planned }

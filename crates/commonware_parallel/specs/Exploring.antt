@@ -1,4 +1,4 @@
--- What a search through the rules answers.
+-- What a search through the rules returns.
 use Rattle.std.specs.Prelude.{◌≡◌, ℕ, List, [], ◌∷◌, ◌++◌, Bool, true, false, Result, Ok, Err}
 use Rattle.std.specs.Borrow.{Bor}
 use Rattle.parallel_pool.specs.declared.rayon.build_error.ThreadPoolBuildError.TheVariants.{Memory}
@@ -8,12 +8,12 @@ use Rattle.commonware_parallel.specs.declared.mocks.explorer.Explorer.{Explorer}
 use Rattle.commonware_parallel.specs.declared.mocks.rule.Rule.{Rule}
 use Rattle.commonware_parallel.specs.declared.mocks.rule.Rule.TheVariants.{Serial, Parallel, Seeded}
 
--- an explorer by this rule over so many threads, planned for 8
+-- an explorer by this rule over that many threads, planned for 8
 abbrev pub IsExplorer : ℕ → Rule → Explorer → Type 0
 IsExplorer workers rule explorer = (explorer.threads ≡ workers) × (explorer.planning ≡ 8)
     × (explorer.rule ≡ rule)
 
--- the rules behind the serial one, in their order
+-- the rules after the serial one, in their order
 abbrev pub rules_behind : List Rule
 rules_behind = Parallel ∷ Seeded 0 ∷ Seeded 1 ∷ Seeded 2 ∷ Seeded 3 ∷ []
 

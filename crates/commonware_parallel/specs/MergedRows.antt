@@ -16,7 +16,7 @@ abbrev pub results_in : {R : Type 0} → List (Stretch × R) → List R
 results_in parts = map (λ part. part.1) parts
 
 -- what results are together, from left to right: one result is itself, and what came so far with
--- the next result is an answer of merge
+-- the next result is a result of merge
 abbrev pub MergesTo : {R : Type 0} → (R → R → R → Type 0) → List R → R → Type 0
 MergesTo merge [] value = ⊥
 MergesTo merge (r ∷ rs) value = FoldsTo merge r rs value
@@ -81,18 +81,18 @@ wrapped_place len s = (s.row * len % 2 ^ 64 + s.columns.start) % 2 ^ 64
 abbrev pub IsThere : {R : Type 0} → ℕ → ℕ → Stretch × R → Type 0
 IsThere rows len part = (part.0.row < rows) × IsStretch len part.0
 
--- stretches one behind the other, from a cell up to another
+-- stretches one after the other, from a cell up to another
 abbrev pub Follows : {R : Type 0} → ℕ → ℕ → ℕ → List (Stretch × R) → Type 0
 Follows len p n [] = p ≡ n
 Follows len p n (part ∷ parts) = (place_of len part.0 ≡ p)
     × Follows len (part.0.row * len + part.0.columns.end) n parts
 
--- the next result behind what came so far of its row, if anything did
+-- the next result after what came so far of its row, if anything did
 abbrev pub Joins : {R : Type 0} → (R → R → R → Type 0) → Option R → R → R → Type 0
 Joins merge None r value = value ≡ r
 Joins merge (Some so_far) r value = merge so_far r value
 
--- the value of a row that ends is put behind the others, and that of a row that goes on is held
+-- the value of a row that ends is put after the others, and that of a row that goes on is held
 abbrev pub Placed : {R : Type 0} → ℕ → ℕ → R → List R → List R → Option R → Type 0
 Placed len end value before after held =
     (end ≡ len → (after ≡ before ++ value ∷ []) × (held ≡ None))

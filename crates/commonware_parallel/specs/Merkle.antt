@@ -1,5 +1,5 @@
 -- The root of a tree over leaves, level by level. The closure that combines two neighbours enters
--- by the relation of the two to the nodes that it may answer.
+-- by the relation of the two to the nodes that it may return.
 use Rattle.std.specs.Prelude.{◌≡◌, List, [], ◌∷◌, Option, Some, None}
 
 -- the next level: neighbours combined in pairs, left before right, an odd last one unchanged
@@ -19,7 +19,7 @@ pub data MerkleRoot {T : Type 0} (combine : T → T → T → Type 0) : List T �
       → NextLevel combine (x ∷ (y ∷ xs)) nodes → MerkleRoot combine nodes root
       → MerkleRoot combine (x ∷ (y ∷ xs)) root
 
--- of two nodes there is one answer at most
+-- of two nodes there is one result at most
 abbrev pub IsDetermined : {T : Type 0} → (T → T → T → Type 0) → Type 0
 IsDetermined {T = T} combine = (x y one other : T) → combine x y one → combine x y other
     → one ≡ other

@@ -14,7 +14,7 @@ module _ {I X Rt S P : Type 0} (gives : I → List X → Type 0) (source : I)
   abbrev pub AskedOn : (P → Site) → On Rt S P → Type 0
   AskedOn site_of on = AskedOver gives source (takes on.strategy.now (site_of on.site)) body_call
 
-  -- the answer went as the way says, over a list that the source may give, by a path that the
+  -- the result went as the way says, over a list that the source may give, by a path that the
   -- strategy may take for a body over its length
   abbrev pub GoesOn : {R : Type 0} → (S → ℕ) → (P → Site) → On Rt S P
       → (ℕ → Path → List X → R → Type 0) → R → Type 0

@@ -23,7 +23,7 @@ pub record RayonView : Type 0 where
 abbrev pub chooses_of : RayonView → Bool
 chooses_of strategy = is_some strategy.policy
 
--- planned for so many, over a pool of so many threads, whose picks a policy chooses
+-- planned for that many, over a pool of that many threads, whose picks a policy chooses
 abbrev pub IsMade : ℕ → ℕ → Bool → RayonView → Type 0
 IsMade planning threads starts strategy = (strategy.planning ≡ planning)
     × (strategy.threads ≡ threads) × (strategy.starts ≡ starts) × (chooses_of strategy ≡ true)

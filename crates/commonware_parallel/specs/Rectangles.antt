@@ -10,8 +10,8 @@ use Rattle.parallel_shares.specs.Totals.{total}
 abbrev pub has_cell : ℕ → ℕ → Stretch → ℕ
 has_cell row column s = cond (eqb s.row row) (inside column s.columns.start s.columns.end) 0
 
--- the stretches are of the rows below a number, on rows of so many columns, and each cell of these
--- rows is in just one
+-- the stretches are of the rows below a number, on rows of that many columns, and each cell of
+-- these rows is in just one
 pub record CutsRectangle (rows len : ℕ) (cut : List Stretch) : Type 0 where
   pub within : All (λ s. (s.row < rows) × IsStretch len s) cut
   pub once : (row column : ℕ) → row < rows → column < len → total (has_cell row column) cut ≡ 1

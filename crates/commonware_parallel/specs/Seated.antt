@@ -45,7 +45,7 @@ AllResults [] all = all ≡ []
 AllResults {R = R} (w ∷ ws) all = (results : Vec R Global) × (more : List R)
     × (w.results ≡ Ok results) × AllResults ws more × (all ≡ results.items ++ more)
 
--- chains over stretches that cut the work's rows, each of so many columns, into whole rows where
+-- chains over stretches that cut the work's rows, each of that many columns, into whole rows where
 -- they stay whole
 abbrev pub FillsWork : {T R : Type 0} → (T → Type 0) → (T → ℕ → Range ℕ → T → Type 0)
     → (T → ℕ → R → T → Type 0) → ℕ → Work → List R → Type 0

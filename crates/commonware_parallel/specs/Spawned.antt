@@ -1,4 +1,4 @@
--- a job that was spawned: how it began, what it may answer, and what it waits for
+-- a job that was spawned: how it began, what it may return, and what it waits for
 use Rattle.std.specs.Prelude.{◌≡◌, ◌⊎◌, ℕ, Bool, true, false, not}
 use Rattle.std.specs.Arc.{arc_value}
 use Rattle.parallel_fault.specs.declared.fault.Fault.{Fault}
@@ -11,7 +11,7 @@ use Rattle.parallel_bridge.specs.declared.path.Path.TheVariants.{Serial, Paralle
 use Rattle.commonware_parallel.specs.declared.call.Pick.{Pick}
 use Rattle.commonware_parallel.specs.Calls.{AtSomePath}
 
--- whether the answer is here
+-- whether the result is here
 abbrev pub is_ready_at : {S F T : Type 0} → Stage S F T → Bool
 is_ready_at (Ready answer) = true
 is_ready_at (Waiting worker ending) = false
@@ -25,14 +25,14 @@ is_unstarted_at (Waiting worker ending) = false
 is_unstarted_at Unstarted = true
 is_unstarted_at Taken = false
 
--- whether the answer was taken
+-- whether the result was taken
 abbrev pub is_taken_at : {S F T : Type 0} → Stage S F T → Bool
 is_taken_at (Ready answer) = false
 is_taken_at (Waiting worker ending) = false
 is_taken_at Unstarted = false
 is_taken_at Taken = true
 
--- the answer that is here, or one that the job allows on the strategy that went with it to a
+-- the result that is here, or one that the job allows on the strategy that went with it to a
 -- worker; else none
 abbrev pub gives_at : {S F T : Type 0} → (F → S → T → Type 0) → Stage S F T → T → Type 0
 gives_at may_answer (Ready answer) x = x ≡ answer
@@ -52,7 +52,7 @@ needs_at Taken never source = source ≡ never
 abbrev pub stage_of : {R S F T : Type 0} → Spawned R S F T → Stage S F T
 stage_of spawned = spawned.stage
 
--- whether the next poll gives the answer
+-- whether the next poll gives the result
 abbrev pub is_ready_now : {R S F T : Type 0} → Spawned R S F T → Bool
 is_ready_now spawned = is_ready_at spawned.stage
 
@@ -60,11 +60,11 @@ is_ready_now spawned = is_ready_at spawned.stage
 abbrev pub is_without_worker : {R S F T : Type 0} → Spawned R S F T → Bool
 is_without_worker spawned = is_unstarted_at spawned.stage
 
--- whether its answer was taken
+-- whether its result was taken
 abbrev pub is_taken : {R S F T : Type 0} → Spawned R S F T → Bool
 is_taken spawned = is_taken_at spawned.stage
 
--- what it may answer, where may_answer says it of its job on a strategy
+-- what it may return, where may_answer says it of its job on a strategy
 abbrev pub gives_answer : {R S F T : Type 0} → (F → S → T → Type 0) → Spawned R S F T → T → Type 0
 gives_answer may_answer spawned x = gives_at may_answer spawned.stage x
 
@@ -72,7 +72,7 @@ gives_answer may_answer spawned x = gives_at may_answer spawned.stage x
 abbrev pub needs_of : {R S F T : Type 0} → Spawned R S F T → ℕ → Type 0
 needs_of spawned source = needs_at spawned.stage spawned.never.id source
 
--- serially the answer is here; in parallel it isn't, and there is a worker exactly where workers
+-- serially the result is here; in parallel it isn't, and there is a worker exactly where workers
 -- are started
 abbrev pub BeginsAs : {R S F T : Type 0} → Bool → Path → Spawned R S F T → Type 0
 BeginsAs starts Serial spawned = (is_ready_now spawned ≡ true) × (is_taken spawned ≡ false)
@@ -80,12 +80,12 @@ BeginsAs starts Serial spawned = (is_ready_now spawned ≡ true) × (is_taken sp
 BeginsAs starts Parallel spawned = (is_ready_now spawned ≡ false) × (is_taken spawned ≡ false)
     × (is_without_worker spawned ≡ not starts)
 
--- a refusal behind the choice: for memory, or of a worker's start where one was to be started
+-- a refusal after the choice: for memory, or of a worker's start where one was to be started
 abbrev pub FailsToBegin : Bool → Path → Fault → Type 0
 FailsToBegin starts path fault = (fault ≡ Memory)
     ⊎ ((fault ≡ Worker) × (starts ≡ true) × (path ≡ Parallel))
 
--- a refusal of the choice, or one behind it
+-- a refusal of the choice, or one after it
 abbrev pub FailsToSpawn : (Pick → Type 0) → (Fault → Type 0) → Bool → Fault → Type 0
 FailsToSpawn takes refuses starts fault = refuses fault
     ⊎ AtSomePath takes (λ path. FailsToBegin starts path fault)

@@ -39,7 +39,7 @@ tiles_strategy tiles = tiles.strategy.now
 abbrev pub tiles_place : {S P : Type 0} → Tiles S P → P
 tiles_place tiles = tiles.site
 
--- tiles of the grid of least cost for so many workers, on rows of so many columns
+-- tiles of the grid of least cost for that many workers, on rows of that many columns
 pub record IsTiling {S P : Type 0} (grids : List Grid) (len workers : ℕ)
     (tiles : Tiles S P) : Type 0 where
   pub chosen : IsChosenGrid grids len workers (grid_of tiles)

@@ -10,14 +10,14 @@ use Rattle.parallel_policy.specs.declared.choices.Ticket.{Ticket}
 use Rattle.parallel_policy.specs.declared.execution.RunExecution.{RunExecution}
 use Rattle.parallel_policy.specs.declared.execution.RunExecution.TheVariants.{Serial}
 
--- the answer is one that a body allows on this path, and there was no refusal
+-- the result is one that a body allows on this path, and there was no refusal
 abbrev pub AnswersOn : {R E : Type 0} → (RunExecution → Result R E → Type 0) → RunExecution
     → Result R (Trouble E) → Type 0
 AnswersOn allowed path (Ok r) = allowed path (Ok r)
 AnswersOn allowed path (Err (Closure e)) = allowed path (Err e)
 AnswersOn allowed path (Err (OfFault f)) = ⊥
 
--- the answer is one that a body allows on one of the two paths, or a want of memory
+-- the result is one that a body allows on one of the two paths, or a want of memory
 abbrev pub DecidesAs : {R E : Type 0} → (RunExecution → Result R E → Type 0) → Result R (Trouble E)
     → Type 0
 DecidesAs allowed (Ok r) = (path : RunExecution) × allowed path (Ok r)
@@ -28,7 +28,7 @@ DecidesAs allowed (Err (OfFault f)) = f ≡ Memory
 abbrev pub ReadsAs : {C : Type 0} → Mut C (Unit {0}) ℕ → C → ℕ → C → Type 0
 ReadsAs g earlier reading later = Called g earlier tt reading later
 
--- a body that is lent a clock may answer r on this path, and leave the clock as the later one
+-- a body that is lent a clock may return r on this path, and leave the clock as the later one
 pub record RunsWith {F C R : Type 0}
     (g : Once F (MutBor C × (RunExecution × Unit {0})) (R × (MutBor C × Unit {0})))
     (body : F) (earlier : C) (path : RunExecution) (r : R) (later : C) : Type 0 where
@@ -38,7 +38,7 @@ pub record RunsWith {F C R : Type 0}
   pub met : g.post body (lent, (path, tt)) (r, (left, tt))
   pub leaves : left.now ≡ later
 
--- the body may answer r on this path, at some state of the clock
+-- the body may return r on this path, at some state of the clock
 abbrev pub RunsSomewhen : {F C R : Type 0}
     → Once F (MutBor C × (RunExecution × Unit {0})) (R × (MutBor C × Unit {0})) → F → RunExecution
     → R → Type 0
@@ -55,7 +55,7 @@ module _ {S Q C R E : Type 0} (chooses : S → Q → ℕ → RunExecution × Boo
     (records : S → Q → RunExecution → ℕ → S → Type 0)
     (refused : S → Q → S → Type 0) (reads : C → ℕ → C → Type 0)
     (runs : C → RunExecution → Result R E → C → Type 0) where
-  -- a measured run that answered: the clock was read, then the body ran, then the clock was read
+  -- a measured run that returned: the clock was read, then the body ran, then the clock was read
   -- again; and one sample was recorded, of the path and of the time between the two readings, a
   -- clock that went back as 0
   pub record RecordsOnce (chosen : S) (key : Q) (path : RunExecution) (earlier : C) (r : R)
@@ -83,7 +83,7 @@ module _ {S Q C R E : Type 0} (chooses : S → Q → ℕ → RunExecution × Boo
     pub fails : runs started path (Err e) later
 
   -- the choices went on by one choice, on whose path the body ran, and where it was measured and
-  -- answered by one sample, and by nothing else; a refused choice is a want of memory, and nothing
+  -- returned by one sample, and by nothing else; a refused choice is a want of memory, and nothing
   -- ran
   abbrev pub Decides : S → Q → ℕ → C → Result R (Trouble E) → S → C → Type 0
   Decides old key parallelism earlier (Ok r) new later = (path : RunExecution) × (measured : Bool)

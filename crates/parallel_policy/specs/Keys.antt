@@ -9,7 +9,8 @@ use Rattle.parallel_policy.specs.declared.site.Site.{Site}
 abbrev pub binary_digits : ℕ → ℕ
 binary_digits n = 64 - leading_zeros w64 n
 
--- the key of calls at a site, over lengths and works of so many digits, planned for so many threads
+-- the key of calls at a site, over lengths and works of that many digits, planned for that many
+-- threads
 abbrev pub key_of : Site → ℕ → ℕ → ℕ → Key
 key_of site len work parallelism = record {
   file = site.file;

@@ -48,14 +48,14 @@ run_contest parallel (Some serial) parallelism = cond (prefers_parallel parallel
     (contest_of Parallel Serial parallel serial (may_run_serially parallel parallelism))
     (contest_of Serial Parallel serial parallel true)
 
--- the answer by the two estimates and the count; without a parallel estimate the parallel path,
+-- the result by the two estimates and the count; without a parallel estimate the parallel path,
 -- measured
 abbrev pub run_answer : Option ℕ → Option ℕ → ℕ → ℕ → RunExecution × Bool
 run_answer None serial count parallelism = (Parallel, true)
 run_answer (Some parallel) serial count parallelism =
     arbitrated (run_contest parallel serial parallelism) count
 
--- the count after that answer, the greatest u32 without a parallel estimate
+-- the count after that result, the greatest u32 without a parallel estimate
 abbrev pub run_count_after : Option ℕ → Option ℕ → ℕ → ℕ → ℕ
 run_count_after None serial count parallelism = 4294967295
 run_count_after (Some parallel) serial count parallelism =

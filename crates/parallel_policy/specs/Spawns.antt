@@ -43,7 +43,7 @@ abbrev pub spawn_contest : ℕ → ℕ → Option ℕ → ℕ → Contest SpawnE
 spawn_contest overhead job inline budget =
     contest_by (unwrap_or inline job) (min overhead budget) (nat_lt job budget)
 
--- the answer by the three estimates and the count; without overhead or job the job is handed off,
+-- the result by the three estimates and the count; without overhead or job the job is handed off,
 -- measured
 abbrev pub spawn_answer : Option ℕ → Option ℕ → Option ℕ → ℕ → ℕ → SpawnExecution × Bool
 spawn_answer None job inline count budget = (Offload, true)
@@ -51,7 +51,7 @@ spawn_answer (Some overhead) None inline count budget = (Offload, true)
 spawn_answer (Some overhead) (Some job) inline count budget =
     arbitrated (spawn_contest overhead job inline budget) count
 
--- the count after that answer, the greatest u32 without overhead or job
+-- the count after that result, the greatest u32 without overhead or job
 abbrev pub spawn_count_after : Option ℕ → Option ℕ → Option ℕ → ℕ → ℕ → ℕ
 spawn_count_after None job inline count budget = 4294967295
 spawn_count_after (Some overhead) None inline count budget = 4294967295

@@ -5,7 +5,7 @@ use lib.ListN.{get_elem?}
 use Rattle.parallel_pool.specs.declared.latch.count_share.ShareView.{ShareView}
 use Rattle.parallel_pool.specs.Histories.{Begins}
 
--- what a share knows that may give so many of the latch's shares, and has seen these gives
+-- what a share knows that may give that many of the latch's shares, and has seen these gives
 abbrev pub share_view : ℕ → ℕ → List ℕ → ShareView
 share_view unspent of seen = record { unspent = unspent; of = of; seen = seen; heard = [] }
 
@@ -71,7 +71,7 @@ pub record GivesShare (before : List ℕ) (by : ℕ) (old new : ShareView) : Typ
   pub once : (other : ℕ) → times_given other new.seen ≤ 1
   pub spends : new.unspent + 1 ≡ old.unspent
 
--- a give that found so many shares left, its own among them
+-- a give that found that many shares left, its own among them
 abbrev pub CountsFrom : ℕ → ShareView → ShareView → Type 0
 CountsFrom found old new = (before : List ℕ) × (by : ℕ) × GivesShare before by old new
     × (found + length before ≡ old.of) × (new.of ≡ old.of) × (0 < found)
@@ -82,7 +82,7 @@ CountsFrom found old new = (before : List ℕ) × (by : ℕ) × GivesShare befor
 abbrev pub Given : ShareView → ShareView → Type 0
 Given old new = (before : List ℕ) × (by : ℕ) × GivesShare before by old new
 
--- a look that found so many shares left, of a latch of which `about` tells
+-- a look that found that many shares left, of a latch of which `about` tells
 abbrev pub Sees : ℕ → ShareView → ShareView → Type 0
 Sees found about new = (found + length new.seen ≡ about.of) × (new.of ≡ about.of)
     × (new.unspent ≡ 0) × ((by : ℕ) → times_given by new.seen ≤ 1)

@@ -53,7 +53,7 @@ abbrev pub Does : {T : Type 0} → Queue → (JobView T → JobView T → Type 0
 Does {T} queue deed old new = (view : JobView T) × deed (view_of queue old) view
     × (new ≡ with_view queue view old)
 
--- a seat of a pool of so many workers that has seen nothing
+-- a seat of a pool of that many workers that has seen nothing
 pub record IsFreshSeat {T : Type 0} (workers : ℕ) (seat : SeatView T) : Type 0 where
   pub injected : seat.injected ≡ new_pass
   pub broadcasts : length seat.broadcasts ≡ workers

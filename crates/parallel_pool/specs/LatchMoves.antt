@@ -1,4 +1,4 @@
--- The phases of a core latch, how a call moves them, and what it answers.
+-- The phases of a core latch, how a call moves them, and what it returns.
 use Rattle.std.specs.Prelude.{ℕ, Bool, true, false, List, [], ◌∷◌}
 use Rattle.parallel_pool.specs.declared.latch.history.Act.{Act}
 use Rattle.parallel_pool.specs.declared.latch.history.Act.TheVariants.{GetSleepy, FallAsleep, WakeUp, Set, Probe}

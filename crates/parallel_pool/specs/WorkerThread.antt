@@ -69,7 +69,7 @@ module _ {T : Type 0} where
   PushesOwn old job new = (view : JobView T) × HasPushed old.own job view
       × (new ≡ with_own view old)
 
--- the first worker of a pool of so many threads, by its index and its pool's label
+-- the first worker of a pool of that many threads, by its index and its pool's label
 pub record IsFirstWorker {T : Type 0} (tag count : ℕ) (worker : WorkerView T) : Type 0 where
   pub index : worker.index ≡ 0
   pub label : worker.label ≡ tag

@@ -1,4 +1,4 @@
--- What each event of the machine needs, answers and changes, outcome by outcome.
+-- What each event of the machine needs, returns and changes, outcome by outcome.
 use Rattle.std.specs.Prelude.{◌≡◌, ◌≢◌, ℕ, ◌+◌, ◌-◌, ◌*◌, ◌/◌, ◌<◌, ◌≤◌, min, List, [], ◌∷◌, length, Some, None}
 use Rattle.std.specs.declared.ops.Range.{Range}
 use Rattle.parallel_shares.specs.declared.machine.event.Event.{Event}

@@ -14,7 +14,7 @@ abbrev pub Fills : {T : Type 0} → (MutBor T → ℕ → Range ℕ → Unit {0}
 Fills {T = T} answered s row columns t = (p q : MutBor T) × (p.now ≡ s)
     × answered p row columns tt q × (q.now ≡ t)
 
--- the same of a call that answers r
+-- the same of a call that returns r
 abbrev pub Gives : {T R : Type 0} → (MutBor T → ℕ → R → MutBor T → Type 0) → T → ℕ → R → T → Type 0
 Gives {T = T} answered s row r t = (p q : MutBor T) × (p.now ≡ s) × answered p row r q × (q.now ≡ t)
 

@@ -54,7 +54,7 @@ abbrev pub carries : Machine → ℕ → Option (Range ℕ) → Machine
 carries machine seat units =
     with_seat_row machine seat (record (row_at machine seat) { transit = units })
 
--- the words of so many shares, from the first: balanced ranges that cover the units
+-- the words of that many shares, from the first: balanced ranges that cover the units
 abbrev pub opening_words : Sizes → ℕ → List ℕ
 opening_words sizes zero = []
 opening_words sizes (suc share) =

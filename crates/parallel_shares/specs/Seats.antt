@@ -112,7 +112,7 @@ abbrev pub MeetsFront : ℕ → View → ℕ → View → Type 0
 MeetsFront word before found after = (found ≡ word → after ≡ took_front before word)
     × (found ≢ word → after ≡ missed before found)
 
--- so many exchanges more were tried, and so many steps more changed a word
+-- that many exchanges more were tried, and that many steps more changed a word
 abbrev pub CountsSteps : ℕ → ℕ → Seat → Seat → Type 0
 CountsSteps exchanges changes before after =
     ((known after).exchanges ≡ (known before).exchanges + exchanges)

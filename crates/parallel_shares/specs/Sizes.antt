@@ -2,8 +2,8 @@
 use Rattle.std.specs.Prelude.{ℕ, zero, suc, ◌+◌, ◌*◌, ◌/◌, ◌%◌, ◌^◌, ◌<◌, ◌≤◌, min, Bool, cond, ltb}
 use Rattle.std.specs.Int.{div_ceil}
 
--- what a plan is made for: so many rows of so many cells, a tile's cost, workers, and whether rows
--- stay whole
+-- what a plan is made for: that many rows of that many cells, a tile's cost, workers, and whether
+-- rows stay whole
 pub record Work : Type 0 where
   pub rows : ℕ
   pub len : ℕ

@@ -130,8 +130,8 @@ GainsClaim shares before (Some cells) after =
 GainsClaim shares before None after =
     (claims_of after ≡ claims_of before) × FoundNothing shares before after
 
--- what a try to claim and, behind an own word that was empty, to steal gained: what ends a claim,
--- or no claim yet
+-- what a try to claim and, after an own word that was empty, to steal gained: what ends a claim, or
+-- no claim yet
 abbrev pub GainsTry : Shares → Seat → Tried → Seat → Type 0
 GainsTry shares before (Claimed cells) after =
     GainsClaim shares before (Some cells) after × (transit_of after ≡ None)

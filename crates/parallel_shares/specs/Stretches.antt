@@ -16,7 +16,7 @@ abbrev pub all_cells : List (Range ℕ) → List ℕ
 all_cells [] = []
 all_cells (r ∷ rs) = range_cells r ++ all_cells rs
 
--- the cells of a stretch, on rows of so many cells
+-- the cells of a stretch, on rows of that many cells
 abbrev pub stretch_cells : ℕ → Stretch → List ℕ
 stretch_cells len s =
     range_with_len (s.row * len + s.columns.start) (s.columns.end - s.columns.start)
@@ -50,7 +50,7 @@ CutsCells len cells ss = (cut_cells len ss ≡ cells) × AreApart len ss
 abbrev pub Cutting : List (Range ℕ) → ℕ → List Stretch → Type 0
 Cutting claims len ss = CutsCells len (all_cells claims) ss
 
--- columns of a row, at least one, whose cells are all below a number, on rows of so many cells
+-- columns of a row, at least one, whose cells are all below a number, on rows of that many cells
 abbrev pub IsPartOfRow : ℕ → ℕ → ℕ → Range ℕ → Type 0
 IsPartOfRow cells len row columns = (columns.start < columns.end) × (columns.end ≤ len)
     × (row * len + columns.end ≤ cells)

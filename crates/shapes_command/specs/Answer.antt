@@ -57,7 +57,7 @@ IsPlannedFor set num_threads num_cpus machine planned =
 abbrev pub over_two : ExplorerView
 over_two = record { planning = 3; threads = 2; rule = Parallel; starts = true }
 
--- the sum along a cut of the items: each segment is summed from the identity, behind a further one,
+-- the sum along a cut of the items: each segment is summed from the identity, after a further one,
 -- and the sums of neighbours are added
 abbrev pub SumsAlong : ℕ → Cut (String Global) → ℕ → Type 0
 SumsAlong identity cut sum =

@@ -2,7 +2,7 @@
 use Rattle.std.specs.Prelude.{◌≡◌, ℕ, ◌<◌, ◌⊎◌, Option, List, [], ◌∷◌, ◌++◌, codes, length}
 use Rattle.std.specs.Io.KnownBytes.{Appends, Keeps}
 
--- a text with a line break behind it
+-- a text with a line break after it
 abbrev pub as_line : List ℕ → List ℕ
 as_line text = text ++ 10 ∷ []
 

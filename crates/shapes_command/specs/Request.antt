@@ -15,7 +15,7 @@ word words i = slice_index_or (map string_bytes words) i []
 abbrev pub number_at : List (String Global) → ℕ → ℕ
 number_at words i = digits_value 10 (word words i)
 
--- so many words, of which the first is the name
+-- that many words, of which the first is the name
 abbrev pub HasForm : List (String Global) → List ℕ → ℕ → Type 0
 HasForm words name count = (length words ≡ count) × (word words 0 ≡ name)
 

@@ -27,7 +27,7 @@ use std::thread::Threads;
 ///
 /// # Errors
 ///
-/// `Fault::Memory` where the line or a list behind it could not grow.
+/// `Fault::Memory` where the line or a list for it could not grow.
 pub fn line<R: Threads + Wait + Sync>(
     rt: &R,
     alloc: Global,

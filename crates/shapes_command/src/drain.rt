@@ -160,7 +160,7 @@ fn claimed_cells(alloc: Global, drained: Vec<Drained>) -> Result<(Vec<Seat>, Vec
     Ok((seats, cells))
 }
 
-// The cells of the ranges, behind those that are there.
+// The cells of the ranges, after those that are there.
 fn push_cells(cells: &mut Vec<usize>, ranges: Vec<Range<usize>>) -> Result<(), Fault>
     ensures cells { IfOk result (λ _. (c : ℕ)
         → times c cells.new.items ≡ times c cells.old.items + in_ranges c ranges.items) }

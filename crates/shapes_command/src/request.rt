@@ -50,7 +50,7 @@ pub enum Request<'a> {
     },
     /// `grid ROWS COST LEN WORKERS`: the cost of a grid, and whether its rows stay whole.
     Grid {
-        /// The grid, of so many rows and such a tile cost.
+        /// The grid, of that many rows and such a tile cost.
         grid: Grid,
         /// The number of indices in a row.
         len: usize,

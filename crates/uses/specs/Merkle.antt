@@ -31,7 +31,7 @@ next_level node [] = []
 next_level node (x ∷ []) = x ∷ []
 next_level node (x ∷ (y ∷ xs)) = node x y ∷ next_level node xs
 
--- the level that is so many levels above the leaves
+-- the level that is that many levels above the leaves
 unfoldable pub level_above : {X : Type 0} → (X → X → X) → ℕ → List X → List X
 level_above node zero leaves = leaves
 level_above node (suc n) leaves = next_level node (level_above node n leaves)

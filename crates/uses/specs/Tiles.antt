@@ -1,4 +1,4 @@
--- What is counted of a matrix, whose rows stand one after another, each of so many columns.
+-- What is counted of a matrix, whose rows stand one after another, each of that many columns.
 use Rattle.std.specs.Prelude.{ℕ, ◌+◌, ◌*◌, Bool, List, count_by, map, nat_lt}
 use Rattle.std.specs.List.{range_with_len, slice_range}
 

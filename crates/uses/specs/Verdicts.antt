@@ -27,7 +27,7 @@ IsFirstOver limit xs over =
     (before : List ℕ) × (after : List ℕ) × (xs ≡ before ++ (over ∷ after))
     × All (λ y. y ≤ limit) before × (limit < over)
 
--- an answer where the item at the index may pass, and an error, which is the index, where it may
+-- a result where the item at the index may pass, and an error, which is the index, where it may
 -- fail
 abbrev pub Judges : {X Y : Type 0} → (X → Bool → Type 0) → List X → ℕ → Result Y ℕ → Type 0
 Judges verdict xs i out = MatchResult out (λ _. HoldsAt (λ x. verdict x true) xs i)
@@ -43,8 +43,8 @@ AddsWithin limit a x out =
 abbrev pub HasItsDigest : (Bor (List ℕ) × List ℕ) → Type 0
 HasItsDigest (message, digest) = sha256 message.now ≡ digest
 
--- an answer where the pair's digest is its message's, and an error, which is the pair's index,
--- where it isn't
+-- a result where the pair's digest is its message's, and an error, which is the pair's index, where
+-- it isn't
 abbrev pub JudgesDigest : (ℕ × (Bor (List ℕ) × List ℕ)) → Result ⊤ ℕ → Type 0
 JudgesDigest item out =
     MatchResult out (λ _. HasItsDigest item.1) (λ e. (e ≡ item.0) × (¬ HasItsDigest item.1))

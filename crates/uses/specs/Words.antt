@@ -10,7 +10,7 @@ longer_of (Some first) None = Some first
 longer_of (Some first) (Some second) =
     cond (nat_lt (length first.now) (length second.now)) (Some second) (Some first)
 
--- the word is one of the list, longer than each before it and no shorter than each behind it
+-- the word is one of the list, longer than each before it and no shorter than each after it
 abbrev pub IsFirstLongest : List (Bor (List ℕ)) → Bor (List ℕ) → Type 0
 IsFirstLongest words word =
     (before after : List (Bor (List ℕ))) × (words ≡ before ++ (word ∷ after))
