@@ -2,7 +2,7 @@
 use Rattle.std.specs.Prelude.{ℕ, zero, suc, List, [], ◌∷◌, length, take, drop}
 use Rattle.std.specs.Int.{div_ceil}
 
--- so many pieces of a list from its front on, each of size items, or of what is left
+-- that many pieces of a list from its front on, each of size items, or of what is left
 abbrev pub pieces_of : {T : Type 0} → ℕ → ℕ → List T → List (List T)
 pieces_of zero size xs = []
 pieces_of (suc n) size xs = take size xs ∷ pieces_of n size (drop size xs)

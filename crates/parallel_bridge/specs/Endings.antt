@@ -38,7 +38,7 @@ IsUnstopped failing = Unit {0}
 IsUnstopped stopping = ⊥
 IsUnstopped refusing = Unit {0}
 
--- how two neighbours end together: the left one's trouble stands, behind a left one that ended well
+-- how two neighbours end together: the left one's trouble stands, after a left one that ended well
 -- the right one's, and two that ended well aren't stopped together
 abbrev pub EndTogether : Ending → Ending → Ending → Type 0
 EndTogether well well z = IsUnstopped z
@@ -65,13 +65,13 @@ abbrev pub LooksOnce : {W : Type 0} → (W → ℕ → W → Type 0) → W → W
 LooksOnce {W = W} looked old new =
     (first : W) (count : ℕ) → looked first count old → looked first (count + 1) new
 
--- it has looked so many times more
+-- it has looked that many times more
 abbrev pub LooksMore : {W : Type 0} → (W → ℕ → W → Type 0) → ℕ → W → W → Type 0
 LooksMore {W = W} looked more old new =
     (first : W) (count : ℕ) → looked first count old → looked first (count + more) new
 
 -- it has looked once for each item of a list that may come: up to its last item, or in front of one
--- behind which no item makes a difference
+-- after which no item makes a difference
 abbrev pub LooksAlong : {W S X : Type 0} → (W → ℕ → W → Type 0) → W → W → (S → List X → Type 0)
     → S → (List X → Type 0) → Type 0
 LooksAlong {X = X} looked old new gives items settled = (front rest : List X)
@@ -99,7 +99,7 @@ WatchEnds first count last how = (last.gate ≡ first.gate) × (last.start ≡ f
     × IsWatching last × (0 < stands_for last.seat)
     × SeatEnds first.start count (stands_for first.seat) (known last.seat) how
 
--- it has looked so many times since
+-- it has looked that many times since
 abbrev pub HasLooked : GateWatch → ℕ → GateWatch → Type 0
 HasLooked first count last = (known last.seat).looks ≡ (known first.seat).looks + count
 

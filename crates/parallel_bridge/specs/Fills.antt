@@ -1,4 +1,4 @@
--- Lists whose answers are written into windows.
+-- Lists whose results are written into windows.
 use Rattle.std.specs.Prelude.{◌≡◌, ℕ, List, [], ◌++◌, length, Result, Ok, Err, IfOk}
 use Rattle.std.specs.Vec.Ownership.{FitsInBlock}
 use denote.RattleType.{RattleType}
@@ -30,23 +30,23 @@ abbrev pub kept : {T E : Type 0} → Result (Unit {0}) E → List T → Result (
 kept (Ok done) ys = Ok ys
 kept (Err e) ys = Err e
 
--- the answers for all items, from some state to some state, or the error of one of them
+-- the results for all items, from some state to some state, or the error of one of them
 abbrev pub Answered : {X S T E : Type 0} → (List X → S → List T → Type 0) → (List X → E → Type 0)
     → List X → Result (List T) E → Type 0
 Answered {S = S} so_far fails xs (Ok ys) = (state : S) × so_far xs state ys
 Answered so_far fails xs (Err e) = fails xs e
 
--- the answers of two parts one after another
+-- the results of two parts one after another
 abbrev pub OneAfterAnother : {T E : Type 0} → List T → List T → Result (List T) E → Type 0
 OneAfterAnother a b out = OnlyOk (λ c. c ≡ a ++ b) out
 
--- there is a place for each answer to a list, and each item that may come is taken
+-- there is a place for each result to a list, and each item that may come is taken
 abbrev pub Fillable : {P X T : Type 0} → RattleType → (P → ℕ) → (P → X → Type 0) → (X → Type 0) → P
     → View T → Type 0
 Fillable {X = X} R count may takes parts room = IsRoom room × (room.room ≡ count parts)
     × FitsInBlock R room.room × ((x : X) → may parts x → takes x)
 
--- the places are those of the room; unless there is trouble they are full, and the answers go along
+-- the places are those of the room; unless there is trouble they are full, and the results go along
 -- the shape of the list
 abbrev pub Filled : {P X T E : Type 0} → (P → List X → Type 0) → P
     → (List X → Result (List T) E → Type 0) → ℕ → View T → View T → Result (Unit {0}) (Trouble E)

@@ -4,9 +4,12 @@ use Rattle.std.specs.List.{Contains}
 use Rattle.parallel_bridge.specs.Lists.{Bracketing, Brackets}
 use Rattle.parallel_bridge.specs.States.{AnyState, FoldInitSegment}
 
--- The closures are functions, f by items and g by results, on the values that are good; the
--- identity is neutral on the right of g; and a step on the right of a reduction may be taken out
--- of it. All of this is asked of good values and of the items of the list alone.
+-- The laws under which every bracketing is the plain fold from the left. The closures are
+-- functions, f by items and g by results, on the values that are good; the identity is neutral on
+-- the right of g; and a step on the right of a reduction may be taken out of it. All of this is
+-- asked of good values and of the items of the list alone. They suffice: for a bracketing r of xs
+-- and a good a, g a r is the fold of xs from a; for a segment by the last law repeated, for a
+-- reduction by both sides. Without them it is false: 10 isn't neutral for addition.
 pub record FoldLaws {X R : Type 0}
     (identity : R → Type 0) (step : R → X → R → Type 0) (reduce : R → R → R → Type 0)
     (unit : R) (f : R → X → R) (g : R → R → R) (good : R → Bool) (xs : List X) : Type 0 where

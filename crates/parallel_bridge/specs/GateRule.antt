@@ -10,7 +10,7 @@ greatest = 18446744073709551615
 
 -- ---- what a seat knows
 
--- which stands for so many seats, and has told nothing and seen nothing
+-- which stands for that many seats, and has told nothing and seen nothing
 abbrev pub newcomer : ℕ → GateView
 newcomer n = record { seats = n; told = []; least = greatest; looks = 0 }
 
@@ -58,8 +58,9 @@ pub record FitsGate (word : ℕ) (v : GateView) : Type 0 where
   pub told : All (λ start. word ≤ start) v.told
   pub idle : v.seats ≡ 0 → v.told ≡ []
 
--- the word is the greatest number or a start that some seat told, and fits each seat; the seats
--- stand together for all seats
+-- The word is the greatest number or a start that some seat told, and at most each start that was
+-- told and each word that a seat saw; the seats stand together for all seats, and one that stands
+-- for none has told nothing.
 pub record KeepsGate (n word : ℕ) (views : List GateView) : Type 0 where
   pub small : word ≤ greatest
   pub seats : sum_by (λ v. v.seats) views ≡ n

@@ -14,7 +14,8 @@ seats_of gate = gate.table.shared.key
 abbrev pub IsGateSeatOf : Gate → GateSeat → Type 0
 IsGateSeatOf gate seat = (seat.seat.table_id ≡ gate.table.shared.table_id) × (seat.seat.me.1 ≡ [])
 
--- what the seat knows of its gate
+-- What the seat knows of its gate: how many seats it stands for, which starts it told, the least
+-- word that it saw, how often it looked.
 abbrev pub known : GateSeat → GateView
 known seat = seat.seat.me.0
 
@@ -47,7 +48,7 @@ SameWatch old new = (new.gate ≡ old.gate) × (new.start ≡ old.start)
 abbrev pub MayTell : GateWatch → Type 0
 MayTell watch = IsWatching watch × (0 < stands_for watch.seat) × ((known watch.seat).told ≡ [])
 
--- and may be cut as often as so many items may
+-- and may be cut as often as that many items may
 abbrev pub MayWatch : GateWatch → ℕ → Type 0
 MayWatch watch count = MayTell watch × (count ≤ stands_for watch.seat)
     × (watch.start + count ≤ greatest)

@@ -1,4 +1,4 @@
--- What is said of an answer that may be an error of the caller's closure, or a refusal.
+-- What is said of a result that may be an error of the caller's closure, or a refusal.
 use Rattle.std.specs.Prelude.{◌≡◌, List, [], ◌∷◌, ◌++◌, Result, Ok, Err, Option, Some, None}
 use Rattle.std.specs.declared.vec.Vec.{Vec}
 use Rattle.std.specs.declared.alloc.Global.{Global}
@@ -7,13 +7,14 @@ use Rattle.parallel_fault.specs.declared.fault.Fault.TheVariants.{Memory}
 use Rattle.parallel_fault.specs.declared.fault.Trouble.TheVariants.{Closure}
 use Rattle.parallel_fault.specs.declared.fault.Trouble.TheVariants.{Fault as OfFault}
 
--- allowed holds of the answer, or of the closure's error; a refusal is want of memory
+-- For a call whose closure has an error of its own: allowed holds of the result, or of the
+-- closure's error; a refusal is want of memory.
 abbrev pub UnlessRefused : {R E : Type 0} → Result R (Trouble E) → (Result R E → Type 0) → Type 0
 UnlessRefused (Ok r) allowed = allowed (Ok r)
 UnlessRefused (Err (Closure e)) allowed = allowed (Err e)
 UnlessRefused (Err (OfFault f)) allowed = f ≡ Memory
 
--- the answer as a list, where there is one
+-- the result as a list, where there is one
 abbrev pub listed : {T E : Type 0} → Result (Vec T Global) E → Result (List T) E
 listed (Ok v) = Ok v.items
 listed (Err e) = Err e
@@ -32,7 +33,7 @@ joined (v ∷ vs) = v.items ++ joined vs
 abbrev pub IsListed : {T : Type 0} → List T → List (Vec T Global) → Type 0
 IsListed xs all = (joined all ≡ xs) × (xs ≡ [] → all ≡ [])
 
--- of two neighbours' outcomes the left one's trouble stands, behind a value of it the right one's,
+-- of two neighbours' outcomes the left one's trouble stands, after a value of it the right one's,
 -- and two values are put together as node allows
 abbrev pub PutTogether : {R E : Type 0} → (R → R → Result R E → Type 0) → Result R (Trouble E)
     → Result R (Trouble E) → Result R (Trouble E) → Type 0

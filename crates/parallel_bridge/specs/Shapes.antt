@@ -1,4 +1,4 @@
--- How a list is split among threads, and what a fold along the splits may answer.
+-- How a list is split among threads, and what a fold along the splits may return.
 use Rattle.std.specs.Prelude.{ℕ, zero, suc, ◌-◌, ◌/◌, List, [], ◌∷◌, ◌++◌, length, take, drop, cond, nat_lt}
 use Rattle.parallel_bridge.specs.declared.path.Path.{Path}
 use Rattle.parallel_bridge.specs.declared.path.Path.TheVariants.{Serial, Parallel}
@@ -42,12 +42,12 @@ halved_lengths (suc k) n =
 abbrev pub cutdepth : ℕ → ℕ
 cutdepth n = 64 - leading_zeros w64 n
 
--- how many levels deep a list is split for so many threads
+-- how many levels deep a list is split for that many threads
 abbrev pub levels : NonZeroUsize → ℕ
 levels threads = cutdepth (non_zero_usize_get threads)
 
--- each segment gives an answer as leaf allows for its items, and two parts give what node allows
--- for the answers of left and right
+-- each segment gives a result as leaf allows for its items, and two parts give what node allows for
+-- the results of left and right
 abbrev pub AlongCut : {X R : Type 0} → (List X → R → Type 0) → (R → R → R → Type 0) → Cut X → R
     → Type 0
 AlongCut leaf node (segment xs) r = leaf xs r
@@ -67,12 +67,26 @@ abbrev pub AlongLeaves : {X R : Type 0} → (R → Type 0) → (List X → R →
 AlongLeaves identity allowed reduce cut r =
     AlongCut (ReducedSegment identity allowed reduce) reduce cut r
 
--- each segment is folded from an identity of its own, and reduced behind a further one
+-- Each segment is folded from an identity of its own, and reduced after a further one. The fold of
+-- [1, 2, 3] by addition from 10, over two threads:
+--
+--     Shape (cutdepth 2) [1,2,3]         [1,2,3]                 depth 2
+--                                       /       \
+--                                    [1]       [2,3]             depth 1
+--                                              /   \
+--                                            [2]   [3]           depth 0
+--
+--     each leaf: 10 (its identity) + its item, after a further 10
+--                                    21        22  23
+--     each node: left + right                   45
+--                                         66
+--
+-- In one segment, serially, it is 10 + 1 + 2 + 3 = 16, and nothing is reduced.
 abbrev pub Along : {X R : Type 0} → (R → Type 0) → (R → X → R → Type 0) → (R → R → R → Type 0)
     → Cut X → R → Type 0
 Along identity step reduce cut r = AlongLeaves identity (FoldSegment identity step) reduce cut r
 
--- serially the whole list is one segment and nothing is reduced; in parallel the answer goes along
+-- serially the whole list is one segment and nothing is reduced; in parallel the result goes along
 -- the list's shape of that depth
 abbrev pub FoldsAs : {X R : Type 0} → (R → Type 0) → (List X → R → Type 0) → (R → R → R → Type 0)
     → ℕ → Path → List X → R → Type 0

@@ -11,11 +11,12 @@ abbrev pub MayCome : {S A : Type 0} → (S → Option A → S → Type 0) → S 
 MayCome {S = S} {A = A} steps s x = (before : List A) × (t : S) × (u : S) × Yields steps s before t
     × steps t (Some x) u
 
--- a list that may come has the fact
+-- The fact holds of some list that the source may give: the form of every list call's clause.
 abbrev pub GivesSome : {S X : Type 0} → (S → List X → Type 0) → S → (List X → Type 0) → Type 0
 GivesSome {X = X} gives source fact = (xs : List X) × gives source xs × fact xs
 
--- the outcome goes along the shape of a list that may come, by what segments and parts may give
+-- What the bridge says of every consumer: unless it was refused, the outcome goes along the shape
+-- of a list that may come, by what leaves and nodes may give.
 abbrev pub Driven : {S X R E : Type 0} → (S → List X → Type 0) → S → (List X → Result R E → Type 0)
     → (R → R → Result R E → Type 0) → ℕ → Result R (Trouble E) → Type 0
 Driven gives source leaf node depth result = UnlessRefused result

@@ -6,30 +6,30 @@ use Rattle.std.specs.Borrow.{MutBor}
 use Rattle.parallel_bridge.specs.Shapes.{AlongCut, AlongLeaves, Cut, Shape}
 
 -- answered is a call that is lent a state: s is the state before the call, t the state after it, x
--- the item, y the answer
+-- the item, y the result
 abbrev pub MapStep : {S X Y : Type 0} → (MutBor S → X → Y → MutBor S → Type 0) → S → X → Y → S
     → Type 0
 MapStep {S = S} answered s x y t = (p q : MutBor S) × (p.now ≡ s) × answered p x y q × (q.now ≡ t)
 
--- the same of a call that also takes the value a that is folded so far, and answers the next one, b
+-- the same of a call that also takes the value a that is folded so far, and returns the next one, b
 abbrev pub FoldStep : {S X R : Type 0} → (R → MutBor S → X → R → MutBor S → Type 0) → S → R → X → R
     → S → Type 0
 FoldStep {S = S} answered s a x b t = (p q : MutBor S) × (p.now ≡ s) × answered a p x b q
     × (q.now ≡ t)
 
--- the answers ys follow from the state s by one step for each item, each step from the state that
+-- the results ys follow from the state s by one step for each item, each step from the state that
 -- the one before it left
 abbrev pub StatesFrom : {S X Y : Type 0} → (S → X → Y → S → Type 0) → S → List X → List Y → Type 0
 StatesFrom step s [] ys = ys ≡ []
 StatesFrom step s (x ∷ xs) [] = ⊥
 StatesFrom {S = S} step s (x ∷ xs) (y ∷ ys) = (t : S) × step s x y t × StatesFrom step t xs ys
 
--- the answers follow from one fresh state
+-- the results follow from one fresh state
 abbrev pub StateSegment : {S X Y : Type 0} → (S → Type 0) → (S → X → Y → S → Type 0) → List X
     → List Y → Type 0
 StateSegment {S = S} init step xs ys = (s : S) × init s × StatesFrom step s xs ys
 
--- the items fall into neighbouring segments, none of them empty, and the answers of each follow
+-- the items fall into neighbouring segments, none of them empty, and the results of each follow
 -- from a fresh state of its own
 pub data Stateful {S X Y : Type 0} (init : S → Type 0) (step : S → X → Y → S → Type 0) : List X
     → List Y → Type 0 where
@@ -39,12 +39,12 @@ pub data Stateful {S X Y : Type 0} (init : S → Type 0) (step : S → X → Y �
       → StateSegment init step (x ∷ xs) ys → Stateful init step rest more
       → Stateful init step all answers
 
--- a fresh state at each segment of a cut, and the answers of two parts one after another
+-- a fresh state at each segment of a cut, and the results of two parts one after another
 abbrev pub StatesAlong : {S X Y : Type 0} → (S → Type 0) → (S → X → Y → S → Type 0) → Cut X → List Y
     → Type 0
 StatesAlong init step cut ys = AlongCut (StateSegment init step) (λ a b c. c ≡ a ++ b) cut ys
 
--- what follows from the state t follows from the state s with the items xs and answers ys in front
+-- what follows from the state t follows from the state s with the items xs and results ys in front
 abbrev pub StatesContinue : {S X Y : Type 0} → (S → X → Y → S → Type 0) → S → List X → List Y → S
     → Type 0
 StatesContinue {X = X} {Y = Y} step s xs ys t = (more : List X) (zs : List Y)
@@ -71,7 +71,7 @@ abbrev pub StateChainContinues : {S X R : Type 0} → (S → R → X → R → S
 StateChainContinues {X = X} {R = R} step s a xs t b = (more : List X) (r : R)
     → StateChain step t b more r → StateChain step s a (xs ++ more) r
 
--- r is reached by a chain over all items from a fresh state and a value that identity may answer
+-- r is reached by a chain over all items from a fresh state and a value that identity may return
 abbrev pub FoldInitSegment : {S X R : Type 0} → (S → Type 0) → (R → Type 0)
     → (S → R → X → R → S → Type 0) → List X → R → Type 0
 FoldInitSegment {S = S} {R = R} init identity step xs r = (s : S) × (a : R) × init s × identity a
@@ -81,7 +81,7 @@ FoldInitSegment {S = S} {R = R} init identity step xs r = (s : S) × (a : R) × 
 abbrev pub AnyState : {S X R : Type 0} → (S → R → X → R → S → Type 0) → R → X → R → Type 0
 AnyState {S = S} step a x b = (s t : S) × step s a x b t
 
--- each segment is folded from a fresh state and an identity of its own, and reduced behind a further
+-- each segment is folded from a fresh state and an identity of its own, and reduced after a further
 -- identity
 abbrev pub AlongInit : {S X R : Type 0} → (S → Type 0) → (R → Type 0)
     → (S → R → X → R → S → Type 0) → (R → R → R → Type 0) → Cut X → R → Type 0

@@ -9,7 +9,7 @@ use Rattle.parallel_bridge.specs.Shapes.{Cut, segment, halves, Shape}
 abbrev pub EachOk : {X Y E : Type 0} → (X → Result Y E → Type 0) → List X → List Y → Type 0
 EachOk allowed xs ys = AllZip (λ x y. allowed x (Ok y)) xs ys
 
--- some item may fail by e, and each item before it may answer some Ok
+-- some item may fail by e, and each item before it may return some Ok
 abbrev pub FirstErr : {X Y E : Type 0} → (X → Result Y E → Type 0) → List X → E → Type 0
 FirstErr {X = X} {Y = Y} allowed xs e = (before : List X) × (x : X) × (after : List X)
     × (ys : List Y) × (xs ≡ before ++ (x ∷ after)) × EachOk allowed before ys × allowed x (Err e)
@@ -27,13 +27,14 @@ TryChain step a [] out = out ≡ Ok a
 TryChain {R = R} {E = E} step a (x ∷ xs) out = ((b : R) × step a x (Ok b) × TryChain step b xs out)
     ⊎ ((e : E) × step a x (Err e) × (out ≡ Err e))
 
--- a chain over all items, up to the first step that fails, from a value that identity may answer
+-- a chain over all items, up to the first step that fails, from a value that identity may return
 abbrev pub TryFoldSegment : {X R E : Type 0} → (R → Type 0) → (R → X → Result R E → Type 0) → List X
     → Result R E → Type 0
 TryFoldSegment {R = R} identity step xs out = (a : R) × identity a × TryChain step a xs out
 
--- a part's outcome is a segment's; or it comes from two neighbours: the reduction of two values, or
--- the left one's error, or, behind a value of the left one, the right one's error
+-- A part's outcome is a segment's; or it comes from two neighbours: the reduction of two values,
+-- left before right, or the left one's error, where nothing is said of the right one, or, after a
+-- value of the left one, the right one's error.
 pub data TryBrackets {X R E : Type 0} (allowed : List X → Result R E → Type 0)
     (reduce : R → R → R → Type 0) : List X → Result R E → Type 0 where
   of_try_segment : {xs : List X} {out : Result R E} → allowed xs out
@@ -53,7 +54,7 @@ abbrev pub TryBracketing : {X R E : Type 0} → (R → Type 0) → (R → X → 
 TryBracketing identity step reduce xs out = TryBrackets (TryFoldSegment identity step) reduce xs out
 
 -- each segment gives an outcome as leaf allows for its items, and two parts give what node allows
--- for the values of left and right; a left part's error stands alone, a right part's behind a value
+-- for the values of left and right; a left part's error stands alone, a right part's after a value
 -- of the left one
 abbrev pub TryAlongCut : {X R E : Type 0} → (List X → Result R E → Type 0)
     → (R → R → Result R E → Type 0) → Cut X → Result R E → Type 0
@@ -77,7 +78,7 @@ TryReducedSegment {R = R} identity allowed reduce xs (Ok r) = (e b : R) × ident
     × allowed xs (Ok b) × reduce e b r
 TryReducedSegment identity allowed reduce xs (Err x) = allowed xs (Err x)
 
--- each segment is folded and reduced behind a fresh identity, unless it fails; two parts give the
+-- each segment is folded and reduced after a fresh identity, unless it fails; two parts give the
 -- reduction of left and right, or the leftmost error
 abbrev pub TryAlongLeaves : {X R E : Type 0} → (R → Type 0) → (List X → Result R E → Type 0)
     → (R → R → R → Type 0) → Cut X → Result R E → Type 0

@@ -6,8 +6,8 @@ use denote.RattleType.{RattleType}
 use denote.RawPtr.{Ptr, coded_ptr}
 use Rattle.parallel_bridge.specs.Places.{laid, shifted, values}
 
--- the items in their order, where the row begins, how many places it has, and how many of them are
--- empty in front of the items
+-- A window as seen from outside: the items in their order, where the row begins, how many places it
+-- has (room), and how many of them are empty in front of the items (before).
 pub record View (X : Type 0) : Type 0 where
   pub start : Ptr
   pub room : ℕ
@@ -31,7 +31,7 @@ IsRow at start slots room before len = (at ≡ start) × (len ≡ length (values
     × (before + len ≤ room) × (slots ≡ laid before (values slots) (room - (before + len)))
 
 -- the block of a row: where it begins, how many places the row has and how many the block, and
--- where those behind the row begin
+-- where those after the row begin
 pub record Site : Type 0 where
   pub start : Ptr
   pub room : ℕ
@@ -44,11 +44,11 @@ site_code = code_by (Ptr × (ℕ × (ℕ × Ptr)))
     (λ s. (s.start, (s.room, (s.capacity, s.end))))
     (λ p. record { start = p.0; room = p.1.0; capacity = p.1.1.0; end = p.1.1.1 }) (λ _. refl)
 
--- the places behind the row are empty
+-- the places after the row are empty
 abbrev pub IsTail : {X : Type 0} → Ptr → Ptr → List (Option X) → ℕ → ℕ → Type 0
 IsTail at end slots capacity room = (at ≡ end) × (slots ≡ replicate (capacity - room) None)
 
--- the row lies in the block, and the places behind it follow it
+-- the row lies in the block, and the places after it follow it
 abbrev pub IsSite : RattleType → Site → Type 0
 IsSite R s = (s.end ≡ shifted R s.start s.room) × FitsInBlock R s.capacity × (s.room ≤ s.capacity)
 
