@@ -69,18 +69,15 @@ AlongLeaves identity allowed reduce cut r =
 
 -- Each segment is folded from an identity of its own, and reduced after a further one. The fold of
 -- [1, 2, 3] by addition from 10, over two threads:
---
 --     Shape (cutdepth 2) [1,2,3]         [1,2,3]                 depth 2
 --                                       /       \
 --                                    [1]       [2,3]             depth 1
 --                                              /   \
 --                                            [2]   [3]           depth 0
---
 --     each leaf: 10 (its identity) + its item, after a further 10
 --                                    21        22  23
 --     each node: left + right                   45
 --                                         66
---
 -- In one segment, serially, it is 10 + 1 + 2 + 3 = 16, and nothing is reduced.
 abbrev pub Along : {X R : Type 0} → (R → Type 0) → (R → X → R → Type 0) → (R → R → R → Type 0)
     → Cut X → R → Type 0

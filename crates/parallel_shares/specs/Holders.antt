@@ -55,7 +55,6 @@ pub record Refills (sizes : Sizes) (seat from to : ℕ) (before after : Holders)
 
 -- A move of the units from one up to another. Since holders are a function of the unit, no unit has
 -- two.
---
 --                          claim: a front, by a seat that claims from this share
 --      pending at a share ----------------------------------------------------> claimed by the seat
 --          |          ^
