@@ -37,6 +37,11 @@ pub fn depth_of(threads: NonZeroUsize) -> usize
 /// Hands a list to the consumer, split along its shape for that many threads, of which the caller's
 /// is one. Where several segments fail, the leftmost one's error is answered; a refusal of memory
 /// may stand in its place.
+///
+/// # Errors
+///
+/// `Trouble::Closure` with the closure's error; `Trouble::Fault` with `Fault::Memory` if an
+/// allocation fails.
 pub fn bridge<Rt: Threads + Sync, P: Parts, C: Consumer<P::Item> + Send>(
     rt: &Rt,
     alloc: Global,
@@ -95,6 +100,10 @@ pub fn bridge_watched<Rt: Threads + Sync, P: Parts, C: Consumer<P::Item> + Send,
 }
 
 /// The answer of a call whose closures have no error of their own.
+///
+/// # Errors
+///
+/// The refusal, as it was.
 pub(crate) fn unfailing<R: Drop>(answer: Result<R, Trouble<Infallible>>) -> Result<R, Fault>
     ensures same { IfOk result (λ r. answer ≡ Ok r) }
     ensures fault { UnlessRefused answer (λ _. Unit {0}) → IsMemoryOnErr result }

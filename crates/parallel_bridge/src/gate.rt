@@ -35,8 +35,11 @@ impl Gate {
     ghost use Rattle.parallel_bridge.specs.GateRule.{back_half, front_half, gathered, greatest, looking, newcomer, one_less, telling};
     ghost use Rattle.parallel_bridge.specs.Gates.{AreAllOf, IsAtMost, IsGateSeatOf, ToldByOne, known, seats_of, stands_for};
 
-    /// A gate of `seats` seats, and the seats, of which each has told nothing and seen nothing. The
-    /// one refusal is `Fault::Memory`.
+    /// A gate of `seats` seats, and the seats, of which each has told nothing and seen nothing.
+    ///
+    /// # Errors
+    ///
+    /// `Fault::Memory` if an allocation fails.
     pub fn new(alloc: Global, seats: NonZeroUsize) -> Result<(Gate, Vec<GateSeat>), Fault>
         ensures seats { IfOk result (λ made. seats_of made.0 ≡ non_zero_usize_get seats) }
         ensures count { IfOk result (λ made. vec_len made.1 ≡ non_zero_usize_get seats) }
@@ -55,6 +58,10 @@ impl Gate {
 
     /// The same with one seat that stands for all. `split` cuts it in two. It takes one word,
     /// however many the seats are.
+    ///
+    /// # Errors
+    ///
+    /// `Fault::Memory` if an allocation fails.
     pub fn open(alloc: Global, seats: NonZeroUsize) -> Result<(Gate, GateSeat), Fault>
         ensures seats { IfOk result (λ made. seats_of made.0 ≡ non_zero_usize_get seats) }
         ensures belongs { IfOk result (λ made. IsGateSeatOf made.0 made.1) }

@@ -15,6 +15,10 @@ pub enum Halt<E> {
 
 /// The outcome of a whole list, in which the leftmost trouble stands. That is no stop, since a
 /// segment that stops lies right of one that failed.
+///
+/// # Errors
+///
+/// The outcome's own error or refusal.
 pub(crate) fn unhalt<R: Drop, E: Drop>(
     outcome: Result<R, Trouble<Halt<E>>>,
 ) -> Result<R, Trouble<E>>

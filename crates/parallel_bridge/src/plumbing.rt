@@ -17,6 +17,11 @@ pub trait Reducer<R, E>: Drop {
     ghost reduce_gives: { Self → R → R → Result R E → Type 0 };
 
     /// Puts two answers together.
+    ///
+    /// # Errors
+    ///
+    /// `Trouble::Closure` with the closure's error; `Trouble::Fault` with `Fault::Memory` if an
+    /// allocation fails.
     fn reduce(self, left: R, right: R) -> Result<R, Trouble<E>>
         requires { can_reduce self left right }
         ensures { UnlessRefused result (λ out. reduce_gives self left right out) };
@@ -33,6 +38,10 @@ pub trait Folder<Item: Drop, R, E>: Sized + Drop {
     ghost gives: { Self → List Item → Result R E → Type 0 };
 
     /// The folder with one item taken.
+    ///
+    /// # Errors
+    ///
+    /// `Fault::Memory` if an allocation fails.
     fn consume(self, alloc: Global, item: Item) -> Result<Self, Fault>
         requires ready { ready self }
         requires item { takes self item }
@@ -43,6 +52,10 @@ pub trait Folder<Item: Drop, R, E>: Sized + Drop {
         ensures fault { IsMemoryOnErr result };
 
     /// The folder with the items of an iterator taken, in order, up to its end.
+    ///
+    /// # Errors
+    ///
+    /// `Fault::Memory` if an allocation fails.
     fn consume_iter<I: Iterator<Item = Item>>(self, alloc: Global, iter: I) -> Result<Self, Fault>
         requires ready { ready self }
         requires can { I.can_next iter }
@@ -56,6 +69,11 @@ pub trait Folder<Item: Drop, R, E>: Sized + Drop {
         ensures fault { IsMemoryOnErr result };
 
     /// The answer, or the error that a closure answered for one of the items.
+    ///
+    /// # Errors
+    ///
+    /// `Trouble::Closure` with the closure's error; `Trouble::Fault` with `Fault::Memory` if an
+    /// allocation fails.
     fn complete(self, alloc: Global) -> Result<R, Trouble<E>>
         requires { ready self }
         ensures { UnlessRefused result (λ out. gives self [] out) };
@@ -93,6 +111,10 @@ pub trait Consumer<Item: Drop>: Sized + Drop {
 
     /// Two consumers, for the first `index` items and for the rest, and the reducer of their
     /// answers.
+    ///
+    /// # Errors
+    ///
+    /// `Fault::Memory` if an allocation fails.
     fn split_at(self, index: usize) -> Result<(Self, Self, Self::Reducer), Fault>
         requires { ready self }
         ensures ready { IfOk result (λ p. ready p.0 × ready p.1) }
@@ -116,6 +138,10 @@ pub trait Consumer<Item: Drop>: Sized + Drop {
         ensures fault { IsMemoryOnErr result };
 
     /// What takes the items of a list that is not split.
+    ///
+    /// # Errors
+    ///
+    /// `Fault::Memory` if an allocation fails.
     fn into_folder(self, alloc: Global) -> Result<Self::Folder, Fault>
         requires { ready self }
         ensures ready { IfOk result (λ f. Self.Folder.ready f) }

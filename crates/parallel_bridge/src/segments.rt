@@ -11,6 +11,10 @@ use std::num::NonZeroUsize;
 
 /// The lengths of the segments, in order, that a list of `len` items is cut into for that many
 /// threads.
+///
+/// # Errors
+///
+/// `Fault::Memory` if an allocation fails.
 pub fn segments(alloc: Global, threads: NonZeroUsize, len: usize) -> Result<Vec<usize>, Fault>
     ensures leaves { IfOk result (λ lengths. (xs : List ℕ) → length xs ≡ len
         → lengths.items ≡ leaf_lengths (Shape (cutdepth (non_zero_usize_get threads)) xs)) }
@@ -26,6 +30,10 @@ pub fn segments(alloc: Global, threads: NonZeroUsize, len: usize) -> Result<Vec<
 }
 
 /// Appends the lengths of the segments of a list of `len` items that is halved `depth` times.
+///
+/// # Errors
+///
+/// `Fault::Memory` if an allocation fails.
 #[tactic(auto, using(crate::proofs::SegmentLengths::halved_more))]
 fn push_halves(lengths: &mut Vec<usize>, depth: usize, len: usize) -> Result<(), Fault>
     ensures lengths { IfOk result (λ _. lengths.new.items ≡ lengths.old.items ++ halved_lengths

@@ -196,6 +196,10 @@ where
 }
 
 /// The items that an iterator gives, as a list.
+///
+/// # Errors
+///
+/// `AllocError` if an allocation fails.
 pub(crate) fn gathered<I: Iterator>(alloc: Global, iter: I) -> Result<Vec<I::Item>, AllocError>
 where
     I::Item: Drop,

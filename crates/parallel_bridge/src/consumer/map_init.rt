@@ -133,6 +133,10 @@ impl<
 
 /// The answers of `map_op` for the items that come, in their order, with a state that goes from
 /// item to item.
+///
+/// # Errors
+///
+/// `Fault::Memory` if an allocation fails.
 pub(crate) fn map_init_from<I: Iterator, S: Drop, T: Drop, F: Fn(&mut S, I::Item) -> T>(
     alloc: Global,
     state: &mut S,

@@ -182,6 +182,10 @@ fn first_lists<U: Drop, K: Drop>(
 }
 
 /// Spare lists for segments of such lengths, the first ones with so many places more.
+///
+/// # Errors
+///
+/// `Fault::Memory` if an allocation fails.
 pub(crate) fn spare_lists<U: Drop, K: Drop>(
     alloc: Global,
     lengths: Vec<usize>,
@@ -205,6 +209,10 @@ pub(crate) fn spare_lists<U: Drop, K: Drop>(
 
 /// The values and the keys of all segments, one after another, in the first lists' places where
 /// there is room.
+///
+/// # Errors
+///
+/// `Fault::Memory` if an allocation fails.
 #[tactic(auto, using(crate::proofs::FoldersAppend::values_pushed, crate::proofs::FoldersAppend::keys_pushed))]
 pub(crate) fn put_in_one<U: Drop, K: Drop>(
     alloc: Global,
@@ -224,6 +232,10 @@ pub(crate) fn put_in_one<U: Drop, K: Drop>(
 }
 
 /// The items of two lists one after another.
+///
+/// # Errors
+///
+/// `Fault::Memory` if an allocation fails.
 fn put_behind<T: Drop>(list: Vec<T>, more: Vec<T>) -> Result<Vec<T>, Fault>
     ensures items { IfOk result (λ all. all.items ≡ list.items ++ more.items) }
     ensures fault { IsMemoryOnErr result }
@@ -240,6 +252,10 @@ fn put_behind<T: Drop>(list: Vec<T>, more: Vec<T>) -> Result<Vec<T>, Fault>
 /// The lists with the value of one answer more, or with its key where it has none.
 ///
 /// Each call is inlined: as a call of its own it would copy both lists' headers for every item.
+///
+/// # Errors
+///
+/// `Fault::Memory` if an allocation fails.
 #[inline(always)]
 pub(crate) fn push_answer<K: Drop, U: Drop>(
     values: Vec<U>,
@@ -267,6 +283,10 @@ pub(crate) fn push_answer<K: Drop, U: Drop>(
 
 /// The values that `map_op` answers for the items that come, and the keys of those for which it
 /// answers none, in order and behind those that are there.
+///
+/// # Errors
+///
+/// `Fault::Memory` if an allocation fails.
 pub(crate) fn partition_onto<I: Iterator, K: Drop, U: Drop, F: Fn(I::Item) -> (K, Option<U>)>(
     values: Vec<U>,
     keys: Vec<K>,

@@ -136,6 +136,10 @@ impl<
 
 /// The items that come folded from a value, in their order, up to the first step that fails; or the
 /// error that is there, which stands. Items behind an error are passed over.
+///
+/// # Errors
+///
+/// The error of the first step that fails.
 pub(crate) fn try_fold_from<I: Iterator, R: Drop, E: Drop, F: Fn(R, I::Item) -> Result<R, E>>(
     control: Result<R, E>,
     iter: I,
@@ -158,6 +162,10 @@ where
 }
 
 /// The same for one item.
+///
+/// # Errors
+///
+/// The error of the first step that fails.
 pub(crate) fn try_fold_step<X: Drop, R: Drop, E: Drop, F: Fn(R, X) -> Result<R, E>>(
     control: Result<R, E>,
     item: X,

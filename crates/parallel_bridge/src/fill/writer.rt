@@ -37,6 +37,10 @@ pub trait Writer<Item: Drop>: Sized + Drop {
         ensures { so_far self.now [] result [] };
 
     /// The answer for the next item, or its error.
+    ///
+    /// # Errors
+    ///
+    /// The error of the closure for that item.
     fn answer(&self, state: &mut Self::State, item: Item) -> Result<Self::Answer, Self::Error>
         requires { takes self.now item }
         ensures next { IfOk result (λ y. (xs : List Item) (ys : List Self.Answer)

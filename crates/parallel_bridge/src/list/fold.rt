@@ -39,6 +39,10 @@ pub fn fold_iter<I: Iterator, R: Drop, ID: Fn() -> R, F: Fn(R, I::Item) -> R>(
 
 /// The items of a list folded along its shape for that many threads: each segment from an identity
 /// of its own and reduced behind a further identity, and neighbours reduced left before right.
+///
+/// # Errors
+///
+/// `Fault::Memory` if an allocation fails.
 pub fn fold_parallel<
     Rt: Threads + Sync,
     P: Parts,
@@ -78,6 +82,10 @@ pub fn fold_parallel<
 
 /// The items of a list folded: serially as they come and in one segment, in parallel along the
 /// list's shape.
+///
+/// # Errors
+///
+/// `Fault::Memory` if an allocation fails.
 pub fn fold_by<
     Rt: Threads + Sync,
     P: Parts,

@@ -48,6 +48,10 @@ pub fn fold_init_iter<
 /// The items of a list folded along its shape for that many threads: each segment from a state and
 /// an identity of its own and reduced behind a further identity, and neighbours reduced left before
 /// right.
+///
+/// # Errors
+///
+/// `Fault::Memory` if an allocation fails.
 pub fn fold_init_parallel<
     Rt: Threads + Sync,
     P: Parts,
@@ -92,6 +96,10 @@ pub fn fold_init_parallel<
 
 /// The items of a list folded with a state: serially as they come, in one segment and with one
 /// state, in parallel along the list's shape.
+///
+/// # Errors
+///
+/// `Fault::Memory` if an allocation fails.
 pub fn fold_init_by<
     Rt: Threads + Sync,
     P: Parts,

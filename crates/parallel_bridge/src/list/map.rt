@@ -19,6 +19,10 @@ use std::thread::Threads;
 
 /// The answers of `map_op` for the items that an iterator gives, as they come and in their order,
 /// on the caller's thread. The answers alone are gathered, not the items.
+///
+/// # Errors
+///
+/// `Fault::Memory` if an allocation fails.
 pub fn map_iter<I: Iterator, T: Drop, F: Fn(I::Item) -> T>(
     alloc: Global,
     iter: I,
@@ -41,6 +45,10 @@ pub fn map_iter<I: Iterator, T: Drop, F: Fn(I::Item) -> T>(
 /// The answers of `map_op` for the items of a list, in their order, where the segments of the
 /// list's shape for that many threads are answered side by side. Memory for the answers is reserved
 /// once, before any segment starts, and each answer is written where it stays.
+///
+/// # Errors
+///
+/// `Fault::Memory` if an allocation fails.
 pub fn map_parallel<
     Rt: Threads + Sync,
     P: Parts,
@@ -68,6 +76,10 @@ pub fn map_parallel<
 
 /// The answers of `map_op` for the items of a list, in their order: serially as they come, in
 /// parallel side by side.
+///
+/// # Errors
+///
+/// `Fault::Memory` if an allocation fails.
 pub fn map_by<Rt: Threads + Sync, P: Parts, T: Send + Drop, F: Fn(P::Item) -> T + Send + Sync>(
     rt: &Rt,
     alloc: Global,

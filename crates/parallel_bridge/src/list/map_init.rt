@@ -23,6 +23,10 @@ use std::thread::Threads;
 
 /// The answers of `map_op` for the items that an iterator gives, as they come and in their order,
 /// with one state that `init` makes and that goes from item to item, on the caller's thread.
+///
+/// # Errors
+///
+/// `Fault::Memory` if an allocation fails.
 pub fn map_init_iter<I: Iterator, S: Drop, T: Drop, N: Fn() -> S, F: Fn(&mut S, I::Item) -> T>(
     alloc: Global,
     iter: I,
@@ -47,6 +51,10 @@ pub fn map_init_iter<I: Iterator, S: Drop, T: Drop, N: Fn() -> S, F: Fn(&mut S, 
 /// list's shape for that many threads are answered side by side. Each segment has a fresh state,
 /// which goes from item to item. Memory for the answers is reserved once, before any segment
 /// starts, and each answer is written where it stays.
+///
+/// # Errors
+///
+/// `Fault::Memory` if an allocation fails.
 pub fn map_init_parallel<
     Rt: Threads + Sync,
     P: Parts,
@@ -86,6 +94,10 @@ pub fn map_init_parallel<
 
 /// The answers of `map_op` for the items of a list, in their order: serially as they come and with
 /// one state, in parallel side by side and with a state for each segment.
+///
+/// # Errors
+///
+/// `Fault::Memory` if an allocation fails.
 pub fn map_init_by<
     Rt: Threads + Sync,
     P: Parts,

@@ -19,6 +19,10 @@ use std::thread::Threads;
 
 /// The values that `map_op` answers for the items that an iterator gives, and the keys of those for
 /// which it answers none, as they come and in their order, on the caller's thread.
+///
+/// # Errors
+///
+/// `Fault::Memory` if an allocation fails.
 pub fn partition_iter<I: Iterator, K: Drop, U: Drop, F: Fn(I::Item) -> (K, Option<U>)>(
     alloc: Global,
     iter: I,
@@ -40,6 +44,10 @@ pub fn partition_iter<I: Iterator, K: Drop, U: Drop, F: Fn(I::Item) -> (K, Optio
 
 /// The values and the keys of the items of a list, in their order, where the segments of the list's
 /// shape for that many threads are answered side by side.
+///
+/// # Errors
+///
+/// `Fault::Memory` if an allocation fails.
 pub fn partition_parallel<
     Rt: Threads + Sync,
     P: Parts,
@@ -73,6 +81,10 @@ pub fn partition_parallel<
 
 /// The values and the keys of the items of a list, in their order: serially as they come, in
 /// parallel side by side.
+///
+/// # Errors
+///
+/// `Fault::Memory` if an allocation fails.
 pub fn partition_by<
     Rt: Threads + Sync,
     P: Parts,

@@ -18,9 +18,13 @@ const ROW: usize = 64;
 
 /// Sorts the items by an order, parts of at least 8192 side by side where there are threads to
 /// share, then half as many parts, and so on to the whole, each by std's sort; items that tie keep
-/// their order. The one refusal is `Fault::Memory`, of a sort's buffer, and the items are then a
-/// permutation of what they were. The caller's thread is one of the threads, so that at most
-/// `threads - 1` others run at a time.
+/// their order. The caller's thread is one of the threads, so that at most `threads - 1` others run
+/// at a time.
+///
+/// # Errors
+///
+/// `Fault::Memory` if a sort's buffer can't be allocated; the items are then a permutation of what
+/// they were.
 pub fn sort_parallel<Rt: Threads + Sync, T: Send, C: Fn(&T, &T) -> Ordering + Send + Sync>(
     rt: &Rt,
     alloc: Global,

@@ -24,6 +24,10 @@ use std::thread::Threads;
 
 /// The items that an iterator gives folded from an identity, as they come and in their order, up to
 /// the first step that fails, on the caller's thread. Nothing is reduced, and no memory is taken.
+///
+/// # Errors
+///
+/// The error of the first step that fails.
 pub fn try_fold_iter<
     I: Iterator,
     R: Drop,
@@ -49,6 +53,11 @@ where
 /// of its own, up to its own first error, and reduced behind a further identity; neighbours are
 /// reduced left before right, and of several errors the leftmost is answered. A segment stops at
 /// that of a segment to its left, too: then the closures aren't called for its other items.
+///
+/// # Errors
+///
+/// `Trouble::Closure` with the closure's error; `Trouble::Fault` with `Fault::Memory` if an
+/// allocation fails.
 pub fn try_fold_parallel<
     Rt: Threads + Sync,
     P: Parts,
@@ -102,6 +111,11 @@ pub fn try_fold_parallel<
 
 /// The items of a list folded up to the first step that fails: serially as they come and in one
 /// segment, in parallel along the list's shape.
+///
+/// # Errors
+///
+/// `Trouble::Closure` with the closure's error; `Trouble::Fault` with `Fault::Memory` if an
+/// allocation fails.
 pub fn try_fold_by<
     Rt: Threads + Sync,
     P: Parts,

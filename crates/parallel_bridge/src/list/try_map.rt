@@ -26,6 +26,11 @@ use std::thread::Threads;
 /// The values that `map_op` answers for the items that an iterator gives, as they come and in their
 /// order, on the caller's thread; or the error of the first item that fails, behind which the other
 /// items are passed over and the closure isn't called.
+///
+/// # Errors
+///
+/// `Trouble::Closure` with the closure's error; `Trouble::Fault` with `Fault::Memory` if an
+/// allocation fails.
 pub fn try_map_iter<I: Iterator, T: Drop, E: Drop, F: Fn(I::Item) -> Result<T, E>>(
     alloc: Global,
     iter: I,
@@ -53,6 +58,11 @@ where
 /// that fails, whichever segment ends first. A segment stops at its own first error, and at that of
 /// a segment to its left: then the closure isn't called for its other items. Memory for the values
 /// is reserved once, before any segment starts, and each value is written where it stays.
+///
+/// # Errors
+///
+/// `Trouble::Closure` with the closure's error; `Trouble::Fault` with `Fault::Memory` if an
+/// allocation fails.
 pub fn try_map_parallel<
     Rt: Threads + Sync,
     P: Parts,
@@ -101,6 +111,11 @@ pub fn try_map_parallel<
 
 /// The values, or the first failing item's error: serially as the items come, in parallel side by
 /// side.
+///
+/// # Errors
+///
+/// `Trouble::Closure` with the closure's error; `Trouble::Fault` with `Fault::Memory` if an
+/// allocation fails.
 pub fn try_map_by<
     Rt: Threads + Sync,
     P: Parts,
