@@ -34,6 +34,10 @@ impl<'scope, S: Strategy, P: Place> Batches<'scope, S, P> {
     ghost use Rattle.commonware_parallel.specs.Batches.{AnswersPrepared, FailsPrepared, IsBatch, place_of, ranges_of, strategy_of};
 
     /// One range, `0..len`. An empty input has one range too, which is `0..0`.
+    ///
+    /// # Errors
+    ///
+    /// `Fault::Memory` if an allocation fails.
     pub fn whole(
         alloc: Global,
         strategy: &'scope S,
@@ -56,6 +60,10 @@ impl<'scope, S: Strategy, P: Place> Batches<'scope, S, P> {
     }
 
     /// The balanced ranges of `0..len`, `count` of them.
+    ///
+    /// # Errors
+    ///
+    /// `Fault::Memory` if an allocation fails.
     pub fn balanced(
         alloc: Global,
         strategy: &'scope S,

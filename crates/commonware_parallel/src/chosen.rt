@@ -51,6 +51,10 @@ pub(crate) fn end_run<S: Chooser, Rt: Wait>(
 }
 
 /// The run has ended with the outcome of a body that may fail, whose error is the closure's.
+///
+/// # Errors
+///
+/// `Trouble::Closure` with the body's error.
 pub(crate) fn end_with<S: Chooser, Rt: Wait, R, E>(
     strategy: &S,
     rt: &Rt,
@@ -68,6 +72,10 @@ pub(crate) fn end_with<S: Chooser, Rt: Wait, R, E>(
 }
 
 /// A path that the strategy takes for the call, with a measure of the run to come.
+///
+/// # Errors
+///
+/// What the strategy refuses.
 pub(crate) fn choose_path<S: Chooser, Rt: Wait, P: Place>(
     strategy: &S,
     rt: &Rt,
@@ -87,6 +95,10 @@ pub(crate) fn choose_path<S: Chooser, Rt: Wait, P: Place>(
 }
 
 /// A number of parts that the strategy takes for the call, with a measure of the run to come.
+///
+/// # Errors
+///
+/// What the strategy refuses: `Fault::Memory` alone.
 pub(crate) fn choose_parts<S: Chooser, Rt: Wait, P: Place>(
     strategy: &S,
     rt: &Rt,
@@ -107,6 +119,10 @@ pub(crate) fn choose_parts<S: Chooser, Rt: Wait, P: Place>(
 }
 
 /// A path that the strategy takes for the call, by which the run has begun.
+///
+/// # Errors
+///
+/// What the strategy refuses.
 pub(crate) fn begin_path<S: Chooser, Rt: Wait, P: Place>(
     strategy: &S,
     rt: &Rt,

@@ -1,10 +1,10 @@
 //! Folds, maps, joins, sorts, batches and tiles that are written once and run through any strategy.
 //!
 //! A program is written over `S: Strategy` and run through `Sequential`, on the caller's thread, or
-//! through `Rayon`, on a pool. Whatever the strategy, the number of its threads and the order in
-//! which they end, a call that isn't refused gives the list's own answer: a map the answers in
-//! input order, a fallible one the first failing item's error, a fold a reduction of neighbouring
-//! segments, a batch each index once.
+//! through `Rayon`, on several threads. Whatever the strategy, the number of its threads and the
+//! order in which they end, a call that returns and isn't refused gives the list's own result: a
+//! map the results in input order, a fallible one the first failing item's error, a fold a
+//! reduction of neighbouring segments, a batch each index once.
 #![tactic(auto)]
 
 mod batches;

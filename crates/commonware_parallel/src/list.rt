@@ -35,6 +35,11 @@ pub(crate) fn multiplied_body_over<Q: Parts>(parts: &Q, multiplier: usize) -> Ca
 }
 
 /// A fold by steps that may fail over the items that an iterator gives, as they come.
+///
+/// # Errors
+///
+/// `Trouble::Closure` with the closure's error; `Trouble::Fault` with `Fault::Memory` if an
+/// allocation fails.
 pub(crate) fn try_fold_as_it_comes<
     I: Iterator,
     R: Drop,

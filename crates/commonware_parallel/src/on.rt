@@ -34,6 +34,10 @@ pub struct On<'s, Rt, S, P> {
 
 impl<'s, Rt: Threads + Wait + Sync, S: Strategy, P: Place> On<'s, Rt, S, P> {
     /// An answer of each of two closures: `Strategy::join`.
+    ///
+    /// # Errors
+    ///
+    /// `Fault::Memory` if an allocation fails.
     pub fn join<
         A: FnOnce() -> RA + Send + Drop,
         B: FnOnce() -> RB + Send + Drop,
@@ -51,6 +55,10 @@ impl<'s, Rt: Threads + Wait + Sync, S: Strategy, P: Place> On<'s, Rt, S, P> {
     }
 
     /// Sorts the items, those that tie in their order: `Strategy::sort_by`.
+    ///
+    /// # Errors
+    ///
+    /// `Fault::Memory` if an allocation fails; the items are then a permutation of what they were.
     pub fn sort_by<T: Send, C: Fn(&T, &T) -> Ordering + Send + Sync + Drop>(
         &self,
         items: &mut [T],
@@ -69,6 +77,10 @@ impl<'s, Rt: Threads + Wait + Sync, S: Strategy, P: Place> On<'s, Rt, S, P> {
     }
 
     /// Sorts the items: `Strategy::sort_unstable_by`.
+    ///
+    /// # Errors
+    ///
+    /// `Fault::Memory` if an allocation fails; the items are then a permutation of what they were.
     pub fn sort_unstable_by<T: Send, C: Fn(&T, &T) -> Ordering + Send + Sync + Drop>(
         &self,
         items: &mut [T],
@@ -86,6 +98,10 @@ impl<'s, Rt: Threads + Wait + Sync, S: Strategy, P: Place> On<'s, Rt, S, P> {
     }
 
     /// The answers for the items, in their order: `Strategy::map_collect_vec`.
+    ///
+    /// # Errors
+    ///
+    /// `Fault::Memory` if an allocation fails.
     pub fn map<M, I: Source<M>, T: Send + Drop, F: Fn(I::Item) -> T + Send + Sync + Drop>(
         &self,
         source: I,
@@ -103,6 +119,10 @@ impl<'s, Rt: Threads + Wait + Sync, S: Strategy, P: Place> On<'s, Rt, S, P> {
     }
 
     /// The items folded: `Strategy::fold`.
+    ///
+    /// # Errors
+    ///
+    /// `Fault::Memory` if an allocation fails.
     pub fn fold<
         M,
         I: Source<M>,
@@ -129,6 +149,10 @@ impl<'s, Rt: Threads + Wait + Sync, S: Strategy, P: Place> On<'s, Rt, S, P> {
     }
 
     /// The items folded with a state at hand: `Strategy::fold_init`.
+    ///
+    /// # Errors
+    ///
+    /// `Fault::Memory` if an allocation fails.
     pub fn fold_init<
         M,
         I: Source<M>,
@@ -160,6 +184,11 @@ impl<'s, Rt: Threads + Wait + Sync, S: Strategy, P: Place> On<'s, Rt, S, P> {
     }
 
     /// The items folded by steps that may fail: `Strategy::try_fold`.
+    ///
+    /// # Errors
+    ///
+    /// `Trouble::Closure` with the closure's error; `Trouble::Fault` with `Fault::Memory` if an
+    /// allocation fails.
     pub fn try_fold<
         M,
         I: Source<M>,
@@ -187,6 +216,11 @@ impl<'s, Rt: Threads + Wait + Sync, S: Strategy, P: Place> On<'s, Rt, S, P> {
     }
 
     /// The answers, or the first failing item's error: `Strategy::try_map_collect_vec`.
+    ///
+    /// # Errors
+    ///
+    /// `Trouble::Closure` with the closure's error; `Trouble::Fault` with `Fault::Memory` if an
+    /// allocation fails.
     pub fn try_map<
         M,
         I: Source<M>,
@@ -207,6 +241,10 @@ impl<'s, Rt: Threads + Wait + Sync, S: Strategy, P: Place> On<'s, Rt, S, P> {
     }
 
     /// The answers with a state at hand: `Strategy::map_init_collect_vec`.
+    ///
+    /// # Errors
+    ///
+    /// `Fault::Memory` if an allocation fails.
     pub fn map_init<
         M,
         I: Source<M>,
@@ -231,6 +269,10 @@ impl<'s, Rt: Threads + Wait + Sync, S: Strategy, P: Place> On<'s, Rt, S, P> {
     }
 
     /// Values, and the keys of items without one: `Strategy::map_partition_collect_vec`.
+    ///
+    /// # Errors
+    ///
+    /// `Fault::Memory` if an allocation fails.
     pub fn map_partition<
         M,
         I: Source<M>,

@@ -58,6 +58,10 @@ impl Sequential {
     }
 
     /// An answer of the serial body, or its error. The parallel one isn't called. Takes no memory.
+    ///
+    /// # Errors
+    ///
+    /// The serial body's error.
     pub fn try_run<P: Place, R, E, A: FnOnce() -> Result<R, E>, B: FnOnce() -> Result<R, E> + Drop>(
         &self,
         _site: P,
@@ -72,7 +76,11 @@ impl Sequential {
     }
 
     /// The answers of `map_op` for the items as they come, in their order. Its list alone is
-    /// gathered. The one refusal is `Fault::Memory`, and the items are then gone.
+    /// gathered.
+    ///
+    /// # Errors
+    ///
+    /// `Fault::Memory` if an allocation fails; the items are then gone.
     pub fn map_collect_vec<P: Place, I: Iterator, T: Drop, F: Fn(I::Item) -> T + Drop>(
         &self,
         alloc: Global,
@@ -93,6 +101,10 @@ impl Sequential {
     }
 
     /// As `map_collect_vec`: no policy is told of the work.
+    ///
+    /// # Errors
+    ///
+    /// `Fault::Memory` if an allocation fails.
     pub fn map_collect_vec_with_multiplier<
         P: Place,
         I: Iterator,
@@ -325,9 +337,12 @@ impl Sequential {
         (a(), b())
     }
 
-    /// Sorts the items by a lawful order; items that tie keep their order. The one refusal is
-    /// `Fault::Memory`, of the sort's buffer, and the items are then a permutation of what they
-    /// were.
+    /// Sorts the items by a lawful order; items that tie keep their order.
+    ///
+    /// # Errors
+    ///
+    /// `Fault::Memory` if the sort's buffer can't be allocated; the items are then a permutation of
+    /// what they were.
     pub fn sort_by<P: Place, T, C: Fn(&T, &T) -> Ordering>(
         &self,
         alloc: Global,

@@ -58,6 +58,10 @@ pub trait Strategy: Chooser {
     /// An answer of one of two bodies, by the path that the strategy takes. `len` is the number of
     /// items that the bodies stand for, by which a policy tells calls apart.
     ///
+    /// ```text
+    /// let sum = strategy.run(rt, alloc, SITE, it.len(), || in_one(it), || in_halves(it))?;
+    /// ```
+    ///
     /// # Errors
     ///
     /// `Fault::Memory` alone, and only what `refuses` allows: a strategy without a policy refuses
@@ -88,6 +92,10 @@ pub trait Strategy: Chooser {
     }
 
     /// As `run`, of two bodies that may fail by an error of their own (`AnswersAs`, `OneOf`).
+    ///
+    /// ```text
+    /// let sum = strategy.try_run(rt, alloc, SITE, len, || check(it), || check_halves(it))?;
+    /// ```
     ///
     /// # Errors
     ///
@@ -125,6 +133,10 @@ pub trait Strategy: Chooser {
     /// An answer of each of two closures, which are run serially one after the other, and in
     /// parallel side by side, one of them on the caller's thread.
     ///
+    /// ```text
+    /// let (left, right) = strategy.join(rt, alloc, SITE, || count(front), || count(back))?;
+    /// ```
+    ///
     /// # Errors
     ///
     /// `Fault::Memory` alone, and only where `refuses` allows it: `Sequential` and `Rayon` refuse
@@ -158,6 +170,12 @@ pub trait Strategy: Chooser {
     ///
     /// Whatever it answers is an answer that the job allows on a clone (`gives`). `len` is the
     /// number of items that the job stands for, by which a policy tells calls apart.
+    ///
+    /// ```text
+    /// let job = Closure(move |_own: S| count(items.as_slice()));
+    /// let spawned = strategy.spawn(rt, alloc, SITE, len, job)?;
+    /// let counted = block_on(rt, spawned)?;
+    /// ```
     ///
     /// # Errors
     ///
@@ -197,6 +215,10 @@ pub trait Strategy: Chooser {
     /// `compare` answers, the items are those that were there before. The strategy is asked as for
     /// a body over the items, and may measure the sort (`asked`).
     ///
+    /// ```text
+    /// strategy.sort_by(rt, alloc, SITE, items, |a: &u32, b: &u32| a.cmp(b))?;
+    /// ```
+    ///
     /// # Errors
     ///
     /// `Fault::Memory` alone, where the strategy or the sort's buffer was refused memory; the items
@@ -227,6 +249,10 @@ pub trait Strategy: Chooser {
 
     /// Sorts the items by an order, as `sort_by` does; items that tie may change places.
     ///
+    /// ```text
+    /// strategy.sort_unstable_by(rt, alloc, SITE, items, |a: &u32, b: &u32| b.cmp(a))?;
+    /// ```
+    ///
     /// # Errors
     ///
     /// `Fault::Memory` alone, as there; the items are then a permutation of what they were.
@@ -248,6 +274,11 @@ pub trait Strategy: Chooser {
 
     /// The answers of `map_op` for the items, in the items' order (`MapOf`). The strategy is asked
     /// by the number of items (`asked`).
+    ///
+    /// ```text
+    /// let numbers = Copies { slice: &[3, 1, 4] };
+    /// let halves = strategy.map_collect_vec(rt, alloc, SITE, numbers, |x: u64| x / 2)?;
+    /// ```
     ///
     /// # Errors
     ///
@@ -282,6 +313,12 @@ pub trait Strategy: Chooser {
 
     /// As `map_collect_vec`, for items that each stand for the work of `multiplier`: a policy tells
     /// calls apart by `len * multiplier`, which stops at the greatest `usize`.
+    ///
+    /// ```text
+    /// // each text counts as 64 items
+    /// let digests = strategy
+    ///     .map_collect_vec_with_multiplier(rt, alloc, SITE, texts, 64, |it: &[u8]| digest(it))?;
+    /// ```
     ///
     /// # Errors
     ///
@@ -325,6 +362,18 @@ pub trait Strategy: Chooser {
     /// list's shape for the pool's thread number, and each leaf is reduced behind a further
     /// identity (`FoldedAs`). `parallel_bridge::fold_law` says when every such answer is the plain
     /// fold from the left.
+    ///
+    /// ```text
+    /// let sum = strategy.fold(
+    ///     rt,
+    ///     alloc,
+    ///     SITE,
+    ///     Copies { slice: numbers },
+    ///     || 0,
+    ///     |sum: u64, x: u64| sum.wrapping_add(x),
+    ///     |left: u64, right: u64| left.wrapping_add(right),
+    /// )?;
+    /// ```
     ///
     /// # Errors
     ///
@@ -370,6 +419,19 @@ pub trait Strategy: Chooser {
 
     /// The items folded as by `fold`, with a state at hand that goes from item to item of a segment
     /// and begins there as a value of `init` (`FoldInitSegment`).
+    ///
+    /// ```text
+    /// let sum = strategy.fold_init(
+    ///     rt,
+    ///     alloc,
+    ///     SITE,
+    ///     items,
+    ///     || Scratch::new(),
+    ///     || 0,
+    ///     |sum: u64, scratch: &mut Scratch, x: u64| sum.wrapping_add(scratch.weigh(x)),
+    ///     |left: u64, right: u64| left.wrapping_add(right),
+    /// )?;
+    /// ```
     ///
     /// # Errors
     ///
@@ -428,6 +490,18 @@ pub trait Strategy: Chooser {
     /// segment ended first. Where a segment has failed, the closures may go uncalled for the items
     /// to the right of it. The forms of the segments are those of `fold` (`TryFoldedAs`).
     ///
+    /// ```text
+    /// let sum = strategy.try_fold(
+    ///     rt,
+    ///     alloc,
+    ///     SITE,
+    ///     Copies { slice: numbers },
+    ///     || 0,
+    ///     |sum: u64, x: u64| if x <= LIMIT { Ok(sum.wrapping_add(x)) } else { Err(x) },
+    ///     |left: u64, right: u64| left.wrapping_add(right),
+    /// )?;
+    /// ```
+    ///
     /// # Errors
     ///
     /// `Trouble::Closure` with the error of the step that failed. `Trouble::Fault` with
@@ -477,6 +551,12 @@ pub trait Strategy: Chooser {
     /// first item that fails, whichever part of the list ended first (`TryMapOf`). Behind an item
     /// that fails the closure may go uncalled.
     ///
+    /// ```text
+    /// let indices = Indices { start: 0, end: len };
+    /// let check = |index: usize| if is_good(index) { Ok(()) } else { Err(index) };
+    /// let all_good = strategy.try_map_collect_vec(rt, alloc, SITE, indices, check)?;
+    /// ```
+    ///
     /// # Errors
     ///
     /// `Trouble::Closure` with the first failing item's error. `Trouble::Fault` with
@@ -514,6 +594,17 @@ pub trait Strategy: Chooser {
     ///
     /// Serially the list is one segment with one state. In parallel the states change at the
     /// segments of the list's shape for the pool's thread number (`MappedInitAs`).
+    ///
+    /// ```text
+    /// let hashes = strategy.map_init_collect_vec(
+    ///     rt,
+    ///     alloc,
+    ///     SITE,
+    ///     messages,
+    ///     || Scratch::new(),
+    ///     |scratch: &mut Scratch, message: &[u8]| scratch.hash(message),
+    /// )?;
+    /// ```
     ///
     /// # Errors
     ///
@@ -557,6 +648,12 @@ pub trait Strategy: Chooser {
 
     /// As `map_init_collect_vec`, for items that each stand for the work of `multiplier`: a policy
     /// tells calls apart by `len * multiplier`, which stops at the greatest `usize`.
+    ///
+    /// ```text
+    /// // as `map_init_collect_vec`, with the multiplier after the source
+    /// let hashes = strategy
+    ///     .map_init_collect_vec_with_multiplier(rt, alloc, SITE, messages, 64, init, hash)?;
+    /// ```
     ///
     /// # Errors
     ///
@@ -604,6 +701,11 @@ pub trait Strategy: Chooser {
     /// The values that `map_op` answers, and the keys of the items for which it answers none, both
     /// in the items' order (`PartitionOf`).
     ///
+    /// ```text
+    /// let sort_out = |x: u64| if x % 2 == 0 { (x, Some(x)) } else { (x, None) };
+    /// let (evens, odds) = strategy.map_partition_collect_vec(rt, alloc, SITE, numbers, sort_out)?;
+    /// ```
+    ///
     /// # Errors
     ///
     /// `Fault::Memory` alone; the items are then gone.
@@ -647,6 +749,12 @@ pub trait Strategy: Chooser {
     /// goes through the strategy's `inner` and has the call's place. The closure has to accept each
     /// batch that is one, and no other.
     ///
+    /// ```text
+    /// let ranges = strategy.run_batches(rt, alloc, SITE, len, minimum, 1, |batches| {
+    ///     batches.ranges().to_vec(alloc)
+    /// })?;
+    /// ```
+    ///
     /// # Errors
     ///
     /// `Fault::Memory` alone.
@@ -678,6 +786,12 @@ pub trait Strategy: Chooser {
     }
 
     /// As `run_batches`, with a closure that may fail by an error of its own.
+    ///
+    /// ```text
+    /// let sums = strategy.try_run_batches(rt, alloc, SITE, len, minimum, 1, |batches| {
+    ///     sums_of(rt, alloc, batches)
+    /// })?;
+    /// ```
     ///
     /// # Errors
     ///
@@ -717,6 +831,12 @@ pub trait Strategy: Chooser {
     /// at the greatest `usize`. The tiles go through the strategy's `inner` and have the call's
     /// place. There has to be a grid, and the cells of each have to be countable (`Grid::fits`).
     /// The closure has to accept all tiles of the grids, and no other.
+    ///
+    /// ```text
+    /// let kernel = |tiles: Tiles<'_, S, P>| count_rows(rt, alloc, tiles, matrix);
+    /// let grids = [Grid { rows, tile_cost }];
+    /// let counts = strategy.run_tiles(rt, alloc, SITE, len, &grids, 1, kernel)?;
+    /// ```
     ///
     /// # Errors
     ///

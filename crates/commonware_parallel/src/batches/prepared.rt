@@ -15,6 +15,10 @@ use std::sync::Wait;
 use std::thread::Threads;
 
 /// The answers of `map_op` for owned items, which a whole batch maps on the caller's thread.
+///
+/// # Errors
+///
+/// `Fault::Memory` if an allocation fails.
 pub(crate) fn map_prepared<
     S: Strategy,
     Rt: Threads + Wait + Sync,
@@ -43,6 +47,11 @@ pub(crate) fn map_prepared<
 }
 
 /// The same of a closure that may fail.
+///
+/// # Errors
+///
+/// `Trouble::Closure` with the closure's error; `Trouble::Fault` with `Fault::Memory` if an
+/// allocation fails.
 pub(crate) fn try_map_prepared<
     S: Strategy,
     Rt: Threads + Wait + Sync,

@@ -29,6 +29,10 @@ pub(crate) struct Noting<T> {
 }
 
 /// The result of each stretch of the tiles, with the stretch.
+///
+/// # Errors
+///
+/// `Fault::Memory` if an allocation fails.
 pub(crate) fn fill_parts<
     S: Strategy,
     P: Place,
@@ -111,6 +115,10 @@ fn finish_naming<T, R, F: Fn(&mut T, usize) -> R>(
 }
 
 /// The results of each row's stretches, merged from left to right.
+///
+/// # Errors
+///
+/// `Fault::Memory` if an allocation fails.
 pub(crate) fn merge_sorted<R: Drop, M: Fn(R, R) -> R>(
     alloc: Global,
     rows: usize,

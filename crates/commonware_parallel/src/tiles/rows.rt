@@ -11,6 +11,10 @@ use std::ops::Range;
 
 /// The results of all rows of `len` columns, each filled by one call, with one state that goes from
 /// row to row.
+///
+/// # Errors
+///
+/// `Fault::Memory` if an allocation fails.
 pub(crate) fn fill_rows<T, R: Drop, L: Fn(&mut T, usize, Range<usize>), F: Fn(&mut T, usize) -> R>(
     alloc: Global,
     rows: usize,

@@ -31,6 +31,10 @@ pub(crate) struct Worked<R> {
 /// The results of all cells of a grid of `rows` rows of `len` columns, which are shared out among
 /// workers. Each worker is an item of a list call of the strategy, so that the workers of one
 /// segment have one state.
+///
+/// # Errors
+///
+/// `Fault::Memory` if an allocation fails.
 pub(crate) fn fill_shared<
     S: Strategy,
     Rt: Threads + Wait + Sync,
