@@ -1,5 +1,5 @@
 //! Where one part of a list can't be split and an item of another fails, the leftmost of the two
-//! troubles is answered.
+//! troubles is returned.
 ghost use Rattle.std.specs.Prelude.{◌≡◌, ◌-◌, ◌<◌, ◌≤◌};
 ghost use Rattle.std.specs.List.{range_with_len};
 

@@ -1,4 +1,4 @@
-//! Owned items that are taken from where they lie, and answers that are written where they stay:
+//! Owned items that are taken from where they lie, and results that are written where they stay:
 //! each is dropped once, or handed out.
 use crate::bridge::number;
 use crate::same::{row, same};

@@ -1,5 +1,5 @@
-//! Long histories: an entry answers as the plain program that reckons from all that happened, and
-//! that program answers the worked examples.
+//! Long histories: an entry chooses as the plain program that reckons from all that happened, and
+//! that program agrees with the worked examples.
 use crate::same::{row, same};
 use parallel_policy::execution::{RunExecution, SpawnExecution};
 use parallel_policy::history::{RunEvent, SpawnEvent, SpawnSample};

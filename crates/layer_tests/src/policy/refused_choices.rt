@@ -1,4 +1,4 @@
-//! Calls whose memory may be refused at any point: each answers what it always does, or
+//! Calls whose memory may be refused at any point: each returns what it always does, or
 //! `Fault::Memory`, and then the table is as it was and no body was called. Run with each
 //! allocation failing in turn.
 use crate::same::{row, same};

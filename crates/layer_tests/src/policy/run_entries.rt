@@ -1,4 +1,4 @@
-//! Entries of runs, by rows of what happens to a fresh one and what it answers.
+//! Entries of runs, by rows of what happens to a fresh one and what it returns.
 use crate::same::{row, same};
 use parallel_policy::execution::RunExecution;
 use parallel_policy::run::RunEntry;

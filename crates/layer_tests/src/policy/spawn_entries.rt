@@ -1,4 +1,4 @@
-//! Entries of spawned jobs, by rows of what happens to a fresh one and what it answers.
+//! Entries of spawned jobs, by rows of what happens to a fresh one and what it returns.
 use crate::same::{row, same};
 use parallel_policy::execution::SpawnExecution;
 use parallel_policy::history::SpawnSample;

@@ -1,5 +1,4 @@
-//! Tables and policies: which key an answer goes by, and what each call of a policy tells its
-//! table.
+//! Tables and policies: which key a result goes by, and what each call of a policy tells its table.
 use crate::same::same;
 use parallel_fault::{Fault, Trouble};
 use parallel_policy::execution::{RunExecution, SpawnExecution};

@@ -13,7 +13,7 @@ use std::sync::{Arc, Wait};
 use std::thread::{self, Threads};
 use std::time::{Clock, Duration};
 
-/// Waits until a word is so much, for ten seconds at most, and answers whether it is.
+/// Waits until a word is so much, for ten seconds at most, and returns whether it is.
 pub(crate) fn becomes(rt: &impl Clock, word: &AtomicU64, wanted: u64) -> bool {
     for _ in 0..10_000 {
         if read(word) == wanted {
@@ -104,7 +104,7 @@ impl Bell {
     }
 }
 
-/// A builder of so many workers, which tell a tally of their start and of their end.
+/// A builder of that many workers, which tell a tally of their start and of their end.
 pub(crate) fn told_to(
     alloc: Global,
     num_threads: usize,
@@ -129,7 +129,7 @@ pub(crate) fn built<R: Threads + Wait + Abort + Copy + Send + 'static>(
     pool
 }
 
-/// A pool of so many workers, which tell a tally of their start and of their end.
+/// A pool of that many workers, which tell a tally of their start and of their end.
 pub(crate) fn telling<R: Threads + Wait + Abort + Copy + Send + 'static>(
     rt: &R,
     alloc: Global,
@@ -151,8 +151,8 @@ pub(crate) fn led<R: Threads + Wait + Abort + Copy + Send + 'static>(
     (pool, current.expect(rt, "the current worker"))
 }
 
-/// A pool of so many workers of which this thread is the first; and that worker. The others tell a
-/// tally of their start and of their end.
+/// A pool of that many workers of which this thread is the first; and that worker. The others tell
+/// a tally of their start and of their end.
 pub(crate) fn workers<R: Threads + Wait + Abort + Copy + Send + 'static>(
     rt: &R,
     alloc: Global,
@@ -269,7 +269,7 @@ pub(crate) fn spawn(
     assert!(rt; came);
 }
 
-/// Broadcasts jobs that tell a tally, one to each worker, and answers whether they came.
+/// Broadcasts jobs that tell a tally, one to each worker, and returns whether they came.
 pub(crate) fn broadcasts(
     rt: &(impl Wait + Abort),
     alloc: Global,
@@ -303,7 +303,7 @@ pub(crate) fn raises(rt: &impl Abort, tally: &Arc<Tally>, by: u64) -> Raise {
     }
 }
 
-/// Pushes a job by a worker's seat to one of the queues for that, and answers whether it came.
+/// Pushes a job by a worker's seat to one of the queues for that, and returns whether it came.
 pub(crate) fn push_by<T: Drop>(
     rt: &impl Wait,
     worker: &mut WorkerThread<T>,

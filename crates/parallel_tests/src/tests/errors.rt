@@ -1,5 +1,5 @@
 //! Calls whose closures fail at many items, many times over: the first failing item's error is
-//! answered each time, and each item and each answer is let go once.
+//! returned each time, and each item and each result is let go once.
 use crate::tests::same::{answers, row};
 use crate::tests::steps::{add_counts, no_count};
 use crate::tests::strategies::{SITE, explorers, fresh, pool};
@@ -188,7 +188,7 @@ impl Drop for Counted<'_> {
     }
 }
 
-/// So many of them, whose places go from 0 on.
+/// A number of them, whose places go from 0 on.
 pub fn counted_items<'a>(
     alloc: Global,
     counts: &'a Counts,

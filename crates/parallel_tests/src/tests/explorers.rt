@@ -1,4 +1,4 @@
-//! Explorers: what they pick, and what the search through the rules answers.
+//! Explorers: what they pick, and what the search through the rules returns.
 ghost use Rattle.std.specs.Prelude.{◌<◌};
 ghost use Rattle.parallel_shares.specs.Grid.{Fits};
 

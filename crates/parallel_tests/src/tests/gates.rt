@@ -1,4 +1,4 @@
-//! Calls that may fail, on four threads: once the first item has failed, the segments behind it
+//! Calls that may fail, on four threads: once the first item has failed, the segments after it
 //! stop, and most items are never asked.
 use crate::tests::steps::{add_sums, no_sum};
 use crate::tests::strategies::{SITE, pool};

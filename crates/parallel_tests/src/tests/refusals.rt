@@ -1,4 +1,4 @@
-//! Growths that are refused, each in its turn: the answer is the right one or want of memory, and
+//! Growths that are refused, each in its turn: the result is the right one or want of memory, and
 //! each item and each value is let go once.
 //!
 //! All memory is taken first but for a room, of which each further try of a call is left 16 bytes

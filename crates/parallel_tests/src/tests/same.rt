@@ -19,7 +19,7 @@ pub fn row<L: Debug + Drop, T: PartialEq + Debug + Drop>(
     assert_eq!(rt; found, wanted, "row {row:?}");
 }
 
-/// The same of a call, which has to answer.
+/// The same of a call, which has to return.
 pub fn answers<L: Debug + Drop, T: PartialEq + Debug + Drop, E: Debug + Drop>(
     rt: &impl Abort,
     of: L,
@@ -29,7 +29,7 @@ pub fn answers<L: Debug + Drop, T: PartialEq + Debug + Drop, E: Debug + Drop>(
     row(rt, of, found.expect(rt, "an answer"), wanted);
 }
 
-/// The same of a call that answers a list.
+/// The same of a call that returns a list.
 pub fn lists<L: Debug + Drop, T: PartialEq + Debug + Drop, E: Debug + Drop>(
     rt: &impl Abort,
     of: L,

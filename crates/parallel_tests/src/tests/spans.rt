@@ -1,4 +1,4 @@
-//! What a policy is told of a call: its time goes from before the closures to behind them. The
+//! What a policy is told of a call: its time goes from before the closures to after them. The
 //! closures move the clock.
 ghost use Rattle.std.specs.Prelude.{◌≡◌, ⊤};
 

@@ -1,4 +1,4 @@
-//! Spawned jobs: where they run, what they answer, and what a policy learns of them.
+//! Spawned jobs: where they run, what they return, and what a policy learns of them.
 ghost use Rattle.std.specs.Prelude.{◌≡◌, ⊤};
 
 use crate::tests::clocks::learning;

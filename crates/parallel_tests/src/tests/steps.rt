@@ -143,7 +143,7 @@ pub fn tenfold(number: u32) -> (u32, Option<u32>) {
     }
 }
 
-/// A job that answers its number.
+/// A job that returns its number.
 #[derive(Drop)]
 pub struct Gives(pub u64);
 

@@ -33,12 +33,12 @@ pub fn number(rt: &impl Abort, value: usize) -> NonZeroUsize
     NonZeroUsize::new(value).expect(rt, "a number above 0")
 }
 
-/// A pool of so many threads with a fresh policy.
+/// A pool of that many threads with a fresh policy.
 pub fn fresh<Rt: Threads + Abort>(rt: &Rt, alloc: Global, threads: usize) -> Rayon<Stopped> {
     Rayon::new(rt, alloc, number(rt, threads), Stopped).expect(rt, "memory for a pool")
 }
 
-/// A pool of so many threads, planned for so many, for which no policy chooses.
+/// A pool of that many threads, planned for that many, for which no policy chooses.
 pub fn pool<Rt: Threads + Abort>(
     rt: &Rt,
     alloc: Global,

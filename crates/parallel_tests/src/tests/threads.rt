@@ -17,7 +17,7 @@ use std::sync::atomic::{AtomicBool, AtomicU32, Ordering};
 use std::thread::{Threads, yield_now};
 use uses::own_lists::Backwards;
 
-/// Sets the own flag, and answers whether the other one was seen within ten million turns.
+/// Sets the own flag, and returns whether the other one was seen within ten million turns.
 pub fn sees(own: &AtomicBool, other: &AtomicBool) -> bool {
     own.store(true, Ordering::SeqCst);
     for _ in 0..10_000_000u32 {
@@ -46,7 +46,7 @@ impl Meeting {
         }
     }
 
-    /// Sets the flag of one of the two, and answers whether the other one was seen.
+    /// Sets the flag of one of the two, and returns whether the other one was seen.
     pub fn meet(&self, is_first: bool) -> bool {
         if is_first {
             sees(&self.first, &self.second)

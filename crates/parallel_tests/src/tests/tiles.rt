@@ -1,4 +1,4 @@
-//! Tiles: which cells are filled, for how many workers, and what is answered for each row.
+//! Tiles: which cells are filled, for how many workers, and what is returned for each row.
 use crate::tests::same::{answers, lists, row, same};
 use crate::tests::steps::{no, no_count};
 use crate::tests::strategies::{SITE, explorers, number, pool, pools};

@@ -1,4 +1,4 @@
-//! The calls whose growths are refused, each with whether its answer is the right one. Their items
+//! The calls whose growths are refused, each with whether its result is the right one. Their items
 //! and values are counted.
 use crate::tests::errors::{Counted, Counts, again, count_again, counted_items, greater};
 use crate::tests::steps::{Gives, add_counts, no_count, zero};
@@ -320,7 +320,7 @@ fn is_spawned<Rt: Threads + Wait + Copy + Send + 'static, S: Strategy>(
     }
 }
 
-/// Makes a call once: whether its answer is the right one.
+/// Makes a call once: whether its result is the right one.
 pub fn outcome<Rt: Threads + Wait + Abort + Copy + Send + Sync + 'static, S: Strategy>(
     rt: &Rt,
     alloc: Global,

@@ -1,4 +1,4 @@
-//! Calls whose closures may fail. The first failing item's error is the answer, whichever part of
+//! Calls whose closures may fail. The first failing item's error is the result, whichever part of
 //! the list ended first.
 use crate::tests::same::{answers, row, same};
 use crate::tests::steps::{add, error_of_five, hundred, seven_or_error, zero};
