@@ -89,6 +89,10 @@ pub fn digest_of(message: &&[u8]) -> Digest {
 }
 
 /// How many bytes are above the threshold, counted by row through a strategy.
+///
+/// # Errors
+///
+/// What was refused.
 pub fn bytes_above<Rt: Runtime, S: Strategy>(
     rt: &Rt,
     alloc: Global,
@@ -109,6 +113,10 @@ pub fn bytes_above<Rt: Runtime, S: Strategy>(
 
 /// How many messages have their digest, up to the first one that hasn't, through a
 /// strategy.
+///
+/// # Errors
+///
+/// What was refused.
 pub fn first_mismatch<Rt: Runtime, S: Strategy>(
     rt: &Rt,
     alloc: Global,

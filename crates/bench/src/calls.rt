@@ -21,6 +21,10 @@ pub const SITE: Site = Site {
 };
 
 /// The case's result through a strategy.
+///
+/// # Errors
+///
+/// What was refused.
 pub fn by_strategy<Rt: Runtime, S: Strategy>(
     rt: &Rt,
     alloc: Global,

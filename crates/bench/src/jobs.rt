@@ -29,6 +29,10 @@ const MOST_THREADS: usize = 20_000;
 type Pool = ThreadPool<Staff<CountedJob>>;
 
 /// Times that many jobs to pools of that many workers, and prints a line for each way.
+///
+/// # Errors
+///
+/// What was refused, or the error of a write.
 pub fn race_jobs<Rt>(rt: &Rt, trial: Pair) -> Result<()>
 where
     Rt: time::Clock
@@ -102,6 +106,10 @@ fn time_pool<R: Threads + Wait + Copy + Send + 'static, C: Clock>(
 }
 
 /// A board for that many jobs, to be shared by them.
+///
+/// # Errors
+///
+/// What was refused.
 pub fn board_of(alloc: Global, jobs: usize) -> Result<Arc<Board, Global>> {
     let board = Board::new(alloc, jobs)?;
     Ok(Arc::new(alloc, board)?)

@@ -10,6 +10,10 @@ use std::thread::Threads;
 /// The case's result, and 0 for a case that it has no call for.
 ///
 /// It has no pool: a chain starts threads for as many pieces as it makes, two for each processor.
+///
+/// # Errors
+///
+/// What was refused.
 pub fn by_kit<Rt: Threads + Sync>(
     rt: &Rt,
     alloc: Global,

@@ -12,6 +12,10 @@ use commonware_parallel::Fault;
 use std::alloc::{AllocError, Global};
 
 /// The case's result by a plain loop over the items, or over what a caller takes.
+///
+/// # Errors
+///
+/// What was refused.
 pub fn by_loop(
     alloc: Global,
     case: Case,

@@ -53,6 +53,10 @@ fn main(rt: HostRuntime) -> io::Result<ExitCode> {
 }
 
 /// What the command line asks for, if it is text and asks for anything.
+///
+/// # Errors
+///
+/// `AllocError` if an allocation fails, or the error of reading the words.
 fn requested(rt: &(impl std::rt::Env + AllocGlobal)) -> Result<Option<Request>> {
     let words = match env::args(rt) {
         Ok(words) => words,
@@ -64,6 +68,10 @@ fn requested(rt: &(impl std::rt::Env + AllocGlobal)) -> Result<Option<Request>> 
 }
 
 /// Prints the cases' names and the commands', one a line.
+///
+/// # Errors
+///
+/// The error of a write.
 fn names(rt: &impl Print) -> Result<()> {
     for (name, _) in CASES {
         rt.println(name)?;

@@ -29,6 +29,10 @@ struct Choices<'a> {
 /// What chooses for a key, and takes a record of it.
 trait Learner {
     /// Asks for a choice, and records `nanoseconds` for it where it is to be recorded.
+    ///
+    /// # Errors
+    ///
+    /// What was refused.
     fn ask(&mut self, key: Key, choices: &Choices<'_>, nanoseconds: u64) -> Result<(), Fault>;
 }
 
@@ -62,6 +66,10 @@ impl<Rt: Wait> Learner for Shared<'_, Rt> {
 
 /// Times rounds of `first` choices, planned for `second` threads, and prints a line for each way
 /// and recording.
+///
+/// # Errors
+///
+/// What was refused, or the error of a write.
 pub fn race_choices<Rt>(rt: &Rt, trial: Pair) -> Result<()>
 where
     Rt: time::Clock + Print + AllocGlobal + Wait + Copy + Drop + Send + Sync + Debug + 'static,

@@ -83,6 +83,10 @@ fn soak_one<R: Clock + Threads + Wait + Copy + Send + Sync + 'static>(
 /// What takes jobs from several threads at once.
 trait Bring: Sync {
     /// Brings it the jobs of these numbers.
+    ///
+    /// # Errors
+    ///
+    /// What was refused.
     fn bring<R: Wait>(
         &self,
         rt: &R,

@@ -88,6 +88,10 @@ where
 }
 
 /// Makes what the calls of a trial take, and makes them.
+///
+/// # Errors
+///
+/// What was refused, the error of a write, or that the results differ.
 fn prepare<Rt: Print + Runtime, C: Clock>(
     rt: &Rt,
     alloc: Global,
@@ -109,6 +113,10 @@ fn prepare<Rt: Print + Runtime, C: Clock>(
 }
 
 /// Makes the calls of a trial.
+///
+/// # Errors
+///
+/// What was refused, the error of a write, or that the results differ.
 fn measure<'a, Rt: Print + Runtime, C: Clock>(
     rt: &'a Rt,
     alloc: Global,

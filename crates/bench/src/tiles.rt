@@ -89,6 +89,10 @@ fn sum_mixed(cells: &[u64], rounds: u64) -> u64 {
 }
 
 /// The sum over all cells by the tiles of a strategy, each of which adds up its own.
+///
+/// # Errors
+///
+/// What was refused.
 pub fn sum_of_tiles<Rt: Runtime, S: Strategy>(
     rt: &Rt,
     alloc: Global,

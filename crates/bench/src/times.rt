@@ -12,6 +12,10 @@ pub struct Times {
 impl Times {
     /// The least of the readings, and one of them that at most half of them are below, and at most
     /// half above.
+    ///
+    /// # Errors
+    ///
+    /// What was refused.
     pub fn of(readings: Vec<u64>) -> Result<Times> {
         let mut sorted = readings;
         sorted.sort()?;

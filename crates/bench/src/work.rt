@@ -51,11 +51,19 @@ pub fn mixed_once(state: u64) -> u64 {
 }
 
 /// The light function as one that may fail, though it never does.
+///
+/// # Errors
+///
+/// None: it never fails.
 pub fn try_light(item: u64) -> Result<u64, u64> {
     Ok(light(item))
 }
 
 /// The heavy function as one that fails at one item, by that item.
+///
+/// # Errors
+///
+/// The item at which it fails.
 pub fn try_heavy(item: u64) -> Result<u64, u64> {
     if item == FAILING {
         return Err(item);
