@@ -68,6 +68,8 @@ pub(crate) fn end_with<S: Chooser, Rt: Wait, R, E>(
 }
 
 /// A path that the strategy takes for the call, with a measure of the run to come.
+// (inlined, as the measure is copied at each return otherwise)
+#[inline(always)]
 pub(crate) fn choose_path<S: Chooser, Rt: Wait, P: Place>(
     strategy: &S,
     rt: &Rt,
@@ -107,6 +109,7 @@ pub(crate) fn choose_parts<S: Chooser, Rt: Wait, P: Place>(
 }
 
 /// A path that the strategy takes for the call, by which the run has begun.
+#[inline(always)]
 pub(crate) fn begin_path<S: Chooser, Rt: Wait, P: Place>(
     strategy: &S,
     rt: &Rt,
