@@ -8,10 +8,10 @@ use Rattle.commonware_parallel.specs.declared.mocks.explorer.Explorer.{Explorer}
 use Rattle.commonware_parallel.specs.declared.mocks.rule.Rule.{Rule}
 use Rattle.commonware_parallel.specs.declared.mocks.rule.Rule.TheVariants.{Serial, Parallel, Seeded}
 
--- an explorer by this rule over that many threads, planned for 8
+-- an explorer by this rule over that many threads, planned for 8, whose jobs get workers
 abbrev pub IsExplorer : ℕ → Rule → Explorer → Type 0
 IsExplorer workers rule explorer = (explorer.threads ≡ workers) × (explorer.planning ≡ 8)
-    × (explorer.rule ≡ rule)
+    × (explorer.rule ≡ rule) × (explorer.starts ≡ true)
 
 -- the rules after the serial one, in their order
 abbrev pub rules_behind : List Rule

@@ -76,6 +76,8 @@ pub(crate) fn end_with<S: Chooser, Rt: Wait, R, E>(
 /// # Errors
 ///
 /// What the strategy refuses.
+// (inlined, since each return would copy the measure)
+#[inline(always)]
 pub(crate) fn choose_path<S: Chooser, Rt: Wait, P: Place>(
     strategy: &S,
     rt: &Rt,
@@ -123,6 +125,7 @@ pub(crate) fn choose_parts<S: Chooser, Rt: Wait, P: Place>(
 /// # Errors
 ///
 /// What the strategy refuses.
+#[inline(always)]
 pub(crate) fn begin_path<S: Chooser, Rt: Wait, P: Place>(
     strategy: &S,
     rt: &Rt,

@@ -264,6 +264,7 @@ impl<C: Clock> Chooser for Rayon<C> {
         self.without_policy()
     }
 
+    #[inline(always)]
     fn choose<Rt: Wait, P: Place>(
         &self,
         rt: &Rt,

@@ -41,7 +41,8 @@ pub fn tasks() -> NonZeroUsize
 /// through the explorers of the seeds 0 to 3 are equal to it.
 ///
 /// The closure is called once for each rule, in that order, up to the first output that differs,
-/// with explorers over `WORKERS` threads that are planned for `TASKS` (`Explored`).
+/// with explorers over `WORKERS` threads that are planned for `TASKS`, and whose jobs get workers
+/// (`Explored`).
 ///
 /// # Errors
 ///
