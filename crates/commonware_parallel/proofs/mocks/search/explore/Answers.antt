@@ -15,7 +15,7 @@ pub returns-in_err-compare : goal.returns-in_err-compare
 returns-in_err-compare g c =
     let e = c.in_ok-explorer.ensures.explorer in
     let serial = serial_alone (step g) (eq g) c.args.run c.run-serial.new.self c.run-serial.result
-    (_, (search rules, e.1, e.2), c.run-serial.ensures) in
+    (_, (search rules, e.1, e.2, e.3), c.run-serial.ensures) in
     told _ Parallel (Seeded 0 ∷ Seeded 1 ∷ Seeded 2 ∷ Seeded 3 ∷ []) _ _ serial refl
     c.in_err-compare.ensures.compares c.from_residual-in_err-compare.ensures.1
 
@@ -23,7 +23,7 @@ pub returns-in_err-compare-2 : goal.returns-in_err-compare-2
 returns-in_err-compare-2 g c =
     let e = c.in_ok-explorer.ensures.explorer in
     let serial = serial_alone (step g) (eq g) c.args.run c.run-serial.new.self c.run-serial.result
-    (_, (search rules, e.1, e.2), c.run-serial.ensures) in
+    (_, (search rules, e.1, e.2, e.3), c.run-serial.ensures) in
     let first = one_agrees _ Parallel serial c.in_ok-compare.ensures.compares in
     told _ (Seeded 0) (Seeded 1 ∷ Seeded 2 ∷ Seeded 3 ∷ []) _ _ first refl
     c.in_err-compare-2.ensures.compares c.from_residual-in_err-compare-2.ensures.1
@@ -32,7 +32,7 @@ pub returns-in_err-compare-3 : goal.returns-in_err-compare-3
 returns-in_err-compare-3 g c =
     let e = c.in_ok-explorer.ensures.explorer in
     let serial = serial_alone (step g) (eq g) c.args.run c.run-serial.new.self c.run-serial.result
-    (_, (search rules, e.1, e.2), c.run-serial.ensures) in
+    (_, (search rules, e.1, e.2, e.3), c.run-serial.ensures) in
     let first = one_agrees _ Parallel serial c.in_ok-compare.ensures.compares in
     let second = one_agrees _ (Seeded 0) first c.in_ok-compare-2.ensures.compares in
     told _ (Seeded 1) (Seeded 2 ∷ Seeded 3 ∷ []) _ _ second refl
@@ -42,7 +42,7 @@ pub returns-in_err-compare-4 : goal.returns-in_err-compare-4
 returns-in_err-compare-4 g c =
     let e = c.in_ok-explorer.ensures.explorer in
     let serial = serial_alone (step g) (eq g) c.args.run c.run-serial.new.self c.run-serial.result
-    (_, (search rules, e.1, e.2), c.run-serial.ensures) in
+    (_, (search rules, e.1, e.2, e.3), c.run-serial.ensures) in
     let first = one_agrees _ Parallel serial c.in_ok-compare.ensures.compares in
     let second = one_agrees _ (Seeded 0) first c.in_ok-compare-2.ensures.compares in
     let third = one_agrees _ (Seeded 1) second c.in_ok-compare-3.ensures.compares in
@@ -53,7 +53,7 @@ pub returns-in_err-compare-5 : goal.returns-in_err-compare-5
 returns-in_err-compare-5 g c =
     let e = c.in_ok-explorer.ensures.explorer in
     let serial = serial_alone (step g) (eq g) c.args.run c.run-serial.new.self c.run-serial.result
-    (_, (search rules, e.1, e.2), c.run-serial.ensures) in
+    (_, (search rules, e.1, e.2, e.3), c.run-serial.ensures) in
     let first = one_agrees _ Parallel serial c.in_ok-compare.ensures.compares in
     let second = one_agrees _ (Seeded 0) first c.in_ok-compare-2.ensures.compares in
     let third = one_agrees _ (Seeded 1) second c.in_ok-compare-3.ensures.compares in
@@ -65,7 +65,7 @@ pub returns : goal.returns
 returns g c =
     let e = c.in_ok-explorer.ensures.explorer in
     let serial = serial_alone (step g) (eq g) c.args.run c.run-serial.new.self c.run-serial.result
-    (_, (search rules, e.1, e.2), c.run-serial.ensures) in
+    (_, (search rules, e.1, e.2, e.3), c.run-serial.ensures) in
     let first = one_agrees _ Parallel serial c.in_ok-compare.ensures.compares in
     let second = one_agrees _ (Seeded 0) first c.in_ok-compare-2.ensures.compares in
     let third = one_agrees _ (Seeded 1) second c.in_ok-compare-3.ensures.compares in
