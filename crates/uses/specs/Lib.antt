@@ -1,4 +1,5 @@
 pub mod Batches
+pub mod Joins
 pub mod Collisions
 pub mod LongLists
 pub mod Merkle
