@@ -165,6 +165,7 @@ impl Shares {
     /// only where it met another word. `Empty` comes only where the loaded word was empty, and the
     /// seat's `own_empty` holds from then on. No other share is loaded (`OthersStay`), so none was
     /// loaded since the seat's own (`since`). No memory is taken, and nothing is waited for.
+    #[inline(always)]
     pub fn try_claim(&self, seat: &mut Seat) -> Tried
         requires { IsSeatOf self.now seat.old }
         ensures seat { IsSeatOf self.now seat.new }

@@ -18,6 +18,7 @@ impl Shares {
     /// (`FoundNothing`). `Some` has the cells that the seat's claims gained. After `None` the
     /// claims are as they were, and `own_empty` holds. Either way nothing is in transit. `rt` is
     /// the right to go on trying; no memory is taken.
+    #[inline(always)]
     pub fn claim<R: Wait>(&self, rt: &R, seat: &mut Seat) -> Option<Range<usize>>
         requires { IsSeatOf self.now seat.old }
         ensures seat { IsSeatOf self.now seat.new }
@@ -38,6 +39,7 @@ impl Shares {
     }
 
     // Tries once to claim, and if its own word was empty, once to steal.
+    #[inline(always)]
     fn try_each(&self, seat: &mut Seat) -> Tried
         requires belongs { IsSeatOf self.now seat.old }
         requires empty_handed { transit_of seat.old ≡ None }
