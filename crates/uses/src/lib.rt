@@ -5,6 +5,7 @@
 pub mod batches;
 pub mod explored;
 pub mod folds;
+pub mod in_place;
 pub mod long_lists;
 pub mod maps;
 pub mod merkle;
