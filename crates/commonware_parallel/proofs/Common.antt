@@ -40,14 +40,16 @@ pub use Rattle.parallel_shares.specs.Stretches.{AreApart, Cutting, IsStretch, al
 pub use Rattle.parallel_shares.specs.Totals.{times, total}
 pub use Rattle.parallel_shares.specs.declared.shares.stretch.Stretch.{Stretch}
 pub use Rattle.std.proofs.Common.{All, Bool, Err, IfOk, IsErrAnd, List, None, Ok, Option, Result, Some, [], add-one, ap, append-nil, append_assoc, arith, false, get_or, inl, inr, length}
+pub use Rattle.std.proofs.Common.{div-add-mod', drop, get_or-drop, get_or-take, length-drop, length-take, mul-le-mul_right, one-mul, set}
 pub use Rattle.std.proofs.Common.{length-append, map, max, min, refl, rules, subst, suc, sym, take, true, true≢false, vec_len, zero, ℕ, ◌%◌, ◌*◌, ◌++◌, ◌+◌, ◌-◌, ◌/◌, ◌<◌, ◌^◌, ◌∙◌, ◌∷◌, ◌≡◌, ◌≢◌}
 pub use Rattle.std.proofs.Common.{◌≤◌, ◌⊎◌}
 pub use Rattle.std.proofs.Math.Nat.{add-mul, min-eq_left, min-eq_right, mod-add-div, mod-lt, mul-sub, mul_assoc, mul_comm}
 pub use Rattle.std.proofs.lemmas.Bool.{cases_lt, cases_order, eq-eqb, ne_eqb}
 pub use Rattle.std.proofs.lemmas.List.{append_cancel_left, length-map, map-append, map-id, nil_from_length, take_all, take_more}
+pub use Rattle.std.proofs.lemmas.List.{drop-append-le, get_or-set_other, get_or-set_same, get_or_default, take-append-le}
 pub use Rattle.std.proofs.lemmas.List.Elements.{All-append, All-cons, All-head, All-nil, All-push, All-tail}
 pub use Rattle.std.proofs.lemmas.List.Sorted.{All-permutation, IsNonDecreasingBy-from_sort_by_key, IsPermutation-refl, sum_by-IsPermutation}
-pub use Rattle.std.proofs.lemmas.Nat.{row_fits, same_from_place}
+pub use Rattle.std.proofs.lemmas.Nat.{row_fits, same_from_place, mod-mul-add}
 pub use Rattle.std.specs.Borrow.{Bor, MutBor}
 pub use Rattle.std.specs.Int.NonZero.{non_zero_usize_get}
 pub use Rattle.std.specs.List.{AllZip, FoldsTo, range_with_len, sum_by}
@@ -55,3 +57,6 @@ pub use Rattle.std.specs.Option.{option_to_list, unwrap_or}
 pub use Rattle.std.specs.Prelude.{MatchOption, MatchResult, if◌then◌else◌, nat_le}
 pub use Rattle.std.specs.Vec.Iter.{into_iter_items, into_iter_len}
 pub use Rattle.std.specs.declared.ops.Range.{Range}
+pub use Rattle.std.proofs.Math.Seq.{drop-append-add}
+pub use Rattle.std.specs.Fork.{AcceptsAt, AcceptsChunksMut, ChangesAt, IsChunk, slice_chunk}
+pub use Rattle.std.specs.Fork.Halves.{AllChunks, ChangesByChunks}

@@ -15,7 +15,9 @@ pub mod NamedResults
 pub mod SortedStretches
 pub mod RowMerges
 pub mod RowLaws
+pub mod Chunked
 pub use Batched.*
+pub use Chunked.*
 pub use Common.*
 pub use FilledRows.*
 pub use Hashes.*

@@ -1,6 +1,8 @@
 -- The words that the files of a strategy's calls write their clauses in, passed on from one place.
 -- Declares nothing.
 pub use Rattle.std.specs.Borrow.{MutBor}
+pub use Rattle.std.specs.Fork.{AcceptsChunksMut, AcceptsEach, ChangesChunks, ChangesEach}
+pub use Rattle.std.specs.Int.{div_ceil}
 pub use Rattle.std.specs.Int.NonZero.{non_zero_usize_get}
 pub use Rattle.std.specs.Iterator.{Drains, HoldsAlong, IsFinite}
 pub use Rattle.std.specs.List.Sorted.{IsPermutation, IsSortedByClosure, IsStableByClosure}

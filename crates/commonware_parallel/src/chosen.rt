@@ -12,6 +12,7 @@ use parallel_bridge::Path;
 use parallel_fault::{Fault, Trouble};
 use parallel_policy::Place;
 use std::alloc::Global;
+use std::num::NonZeroUsize;
 use std::sync::Wait;
 
 /// A run that has begun, with what it is measured by.
@@ -143,4 +144,13 @@ pub(crate) fn begin_path<S: Chooser, Rt: Wait, P: Place>(
 {
     let (path, measure) = choose_path(strategy, rt, alloc, site, call)?;
     Ok((path, Running::begun(measure)))
+}
+
+/// How many threads a body over a list has by that path: the caller's alone, or as many as the
+/// strategy says.
+pub(crate) fn threads_by<S: Chooser>(strategy: &S, path: Path) -> NonZeroUsize {
+    match path {
+        Path::Serial => NonZeroUsize::MIN,
+        Path::Parallel => strategy.thread_number(),
+    }
 }

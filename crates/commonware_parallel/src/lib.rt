@@ -11,6 +11,7 @@ mod batches;
 mod call;
 mod chooser;
 mod chosen;
+mod in_place;
 mod list;
 pub mod merkle;
 mod meter;

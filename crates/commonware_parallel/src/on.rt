@@ -1,8 +1,8 @@
 //! The calls of one place, with what they have in common written once.
-ghost use Rattle.std.specs.Prelude.{IfErr, IfOk, OnOk, length};
+ghost use Rattle.std.specs.Prelude.{◌≡◌, IfErr, IfOk, OnOk, length};
 ghost use Rattle.commonware_parallel.specs.Words.{Asked, Bracketing, Brackets, FoldInitSegment, FoldStep, FoldedAs, FoldedInitAs, GivesSome, IsMemoryOnErr, IsMemoryOnFault, IsPermutation};
 ghost use Rattle.commonware_parallel.specs.Words.{IsSortedByClosure, IsStableByClosure, MapOf, MapStep, MappedInitAs, MutBor, PartitionOf, Stateful, TryBracketing, TryFoldedAs, TryMapOf};
-ghost use Rattle.commonware_parallel.specs.Words.{UnlessRefused, body_call, join_call, listed};
+ghost use Rattle.commonware_parallel.specs.Words.{AcceptsChunksMut, AcceptsEach, ChangesChunks, ChangesEach, UnlessRefused, body_call, div_ceil, join_call, listed, non_zero_usize_get};
 ghost use Rattle.commonware_parallel.specs.OnePlace.{AskedOn, GoesOn};
 
 use crate::strategy::Strategy;
@@ -11,6 +11,7 @@ use parallel_fault::{Fault, Trouble};
 use parallel_policy::Place;
 use std::alloc::Global;
 use std::cmp::Ordering;
+use std::num::NonZeroUsize;
 use std::sync::Wait;
 use std::thread::Threads;
 
@@ -95,6 +96,48 @@ impl<'s, Rt: Threads + Wait + Sync, S: Strategy, P: Place> On<'s, Rt, S, P> {
     {
         self.strategy
             .sort_unstable_by(self.rt, self.alloc, self.site, items, compare)
+    }
+
+    /// Each item changed where it lies: `Strategy::for_each_mut`.
+    pub fn for_each_mut<T: Send, F: Fn(usize, &mut T) + Send + Sync + Drop>(
+        &self,
+        items: &mut [T],
+        op: F,
+    ) -> Result<(), Fault>
+        requires accepts { AcceptsEach F.Fn op items.old }
+        ensures changes { OnOk result (ChangesEach F.Fn op items.old items.new) }
+        ensures unchanged { IfErr result (λ _. items.new ≡ items.old) }
+        ensures asked { OnOk result (Asked (S.takes self.now.strategy.now
+            (P.site_of self.now.site) (body_call (length items.old)))) }
+        ensures refused { IfErr result (S.refuses self.now.strategy.now
+            (P.site_of self.now.site) (body_call (length items.old))) }
+        ensures fault { IsMemoryOnErr result }
+    {
+        self.strategy
+            .for_each_mut(self.rt, self.alloc, self.site, items, op)
+    }
+
+    /// Each chunk changed where it lies: `Strategy::for_each_chunk_mut`.
+    pub fn for_each_chunk_mut<T: Send, F: Fn(usize, &mut [T]) + Send + Sync + Drop>(
+        &self,
+        items: &mut [T],
+        size: NonZeroUsize,
+        op: F,
+    ) -> Result<(), Fault>
+        requires accepts { AcceptsChunksMut F.Fn op (non_zero_usize_get size) items.old }
+        ensures changes { OnOk result
+            (ChangesChunks F.Fn op (non_zero_usize_get size) items.old items.new) }
+        ensures unchanged { IfErr result (λ _. items.new ≡ items.old) }
+        ensures asked { OnOk result (Asked (S.takes self.now.strategy.now
+            (P.site_of self.now.site)
+            (body_call (div_ceil (length items.old) (non_zero_usize_get size))))) }
+        ensures refused { IfErr result (S.refuses self.now.strategy.now
+            (P.site_of self.now.site)
+            (body_call (div_ceil (length items.old) (non_zero_usize_get size)))) }
+        ensures fault { IsMemoryOnErr result }
+    {
+        self.strategy
+            .for_each_chunk_mut(self.rt, self.alloc, self.site, items, size, op)
     }
 
     /// The answers for the items, in their order: `Strategy::map_collect_vec`.

@@ -1,6 +1,8 @@
 //! The strategy on the caller's thread.
 ghost use Rattle.std.specs.Prelude.{◌≡◌, All, true, IfOk, OnOk};
 ghost use Rattle.std.specs.Borrow.{MutBor};
+ghost use Rattle.std.specs.Fork.{AcceptsChunksMut, AcceptsEach, ChangesChunks, ChangesEach};
+ghost use Rattle.std.specs.Int.NonZero.{non_zero_usize_get};
 ghost use Rattle.std.specs.Iterator.{IsFinite, Drains, HoldsAlong};
 ghost use Rattle.std.specs.List.Sorted.{IsPermutation, IsSortedByClosure, IsStableByClosure};
 ghost use Rattle.parallel_bridge.specs.Sources.{GivesSome};
@@ -16,6 +18,7 @@ mod parts;
 
 use crate::call::{Call, Pick};
 use crate::chooser::Chooser;
+use crate::in_place::{each_chunk_in_turn, each_item_in_turn};
 use crate::meter::Unmeasured;
 use crate::spawned::{Job, Spawned, Stage};
 use parallel_bridge::list::fold::fold_iter;
@@ -372,6 +375,36 @@ impl Sequential {
         ensures sorted { IsSortedByClosure C.FnMut compare items.new }
     {
         items.sort_unstable_by(compare);
+    }
+
+    /// Changes each item where it lies, from the first to the last: `op` is called with its index
+    /// and the item. Takes no memory.
+    pub fn for_each_mut<P: Place, T, F: Fn(usize, &mut T) + Drop>(
+        &self,
+        _site: P,
+        items: &mut [T],
+        op: F,
+    )
+        requires accepts { AcceptsEach F.Fn op items.old }
+        ensures { ChangesEach F.Fn op items.old items.new }
+    {
+        each_item_in_turn(items, &op);
+    }
+
+    /// Changes each chunk of `size` items where it lies, the last one maybe shorter, from the first
+    /// to the last: `op` is called with the index at which it begins and the chunk. Takes no
+    /// memory.
+    pub fn for_each_chunk_mut<P: Place, T, F: Fn(usize, &mut [T]) + Drop>(
+        &self,
+        _site: P,
+        items: &mut [T],
+        size: NonZeroUsize,
+        op: F,
+    )
+        requires accepts { AcceptsChunksMut F.Fn op (non_zero_usize_get size) items.old }
+        ensures { ChangesChunks F.Fn op (non_zero_usize_get size) items.old items.new }
+    {
+        each_chunk_in_turn(size, items, &op);
     }
 
     /// A job, run at once on this strategy: its answer is there, so that the first poll gives it.

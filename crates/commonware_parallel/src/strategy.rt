@@ -1,15 +1,18 @@
 //! What a program calls: maps, folds, joins, sorts, batches, tiles and jobs through any strategy.
-ghost use Rattle.std.specs.Prelude.{◌<◌, IfErr, IfOk, OnOk, length, ℕ};
+ghost use Rattle.std.specs.Prelude.{◌<◌, ◌≡◌, IfErr, IfOk, OnOk, length, ℕ};
 ghost use Rattle.commonware_parallel.specs.Words.{AnswersAs, Asked, AskedOver, AtSomePath, Batches, BeginsAs, Bracketing, Brackets, By, FailsToSpawn, Fits, FoldInitSegment, FoldStep};
 ghost use Rattle.commonware_parallel.specs.Words.{FoldedAs, FoldedInitAs, GivesSome, GoesByLength, IsBatch, IsMemoryOnErr, IsMemoryOnFault, IsPermutation, IsSortedByClosure};
 ghost use Rattle.commonware_parallel.specs.Words.{IsStableByClosure, IsTiling, MapOf, MapStep, MappedInitAs, MutBor, OfOne, OnSomeBatch, OnSomeTiles, OneOf, PartitionOf, Stateful, Tiles};
 ghost use Rattle.commonware_parallel.specs.Words.{TryBracketing, TryFoldedAs, TryMapOf, UnlessRefused, body_call, gives_answer, join_call, listed, multiplied_call, non_zero_usize_get};
-ghost use Rattle.commonware_parallel.specs.Words.{ranges_of, spawn_call};
+ghost use Rattle.commonware_parallel.specs.Words.{AcceptsChunksMut, AcceptsEach, ChangesChunks, ChangesEach, div_ceil, ranges_of, spawn_call};
 
 use crate::batches::Batches;
 use crate::call::Call;
 use crate::chooser::Chooser;
-use crate::chosen::{Running, begin_path, choose_parts, choose_path, end_run, end_with};
+use crate::chosen::{
+    Running, begin_path, choose_parts, choose_path, end_run, end_with, threads_by,
+};
+use crate::in_place::{each_chunk, each_item};
 use crate::list::{
     body_over, fold_by, fold_init_by, fold_init_iter, fold_iter, map_by, map_init_by,
     map_init_iter, map_iter, multiplied_body_over, partition_by, partition_iter,
@@ -238,10 +241,7 @@ pub trait Strategy: Chooser {
         ensures fault { IsMemoryOnErr result }
     {
         let (path, running) = begin_path(self, rt, alloc, site, Call::body(items.len()))?;
-        let threads = match path {
-            Path::Serial => NonZeroUsize::MIN,
-            Path::Parallel => self.thread_number(),
-        };
+        let threads = threads_by(self, path);
         let sorted = sort_parallel(rt, alloc, threads, items, &compare);
         end_run(self, rt, running, sorted.is_ok());
         sorted
@@ -270,6 +270,74 @@ pub trait Strategy: Chooser {
         ensures fault { IsMemoryOnErr result }
     {
         self.sort_by(rt, alloc, site, items, compare)
+    }
+
+    /// Changes each item where it lies: `op` is called with its index and the item (`ChangesEach`).
+    /// Serially the caller's thread goes through the list; in parallel it is split into parts, one
+    /// for each thread. The strategy is asked by the number of items (`asked`).
+    ///
+    /// # Errors
+    ///
+    /// `Fault::Memory` alone, and only what `refuses` allows; `op` was called with no item then,
+    /// and the list is as it was. The call itself takes no memory.
+    final fn for_each_mut<
+        Rt: Threads + Wait + Sync,
+        P: Place,
+        T: Send,
+        F: Fn(usize, &mut T) + Send + Sync + Drop,
+    >(&self, rt: &Rt, alloc: Global, site: P, items: &mut [T], op: F) -> Result<(), Fault>
+        requires accepts { AcceptsEach F.Fn op items.old }
+        ensures changes { OnOk result (ChangesEach F.Fn op items.old items.new) }
+        ensures unchanged { IfErr result (λ _. items.new ≡ items.old) }
+        ensures asked { OnOk result
+            (Asked (Self.takes self.now (P.site_of site) (body_call (length items.old)))) }
+        ensures refused { IfErr result
+            (Self.refuses self.now (P.site_of site) (body_call (length items.old))) }
+        ensures fault { IsMemoryOnErr result }
+    {
+        let call = Call::body(items.len());
+        let (path, running) = begin_path(self, rt, alloc, site, call)?;
+        each_item(rt, threads_by(self, path), items, &op);
+        end_run(self, rt, running, true);
+        Ok(())
+    }
+
+    /// Changes each chunk of `size` items where it lies, the last one maybe shorter: `op` is called
+    /// with the index at which it begins and the chunk (`ChangesChunks`). In parallel each thread
+    /// has one part of the list, of whole chunks. The strategy is asked by the number of chunks.
+    ///
+    /// # Errors
+    ///
+    /// `Fault::Memory` alone, as `for_each_mut`; the list is then as it was.
+    final fn for_each_chunk_mut<
+        Rt: Threads + Wait + Sync,
+        P: Place,
+        T: Send,
+        F: Fn(usize, &mut [T]) + Send + Sync + Drop,
+    >(
+        &self,
+        rt: &Rt,
+        alloc: Global,
+        site: P,
+        items: &mut [T],
+        size: NonZeroUsize,
+        op: F,
+    ) -> Result<(), Fault>
+        requires accepts { AcceptsChunksMut F.Fn op (non_zero_usize_get size) items.old }
+        ensures changes { OnOk result
+            (ChangesChunks F.Fn op (non_zero_usize_get size) items.old items.new) }
+        ensures unchanged { IfErr result (λ _. items.new ≡ items.old) }
+        ensures asked { OnOk result (Asked (Self.takes self.now (P.site_of site)
+            (body_call (div_ceil (length items.old) (non_zero_usize_get size))))) }
+        ensures refused { IfErr result (Self.refuses self.now (P.site_of site)
+            (body_call (div_ceil (length items.old) (non_zero_usize_get size)))) }
+        ensures fault { IsMemoryOnErr result }
+    {
+        let call = Call::body(items.len().div_ceil(size.get()));
+        let (path, running) = begin_path(self, rt, alloc, site, call)?;
+        each_chunk(rt, threads_by(self, path), size, items, &op);
+        end_run(self, rt, running, true);
+        Ok(())
     }
 
     /// The answers of `map_op` for the items, in the items' order (`MapOf`). The strategy is asked

@@ -10,6 +10,7 @@ mod errors;
 mod explorers;
 mod folds;
 mod gates;
+mod in_place;
 mod layers;
 mod lent;
 mod machine;

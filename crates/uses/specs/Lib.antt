@@ -5,6 +5,7 @@ pub mod LongLists
 pub mod Merkle
 pub mod Repeats
 pub mod Tiles
+pub mod Transforms
 pub mod Verdicts
 pub mod Words
 pub mod Firsts

@@ -5,6 +5,7 @@
 pub mod batches;
 pub mod explored;
 pub mod folds;
+pub mod in_place;
 pub mod joins;
 pub mod long_lists;
 pub mod maps;
