@@ -1,6 +1,6 @@
 -- For folders: taking some items, and then more, is taking all of them; and one step of a loop over
 -- items that come, over plain variables.
-use Rattle.parallel_bridge.proofs.Common.{◌≡◌, List, [], ◌∷◌, ◌++◌, Result, Ok, Err, Option, Some, None, refl, sym, ◌∙◌, ap, subst, append_assoc, inl, inr, IsTrue, is_err, Chain, OnlyOk}
+use Rattle.parallel_bridge.proofs.Common.{◌≡◌, List, [], ◌∷◌, ◌++◌, Result, Ok, Err, Option, Some, None, refl, sym, ◌∙◌, ap, subst, append_assoc, inl, inr, IsTrue, is_err, Chain}
 use Rattle.parallel_bridge.proofs.Common.{TryChain, PartitionOf, keys_in, keys_of, values_in, values_of, TryMapOnto, TryMapBehind, PartitionOnto, TryContinues, Vec, Global, false, is_some, append-nil}
 use Rattle.parallel_bridge.proofs.Common.{ended}
 use Rattle.parallel_bridge.proofs.Shapes.{MapOf-append}
@@ -15,12 +15,6 @@ module _ {X R : Type 0} (step : R → X → R → Type 0) where
   pub chain_push : (a : R) (xs : List X) (m : R) (x : X) (b : R) → Chain step a xs m → step m x b
       → Chain step a (xs ++ x ∷ []) b
   chain_push a xs m x b h last = chain_append a xs (x ∷ []) m b h (b, last, refl)
-
-  -- the same of a value that is an outcome
-  pub chain_only : {E : Type 0} (a : R) (xs ys : List X) (m : R) (out : Result R E)
-      → Chain step a xs m → OnlyOk (Chain step m ys) out → OnlyOk (Chain step a (xs ++ ys)) out
-  chain_only a xs ys m (Ok b) h k = chain_append a xs ys m b h k
-  chain_only a xs ys m (Err e) h k = k
 
 module _ {X R E : Type 0} (step : R → X → Result R E → Type 0) where
   pub try_chain_append : (a : R) (xs ys : List X) (v out : Result R E) → TryChain step a xs v
@@ -159,18 +153,6 @@ module _ {X K U : Type 0} (allowed : X → (K × Option U) → Type 0) where
       → PartitionOnto allowed values keys [] values keys
   part_end values keys =
       ([], [], sym (append-nil values), sym (append-nil keys), ([], tt, refl, refl))
-
--- the same of lists that are an outcome
-pub part_only : {X K U E : Type 0} (allowed : X → (K × Option U) → Type 0) (values us : List U)
-    (keys ks : List K) (xs ys : List X)
-    (out : Result (Vec (Vec U Global × Vec K Global) Global) E)
-    → PartitionOnto allowed values keys xs us ks
-    → OnlyOk (λ r. PartitionOnto allowed us ks ys (values_in r.items) (keys_in r.items)) out
-    → OnlyOk
-    (λ r. PartitionOnto allowed values keys (xs ++ ys) (values_in r.items) (keys_in r.items)) out
-part_only allowed values us keys ks xs ys (Ok r) h k =
-    part_append allowed values us (values_in r.items) keys ks (keys_in r.items) xs ys h k
-part_only allowed values us keys ks xs ys (Err e) h k = k
 
 -- the values of pairs of lists one after another
 pub values_in-append : {K U : Type 0} (ps qs : List (Vec U Global × Vec K Global))

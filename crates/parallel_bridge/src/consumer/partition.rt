@@ -85,15 +85,6 @@ impl<'f, X: Drop, U: Drop, K: Drop, F: Fn(X) -> (K, Option<U>)> Folder<
         })
     }
 
-    fn consume_iter<I: Iterator<Item = X>>(self, _alloc: Global, iter: I) -> Result<Self, Fault> {
-        let (values, keys) = partition_onto(self.values, self.keys, iter, self.map_op)?;
-        Ok(PartitionFolder {
-            values,
-            keys,
-            map_op: self.map_op,
-        })
-    }
-
     fn complete(self, alloc: Global) -> Result<Vec<(Vec<U>, Vec<K>)>, Trouble<Infallible>> {
         let mut lists = Vec::new(alloc);
         lists.push((self.values, self.keys))?;
