@@ -1,6 +1,6 @@
 -- For folders: taking some items, and then more, is taking all of them; and one step of a loop over
 -- items that come, over plain variables.
-use Rattle.parallel_bridge.proofs.Common.{◌≡◌, List, [], ◌∷◌, ◌++◌, Result, Ok, Err, Option, Some, None, refl, sym, ◌∙◌, ap, subst, append_assoc, inl, inr, IsTrue, is_err, Chain}
+use Rattle.parallel_bridge.proofs.Common.{◌≡◌, List, [], ◌∷◌, ◌++◌, Result, Ok, Err, Option, Some, None, refl, sym, ◌∙◌, ap, subst, append_assoc, inl, inr, IsTrue, is_err, Chain, OnlyOk}
 use Rattle.parallel_bridge.proofs.Common.{TryChain, PartitionOf, keys_in, keys_of, values_in, values_of, TryMapOnto, TryMapBehind, PartitionOnto, TryContinues, Vec, Global, false, is_some, append-nil}
 use Rattle.parallel_bridge.proofs.Common.{ended}
 use Rattle.parallel_bridge.proofs.Shapes.{MapOf-append}
@@ -124,35 +124,31 @@ module _ {X K U : Type 0} (allowed : X → (K × Option U) → Type 0) where
         PartitionOf-append xs ys new_us more_us new_ks more_ks part part',
       )
 
-  -- one item with a value
-  pub part_one_value : (values : List U) (keys : List K) (x : X) (p : K × Option U) (u : U)
-      (us : List U) → allowed x p → p.1 ≡ Some u → us ≡ values ++ u ∷ []
-      → PartitionOnto allowed values keys (x ∷ []) us keys
-  part_one_value values keys x p u us one is more = (
-    u ∷ [],
-    [],
-    more,
-    sym (append-nil keys),
-    ((p.0, Some u) ∷ [], (subst (λ v. allowed x (p.0, v)) is one, tt), refl, refl),
-  )
-
-  -- one item without a value
-  pub part_one_key : (values : List U) (keys : List K) (x : X) (p : K × Option U) (ks : List K)
-      → allowed x p → p.1 ≡ None → ks ≡ keys ++ p.0 ∷ []
-      → PartitionOnto allowed values keys (x ∷ []) values ks
-  part_one_key values keys x p ks one is more = (
-    [],
-    p.0 ∷ [],
-    sym (append-nil values),
-    more,
-    ((p.0, None) ∷ [], (subst (λ v. allowed x (p.0, v)) is one, tt), refl, refl),
-  )
+  -- one item more
+  pub part_one : (values us : List U) (keys ks : List K) (x : X) (p : K × Option U) → allowed x p
+      → us ≡ values ++ values_of (p ∷ []) → ks ≡ keys ++ keys_of (p ∷ [])
+      → PartitionOnto allowed values keys (x ∷ []) us ks
+  part_one values us keys ks x p one at_us at_ks =
+      (values_of (p ∷ []), keys_of (p ∷ []), at_us, at_ks, (p ∷ [], (one, tt), refl, refl))
 
   -- nothing is left
   pub part_end : (values : List U) (keys : List K)
       → PartitionOnto allowed values keys [] values keys
   part_end values keys =
       ([], [], sym (append-nil values), sym (append-nil keys), ([], tt, refl, refl))
+
+-- one item's value or key more, and then those of others
+pub part_put : {X K U E : Type 0} (allowed : X → (K × Option U) → Type 0) (values us : List U)
+    (keys ks : List K) (x : X) (p : K × Option U) (xs : List X)
+    (out : Result (Vec (Vec U Global × Vec K Global) Global) E)
+    → OnlyOk (λ r. PartitionOnto allowed us ks xs (values_in r.items) (keys_in r.items)) out
+    → allowed x p → us ≡ values ++ values_of (p ∷ []) → ks ≡ keys ++ keys_of (p ∷ [])
+    → OnlyOk
+    (λ r. PartitionOnto allowed values keys (x ∷ xs) (values_in r.items) (keys_in r.items)) out
+part_put allowed values us keys ks x p xs (Ok r) part one at_us at_ks =
+    part_append allowed values us (values_in r.items) keys ks (keys_in r.items) (x ∷ []) xs
+    (part_one allowed values us keys ks x p one at_us at_ks) part
+part_put allowed values us keys ks x p xs (Err e) part one at_us at_ks = part
 
 -- the values of pairs of lists one after another
 pub values_in-append : {K U : Type 0} (ps qs : List (Vec U Global × Vec K Global))
