@@ -1,4 +1,5 @@
 //! Consumers, producers and sources at concrete types.
+mod blocks;
 mod consumers;
 mod gate_seats;
 mod producers;

@@ -1,10 +1,7 @@
 -- What a chain of `into_iter`, `map` and `collect` gives, where the closure has a relation only.
-use Rattle.parallel_bridge.proofs.Common.{◌≡◌, List, [], ◌∷◌, ◌++◌, refl, Option, None, Some, length, sym, subst, ◌∙◌, All, All-contains, AllZip, Contains-push, Yields, Drains, DrainsIf}
-use Rattle.parallel_bridge.proofs.Common.{HoldsAlong, CallableAtEachTurn, map_source, map_callee, serves_by, YieldsList}
+use Rattle.parallel_bridge.proofs.Common.{◌≡◌, List, [], ◌∷◌, ◌++◌, refl, Option, None, Some, sym, subst, ◌∙◌, All, All-contains, AllZip, Contains-push, Yields, Drains, DrainsIf}
+use Rattle.parallel_bridge.proofs.Common.{HoldsAlong, CallableAtEachTurn, map_source, map_callee, serves_by}
 use Rattle.std.specs.declared.iter.Map.{Map}
-use Rattle.std.specs.declared.vec.IntoIter.{IntoIter}
-use Rattle.std.specs.Vec.Iter.{into_iter_items, into_iter_len, into_iter_steps}
-use Rattle.std.proofs.lemmas.Iterator.Adapters.{YieldsList-from_vec}
 
 module _ {S A B F : Type 0} (steps : S → Option A → S → Type 0)
     (mapped : Map S F → Option B → Map S F → Type 0) (allowed : F → A → B → Type 0)
@@ -76,9 +73,3 @@ serves_along {steps = steps} {R = R} {Q = Q} {s = s} {p = p} K along same asks =
     serves_by R (λ _ q. q ≡ p) (λ xs q x v e r. same x v (subst (λ w. R w x v) e r)) steps Q s p
     refl (λ xs t q x u led step e. subst (λ w. Q w x) (sym e)
     (asks x (next_has steps K s t u xs x along led step)))
-
--- what an owned list gives, also where the iterator over it is named through an equation
-pub vec_yields : {A Z : Type 0} (xs : List A) (s t : IntoIter A Z) → t ≡ s → into_iter_items s ≡ xs
-    → into_iter_len s ≡ length xs → YieldsList (into_iter_steps {X = A} {Z = Z}) (λ y. y) t xs
-vec_yields xs s t same items long = subst (λ v. YieldsList into_iter_steps (λ y. y) v xs) (sym same)
-    (YieldsList-from_vec xs items long)

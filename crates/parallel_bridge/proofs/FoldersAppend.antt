@@ -16,12 +16,6 @@ module _ {X R : Type 0} (step : R → X → R → Type 0) where
       → Chain step a (xs ++ x ∷ []) b
   chain_push a xs m x b h last = chain_append a xs (x ∷ []) m b h (b, last, refl)
 
-  -- the same of a value that is an outcome
-  pub chain_only : {E : Type 0} (a : R) (xs ys : List X) (m : R) (out : Result R E)
-      → Chain step a xs m → OnlyOk (Chain step m ys) out → OnlyOk (Chain step a (xs ++ ys)) out
-  chain_only a xs ys m (Ok b) h k = chain_append a xs ys m b h k
-  chain_only a xs ys m (Err e) h k = k
-
 module _ {X R E : Type 0} (step : R → X → Result R E → Type 0) where
   pub try_chain_append : (a : R) (xs ys : List X) (v out : Result R E) → TryChain step a xs v
       → TryContinues step v ys out → TryChain step a (xs ++ ys) out
@@ -130,29 +124,12 @@ module _ {X K U : Type 0} (allowed : X → (K × Option U) → Type 0) where
         PartitionOf-append xs ys new_us more_us new_ks more_ks part part',
       )
 
-  -- one item with a value
-  pub part_one_value : (values : List U) (keys : List K) (x : X) (p : K × Option U) (u : U)
-      (us : List U) → allowed x p → p.1 ≡ Some u → us ≡ values ++ u ∷ []
-      → PartitionOnto allowed values keys (x ∷ []) us keys
-  part_one_value values keys x p u us one is more = (
-    u ∷ [],
-    [],
-    more,
-    sym (append-nil keys),
-    ((p.0, Some u) ∷ [], (subst (λ v. allowed x (p.0, v)) is one, tt), refl, refl),
-  )
-
-  -- one item without a value
-  pub part_one_key : (values : List U) (keys : List K) (x : X) (p : K × Option U) (ks : List K)
-      → allowed x p → p.1 ≡ None → ks ≡ keys ++ p.0 ∷ []
-      → PartitionOnto allowed values keys (x ∷ []) values ks
-  part_one_key values keys x p ks one is more = (
-    [],
-    p.0 ∷ [],
-    sym (append-nil values),
-    more,
-    ((p.0, None) ∷ [], (subst (λ v. allowed x (p.0, v)) is one, tt), refl, refl),
-  )
+  -- one item more
+  pub part_one : (values us : List U) (keys ks : List K) (x : X) (p : K × Option U) → allowed x p
+      → us ≡ values ++ values_of (p ∷ []) → ks ≡ keys ++ keys_of (p ∷ [])
+      → PartitionOnto allowed values keys (x ∷ []) us ks
+  part_one values us keys ks x p one at_us at_ks =
+      (values_of (p ∷ []), keys_of (p ∷ []), at_us, at_ks, (p ∷ [], (one, tt), refl, refl))
 
   -- nothing is left
   pub part_end : (values : List U) (keys : List K)
@@ -160,17 +137,18 @@ module _ {X K U : Type 0} (allowed : X → (K × Option U) → Type 0) where
   part_end values keys =
       ([], [], sym (append-nil values), sym (append-nil keys), ([], tt, refl, refl))
 
--- the same of lists that are an outcome
-pub part_only : {X K U E : Type 0} (allowed : X → (K × Option U) → Type 0) (values us : List U)
-    (keys ks : List K) (xs ys : List X)
+-- one item's value or key more, and then those of others
+pub part_put : {X K U E : Type 0} (allowed : X → (K × Option U) → Type 0) (values us : List U)
+    (keys ks : List K) (x : X) (p : K × Option U) (xs : List X)
     (out : Result (Vec (Vec U Global × Vec K Global) Global) E)
-    → PartitionOnto allowed values keys xs us ks
-    → OnlyOk (λ r. PartitionOnto allowed us ks ys (values_in r.items) (keys_in r.items)) out
+    → OnlyOk (λ r. PartitionOnto allowed us ks xs (values_in r.items) (keys_in r.items)) out
+    → allowed x p → us ≡ values ++ values_of (p ∷ []) → ks ≡ keys ++ keys_of (p ∷ [])
     → OnlyOk
-    (λ r. PartitionOnto allowed values keys (xs ++ ys) (values_in r.items) (keys_in r.items)) out
-part_only allowed values us keys ks xs ys (Ok r) h k =
-    part_append allowed values us (values_in r.items) keys ks (keys_in r.items) xs ys h k
-part_only allowed values us keys ks xs ys (Err e) h k = k
+    (λ r. PartitionOnto allowed values keys (x ∷ xs) (values_in r.items) (keys_in r.items)) out
+part_put allowed values us keys ks x p xs (Ok r) part one at_us at_ks =
+    part_append allowed values us (values_in r.items) keys ks (keys_in r.items) (x ∷ []) xs
+    (part_one allowed values us keys ks x p one at_us at_ks) part
+part_put allowed values us keys ks x p xs (Err e) part one at_us at_ks = part
 
 -- the values of pairs of lists one after another
 pub values_in-append : {K U : Type 0} (ps qs : List (Vec U Global × Vec K Global))

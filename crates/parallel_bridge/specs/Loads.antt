@@ -4,8 +4,8 @@ use Rattle.std.specs.List.{AllZip}
 use Rattle.parallel_bridge.specs.declared.drive.row.Load.{Load}
 
 -- both tasks of each load may be split or run
-abbrev pub AreAble : {T : Type 0} → (T → Type 0) → List (Load T) → Type 0
-AreAble able loads = All (λ load. able load.left × able load.right) loads
+abbrev pub AreReady : {T : Type 0} → (T → Type 0) → List (Load T) → Type 0
+AreReady ready loads = All (λ load. ready load.left × ready load.right) loads
 
 -- each load has in its place what its two tasks came to
 abbrev pub CameTo : {T D : Type 0} → (ℕ → T → D → Type 0) → List (Load T) → List (D × D) → Type 0

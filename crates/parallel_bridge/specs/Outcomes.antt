@@ -1,5 +1,5 @@
 -- What is said of a result that may be an error of the caller's closure, or a refusal.
-use Rattle.std.specs.Prelude.{◌≡◌, List, [], ◌∷◌, ◌++◌, Result, Ok, Err, Option, Some, None}
+use Rattle.std.specs.Prelude.{◌≡◌, ◌<◌, List, [], ◌∷◌, ◌++◌, length, Result, Ok, Err, Option, Some, None}
 use Rattle.std.specs.declared.vec.Vec.{Vec}
 use Rattle.std.specs.declared.alloc.Global.{Global}
 use Rattle.parallel_fault.specs.declared.fault.Trouble.{Trouble}
@@ -29,9 +29,14 @@ abbrev pub joined : {T : Type 0} → List (Vec T Global) → List T
 joined [] = []
 joined (v ∷ vs) = v.items ++ joined vs
 
--- the items in one list, and no list where there are no items
+-- each list has an item
+abbrev pub EachHasItems : {T : Type 0} → List (Vec T Global) → Type 0
+EachHasItems [] = Unit {0}
+EachHasItems (v ∷ vs) = (0 < length v.items) × EachHasItems vs
+
+-- the items in one list, and no list where there are no items, nor one without any
 abbrev pub IsListed : {T : Type 0} → List T → List (Vec T Global) → Type 0
-IsListed xs all = (joined all ≡ xs) × (xs ≡ [] → all ≡ [])
+IsListed xs all = (joined all ≡ xs) × (xs ≡ [] → all ≡ []) × EachHasItems all
 
 -- of two neighbours' outcomes the left one's trouble stands, after a value of it the right one's,
 -- and two values are put together as node allows

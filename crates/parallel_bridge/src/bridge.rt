@@ -1,38 +1,29 @@
 //! Lists handed to a consumer, split along their shape.
-ghost use Rattle.std.specs.Prelude.{◌≡◌, ◌-◌, ◌*◌, ◌^◌, ◌<◌, ◌≤◌, ◌⊎◌, List, Ok, IfOk, Result, length};
+ghost use Rattle.std.specs.Prelude.{◌≡◌, ◌*◌, ◌<◌, ◌≤◌, ◌⊎◌, List, Result, length};
 ghost use Rattle.std.specs.Int.NonZero.{non_zero_usize_get};
-ghost use Rattle.parallel_fault.specs.Trouble.{IsMemoryOnErr};
 ghost use Rattle.parallel_bridge.specs.Endings.{ending_of};
 ghost use Rattle.parallel_bridge.specs.Halting.{halting, unstopped};
-ghost use Rattle.parallel_bridge.specs.Outcomes.{PutTogether, UnlessRefused};
+ghost use Rattle.parallel_bridge.specs.Outcomes.{PutTogether};
 ghost use Rattle.parallel_bridge.specs.Shapes.{cutdepth, Shape, leaf_lengths};
 ghost use Rattle.parallel_bridge.specs.Sources.{Driven, Suits};
 
 use crate::bridge::feed::feed_items;
 use crate::cursor::Cursor;
 use crate::drive::{Task, drive};
-use crate::halt::{Halt, unhalt};
+use crate::halt::Halt;
 use crate::parts::Parts;
 use crate::plumbing::{Consumer, Reducer};
 use crate::segment::Segment;
+use crate::segments::depth_of;
+use crate::troubles::{put_together, unhalt};
 use crate::watch::{Unwatched, Watch};
-use parallel_fault::{Fault, Trouble};
+use parallel_fault::Trouble;
 use std::alloc::Global;
-use std::convert::Infallible;
 use std::marker::PhantomData;
 use std::num::NonZeroUsize;
 use std::thread::Threads;
 
 pub mod feed;
-
-/// How many times over a list may be halved for that many threads: the binary digits of the number.
-pub fn depth_of(threads: NonZeroUsize) -> usize
-    ensures digits { result ≡ cutdepth (non_zero_usize_get threads) }
-    ensures enough { non_zero_usize_get threads < 2 ^ result }
-    ensures needed { 2 ^ (result - 1) ≤ non_zero_usize_get threads }
-{
-    (usize::BITS - threads.get().leading_zeros()) as usize
-}
 
 /// Hands a list to the consumer, split along its shape for that many threads, of which the caller's
 /// is one. Where several segments fail, the leftmost one's error is answered; a refusal of memory
@@ -99,22 +90,6 @@ pub fn bridge_watched<Rt: Threads + Sync, P: Parts, C: Consumer<P::Item> + Send,
     (answer, watch)
 }
 
-/// The answer of a call whose closures have no error of their own.
-///
-/// # Errors
-///
-/// The refusal, as it was.
-pub(crate) fn unfailing<R: Drop>(answer: Result<R, Trouble<Infallible>>) -> Result<R, Fault>
-    ensures same { IfOk result (λ r. answer ≡ Ok r) }
-    ensures fault { UnlessRefused answer (λ _. Unit {0}) → IsMemoryOnErr result }
-{
-    match answer {
-        Ok(value) => Ok(value),
-        Err(Trouble::Fault(fault)) => Err(fault),
-        Err(Trouble::Closure(never)) => match never {},
-    }
-}
-
 // A part of a list with the consumer that it is handed to, and its watch.
 #[derive(Drop)]
 struct Handing<X: Send + Drop, S: Segment<X>, C: Consumer<X>, G> {
@@ -130,7 +105,7 @@ impl<X: Send + Drop, S: Segment<X>, C: Consumer<X> + Send, G: Watch + Send> Task
 
     type Seam = C::Reducer;
 
-    ghost able = { λ s. S.sound s.parts
+    ghost ready = { λ s. S.ready s.parts
         × Suits C.ready C.fits C.takes S.count S.may s.parts s.consumer
         × G.may s.watch (S.count s.parts) };
 
@@ -154,13 +129,7 @@ impl<X: Send + Drop, S: Segment<X>, C: Consumer<X> + Send, G: Watch + Send> Task
         depth == 0 || self.parts.len() < 2
     }
 
-    fn split(
-        self,
-        alloc: Global,
-    ) -> Result<
-        (Self, Self, C::Reducer),
-        (Result<C::Result, Trouble<Halt<C::Error>>>, S::Rest, G),
-    > {
+    fn split(self, alloc: Global) -> Result<(Self, Self, C::Reducer), Self::Done> {
         let len = self.parts.len();
         let (left, right, reducer) = match self.consumer.split_at(len / 2) {
             Ok(consumers) => consumers,
@@ -189,7 +158,7 @@ impl<X: Send + Drop, S: Segment<X>, C: Consumer<X> + Send, G: Watch + Send> Task
         Ok((first, second, reducer))
     }
 
-    fn run(self, alloc: Global) -> (Result<C::Result, Trouble<Halt<C::Error>>>, S::Rest, G) {
+    fn run(self, alloc: Global) -> Self::Done {
         let items = self.parts.into_items();
         let mut watch = self.watch;
         let stopped = watch.stopped();
@@ -204,37 +173,8 @@ impl<X: Send + Drop, S: Segment<X>, C: Consumer<X> + Send, G: Watch + Send> Task
         (answer, rest, watch)
     }
 
-    fn join(
-        seam: C::Reducer,
-        left: (Result<C::Result, Trouble<Halt<C::Error>>>, S::Rest, G),
-        right: (Result<C::Result, Trouble<Halt<C::Error>>>, S::Rest, G),
-    ) -> (Result<C::Result, Trouble<Halt<C::Error>>>, S::Rest, G) {
+    fn join(seam: C::Reducer, left: Self::Done, right: Self::Done) -> Self::Done {
         let answer = put_together(left.0, right.0, seam);
         (answer, S::join(left.1, right.1), left.2.join(right.2))
-    }
-}
-
-// The answers of two neighbouring parts put together: the left one's trouble first.
-fn put_together<R: Drop, E: Drop, G: Reducer<R, E>>(
-    first: Result<R, Trouble<Halt<E>>>,
-    second: Result<R, Trouble<Halt<E>>>,
-    reducer: G,
-) -> Result<R, Trouble<Halt<E>>>
-    requires { (a b : R) → G.can_reduce reducer a b }
-    ensures { PutTogether (λ a. unstopped (G.reduce_gives reducer a)) first second result }
-{
-    let left = match first {
-        Ok(left) => left,
-        Err(trouble) => return Err(trouble),
-    };
-    let right = match second {
-        Ok(right) => right,
-        Err(trouble) => return Err(trouble),
-    };
-    let answer = reducer.reduce(left, right);
-    match answer {
-        Ok(value) => Ok(value),
-        Err(Trouble::Closure(error)) => Err(Trouble::Closure(Halt::Failed(error))),
-        Err(Trouble::Fault(fault)) => Err(Trouble::Fault(fault)),
     }
 }

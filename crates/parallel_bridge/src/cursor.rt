@@ -6,7 +6,7 @@ ghost use Rattle.parallel_bridge.specs.Sources.{MayCome};
 /// Gives the items of a segment in order, each one once, and then what is left of the segment.
 pub trait Cursor<Item: Drop, Rest>: Sized + Drop {
     /// Whether it may be asked.
-    ghost sound: { Self → Type 0 };
+    ghost ready: { Self → Type 0 };
     /// Whether it may give a list.
     ghost gives: { Self → List Item → Type 0 };
     /// Whether an item may come.
@@ -18,11 +18,11 @@ pub trait Cursor<Item: Drop, Rest>: Sized + Drop {
 
     /// The next item.
     fn next(&mut self) -> Option<Item>
-        requires { sound self.old }
+        requires { ready self.old }
         ensures none { IfNone result (gives self.old []) }
         ensures item { IfSome result (λ x. (xs : List Item) → gives self.new xs
             → gives self.old (x ∷ xs)) }
-        ensures sound { IfSome result (λ x. sound self.new) }
+        ensures ready { IfSome result (λ x. ready self.new) }
         ensures may { IfSome result (λ x. may self.old x) }
         ensures others { IfSome result (λ x. (y : Item) → may self.new y → may self.old y) }
         ensures fewer { IfSome result (λ x. left self.new < left self.old) }
@@ -30,7 +30,7 @@ pub trait Cursor<Item: Drop, Rest>: Sized + Drop {
 
     /// Drops the items that didn't come yet.
     fn rest(self) -> Rest
-        requires { sound self }
+        requires { ready self }
         ensures gives { (xs : List Item) × gives self xs }
         ensures leaves { leaves self result };
 
@@ -50,7 +50,7 @@ impl<I: Iterator> Cursor<I::Item, ()> for IterCursor<I>
 where
     I::Item: Drop,
 {
-    ghost sound = { λ s. I.can_next s.iter × IsFinite (I.remaining s.iter) };
+    ghost ready = { λ s. I.can_next s.iter × IsFinite (I.remaining s.iter) };
 
     ghost gives = { λ s xs. Drains I.next_gives s.iter xs };
 

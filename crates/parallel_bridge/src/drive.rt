@@ -20,7 +20,7 @@ pub trait Task: Send + Sized + Drop {
     type Seam: Send + Drop;
 
     /// Whether the task may be split or run.
-    ghost able: { Self → Type 0 };
+    ghost ready: { Self → Type 0 };
     /// Whether it is long enough to be split.
     ghost long: { Self → Type 0 };
     /// Whether it is one segment where it may be halved so often.
@@ -43,10 +43,10 @@ pub trait Task: Send + Sized + Drop {
     ///
     /// What the task comes to where it can't be split.
     fn split(self, alloc: Global) -> Result<(Self, Self, Self::Seam), Self::Done>
-        requires able { able self }
+        requires ready { ready self }
         requires long { long self }
-        ensures left { IfOk result (λ p. able p.0) }
-        ensures right { IfOk result (λ p. able p.1) }
+        ensures left { IfOk result (λ p. ready p.0) }
+        ensures right { IfOk result (λ p. ready p.1) }
         ensures meet { IfOk result (λ p. (depth : ℕ) (a b : Self.Done)
             → ends depth p.0 a → ends depth p.1 b → meet p.2 a b) }
         ensures node { IfOk result (λ p. (depth : ℕ) (a b c : Self.Done) → 0 < depth
@@ -56,7 +56,7 @@ pub trait Task: Send + Sized + Drop {
 
     /// What the task comes to as one segment.
     fn run(self, alloc: Global) -> Self::Done
-        requires { able self }
+        requires { ready self }
         ensures { (depth : ℕ) → short depth self → ends depth self result };
 
     /// What two halves came to, together.
@@ -74,7 +74,7 @@ pub fn drive<Rt: Threads + Sync, T: Task>(
     threads: usize,
     task: T,
 ) -> T::Done
-    requires { T.able task }
+    requires { T.ready task }
     ensures { T.ends depth task result }
 {
     if task.is_leaf(depth) {
@@ -98,7 +98,7 @@ fn drive_plain<Rt: Threads + Sync, T: Task>(
     threads: usize,
     task: T,
 ) -> T::Done
-    requires { T.able task }
+    requires { T.ready task }
     ensures { T.ends depth task result }
 {
     if task.is_leaf(depth) {
@@ -121,8 +121,8 @@ fn drive_both<Rt: Threads + Sync, T: Task>(
     left: T,
     right: T,
 ) -> (T::Done, T::Done)
-    requires left { T.able left }
-    requires right { T.able right }
+    requires left { T.ready left }
+    requires right { T.ready right }
     ensures first { T.ends depth left result.0 }
     ensures second { T.ends depth right result.1 }
 {
@@ -137,12 +137,12 @@ fn drive_both<Rt: Threads + Sync, T: Task>(
         rt,
         move || -> T::Done
             requires { IsSync Rt.row × IsSend T.row × IsSend T.Done.row × IsSend T.Seam.row
-                × T.able left }
+                × T.ready left }
             ensures { T.ends depth left result }
         { drive_plain(rt, alloc, depth, others, left) },
         move || -> T::Done
             requires { IsSync Rt.row × IsSend T.row × IsSend T.Done.row × IsSend T.Seam.row
-                × T.able right }
+                × T.ready right }
             ensures { T.ends depth right result }
         { drive_plain(rt, alloc, depth, own, right) },
     )

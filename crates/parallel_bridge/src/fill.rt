@@ -11,9 +11,10 @@ ghost use Rattle.parallel_bridge.specs.Windows.{Follows};
 
 use crate::drive::{Task, drive};
 use crate::fill::writer::{Writer, write_items};
-use crate::halt::{Halt, unhalt};
+use crate::halt::Halt;
 use crate::parts::Parts;
 use crate::segment::Segment;
+use crate::troubles::unhalt;
 use crate::watch::{Unwatched, Watch};
 use crate::window::part::Window;
 use parallel_fault::Trouble;
@@ -116,7 +117,7 @@ where
 
     type Seam = ();
 
-    ghost able = { λ s. S.sound s.parts × W.ready s.writer.now
+    ghost ready = { λ s. S.ready s.parts × W.ready s.writer.now
         × Fillable W.Answer.row S.count S.may (W.takes s.writer.now) s.parts s.room
         × G.may s.watch (S.count s.parts) };
 
@@ -143,18 +144,7 @@ where
         depth == 0 || self.parts.len() < 2
     }
 
-    fn split(
-        self,
-        alloc: Global,
-    ) -> Result<
-        (Self, Self, ()),
-        (
-            Window<W::Answer>,
-            Result<(), Trouble<Halt<W::Error>>>,
-            S::Rest,
-            G,
-        ),
-    > {
+    fn split(self, alloc: Global) -> Result<(Self, Self, ()), Self::Done> {
         let len = self.parts.len();
         let Filling {
             parts,
@@ -186,15 +176,7 @@ where
         Ok((first, second, ()))
     }
 
-    fn run(
-        self,
-        _alloc: Global,
-    ) -> (
-        Window<W::Answer>,
-        Result<(), Trouble<Halt<W::Error>>>,
-        S::Rest,
-        G,
-    ) {
+    fn run(self, _alloc: Global) -> Self::Done {
         let Filling {
             parts,
             writer,
@@ -204,6 +186,7 @@ where
         } = self;
         let mut room = room;
         let mut watch = watch;
+        // (asked for the proof: its clause is the one that says how many items come)
         let _len = parts.len();
         let (done, rest) = write_items(writer, parts.into_items(), &mut room, &mut watch);
         match done {
@@ -212,26 +195,7 @@ where
         }
     }
 
-    fn join(
-        _seam: (),
-        left: (
-            Window<W::Answer>,
-            Result<(), Trouble<Halt<W::Error>>>,
-            S::Rest,
-            G,
-        ),
-        right: (
-            Window<W::Answer>,
-            Result<(), Trouble<Halt<W::Error>>>,
-            S::Rest,
-            G,
-        ),
-    ) -> (
-        Window<W::Answer>,
-        Result<(), Trouble<Halt<W::Error>>>,
-        S::Rest,
-        G,
-    ) {
+    fn join(_seam: (), left: Self::Done, right: Self::Done) -> Self::Done {
         let (first_room, first, first_rest, first_watch) = left;
         let (second_room, second, second_rest, second_watch) = right;
         let (room, done) = put_together((first_room, first), (second_room, second));

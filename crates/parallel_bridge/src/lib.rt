@@ -23,6 +23,7 @@ pub mod segment;
 pub mod segments;
 pub mod source;
 pub mod splitter;
+mod troubles;
 pub mod watch;
 pub mod window;
 pub mod zipped;

@@ -92,7 +92,7 @@ impl<T: Send + Drop> Segment<(T, T)> for PairSegment<T> {
 
     type Items = PairSegment<T>;
 
-    ghost sound = { λ s. IsFull s.window × FitsInBlock T.row s.window.room };
+    ghost ready = { λ s. IsFull s.window × FitsInBlock T.row s.window.room };
 
     ghost gives = { λ s xs. xs ≡ pairs_of s.window.items };
 
@@ -127,7 +127,7 @@ impl<T: Send + Drop> Segment<(T, T)> for PairSegment<T> {
 }
 
 impl<T: Drop> Cursor<(T, T), Window<T>> for PairSegment<T> {
-    ghost sound = { λ s. Unit {0} };
+    ghost ready = { λ s. Unit {0} };
 
     ghost gives = { λ s xs. xs ≡ pairs_of s.window.items };
 

@@ -62,7 +62,7 @@ pub trait Parts: Send + Sized + Drop {
     ///
     /// `Fault::Memory` alone, where the items have to be gathered; they are then gone.
     fn into_segment(self, alloc: Global) -> Result<(Self::Segment, Self::Home), Fault>
-        ensures sound { IfOk result (λ p. Self.Segment.sound p.0) }
+        ensures ready { IfOk result (λ p. Self.Segment.ready p.0) }
         ensures gives { IfOk result (λ p. (xs : List Self.Item) → Self.Segment.gives p.0 xs
             → gives self xs) }
         ensures may { IfOk result (λ p. (x : Self.Item) → Self.Segment.may p.0 x → may self x) }

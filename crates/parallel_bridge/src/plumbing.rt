@@ -51,23 +51,6 @@ pub trait Folder<Item: Drop, R, E>: Sized + Drop {
             → gives self (item ∷ xs) out) }
         ensures fault { IsMemoryOnErr result };
 
-    /// The folder with the items of an iterator taken, in order, up to its end.
-    ///
-    /// # Errors
-    ///
-    /// `Fault::Memory` if an allocation fails.
-    fn consume_iter<I: Iterator<Item = Item>>(self, alloc: Global, iter: I) -> Result<Self, Fault>
-        requires ready { ready self }
-        requires can { I.can_next iter }
-        requires ends { IsFinite (I.remaining iter) }
-        requires items { HoldsAlong I.next_gives iter (All (takes self)) }
-        ensures ready { IfOk result (λ f. ready f) }
-        ensures takes { IfOk result (λ f. (x : Item) → takes self x → takes f x) }
-        ensures gives { IfOk result (λ f. (xs : List Item) × Drains I.next_gives iter xs
-            × ((more : List Item) (out : Result R E) → gives f more out
-            → gives self (xs ++ more) out)) }
-        ensures fault { IsMemoryOnErr result };
-
     /// The answer, or the error that a closure answered for one of the items.
     ///
     /// # Errors
@@ -82,6 +65,30 @@ pub trait Folder<Item: Drop, R, E>: Sized + Drop {
     fn full(&self) -> bool
         ensures { IsTrue result → (xs ys : List Item) (out : Result R E) → gives self.now xs out
             → gives self.now ys out };
+
+    /// The folder with the items of an iterator taken, in order, up to its end.
+    final fn consume_iter<I: Iterator<Item = Item>>(
+        self,
+        alloc: Global,
+        iter: I,
+    ) -> Result<Self, Fault>
+        requires ready { ready self }
+        requires can { I.can_next iter }
+        requires ends { IsFinite (I.remaining iter) }
+        requires items { HoldsAlong I.next_gives iter (All (takes self)) }
+        ensures ready { IfOk result (λ f. ready f) }
+        ensures takes { IfOk result (λ f. (x : Item) → takes self x → takes f x) }
+        ensures gives { IfOk result (λ f. (xs : List Item) × Drains I.next_gives iter xs
+            × ((more : List Item) (out : Result R E) → gives f more out
+            → gives self (xs ++ more) out)) }
+        ensures fault { IsMemoryOnErr result }
+    {
+        let mut folder = self;
+        for item in iter {
+            folder = folder.consume(alloc, item)?;
+        }
+        Ok(folder)
+    }
 }
 
 /// Takes the items of a list, which may be split first, each part for a consumer of its own.

@@ -22,7 +22,7 @@ pub trait Segment<Item: Send + Drop>: Send + Sized + Drop {
     type Items: Cursor<Item, Self::Rest> + Send;
 
     /// Whether the part may be used.
-    ghost sound: { Self → Type 0 };
+    ghost ready: { Self → Type 0 };
     /// Whether it may give a list.
     ghost gives: { Self → List Item → Type 0 };
     /// Whether an item may come.
@@ -45,9 +45,9 @@ pub trait Segment<Item: Send + Drop>: Send + Sized + Drop {
     ///
     /// `Fault::Memory` alone, and what is left; the items are then gone.
     fn split_at(self, alloc: Global, index: usize) -> Result<(Self, Self), (Self::Rest, Fault)>
-        requires sound { sound self }
+        requires ready { ready self }
         requires within { index ≤ count self }
-        ensures sound { IfOk result (λ p. sound p.0 × sound p.1) }
+        ensures ready { IfOk result (λ p. ready p.0 × ready p.1) }
         ensures joined { IfOk result (λ p. (xs ys : List Item) → gives p.0 xs
             → gives p.1 ys → gives self (xs ++ ys)) }
         ensures front { IfOk result (λ p. (xs : List Item) → gives p.0 xs → length xs ≡ index) }
@@ -66,8 +66,8 @@ pub trait Segment<Item: Send + Drop>: Send + Sized + Drop {
 
     /// What gives the items one by one.
     fn into_items(self) -> Self::Items
-        requires { sound self }
-        ensures sound { Self.Items.sound result }
+        requires { ready self }
+        ensures ready { Self.Items.ready result }
         ensures gives { (xs : List Item) → Self.Items.gives result xs → gives self xs }
         ensures may { (x : Item) → Self.Items.may result x → may self x }
         ensures leaves { (rest : Self.Rest) → Self.Items.leaves result rest → leaves self rest };
@@ -85,7 +85,7 @@ impl<P: Producer> Segment<P::Item> for ProducerSegment<P> {
 
     type Items = IterCursor<P::Iter>;
 
-    ghost sound = { λ s. Unit {0} };
+    ghost ready = { λ s. Unit {0} };
 
     ghost gives = { λ s xs. P.gives s.parts xs };
 
@@ -132,7 +132,7 @@ impl<T: Send + Drop> Segment<T> for WindowSegment<T> {
 
     type Items = WindowSegment<T>;
 
-    ghost sound = { λ s. IsFull s.window × FitsInBlock T.row s.window.room };
+    ghost ready = { λ s. IsFull s.window × FitsInBlock T.row s.window.room };
 
     ghost gives = { λ s xs. xs ≡ s.window.items };
 
@@ -168,7 +168,7 @@ impl<T: Send + Drop> Segment<T> for WindowSegment<T> {
 }
 
 impl<T: Drop> Cursor<T, Window<T>> for WindowSegment<T> {
-    ghost sound = { λ s. Unit {0} };
+    ghost ready = { λ s. Unit {0} };
 
     ghost gives = { λ s xs. xs ≡ s.window.items };
 

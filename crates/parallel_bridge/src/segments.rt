@@ -1,13 +1,21 @@
-//! The lengths of the segments of a list.
-ghost use Rattle.std.specs.Prelude.{◌≡◌, ℕ, ◌*◌, ◌≤◌, ◌<◌, ◌++◌, List, length, sum, IfOk};
+//! How deep a list is halved, and how long its segments then are.
+ghost use Rattle.std.specs.Prelude.{◌≡◌, ℕ, ◌-◌, ◌*◌, ◌^◌, ◌≤◌, ◌<◌, ◌++◌, List, length, sum, IfOk};
 ghost use Rattle.std.specs.Int.NonZero.{non_zero_usize_get};
 ghost use Rattle.parallel_fault.specs.Trouble.{IsMemoryOnErr};
 ghost use Rattle.parallel_bridge.specs.Shapes.{cutdepth, Shape, leaf_lengths, halved_lengths};
 
-use crate::bridge::depth_of;
 use parallel_fault::Fault;
 use std::alloc::Global;
 use std::num::NonZeroUsize;
+
+/// How many times over a list may be halved for that many threads: the binary digits of the number.
+pub fn depth_of(threads: NonZeroUsize) -> usize
+    ensures digits { result ≡ cutdepth (non_zero_usize_get threads) }
+    ensures enough { non_zero_usize_get threads < 2 ^ result }
+    ensures needed { 2 ^ (result - 1) ≤ non_zero_usize_get threads }
+{
+    (usize::BITS - threads.get().leading_zeros()) as usize
+}
 
 /// The lengths of the segments, in order, that a list of `len` items is cut into for that many
 /// threads.

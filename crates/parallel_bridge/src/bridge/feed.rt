@@ -21,7 +21,7 @@ pub fn feed_items<X: Drop, L, C: Cursor<X, L>, R: Drop, E: Drop, F: Folder<X, R,
     folder: F,
     watch: &mut G,
 ) -> (Result<R, Trouble<Halt<E>>>, L)
-    requires sound { C.sound items }
+    requires items { C.ready items }
     requires ready { F.ready folder }
     requires takes { (x : X) → C.may items x → F.takes folder x }
     requires watch { IsUnderway G.ends watch.old }

@@ -49,17 +49,6 @@ impl<T: Drop, E> Folder<T, Vec<T>, E> for CollectResult<T> {
         Ok(CollectResult { items })
     }
 
-    fn consume_iter<I: Iterator<Item = T>>(self, alloc: Global, iter: I) -> Result<Self, Fault> {
-        let more: Vec<T> = iter.collect(alloc)?;
-        if self.items.len() == 0 {
-            return Ok(CollectResult {
-                items: Block::from_vec(more),
-            });
-        }
-        let items = self.items.append(more)?;
-        Ok(CollectResult { items })
-    }
-
     fn complete(self, _alloc: Global) -> Result<Vec<T>, Trouble<E>> {
         Ok(self.items.into_vec())
     }

@@ -49,15 +49,6 @@ impl<'c, X: Drop, U: Drop, R, E, C: Folder<U, R, E>, F: Fn(U, X) -> U> Folder<X,
         })
     }
 
-    fn consume_iter<J: Iterator<Item = X>>(self, _alloc: Global, iter: J) -> Result<Self, Fault> {
-        let value = fold_from(self.item, iter, self.fold_op);
-        Ok(FoldFolder {
-            base: self.base,
-            item: value,
-            fold_op: self.fold_op,
-        })
-    }
-
     fn complete(self, alloc: Global) -> Result<R, Trouble<E>> {
         let base = self.base.consume(alloc, self.item)?;
         base.complete(alloc)

@@ -62,17 +62,6 @@ impl<'c, X: Drop, S: Drop, U: Drop, R, E, C: Folder<U, R, E>, F: Fn(U, &mut S, X
         })
     }
 
-    fn consume_iter<J: Iterator<Item = X>>(self, _alloc: Global, iter: J) -> Result<Self, Fault> {
-        let mut state = self.state;
-        let value = fold_init_from(self.item, &mut state, iter, self.fold_op);
-        Ok(FoldInitFolder {
-            base: self.base,
-            state,
-            item: value,
-            fold_op: self.fold_op,
-        })
-    }
-
     fn complete(self, alloc: Global) -> Result<R, Trouble<E>> {
         let base = self.base.consume(alloc, self.item)?;
         base.complete(alloc)

@@ -55,16 +55,6 @@ impl<T: Drop, E> Folder<T, LinkedList<Vec<T>>, E> for ListVecFolder<T> {
         Ok(ListVecFolder { vec })
     }
 
-    fn consume_iter<I: Iterator<Item = T>>(self, alloc: Global, iter: I) -> Result<Self, Fault> {
-        let mut more: Vec<T> = iter.collect(alloc)?;
-        if self.vec.is_empty() {
-            return Ok(ListVecFolder { vec: more });
-        }
-        let mut vec = self.vec;
-        vec.append(&mut more)?;
-        Ok(ListVecFolder { vec })
-    }
-
     fn complete(self, alloc: Global) -> Result<LinkedList<Vec<T>>, Trouble<E>> {
         let mut all = LinkedList::new(alloc);
         if self.vec.is_empty() {

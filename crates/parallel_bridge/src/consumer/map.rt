@@ -42,16 +42,6 @@ impl<'f, X: Drop, T: Drop, R, E, C: Folder<T, R, E>, F: Fn(X) -> T> Folder<X, R,
         })
     }
 
-    fn consume_iter<I: Iterator<Item = X>>(self, alloc: Global, iter: I) -> Result<Self, Fault> {
-        let map_op = self.map_op;
-        let answer = |item: X| -> T
-            requires { F.pre map_op.now item }
-            ensures { F.post map_op.entry.now item result }
-        { map_op(item) };
-        let base = self.base.consume_iter(alloc, iter.map(answer))?;
-        Ok(MapFolder { base, map_op })
-    }
-
     fn complete(self, alloc: Global) -> Result<R, Trouble<E>> {
         self.base.complete(alloc)
     }

@@ -56,17 +56,6 @@ impl<'f, X: Drop, S: Drop, T: Drop, R, E, C: Folder<T, R, E>, F: Fn(&mut S, X) -
         })
     }
 
-    fn consume_iter<I: Iterator<Item = X>>(self, alloc: Global, iter: I) -> Result<Self, Fault> {
-        let mut state = self.item;
-        let answers = map_init_from(alloc, &mut state, iter, self.map_op)?;
-        let base = self.base.consume_iter(alloc, answers.into_iter())?;
-        Ok(MapWithFolder {
-            base,
-            item: state,
-            map_op: self.map_op,
-        })
-    }
-
     fn complete(self, alloc: Global) -> Result<R, Trouble<E>> {
         self.base.complete(alloc)
     }

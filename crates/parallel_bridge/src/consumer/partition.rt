@@ -1,10 +1,10 @@
 //! The values and the keys of a partition.
-ghost use Rattle.std.specs.Prelude.{◌≡◌, ◌∷◌, ◌++◌, [], IfOk, List, Option, Result};
+ghost use Rattle.std.specs.Prelude.{◌≡◌, ◌++◌, [], IfOk, List, Option, Result};
 ghost use Rattle.std.specs.Iterator.{Drains, HoldsAlong, IsFinite};
 ghost use Rattle.std.specs.List.{All};
 ghost use Rattle.parallel_fault.specs.Trouble.{IsMemoryOnErr};
 ghost use Rattle.parallel_bridge.specs.Onto.{PartitionOnto};
-ghost use Rattle.parallel_bridge.specs.Parts.{PartitionOf, keys_in, keys_of, values_in, values_of};
+ghost use Rattle.parallel_bridge.specs.Parts.{PartitionOf, keys_in, values_in};
 ghost use Rattle.parallel_bridge.specs.Sources.{GivesSome};
 ghost use Rattle.parallel_bridge.specs.Tries.{OnlyOk};
 
@@ -30,10 +30,9 @@ pub struct PartitionConsumer<'f, U, K, F> {
 /// The values and the keys of a segment so far, in order.
 #[derive(Drop)]
 pub struct PartitionFolder<'f, U, K, F> {
-    /// The values.
-    pub values: Vec<U>,
-    /// The keys of the items without a value.
-    pub keys: Vec<K>,
+    /// The values, and the keys of the items without one. They lie in a box, so that for each item
+    /// no more than its place is moved.
+    pub lists: Box<(Vec<U>, Vec<K>)>,
     /// The closure that answers an item.
     pub map_op: &'f F,
 }
@@ -72,31 +71,28 @@ impl<'f, X: Drop, U: Drop, K: Drop, F: Fn(X) -> (K, Option<U>)> Folder<
     ghost takes = { λ s x. F.pre s.map_op.now x };
 
     ghost gives = { λ s xs out. OnlyOk
-        (λ r. PartitionOnto (F.post s.map_op.now) s.values.items s.keys.items xs (values_in r.items)
-        (keys_in r.items)) out };
+        (λ r. PartitionOnto (F.post s.map_op.now) s.lists.value.0.items s.lists.value.1.items xs
+        (values_in r.items) (keys_in r.items)) out };
 
     fn consume(self, _alloc: Global, item: X) -> Result<Self, Fault> {
-        let answer = (self.map_op)(item);
-        let (values, keys) = push_answer(self.values, self.keys, answer)?;
-        Ok(PartitionFolder {
-            values,
-            keys,
-            map_op: self.map_op,
-        })
-    }
-
-    fn consume_iter<I: Iterator<Item = X>>(self, _alloc: Global, iter: I) -> Result<Self, Fault> {
-        let (values, keys) = partition_onto(self.values, self.keys, iter, self.map_op)?;
-        Ok(PartitionFolder {
-            values,
-            keys,
-            map_op: self.map_op,
-        })
+        let PartitionFolder { lists, map_op } = self;
+        let mut lists = lists;
+        let (key, value) = map_op(item);
+        match value {
+            Some(value) => {
+                lists.0.push(value)?;
+                Ok(PartitionFolder { lists, map_op })
+            }
+            None => {
+                lists.1.push(key)?;
+                Ok(PartitionFolder { lists, map_op })
+            }
+        }
     }
 
     fn complete(self, alloc: Global) -> Result<Vec<(Vec<U>, Vec<K>)>, Trouble<Infallible>> {
         let mut lists = Vec::new(alloc);
-        lists.push((self.values, self.keys))?;
+        lists.push(Box::into_inner(self.lists))?;
         Ok(lists)
     }
 
@@ -151,10 +147,9 @@ impl<'f, X: Drop, U: Send + Drop, K: Send + Drop, F: Fn(X) -> (K, Option<U>) + S
     }
 
     fn into_folder(self, alloc: Global) -> Result<PartitionFolder<'f, U, K, F>, Fault> {
-        let (values, keys) = first_lists(alloc, self.spares, self.items);
+        let lists = Box::new(alloc, first_lists(alloc, self.spares, self.items))?;
         Ok(PartitionFolder {
-            values,
-            keys,
+            lists,
             map_op: self.map_op,
         })
     }
@@ -247,38 +242,6 @@ fn put_behind<T: Drop>(list: Vec<T>, more: Vec<T>) -> Result<Vec<T>, Fault>
     let mut more = more;
     list.append(&mut more)?;
     Ok(list)
-}
-
-/// The lists with the value of one answer more, or with its key where it has none.
-///
-/// Each call is inlined: as a call of its own it would copy both lists' headers for every item.
-///
-/// # Errors
-///
-/// `Fault::Memory` if an allocation fails.
-#[inline(always)]
-pub(crate) fn push_answer<K: Drop, U: Drop>(
-    values: Vec<U>,
-    keys: Vec<K>,
-    answer: (K, Option<U>),
-) -> Result<(Vec<U>, Vec<K>), Fault>
-    ensures values { IfOk result (λ r. r.0.items ≡ values.items ++ values_of (answer ∷ [])) }
-    ensures keys { IfOk result (λ r. r.1.items ≡ keys.items ++ keys_of (answer ∷ [])) }
-    ensures fault { IsMemoryOnErr result }
-{
-    let (key, value) = answer;
-    match value {
-        Some(value) => {
-            let mut values = values;
-            values.push(value)?;
-            Ok((values, keys))
-        }
-        None => {
-            let mut keys = keys;
-            keys.push(key)?;
-            Ok((values, keys))
-        }
-    }
 }
 
 /// The values that `map_op` answers for the items that come, and the keys of those for which it

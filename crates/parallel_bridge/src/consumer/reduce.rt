@@ -3,7 +3,6 @@ ghost use Rattle.std.specs.Prelude.{◌++◌, [], List, Result};
 ghost use Rattle.parallel_bridge.specs.Lists.{Chain, FoldSegment};
 ghost use Rattle.parallel_bridge.specs.Tries.{OnlyOk};
 
-use crate::consumer::fold::fold_from;
 use crate::plumbing::{Consumer, Folder, Reducer};
 use parallel_fault::{Fault, Trouble};
 use std::alloc::Global;
@@ -48,14 +47,6 @@ impl<'r, T: Drop, G: Fn(T, T) -> T> Folder<T, T, Infallible> for ReduceFolder<'r
 
     fn consume(self, _alloc: Global, item: T) -> Result<Self, Fault> {
         let value = (self.reduce_op)(self.item, item);
-        Ok(ReduceFolder {
-            item: value,
-            reduce_op: self.reduce_op,
-        })
-    }
-
-    fn consume_iter<J: Iterator<Item = T>>(self, _alloc: Global, iter: J) -> Result<Self, Fault> {
-        let value = fold_from(self.item, iter, self.reduce_op);
         Ok(ReduceFolder {
             item: value,
             reduce_op: self.reduce_op,

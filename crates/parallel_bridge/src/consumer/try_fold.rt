@@ -60,15 +60,6 @@ impl<
         })
     }
 
-    fn consume_iter<J: Iterator<Item = X>>(self, _alloc: Global, iter: J) -> Result<Self, Fault> {
-        let control = try_fold_from(self.control, iter, self.fold_op);
-        Ok(TryFoldFolder {
-            base: self.base,
-            control,
-            fold_op: self.fold_op,
-        })
-    }
-
     fn complete(self, alloc: Global) -> Result<R, Trouble<D>> {
         let base = self.base.consume(alloc, self.control)?;
         base.complete(alloc)

@@ -1,5 +1,5 @@
 //! The outcomes of a segment reduced, up to the first error, and then the results.
-ghost use Rattle.std.specs.Prelude.{◌≡◌, ◌++◌, ◌∷◌, [], Err, List, Ok, Result};
+ghost use Rattle.std.specs.Prelude.{Err, Ok, Result};
 ghost use Rattle.parallel_bridge.specs.Onto.{ReducesTo, TryContinues};
 ghost use Rattle.parallel_bridge.specs.Tries.{OnlyOk, TryFoldSegment};
 
@@ -48,21 +48,16 @@ impl<'r, T: Drop, E: Drop, G: Fn(T, T) -> T> Folder<Result<T, E>, T, E>
 
     fn consume(self, _alloc: Global, item: Result<T, E>) -> Result<Self, Fault> {
         let TryReduceFolder { control, reduce_op } = self;
-        let control = try_reduce_step(control, item, reduce_op);
-        Ok(TryReduceFolder { control, reduce_op })
-    }
-
-    fn consume_iter<J: Iterator<Item = Result<T, E>>>(
-        self,
-        _alloc: Global,
-        iter: J,
-    ) -> Result<Self, Fault> {
-        let TryReduceFolder { control, reduce_op } = self;
-        let mut control = control;
-        for item in iter {
-            control = try_reduce_step(control, item, reduce_op);
+        match (control, item) {
+            (Ok(left), Ok(right)) => Ok(TryReduceFolder {
+                control: Ok(reduce_op(left, right)),
+                reduce_op,
+            }),
+            (Ok(_), Err(error)) | (Err(error), _) => Ok(TryReduceFolder {
+                control: Err(error),
+                reduce_op,
+            }),
         }
-        Ok(TryReduceFolder { control, reduce_op })
     }
 
     fn complete(self, _alloc: Global) -> Result<T, Trouble<E>> {
@@ -117,25 +112,5 @@ impl<'r, T: Send + Drop, E: Send + Drop, I: Fn() -> T + Sync, G: Fn(T, T) -> T +
             control: Ok((self.identity)()),
             reduce_op: self.reduce_op,
         })
-    }
-}
-
-// The value reduced with one outcome more, or the first error.
-fn try_reduce_step<T: Drop, E: Drop, G: Fn(T, T) -> T>(
-    control: Result<T, E>,
-    item: Result<T, E>,
-    reduce_op: &G,
-) -> Result<T, E>
-    requires { G.IsAlwaysCallable reduce_op.now }
-    ensures { TryContinues (ReducesTo (λ a b c. G.post reduce_op.now a b c)) control
-        (item ∷ []) result }
-{
-    let left = match control {
-        Ok(left) => left,
-        Err(error) => return Err(error),
-    };
-    match item {
-        Ok(right) => Ok(reduce_op(left, right)),
-        Err(error) => Err(error),
     }
 }

@@ -1,6 +1,4 @@
 //! The values before the first `None`.
-ghost use Rattle.std.specs.Prelude.{◌∷◌, [], IfOk, List, Option, Result};
-ghost use Rattle.parallel_fault.specs.Trouble.{IsMemoryOnErr};
 ghost use Rattle.parallel_bridge.specs.Tries.{before_none, unless_full};
 
 use crate::plumbing::{Consumer, Folder};
@@ -31,21 +29,19 @@ impl<T: Drop, R, E, C: Folder<T, R, E>> Folder<Option<T>, R, E> for WhileSomeFol
     ghost gives = { λ s xs out. C.gives s.base (unless_full s.full xs) out };
 
     fn consume(self, alloc: Global, item: Option<T>) -> Result<Self, Fault> {
-        let (base, full) = take_some(alloc, self.base, self.full, item)?;
-        Ok(WhileSomeFolder { base, full })
-    }
-
-    fn consume_iter<I: Iterator<Item = Option<T>>>(
-        self,
-        alloc: Global,
-        iter: I,
-    ) -> Result<Self, Fault> {
-        let mut base = self.base;
-        let mut full = self.full;
-        for item in iter {
-            (base, full) = take_some(alloc, base, full, item)?;
+        if self.full {
+            return Ok(self);
         }
-        Ok(WhileSomeFolder { base, full })
+        match item {
+            Some(value) => {
+                let base = self.base.consume(alloc, value)?;
+                Ok(WhileSomeFolder { base, full: false })
+            }
+            None => Ok(WhileSomeFolder {
+                base: self.base,
+                full: true,
+            }),
+        }
     }
 
     fn complete(self, alloc: Global) -> Result<R, Trouble<E>> {
@@ -88,33 +84,5 @@ impl<T: Drop, C: Consumer<T>> Consumer<Option<T>> for WhileSomeConsumer<C> {
     fn into_folder(self, alloc: Global) -> Result<WhileSomeFolder<C::Folder>, Fault> {
         let base = self.base.into_folder(alloc)?;
         Ok(WhileSomeFolder { base, full: false })
-    }
-}
-
-// The folder with a value taken, unless a `None` was met or is met here; and whether one was.
-fn take_some<T: Drop, R, E, C: Folder<T, R, E>>(
-    alloc: Global,
-    base: C,
-    full: bool,
-    item: Option<T>,
-) -> Result<(C, bool), Fault>
-    requires ready { C.ready base }
-    requires takes { (y : T) → C.takes base y }
-    ensures ready { IfOk result (λ r. C.ready r.0) }
-    ensures takes { IfOk result (λ r. (y : T) → C.takes r.0 y) }
-    ensures gives { IfOk result (λ r. (more : List (Option T)) (out : Result R E)
-        → C.gives r.0 (unless_full r.1 more) out
-        → C.gives base (unless_full full (item ∷ more)) out) }
-    ensures fault { IsMemoryOnErr result }
-{
-    if full {
-        return Ok((base, true));
-    }
-    match item {
-        Some(value) => {
-            let base = base.consume(alloc, value)?;
-            Ok((base, false))
-        }
-        None => Ok((base, true)),
     }
 }

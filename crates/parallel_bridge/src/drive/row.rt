@@ -7,7 +7,7 @@
 //! nothing is refused on the way.
 ghost use Rattle.std.specs.Prelude.{◌≡◌, ◌+◌, ◌<◌, ◌≤◌, ◌++◌, ◌∷◌, [], IfOk, vec_capacity, vec_len};
 ghost use Rattle.std.specs.Thread.{IsSync, IsSend};
-ghost use Rattle.parallel_bridge.specs.Loads.{AreAble, CameTo};
+ghost use Rattle.parallel_bridge.specs.Loads.{AreReady, CameTo};
 
 use crate::drive::{Task, drive_both, drive_plain};
 use std::alloc::{AllocError, Global};
@@ -40,8 +40,8 @@ pub(super) fn drive_shared<Rt: Threads + Sync, T: Task>(
     left: T,
     right: T,
 ) -> (T::Done, T::Done)
-    requires left { T.able left }
-    requires right { T.able right }
+    requires left { T.ready left }
+    requires right { T.ready right }
     ensures first { T.ends depth left result.0 }
     ensures second { T.ends depth right result.1 }
 {
@@ -85,7 +85,7 @@ fn drive_row<Rt: Threads + Sync, T: Task>(
     done: Vec<(T::Done, T::Done)>,
 ) -> Vec<(T::Done, T::Done)>
     requires grain { 0 < grain }
-    requires able { AreAble T.able loads.items }
+    requires ready { AreReady T.ready loads.items }
     requires none { done.items ≡ [] }
     requires room { vec_len loads ≤ vec_capacity done }
     ensures ends { CameTo T.ends loads.items result.items }
@@ -117,9 +117,9 @@ fn drive_whole<Rt: Threads + Sync, T: Task>(
     mut done: Vec<(T::Done, T::Done)>,
 ) -> Vec<(T::Done, T::Done)>
     requires grain { 0 < grain }
-    requires left { T.able load.left }
-    requires right { T.able load.right }
-    requires able { AreAble T.able loads.items }
+    requires left { T.ready load.left }
+    requires right { T.ready load.right }
+    requires ready { AreReady T.ready loads.items }
     requires none { done.items ≡ [] }
     requires room { vec_len loads < vec_capacity done }
     ensures ends { CameTo T.ends (loads.items ++ load ∷ []) result.items }
@@ -140,13 +140,13 @@ fn drive_whole<Rt: Threads + Sync, T: Task>(
         rt,
         move || -> (T::Done, T::Done)
             requires { IsSync Rt.row × IsSend T.row × IsSend T.Done.row × IsSend T.Seam.row
-                × T.able left × T.able right }
+                × T.ready left × T.ready right }
             ensures first { T.ends depth left result.0 }
             ensures second { T.ends depth right result.1 }
         { drive_shared(rt, alloc, depth, threads, left, right) },
         move || -> Vec<(T::Done, T::Done)>
             requires { IsSync Rt.row × IsSend T.row × IsSend T.Done.row × IsSend T.Seam.row
-                × (0 < grain) × AreAble T.able loads.items
+                × (0 < grain) × AreReady T.ready loads.items
                 × (done.items ≡ []) × (vec_len loads ≤ vec_capacity done) }
             ensures ends { CameTo T.ends loads.items result.items }
             ensures len { vec_len result ≡ vec_len loads }
@@ -168,9 +168,9 @@ fn drive_leaves<Rt: Threads + Sync, T: Task>(
     done: Vec<(T::Done, T::Done)>,
 ) -> Vec<(T::Done, T::Done)>
     requires grain { 0 < grain }
-    requires left { T.able load.left }
-    requires right { T.able load.right }
-    requires able { AreAble T.able loads.items }
+    requires left { T.ready load.left }
+    requires right { T.ready load.right }
+    requires ready { AreReady T.ready loads.items }
     requires none { done.items ≡ [] }
     requires room { vec_len loads < vec_capacity done }
     ensures ends { CameTo T.ends (loads.items ++ load ∷ []) result.items }
@@ -189,12 +189,12 @@ fn drive_leaves<Rt: Threads + Sync, T: Task>(
         rt,
         move || -> T::Done
             requires { IsSync Rt.row × IsSend T.row × IsSend T.Done.row × IsSend T.Seam.row
-                × T.able left }
+                × T.ready left }
             ensures { T.ends depth left result }
         { drive_plain(rt, alloc, depth, others, left) },
         move || -> (T::Done, Vec<(T::Done, T::Done)>)
             requires { IsSync Rt.row × IsSend T.row × IsSend T.Done.row × IsSend T.Seam.row
-                × (0 < grain) × T.able right × AreAble T.able loads.items
+                × (0 < grain) × T.ready right × AreReady T.ready loads.items
                 × (done.items ≡ []) × (vec_len loads ≤ vec_capacity done) }
             ensures second { T.ends depth right result.0 }
             ensures ends { CameTo T.ends loads.items result.1.items }
@@ -219,8 +219,8 @@ fn drive_beside<Rt: Threads + Sync, T: Task>(
     done: Vec<(T::Done, T::Done)>,
 ) -> (T::Done, Vec<(T::Done, T::Done)>)
     requires grain { 0 < grain }
-    requires task { T.able task }
-    requires able { AreAble T.able loads.items }
+    requires task { T.ready task }
+    requires ready { AreReady T.ready loads.items }
     requires none { done.items ≡ [] }
     requires room { vec_len loads ≤ vec_capacity done }
     ensures task { T.ends depth task result.0 }
@@ -235,12 +235,12 @@ fn drive_beside<Rt: Threads + Sync, T: Task>(
         rt,
         move || -> T::Done
             requires { IsSync Rt.row × IsSend T.row × IsSend T.Done.row × IsSend T.Seam.row
-                × T.able task }
+                × T.ready task }
             ensures { T.ends depth task result }
         { drive_plain(rt, alloc, depth, threads, task) },
         move || -> Vec<(T::Done, T::Done)>
             requires { IsSync Rt.row × IsSend T.row × IsSend T.Done.row × IsSend T.Seam.row
-                × (0 < grain) × AreAble T.able loads.items
+                × (0 < grain) × AreReady T.ready loads.items
                 × (done.items ≡ []) × (vec_len loads ≤ vec_capacity done) }
             ensures ends { CameTo T.ends loads.items result.items }
             ensures len { vec_len result ≡ vec_len loads }
@@ -262,10 +262,10 @@ fn drive_split<Rt: Threads + Sync, T: Task>(
     requires grain { 0 < grain }
     requires enough { 2 ≤ load.threads }
     requires depth { 0 < load.depth }
-    requires left { T.able load.left }
-    requires right { T.able load.right }
+    requires left { T.ready load.left }
+    requires right { T.ready load.right }
     requires long { T.long load.left × T.long load.right }
-    requires able { AreAble T.able loads.items }
+    requires ready { AreReady T.ready loads.items }
     requires none { done.items ≡ [] }
     requires places { vec_len loads + 2 ≤ vec_capacity loads }
     requires room { vec_len loads + 2 ≤ vec_capacity done }
@@ -333,9 +333,9 @@ fn drive_two<Rt: Threads + Sync, T: Task>(
     Vec<(T::Done, T::Done)>,
 )
     requires grain { 0 < grain }
-    requires outer { T.able outer.left × T.able outer.right }
-    requires inner { T.able inner.left × T.able inner.right }
-    requires able { AreAble T.able loads.items }
+    requires outer { T.ready outer.left × T.ready outer.right }
+    requires inner { T.ready inner.left × T.ready inner.right }
+    requires ready { AreReady T.ready loads.items }
     requires none { done.items ≡ [] }
     requires places { vec_len loads + 2 ≤ vec_capacity loads }
     requires room { vec_len loads + 2 ≤ vec_capacity done }

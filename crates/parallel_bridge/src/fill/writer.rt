@@ -60,7 +60,7 @@ pub fn write_items<X: Drop, L, C: Cursor<X, L>, W: Writer<X>, G: Watch>(
     room: &mut Window<W::Answer>,
     watch: &mut G,
 ) -> (Result<(), Halt<W::Error>>, L)
-    requires sound { C.sound items }
+    requires items { C.ready items }
     requires ready { W.ready writer.now }
     requires takes { (x : X) → C.may items x → W.takes writer.now x }
     requires room { IsRoom room.old }

@@ -9,11 +9,12 @@ ghost use Rattle.parallel_bridge.specs.Shapes.{Along, Shape, levels};
 ghost use Rattle.parallel_bridge.specs.Sources.{GivesSome};
 ghost use Rattle.parallel_bridge.specs.Ways.{FoldedAs};
 
-use crate::bridge::{bridge, unfailing};
+use crate::bridge::bridge;
 use crate::consumer::fold::{FoldConsumer, fold_from};
 use crate::consumer::reduce::ReduceConsumer;
 use crate::parts::Parts;
 use crate::path::Path;
+use crate::troubles::unfailing;
 use parallel_fault::Fault;
 use std::alloc::Global;
 use std::num::NonZeroUsize;

@@ -10,11 +10,12 @@ ghost use Rattle.parallel_bridge.specs.Sources.{GivesSome};
 ghost use Rattle.parallel_bridge.specs.States.{AlongInit, FoldInitSegment, FoldStep};
 ghost use Rattle.parallel_bridge.specs.Ways.{FoldedInitAs};
 
-use crate::bridge::{bridge, unfailing};
+use crate::bridge::bridge;
 use crate::consumer::fold_init::{FoldInitConsumer, fold_init_from};
 use crate::consumer::reduce::ReduceConsumer;
 use crate::parts::Parts;
 use crate::path::Path;
+use crate::troubles::unfailing;
 use parallel_fault::Fault;
 use std::alloc::Global;
 use std::num::NonZeroUsize;

@@ -6,11 +6,12 @@ ghost use Rattle.parallel_fault.specs.Trouble.{IsMemoryOnErr};
 ghost use Rattle.parallel_bridge.specs.Lists.{MapOf};
 ghost use Rattle.parallel_bridge.specs.Sources.{GivesSome};
 
-use crate::bridge::{depth_of, unfailing};
 use crate::fill::fill;
 use crate::fill::map::MapWriter;
 use crate::parts::Parts;
 use crate::path::Path;
+use crate::segments::depth_of;
+use crate::troubles::unfailing;
 use crate::window::home::Home;
 use parallel_fault::Fault;
 use std::alloc::Global;

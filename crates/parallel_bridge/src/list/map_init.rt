@@ -9,12 +9,13 @@ ghost use Rattle.parallel_bridge.specs.Sources.{GivesSome};
 ghost use Rattle.parallel_bridge.specs.States.{MapStep, StateSegment, StatesAlong};
 ghost use Rattle.parallel_bridge.specs.Ways.{MappedInitAs};
 
-use crate::bridge::{depth_of, unfailing};
 use crate::consumer::map_init::map_init_from;
 use crate::fill::fill;
 use crate::fill::map_init::MapInitWriter;
 use crate::parts::Parts;
 use crate::path::Path;
+use crate::segments::depth_of;
+use crate::troubles::unfailing;
 use crate::window::home::Home;
 use parallel_fault::Fault;
 use std::alloc::Global;

@@ -6,12 +6,13 @@ ghost use Rattle.parallel_fault.specs.Trouble.{IsMemoryOnErr};
 ghost use Rattle.parallel_bridge.specs.Parts.{PartitionOf};
 ghost use Rattle.parallel_bridge.specs.Sources.{GivesSome};
 
-use crate::bridge::{bridge, unfailing};
+use crate::bridge::bridge;
 use crate::consumer::partition::{PartitionConsumer, partition_onto, put_in_one, spare_lists};
 use crate::parts::Parts;
 use crate::path::Path;
 use crate::room::{keep_pages_of, places_for, second_places_for, with_places};
 use crate::segments::segments;
+use crate::troubles::unfailing;
 use parallel_fault::Fault;
 use std::alloc::Global;
 use std::num::NonZeroUsize;

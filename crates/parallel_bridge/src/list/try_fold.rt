@@ -9,14 +9,15 @@ ghost use Rattle.parallel_bridge.specs.Sources.{GivesSome};
 ghost use Rattle.parallel_bridge.specs.Tries.{TryAlong, TryFoldSegment};
 ghost use Rattle.parallel_bridge.specs.Ways.{TryFoldedAs};
 
-use crate::bridge::{bridge_watched, depth_of};
+use crate::bridge::bridge_watched;
 use crate::consumer::try_fold::{TryFoldConsumer, try_fold_from};
 use crate::consumer::try_reduce::TryReduceConsumer;
 use crate::gate::watch::seats_for;
 use crate::gate::{Gate, GateWatch};
-use crate::halt::unhalt;
 use crate::parts::Parts;
 use crate::path::Path;
+use crate::segments::depth_of;
+use crate::troubles::unhalt;
 use parallel_fault::Trouble;
 use std::alloc::Global;
 use std::num::NonZeroUsize;

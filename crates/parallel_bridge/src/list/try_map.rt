@@ -8,15 +8,15 @@ ghost use Rattle.parallel_bridge.specs.Outcomes.{UnlessRefused, ended, listed};
 ghost use Rattle.parallel_bridge.specs.Sources.{GivesSome};
 ghost use Rattle.parallel_bridge.specs.Tries.{TryMapOf};
 
-use crate::bridge::depth_of;
 use crate::fill::fill_watched;
 use crate::fill::try_map::TryMapWriter;
 use crate::gate::watch::seats_for;
 use crate::gate::{Gate, GateWatch};
-use crate::halt::unhalt;
 use crate::parts::Parts;
 use crate::path::Path;
 use crate::room::with_places;
+use crate::segments::depth_of;
+use crate::troubles::unhalt;
 use crate::window::home::Home;
 use parallel_fault::{Fault, Trouble};
 use std::alloc::Global;

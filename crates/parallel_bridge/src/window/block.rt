@@ -121,21 +121,6 @@ impl<T: Drop, A: Allocator> Block<T, A> {
         Ok(block)
     }
 
-    /// The block with a vector's items behind its own.
-    ///
-    /// # Errors
-    ///
-    /// `AllocError` where memory for a bigger block is refused; the items are then gone.
-    pub fn append(self, more: Vec<T, A>) -> Result<Self, AllocError>
-        requires { self.before ≡ 0 }
-        ensures { IfOk result (λ b. (b.items ≡ self.items ++ more.items) × (b.before ≡ 0)) }
-    {
-        let mut vec = self.into_vec();
-        let mut more = more;
-        vec.append(&mut more)?;
-        Ok(Block::from_vec(vec))
-    }
-
     /// The first `index` items where they lie, and the rest moved into a block of their own.
     ///
     /// # Errors

@@ -2,10 +2,10 @@
 use crate::tests::same::{answers, lists, row, same};
 use crate::tests::steps::{add, answer_seven, ten};
 use crate::tests::strategies::{SITE, number, pool};
-use commonware_parallel::bridge::bridge::depth_of;
 use commonware_parallel::bridge::list::fold::{fold_iter, fold_parallel};
 use commonware_parallel::bridge::list::map::{map_iter, map_parallel};
 use commonware_parallel::bridge::parts::ProducerParts;
+use commonware_parallel::bridge::segments::depth_of;
 use commonware_parallel::rayon::install;
 use commonware_parallel::{Call, Chooser, Copies, Kind, Path, Pick, Sequential, ThreadPool};
 use parallel_policy::Place;

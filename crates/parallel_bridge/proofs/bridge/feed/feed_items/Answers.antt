@@ -5,7 +5,7 @@ use Rattle.parallel_bridge.proofs.bridge.feed.feed_items.Goals as goal
 
 pub loop-item-init : goal.loop-item-init
 loop-item-init g c = record {
-  sound = c.requires.sound;
+  cursor = c.requires.items;
   ready = c.requires.ready;
   takes = c.requires.takes;
   came = (
@@ -23,7 +23,7 @@ loop-item-preserved g c =
     let so_far = c.loop-item.invariant in let came = so_far.came in let x = c.in-Some.item in
     let next = c.in-Some.ensures in let taken = c.in-Ok.ensures in
     record {
-      sound = next.sound;
+      cursor = next.ready;
       ready = taken.ready;
       takes = λ y h. taken.takes y (so_far.takes y (next.others y h));
       came = (

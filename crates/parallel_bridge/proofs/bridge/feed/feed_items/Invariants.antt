@@ -5,7 +5,7 @@ use Rattle.parallel_bridge.proofs.bridge.feed.feed_items.Given as goal
 
 abbrev pub invariant-loop-item : goal.invariant-loop-item
 invariant-loop-item g l = record {
-  sound : g.C.Cursor.sound l.items;
+  cursor : g.C.Cursor.ready l.items;
   ready : g.F.Folder.ready l.folder;
   takes : (x : g.row.X.Denot) → g.C.Cursor.may l.items x → g.F.Folder.takes l.folder x;
   came : (xs : List g.row.X.Denot)

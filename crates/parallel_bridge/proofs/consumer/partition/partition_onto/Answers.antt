@@ -1,5 +1,5 @@
 -- One turn is one value or one key more.
-use Rattle.parallel_bridge.proofs.{rules, ◌∷◌, [], next_has, part_append, part_end, part_one_value, part_one_key}
+use Rattle.parallel_bridge.proofs.{rules, ◌∷◌, [], next_has, part_append, part_end, part_one}
 use Rattle.parallel_bridge.proofs.consumer.partition.partition_onto.Goals as goal
 
 pub loop-item-init : goal.loop-item-init
@@ -15,18 +15,17 @@ map_op-key-requires g c = next_has g.I.Iterator.next_gives
 pub loop-item-preserved-in-Some-value : goal.loop-item-preserved-in-Some-value
 loop-item-preserved-in-Some-value g c =
     let allowed = goal.F-post g c.args.map_op.now in let values = c.loop-item.values.items in
-    let keys = c.loop-item.keys.items in
-    part_append allowed c.args.values.items values c.push.new.self.items c.args.keys.items keys keys
+    let keys = c.loop-item.keys.items in let more = c.push.new.self.items in
+    part_append allowed c.args.values.items values more c.args.keys.items keys keys
     c.loop-item.yielded (c.in-Some.item ∷ []) c.loop-item.invariant
-    (part_one_value allowed values keys c.in-Some.item c.map_op-key.result c.in-Some-value.value
-    c.push.new.self.items c.map_op-key.ensures c.in-Some-value.is (search rules))
+    (part_one allowed values more keys keys c.in-Some.item c.map_op-key.result c.map_op-key.ensures
+    (search rules) (search rules))
 
 pub loop-item-preserved : goal.loop-item-preserved
 loop-item-preserved g c =
     let allowed = goal.F-post g c.args.map_op.now in let values = c.loop-item.values.items in
-    let keys = c.loop-item.keys.items in
-    part_append allowed c.args.values.items values values c.args.keys.items keys
-    c.push-in-None-value.new.self.items c.loop-item.yielded
-    (c.in-Some.item ∷ []) c.loop-item.invariant
-    (part_one_key allowed values keys c.in-Some.item c.map_op-key.result
-    c.push-in-None-value.new.self.items c.map_op-key.ensures c.in-None-value.is (search rules))
+    let keys = c.loop-item.keys.items in let more = c.push-in-None-value.new.self.items in
+    part_append allowed c.args.values.items values values c.args.keys.items keys more
+    c.loop-item.yielded (c.in-Some.item ∷ []) c.loop-item.invariant
+    (part_one allowed values values keys more c.in-Some.item c.map_op-key.result
+    c.map_op-key.ensures (search rules) (search rules))

@@ -11,7 +11,7 @@ loop-room-preserved g c =
     let so_far = c.loop-room.invariant in let came = so_far.came in let x = c.in-Some.item in
     let next = c.in-Some.ensures in let ys = c.loop-room.room.items in
     record {
-      sound = next.sound;
+      cursor = next.ready;
       may = λ y h. so_far.may y (next.others y h);
       came = one_answered (λ l. (more : List g.row.X.Denot)
           → g.C.Cursor.gives c.next.new.self more → g.C.Cursor.gives c.args.items (l ++ more))

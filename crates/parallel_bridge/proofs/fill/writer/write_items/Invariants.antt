@@ -6,7 +6,7 @@ use Rattle.parallel_bridge.proofs.fill.writer.write_items.Given as goal
 
 abbrev pub invariant-loop-room : goal.invariant-loop-room
 invariant-loop-room g l = record {
-  sound : g.C.Cursor.sound l.items;
+  cursor : g.C.Cursor.ready l.items;
   may : (x : g.row.X.Denot) → g.C.Cursor.may l.items x → g.C.Cursor.may l.fn.items x;
   came : (xs : List g.row.X.Denot)
       × ((more : List g.row.X.Denot) → g.C.Cursor.gives l.items more

@@ -1,17 +1,15 @@
 -- What comes behind the item comes behind all of it.
-use Rattle.parallel_bridge.proofs.{Ok, Err, ◌∷◌, [], refl, keys_in, keys_of, values_in, values_of, part_append}
+use Rattle.parallel_bridge.proofs.{rules, part_put}
 use Rattle.parallel_bridge.proofs.consumer.partition.PartitionFolderFolderVecTuple2VecVecInfallible.consume.Goals as goal
 
-pub returns-clause-gives : goal.returns-clause-gives
-returns-clause-gives g c xs (Ok r) part =
-    let self = c.args.self in let allowed = goal.F-post g self.map_op.now in
-    let one = c.map_op-answer.result in
-    part_append allowed self.values.items c.in_ok-values.values.items (values_in r.items)
-    self.keys.items c.in_ok-values.keys.items (keys_in r.items) (c.args.item ∷ []) xs (
-      values_of (one ∷ []),
-      keys_of (one ∷ []),
-      c.in_ok-values.ensures.values,
-      c.in_ok-values.ensures.keys,
-      (one ∷ [], (c.map_op-answer.ensures, tt), refl, refl),
-    ) part
-returns-clause-gives g c xs (Err e) part = part
+pub returns-in_ok-push-in-Some-clause-gives : goal.returns-in_ok-push-in-Some-clause-gives
+returns-in_ok-push-in-Some-clause-gives g c xs out part =
+    let self = c.args.self in
+    part_put (goal.F-post g self.map_op.now) self.lists.value.0.items _ self.lists.value.1.items _
+    c.args.item c.map_op-key.result xs out part c.map_op-key.ensures (search rules) (search rules)
+
+pub returns-in_ok-push-in-None-clause-gives : goal.returns-in_ok-push-in-None-clause-gives
+returns-in_ok-push-in-None-clause-gives g c xs out part =
+    let self = c.args.self in
+    part_put (goal.F-post g self.map_op.now) self.lists.value.0.items _ self.lists.value.1.items _
+    c.args.item c.map_op-key.result xs out part c.map_op-key.ensures (search rules) (search rules)
