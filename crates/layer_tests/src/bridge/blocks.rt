@@ -17,7 +17,9 @@ fn a_dropped_block_gives_its_memory_back(rt: HostRuntime) {
     drop(block);
     row(&rt, "with an item more", heap.used(), 0);
     let inner = Vec::from_slice(&heap, &[4u64; 100]).expect(&rt, "memory");
-    let block = Block::from_vec(Vec::new(&heap)).push(inner).expect(&rt, "memory");
+    let block = Block::from_vec(Vec::new(&heap))
+        .push(inner)
+        .expect(&rt, "memory");
     assert!(rt; heap.used() >= 800);
     drop(block);
     row(&rt, "with an item's own memory", heap.used(), 0);
