@@ -214,13 +214,16 @@ chunks_accepted g f xs size given is some accepts n l p same =
 
 -- ---- items
 
--- a chunk of one item
-pub one_item : {X : Type 0} (xs : List X) (n : ℕ) (d : X)
-    → get_or (slice_chunk xs 1 n) 0 d ≡ get_or xs n d
-one_item xs n d =
-    get_or-take 1 (drop (n * 1) xs) 0 d (omega arith)
-    ∙ (get_or-drop (n * 1) xs 0 d
-    ∙ ap (λ i. get_or xs i d) {x = n * 1 + 0} {y = n} (omega arith))
+-- an item of a chunk
+pub item_of_chunk : {X : Type 0} (xs : List X) (size n k : ℕ) (d : X) → k < size
+    → get_or (slice_chunk xs size n) k d ≡ get_or xs (n * size + k) d
+item_of_chunk xs size n k d inside =
+    get_or-take size (drop (n * size) xs) k d inside ∙ get_or-drop (n * size) xs k d
+
+-- how many items a chunk has
+pub length_of_chunk : {X : Type 0} (xs : List X) (size n : ℕ)
+    → length (slice_chunk xs size n) ≡ min size (length xs - n * size)
+length_of_chunk xs size n = omega (arith, length-take size (drop (n * size) xs), length-drop (n * size) xs)
 
 -- a list of which one item more has changed
 pub one_more_changed : {X : Type 0} (R : ℕ → X → X → Type 0) (xs ys : List X) (k : ℕ) (e y : X)

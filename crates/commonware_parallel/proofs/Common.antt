@@ -49,7 +49,7 @@ pub use Rattle.std.proofs.lemmas.List.{append_cancel_left, length-map, map-appen
 pub use Rattle.std.proofs.lemmas.List.{drop-append-le, get_or-set_other, get_or-set_same, get_or_default, take-append-le}
 pub use Rattle.std.proofs.lemmas.List.Elements.{All-append, All-cons, All-head, All-nil, All-push, All-tail}
 pub use Rattle.std.proofs.lemmas.List.Sorted.{All-permutation, IsNonDecreasingBy-from_sort_by_key, IsPermutation-refl, sum_by-IsPermutation}
-pub use Rattle.std.proofs.lemmas.Nat.{row_fits, same_from_place, mod-mul-add}
+pub use Rattle.std.proofs.lemmas.Nat.{mod-mul-add, mod_below, row_fits, same_from_place}
 pub use Rattle.std.specs.Borrow.{Bor, MutBor}
 pub use Rattle.std.specs.Int.NonZero.{non_zero_usize_get}
 pub use Rattle.std.specs.List.{AllZip, FoldsTo, range_with_len, sum_by}

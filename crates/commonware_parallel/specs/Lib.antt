@@ -3,6 +3,7 @@ pub mod Batches
 pub mod Calls
 pub mod Explorers
 pub mod Exploring
+pub mod InPlace
 pub mod ListCalls
 pub mod Measures
 pub mod MergedRows

@@ -1,8 +1,9 @@
 //! Calls that change a list where it lies, at the same time, in threads that one thread, the
 //! caller's, starts one after another.
-ghost use Rattle.std.specs.Prelude.{◌≡◌, ◌≢◌, ◌≤◌, ◌<◌, ◌+◌, ◌*◌, ◌%◌, ◌^◌, ℕ, length, slice_index_or};
+ghost use Rattle.std.specs.Prelude.{◌≡◌, ◌≢◌, ◌≤◌, ◌<◌, ◌+◌, ◌*◌, ◌%◌, ◌^◌, ℕ, length};
 ghost use Rattle.std.specs.Fork.{AcceptsAt, AcceptsChunksMut, AcceptsEach, ChangesAt, ChangesChunks, ChangesEach, slice_chunk};
 ghost use Rattle.std.specs.Fork.Halves.{AllChunks, ChangesByChunks};
+ghost use Rattle.commonware_parallel.specs.InPlace.{AcceptsFrom, ChangesFrom};
 ghost use Rattle.std.specs.Int.NonZero.{non_zero_usize_get};
 ghost use Rattle.std.specs.Thread.{IsSend, IsSync};
 
@@ -12,8 +13,8 @@ use std::thread::{Threads, join_mut};
 // One thread starts fewer than that many others in a row, since each takes some of its stack.
 const ROW: usize = 64;
 
-/// Calls `op` with each item and its index. The items are split among at most `threads` threads, of
-/// which the caller's is one.
+/// Calls `op` with each item and its index. The items are split into at most `threads` parts, of
+/// which the caller's thread has one.
 pub(crate) fn each_item<Rt: Threads + Sync, T: Send, F: Fn(usize, &mut T) + Sync>(
     rt: &Rt,
     threads: NonZeroUsize,
@@ -23,14 +24,14 @@ pub(crate) fn each_item<Rt: Threads + Sync, T: Send, F: Fn(usize, &mut T) + Sync
     requires { AcceptsEach F.Fn op.now items.old }
     ensures { ChangesEach F.Fn op.now items.old items.new }
 {
-    let one = move |index: usize, item: &mut [T]|
-        requires one { length item.now ≡ 1 }
-        requires accepts { (d : T) → AcceptsAt F.Fn op.now index (slice_index_or item.now 0 d) }
-        ensures { (d : T) → ChangesAt F.Fn op.entry.now index
-            (slice_index_or item.entry.now 0 d) (slice_index_or item.exit.now 0 d) }
-    { at_item(op, index, &mut item[0]) };
-    let threads = threads.get().min(items.len());
-    in_parts(rt, &one, 0, 1, threads, items);
+    let part = move |from: usize, part: &mut [T]|
+        requires room { from + length part.now < 2 ^ 64 }
+        requires accepts { AcceptsFrom F.Fn op.now from part.now }
+        ensures { ChangesFrom F.Fn op.entry.now from part.entry.now part.exit.now }
+    { items_from(op, from, part) };
+    let size = items.len().div_ceil(threads.get()).max(1);
+    let parts = items.len().div_ceil(size);
+    in_parts(rt, &part, 0, size, parts, items);
 }
 
 /// Calls `op` with each chunk of `size` items, the last one maybe shorter, and the index at which
@@ -55,9 +56,7 @@ pub(crate) fn each_item_in_turn<T, F: Fn(usize, &mut T)>(items: &mut [T], op: &F
     requires { AcceptsEach F.Fn op.now items.old }
     ensures { ChangesEach F.Fn op.now items.old items.new }
 {
-    for index in 0..items.len() {
-        at_item(op, index, &mut items[index]);
-    }
+    items_from(op, 0, items);
 }
 
 /// Calls `op` with each chunk of `size` items and the index at which it begins, one after another.
@@ -168,23 +167,8 @@ fn in_turn<T, F: Fn(usize, &mut [T])>(op: &F, from: usize, size: usize, items: &
     requires accepts { AllChunks (AcceptsAt F.Fn op.now) from size items.old }
     ensures { ChangesByChunks (ChangesAt F.Fn op.now) from size items.old items.new }
 {
-    if size == 1 {
-        one_by_one(op, from, items);
-        return;
-    }
     for n in 0..items.len().div_ceil(size) {
         at_chunk(op, from, size, n, items);
-    }
-}
-
-// The same of chunks of one item: a size that the compiler sees.
-fn one_by_one<T, F: Fn(usize, &mut [T])>(op: &F, from: usize, items: &mut [T])
-    requires room { from + length items.old < 2 ^ 64 }
-    requires accepts { AllChunks (AcceptsAt F.Fn op.now) from 1 items.old }
-    ensures { ChangesByChunks (ChangesAt F.Fn op.now) from 1 items.old items.new }
-{
-    for n in 0..items.len() {
-        at_chunk(op, from, 1, n, items);
     }
 }
 
@@ -206,7 +190,18 @@ fn at_chunk<T, F: Fn(usize, &mut [T])>(op: &F, from: usize, size: usize, n: usiz
     op(from + at, chunk);
 }
 
-// The one item.
+// The items of a list whose first one has that index, one after another.
+fn items_from<T, F: Fn(usize, &mut T)>(op: &F, from: usize, items: &mut [T])
+    requires room { from + length items.old < 2 ^ 64 }
+    requires accepts { AcceptsFrom F.Fn op.now from items.old }
+    ensures { ChangesFrom F.Fn op.now from items.old items.new }
+{
+    for k in 0..items.len() {
+        at_item(op, from + k, &mut items[k]);
+    }
+}
+
+// One item.
 fn at_item<T, F: Fn(usize, &mut T)>(op: &F, index: usize, item: &mut T)
     requires { AcceptsAt F.Fn op.now index item.old }
     ensures { ChangesAt F.Fn op.now index item.old item.new }
