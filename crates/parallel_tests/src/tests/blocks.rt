@@ -72,28 +72,27 @@ fn last_fails(page: Page) -> Result<Page, u64> {
     }
 }
 
-// A map of which the last item fails, over a list of its own.
-fn failing_map<Rt: Threads + Wait + Sync, S: Strategy>(
-    rt: &Rt,
-    alloc: Global,
-    strategy: &S,
-) -> Result<Vec<Page>, Trouble<u64>> {
-    let items = pages(alloc)?;
-    strategy.try_map_collect_vec(rt, alloc, SITE, items, last_fails)
-}
-
-// A fold likewise.
-fn failing_fold<Rt: Threads + Wait + Sync, S: Strategy>(
-    rt: &Rt,
-    alloc: Global,
-    strategy: &S,
-) -> Result<u64, Trouble<u64>> {
-    let items = pages(alloc)?;
-    let step = |sum: u64, page: Page| match last_fails(page) {
+// The sum with a page's number, or the last page's number as an error.
+fn add_or_fail(sum: u64, page: Page) -> Result<u64, u64> {
+    match last_fails(page) {
         Ok(page) => Ok(sum.wrapping_add(page.bytes[0])),
         Err(number) => Err(number),
-    };
-    strategy.try_fold(rt, alloc, SITE, items, no_sum, step, add_sums)
+    }
+}
+
+// A map and a fold, each over a list of its own of which the last item fails.
+fn calls_fail<Rt: Threads + Wait + Abort + Sync, S: Strategy>(
+    rt: &Rt,
+    alloc: Global,
+    strategy: &S,
+    call: u64,
+) {
+    let items = pages(alloc).expect(rt, "memory");
+    let mapped = strategy.try_map_collect_vec(rt, alloc, SITE, items, last_fails);
+    row(rt, call, mapped.err(), Some(Trouble::Closure(255)));
+    let items = pages(alloc).expect(rt, "memory");
+    let folded = strategy.try_fold(rt, alloc, SITE, items, no_sum, add_or_fail, add_sums);
+    row(rt, call, folded.err(), Some(Trouble::Closure(255)));
 }
 
 // Whether the process has grown by as many blocks since it had so many pages.
@@ -115,10 +114,7 @@ fn calls_that_fail_give_their_blocks_back(rt: HostRuntime) {
     }
     let two = pool(&rt, rt.alloc(), 2, 2);
     for call in 0..CALLS {
-        let mapped = failing_map(&rt, rt.alloc(), &two);
-        assert!(rt; matches!(mapped, Err(Trouble::Closure(255))), "{call}");
-        let folded = failing_fold(&rt, rt.alloc(), &two);
-        assert!(rt; matches!(folded, Err(Trouble::Closure(255))), "{call}");
+        calls_fail(&rt, rt.alloc(), &two, call);
     }
     assert!(rt; !has_grown(&rt, before));
 }

@@ -1,5 +1,5 @@
 //! Maps through each strategy.
-use crate::tests::same::{lists, row, same};
+use crate::tests::same::{count_of, lists, row, same};
 use crate::tests::steps::square;
 use crate::tests::strategies::{SITE, number, pools};
 use commonware_parallel::{Fault, Pairs, Sequential, Strategy};
@@ -218,8 +218,7 @@ fn each_is_answered<Rt: Threads + Wait + Abort + Sync, S: Strategy>(
 ) {
     for (of, strategy) in strategies.iter().enumerate() {
         let answers = map_unsteadily(rt, alloc, strategy, 1000).expect(rt, "memory");
-        let ones = answers.iter().filter(|answer| **answer == 1).count();
-        let zeros = answers.iter().filter(|answer| **answer == 0).count();
+        let (zeros, ones) = (count_of(&answers, 0), count_of(&answers, 1));
         row(rt, of, (zeros, ones), (500, 500));
     }
 }

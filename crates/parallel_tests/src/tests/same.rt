@@ -40,6 +40,15 @@ pub fn lists<L: Debug + Drop, T: PartialEq + Debug + Drop, E: Debug + Drop>(
     row(rt, of, list.as_slice(), wanted);
 }
 
+/// How many of the numbers are this one.
+pub fn count_of(numbers: &[u64], wanted: u64) -> usize {
+    let mut count = 0usize;
+    for number in numbers {
+        count = count.wrapping_add(usize::from(*number == wanted));
+    }
+    count
+}
+
 /// Stops the test where the value isn't written as the text.
 pub fn says<T: Display>(rt: &impl Abort, alloc: Global, value: &T, text: &str) {
     let written = format!(in alloc; "{value}").expect(rt, "memory");

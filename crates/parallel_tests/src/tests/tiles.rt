@@ -374,8 +374,11 @@ type Span = (usize, usize, usize);
 // The span with the next columns of its row behind it.
 fn widened(span: Option<Span>, cells: &[u8], columns: Range<usize>) -> Span {
     let (first, _, so_far) = span.unwrap_or((columns.start, columns.start, 0));
-    let above = cells.iter().filter(|cell| **cell > 4).count();
-    (first, columns.end, so_far.saturating_add(above))
+    let mut above = so_far;
+    for cell in cells {
+        above = above.saturating_add(usize::from(*cell > 4));
+    }
+    (first, columns.end, above)
 }
 
 fn no_span() -> Option<Span> {
