@@ -19,6 +19,7 @@ mod one_place;
 mod plans;
 mod policies;
 mod printed;
+mod probes;
 mod refusals;
 mod roots;
 mod runs;

@@ -1,0 +1,331 @@
+//! What a policy keeps of each call through a pool: one entry, at the call's own key, with the time
+//! between two readings of the clock recorded once.
+//!
+//! The clock's readings are the squares of whole milliseconds, so that the time between two of them
+//! tells which two they were. Each entry has a time already, which a sample moves by a fifth, so
+//! that a sample recorded twice shows.
+ghost use Rattle.std.specs.Prelude.{◌≡◌, ⊤};
+ghost use Rattle.parallel_shares.specs.Grid.{Fits};
+
+use crate::tests::probes::calls::{CALLS, Called, MULTIPLIER};
+use crate::tests::probes::given::{FEW, Given, make_over_few};
+use crate::tests::probes::logs::Log;
+use crate::tests::probes::sides::{BATCHES, SORTS, fill, join, map_batch, root, sort};
+use crate::tests::probes::visits::Visitor;
+use crate::tests::same::{answers, row};
+use crate::tests::steps::Gives;
+use crate::tests::strategies::{SITE, number};
+use commonware_parallel::policy::{Key, RunExecution, SpawnSample};
+use commonware_parallel::{Clock, Grid, On, Policy, Rayon, Site, Strategy, Trouble};
+use futures::executor::block_on;
+use std::alloc::Global;
+use std::fmt::Debug;
+use std::process::Abort;
+use std::sync::atomic::{AtomicU64, Ordering};
+use std::sync::{Arc, Wait};
+use std::thread::Threads;
+
+const MILLISECOND: u64 = 1_000_000;
+
+/// A clock whose readings are the squares of whole milliseconds.
+#[derive(Clone, Debug, Drop)]
+pub struct Squares {
+    readings: Arc<AtomicU64, Global>,
+}
+
+impl Clock for Squares {
+    fn now(&self) -> u64 {
+        let before = self.readings.fetch_add(1, Ordering::SeqCst);
+        before.wrapping_mul(before).wrapping_mul(MILLISECOND)
+    }
+}
+
+/// A policy, the clock that it reads, and a pool that asks it.
+#[derive(Drop)]
+pub struct Asked {
+    policy: Policy,
+    readings: Arc<AtomicU64, Global>,
+    pub pool: Rayon<Squares>,
+}
+
+/// A fresh policy, and a pool of so many threads.
+pub fn fresh<Rt: Threads + Abort>(rt: &Rt, alloc: Global, threads: usize) -> Asked {
+    let readings = Arc::new(alloc, AtomicU64::new(0)).expect(rt, "memory for a clock");
+    let clock = Squares {
+        readings: Arc::try_clone(&readings).expect(rt, "a handle"),
+    };
+    let pool = Rayon::new(rt, alloc, number(rt, threads), clock).expect(rt, "memory for a pool");
+    let policy = Policy::new(alloc).expect(rt, "memory for a policy");
+    let pool = pool.with_policy(policy.clone().expect(rt, "a handle"));
+    Asked {
+        policy,
+        readings,
+        pool,
+    }
+}
+
+impl Asked {
+    // What the next run of such a call is known to take, so that it goes in parallel, measured.
+    fn knows<Rt: Wait + Abort>(&self, rt: &Rt, key: Key) {
+        let first = self.policy.choose_run(rt, key, 4);
+        answers(rt, "first", first, (RunExecution::Parallel, true));
+        let time = 50 * MILLISECOND;
+        let known = self
+            .policy
+            .record_run(rt, key, RunExecution::Parallel, time);
+        answers(rt, "known", known, ());
+    }
+
+    fn on<'a, Rt>(&'a self, rt: &'a Rt, alloc: Global) -> On<'a, Rt, Rayon<Squares>, Site> {
+        On {
+            rt,
+            alloc,
+            strategy: &self.pool,
+            site: SITE,
+        }
+    }
+
+    fn readings(&self) -> u64 {
+        self.readings.load(Ordering::SeqCst)
+    }
+
+    // Stops the test where the policy has another entry than that of the key, or where a run in
+    // parallel of one millisecond, between the clock's first two readings, wasn't recorded once.
+    fn has_one<L: Debug + Copy + Drop, Rt: Wait + Abort>(
+        &self,
+        rt: &Rt,
+        alloc: Global,
+        of: L,
+        key: Key,
+    ) {
+        row(rt, of, self.readings(), 2);
+        let entry = self.policy.run_entry(rt, key).expect(rt, "an entry");
+        let parallel = entry.estimate(RunExecution::Parallel);
+        let serial = entry.estimate(RunExecution::Serial);
+        row(rt, of, (parallel, serial), (Some(40_200_000), None));
+        let written = format!(in alloc; "{:?}", self.policy).expect(rt, "memory");
+        let alone = format!(in alloc; "{{{key:?}: {entry:?}}}, spawns: {{}} ").expect(rt, "memory");
+        let begins = "Policy { table: Mutex { data: Table { runs: ";
+        let ends = "}, poisoned: false, .. } }";
+        let whole = format!(in alloc; "{begins}{alone}{ends}").expect(rt, "memory");
+        row(rt, of, written.as_str(), whole.as_str());
+    }
+}
+
+// The key of a call over sixteen items.
+fn key_of(called: Called) -> Key {
+    match called {
+        Called::MultipliedMap | Called::MultipliedMapInit => {
+            Key::new(SITE, 16, 16 * MULTIPLIER, 4)
+        }
+        _ => Key::new(SITE, 16, 16, 4),
+    }
+}
+
+#[test]
+fn each_list_call_records_one_time_at_its_key(rt: HostRuntime) {
+    let alloc = rt.alloc();
+    for called in CALLS {
+        for given in FEW {
+            let asked = fresh(&rt, alloc, 4);
+            let key = key_of(called);
+            asked.knows(&rt, key);
+            // The second call isn't measured, and reads no clock.
+            for turn in 1..3u32 {
+                let made = make_over_few(&asked.on(&rt, alloc), called, given, 16, Visitor::Passes);
+                row(&rt, (called, given), made, Ok(()));
+                asked.has_one(&rt, alloc, (called, given, turn), key);
+            }
+        }
+    }
+}
+
+#[test]
+fn a_list_call_that_fails_records_nothing(rt: HostRuntime) {
+    let alloc = rt.alloc();
+    for called in [Called::TryMap, Called::TryFoldOn] {
+        let asked = fresh(&rt, alloc, 4);
+        let key = key_of(called);
+        asked.knows(&rt, key);
+        let log = Log::new(alloc);
+        let failing = Visitor::Fails(&log);
+        let made = make_over_few(&asked.on(&rt, alloc), called, Given::Slice, 16, failing);
+        row(&rt, called, made, Err(Trouble::Closure(7)));
+        // It was to be measured, and the clock was read before it.
+        let entry = asked.policy.run_entry(&rt, key).expect(&rt, "an entry");
+        let parallel = entry.estimate(RunExecution::Parallel);
+        let found = (asked.readings(), parallel);
+        row(&rt, called, found, (1, Some(50 * MILLISECOND)));
+    }
+}
+
+#[test]
+fn each_sort_and_run_records_one_time_at_its_key(rt: HostRuntime) {
+    let alloc = rt.alloc();
+    for sorted in SORTS {
+        let asked = fresh(&rt, alloc, 4);
+        let key = Key::new(SITE, 4, 4, 4);
+        asked.knows(&rt, key);
+        let mut numbers = [2u32, 1, 4, 3];
+        for turn in 1..3u32 {
+            let outcome = sort(&asked.on(&rt, alloc), sorted, &mut numbers, Visitor::Passes);
+            row(&rt, sorted, outcome, Ok(()));
+            asked.has_one(&rt, alloc, (sorted, turn), key);
+        }
+    }
+    let asked = fresh(&rt, alloc, 4);
+    let key = Key::new(SITE, 5, 5, 4);
+    asked.knows(&rt, key);
+    let ran = asked.pool.run(&rt, alloc, SITE, 5, || 1u32, || 2u32);
+    row(&rt, "run", ran, Ok(2));
+    asked.has_one(&rt, alloc, "run", key);
+}
+
+#[test]
+fn each_batch_and_fill_records_one_time_at_its_key(rt: HostRuntime) {
+    let alloc = rt.alloc();
+    for batched in BATCHES {
+        let asked = fresh(&rt, alloc, 4);
+        let key = Key::new(SITE, 16, 48, 4);
+        asked.knows(&rt, key);
+        let mapped = map_batch(
+            &asked.on(&rt, alloc),
+            batched,
+            16,
+            number(&rt, 4),
+            Visitor::Passes,
+        );
+        row(&rt, batched, mapped, Ok(4));
+        asked.has_one(&rt, alloc, batched, key);
+    }
+    let grids = [Grid {
+        rows: 4,
+        tile_cost: number(&rt, 8),
+    }];
+    assert!(rt; Grid::fits(&grids, 10));
+    for is_merged in [false, true] {
+        let asked = fresh(&rt, alloc, 4);
+        let key = Key::new(SITE, 10, 360, 4);
+        asked.knows(&rt, key);
+        let filled = fill(
+            &asked.on(&rt, alloc),
+            is_merged,
+            10,
+            &grids,
+            Visitor::Passes,
+        );
+        row(&rt, is_merged, filled, Ok(4));
+        asked.has_one(&rt, alloc, is_merged, key);
+    }
+}
+
+#[test]
+fn a_tree_records_one_time_of_each_level(rt: HostRuntime) {
+    let alloc = rt.alloc();
+    let asked = fresh(&rt, alloc, 4);
+    for pairs in [4, 2, 1] {
+        asked.knows(&rt, Key::new(SITE, pairs, pairs, 4));
+    }
+    let found = root(&asked.on(&rt, alloc), 8, Visitor::Passes);
+    row(&rt, "tree", found, Ok(Some(3)));
+    row(&rt, "tree", asked.readings(), 6);
+    // Two readings for each level: 1, 5 and 9 milliseconds.
+    for (pairs, time) in [(4, 40_200_000), (2, 41_000_000), (1, 41_800_000)] {
+        let entry = asked.policy.run_entry(&rt, Key::new(SITE, pairs, pairs, 4));
+        let entry = entry.expect(&rt, "an entry");
+        let parallel = entry.estimate(RunExecution::Parallel);
+        row(&rt, pairs, parallel, Some(time));
+    }
+}
+
+#[test]
+fn a_join_records_nothing(rt: HostRuntime) {
+    let alloc = rt.alloc();
+    for by_on in [false, true] {
+        let asked = fresh(&rt, alloc, 4);
+        row(
+            &rt,
+            by_on,
+            join(&asked.on(&rt, alloc), by_on, Visitor::Passes),
+            Ok(()),
+        );
+        row(&rt, by_on, asked.readings(), 0);
+        let written = format!(in alloc; "{:?}", asked.policy).expect(&rt, "memory");
+        let empty =
+            "Policy { table: Mutex { data: Table { runs: {}, spawns: {} }, poisoned: false, .. } }";
+        row(&rt, by_on, written.as_str(), empty);
+    }
+}
+
+impl Asked {
+    // What the next job of that key is known to take, so that it is handed off, measured.
+    fn knows_job<Rt: Wait + Abort>(&self, rt: &Rt, key: Key) {
+        let first = self.policy.choose_spawn(rt, key, MILLISECOND);
+        row(rt, "first", first.is_ok(), true);
+        let job = self.policy.record_spawn_job(rt, key, 50 * MILLISECOND);
+        let overhead = self.policy.record_spawn_overhead(rt, key, 10 * MILLISECOND);
+        row(rt, "known", (job, overhead), (Ok(()), Ok(())));
+    }
+
+    // The times of a job, its hand-off and an inline run.
+    fn job_times<Rt: Wait + Abort>(&self, rt: &Rt, key: Key) -> [Option<u64>; 3] {
+        let entry = self.policy.spawn_entry(rt, key).expect(rt, "an entry");
+        [
+            entry.estimate(SpawnSample::Job),
+            entry.estimate(SpawnSample::Overhead),
+            entry.estimate(SpawnSample::InlineRun),
+        ]
+    }
+}
+
+#[test]
+fn a_job_records_its_own_time_and_its_hand_off_once(rt: HostRuntime) {
+    let alloc = rt.alloc();
+    let asked = fresh(&rt, alloc, 4);
+    // A job is keyed by the pool's number of threads, and not by the planning number.
+    let key = Key::new(SITE, 1, 1, 4);
+    asked.knows_job(&rt, key);
+    let pool = asked.pool.clone().expect(&rt, "handles");
+    let planned = pool.with_parallelism(number(&rt, 7));
+    let spawned = planned.spawn(&rt, alloc, SITE, 1, Gives(7));
+    let spawned = spawned.expect(&rt, "a job");
+    row(&rt, "job", block_on(&rt, spawned).expect(&rt, "a queue"), 7);
+    // Chosen at 0, begun at 1 and ended at 4 milliseconds: the job took 3, and its hand-off 1.
+    let times = asked.job_times(&rt, key);
+    row(
+        &rt,
+        "times",
+        times,
+        [Some(40_600_000), Some(8_200_000), None],
+    );
+    row(&rt, "readings", asked.readings(), 3);
+    let of_runs = asked.policy.run_entry(&rt, key);
+    row(&rt, "runs", of_runs.is_none(), true);
+}
+
+#[test]
+fn a_job_that_runs_inline_records_its_own_time_alone(rt: HostRuntime) {
+    let alloc = rt.alloc();
+    let asked = fresh(&rt, alloc, 4);
+    let key = Key::new(SITE, 1, 1, 4);
+    asked.knows_job(&rt, key);
+    // The choice that follows tries the other way; of those after it each tenth is measured.
+    let known = asked.policy.record_spawn_inline(&rt, key, MILLISECOND / 2);
+    row(&rt, "known", known, Ok(()));
+    for choice in 0..10u32 {
+        let chosen = asked.policy.choose_spawn(&rt, key, MILLISECOND);
+        row(&rt, choice, chosen.is_ok(), true);
+    }
+    let spawned = asked.pool.spawn(&rt, alloc, SITE, 1, Gives(7));
+    let spawned = spawned.expect(&rt, "a job");
+    row(&rt, "job", spawned.is_ready(), true);
+    // Begun at 1 and ended at 4 milliseconds.
+    let times = asked.job_times(&rt, key);
+    let known = [
+        Some(50 * MILLISECOND),
+        Some(10 * MILLISECOND),
+        Some(MILLISECOND),
+    ];
+    row(&rt, "times", times, known);
+    row(&rt, "readings", asked.readings(), 3);
+}
