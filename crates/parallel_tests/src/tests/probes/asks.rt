@@ -1,17 +1,18 @@
 //! What a strategy is asked and told of each call: asked once, at the call's own place, by the
 //! call's own numbers, and told once that the run has answered, or never where it failed.
 ghost use Rattle.std.specs.Prelude.{◌≡◌, ⊤};
-ghost use Rattle.parallel_shares.specs.Grid.{Fits};
 
 use crate::tests::probes::calls::{CALLS, Called, MULTIPLIER, make};
 use crate::tests::probes::given::{SOURCES, make_over};
 use crate::tests::probes::logs::{Event, Line, Log, Who};
 use crate::tests::probes::noting::Noting;
-use crate::tests::probes::sides::{BATCHES, Batched, SORTS, fill, join, map_batch, root, sort};
+use crate::tests::probes::sides::{
+    BATCHES, Batched, SIDES, Side, call_of_side, make_side, map_batch, root,
+};
 use crate::tests::probes::visits::Visitor;
 use crate::tests::same::row;
 use crate::tests::strategies::{SITE, number};
-use commonware_parallel::{Call, Fault, Grid, Indices, Job, Kind, On, Site, Strategy, Trouble};
+use commonware_parallel::{Call, Indices, Job, On, Site, Strategy, Trouble};
 use futures::executor::block_on;
 use std::alloc::Global;
 use std::process::Abort;
@@ -54,10 +55,7 @@ fn call_of(called: Called, len: usize) -> Call {
 }
 
 fn may_fail(called: Called) -> bool {
-    matches!(
-        called,
-        Called::TryMap | Called::TryMapOn | Called::TryFold | Called::TryFoldOn
-    )
+    matches!(called, Called::TryMap | Called::TryFold)
 }
 
 #[test]
@@ -132,34 +130,6 @@ fn a_run_asks_once_and_tells_once(rt: HostRuntime) {
         .has(&rt, "run", &[asked(Call::body(16)), BEGUN, RAN, TOLD]);
 }
 
-#[test]
-fn sorts_and_joins_ask_once_and_tell_once(rt: HostRuntime) {
-    let alloc = rt.alloc();
-    for sorted in SORTS {
-        let noting = Noting::new(&rt, alloc, 4);
-        let on = on(&rt, alloc, &noting);
-        let mut numbers = [2u32, 1, 4, 3];
-        let outcome = sort(&on, sorted, &mut numbers, Visitor::Writes(noting.log()));
-        row(&rt, sorted, outcome, Ok(()));
-        noting
-            .log()
-            .has(&rt, sorted, &[asked(Call::body(4)), BEGUN, RAN, TOLD]);
-    }
-    for by_on in [false, true] {
-        let noting = Noting::new(&rt, alloc, 4);
-        let on = on(&rt, alloc, &noting);
-        row(
-            &rt,
-            by_on,
-            join(&on, by_on, Visitor::Writes(noting.log())),
-            Ok(()),
-        );
-        noting
-            .log()
-            .has(&rt, by_on, &[asked(Call::join()), BEGUN, RAN, TOLD]);
-    }
-}
-
 // A question to the strategy of a batch's parts.
 fn asked_inside(call: Call) -> Line {
     (Who::Inner, Event::Asked(7, call))
@@ -171,40 +141,27 @@ const TOLD_INSIDE: Line = (Who::Inner, Event::Told);
 
 const DROPPED_INSIDE: Line = (Who::Inner, Event::Dropped);
 
-// A batch of sixteen indices in ranges of four or more, each of which stands for three.
-fn batch_call(max_parts: usize) -> Call {
-    Call {
-        kind: Kind::Batches,
-        len: 16,
-        work: 48,
-        max_parts,
+// Stops the test where a call that isn't over a list asks otherwise: about a batch and about tiles
+// once, and their own strategy about the map of their four parts.
+fn side_asks<Rt: Threads + Wait + Abort + Sync>(rt: &Rt, alloc: Global, side: Side) {
+    let noting = Noting::new(rt, alloc, 4);
+    let on = on(rt, alloc, &noting);
+    let made = make_side(&on, side, Visitor::Writes(noting.log()));
+    row(rt, side, made, Ok(()));
+    let asked = asked(call_of_side(side));
+    if matches!(side, Side::Sort(_) | Side::Join) {
+        noting.log().has(rt, side, &[asked, BEGUN, RAN, TOLD]);
+        return;
     }
+    let inside = asked_inside(Call::body(4));
+    let lines = [asked, BEGUN, inside, BEGUN_INSIDE, RAN, TOLD_INSIDE, TOLD];
+    noting.log().has(rt, side, &lines);
 }
 
 #[test]
-fn a_batch_asks_once_and_its_map_asks_its_own_strategy(rt: HostRuntime) {
-    let alloc = rt.alloc();
-    for batched in BATCHES {
-        let noting = Noting::new(&rt, alloc, 4);
-        let on = on(&rt, alloc, &noting);
-        let mapped = map_batch(
-            &on,
-            batched,
-            16,
-            number(&rt, 4),
-            Visitor::Writes(noting.log()),
-        );
-        row(&rt, batched, mapped, Ok(4));
-        let lines = [
-            asked(batch_call(4)),
-            BEGUN,
-            asked_inside(Call::body(4)),
-            BEGUN_INSIDE,
-            RAN,
-            TOLD_INSIDE,
-            TOLD,
-        ];
-        noting.log().has(&rt, batched, &lines);
+fn each_other_call_asks_once_and_tells_once(rt: HostRuntime) {
+    for side in SIDES {
+        side_asks(&rt, rt.alloc(), side);
     }
 }
 
@@ -218,7 +175,7 @@ fn a_batch_whose_map_fails_tells_no_more_than_its_closure_answers(rt: HostRuntim
         let mapped = map_batch(&on, batched, 16, number(&rt, 4), failing);
         row(&rt, batched, mapped, Err(Trouble::Closure(7)));
         let lines = [
-            asked(batch_call(4)),
+            asked(call_of_side(Side::Batch(batched))),
             BEGUN,
             asked_inside(Call::body(4)),
             BEGUN_INSIDE,
@@ -244,42 +201,13 @@ fn a_whole_batch_asks_once_and_its_map_asks_nobody(rt: HostRuntime) {
             Visitor::Writes(noting.log()),
         );
         row(&rt, batched, mapped, Ok(1));
+        let whole = Call {
+            max_parts: 1,
+            ..call_of_side(Side::Batch(batched))
+        };
         noting
             .log()
-            .has(&rt, batched, &[asked(batch_call(1)), BEGUN, RAN, TOLD]);
-    }
-}
-
-#[test]
-fn tiles_ask_once_and_their_fill_asks_its_own_strategy(rt: HostRuntime) {
-    let alloc = rt.alloc();
-    let grids = [Grid {
-        rows: 4,
-        tile_cost: number(&rt, 8),
-    }];
-    assert!(rt; Grid::fits(&grids, 10));
-    // Each row of ten takes eighteen, and the tiles stand for five times as much.
-    let call = Call {
-        kind: Kind::Tiles,
-        len: 10,
-        work: 360,
-        max_parts: 4,
-    };
-    for is_merged in [false, true] {
-        let noting = Noting::new(&rt, alloc, 4);
-        let on = on(&rt, alloc, &noting);
-        let filled = fill(&on, is_merged, 10, &grids, Visitor::Writes(noting.log()));
-        row(&rt, is_merged, filled, Ok(4));
-        let lines = [
-            asked(call),
-            BEGUN,
-            asked_inside(Call::body(4)),
-            BEGUN_INSIDE,
-            RAN,
-            TOLD_INSIDE,
-            TOLD,
-        ];
-        noting.log().has(&rt, is_merged, &lines);
+            .has(&rt, batched, &[asked(whole), BEGUN, RAN, TOLD]);
     }
 }
 

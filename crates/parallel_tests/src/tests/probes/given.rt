@@ -83,7 +83,7 @@ fn make_over_parts<Rt: Threads + Wait + Sync, S: Strategy>(
         Given::Copies => make(on, called, copies, visited),
         Given::Indices => make(on, called, indices, visited),
         Given::Chunks => make(on, called, chunks, visited),
-        Given::Zipped => make(on, called, Zipped::new(chunks, copies), visited),
+        Given::Zipped => make(on, called, Zipped::new(chunks, indices), visited),
         Given::Enumerated => make(on, called, Enumerated::new(copies), visited),
         _ => make(on, called, Backwards { slice }, visited),
     }

@@ -7,7 +7,7 @@ use crate::tests::probes::given::{FEW, Given, SOURCES, make_over, make_over_few}
 use crate::tests::probes::meetings::Meeting;
 use crate::tests::probes::noting::Noting;
 use crate::tests::probes::records::{Squares, fresh};
-use crate::tests::probes::sides::{BATCHES, SORTS, fill, join, map_batch, root, sort};
+use crate::tests::probes::sides::{BATCHES, fill, join, map_batch, root, sort};
 use crate::tests::probes::visits::Visitor;
 use crate::tests::same::{answers, row};
 use crate::tests::strategies::{SITE, number};
@@ -22,24 +22,10 @@ use std::thread::Threads;
 // For how many turns a meeting goes on, so that one too many may come.
 const TURNS: u32 = 1000;
 
-// Strategies of as many threads, which make each call in parallel: one of one's own, a pool without
-// a policy, and an explorer.
-#[derive(Drop)]
-struct Parallel {
-    own: Noting,
-    pool: Rayon<Squares>,
-    explorer: Explorer,
-}
-
-fn strategies<Rt: Threads + Abort>(rt: &Rt, alloc: Global, threads: usize) -> Parallel {
+// A pool of so many threads, without a policy.
+fn unasked<Rt: Threads + Abort>(rt: &Rt, alloc: Global, threads: usize) -> Rayon<Squares> {
     let asked = fresh(rt, alloc, threads);
-    let pool = asked.pool.without_policy().expect(rt, "memory for a pool");
-    let explorer = Explorer::parallel(&pool).expect(rt, "memory for a handle");
-    Parallel {
-        own: Noting::new(rt, alloc, threads),
-        pool,
-        explorer,
-    }
+    asked.pool.without_policy().expect(rt, "memory for a pool")
 }
 
 fn on<'a, Rt, S>(rt: &'a Rt, alloc: Global, strategy: &'a S) -> On<'a, Rt, S, Site> {
@@ -82,30 +68,8 @@ fn items_meet<Rt: Threads + Wait + Abort + Sync, S: Strategy>(
     }
 }
 
-// The same over few sources.
-fn few_items_meet<Rt: Threads + Wait + Abort + Sync, S: Strategy>(
-    rt: &Rt,
-    alloc: Global,
-    strategy: &S,
-    len: usize,
-) {
-    let on = on(rt, alloc, strategy);
-    for called in CALLS {
-        for given in FEW {
-            let meeting = Meeting::of(strategy.thread_number().get(), TURNS);
-            let made = make_over_few(&on, called, given, len, Visitor::Meets(&meeting));
-            met(rt, (called, given, len), made, &meeting);
-        }
-    }
-}
-
-// The lengths: one item for each thread, two, and many.
-fn lengths(threads: usize) -> [usize; 4] {
-    [threads, threads.saturating_mul(2), 100, 1000]
-}
-
 #[test]
-fn as_many_items_of_a_list_call_meet_as_there_are_threads(rt: HostRuntime) {
+fn as_many_items_of_each_source_meet_as_there_are_threads(rt: HostRuntime) {
     let alloc = rt.alloc();
     for (threads, len, turns) in [
         (2, 1000, TURNS),
@@ -118,18 +82,39 @@ fn as_many_items_of_a_list_call_meet_as_there_are_threads(rt: HostRuntime) {
         let own = Noting::new(&rt, alloc, threads);
         items_meet(&rt, alloc, &own, len, turns);
     }
-    for (threads, len) in [(2, 4), (3, 3), (4, 100)] {
-        let all = strategies(&rt, alloc, threads);
-        few_items_meet(&rt, alloc, &all.pool, len);
-        few_items_meet(&rt, alloc, &all.explorer, len);
+}
+
+// The lengths: one item for each thread, two, and many.
+fn lengths(threads: usize) -> [usize; 4] {
+    [threads, threads.saturating_mul(2), 100, 1000]
+}
+
+// The same over few sources, as many items as there are threads, and a hundred.
+fn few_items_meet<Rt: Threads + Wait + Abort + Sync, S: Strategy>(
+    rt: &Rt,
+    alloc: Global,
+    strategy: &S,
+) {
+    let threads = strategy.thread_number().get();
+    let on = on(rt, alloc, strategy);
+    for called in CALLS {
+        for given in FEW {
+            for len in [threads, 100] {
+                let meeting = Meeting::of(threads, TURNS);
+                let made = make_over_few(&on, called, given, len, Visitor::Meets(&meeting));
+                met(rt, (called, given, len), made, &meeting);
+            }
+        }
     }
 }
 
 // So many numbers, none of which is in its place.
 fn numbers(rt: &impl Abort, alloc: Global, count: usize) -> Vec<u32> {
     let mut numbers = Vec::with_capacity(alloc, count).expect(rt, "memory for numbers");
-    for place in 0..count as u32 {
+    let mut place = 0u32;
+    for _ in 0..count {
         numbers.push(place ^ 1).expect(rt, "memory for numbers");
+        place = place.wrapping_add(1);
     }
     numbers
 }
@@ -142,7 +127,7 @@ fn parts_of_sorts_meet<Rt: Threads + Wait + Abort + Sync, S: Strategy>(
 ) {
     let threads = strategy.thread_number().get();
     let on = on(rt, alloc, strategy);
-    for sorted in SORTS {
+    for sorted in [true, false] {
         let mut numbers = numbers(rt, alloc, threads.saturating_mul(8192));
         let meeting = Meeting::of(threads, TURNS);
         let visitor = Visitor::MeetsEarly(&meeting);
@@ -153,38 +138,16 @@ fn parts_of_sorts_meet<Rt: Threads + Wait + Abort + Sync, S: Strategy>(
     }
 }
 
-// The same of both joins, of which each has two closures.
-fn sides_of_joins_meet<Rt: Threads + Wait + Abort + Sync, S: Strategy>(
+// The same of a join, which has two closures.
+fn sides_of_a_join_meet<Rt: Threads + Wait + Abort + Sync, S: Strategy>(
     rt: &Rt,
     alloc: Global,
     strategy: &S,
 ) {
     let on = on(rt, alloc, strategy);
-    for by_on in [false, true] {
-        let meeting = Meeting::of(2, TURNS);
-        answers(rt, by_on, join(&on, by_on, Visitor::Meets(&meeting)), ());
-        row(rt, ("join", by_on), meeting.most(), 2);
-    }
-}
-
-#[test]
-fn as_many_parts_of_a_sort_meet_as_there_are_threads(rt: HostRuntime) {
-    let alloc = rt.alloc();
-    for threads in 2..5usize {
-        let all = strategies(&rt, alloc, threads);
-        parts_of_sorts_meet(&rt, alloc, &all.own);
-        parts_of_sorts_meet(&rt, alloc, &all.pool);
-        parts_of_sorts_meet(&rt, alloc, &all.explorer);
-    }
-}
-
-#[test]
-fn both_sides_of_a_join_meet(rt: HostRuntime) {
-    let alloc = rt.alloc();
-    let all = strategies(&rt, alloc, 2);
-    sides_of_joins_meet(&rt, alloc, &all.own);
-    sides_of_joins_meet(&rt, alloc, &all.pool);
-    sides_of_joins_meet(&rt, alloc, &all.explorer);
+    let meeting = Meeting::of(2, TURNS);
+    row(rt, "join", join(&on, Visitor::Meets(&meeting)), Ok(()));
+    row(rt, "join", meeting.most(), 2);
 }
 
 // The same of what is prepared of a batch.
@@ -282,41 +245,6 @@ fn pairs_meet<Rt: Threads + Wait + Abort + Sync, S: Strategy>(
     }
 }
 
-#[test]
-fn as_many_ranges_of_a_batch_meet_as_there_are_threads(rt: HostRuntime) {
-    let alloc = rt.alloc();
-    for threads in 2..5usize {
-        let all = strategies(&rt, alloc, threads);
-        ranges_meet(&rt, alloc, &all.own);
-        ranges_meet(&rt, alloc, &all.pool);
-        ranges_meet(&rt, alloc, &all.explorer);
-    }
-}
-
-#[test]
-fn as_many_fills_of_tiles_meet_as_there_are_threads(rt: HostRuntime) {
-    let alloc = rt.alloc();
-    for threads in 2..5usize {
-        let all = strategies(&rt, alloc, threads);
-        for is_merged in [false, true] {
-            fills_meet(&rt, alloc, &all.own, is_merged);
-            fills_meet(&rt, alloc, &all.pool, is_merged);
-            fills_meet(&rt, alloc, &all.explorer, is_merged);
-        }
-    }
-}
-
-#[test]
-fn as_many_pairs_of_a_tree_meet_as_there_are_threads(rt: HostRuntime) {
-    let alloc = rt.alloc();
-    for threads in 2..5usize {
-        let all = strategies(&rt, alloc, threads);
-        pairs_meet(&rt, alloc, &all.own);
-        pairs_meet(&rt, alloc, &all.pool);
-        pairs_meet(&rt, alloc, &all.explorer);
-    }
-}
-
 // A job that comes to a meeting.
 #[derive(Drop)]
 struct Attends {
@@ -340,8 +268,9 @@ fn jobs_meet_their_caller<Rt: Threads + Wait + Abort + Copy + Send + 'static, S:
     alloc: Global,
     strategy: &S,
 ) {
-    for jobs in [1, 2, 3] {
-        let meeting = Meeting::of(jobs + 1, 0);
+    for jobs in [1usize, 2, 3] {
+        let all = jobs.wrapping_add(1);
+        let meeting = Meeting::of(all, 0);
         let meeting = Arc::new(alloc, meeting).expect(rt, "memory for a meeting");
         for job in 0..jobs {
             let meeting = Arc::try_clone(&meeting).expect(rt, "a handle");
@@ -349,18 +278,36 @@ fn jobs_meet_their_caller<Rt: Threads + Wait + Abort + Copy + Send + 'static, S:
             row(rt, ("job", job), spawned.is_ok(), true);
         }
         meeting.attend();
-        row(rt, ("jobs", jobs), meeting.most(), jobs + 1);
+        row(rt, ("jobs", jobs), meeting.most(), all);
     }
 }
 
+// Stops the test where the closures of any other call don't meet, or where too many do.
+fn all_meet<Rt: Threads + Wait + Abort + Copy + Send + Sync + 'static, S: Strategy>(
+    rt: &Rt,
+    alloc: Global,
+    strategy: &S,
+) {
+    few_items_meet(rt, alloc, strategy);
+    parts_of_sorts_meet(rt, alloc, strategy);
+    sides_of_a_join_meet(rt, alloc, strategy);
+    ranges_meet(rt, alloc, strategy);
+    fills_meet(rt, alloc, strategy, false);
+    fills_meet(rt, alloc, strategy, true);
+    pairs_meet(rt, alloc, strategy);
+    jobs_meet_their_caller(rt, alloc, strategy);
+}
+
 #[test]
-fn jobs_meet_each_other_and_their_caller(rt: HostRuntime) {
+fn as_many_closures_of_each_call_meet_as_there_are_threads(rt: HostRuntime) {
     let alloc = rt.alloc();
     for threads in 2..5usize {
-        let all = strategies(&rt, alloc, threads);
-        all.own.log().hand_off();
-        jobs_meet_their_caller(&rt, alloc, &all.own);
-        jobs_meet_their_caller(&rt, alloc, &all.pool);
-        jobs_meet_their_caller(&rt, alloc, &all.explorer);
+        let own = Noting::new(&rt, alloc, threads);
+        own.log().hand_off();
+        all_meet(&rt, alloc, &own);
+        let pool = unasked(&rt, alloc, threads);
+        all_meet(&rt, alloc, &pool);
+        let explorer = Explorer::parallel(&pool).expect(&rt, "memory for a handle");
+        all_meet(&rt, alloc, &explorer);
     }
 }

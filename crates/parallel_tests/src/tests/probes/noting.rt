@@ -39,12 +39,20 @@ impl Noting {
     }
 }
 
-/// Measures nothing, and writes down what it is told.
+/// Measures nothing, and writes down what it is told. Without a handle of the log, for which there
+/// always is memory here, it writes nothing.
 #[derive(Debug)]
 pub struct Noted {
-    log: Arc<Log, Global>,
+    log: Option<Arc<Log, Global>>,
     who: Who,
     is_job: bool,
+}
+
+// Writes a line.
+fn write(log: &Option<Arc<Log, Global>>, who: Who, event: Event) {
+    if let Some(log) = log {
+        log.write(who, event);
+    }
 }
 
 impl Noted {
@@ -55,7 +63,7 @@ impl Noted {
             who,
             is_job: _,
         } = self;
-        log.write(who, event);
+        write(&log, who, event);
     }
 }
 
@@ -66,15 +74,17 @@ impl Drop for Noted {
             who,
             is_job: _,
         } = self;
-        log.write(who, Event::Dropped);
+        write(&log, who, Event::Dropped);
     }
 }
 
 impl Meter for Noted {
     // A job begins aside: it waits until its caller has it.
     fn begin(&mut self) {
-        if !self.is_job || self.log.await_hand_off() {
-            self.log.write(self.who, Event::Begun);
+        if let Some(log) = &self.log {
+            if !self.is_job || log.await_hand_off() {
+                log.write(self.who, Event::Begun);
+            }
         }
     }
 
@@ -130,10 +140,10 @@ impl Chooser for Noting {
         site: P,
         call: Call,
     ) -> Result<(Pick, Noted), Fault> {
-        let log = Arc::try_clone(&self.log)?;
-        log.write(self.who, Event::Asked(site.site().column, call));
+        self.log
+            .write(self.who, Event::Asked(site.site().column, call));
         let measure = Noted {
-            log,
+            log: Arc::try_clone(&self.log).ok(),
             who: self.who,
             is_job: call.kind == Kind::Spawn,
         };

@@ -4,23 +4,21 @@
 //! The clock's readings are the squares of whole milliseconds, so that the time between two of them
 //! tells which two they were. Each entry has a time already, which a sample moves by a fifth, so
 //! that a sample recorded twice shows.
-ghost use Rattle.std.specs.Prelude.{◌≡◌, ⊤};
-ghost use Rattle.parallel_shares.specs.Grid.{Fits};
-
 use crate::tests::probes::calls::{CALLS, Called, MULTIPLIER};
 use crate::tests::probes::given::{FEW, Given, make_over_few};
 use crate::tests::probes::logs::Log;
-use crate::tests::probes::sides::{BATCHES, SORTS, fill, join, map_batch, root, sort};
+use crate::tests::probes::sides::{SIDES, Side, call_of_side, make_side, root};
 use crate::tests::probes::visits::Visitor;
 use crate::tests::same::{answers, row};
-use crate::tests::steps::Gives;
+use crate::tests::steps::{Gives, answer_one, answer_two};
 use crate::tests::strategies::{SITE, number};
 use commonware_parallel::policy::{Key, RunExecution, SpawnSample};
-use commonware_parallel::{Clock, Grid, On, Policy, Rayon, Site, Strategy, Trouble};
+use commonware_parallel::{Clock, On, Policy, Rayon, Site, Strategy, Trouble};
 use futures::executor::block_on;
-use std::alloc::Global;
+use std::alloc::{AllocGlobal, Global};
 use std::fmt::Debug;
 use std::process::Abort;
+use std::random::RandomSource;
 use std::sync::atomic::{AtomicU64, Ordering};
 use std::sync::{Arc, Wait};
 use std::thread::Threads;
@@ -48,19 +46,24 @@ pub struct Asked {
     pub pool: Rayon<Squares>,
 }
 
-/// A fresh policy, and a pool of so many threads.
+/// A fresh policy, and a pool of so many threads, planned for as many.
 pub fn fresh<Rt: Threads + Abort>(rt: &Rt, alloc: Global, threads: usize) -> Asked {
+    planned(rt, alloc, threads, threads)
+}
+
+// The same, planned for so many.
+fn planned<Rt: Threads + Abort>(rt: &Rt, alloc: Global, threads: usize, planned: usize) -> Asked {
     let readings = Arc::new(alloc, AtomicU64::new(0)).expect(rt, "memory for a clock");
     let clock = Squares {
         readings: Arc::try_clone(&readings).expect(rt, "a handle"),
     };
     let pool = Rayon::new(rt, alloc, number(rt, threads), clock).expect(rt, "memory for a pool");
     let policy = Policy::new(alloc).expect(rt, "memory for a policy");
-    let pool = pool.with_policy(policy.clone().expect(rt, "a handle"));
+    let own = policy.clone().expect(rt, "a handle");
     Asked {
         policy,
         readings,
-        pool,
+        pool: pool.with_parallelism(number(rt, planned)).with_policy(own),
     }
 }
 
@@ -143,7 +146,7 @@ fn each_list_call_records_one_time_at_its_key(rt: HostRuntime) {
 #[test]
 fn a_list_call_that_fails_records_nothing(rt: HostRuntime) {
     let alloc = rt.alloc();
-    for called in [Called::TryMap, Called::TryFoldOn] {
+    for called in [Called::TryMap, Called::TryFold] {
         let asked = fresh(&rt, alloc, 4);
         let key = key_of(called);
         asked.knows(&rt, key);
@@ -159,64 +162,42 @@ fn a_list_call_that_fails_records_nothing(rt: HostRuntime) {
     }
 }
 
-#[test]
-fn each_sort_and_run_records_one_time_at_its_key(rt: HostRuntime) {
-    let alloc = rt.alloc();
-    for sorted in SORTS {
-        let asked = fresh(&rt, alloc, 4);
-        let key = Key::new(SITE, 4, 4, 4);
-        asked.knows(&rt, key);
-        let mut numbers = [2u32, 1, 4, 3];
-        for turn in 1..3u32 {
-            let outcome = sort(&asked.on(&rt, alloc), sorted, &mut numbers, Visitor::Passes);
-            row(&rt, sorted, outcome, Ok(()));
-            asked.has_one(&rt, alloc, (sorted, turn), key);
-        }
+// Stops the test where a call that isn't over a list leaves another entry, or the second such call,
+// which isn't measured, reads the clock. A join leaves none.
+fn side_records<Rt: Threads + Wait + Abort + Sync>(rt: &Rt, alloc: Global, side: Side) {
+    let asked = fresh(rt, alloc, 4);
+    let call = call_of_side(side);
+    let key = Key::new(SITE, call.len, call.work, 4);
+    if matches!(side, Side::Join) {
+        let made = make_side(&asked.on(rt, alloc), side, Visitor::Passes);
+        row(rt, side, (made, asked.readings()), (Ok(()), 0));
+        row(rt, side, asked.policy.run_entry(rt, key).is_none(), true);
+        return;
     }
-    let asked = fresh(&rt, alloc, 4);
-    let key = Key::new(SITE, 5, 5, 4);
-    asked.knows(&rt, key);
-    let ran = asked.pool.run(&rt, alloc, SITE, 5, || 1u32, || 2u32);
-    row(&rt, "run", ran, Ok(2));
-    asked.has_one(&rt, alloc, "run", key);
+    asked.knows(rt, key);
+    for turn in 1..3u32 {
+        let made = make_side(&asked.on(rt, alloc), side, Visitor::Passes);
+        row(rt, side, made, Ok(()));
+        asked.has_one(rt, alloc, (side, turn), key);
+    }
 }
 
 #[test]
-fn each_batch_and_fill_records_one_time_at_its_key(rt: HostRuntime) {
+fn each_other_call_records_one_time_at_its_key(rt: HostRuntime) {
+    for side in SIDES {
+        side_records(&rt, rt.alloc(), side);
+    }
+}
+
+#[test]
+fn a_run_records_one_time_at_its_key(rt: HostRuntime) {
     let alloc = rt.alloc();
-    for batched in BATCHES {
-        let asked = fresh(&rt, alloc, 4);
-        let key = Key::new(SITE, 16, 48, 4);
-        asked.knows(&rt, key);
-        let mapped = map_batch(
-            &asked.on(&rt, alloc),
-            batched,
-            16,
-            number(&rt, 4),
-            Visitor::Passes,
-        );
-        row(&rt, batched, mapped, Ok(4));
-        asked.has_one(&rt, alloc, batched, key);
-    }
-    let grids = [Grid {
-        rows: 4,
-        tile_cost: number(&rt, 8),
-    }];
-    assert!(rt; Grid::fits(&grids, 10));
-    for is_merged in [false, true] {
-        let asked = fresh(&rt, alloc, 4);
-        let key = Key::new(SITE, 10, 360, 4);
-        asked.knows(&rt, key);
-        let filled = fill(
-            &asked.on(&rt, alloc),
-            is_merged,
-            10,
-            &grids,
-            Visitor::Passes,
-        );
-        row(&rt, is_merged, filled, Ok(4));
-        asked.has_one(&rt, alloc, is_merged, key);
-    }
+    let asked = fresh(&rt, alloc, 4);
+    let key = Key::new(SITE, 5, 5, 4);
+    asked.knows(&rt, key);
+    let ran = asked.pool.run(&rt, alloc, SITE, 5, answer_one, answer_two);
+    row(&rt, "run", ran, Ok(2));
+    asked.has_one(&rt, alloc, "run", key);
 }
 
 #[test]
@@ -235,25 +216,6 @@ fn a_tree_records_one_time_of_each_level(rt: HostRuntime) {
         let entry = entry.expect(&rt, "an entry");
         let parallel = entry.estimate(RunExecution::Parallel);
         row(&rt, pairs, parallel, Some(time));
-    }
-}
-
-#[test]
-fn a_join_records_nothing(rt: HostRuntime) {
-    let alloc = rt.alloc();
-    for by_on in [false, true] {
-        let asked = fresh(&rt, alloc, 4);
-        row(
-            &rt,
-            by_on,
-            join(&asked.on(&rt, alloc), by_on, Visitor::Passes),
-            Ok(()),
-        );
-        row(&rt, by_on, asked.readings(), 0);
-        let written = format!(in alloc; "{:?}", asked.policy).expect(&rt, "memory");
-        let empty =
-            "Policy { table: Mutex { data: Table { runs: {}, spawns: {} }, poisoned: false, .. } }";
-        row(&rt, by_on, written.as_str(), empty);
     }
 }
 
@@ -278,18 +240,23 @@ impl Asked {
     }
 }
 
+// What a job answers, once it has ended.
+fn answer_of_a_job<Rt, S: Strategy>(rt: &Rt, alloc: Global, strategy: &S) -> u64
+where
+    Rt: Threads + Wait + RandomSource + AllocGlobal + Abort + Copy + Send + 'static,
+{
+    let spawned = strategy.spawn(rt, alloc, SITE, 1, Gives(7));
+    block_on(rt, spawned.expect(rt, "a job")).expect(rt, "a queue")
+}
+
 #[test]
 fn a_job_records_its_own_time_and_its_hand_off_once(rt: HostRuntime) {
     let alloc = rt.alloc();
-    let asked = fresh(&rt, alloc, 4);
+    let asked = planned(&rt, alloc, 4, 7);
     // A job is keyed by the pool's number of threads, and not by the planning number.
     let key = Key::new(SITE, 1, 1, 4);
     asked.knows_job(&rt, key);
-    let pool = asked.pool.clone().expect(&rt, "handles");
-    let planned = pool.with_parallelism(number(&rt, 7));
-    let spawned = planned.spawn(&rt, alloc, SITE, 1, Gives(7));
-    let spawned = spawned.expect(&rt, "a job");
-    row(&rt, "job", block_on(&rt, spawned).expect(&rt, "a queue"), 7);
+    row(&rt, "job", answer_of_a_job(&rt, alloc, &asked.pool), 7);
     // Chosen at 0, begun at 1 and ended at 4 milliseconds: the job took 3, and its hand-off 1.
     let times = asked.job_times(&rt, key);
     row(
@@ -316,9 +283,7 @@ fn a_job_that_runs_inline_records_its_own_time_alone(rt: HostRuntime) {
         let chosen = asked.policy.choose_spawn(&rt, key, MILLISECOND);
         row(&rt, choice, chosen.is_ok(), true);
     }
-    let spawned = asked.pool.spawn(&rt, alloc, SITE, 1, Gives(7));
-    let spawned = spawned.expect(&rt, "a job");
-    row(&rt, "job", spawned.is_ready(), true);
+    row(&rt, "job", answer_of_a_job(&rt, alloc, &asked.pool), 7);
     // Begun at 1 and ended at 4 milliseconds.
     let times = asked.job_times(&rt, key);
     let known = [

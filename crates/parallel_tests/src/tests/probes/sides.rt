@@ -1,38 +1,24 @@
-//! The other calls of a strategy and of one place: joins, sorts, batches, tiles and trees, with
-//! closures that visit a probe.
+//! The other calls: joins, sorts, batches, tiles and trees, with closures that visit a probe.
 ghost use Rattle.parallel_shares.specs.Grid.{Fits};
 
+use crate::tests::probes::calls::{done, tried};
 use crate::tests::probes::visits::Visitor;
 use crate::tests::steps::{cells_counted, no_count};
-use commonware_parallel::{Batches, Fault, Grid, On, Site, Strategy, Tiles, Trouble, merkle};
+use commonware_parallel::{
+    Batches, Call, Fault, Grid, Kind, On, Site, Strategy, Tiles, Trouble, merkle,
+};
 use std::alloc::Global;
 use std::cmp::Ordering;
 use std::num::NonZeroUsize;
 use std::ops::Range;
+use std::process::Abort;
 use std::sync::Wait;
 use std::thread::Threads;
 
-/// A sort: of the strategy, or of `On` where its name ends so.
-#[derive(Clone, Copy, Debug, PartialEq, Eq)]
-pub enum Sorted {
-    Stable,
-    StableOn,
-    Unstable,
-    UnstableOn,
-}
-
-/// All of them.
-pub const SORTS: [Sorted; 4] = [
-    Sorted::Stable,
-    Sorted::StableOn,
-    Sorted::Unstable,
-    Sorted::UnstableOn,
-];
-
-/// Such a sort of the numbers, of which each comparison visits.
+/// A sort of the numbers, of which each comparison visits.
 pub fn sort<Rt: Threads + Wait + Sync, S: Strategy>(
     on: &On<'_, Rt, S, Site>,
-    sorted: Sorted,
+    is_stable: bool,
     numbers: &mut [u32],
     visited: Visitor<'_>,
 ) -> Result<(), Fault> {
@@ -40,34 +26,19 @@ pub fn sort<Rt: Threads + Wait + Sync, S: Strategy>(
         let _ = visited.visit();
         left.cmp(right)
     };
-    let (rt, alloc, site) = (on.rt, on.alloc, on.site);
-    match sorted {
-        Sorted::Stable => on.strategy.sort_by(rt, alloc, site, numbers, compare),
-        Sorted::StableOn => on.sort_by(numbers, compare),
-        Sorted::Unstable => on
-            .strategy
-            .sort_unstable_by(rt, alloc, site, numbers, compare),
-        Sorted::UnstableOn => on.sort_unstable_by(numbers, compare),
+    if is_stable {
+        on.sort_by(numbers, compare)
+    } else {
+        on.sort_unstable_by(numbers, compare)
     }
 }
 
-/// A join of two closures that visit, of the strategy or of `On`.
+/// A join of two closures that visit.
 pub fn join<Rt: Threads + Wait + Sync, S: Strategy>(
     on: &On<'_, Rt, S, Site>,
-    by_on: bool,
     visited: Visitor<'_>,
-) -> Result<(), Fault> {
-    let first = || visited.visit().is_ok();
-    let second = || visited.visit().is_ok();
-    let joined = if by_on {
-        on.join(first, second)
-    } else {
-        on.strategy.join(on.rt, on.alloc, on.site, first, second)
-    };
-    match joined {
-        Ok(_) => Ok(()),
-        Err(fault) => Err(fault),
-    }
+) -> Result<(), Trouble<u32>> {
+    done(on.join(|| visited.visit().is_ok(), || visited.visit().is_ok()))
 }
 
 /// A map of what is prepared of a batch: of one that may fail or can't, by a closure that may or
@@ -211,4 +182,73 @@ pub fn root<Rt: Threads + Wait + Sync, S: Strategy>(
         left.wrapping_add(1)
     };
     merkle::root(on.rt, on.alloc, on.strategy, on.site, nodes, combine)
+}
+
+/// A call that isn't over a list: a sort of four numbers, a join, the map of a batch of sixteen
+/// indices in four ranges, or the fill of tiles on four rows of ten.
+#[derive(Clone, Copy, Debug, PartialEq, Eq)]
+pub enum Side {
+    Sort(bool),
+    Join,
+    Batch(Batched),
+    Fill(bool),
+}
+
+/// All of them.
+pub const SIDES: [Side; 8] = [
+    Side::Sort(true),
+    Side::Sort(false),
+    Side::Join,
+    Side::Batch(Batched::Map),
+    Side::Batch(Batched::TryMap),
+    Side::Batch(Batched::TryBatch),
+    Side::Fill(false),
+    Side::Fill(true),
+];
+
+/// What such a call is asked as, planned for four. Each index of the batch stands for three. Each
+/// row of the tiles takes eighteen, and they stand for five times as much.
+pub fn call_of_side(side: Side) -> Call {
+    let (kind, len, work) = match side {
+        Side::Sort(_) => return Call::body(4),
+        Side::Join => return Call::join(),
+        Side::Batch(_) => (Kind::Batches, 16, 48),
+        Side::Fill(_) => (Kind::Tiles, 10, 360),
+    };
+    Call {
+        kind,
+        len,
+        work,
+        max_parts: 4,
+    }
+}
+
+// The fill.
+fn fill_four<Rt: Threads + Wait + Abort + Sync, S: Strategy>(
+    on: &On<'_, Rt, S, Site>,
+    is_merged: bool,
+    visited: Visitor<'_>,
+) -> Result<usize, Fault> {
+    let grids = [Grid {
+        rows: 4,
+        tile_cost: NonZeroUsize::MIN.saturating_add(7),
+    }];
+    assert!(on.rt; Grid::fits(&grids, 10));
+    fill(on, is_merged, 10, &grids, visited)
+}
+
+/// Such a call, of which each closure visits.
+pub fn make_side<Rt: Threads + Wait + Abort + Sync, S: Strategy>(
+    on: &On<'_, Rt, S, Site>,
+    side: Side,
+    visited: Visitor<'_>,
+) -> Result<(), Trouble<u32>> {
+    let four = NonZeroUsize::MIN.saturating_add(3);
+    let mut numbers = [2u32, 1, 4, 3];
+    match side {
+        Side::Sort(is_stable) => done(sort(on, is_stable, &mut numbers, visited)),
+        Side::Join => join(on, visited),
+        Side::Batch(batched) => tried(map_batch(on, batched, 16, four, visited)),
+        Side::Fill(is_merged) => done(fill_four(on, is_merged, visited)),
+    }
 }

@@ -1,59 +1,48 @@
 //! How often each list call cuts a list: once less often than it has segments, of which there are
 //! at most twice as many as threads.
-ghost use Rattle.std.specs.Prelude.{◌≡◌, length};
-ghost use Rattle.std.specs.List.{Contains};
-
 use crate::tests::probes::calls::{CALLS, make};
+use crate::tests::probes::noting::Noting;
 use crate::tests::probes::visits::Visitor;
 use crate::tests::same::row;
-use crate::tests::strategies::{SITE, number, pool};
-use commonware_parallel::{Fault, On, Producer, Sequential, Strategy};
+use crate::tests::strategies::SITE;
+use commonware_parallel::{Copies, Fault, On, Producer, Strategy};
 use std::alloc::Global;
-use std::iter::Copied;
 use std::process::Abort;
-use std::slice::Iter;
 use std::sync::Wait;
 use std::sync::atomic::{AtomicUsize, Ordering};
 use std::thread::Threads;
-use uses::long_lists::LongLists;
 
-// The items of a slice, each copied as it comes, with the number of times that it was cut.
-#[derive(Clone, Copy, Debug)]
-struct Cut<'a> {
-    slice: &'a [u32],
+// A list, with the number of times that it was cut.
+#[derive(Drop)]
+struct Cut<'a, P> {
+    list: P,
     times: &'a AtomicUsize,
 }
 
-impl<'a> Producer for Cut<'a> {
-    type Item = u32;
+impl<'a, P: Producer> Producer for Cut<'a, P> {
+    type Item = P::Item;
 
-    type Iter = Copied<Iter<'a, u32>>;
+    type Iter = P::Iter;
 
-    ghost gives = { λ s xs. xs ≡ s.slice.now };
+    ghost gives = { λ s xs. P.gives s.list xs };
 
-    ghost may = { λ s x. Contains s.slice.now x };
+    ghost may = { λ s x. P.may s.list x };
 
-    ghost count = { λ s. length s.slice.now };
+    ghost count = { λ s. P.count s.list };
 
     fn len(&self) -> usize {
-        self.slice.len()
+        self.list.len()
     }
 
-    fn split_at(self, _alloc: Global, index: usize) -> Result<(Self, Self), Fault> {
-        self.times.fetch_add(1, Ordering::SeqCst);
-        let front = Cut {
-            slice: &self.slice[..index],
-            times: self.times,
-        };
-        let back = Cut {
-            slice: &self.slice[index..],
-            times: self.times,
-        };
-        Ok((front, back))
+    fn split_at(self, alloc: Global, index: usize) -> Result<(Self, Self), Fault> {
+        let times = self.times;
+        times.fetch_add(1, Ordering::SeqCst);
+        let (front, back) = self.list.split_at(alloc, index)?;
+        Ok((Cut { list: front, times }, Cut { list: back, times }))
     }
 
-    fn into_items(self) -> Copied<Iter<'a, u32>> {
-        self.slice.iter().copied()
+    fn into_items(self) -> P::Iter {
+        self.list.into_items()
     }
 }
 
@@ -75,7 +64,7 @@ fn cuts<Rt: Threads + Wait + Abort + Sync, S: Strategy>(
     for called in CALLS {
         let times = AtomicUsize::new(0);
         let list = Cut {
-            slice: &NUMBERS,
+            list: Copies { slice: &NUMBERS },
             times: &times,
         };
         let made = make(&on, called, list, Visitor::Passes);
@@ -87,9 +76,7 @@ fn cuts<Rt: Threads + Wait + Abort + Sync, S: Strategy>(
 #[test]
 fn each_list_call_cuts_a_list_less_often_than_there_are_segments(rt: HostRuntime) {
     let alloc = rt.alloc();
-    cuts(&rt, alloc, &Sequential, 0);
     for (threads, times) in [(1, 1), (2, 3), (3, 3), (4, 7), (7, 7), (8, 15)] {
-        cuts(&rt, alloc, &LongLists::new(number(&rt, threads), 0), times);
-        cuts(&rt, alloc, &pool(&rt, alloc, threads, 4), times);
+        cuts(&rt, alloc, &Noting::new(&rt, alloc, threads), times);
     }
 }
