@@ -5,7 +5,7 @@ use crate::tests::probes::noting::Noting;
 use crate::tests::probes::visits::Visitor;
 use crate::tests::same::row;
 use crate::tests::strategies::SITE;
-use commonware_parallel::{Copies, Fault, On, Producer, Strategy};
+use commonware_parallel::{Fault, Indices, On, Producer, Strategy};
 use std::alloc::Global;
 use std::process::Abort;
 use std::sync::Wait;
@@ -46,8 +46,6 @@ impl<'a, P: Producer> Producer for Cut<'a, P> {
     }
 }
 
-static NUMBERS: [u32; 1000] = [7; 1000];
-
 // Stops the test where a list call cuts a list of a thousand items more or less often than that.
 fn cuts<Rt: Threads + Wait + Abort + Sync, S: Strategy>(
     rt: &Rt,
@@ -64,7 +62,10 @@ fn cuts<Rt: Threads + Wait + Abort + Sync, S: Strategy>(
     for called in CALLS {
         let times = AtomicUsize::new(0);
         let list = Cut {
-            list: Copies { slice: &NUMBERS },
+            list: Indices {
+                start: 3,
+                end: 1003,
+            },
             times: &times,
         };
         let made = make(&on, called, list, Visitor::Passes);
