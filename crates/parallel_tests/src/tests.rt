@@ -1,5 +1,4 @@
 //! The tests that cross crates, at concrete types. Expected values stand in the tests.
-mod asked;
 mod batches;
 mod blocks;
 mod clocks;
@@ -20,6 +19,7 @@ mod one_place;
 mod plans;
 mod policies;
 mod printed;
+mod probes;
 mod refusals;
 mod roots;
 mod runs;

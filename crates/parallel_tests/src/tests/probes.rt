@@ -1,0 +1,13 @@
+//! Probes: what each call does, whatever its source and its strategy. Each is a small function over
+//! both, and a table runs it for all of them.
+mod asks;
+mod calls;
+mod given;
+mod logs;
+mod meetings;
+mod meets;
+mod noting;
+mod records;
+mod sides;
+mod splits;
+mod visits;

@@ -1,0 +1,281 @@
+//! What a strategy is asked and told of each call: asked once, at the call's own place, by the
+//! call's own numbers, and told once that the run has answered, or never where it failed.
+ghost use Rattle.std.specs.Prelude.{◌≡◌, ⊤};
+
+use crate::tests::probes::calls::{CALLS, Called, MULTIPLIER, make};
+use crate::tests::probes::given::{SOURCES, make_over};
+use crate::tests::probes::logs::{Event, Line, Log, Who};
+use crate::tests::probes::noting::Noting;
+use crate::tests::probes::sides::{
+    BATCHES, Batched, SIDES, Side, call_of_side, make_side, map_batch, root,
+};
+use crate::tests::probes::visits::Visitor;
+use crate::tests::same::row;
+use crate::tests::strategies::{SITE, number};
+use commonware_parallel::{Call, Indices, Job, On, Site, Strategy, Trouble};
+use futures::executor::block_on;
+use std::alloc::Global;
+use std::process::Abort;
+use std::sync::{Arc, Wait};
+use std::thread::Threads;
+
+// The place of each call.
+const PLACE: Site = Site { column: 7, ..SITE };
+
+const BEGUN: Line = (Who::Outer, Event::Begun);
+
+const TOLD: Line = (Who::Outer, Event::Told);
+
+const DROPPED: Line = (Who::Outer, Event::Dropped);
+
+const RAN: Line = (Who::Body, Event::Ran);
+
+// The question about a call.
+fn asked(call: Call) -> Line {
+    (Who::Outer, Event::Asked(7, call))
+}
+
+fn on<'a, Rt>(rt: &'a Rt, alloc: Global, strategy: &'a Noting) -> On<'a, Rt, Noting, Site> {
+    On {
+        rt,
+        alloc,
+        strategy,
+        site: PLACE,
+    }
+}
+
+// What a list call over so many items asks about.
+fn call_of(called: Called, len: usize) -> Call {
+    match called {
+        Called::MultipliedMap | Called::MultipliedMapInit => {
+            Call::body_with_multiplier(len, MULTIPLIER)
+        }
+        _ => Call::body(len),
+    }
+}
+
+fn may_fail(called: Called) -> bool {
+    matches!(called, Called::TryMap | Called::TryFold)
+}
+
+#[test]
+fn each_list_call_asks_once_by_its_length_and_tells_once(rt: HostRuntime) {
+    let alloc = rt.alloc();
+    for called in CALLS {
+        for given in SOURCES {
+            let noting = Noting::new(&rt, alloc, 4);
+            let on = on(&rt, alloc, &noting);
+            let made = make_over(&on, called, given, 16, Visitor::Writes(noting.log()));
+            row(&rt, (called, given), made, Ok(()));
+            let lines = [asked(call_of(called, 16)), BEGUN, RAN, TOLD];
+            noting.log().has(&rt, (called, given), &lines);
+        }
+    }
+}
+
+#[test]
+fn a_list_call_that_fails_tells_nothing(rt: HostRuntime) {
+    let alloc = rt.alloc();
+    for called in CALLS {
+        let noting = Noting::new(&rt, alloc, 4);
+        let on = on(&rt, alloc, &noting);
+        let indices = Indices { start: 0, end: 16 };
+        let made = make(&on, called, indices, Visitor::Fails(noting.log()));
+        let (outcome, end) = if may_fail(called) {
+            (Err(Trouble::Closure(7)), DROPPED)
+        } else {
+            (Ok(()), TOLD)
+        };
+        row(&rt, called, made, outcome);
+        let lines = [asked(call_of(called, 16)), BEGUN, RAN, end];
+        noting.log().has(&rt, called, &lines);
+    }
+}
+
+// The body of a run: what it is that ran, or the error of one that fails.
+fn runs(log: &Log, fails: bool) -> Result<u32, u32> {
+    log.write(Who::Body, Event::Ran);
+    if fails { Err(7) } else { Ok(7) }
+}
+
+// Stops the test where a run that may fail, or can't, isn't asked about once.
+fn run_asks<Rt: Threads + Wait + Abort + Sync>(rt: &Rt, alloc: Global, fails: bool) {
+    let noting = Noting::new(rt, alloc, 4);
+    let log = noting.log();
+    let serial = || -> Result<u32, u32> { Err(8) };
+    let parallel = || runs(log, fails);
+    let tried = noting.try_run(rt, alloc, PLACE, 16, serial, parallel);
+    let (outcome, end) = if fails {
+        (Err(Trouble::Closure(7)), DROPPED)
+    } else {
+        (Ok(7), TOLD)
+    };
+    row(rt, fails, tried, outcome);
+    noting
+        .log()
+        .has(rt, fails, &[asked(Call::body(16)), BEGUN, RAN, end]);
+}
+
+#[test]
+fn a_run_asks_once_and_tells_once(rt: HostRuntime) {
+    let alloc = rt.alloc();
+    run_asks(&rt, alloc, false);
+    run_asks(&rt, alloc, true);
+    let noting = Noting::new(&rt, alloc, 4);
+    let log = noting.log();
+    let ran = noting.run(&rt, alloc, PLACE, 16, || Err(8), || runs(log, true));
+    row(&rt, "run", ran, Ok(Err(7)));
+    noting
+        .log()
+        .has(&rt, "run", &[asked(Call::body(16)), BEGUN, RAN, TOLD]);
+}
+
+// A question to the strategy of a batch's parts.
+fn asked_inside(call: Call) -> Line {
+    (Who::Inner, Event::Asked(7, call))
+}
+
+const BEGUN_INSIDE: Line = (Who::Inner, Event::Begun);
+
+const TOLD_INSIDE: Line = (Who::Inner, Event::Told);
+
+const DROPPED_INSIDE: Line = (Who::Inner, Event::Dropped);
+
+// Stops the test where a call that isn't over a list asks otherwise: about a batch and about tiles
+// once, and their own strategy about the map of their four parts.
+fn side_asks<Rt: Threads + Wait + Abort + Sync>(rt: &Rt, alloc: Global, side: Side) {
+    let noting = Noting::new(rt, alloc, 4);
+    let on = on(rt, alloc, &noting);
+    let made = make_side(&on, side, Visitor::Writes(noting.log()));
+    row(rt, side, made, Ok(()));
+    let asked = asked(call_of_side(side));
+    if matches!(side, Side::Sort(_) | Side::Join) {
+        noting.log().has(rt, side, &[asked, BEGUN, RAN, TOLD]);
+        return;
+    }
+    let inside = asked_inside(Call::body(4));
+    let lines = [asked, BEGUN, inside, BEGUN_INSIDE, RAN, TOLD_INSIDE, TOLD];
+    noting.log().has(rt, side, &lines);
+}
+
+#[test]
+fn each_other_call_asks_once_and_tells_once(rt: HostRuntime) {
+    for side in SIDES {
+        side_asks(&rt, rt.alloc(), side);
+    }
+}
+
+#[test]
+fn a_batch_whose_map_fails_tells_no_more_than_its_closure_answers(rt: HostRuntime) {
+    let alloc = rt.alloc();
+    for (batched, end) in [(Batched::TryMap, TOLD), (Batched::TryBatch, DROPPED)] {
+        let noting = Noting::new(&rt, alloc, 4);
+        let on = on(&rt, alloc, &noting);
+        let failing = Visitor::Fails(noting.log());
+        let mapped = map_batch(&on, batched, 16, number(&rt, 4), failing);
+        row(&rt, batched, mapped, Err(Trouble::Closure(7)));
+        let lines = [
+            asked(call_of_side(Side::Batch(batched))),
+            BEGUN,
+            asked_inside(Call::body(4)),
+            BEGUN_INSIDE,
+            RAN,
+            DROPPED_INSIDE,
+            end,
+        ];
+        noting.log().has(&rt, batched, &lines);
+    }
+}
+
+#[test]
+fn a_whole_batch_asks_once_and_its_map_asks_nobody(rt: HostRuntime) {
+    let alloc = rt.alloc();
+    for batched in BATCHES {
+        let noting = Noting::new(&rt, alloc, 4);
+        let on = on(&rt, alloc, &noting);
+        let mapped = map_batch(
+            &on,
+            batched,
+            16,
+            number(&rt, 9),
+            Visitor::Writes(noting.log()),
+        );
+        row(&rt, batched, mapped, Ok(1));
+        let whole = Call {
+            max_parts: 1,
+            ..call_of_side(Side::Batch(batched))
+        };
+        noting
+            .log()
+            .has(&rt, batched, &[asked(whole), BEGUN, RAN, TOLD]);
+    }
+}
+
+#[test]
+fn a_tree_asks_about_the_pairs_of_each_level(rt: HostRuntime) {
+    let alloc = rt.alloc();
+    let noting = Noting::new(&rt, alloc, 4);
+    let on = on(&rt, alloc, &noting);
+    row(
+        &rt,
+        "tree",
+        root(&on, 13, Visitor::Writes(noting.log())),
+        Ok(Some(4)),
+    );
+    let lines = [
+        asked(Call::body(6)),
+        BEGUN,
+        RAN,
+        TOLD,
+        asked(Call::body(3)),
+        BEGUN,
+        RAN,
+        TOLD,
+        asked(Call::body(2)),
+        BEGUN,
+        RAN,
+        TOLD,
+        asked(Call::body(1)),
+        BEGUN,
+        RAN,
+        TOLD,
+    ];
+    noting.log().has(&rt, "tree", &lines);
+}
+
+// A job that writes that it ran.
+#[derive(Drop)]
+struct NotedJob {
+    log: Arc<Log, Global>,
+}
+
+impl<S: Drop> Job<S, u32> for NotedJob {
+    ghost may_run = { λ _ _. ⊤ };
+
+    ghost may_answer = { λ _ _ answer. answer ≡ 7 };
+
+    fn run_on(self, _strategy: S) -> u32 {
+        self.log.write(Who::Body, Event::Ran);
+        7
+    }
+}
+
+#[test]
+fn a_job_is_asked_about_once_and_its_measure_begins_and_ends_aside(rt: HostRuntime) {
+    let alloc = rt.alloc();
+    let noting = Noting::new(&rt, alloc, 4);
+    let job = NotedJob {
+        log: noting.handle(&rt),
+    };
+    let spawned = noting.spawn(&rt, alloc, PLACE, 5, job);
+    noting.log().hand_off();
+    let spawned = spawned.expect(&rt, "a job");
+    row(&rt, "job", block_on(&rt, spawned).expect(&rt, "a queue"), 7);
+    let lines = [
+        asked(Call::spawn(5)),
+        BEGUN,
+        RAN,
+        (Who::Outer, Event::Ended),
+    ];
+    noting.log().has(&rt, "job", &lines);
+}

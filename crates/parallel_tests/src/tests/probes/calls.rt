@@ -1,0 +1,174 @@
+//! The list calls, each over any source, with closures that visit a probe.
+use crate::tests::probes::visits::Visitor;
+use crate::tests::steps::{both, nothing, yes};
+use commonware_parallel::{Fault, On, Site, Source, Strategy, Trouble};
+use std::sync::Wait;
+use std::thread::Threads;
+
+/// A list call of one place, which is the strategy's of that name; and those of a strategy alone.
+#[derive(Clone, Copy, Debug, PartialEq, Eq)]
+pub enum Called {
+    Map,
+    MultipliedMap,
+    TryMap,
+    MapInit,
+    MultipliedMapInit,
+    Fold,
+    FoldInit,
+    TryFold,
+    Partition,
+}
+
+/// All of them.
+pub const CALLS: [Called; 9] = [
+    Called::Map,
+    Called::MultipliedMap,
+    Called::TryMap,
+    Called::MapInit,
+    Called::MultipliedMapInit,
+    Called::Fold,
+    Called::FoldInit,
+    Called::TryFold,
+    Called::Partition,
+];
+
+/// What stands for the work of an item in the calls that are told so.
+pub const MULTIPLIER: usize = 9;
+
+/// The outcome of a call without its answer.
+pub fn done<T: Drop>(answer: Result<T, Fault>) -> Result<(), Trouble<u32>> {
+    match answer {
+        Ok(_) => Ok(()),
+        Err(fault) => Err(Trouble::Fault(fault)),
+    }
+}
+
+/// The same of a call that may fail.
+pub fn tried<T: Drop>(answer: Result<T, Trouble<u32>>) -> Result<(), Trouble<u32>> {
+    match answer {
+        Ok(_) => Ok(()),
+        Err(trouble) => Err(trouble),
+    }
+}
+
+fn map<Rt: Threads + Wait + Sync, S: Strategy, M, I: Source<M>>(
+    on: &On<'_, Rt, S, Site>,
+    called: Called,
+    source: I,
+    visited: Visitor<'_>,
+) -> Result<(), Trouble<u32>>
+    requires { I.can source }
+{
+    let map_op = |_: I::Item| visited.visit().is_ok();
+    if called == Called::Map {
+        return done(on.map(source, map_op));
+    }
+    let (rt, alloc, site) = (on.rt, on.alloc, on.site);
+    done(
+        on.strategy
+            .map_collect_vec_with_multiplier(rt, alloc, site, source, MULTIPLIER, map_op),
+    )
+}
+
+fn try_map<Rt: Threads + Wait + Sync, S: Strategy, M, I: Source<M>>(
+    on: &On<'_, Rt, S, Site>,
+    source: I,
+    visited: Visitor<'_>,
+) -> Result<(), Trouble<u32>>
+    requires { I.can source }
+{
+    tried(on.try_map(source, |_: I::Item| visited.visit()))
+}
+
+fn map_init<Rt: Threads + Wait + Sync, S: Strategy, M, I: Source<M>>(
+    on: &On<'_, Rt, S, Site>,
+    called: Called,
+    source: I,
+    visited: Visitor<'_>,
+) -> Result<(), Trouble<u32>>
+    requires { I.can source }
+{
+    let map_op = |_: &mut (), _: I::Item| visited.visit().is_ok();
+    if called == Called::MapInit {
+        return done(on.map_init(source, nothing, map_op));
+    }
+    let (rt, alloc, site) = (on.rt, on.alloc, on.site);
+    done(
+        on.strategy
+            .map_init_collect_vec_with_multiplier(
+                rt, alloc, site, source, MULTIPLIER, nothing, map_op,
+            ),
+    )
+}
+
+fn fold<Rt: Threads + Wait + Sync, S: Strategy, M, I: Source<M>>(
+    on: &On<'_, Rt, S, Site>,
+    source: I,
+    visited: Visitor<'_>,
+) -> Result<(), Trouble<u32>>
+    requires { I.can source }
+{
+    let step = |so_far: bool, _: I::Item| so_far & visited.visit().is_ok();
+    done(on.fold(source, yes, step, both))
+}
+
+fn fold_init<Rt: Threads + Wait + Sync, S: Strategy, M, I: Source<M>>(
+    on: &On<'_, Rt, S, Site>,
+    source: I,
+    visited: Visitor<'_>,
+) -> Result<(), Trouble<u32>>
+    requires { I.can source }
+{
+    let step = |so_far: bool, _: &mut (), _: I::Item| so_far & visited.visit().is_ok();
+    done(on.fold_init(source, nothing, yes, step, both))
+}
+
+// Keeps what came so far where a visit doesn't fail.
+fn after(so_far: bool, visited: Visitor<'_>) -> Result<bool, u32> {
+    match visited.visit() {
+        Ok(()) => Ok(so_far),
+        Err(error) => Err(error),
+    }
+}
+
+fn try_fold<Rt: Threads + Wait + Sync, S: Strategy, M, I: Source<M>>(
+    on: &On<'_, Rt, S, Site>,
+    source: I,
+    visited: Visitor<'_>,
+) -> Result<(), Trouble<u32>>
+    requires { I.can source }
+{
+    let step = |so_far: bool, _: I::Item| after(so_far, visited);
+    tried(on.try_fold(source, yes, step, both))
+}
+
+fn partition<Rt: Threads + Wait + Sync, S: Strategy, M, I: Source<M>>(
+    on: &On<'_, Rt, S, Site>,
+    source: I,
+    visited: Visitor<'_>,
+) -> Result<(), Trouble<u32>>
+    requires { I.can source }
+{
+    let map_op = |_: I::Item| ((), visited.visit().ok());
+    done(on.map_partition(source, map_op))
+}
+
+/// Makes such a call, of which each closure visits once for each item.
+pub fn make<Rt: Threads + Wait + Sync, S: Strategy, M, I: Source<M>>(
+    on: &On<'_, Rt, S, Site>,
+    called: Called,
+    source: I,
+    visited: Visitor<'_>,
+) -> Result<(), Trouble<u32>>
+    requires { I.can source }
+{
+    match called {
+        Called::Map | Called::MultipliedMap => map(on, called, source, visited),
+        Called::TryMap => try_map(on, source, visited),
+        Called::MapInit | Called::MultipliedMapInit => map_init(on, called, source, visited),
+        Called::Fold => fold(on, source, visited),
+        Called::FoldInit => fold_init(on, source, visited),
+        Called::TryFold => try_fold(on, source, visited),
+        Called::Partition => partition(on, source, visited),
+    }
+}

@@ -1,0 +1,153 @@
+//! The sources that a list call may be given, each of any length.
+use crate::tests::probes::calls::{Called, make};
+use crate::tests::probes::visits::Visitor;
+use commonware_parallel::{
+    Chunks, Copies, Counted, Enumerated, Fault, Indices, On, Pairs, Site, Strategy, Trouble, Zipped,
+};
+use std::alloc::Global;
+use std::num::NonZeroUsize;
+use std::sync::Wait;
+use std::thread::Threads;
+use uses::own_lists::{Backwards, Wrapped};
+
+/// A source.
+#[derive(Clone, Copy, Debug, PartialEq, Eq)]
+pub enum Given {
+    Slice,
+    Copies,
+    Chunks,
+    Zipped,
+    Enumerated,
+    Pairs,
+    Vector,
+    Indices,
+    Counted,
+    Iterator,
+    OwnProducer,
+    OwnSource,
+}
+
+/// All of them.
+pub const SOURCES: [Given; 12] = [
+    Given::Slice,
+    Given::Copies,
+    Given::Chunks,
+    Given::Zipped,
+    Given::Enumerated,
+    Given::Pairs,
+    Given::Vector,
+    Given::Indices,
+    Given::Counted,
+    Given::Iterator,
+    Given::OwnProducer,
+    Given::OwnSource,
+];
+
+/// One of a list that is cut as it is, one of owned items, and one that has to be gathered.
+pub const FEW: [Given; 3] = [Given::Slice, Given::Vector, Given::Iterator];
+
+// Twice as many as the longest list has.
+static NUMBERS: [u32; 2000] = [7; 2000];
+
+// The first ones of them.
+fn first(len: usize) -> &'static [u32] {
+    &NUMBERS[..len.min(2000)]
+}
+
+fn vector(alloc: Global, len: usize) -> Result<Vec<u32>, Fault> {
+    let mut items = Vec::new(alloc);
+    items.extend_from_slice(first(len))?;
+    Ok(items)
+}
+
+// The call over lists that are cut as they are.
+fn make_over_parts<Rt: Threads + Wait + Sync, S: Strategy>(
+    on: &On<'_, Rt, S, Site>,
+    called: Called,
+    given: Given,
+    len: usize,
+    visited: Visitor<'_>,
+) -> Result<(), Trouble<u32>> {
+    let slice = first(len);
+    let copies = Copies { slice };
+    let indices = Indices {
+        start: 3,
+        end: len.saturating_add(3),
+    };
+    let chunks = Chunks {
+        slice: first(len.saturating_mul(2)),
+        size: NonZeroUsize::MIN.saturating_add(1),
+    };
+    match given {
+        Given::Slice => make(on, called, slice, visited),
+        Given::Copies => make(on, called, copies, visited),
+        Given::Indices => make(on, called, indices, visited),
+        Given::Chunks => make(on, called, chunks, visited),
+        Given::Zipped => make(on, called, Zipped::new(chunks, indices), visited),
+        Given::Enumerated => make(on, called, Enumerated::new(copies), visited),
+        _ => make(on, called, Backwards { slice }, visited),
+    }
+}
+
+// The call over owned items.
+fn make_over_items<Rt: Threads + Wait + Sync, S: Strategy>(
+    on: &On<'_, Rt, S, Site>,
+    called: Called,
+    len: usize,
+    visited: Visitor<'_>,
+) -> Result<(), Trouble<u32>> {
+    let items = vector(on.alloc, len)?;
+    make(on, called, items, visited)
+}
+
+// The call over pairs of them.
+fn make_over_pairs<Rt: Threads + Wait + Sync, S: Strategy>(
+    on: &On<'_, Rt, S, Site>,
+    called: Called,
+    len: usize,
+    visited: Visitor<'_>,
+) -> Result<(), Trouble<u32>> {
+    let items = vector(on.alloc, len.saturating_mul(2))?;
+    let (pairs, _none) = Pairs::new(items);
+    make(on, called, pairs, visited)
+}
+
+/// The call over such a source of so many items, at most 1000.
+pub fn make_over<Rt: Threads + Wait + Sync, S: Strategy>(
+    on: &On<'_, Rt, S, Site>,
+    called: Called,
+    given: Given,
+    len: usize,
+    visited: Visitor<'_>,
+) -> Result<(), Trouble<u32>> {
+    let slice = first(len);
+    match given {
+        Given::Pairs => make_over_pairs(on, called, len, visited),
+        Given::Vector => make_over_items(on, called, len, visited),
+        Given::Counted => make(on, called, Counted { iter: 0..len }, visited),
+        Given::Iterator => make(on, called, slice.iter().copied(), visited),
+        Given::OwnSource => {
+            let wrapped = Wrapped {
+                front: slice,
+                back: &[],
+            };
+            make(on, called, wrapped, visited)
+        }
+        _ => make_over_parts(on, called, given, len, visited),
+    }
+}
+
+/// The same over one of those few sources.
+pub fn make_over_few<Rt: Threads + Wait + Sync, S: Strategy>(
+    on: &On<'_, Rt, S, Site>,
+    called: Called,
+    given: Given,
+    len: usize,
+    visited: Visitor<'_>,
+) -> Result<(), Trouble<u32>> {
+    match given {
+        Given::Vector => make_over_items(on, called, len, visited),
+        Given::Iterator => make(on, called, first(len).iter().copied(), visited),
+        _ => make(on, called, first(len), visited),
+    }
+}

@@ -1,0 +1,313 @@
+//! That as many closures of a call are under way at once as the strategy has threads, and no more:
+//! those of lists, sorts, joins, batches, tiles, trees and jobs.
+ghost use Rattle.std.specs.Prelude.{◌≡◌, ⊤};
+
+use crate::tests::probes::calls::{CALLS, Called};
+use crate::tests::probes::given::{FEW, Given, SOURCES, make_over, make_over_few};
+use crate::tests::probes::meetings::Meeting;
+use crate::tests::probes::noting::Noting;
+use crate::tests::probes::records::{Squares, fresh};
+use crate::tests::probes::sides::{BATCHES, fill, join, map_batch, root, sort};
+use crate::tests::probes::visits::Visitor;
+use crate::tests::same::{answers, row};
+use crate::tests::strategies::{SITE, number};
+use commonware_parallel::mocks::Explorer;
+use commonware_parallel::{Fault, Grid, Job, On, Rayon, Site, Strategy, Trouble};
+use std::alloc::Global;
+use std::num::NonZeroUsize;
+use std::process::Abort;
+use std::sync::{Arc, Wait};
+use std::thread::Threads;
+
+// For how many turns a meeting goes on, so that one too many may come.
+const TURNS: u32 = 1000;
+
+// A pool of so many threads, without a policy.
+fn unasked<Rt: Threads + Abort>(rt: &Rt, alloc: Global, threads: usize) -> Rayon<Squares> {
+    let asked = fresh(rt, alloc, threads);
+    asked.pool.without_policy().expect(rt, "memory for a pool")
+}
+
+fn on<'a, Rt, S>(rt: &'a Rt, alloc: Global, strategy: &'a S) -> On<'a, Rt, S, Site> {
+    On {
+        rt,
+        alloc,
+        strategy,
+        site: SITE,
+    }
+}
+
+// Stops the test where the closures of a list call didn't meet, or where more met than there are
+// threads.
+fn met<Rt: Abort>(
+    rt: &Rt,
+    (called, given, len): (Called, Given, usize),
+    made: Result<(), Trouble<u32>>,
+    meeting: &Meeting,
+) {
+    let found = (made, meeting.most());
+    let wanted = (Ok(()), meeting.wanted());
+    row(rt, (called, given, len, meeting.wanted()), found, wanted);
+}
+
+// The same of all list calls over so many items of each source.
+fn items_meet<Rt: Threads + Wait + Abort + Sync, S: Strategy>(
+    rt: &Rt,
+    alloc: Global,
+    strategy: &S,
+    len: usize,
+    turns: u32,
+) {
+    let on = on(rt, alloc, strategy);
+    for called in CALLS {
+        for given in SOURCES {
+            let meeting = Meeting::of(strategy.thread_number().get(), turns);
+            let made = make_over(&on, called, given, len, Visitor::Meets(&meeting));
+            met(rt, (called, given, len), made, &meeting);
+        }
+    }
+}
+
+#[test]
+fn as_many_items_of_each_source_meet_as_there_are_threads(rt: HostRuntime) {
+    let alloc = rt.alloc();
+    for (threads, len, turns) in [
+        (2, 1000, TURNS),
+        (3, 6, 0),
+        (3, 100, TURNS),
+        (4, 4, 0),
+        (4, 8, TURNS),
+        (4, 1000, 0),
+    ] {
+        let own = Noting::new(&rt, alloc, threads);
+        items_meet(&rt, alloc, &own, len, turns);
+    }
+}
+
+// The lengths: one item for each thread, two, and many.
+fn lengths(threads: usize) -> [usize; 4] {
+    [threads, threads.saturating_mul(2), 100, 1000]
+}
+
+// The same over few sources, as many items as there are threads, and a hundred.
+fn few_items_meet<Rt: Threads + Wait + Abort + Sync, S: Strategy>(
+    rt: &Rt,
+    alloc: Global,
+    strategy: &S,
+) {
+    let threads = strategy.thread_number().get();
+    let on = on(rt, alloc, strategy);
+    for called in CALLS {
+        for given in FEW {
+            for len in [threads, 100] {
+                let meeting = Meeting::of(threads, TURNS);
+                let made = make_over_few(&on, called, given, len, Visitor::Meets(&meeting));
+                met(rt, (called, given, len), made, &meeting);
+            }
+        }
+    }
+}
+
+// So many numbers, none of which is in its place.
+fn numbers(rt: &impl Abort, alloc: Global, count: usize) -> Vec<u32> {
+    let mut numbers = Vec::with_capacity(alloc, count).expect(rt, "memory for numbers");
+    let mut place = 0u32;
+    for _ in 0..count {
+        numbers.push(place ^ 1).expect(rt, "memory for numbers");
+        place = place.wrapping_add(1);
+    }
+    numbers
+}
+
+// The same of each sort: of a list that has just as many parts as there are threads.
+fn parts_of_sorts_meet<Rt: Threads + Wait + Abort + Sync, S: Strategy>(
+    rt: &Rt,
+    alloc: Global,
+    strategy: &S,
+) {
+    let threads = strategy.thread_number().get();
+    let on = on(rt, alloc, strategy);
+    for sorted in [true, false] {
+        let mut numbers = numbers(rt, alloc, threads.saturating_mul(8192));
+        let meeting = Meeting::of(threads, TURNS);
+        let visitor = Visitor::MeetsEarly(&meeting);
+        let outcome = sort(&on, sorted, numbers.as_mut_slice(), visitor);
+        answers(rt, sorted, outcome, ());
+        let found = (meeting.most(), numbers.is_sorted());
+        row(rt, (sorted, threads), found, (threads, true));
+    }
+}
+
+// The same of a join, which has two closures.
+fn sides_of_a_join_meet<Rt: Threads + Wait + Abort + Sync, S: Strategy>(
+    rt: &Rt,
+    alloc: Global,
+    strategy: &S,
+) {
+    let on = on(rt, alloc, strategy);
+    let meeting = Meeting::of(2, TURNS);
+    row(rt, "join", join(&on, Visitor::Meets(&meeting)), Ok(()));
+    row(rt, "join", meeting.most(), 2);
+}
+
+// The same of what is prepared of a batch.
+fn ranges_meet<Rt: Threads + Wait + Abort + Sync, S: Strategy>(
+    rt: &Rt,
+    alloc: Global,
+    strategy: &S,
+) {
+    let threads = strategy.thread_number().get();
+    let on = on(rt, alloc, strategy);
+    for len in lengths(threads) {
+        for batched in BATCHES {
+            let meeting = Meeting::of(threads, TURNS);
+            let mapped = map_batch(
+                &on,
+                batched,
+                len,
+                NonZeroUsize::MIN,
+                Visitor::Meets(&meeting),
+            );
+            let found = (mapped, meeting.most());
+            row(rt, (batched, len), found, (Ok(threads), threads));
+        }
+    }
+}
+
+// The same of the fills of tiles on rows that are too short to be cut: as many meet as there are
+// rows, where these are fewer than threads. Then of one row, which is cut.
+fn fills_meet<Rt: Threads + Wait + Abort + Sync, S: Strategy>(
+    rt: &Rt,
+    alloc: Global,
+    strategy: &S,
+    is_merged: bool,
+) {
+    let threads = strategy.thread_number().get();
+    let on = on(rt, alloc, strategy);
+    let tile_cost = number(rt, 8);
+    for rows in [2, threads, threads.saturating_mul(2), 100] {
+        let meeting = Meeting::of(threads.min(rows), TURNS);
+        let grids = [Grid { rows, tile_cost }];
+        assert!(rt; Grid::fits(&grids, 10));
+        let filled = fill(&on, is_merged, 10, &grids, Visitor::Meets(&meeting));
+        let found = (filled, meeting.most());
+        row(
+            rt,
+            (is_merged, rows, threads),
+            found,
+            (Ok(rows), threads.min(rows)),
+        );
+    }
+    let meeting = Meeting::of(threads, TURNS);
+    let grids = [Grid { rows: 1, tile_cost }];
+    assert!(rt; Grid::fits(&grids, 1000));
+    let filled = fill(&on, is_merged, 1000, &grids, Visitor::Meets(&meeting));
+    let found = (filled.is_ok(), meeting.most());
+    row(rt, (is_merged, "cut", threads), found, (true, threads));
+}
+
+// A meeting for each level of a tree.
+fn levels_of(alloc: Global, threads: usize, leaves: usize) -> Result<Vec<Meeting>, Fault> {
+    let mut levels = Vec::new(alloc);
+    let mut nodes = leaves;
+    for _ in 0..64u32 {
+        if nodes > 1 {
+            levels.push(Meeting::of(threads.min(nodes / 2), TURNS))?;
+            nodes = nodes.div_ceil(2);
+        }
+    }
+    Ok(levels)
+}
+
+// The same of the pairs of each level of a tree: as many meet as there are pairs, where these are
+// fewer than threads.
+fn pairs_meet<Rt: Threads + Wait + Abort + Sync, S: Strategy>(
+    rt: &Rt,
+    alloc: Global,
+    strategy: &S,
+) {
+    let threads = strategy.thread_number().get();
+    let on = on(rt, alloc, strategy);
+    for len in lengths(threads) {
+        let leaves = len.saturating_mul(2);
+        let levels = levels_of(alloc, threads, leaves).expect(rt, "memory for meetings");
+        let visited = Visitor::MeetsByLevel(levels.as_slice());
+        let found = root(&on, leaves, visited).expect(rt, "memory for nodes");
+        row(rt, leaves, found, Some(levels.len()));
+        for (level, meeting) in levels.iter().enumerate() {
+            row(
+                rt,
+                (leaves, level, threads),
+                meeting.most(),
+                meeting.wanted(),
+            );
+        }
+    }
+}
+
+// A job that comes to a meeting.
+#[derive(Drop)]
+struct Attends {
+    meeting: Arc<Meeting, Global>,
+}
+
+impl<S: Drop> Job<S, u32> for Attends {
+    ghost may_run = { λ _ _. ⊤ };
+
+    ghost may_answer = { λ _ _ answer. answer ≡ 7 };
+
+    fn run_on(self, _strategy: S) -> u32 {
+        self.meeting.attend();
+        7
+    }
+}
+
+// Stops the test where jobs, each handed off after the one before, don't meet their caller.
+fn jobs_meet_their_caller<Rt: Threads + Wait + Abort + Copy + Send + 'static, S: Strategy>(
+    rt: &Rt,
+    alloc: Global,
+    strategy: &S,
+) {
+    for jobs in [1usize, 2, 3] {
+        let all = jobs.wrapping_add(1);
+        let meeting = Meeting::of(all, 0);
+        let meeting = Arc::new(alloc, meeting).expect(rt, "memory for a meeting");
+        for job in 0..jobs {
+            let meeting = Arc::try_clone(&meeting).expect(rt, "a handle");
+            let spawned = strategy.spawn(rt, alloc, SITE, 1, Attends { meeting });
+            row(rt, ("job", job), spawned.is_ok(), true);
+        }
+        meeting.attend();
+        row(rt, ("jobs", jobs), meeting.most(), all);
+    }
+}
+
+// Stops the test where the closures of any other call don't meet, or where too many do.
+fn all_meet<Rt: Threads + Wait + Abort + Copy + Send + Sync + 'static, S: Strategy>(
+    rt: &Rt,
+    alloc: Global,
+    strategy: &S,
+) {
+    few_items_meet(rt, alloc, strategy);
+    parts_of_sorts_meet(rt, alloc, strategy);
+    sides_of_a_join_meet(rt, alloc, strategy);
+    ranges_meet(rt, alloc, strategy);
+    fills_meet(rt, alloc, strategy, false);
+    fills_meet(rt, alloc, strategy, true);
+    pairs_meet(rt, alloc, strategy);
+    jobs_meet_their_caller(rt, alloc, strategy);
+}
+
+#[test]
+fn as_many_closures_of_each_call_meet_as_there_are_threads(rt: HostRuntime) {
+    let alloc = rt.alloc();
+    for threads in 2..5usize {
+        let own = Noting::new(&rt, alloc, threads);
+        own.log().hand_off();
+        all_meet(&rt, alloc, &own);
+        let pool = unasked(&rt, alloc, threads);
+        all_meet(&rt, alloc, &pool);
+        let explorer = Explorer::parallel(&pool).expect(&rt, "memory for a handle");
+        all_meet(&rt, alloc, &explorer);
+    }
+}

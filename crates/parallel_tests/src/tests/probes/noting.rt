@@ -1,0 +1,156 @@
+//! A strategy that writes down all that it is asked and told.
+ghost use Rattle.std.specs.Prelude.{◌≡◌, false, true};
+ghost use Rattle.std.specs.Int.NonZero.{non_zero_usize_get};
+ghost use Rattle.commonware_parallel.specs.Calls.{last_pick};
+
+use crate::tests::probes::logs::{Event, Log, Who};
+use crate::tests::strategies::number;
+use commonware_parallel::{Call, Chooser, Fault, Kind, Meter, Pick, Place};
+use std::alloc::Global;
+use std::num::NonZeroUsize;
+use std::process::Abort;
+use std::sync::{Arc, Wait};
+
+/// Takes the last pick of each call, planned for as many as it has threads. A clone and the
+/// strategy of a batch's parts write to the same log.
+#[derive(Clone, Debug, Drop)]
+pub struct Noting {
+    threads: NonZeroUsize,
+    log: Arc<Log, Global>,
+    who: Who,
+}
+
+impl Noting {
+    pub fn new(rt: &impl Abort, alloc: Global, threads: usize) -> Noting {
+        Noting {
+            threads: number(rt, threads),
+            log: Arc::new(alloc, Log::new(alloc)).expect(rt, "memory for a log"),
+            who: Who::Outer,
+        }
+    }
+
+    pub fn log(&self) -> &Log {
+        &self.log
+    }
+
+    /// A handle of the log.
+    pub fn handle(&self, rt: &impl Abort) -> Arc<Log, Global> {
+        Arc::try_clone(&self.log).expect(rt, "a handle")
+    }
+}
+
+/// Measures nothing, and writes down what it is told. Without a handle of the log, for which there
+/// always is memory here, it writes nothing.
+#[derive(Debug)]
+pub struct Noted {
+    log: Option<Arc<Log, Global>>,
+    who: Who,
+    is_job: bool,
+}
+
+// Writes a line.
+fn write(log: &Option<Arc<Log, Global>>, who: Who, event: Event) {
+    if let Some(log) = log {
+        log.write(who, event);
+    }
+}
+
+impl Noted {
+    // The run has ended in such a way.
+    fn close(self, event: Event) {
+        let Noted {
+            log,
+            who,
+            is_job: _,
+        } = self;
+        write(&log, who, event);
+    }
+}
+
+impl Drop for Noted {
+    fn drop(self) {
+        let Noted {
+            log,
+            who,
+            is_job: _,
+        } = self;
+        write(&log, who, Event::Dropped);
+    }
+}
+
+impl Meter for Noted {
+    // A job begins aside: it waits until its caller has it.
+    fn begin(&mut self) {
+        if let Some(log) = &self.log {
+            if !self.is_job || log.await_hand_off() {
+                log.write(self.who, Event::Begun);
+            }
+        }
+    }
+
+    fn end<Rt: Wait>(self, _rt: &Rt) {
+        self.close(Event::Ended);
+    }
+}
+
+impl Chooser for Noting {
+    ghost takes = { λ _ _ call pick. pick ≡ last_pick call };
+
+    ghost refuses = { λ _ _ _ _. ⊥ };
+
+    ghost plans = { λ s. non_zero_usize_get s.threads };
+
+    ghost threads = { λ s. non_zero_usize_get s.threads };
+
+    ghost starts = { λ _. true };
+
+    ghost unasked = { λ _. false };
+
+    type Measure = Noted;
+
+    fn planning(&self) -> NonZeroUsize {
+        self.threads
+    }
+
+    fn thread_number(&self) -> NonZeroUsize {
+        self.threads
+    }
+
+    fn is_serial(&self) -> bool {
+        false
+    }
+
+    fn starts_workers(&self) -> bool {
+        true
+    }
+
+    fn inner(&self) -> Result<Noting, Fault> {
+        let log = Arc::try_clone(&self.log)?;
+        Ok(Noting {
+            threads: self.threads,
+            log,
+            who: Who::Inner,
+        })
+    }
+
+    fn choose<Rt: Wait, P: Place>(
+        &self,
+        _rt: &Rt,
+        _alloc: Global,
+        site: P,
+        call: Call,
+    ) -> Result<(Pick, Noted), Fault> {
+        self.log
+            .write(self.who, Event::Asked(site.site().column, call));
+        let measure = Noted {
+            log: Arc::try_clone(&self.log).ok(),
+            who: self.who,
+            is_job: call.kind == Kind::Spawn,
+        };
+        Ok((call.last(), measure))
+    }
+
+    fn tell<Rt: Wait>(&self, _rt: &Rt, measure: Noted) {
+        measure.close(Event::Told);
+    }
+}

@@ -1,0 +1,296 @@
+//! What a policy keeps of each call through a pool: one entry, at the call's own key, with the time
+//! between two readings of the clock recorded once.
+//!
+//! The clock's readings are the squares of whole milliseconds, so that the time between two of them
+//! tells which two they were. Each entry has a time already, which a sample moves by a fifth, so
+//! that a sample recorded twice shows.
+use crate::tests::probes::calls::{CALLS, Called, MULTIPLIER};
+use crate::tests::probes::given::{FEW, Given, make_over_few};
+use crate::tests::probes::logs::Log;
+use crate::tests::probes::sides::{SIDES, Side, call_of_side, make_side, root};
+use crate::tests::probes::visits::Visitor;
+use crate::tests::same::{answers, row};
+use crate::tests::steps::{Gives, answer_one, answer_two};
+use crate::tests::strategies::{SITE, number};
+use commonware_parallel::policy::{Key, RunExecution, SpawnSample};
+use commonware_parallel::{Clock, On, Policy, Rayon, Site, Strategy, Trouble};
+use futures::executor::block_on;
+use std::alloc::{AllocGlobal, Global};
+use std::fmt::Debug;
+use std::process::Abort;
+use std::random::RandomSource;
+use std::sync::atomic::{AtomicU64, Ordering};
+use std::sync::{Arc, Wait};
+use std::thread::Threads;
+
+const MILLISECOND: u64 = 1_000_000;
+
+/// A clock whose readings are the squares of whole milliseconds.
+#[derive(Clone, Debug, Drop)]
+pub struct Squares {
+    readings: Arc<AtomicU64, Global>,
+}
+
+impl Clock for Squares {
+    fn now(&self) -> u64 {
+        let before = self.readings.fetch_add(1, Ordering::SeqCst);
+        before.wrapping_mul(before).wrapping_mul(MILLISECOND)
+    }
+}
+
+/// A policy, the clock that it reads, and a pool that asks it.
+#[derive(Drop)]
+pub struct Asked {
+    policy: Policy,
+    readings: Arc<AtomicU64, Global>,
+    pub pool: Rayon<Squares>,
+}
+
+/// A fresh policy, and a pool of so many threads, planned for as many.
+pub fn fresh<Rt: Threads + Abort>(rt: &Rt, alloc: Global, threads: usize) -> Asked {
+    planned(rt, alloc, threads, threads)
+}
+
+// The same, planned for so many.
+fn planned<Rt: Threads + Abort>(rt: &Rt, alloc: Global, threads: usize, planned: usize) -> Asked {
+    let readings = Arc::new(alloc, AtomicU64::new(0)).expect(rt, "memory for a clock");
+    let clock = Squares {
+        readings: Arc::try_clone(&readings).expect(rt, "a handle"),
+    };
+    let pool = Rayon::new(rt, alloc, number(rt, threads), clock).expect(rt, "memory for a pool");
+    let policy = Policy::new(alloc).expect(rt, "memory for a policy");
+    let own = policy.clone().expect(rt, "a handle");
+    Asked {
+        policy,
+        readings,
+        pool: pool.with_parallelism(number(rt, planned)).with_policy(own),
+    }
+}
+
+impl Asked {
+    // What the next run of such a call is known to take, so that it goes in parallel, measured.
+    fn knows<Rt: Wait + Abort>(&self, rt: &Rt, key: Key) {
+        let first = self.policy.choose_run(rt, key, 4);
+        answers(rt, "first", first, (RunExecution::Parallel, true));
+        let time = 50 * MILLISECOND;
+        let known = self
+            .policy
+            .record_run(rt, key, RunExecution::Parallel, time);
+        answers(rt, "known", known, ());
+    }
+
+    fn on<'a, Rt>(&'a self, rt: &'a Rt, alloc: Global) -> On<'a, Rt, Rayon<Squares>, Site> {
+        On {
+            rt,
+            alloc,
+            strategy: &self.pool,
+            site: SITE,
+        }
+    }
+
+    fn readings(&self) -> u64 {
+        self.readings.load(Ordering::SeqCst)
+    }
+
+    // Stops the test where the policy has another entry than that of the key, or where a run in
+    // parallel of one millisecond, between the clock's first two readings, wasn't recorded once.
+    fn has_one<L: Debug + Copy + Drop, Rt: Wait + Abort>(
+        &self,
+        rt: &Rt,
+        alloc: Global,
+        of: L,
+        key: Key,
+    ) {
+        row(rt, of, self.readings(), 2);
+        let entry = self.policy.run_entry(rt, key).expect(rt, "an entry");
+        let parallel = entry.estimate(RunExecution::Parallel);
+        let serial = entry.estimate(RunExecution::Serial);
+        row(rt, of, (parallel, serial), (Some(40_200_000), None));
+        let written = format!(in alloc; "{:?}", self.policy).expect(rt, "memory");
+        let alone = format!(in alloc; "{{{key:?}: {entry:?}}}, spawns: {{}} ").expect(rt, "memory");
+        let begins = "Policy { table: Mutex { data: Table { runs: ";
+        let ends = "}, poisoned: false, .. } }";
+        let whole = format!(in alloc; "{begins}{alone}{ends}").expect(rt, "memory");
+        row(rt, of, written.as_str(), whole.as_str());
+    }
+}
+
+// The key of a call over sixteen items.
+fn key_of(called: Called) -> Key {
+    match called {
+        Called::MultipliedMap | Called::MultipliedMapInit => {
+            Key::new(SITE, 16, 16 * MULTIPLIER, 4)
+        }
+        _ => Key::new(SITE, 16, 16, 4),
+    }
+}
+
+#[test]
+fn each_list_call_records_one_time_at_its_key(rt: HostRuntime) {
+    let alloc = rt.alloc();
+    for called in CALLS {
+        for given in FEW {
+            let asked = fresh(&rt, alloc, 4);
+            let key = key_of(called);
+            asked.knows(&rt, key);
+            // The second call isn't measured, and reads no clock.
+            for turn in 1..3u32 {
+                let made = make_over_few(&asked.on(&rt, alloc), called, given, 16, Visitor::Passes);
+                row(&rt, (called, given), made, Ok(()));
+                asked.has_one(&rt, alloc, (called, given, turn), key);
+            }
+        }
+    }
+}
+
+#[test]
+fn a_list_call_that_fails_records_nothing(rt: HostRuntime) {
+    let alloc = rt.alloc();
+    for called in [Called::TryMap, Called::TryFold] {
+        let asked = fresh(&rt, alloc, 4);
+        let key = key_of(called);
+        asked.knows(&rt, key);
+        let log = Log::new(alloc);
+        let failing = Visitor::Fails(&log);
+        let made = make_over_few(&asked.on(&rt, alloc), called, Given::Slice, 16, failing);
+        row(&rt, called, made, Err(Trouble::Closure(7)));
+        // It was to be measured, and the clock was read before it.
+        let entry = asked.policy.run_entry(&rt, key).expect(&rt, "an entry");
+        let parallel = entry.estimate(RunExecution::Parallel);
+        let found = (asked.readings(), parallel);
+        row(&rt, called, found, (1, Some(50 * MILLISECOND)));
+    }
+}
+
+// Stops the test where a call that isn't over a list leaves another entry, or the second such call,
+// which isn't measured, reads the clock. A join leaves none.
+fn side_records<Rt: Threads + Wait + Abort + Sync>(rt: &Rt, alloc: Global, side: Side) {
+    let asked = fresh(rt, alloc, 4);
+    let call = call_of_side(side);
+    let key = Key::new(SITE, call.len, call.work, 4);
+    if matches!(side, Side::Join) {
+        let made = make_side(&asked.on(rt, alloc), side, Visitor::Passes);
+        row(rt, side, (made, asked.readings()), (Ok(()), 0));
+        row(rt, side, asked.policy.run_entry(rt, key).is_none(), true);
+        return;
+    }
+    asked.knows(rt, key);
+    for turn in 1..3u32 {
+        let made = make_side(&asked.on(rt, alloc), side, Visitor::Passes);
+        row(rt, side, made, Ok(()));
+        asked.has_one(rt, alloc, (side, turn), key);
+    }
+}
+
+#[test]
+fn each_other_call_records_one_time_at_its_key(rt: HostRuntime) {
+    for side in SIDES {
+        side_records(&rt, rt.alloc(), side);
+    }
+}
+
+#[test]
+fn a_run_records_one_time_at_its_key(rt: HostRuntime) {
+    let alloc = rt.alloc();
+    let asked = fresh(&rt, alloc, 4);
+    let key = Key::new(SITE, 5, 5, 4);
+    asked.knows(&rt, key);
+    let ran = asked.pool.run(&rt, alloc, SITE, 5, answer_one, answer_two);
+    row(&rt, "run", ran, Ok(2));
+    asked.has_one(&rt, alloc, "run", key);
+}
+
+#[test]
+fn a_tree_records_one_time_of_each_level(rt: HostRuntime) {
+    let alloc = rt.alloc();
+    let asked = fresh(&rt, alloc, 4);
+    for pairs in [4, 2, 1] {
+        asked.knows(&rt, Key::new(SITE, pairs, pairs, 4));
+    }
+    let found = root(&asked.on(&rt, alloc), 8, Visitor::Passes);
+    row(&rt, "tree", found, Ok(Some(3)));
+    row(&rt, "tree", asked.readings(), 6);
+    // Two readings for each level: 1, 5 and 9 milliseconds.
+    for (pairs, time) in [(4, 40_200_000), (2, 41_000_000), (1, 41_800_000)] {
+        let entry = asked.policy.run_entry(&rt, Key::new(SITE, pairs, pairs, 4));
+        let entry = entry.expect(&rt, "an entry");
+        let parallel = entry.estimate(RunExecution::Parallel);
+        row(&rt, pairs, parallel, Some(time));
+    }
+}
+
+impl Asked {
+    // What the next job of that key is known to take, so that it is handed off, measured.
+    fn knows_job<Rt: Wait + Abort>(&self, rt: &Rt, key: Key) {
+        let first = self.policy.choose_spawn(rt, key, MILLISECOND);
+        row(rt, "first", first.is_ok(), true);
+        let job = self.policy.record_spawn_job(rt, key, 50 * MILLISECOND);
+        let overhead = self.policy.record_spawn_overhead(rt, key, 10 * MILLISECOND);
+        row(rt, "known", (job, overhead), (Ok(()), Ok(())));
+    }
+
+    // The times of a job, its hand-off and an inline run.
+    fn job_times<Rt: Wait + Abort>(&self, rt: &Rt, key: Key) -> [Option<u64>; 3] {
+        let entry = self.policy.spawn_entry(rt, key).expect(rt, "an entry");
+        [
+            entry.estimate(SpawnSample::Job),
+            entry.estimate(SpawnSample::Overhead),
+            entry.estimate(SpawnSample::InlineRun),
+        ]
+    }
+}
+
+// What a job answers, once it has ended.
+fn answer_of_a_job<Rt, S: Strategy>(rt: &Rt, alloc: Global, strategy: &S) -> u64
+where
+    Rt: Threads + Wait + RandomSource + AllocGlobal + Abort + Copy + Send + 'static,
+{
+    let spawned = strategy.spawn(rt, alloc, SITE, 1, Gives(7));
+    block_on(rt, spawned.expect(rt, "a job")).expect(rt, "a queue")
+}
+
+#[test]
+fn a_job_records_its_own_time_and_its_hand_off_once(rt: HostRuntime) {
+    let alloc = rt.alloc();
+    let asked = planned(&rt, alloc, 4, 7);
+    // A job is keyed by the pool's number of threads, and not by the planning number.
+    let key = Key::new(SITE, 1, 1, 4);
+    asked.knows_job(&rt, key);
+    row(&rt, "job", answer_of_a_job(&rt, alloc, &asked.pool), 7);
+    // Chosen at 0, begun at 1 and ended at 4 milliseconds: the job took 3, and its hand-off 1.
+    let times = asked.job_times(&rt, key);
+    row(
+        &rt,
+        "times",
+        times,
+        [Some(40_600_000), Some(8_200_000), None],
+    );
+    row(&rt, "readings", asked.readings(), 3);
+    let of_runs = asked.policy.run_entry(&rt, key);
+    row(&rt, "runs", of_runs.is_none(), true);
+}
+
+#[test]
+fn a_job_that_runs_inline_records_its_own_time_alone(rt: HostRuntime) {
+    let alloc = rt.alloc();
+    let asked = fresh(&rt, alloc, 4);
+    let key = Key::new(SITE, 1, 1, 4);
+    asked.knows_job(&rt, key);
+    // The choice that follows tries the other way; of those after it each tenth is measured.
+    let known = asked.policy.record_spawn_inline(&rt, key, MILLISECOND / 2);
+    row(&rt, "known", known, Ok(()));
+    for choice in 0..10u32 {
+        let chosen = asked.policy.choose_spawn(&rt, key, MILLISECOND);
+        row(&rt, choice, chosen.is_ok(), true);
+    }
+    row(&rt, "job", answer_of_a_job(&rt, alloc, &asked.pool), 7);
+    // Begun at 1 and ended at 4 milliseconds.
+    let times = asked.job_times(&rt, key);
+    let known = [
+        Some(50 * MILLISECOND),
+        Some(10 * MILLISECOND),
+        Some(MILLISECOND),
+    ];
+    row(&rt, "times", times, known);
+    row(&rt, "readings", asked.readings(), 3);
+}

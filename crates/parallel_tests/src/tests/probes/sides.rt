@@ -1,0 +1,254 @@
+//! The other calls: joins, sorts, batches, tiles and trees, with closures that visit a probe.
+ghost use Rattle.parallel_shares.specs.Grid.{Fits};
+
+use crate::tests::probes::calls::{done, tried};
+use crate::tests::probes::visits::Visitor;
+use crate::tests::steps::{cells_counted, no_count};
+use commonware_parallel::{
+    Batches, Call, Fault, Grid, Kind, On, Site, Strategy, Tiles, Trouble, merkle,
+};
+use std::alloc::Global;
+use std::cmp::Ordering;
+use std::num::NonZeroUsize;
+use std::ops::Range;
+use std::process::Abort;
+use std::sync::Wait;
+use std::thread::Threads;
+
+/// A sort of the numbers, of which each comparison visits.
+pub fn sort<Rt: Threads + Wait + Sync, S: Strategy>(
+    on: &On<'_, Rt, S, Site>,
+    is_stable: bool,
+    numbers: &mut [u32],
+    visited: Visitor<'_>,
+) -> Result<(), Fault> {
+    let compare = |left: &u32, right: &u32| -> Ordering {
+        let _ = visited.visit();
+        left.cmp(right)
+    };
+    if is_stable {
+        on.sort_by(numbers, compare)
+    } else {
+        on.sort_unstable_by(numbers, compare)
+    }
+}
+
+/// A join of two closures that visit.
+pub fn join<Rt: Threads + Wait + Sync, S: Strategy>(
+    on: &On<'_, Rt, S, Site>,
+    visited: Visitor<'_>,
+) -> Result<(), Trouble<u32>> {
+    done(on.join(|| visited.visit().is_ok(), || visited.visit().is_ok()))
+}
+
+/// A map of what is prepared of a batch: of one that may fail or can't, by a closure that may or
+/// can't.
+#[derive(Clone, Copy, Debug, PartialEq, Eq)]
+pub enum Batched {
+    Map,
+    TryMap,
+    TryBatch,
+}
+
+/// All of them.
+pub const BATCHES: [Batched; 3] = [Batched::Map, Batched::TryMap, Batched::TryBatch];
+
+// The lengths of the ranges.
+fn lengths_of(alloc: Global, ranges: &[Range<usize>]) -> Result<Vec<usize>, Fault> {
+    let mut lengths = Vec::new(alloc);
+    for range in ranges {
+        lengths.push(range.end.saturating_sub(range.start))?;
+    }
+    Ok(lengths)
+}
+
+// The map, each closure of which visits once for each range.
+fn map_ranges<Rt: Threads + Wait + Sync, S: Strategy>(
+    rt: &Rt,
+    alloc: Global,
+    batches: Batches<'_, S, Site>,
+    batched: Batched,
+    visited: Visitor<'_>,
+) -> Result<usize, Trouble<u32>> {
+    let prepare = |ranges: &[Range<usize>]| lengths_of(alloc, ranges);
+    if batched == Batched::Map {
+        let map_op = |_: usize| visited.visit().is_ok();
+        return match batches.map_collect_vec(rt, alloc, prepare, map_op) {
+            Ok(answers) => Ok(answers.len()),
+            Err(fault) => Err(Trouble::Fault(fault)),
+        };
+    }
+    let map_op = |_: usize| visited.visit();
+    let answers = batches.try_map_collect_vec(rt, alloc, prepare, map_op)?;
+    Ok(answers.len())
+}
+
+// The outcome of a batch whose closure's own is this.
+fn flat<T: Drop>(outcome: Result<T, Trouble<Trouble<u32>>>) -> Result<T, Trouble<u32>> {
+    match outcome {
+        Ok(value) => Ok(value),
+        Err(Trouble::Fault(fault)) => Err(Trouble::Fault(fault)),
+        Err(Trouble::Closure(trouble)) => Err(trouble),
+    }
+}
+
+/// Such a map over a batch of so many indices in ranges of that many at least: how many ranges
+/// there are.
+pub fn map_batch<Rt: Threads + Wait + Sync, S: Strategy>(
+    on: &On<'_, Rt, S, Site>,
+    batched: Batched,
+    len: usize,
+    minimum: NonZeroUsize,
+    visited: Visitor<'_>,
+) -> Result<usize, Trouble<u32>> {
+    let (rt, alloc, site) = (on.rt, on.alloc, on.site);
+    let run = |batches: Batches<'_, S, Site>| map_ranges(rt, alloc, batches, batched, visited);
+    if batched == Batched::TryBatch {
+        return flat(
+            on.strategy
+                .try_run_batches(rt, alloc, site, len, minimum, 3, run),
+        );
+    }
+    match on
+        .strategy
+        .run_batches(rt, alloc, site, len, minimum, 3, run)
+    {
+        Ok(outcome) => outcome,
+        Err(fault) => Err(Trouble::Fault(fault)),
+    }
+}
+
+// The results of tiles whose fills visit, merged or not: how many there are.
+fn fill_tiles<Rt: Threads + Wait + Sync, S: Strategy>(
+    rt: &Rt,
+    alloc: Global,
+    tiles: Tiles<'_, S, Site>,
+    is_merged: bool,
+    visited: Visitor<'_>,
+) -> Result<usize, Fault> {
+    let fill = |count: &mut usize, _: usize, columns: Range<usize>| {
+        let _ = visited.visit();
+        *count = count.saturating_add(columns.len());
+    };
+    let filled = if is_merged {
+        tiles.fill_merge_collect_vec(
+            rt,
+            alloc,
+            no_count,
+            fill,
+            cells_counted,
+            usize::wrapping_add,
+        )
+    } else {
+        tiles.fill_collect_vec(rt, alloc, no_count, fill, cells_counted)
+    };
+    Ok(filled?.len())
+}
+
+/// The results of tiles on rows of so many columns, each fill of which visits.
+pub fn fill<Rt: Threads + Wait + Sync, S: Strategy>(
+    on: &On<'_, Rt, S, Site>,
+    is_merged: bool,
+    len: usize,
+    grids: &[Grid],
+    visited: Visitor<'_>,
+) -> Result<usize, Fault>
+    requires { Fits grids.now len }
+{
+    let (rt, alloc) = (on.rt, on.alloc);
+    let run = |tiles: Tiles<'_, S, Site>| fill_tiles(rt, alloc, tiles, is_merged, visited);
+    match on
+        .strategy
+        .run_tiles(rt, alloc, on.site, len, grids, 5, run)
+    {
+        Ok(filled) => filled,
+        Err(fault) => Err(fault),
+    }
+}
+
+/// The root of a tree of so many leaves, each pair of which visits its level: how many levels there
+/// are.
+pub fn root<Rt: Threads + Wait + Sync, S: Strategy>(
+    on: &On<'_, Rt, S, Site>,
+    leaves: usize,
+    visited: Visitor<'_>,
+) -> Result<Option<usize>, Fault> {
+    let mut nodes = Vec::new(on.alloc);
+    for _ in 0..leaves {
+        nodes.push(0_usize)?;
+    }
+    let combine = |left: usize, _: usize| {
+        visited.visit_level(left);
+        left.wrapping_add(1)
+    };
+    merkle::root(on.rt, on.alloc, on.strategy, on.site, nodes, combine)
+}
+
+/// A call that isn't over a list: a sort of four numbers, a join, the map of a batch of sixteen
+/// indices in four ranges, or the fill of tiles on four rows of ten.
+#[derive(Clone, Copy, Debug, PartialEq, Eq)]
+pub enum Side {
+    Sort(bool),
+    Join,
+    Batch(Batched),
+    Fill(bool),
+}
+
+/// All of them.
+pub const SIDES: [Side; 8] = [
+    Side::Sort(true),
+    Side::Sort(false),
+    Side::Join,
+    Side::Batch(Batched::Map),
+    Side::Batch(Batched::TryMap),
+    Side::Batch(Batched::TryBatch),
+    Side::Fill(false),
+    Side::Fill(true),
+];
+
+/// What such a call is asked as, planned for four. Each index of the batch stands for three. Each
+/// row of the tiles takes eighteen, and they stand for five times as much.
+pub fn call_of_side(side: Side) -> Call {
+    let (kind, len, work) = match side {
+        Side::Sort(_) => return Call::body(4),
+        Side::Join => return Call::join(),
+        Side::Batch(_) => (Kind::Batches, 16, 48),
+        Side::Fill(_) => (Kind::Tiles, 10, 360),
+    };
+    Call {
+        kind,
+        len,
+        work,
+        max_parts: 4,
+    }
+}
+
+// The fill.
+fn fill_four<Rt: Threads + Wait + Abort + Sync, S: Strategy>(
+    on: &On<'_, Rt, S, Site>,
+    is_merged: bool,
+    visited: Visitor<'_>,
+) -> Result<usize, Fault> {
+    let grids = [Grid {
+        rows: 4,
+        tile_cost: NonZeroUsize::MIN.saturating_add(7),
+    }];
+    assert!(on.rt; Grid::fits(&grids, 10));
+    fill(on, is_merged, 10, &grids, visited)
+}
+
+/// Such a call, of which each closure visits.
+pub fn make_side<Rt: Threads + Wait + Abort + Sync, S: Strategy>(
+    on: &On<'_, Rt, S, Site>,
+    side: Side,
+    visited: Visitor<'_>,
+) -> Result<(), Trouble<u32>> {
+    let four = NonZeroUsize::MIN.saturating_add(3);
+    let mut numbers = [2u32, 1, 4, 3];
+    match side {
+        Side::Sort(is_stable) => done(sort(on, is_stable, &mut numbers, visited)),
+        Side::Join => join(on, visited),
+        Side::Batch(batched) => tried(map_batch(on, batched, 16, four, visited)),
+        Side::Fill(is_merged) => done(fill_four(on, is_merged, visited)),
+    }
+}
