@@ -9,6 +9,9 @@ returns-then-eq-clause-compares g c =
 
 pub returns-clause-compares : goal.returns-clause-compares
 returns-clause-compares g c =
-    let e = c.in_ok-explorer.ensures.explorer in
-    (refl, c.run.result, (_, (e.0 ∙ c.requires.workers, e.1, e.2, e.3), c.run.ensures),
-    search rules)
+    let e = c.in_ok-explorer.ensures.explorer in (
+      refl,
+      c.run.result,
+      (_, (e.0 ∙ c.requires.workers, e.1, e.2, e.3), c.run.ensures),
+      search rules,
+    )
