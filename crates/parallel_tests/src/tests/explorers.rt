@@ -12,13 +12,16 @@ use crate::tests::strategies::{RULES, SITE, Stopped, explorers, number, pool};
 use commonware_parallel::mocks::{
     ExploreError, Explorer, Rule, TASKS, WORKERS, explore, inline, mix, pick, pooled,
 };
-use commonware_parallel::{Call, Chooser, Fault, Grid, Path, Pick, Site, Strategy, Trouble};
+use commonware_parallel::{
+    Call, Chooser, Copies, Fault, Grid, Path, Pick, Site, Strategy, Trouble,
+};
 use parallel_pool::rayon::ThreadPoolBuildError;
 use std::alloc::Global;
 use std::num::NonZeroUsize;
 use std::process::Abort;
 use std::sync::Wait;
 use std::sync::atomic::{AtomicU64, Ordering};
+use std::test::Fail;
 use std::thread::Threads;
 use uses::batches::batch_ranges;
 use uses::explored::{explore_from_ten, explore_from_zero};
@@ -286,6 +289,31 @@ fn outputs_that_the_shape_does_not_change_are_answered(rt: HostRuntime) {
     let told = explore(&rt, alloc, |explorer| outputs(&rt, alloc, explorer).ok());
     // (99 * 100 * 199 / 6 is the sum of the squares)
     answers(&rt, 1, told, Some((328_350, 4950, Some(57))));
+}
+
+// The numbers' sum, begun from a first number in each segment.
+fn sum_from<Rt: Threads + Wait + Sync, S: Strategy>(
+    rt: &Rt,
+    alloc: Global,
+    strategy: &S,
+    numbers: &[u64],
+    first: u64,
+) -> Result<u64, Fault> {
+    let items = Copies { slice: numbers };
+    strategy.fold(rt, alloc, SITE, items, || first, add_sums, add_sums)
+}
+
+#[test]
+fn a_sum_does_not_depend_on_the_shape(rt: HostRuntime) -> Result<(), Fail> {
+    let alloc = rt.alloc();
+    let numbers = [3, 1, 4, 1, 5, 9, 2, 6];
+    let told = explore(
+        &rt,
+        alloc,
+        |explorer| sum_from(&rt, alloc, explorer, &numbers, 0).ok(),
+    );
+    assert_eq!(rt; told?, Some(31));
+    Ok(())
 }
 
 #[test]
