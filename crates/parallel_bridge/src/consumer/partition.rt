@@ -74,6 +74,8 @@ impl<'f, X: Drop, U: Drop, K: Drop, F: Fn(X) -> (K, Option<U>)> Folder<
         (λ r. PartitionOnto (F.post s.map_op.now) s.lists.value.0.items s.lists.value.1.items xs
         (values_in r.items) (keys_in r.items)) out };
 
+    // (as a call of its own it would move the folder through memory for each item)
+    #[inline(always)]
     fn consume(self, _alloc: Global, item: X) -> Result<Self, Fault> {
         let PartitionFolder { lists, map_op } = self;
         let mut lists = lists;
