@@ -1,9 +1,6 @@
 //! The value that the items of a segment are folded to.
 ghost use Rattle.std.specs.Prelude.{◌∷◌, ◌++◌, [], List, Result};
-ghost use Rattle.std.specs.Iterator.{Drains, HoldsAlong, IsFinite};
-ghost use Rattle.std.specs.List.{All};
 ghost use Rattle.parallel_bridge.specs.Lists.{Chain, FoldSegment};
-ghost use Rattle.parallel_bridge.specs.Sources.{GivesSome};
 
 use crate::plumbing::{Consumer, Folder};
 use parallel_fault::{Fault, Trouble};
@@ -111,24 +108,4 @@ impl<
             fold_op: self.fold_op,
         })
     }
-}
-
-/// The items that come folded from a value, in their order.
-pub(crate) fn fold_from<I: Iterator, R: Drop, F: Fn(R, I::Item) -> R>(
-    start: R,
-    iter: I,
-    fold_op: &F,
-) -> R
-    requires can { I.can_next iter }
-    requires ends { IsFinite (I.remaining iter) }
-    requires accepts { HoldsAlong I.next_gives iter
-        (All (λ x. (value : R) → F.pre fold_op.now value x)) }
-    ensures { GivesSome (Drains I.next_gives) iter
-        (λ xs. Chain (λ a x b. F.post fold_op.now a x b) start xs result) }
-{
-    let mut value = start;
-    for item in iter {
-        value = fold_op(value, item);
-    }
-    value
 }

@@ -1,10 +1,7 @@
 //! The value that the items of a segment are folded to with a state at hand.
 ghost use Rattle.std.specs.Prelude.{◌∷◌, [], Result};
 ghost use Rattle.std.specs.Borrow.{MutBor};
-ghost use Rattle.std.specs.Iterator.{Drains, HoldsAlong, IsFinite};
-ghost use Rattle.std.specs.List.{All};
-ghost use Rattle.parallel_bridge.specs.Sources.{GivesSome};
-ghost use Rattle.parallel_bridge.specs.States.{FoldInitSegment, FoldStep, StateChain, StateChainContinues};
+ghost use Rattle.parallel_bridge.specs.States.{FoldInitSegment, FoldStep, StateChain};
 
 use crate::plumbing::{Consumer, Folder};
 use parallel_fault::{Fault, Trouble};
@@ -132,27 +129,4 @@ impl<
             fold_op: self.fold_op,
         })
     }
-}
-
-/// The items that come folded from a value, in their order, with a state that goes from item to
-/// item.
-pub(crate) fn fold_init_from<I: Iterator, S: Drop, R: Drop, F: Fn(R, &mut S, I::Item) -> R>(
-    start: R,
-    state: &mut S,
-    iter: I,
-    fold_op: &F,
-) -> R
-    requires can { I.can_next iter }
-    requires ends { IsFinite (I.remaining iter) }
-    requires accepts { HoldsAlong I.next_gives iter
-        (All (λ x. (value : R) (state : MutBor S) → F.pre fold_op.now value state x)) }
-    ensures { GivesSome (Drains I.next_gives) iter
-        (λ xs. StateChainContinues (FoldStep (F.post fold_op.now)) state.old start xs
-        state.new result) }
-{
-    let mut value = start;
-    for item in iter {
-        value = fold_op(value, state, item);
-    }
-    value
 }

@@ -1,14 +1,9 @@
 //! The answers of a closure with a state at hand.
 ghost use Rattle.std.specs.Prelude.{IfOk, List, Result};
 ghost use Rattle.std.specs.Borrow.{MutBor};
-ghost use Rattle.std.specs.Iterator.{Drains, HoldsAlong, IsFinite};
-ghost use Rattle.std.specs.List.{All};
-ghost use Rattle.parallel_fault.specs.Trouble.{IsMemoryOnErr};
-ghost use Rattle.parallel_bridge.specs.Sources.{GivesSome};
-ghost use Rattle.parallel_bridge.specs.States.{MapStep, StateSegment, StatesFrom, StatesContinue};
+ghost use Rattle.parallel_bridge.specs.States.{MapStep, StateSegment, StatesFrom};
 
 use crate::plumbing::{Consumer, Folder};
-use crate::room::with_places;
 use parallel_fault::{Fault, Trouble};
 use std::alloc::Global;
 
@@ -118,31 +113,4 @@ impl<
             map_op: self.map_op,
         })
     }
-}
-
-/// The answers of `map_op` for the items that come, in their order, with a state that goes from
-/// item to item.
-///
-/// # Errors
-///
-/// `Fault::Memory` if an allocation fails.
-pub(crate) fn map_init_from<I: Iterator, S: Drop, T: Drop, F: Fn(&mut S, I::Item) -> T>(
-    alloc: Global,
-    state: &mut S,
-    iter: I,
-    map_op: &F,
-) -> Result<Vec<T>, Fault>
-    requires can { I.can_next iter }
-    requires ends { IsFinite (I.remaining iter) }
-    requires accepts { HoldsAlong I.next_gives iter
-        (All (λ x. (p : MutBor S) → F.pre map_op.now p x)) }
-    ensures gives { IfOk result (λ ys. GivesSome (Drains I.next_gives) iter
-        (λ xs. StatesContinue (MapStep (F.post map_op.now)) state.old xs ys.items state.new)) }
-    ensures fault { IsMemoryOnErr result }
-{
-    let mut answers = with_places(alloc, iter.size_hint().0);
-    for item in iter {
-        answers.push(map_op(state, item))?;
-    }
-    Ok(answers)
 }

@@ -1,11 +1,8 @@
 //! The values and the keys of a partition.
 ghost use Rattle.std.specs.Prelude.{◌≡◌, ◌++◌, [], IfOk, List, Option, Result};
-ghost use Rattle.std.specs.Iterator.{Drains, HoldsAlong, IsFinite};
-ghost use Rattle.std.specs.List.{All};
 ghost use Rattle.parallel_fault.specs.Trouble.{IsMemoryOnErr};
 ghost use Rattle.parallel_bridge.specs.Onto.{PartitionOnto};
 ghost use Rattle.parallel_bridge.specs.Parts.{PartitionOf, keys_in, values_in};
-ghost use Rattle.parallel_bridge.specs.Sources.{GivesSome};
 ghost use Rattle.parallel_bridge.specs.Tries.{OnlyOk};
 
 use crate::plumbing::{Consumer, Folder, Reducer};
@@ -244,35 +241,4 @@ fn put_behind<T: Drop>(list: Vec<T>, more: Vec<T>) -> Result<Vec<T>, Fault>
     let mut more = more;
     list.append(&mut more)?;
     Ok(list)
-}
-
-/// The values that `map_op` answers for the items that come, and the keys of those for which it
-/// answers none, in order and behind those that are there.
-///
-/// # Errors
-///
-/// `Fault::Memory` if an allocation fails.
-pub(crate) fn partition_onto<I: Iterator, K: Drop, U: Drop, F: Fn(I::Item) -> (K, Option<U>)>(
-    values: Vec<U>,
-    keys: Vec<K>,
-    iter: I,
-    map_op: &F,
-) -> Result<(Vec<U>, Vec<K>), Fault>
-    requires can { I.can_next iter }
-    requires ends { IsFinite (I.remaining iter) }
-    requires accepts { HoldsAlong I.next_gives iter (All (F.pre map_op.now)) }
-    ensures gives { IfOk result (λ r. GivesSome (Drains I.next_gives) iter
-        (λ xs. PartitionOnto (F.post map_op.now) values.items keys.items xs r.0.items r.1.items)) }
-    ensures fault { IsMemoryOnErr result }
-{
-    let mut values = values;
-    let mut keys = keys;
-    for item in iter {
-        let (key, value) = map_op(item);
-        match value {
-            Some(value) => values.push(value)?,
-            None => keys.push(key)?,
-        }
-    }
-    Ok((values, keys))
 }

@@ -1,9 +1,6 @@
 //! The value that the items of a segment are folded to by a step that may fail.
 ghost use Rattle.std.specs.Prelude.{◌∷◌, ◌++◌, [], Err, List, Ok, Result};
-ghost use Rattle.std.specs.Iterator.{Drains, HoldsAlong, IsFinite};
-ghost use Rattle.std.specs.List.{All};
 ghost use Rattle.parallel_bridge.specs.Onto.{TryContinues};
-ghost use Rattle.parallel_bridge.specs.Sources.{GivesSome};
 ghost use Rattle.parallel_bridge.specs.Tries.{TryFoldSegment};
 
 use crate::plumbing::{Consumer, Folder};
@@ -125,34 +122,7 @@ impl<
     }
 }
 
-/// The items that come folded from a value, in their order, up to the first step that fails; or the
-/// error that is there, which stands. Items behind an error are passed over.
-///
-/// # Errors
-///
-/// The error of the first step that fails.
-pub(crate) fn try_fold_from<I: Iterator, R: Drop, E: Drop, F: Fn(R, I::Item) -> Result<R, E>>(
-    control: Result<R, E>,
-    iter: I,
-    fold_op: &F,
-) -> Result<R, E>
-where
-    I::Item: Drop,
-    requires can { I.can_next iter }
-    requires ends { IsFinite (I.remaining iter) }
-    requires accepts { HoldsAlong I.next_gives iter
-        (All (λ x. (value : R) → F.pre fold_op.now value x)) }
-    ensures { GivesSome (Drains I.next_gives) iter
-        (λ xs. TryContinues (λ a x out. F.post fold_op.now a x out) control xs result) }
-{
-    let mut control = control;
-    for item in iter {
-        control = try_fold_step(control, item, fold_op);
-    }
-    control
-}
-
-/// The same for one item.
+/// One item folded onto a value; or the error that is there, which stands.
 ///
 /// # Errors
 ///

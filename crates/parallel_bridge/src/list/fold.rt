@@ -10,7 +10,7 @@ ghost use Rattle.parallel_bridge.specs.Sources.{GivesSome};
 ghost use Rattle.parallel_bridge.specs.Ways.{FoldedAs};
 
 use crate::bridge::bridge;
-use crate::consumer::fold::{FoldConsumer, fold_from};
+use crate::consumer::fold::FoldConsumer;
 use crate::consumer::reduce::ReduceConsumer;
 use crate::parts::Parts;
 use crate::path::Path;
@@ -35,7 +35,11 @@ pub fn fold_iter<I: Iterator, R: Drop, ID: Fn() -> R, F: Fn(R, I::Item) -> R>(
     ensures { GivesSome (Drains I.next_gives) iter
         (λ xs. FoldSegment (ID.post identity.now) (λ a x b. F.post fold_op.now a x b) xs result) }
 {
-    fold_from(identity(), iter, fold_op)
+    let mut value = identity();
+    for item in iter {
+        value = fold_op(value, item);
+    }
+    value
 }
 
 /// The items of a list folded along its shape for that many threads: each segment from an identity

@@ -11,7 +11,7 @@ ghost use Rattle.parallel_bridge.specs.States.{AlongInit, FoldInitSegment, FoldS
 ghost use Rattle.parallel_bridge.specs.Ways.{FoldedInitAs};
 
 use crate::bridge::bridge;
-use crate::consumer::fold_init::{FoldInitConsumer, fold_init_from};
+use crate::consumer::fold_init::FoldInitConsumer;
 use crate::consumer::reduce::ReduceConsumer;
 use crate::parts::Parts;
 use crate::path::Path;
@@ -43,7 +43,11 @@ pub fn fold_init_iter<
         (FoldStep (λ a p x b q. F.post fold_op.now a p x b q)) xs result) }
 {
     let mut state = init();
-    fold_init_from(identity(), &mut state, iter, fold_op)
+    let mut value = identity();
+    for item in iter {
+        value = fold_op(value, &mut state, item);
+    }
+    value
 }
 
 /// The items of a list folded along its shape for that many threads: each segment from a state and

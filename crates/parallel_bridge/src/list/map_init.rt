@@ -9,11 +9,11 @@ ghost use Rattle.parallel_bridge.specs.Sources.{GivesSome};
 ghost use Rattle.parallel_bridge.specs.States.{MapStep, StateSegment, StatesAlong};
 ghost use Rattle.parallel_bridge.specs.Ways.{MappedInitAs};
 
-use crate::consumer::map_init::map_init_from;
 use crate::fill::fill;
 use crate::fill::map_init::MapInitWriter;
 use crate::parts::Parts;
 use crate::path::Path;
+use crate::room::with_places;
 use crate::segments::depth_of;
 use crate::troubles::unfailing;
 use crate::window::home::Home;
@@ -45,7 +45,11 @@ pub fn map_init_iter<I: Iterator, S: Drop, T: Drop, N: Fn() -> S, F: Fn(&mut S, 
     ensures fault { IsMemoryOnErr result }
 {
     let mut state = init();
-    map_init_from(alloc, &mut state, iter, map_op)
+    let mut answers = with_places(alloc, iter.size_hint().0);
+    for item in iter {
+        answers.push(map_op(&mut state, item))?;
+    }
+    Ok(answers)
 }
 
 /// The answers of `map_op` for the items of a list, in their order, where the segments of the

@@ -7,7 +7,7 @@ ghost use Rattle.parallel_bridge.specs.Parts.{PartitionOf};
 ghost use Rattle.parallel_bridge.specs.Sources.{GivesSome};
 
 use crate::bridge::bridge;
-use crate::consumer::partition::{PartitionConsumer, partition_onto, put_in_one, spare_lists};
+use crate::consumer::partition::{PartitionConsumer, put_in_one, spare_lists};
 use crate::parts::Parts;
 use crate::path::Path;
 use crate::room::{keep_pages_of, places_for, second_places_for, with_places};
@@ -37,10 +37,16 @@ pub fn partition_iter<I: Iterator, K: Drop, U: Drop, F: Fn(I::Item) -> (K, Optio
     ensures fault { IsMemoryOnErr result }
 {
     let hint = iter.size_hint().0;
-    let values = with_places(alloc, places_for(hint));
-    let keys = with_places(alloc, second_places_for(hint));
-    let answer = partition_onto(values, keys, iter, map_op)?;
-    Ok(answer)
+    let mut values = with_places(alloc, places_for(hint));
+    let mut keys = with_places(alloc, second_places_for(hint));
+    for item in iter {
+        let (key, value) = map_op(item);
+        match value {
+            Some(value) => values.push(value)?,
+            None => keys.push(key)?,
+        }
+    }
+    Ok((values, keys))
 }
 
 /// The values and the keys of the items of a list, in their order, where the segments of the list's

@@ -10,7 +10,7 @@ ghost use Rattle.parallel_bridge.specs.Tries.{TryAlong, TryFoldSegment};
 ghost use Rattle.parallel_bridge.specs.Ways.{TryFoldedAs};
 
 use crate::bridge::bridge_watched;
-use crate::consumer::try_fold::{TryFoldConsumer, try_fold_from};
+use crate::consumer::try_fold::{TryFoldConsumer, try_fold_step};
 use crate::consumer::try_reduce::TryReduceConsumer;
 use crate::gate::watch::seats_for;
 use crate::gate::{Gate, GateWatch};
@@ -47,7 +47,11 @@ where
         (λ xs. TryFoldSegment (ID.post identity.now) (λ a x out. F.post fold_op.now a x out)
         xs result) }
 {
-    try_fold_from(Ok(identity()), iter, fold_op)
+    let mut control = Ok(identity());
+    for item in iter {
+        control = try_fold_step(control, item, fold_op);
+    }
+    control
 }
 
 /// The items of a list folded along its shape for that many threads: each segment from an identity

@@ -46,7 +46,9 @@ where
 {
     let mut values = with_places(alloc, iter.size_hint().0);
     let mut failed = None;
-    try_map_from(&mut values, &mut failed, iter, map_op)?;
+    for item in iter {
+        try_map_step(&mut values, &mut failed, item, map_op)?;
+    }
     match failed {
         None => Ok(values),
         Some(error) => Err(Trouble::Closure(error)),
@@ -140,32 +142,8 @@ pub fn try_map_by<
     }
 }
 
-// Puts the values of the items that come behind those that are there, in order, up to the first
-// item that fails, whose error is put down. Behind an error, also one that was there, the items
-// are passed over and the closure isn't called.
-fn try_map_from<I: Iterator, T: Drop, E: Drop, F: Fn(I::Item) -> Result<T, E>>(
-    values: &mut Vec<T>,
-    failed: &mut Option<E>,
-    iter: I,
-    map_op: &F,
-) -> Result<(), Fault>
-where
-    I::Item: Drop,
-    requires can { I.can_next iter }
-    requires ends { IsFinite (I.remaining iter) }
-    requires accepts { HoldsAlong I.next_gives iter (All (F.pre map_op.now)) }
-    ensures gives { IfOk result (λ _. GivesSome (Drains I.next_gives) iter
-        (λ xs. TryMapBehind (F.post map_op.now) (ended values.old.items failed.old) xs
-        (ended values.new.items failed.new))) }
-    ensures fault { IsMemoryOnErr result }
-{
-    for item in iter {
-        try_map_step(values, failed, item, map_op)?;
-    }
-    Ok(())
-}
-
-// The same for one item.
+// Puts the value of an item behind those that are there, or its error down. Where an error is there,
+// the item is passed over and the closure isn't called.
 fn try_map_step<X: Drop, T: Drop, E: Drop, F: Fn(X) -> Result<T, E>>(
     values: &mut Vec<T>,
     failed: &mut Option<E>,

@@ -1,25 +1,29 @@
--- The answers from the fresh state.
-use Rattle.parallel_bridge.proofs.{List, ◌++◌, [], refl, subst, append-nil, IfOk-weaker, Drains, GivesSome, MapStep, StatesFrom, StateSegment}
+-- One turn is one step more of the states, from the fresh one.
+use Rattle.parallel_bridge.proofs.{rules, ◌≡◌, ◌∷◌, ◌++◌, [], refl, sym, subst, append-nil, append_assoc, ap, ◌∙◌, MutBor, MapStep, StatesFrom, next_has}
 use Rattle.parallel_bridge.proofs.list.map_init.map_init_iter.Goals as goal
+
+pub map_op-requires : goal.map_op-requires
+map_op-requires g c = next_has g.I.Iterator.next_gives
+    (λ (x : g.row.I-Item.Denot). (p : MutBor g.row.S.Denot) → goal.F-pre g c.args.map_op.now p x)
+    c.args.iter c.loop-item.item-iterator c.next.new.self c.loop-item.yielded c.in-Some.item
+    c.requires.map_accepts (search rules) (search rules) _
+
+pub loop-item-preserved : goal.loop-item-preserved
+loop-item-preserved g c more zs h =
+    let y = c.map_op.result in let step = MapStep (goal.F-post g c.args.map_op.now) in
+    let before = c.loop-item.answers.items in let item = c.in-Some.item in
+    let s = c.init-state.result in
+    let more_answers : c.push.new.self.items ++ zs ≡ before ++ (y ∷ zs) =
+    ap (λ l. l ++ zs) (search rules) ∙ append_assoc before (y ∷ []) zs in
+    subst (λ l. StatesFrom step s l (c.push.new.self.items ++ zs))
+    (sym (append_assoc c.loop-item.yielded (item ∷ []) more))
+    (subst (λ l. StatesFrom step s (c.loop-item.yielded ++ (item ∷ more)) l)
+    (sym more_answers) (c.loop-item.invariant (item ∷ more) (y ∷ zs) (_, search rules, h)))
 
 pub returns-clause-one_state : goal.returns-clause-one_state
 returns-clause-one_state g c =
-    let step = MapStep (goal.F-post g c.args.map_op.now) in
-    let init = goal.N-post g c.args.init.now in let s = c.init-state.result in
-    let comes = Drains g.I.Iterator.next_gives in
-    IfOk-weaker c.map_init_from.result (λ ys. GivesSome comes c.args.iter
-    (λ xs. (more : List g.row.I-Item.Denot) (zs : List g.row.T.Denot)
-    → StatesFrom step c.map_init_from.new.state more zs
-    → StatesFrom step s (xs ++ more) (ys.items ++ zs)))
-    (λ ys. GivesSome comes c.args.iter (λ xs. StateSegment init step xs ys.items))
-    (λ ys h. (
-      h.0,
-      h.1,
-      (
-        s,
-        c.init-state.ensures,
-        subst (λ l. StatesFrom step s l ys.items) (append-nil h.0)
-            (subst (λ l. StatesFrom step s (h.0 ++ []) l) (append-nil ys.items) (h.2 [] [] refl)),
-      ),
-    ))
-    c.map_init_from.ensures.gives
+    let step = MapStep (goal.F-post g c.args.map_op.now) in let s = c.init-state.result in
+    let xs = c.loop-item.yielded in let ys = c.loop-item.answers.items in
+    let states = subst (λ l. StatesFrom step s l ys) (append-nil xs)
+    (subst (StatesFrom step s (xs ++ [])) (append-nil ys) (c.loop-item.invariant [] [] refl)) in
+    (xs, search rules, (s, c.init-state.ensures, states))

@@ -1,6 +1,6 @@
 -- the lists have what the items so far put behind those of the start
 use Rattle.parallel_bridge.proofs.{PartitionOnto}
-use Rattle.parallel_bridge.proofs.consumer.partition.partition_onto.Given as goal
+use Rattle.parallel_bridge.proofs.list.partition.partition_iter.Given as goal
 
 abbrev pub invariant-loop-item : goal.invariant-loop-item
 invariant-loop-item g l = PartitionOnto

@@ -1,7 +1,7 @@
 -- the values and errors so far stand behind those of the start
 use Rattle.parallel_bridge.proofs.{TryMapBehind, ended}
-use Rattle.parallel_bridge.proofs.list.try_map.try_map_from.Given as goal
+use Rattle.parallel_bridge.proofs.list.try_map.try_map_iter.Given as goal
 
 abbrev pub invariant-loop-item : goal.invariant-loop-item
 invariant-loop-item g l = TryMapBehind (goal.F-post g l.map_op)
-    (ended l.fn.values.items l.fn.failed) l.yielded (ended l.values.items l.failed)
+    (ended l.initial.values.items l.initial.failed) l.yielded (ended l.values.items l.failed)

@@ -1,6 +1,6 @@
 -- answers from here for more items are, behind those so far, answers from the start
 use Rattle.parallel_bridge.proofs.{List, ◌++◌, MapStep, StatesFrom}
-use Rattle.parallel_bridge.proofs.consumer.map_init.map_init_from.Given as goal
+use Rattle.parallel_bridge.proofs.list.map_init.map_init_iter.Given as goal
 
 abbrev pub invariant-loop-item : goal.invariant-loop-item
 invariant-loop-item g l = (more : List g.row.I-Item.Denot) (zs : List g.row.T.Denot)

@@ -1,6 +1,6 @@
 -- a chain from here over more items is one from the start over the items so far, and more
 use Rattle.parallel_bridge.proofs.{List, ◌++◌, FoldStep, StateChain}
-use Rattle.parallel_bridge.proofs.consumer.fold_init.fold_init_from.Given as goal
+use Rattle.parallel_bridge.proofs.list.fold_init.fold_init_iter.Given as goal
 
 abbrev pub invariant-loop-item : goal.invariant-loop-item
 invariant-loop-item g l = (more : List g.row.I-Item.Denot) (b : g.row.R.Denot)
