@@ -146,14 +146,8 @@ where
 
     fn split(self, alloc: Global) -> Result<(Self, Self, ()), Self::Done> {
         let len = self.parts.len();
-        let Filling {
-            parts,
-            writer,
-            room,
-            watch,
-            items: _,
-        } = self;
-        let (front, back) = match parts.split_at(alloc, len / 2) {
+        let (room, watch) = (self.room, self.watch);
+        let (front, back) = match self.parts.split_at(alloc, len / 2) {
             Ok(halves) => halves,
             Err((rest, fault)) => return Err((room, Err(Trouble::Fault(fault)), rest, watch)),
         };
@@ -161,14 +155,14 @@ where
         let (left_watch, right_watch) = watch.halve(len);
         let first = Filling {
             parts: front,
-            writer,
+            writer: self.writer,
             room: left,
             watch: left_watch,
             items: PhantomData,
         };
         let second = Filling {
             parts: back,
-            writer,
+            writer: self.writer,
             room: right,
             watch: right_watch,
             items: PhantomData,
@@ -177,18 +171,12 @@ where
     }
 
     fn run(self, _alloc: Global) -> Self::Done {
-        let Filling {
-            parts,
-            writer,
-            room,
-            watch,
-            items: _,
-        } = self;
-        let mut room = room;
-        let mut watch = watch;
+        let mut room = self.room;
+        let mut watch = self.watch;
         // (asked for the proof: its clause is the one that says how many items come)
-        let _len = parts.len();
-        let (done, rest) = write_items(writer, parts.into_items(), &mut room, &mut watch);
+        let _len = self.parts.len();
+        let items = self.parts.into_items();
+        let (done, rest) = write_items(self.writer, items, &mut room, &mut watch);
         match done {
             Ok(()) => (room, Ok(()), rest, watch),
             Err(halt) => (room, Err(Trouble::Closure(halt)), rest, watch),
@@ -219,11 +207,10 @@ pub(crate) fn put_together<T: Drop, E: Drop>(
         (written result.0 result.1) }
 {
     let (front, first) = left;
-    let (back, second) = right;
+    let (mut back, second) = right;
     if first.is_ok() && second.is_ok() {
         return (front.join(back), second);
     }
-    let mut back = back;
     back.clear();
     let whole = front.join(back);
     match first {

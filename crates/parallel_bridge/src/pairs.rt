@@ -27,11 +27,10 @@ pub struct Pairs<T> {
 impl<T: Drop> Pairs<T> {
     /// The pairs of a list, and its last item where it has an odd number of them. Nothing is
     /// copied, and it takes no memory.
-    pub fn new(items: Vec<T>) -> (Pairs<T>, Option<T>)
+    pub fn new(mut items: Vec<T>) -> (Pairs<T>, Option<T>)
         ensures pairs { pair_items result.0 ≡ pairs_of items.items }
         ensures odd { result.1 ≡ odd_of items.items }
     {
-        let mut items = items;
         let odd = if items.len() % 2 == 1 {
             items.pop()
         } else {
@@ -144,10 +143,9 @@ impl<T: Drop> Cursor<(T, T), Window<T>> for PairSegment<T> {
         Some(take_pair(&mut self.window))
     }
 
-    fn rest(self) -> Window<T> {
-        let mut window = self.window;
-        window.clear();
-        window
+    fn rest(mut self) -> Window<T> {
+        self.window.clear();
+        self.window
     }
 
     fn end(self) -> Window<T> {

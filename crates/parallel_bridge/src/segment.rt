@@ -185,10 +185,9 @@ impl<T: Drop> Cursor<T, Window<T>> for WindowSegment<T> {
         Some(self.window.take())
     }
 
-    fn rest(self) -> Window<T> {
-        let mut window = self.window;
-        window.clear();
-        window
+    fn rest(mut self) -> Window<T> {
+        self.window.clear();
+        self.window
     }
 
     fn end(self) -> Window<T> {

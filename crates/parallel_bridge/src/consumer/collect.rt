@@ -29,11 +29,9 @@ impl<T: Drop, E> Reducer<Vec<T>, E> for CollectReducer {
     ghost reduce_gives = { λ _ left right out. OnlyOk
         (λ all. all.items ≡ left.items ++ right.items) out };
 
-    fn reduce(self, left: Vec<T>, right: Vec<T>) -> Result<Vec<T>, Trouble<E>> {
-        let mut all = left;
-        let mut rest = right;
-        all.append(&mut rest)?;
-        Ok(all)
+    fn reduce(self, mut left: Vec<T>, mut right: Vec<T>) -> Result<Vec<T>, Trouble<E>> {
+        left.append(&mut right)?;
+        Ok(left)
     }
 }
 

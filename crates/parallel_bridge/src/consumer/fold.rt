@@ -38,12 +38,8 @@ impl<'c, X: Drop, U: Drop, R, E, C: Folder<U, R, E>, F: Fn(U, X) -> U> Folder<X,
         × C.gives s.base (b ∷ []) out };
 
     fn consume(self, _alloc: Global, item: X) -> Result<Self, Fault> {
-        let value = (self.fold_op)(self.item, item);
-        Ok(FoldFolder {
-            base: self.base,
-            item: value,
-            fold_op: self.fold_op,
-        })
+        let item = (self.fold_op)(self.item, item);
+        Ok(FoldFolder { item, ..self })
     }
 
     fn complete(self, alloc: Global) -> Result<R, Trouble<E>> {
@@ -86,17 +82,9 @@ impl<
     ghost node_gives = { λ s a b out. C.node_gives s.base a b out };
 
     fn split_at(self, index: usize) -> Result<(Self, Self, C::Reducer), Fault> {
-        let (left, right, reducer) = self.base.split_at(index)?;
-        let left = FoldConsumer {
-            base: left,
-            identity: self.identity,
-            fold_op: self.fold_op,
-        };
-        let right = FoldConsumer {
-            base: right,
-            identity: self.identity,
-            fold_op: self.fold_op,
-        };
+        let (left, rest, reducer) = self.base.split_at(index)?;
+        let left = FoldConsumer { base: left, ..self };
+        let right = FoldConsumer { base: rest, ..self };
         Ok((left, right, reducer))
     }
 

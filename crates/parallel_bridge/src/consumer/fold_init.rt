@@ -102,19 +102,9 @@ impl<
     ghost node_gives = { λ s a b out. C.node_gives s.base a b out };
 
     fn split_at(self, index: usize) -> Result<(Self, Self, C::Reducer), Fault> {
-        let (left, right, reducer) = self.base.split_at(index)?;
-        let left = FoldInitConsumer {
-            base: left,
-            init: self.init,
-            identity: self.identity,
-            fold_op: self.fold_op,
-        };
-        let right = FoldInitConsumer {
-            base: right,
-            init: self.init,
-            identity: self.identity,
-            fold_op: self.fold_op,
-        };
+        let (left, rest, reducer) = self.base.split_at(index)?;
+        let left = FoldInitConsumer { base: left, ..self };
+        let right = FoldInitConsumer { base: rest, ..self };
         Ok((left, right, reducer))
     }
 

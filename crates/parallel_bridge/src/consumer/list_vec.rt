@@ -32,13 +32,11 @@ impl<T: Drop, E> Reducer<LinkedList<Vec<T>>, E> for ListReducer {
 
     fn reduce(
         self,
-        left: LinkedList<Vec<T>>,
-        right: LinkedList<Vec<T>>,
+        mut left: LinkedList<Vec<T>>,
+        mut right: LinkedList<Vec<T>>,
     ) -> Result<LinkedList<Vec<T>>, Trouble<E>> {
-        let mut lists = left;
-        let mut others = right;
-        lists.append(&mut others)?;
-        Ok(lists)
+        left.append(&mut right)?;
+        Ok(left)
     }
 }
 
@@ -49,10 +47,9 @@ impl<T: Drop, E> Folder<T, LinkedList<Vec<T>>, E> for ListVecFolder<T> {
 
     ghost gives = { λ s xs out. OnlyOk (λ all. IsListed (s.vec.items ++ xs) all) out };
 
-    fn consume(self, _alloc: Global, item: T) -> Result<Self, Fault> {
-        let mut vec = self.vec;
-        vec.push(item)?;
-        Ok(ListVecFolder { vec })
+    fn consume(mut self, _alloc: Global, item: T) -> Result<Self, Fault> {
+        self.vec.push(item)?;
+        Ok(self)
     }
 
     fn complete(self, alloc: Global) -> Result<LinkedList<Vec<T>>, Trouble<E>> {

@@ -36,10 +36,7 @@ impl<'f, X: Drop, T: Drop, R, E, C: Folder<T, R, E>, F: Fn(X) -> T> Folder<X, R,
     fn consume(self, alloc: Global, item: X) -> Result<Self, Fault> {
         let answer = (self.map_op)(item);
         let base = self.base.consume(alloc, answer)?;
-        Ok(MapFolder {
-            base,
-            map_op: self.map_op,
-        })
+        Ok(MapFolder { base, ..self })
     }
 
     fn complete(self, alloc: Global) -> Result<R, Trouble<E>> {
@@ -73,15 +70,9 @@ impl<'f, X: Drop, T: Drop, C: Consumer<T>, F: Fn(X) -> T + Sync> Consumer<X>
     ghost node_gives = { λ s a b out. C.node_gives s.base a b out };
 
     fn split_at(self, index: usize) -> Result<(Self, Self, C::Reducer), Fault> {
-        let (left, right, reducer) = self.base.split_at(index)?;
-        let left = MapConsumer {
-            base: left,
-            map_op: self.map_op,
-        };
-        let right = MapConsumer {
-            base: right,
-            map_op: self.map_op,
-        };
+        let (left, rest, reducer) = self.base.split_at(index)?;
+        let left = MapConsumer { base: left, ..self };
+        let right = MapConsumer { base: rest, ..self };
         Ok((left, right, reducer))
     }
 

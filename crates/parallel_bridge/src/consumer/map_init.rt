@@ -91,17 +91,9 @@ impl<
     ghost node_gives = { λ s a b out. C.node_gives s.base a b out };
 
     fn split_at(self, index: usize) -> Result<(Self, Self, C::Reducer), Fault> {
-        let (left, right, reducer) = self.base.split_at(index)?;
-        let left = MapInitConsumer {
-            base: left,
-            init: self.init,
-            map_op: self.map_op,
-        };
-        let right = MapInitConsumer {
-            base: right,
-            init: self.init,
-            map_op: self.map_op,
-        };
+        let (left, rest, reducer) = self.base.split_at(index)?;
+        let left = MapInitConsumer { base: left, ..self };
+        let right = MapInitConsumer { base: rest, ..self };
         Ok((left, right, reducer))
     }
 

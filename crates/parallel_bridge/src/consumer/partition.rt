@@ -48,13 +48,11 @@ impl<U: Drop, K: Drop> Reducer<Vec<(Vec<U>, Vec<K>)>, Infallible> for PartitionR
 
     fn reduce(
         self,
-        left: Vec<(Vec<U>, Vec<K>)>,
-        right: Vec<(Vec<U>, Vec<K>)>,
+        mut left: Vec<(Vec<U>, Vec<K>)>,
+        mut right: Vec<(Vec<U>, Vec<K>)>,
     ) -> Result<Vec<(Vec<U>, Vec<K>)>, Trouble<Infallible>> {
-        let mut lists = left;
-        let mut others = right;
-        lists.append(&mut others)?;
-        Ok(lists)
+        left.append(&mut right)?;
+        Ok(left)
     }
 }
 
@@ -124,22 +122,17 @@ impl<'f, X: Drop, U: Send + Drop, K: Send + Drop, F: Fn(X) -> (K, Option<U>) + S
         × (keys_in all.items ≡ keys_in left.items ++ keys_in right.items)) out };
 
     fn split_at(self, index: usize) -> Result<(Self, Self, PartitionReducer), Fault> {
-        let PartitionConsumer {
-            map_op,
-            items,
-            spares,
-        } = self;
-        let mut spares = spares;
+        let mut spares = self.spares;
         let half = spares.len() / 2;
         let others = spares.split_off(half)?;
         let left = PartitionConsumer {
-            map_op,
+            map_op: self.map_op,
             items: index,
             spares,
         };
         let right = PartitionConsumer {
-            map_op,
-            items: items.saturating_sub(index),
+            map_op: self.map_op,
+            items: self.items.saturating_sub(index),
             spares: others,
         };
         Ok((left, right, PartitionReducer))
@@ -164,9 +157,7 @@ fn first_lists<U: Drop, K: Drop>(
     ensures { (result.0.items ≡ []) × (result.1.items ≡ []) }
 {
     match spares.into_iter().next() {
-        Some((values, keys)) => {
-            let mut values = values;
-            let mut keys = keys;
+        Some((mut values, mut keys)) => {
             values.clear();
             keys.clear();
             (values, keys)
@@ -219,8 +210,8 @@ pub(crate) fn put_in_one<U: Drop, K: Drop>(
     let mut values = Vec::new(alloc);
     let mut keys = Vec::new(alloc);
     for (more_values, more_keys) in lists {
-        values = put_behind(values, more_values)?;
-        keys = put_behind(keys, more_keys)?;
+        values = put_after(values, more_values)?;
+        keys = put_after(keys, more_keys)?;
     }
     Ok((values, keys))
 }
@@ -230,15 +221,13 @@ pub(crate) fn put_in_one<U: Drop, K: Drop>(
 /// # Errors
 ///
 /// `Fault::Memory` if an allocation fails.
-fn put_behind<T: Drop>(list: Vec<T>, more: Vec<T>) -> Result<Vec<T>, Fault>
+fn put_after<T: Drop>(mut list: Vec<T>, mut more: Vec<T>) -> Result<Vec<T>, Fault>
     ensures items { IfOk result (λ all. all.items ≡ list.items ++ more.items) }
     ensures fault { IsMemoryOnErr result }
 {
     if list.is_empty() && list.capacity() < more.capacity() {
         return Ok(more);
     }
-    let mut list = list;
-    let mut more = more;
     list.append(&mut more)?;
     Ok(list)
 }

@@ -46,11 +46,8 @@ impl<'r, T: Drop, G: Fn(T, T) -> T> Folder<T, T, Infallible> for ReduceFolder<'r
         (λ r. Chain (λ a x b. G.post s.reduce_op.now a x b) s.item xs r) out };
 
     fn consume(self, _alloc: Global, item: T) -> Result<Self, Fault> {
-        let value = (self.reduce_op)(self.item, item);
-        Ok(ReduceFolder {
-            item: value,
-            reduce_op: self.reduce_op,
-        })
+        let item = (self.reduce_op)(self.item, item);
+        Ok(ReduceFolder { item, ..self })
     }
 
     fn complete(self, _alloc: Global) -> Result<T, Trouble<Infallible>> {
@@ -86,14 +83,8 @@ impl<'r, T: Send + Drop, I: Fn() -> T + Sync, G: Fn(T, T) -> T + Sync> Consumer<
         (λ all. G.post s.reduce_op.now left right all) out };
 
     fn split_at(self, _index: usize) -> Result<(Self, Self, Self), Fault> {
-        let right = ReduceConsumer {
-            identity: self.identity,
-            reduce_op: self.reduce_op,
-        };
-        let reducer = ReduceConsumer {
-            identity: self.identity,
-            reduce_op: self.reduce_op,
-        };
+        let right = ReduceConsumer { ..self };
+        let reducer = ReduceConsumer { ..self };
         Ok((self, right, reducer))
     }
 

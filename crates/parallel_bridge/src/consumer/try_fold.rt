@@ -50,11 +50,7 @@ impl<
 
     fn consume(self, _alloc: Global, item: X) -> Result<Self, Fault> {
         let control = try_fold_step(self.control, item, self.fold_op);
-        Ok(TryFoldFolder {
-            base: self.base,
-            control,
-            fold_op: self.fold_op,
-        })
+        Ok(TryFoldFolder { control, ..self })
     }
 
     fn complete(self, alloc: Global) -> Result<R, Trouble<D>> {
@@ -98,17 +94,9 @@ impl<
     ghost node_gives = { λ s a b out. C.node_gives s.base a b out };
 
     fn split_at(self, index: usize) -> Result<(Self, Self, C::Reducer), Fault> {
-        let (left, right, reducer) = self.base.split_at(index)?;
-        let left = TryFoldConsumer {
-            base: left,
-            identity: self.identity,
-            fold_op: self.fold_op,
-        };
-        let right = TryFoldConsumer {
-            base: right,
-            identity: self.identity,
-            fold_op: self.fold_op,
-        };
+        let (left, rest, reducer) = self.base.split_at(index)?;
+        let left = TryFoldConsumer { base: left, ..self };
+        let right = TryFoldConsumer { base: rest, ..self };
         Ok((left, right, reducer))
     }
 

@@ -96,14 +96,8 @@ impl<'r, T: Send + Drop, E: Send + Drop, I: Fn() -> T + Sync, G: Fn(T, T) -> T +
         (λ all. G.post s.reduce_op.now left right all) out };
 
     fn split_at(self, _index: usize) -> Result<(Self, Self, Self), Fault> {
-        let right = TryReduceConsumer {
-            identity: self.identity,
-            reduce_op: self.reduce_op,
-        };
-        let reducer = TryReduceConsumer {
-            identity: self.identity,
-            reduce_op: self.reduce_op,
-        };
+        let right = TryReduceConsumer { ..self };
+        let reducer = TryReduceConsumer { ..self };
         Ok((self, right, reducer))
     }
 

@@ -102,11 +102,9 @@ impl<'g> Watch for GateWatch<'g> {
         self.gate.tell(&mut self.seat, self.start);
     }
 
-    fn join(self, right: GateWatch<'g>) -> GateWatch<'g> {
-        let GateWatch { gate, seat, start } = self;
-        let mut seat = seat;
-        gate.join(&mut seat, right.seat);
-        GateWatch { gate, seat, start }
+    fn join(mut self, right: GateWatch<'g>) -> GateWatch<'g> {
+        self.gate.join(&mut self.seat, right.seat);
+        self
     }
 }
 

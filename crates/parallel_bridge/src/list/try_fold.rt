@@ -105,11 +105,7 @@ pub fn try_fold_parallel<
     };
     let depth = depth_of(threads);
     let (done, watch) = bridge_watched(rt, alloc, depth, threads.get(), parts, folding, watch);
-    let GateWatch {
-        gate: _,
-        seat,
-        start: _,
-    } = watch;
+    let seat = watch.seat;
     gate.close_joined(seat);
     unhalt(done)
 }

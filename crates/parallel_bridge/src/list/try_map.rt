@@ -96,11 +96,7 @@ pub fn try_map_parallel<
         room,
         watch,
     );
-    let GateWatch {
-        gate: _,
-        seat,
-        start: _,
-    } = watch;
+    let seat = watch.seat;
     gate.close_joined(seat);
     match unhalt(done) {
         Ok(()) => Ok(values.into_vec(home)),

@@ -34,10 +34,9 @@ impl<T, A: Allocator> Model for Block<T, A> {
 impl<T, A: Allocator> Block<T, A> {
     /// A vector's own block, with its items where they lie and its spare places behind them.
     /// Nothing is copied.
-    pub fn from_vec(vec: Vec<T, A>) -> Self
+    pub fn from_vec(mut vec: Vec<T, A>) -> Self
         ensures { result ≡ part result.start vec.cap 0 vec.items }
     {
-        let mut vec = vec;
         let len = vec.len();
         let room = vec.capacity();
         let (base, cells, deed) = open(&mut vec);
@@ -107,7 +106,7 @@ impl<T: Drop, A: Allocator> Block<T, A> {
     /// # Errors
     ///
     /// `AllocError` where memory for a bigger block is refused; the items are then gone.
-    pub fn push(self, item: T) -> Result<Self, AllocError>
+    pub fn push(mut self, item: T) -> Result<Self, AllocError>
         requires { self.before ≡ 0 }
         ensures { IfOk result (λ b. (b.items ≡ self.items ++ item ∷ []) × (b.before ≡ 0)) }
     {
@@ -116,9 +115,8 @@ impl<T: Drop, A: Allocator> Block<T, A> {
             vec.push(item)?;
             return Ok(Block::from_vec(vec));
         }
-        let mut block = self;
-        block.put(item);
-        Ok(block)
+        self.put(item);
+        Ok(self)
     }
 
     /// The first `index` items where they lie, and the rest moved into a block of their own.

@@ -68,13 +68,12 @@ impl<T, A: Allocator> Home<T, A> {
     }
 
     // A window over the first places of a vector's block.
-    fn over(vec: Vec<T, A>, room: usize) -> (Window<T>, Self)
+    fn over(mut vec: Vec<T, A>, room: usize) -> (Window<T>, Self)
         requires fits { (length vec.items ≤ room) × (room ≤ vec.cap) }
         ensures window { (result.0 ≡ part result.1.start room 0 vec.items)
             × (result.1.room ≡ room) }
         ensures site { IsSite T.row result.1 }
     {
-        let mut vec = vec;
         let len = vec.len();
         let capacity = vec.capacity();
         let (base, all, deed) = open(&mut vec);
@@ -114,9 +113,8 @@ impl<T> Window<T> {
             end: _,
             tail,
             deed,
-            vec,
+            mut vec,
         } = home;
-        let mut vec = vec;
         let all = cells.join(tail);
         close(&mut vec, base, len, capacity, all, deed);
         vec
@@ -125,10 +123,9 @@ impl<T> Window<T> {
 
 impl<T: Drop, A: Allocator> Home<T, A> {
     /// Drops what is left in the window, and frees its block.
-    pub fn free(self, window: Window<T>)
+    pub fn free(self, mut window: Window<T>)
         requires { (window.start ≡ self.start) × (window.room ≡ self.room) × IsSite T.row self }
     {
-        let mut window = window;
         window.clear();
         drop(window.into_vec(self));
     }

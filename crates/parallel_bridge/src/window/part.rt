@@ -174,12 +174,6 @@ impl<T: Drop> Window<T> {
 impl<T: Drop> Drop for Window<T> {
     fn drop(mut self) {
         self.clear();
-        let Window {
-            base: _,
-            room: _,
-            before: _,
-            len: _,
-            cells: _,
-        } = self;
+        let _parts = self.into_parts();
     }
 }
