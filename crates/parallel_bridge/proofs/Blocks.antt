@@ -66,7 +66,7 @@ module _ (E : El) {M : Type 1} {𝓤 : Ura M} (𝓛 : Logic 𝓤) (a : Hd E) (b 
   block_out true none le long =
       qed 𝓛 (‵ (Block true) ∷ []) ∵ fsplit ! $ move ! (1 ∷ []) $ fsplit ! $
       as_written ! (ty_array (elτ E) (c - n)) b (o + n * sz E) $ move ! (2 ∷ 0 ∷ 1 ∷ []) $
-      -- [the items; the room behind them; the right to free]
+      -- [the items; the room after them; the right to free]
       use1 𝓛 (given (length xs ≡ n) (‵ (row (R E) full_share xs b o)))
       (apart E 𝓛 full_share n xs b o) $ learn ! (λ same.
       use1 𝓛 (‵ (slots (R E) b o (map Some xs))) (of_items (plainly E) 𝓛 b xs o) $ move ! (1 ∷ []) $

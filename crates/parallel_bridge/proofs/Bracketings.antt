@@ -6,7 +6,7 @@ use Rattle.parallel_bridge.proofs.Shapes.{Shape-items}
 module _ {X R : Type 0} (identity : R → Type 0) (allowed : List X → R → Type 0)
     (reduce : R → R → R → Type 0) (fresh : (e : R) (xs : List X) (b : R) → identity e → allowed xs b
     → allowed [] e) where
-  -- an identity is the answer of an empty segment, so what goes along a cut comes by reductions of
+  -- an identity is the result of an empty segment, so what goes along a cut comes by reductions of
   -- neighbours
   pub brackets_from_leaves : (cut : Cut X) (r : R) → AlongLeaves identity allowed reduce cut r
       → Brackets allowed reduce (cut_items cut) r
@@ -15,7 +15,7 @@ module _ {X R : Type 0} (identity : R → Type 0) (allowed : List X → R → Ty
   brackets_from_leaves (halves p q) r (a, b, h, i, n) =
       of_parts refl (brackets_from_leaves p a h) (brackets_from_leaves q b i) n
 
-  -- whichever way a fold is carried out, its answer comes by reductions of neighbouring segments
+  -- whichever way a fold is carried out, its result comes by reductions of neighbouring segments
   pub brackets_from_folds : (depth : ℕ) (path : Path) (xs : List X) (r : R)
       → FoldsAs identity allowed reduce depth path xs r → Brackets allowed reduce xs r
   brackets_from_folds depth Serial xs r h = of_segment h

@@ -5,7 +5,7 @@ use Rattle.parallel_bridge.proofs.Shapes.{Shape-items}
 use Rattle.parallel_bridge.proofs.TryShapes.{try_along_wider}
 use Rattle.parallel_bridge.proofs.FoldersAppend.{PartitionOf-append}
 
--- of an answer that is handed on holds what follows from what is said of the outcome
+-- of a result that is handed on holds what follows from what is said of the outcome
 pub driven : {R E : Type 0} (answer : Result R (Trouble E)) (result : Result R Fault)
     (P : Result R E → Type 0) (Q : R → Type 0) → ((r : R) → P (Ok r) → Q r)
     → IfOk result (λ r. answer ≡ Ok r) → UnlessRefused answer P → IfOk result Q
@@ -20,7 +20,7 @@ parted (Ok r) us ks P h at_us at_ks =
     subst (λ l. P l r.1.items) (sym at_us) (subst (λ l. P us l) (sym at_ks) h)
 parted (Err f) us ks P h at_us at_ks = tt
 
--- the value of a segment is reduced behind an identity
+-- the value of a segment is reduced after an identity
 module _ {X R : Type 0} (E : Type 0) (identity : R → Type 0) (allowed : List X → R → Type 0)
     (reduce : R → R → R → Type 0) where
   pub fold_driven : (cut : Cut X) (r : R) → TryAlongCut {E = E} (λ l out. (b : R) × allowed l b

@@ -25,7 +25,7 @@ unstopped_halts P a (Ok r) h = h
 unstopped_halts P a (Err (Failed e)) h = h
 unstopped_halts P a (Err Stopped) h = tt
 
--- one item more was looked behind
+-- one item more, and one look after it
 pub looked_more : {W X : Type 0} (looked : W → ℕ → W → Type 0) (old mid new : W) (xs : List X)
     (x : X) → LooksMore looked (length xs) old mid → LooksOnce looked mid new
     → LooksMore looked (length (xs ++ x ∷ [])) old new

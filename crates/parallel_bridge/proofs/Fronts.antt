@@ -16,7 +16,7 @@ module _ {X : Type 0} where
   twice : (n : ℕ) (xs : List X) → take n (take n xs) ≡ take n xs
   twice n xs = grind (arith, common_steps)
 
--- what lends the first values of a list, and behind it what lends the others
+-- what lends the first values of a list, and after it what lends the others
 pub borrows_front : {X : Type 0} (n : ℕ) (xs : List (Bor X)) (front back all : List X)
     → length front ≡ n → all ≡ front ++ back → map (λ (x : Bor X). x.now) xs ≡ front
     → (whole : List (Bor X)) × (map (λ (x : Bor X). x.now) whole ≡ all) × IsFront n xs whole
@@ -40,17 +40,14 @@ indices_front a b n xs within front =
 
 module _ {A B : Type 0} where
   first_pairs : (n : ℕ) (xs : List A) (ys : List B) → zip (take n xs) ys ≡ take n (zip xs ys)
-  first_pairs zero xs ys = refl
-  first_pairs (suc n) [] ys = refl
-  first_pairs (suc n) (x ∷ xs) [] = refl
   first_pairs (suc n) (x ∷ xs) (y ∷ ys) = ap (λ l. (x, y) ∷ l) (first_pairs n xs ys)
+  first_pairs n u v = refl
 
   second_pairs : (n : ℕ) (xs : List A) (ys : List B) → zip xs (take n ys) ≡ take n (zip xs ys)
+  second_pairs (suc n) (x ∷ xs) (y ∷ ys) = ap (λ l. (x, y) ∷ l) (second_pairs n xs ys)
+  second_pairs (suc n) u v = refl
   second_pairs zero [] ys = refl
   second_pairs zero (x ∷ xs) ys = refl
-  second_pairs (suc n) [] ys = refl
-  second_pairs (suc n) (x ∷ xs) [] = refl
-  second_pairs (suc n) (x ∷ xs) (y ∷ ys) = ap (λ l. (x, y) ∷ l) (second_pairs n xs ys)
 
   -- the pairs of two fronts are the first pairs, or all
   pub fronts_zipped : (n : ℕ) (xs all : List A) (ys others : List B) → IsFront n xs all

@@ -54,7 +54,7 @@ module _ {S A : Type 0} (steps : S → Option A → S → Type 0) (s : S) where
   may_of xs (u, (t, gave, ends)) x within =
       All-contains (MayCome steps s) xs x (may_along xs t gave) within
 
--- the item of one call of `next` may come, and so may those that may come behind it
+-- the item of one call of `next` may come, and so may those that may come after it
 module _ {S A : Type 0} (steps : S → Option A → S → Type 0) (s t : S) where
   pub item_may_come : (out : Option A) → steps s out t → IfSome out (λ x. MayCome steps s x)
   item_may_come None h = tt

@@ -95,7 +95,7 @@ module _ {S X R : Type 0} (init : S → Type 0) (identity : R → Type 0)
   plain_from_states xs r h =
       plain_from_bracketing identity (AnyState step) reduce xs r (any_brackets h)
 
--- answers that a function gives are the function's
+-- results that a function gives are the function's
 module _ {X Y : Type 0} (allowed : X → Y → Type 0) (f : X → Y) (all : List X)
     (one : (x : X) (y : Y) → Contains all x → allowed x y → y ≡ f x) where
   map_within : (xs : List X) (ys : List Y) → All (Contains all) xs → MapOf allowed xs ys

@@ -1,27 +1,19 @@
 -- What loads came to, with one more at the end of both lists.
-use Rattle.parallel_bridge.proofs.Common.{◌≡◌, ℕ, List, [], ◌∷◌, ◌++◌, subst, AllZip, CameTo, Load}
+use Rattle.parallel_bridge.proofs.Common.{◌≡◌, ℕ, List, [], ◌∷◌, ◌++◌, subst, arith, length-append, AllZip, CameTo, Load}
+use Rattle.parallel_bridge.proofs.Shapes.{MapOf-append}
+use Rattle.std.proofs.lemmas.Slice.Zip.{AllZip-long}
 
 module _ {A B : Type 0} (R : A → B → Type 0) where
-  push : (xs : List A) (ys : List B) (x : A) (y : B) → AllZip R xs ys → R x y
-      → AllZip R (xs ++ x ∷ []) (ys ++ y ∷ [])
-  push [] [] x y h one = (one, tt)
-  push (a ∷ xs) (b ∷ ys) x y h one = (h.0, push xs ys x y h.1 one)
-  push u v x y h one = absurd h
-
-  alone : (ys : List B) (y b : B) → AllZip R [] (ys ++ y ∷ []) → ⊥
-  alone [] y b h = h
-  alone (c ∷ ys) y b h = h
-
-  left_over : (xs : List A) (x : A) → AllZip R (xs ++ x ∷ []) [] → ⊥
-  left_over [] x h = h
-  left_over (a ∷ xs) x h = h
-
   pop : (xs : List A) (ys : List B) (x : A) (y : B) → AllZip R (xs ++ x ∷ []) (ys ++ y ∷ [])
       → AllZip R xs ys × R x y
   pop [] [] x y h = (tt, h.0)
-  pop [] (b ∷ ys) x y h = absurd (alone ys y b h.1)
-  pop (a ∷ xs) [] x y h = absurd (left_over xs x h.1)
   pop (a ∷ xs) (b ∷ ys) x y h = let rest = pop xs ys x y h.1 in ((h.0, rest.0), rest.1)
+  pop u v x y h = absurd (omega (
+    arith,
+    AllZip-long R (u ++ x ∷ []) (v ++ y ∷ []) h,
+    length-append u (x ∷ []),
+    length-append v (y ∷ []),
+  ))
 
 module _ {T D : Type 0} (ends : ℕ → T → D → Type 0) where
   pub one_came : (loads : List (Load T)) (done all : List (D × D)) (load : Load T) (both : D × D)
@@ -29,7 +21,7 @@ module _ {T D : Type 0} (ends : ℕ → T → D → Type 0) where
       → ends load.depth load.left both.0 × ends load.depth load.right both.1
       → CameTo ends (loads ++ load ∷ []) all
   one_came loads done all load both put each one =
-      rw put (push _ loads done load both each one)
+      rw put (MapOf-append _ loads (load ∷ []) done (both ∷ []) each (one, tt))
 
   pub last_came : (loads more : List (Load T)) (done all : List (D × D)) (load : Load T)
       (both : D × D) → more ≡ loads ++ load ∷ [] → all ≡ done ++ both ∷ [] → CameTo ends more all

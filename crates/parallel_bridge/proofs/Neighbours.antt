@@ -1,5 +1,5 @@
 -- Neighbouring pairs of a list: how many there are, a cut of them, one pair taken, the odd item.
-use Rattle.parallel_bridge.proofs.Common.{◌≡◌, ℕ, suc, ◌*◌, ◌/◌, ◌%◌, ◌<◌, ◌≤◌, List, [], ◌∷◌, ◌++◌, length, take, drop, Option, Some, None, IsSome, refl, sym, ap, subst, ◌∙◌, arith, Contains}
+use Rattle.parallel_bridge.proofs.Common.{◌≡◌, ℕ, suc, ◌*◌, ◌/◌, ◌%◌, ◌≤◌, List, [], ◌∷◌, ◌++◌, length, take, drop, Option, Some, None, IsSome, refl, sym, ap, subst, ◌∙◌, arith, Contains}
 use Rattle.parallel_bridge.proofs.Common.{length-append, length-take-le, take-append-drop, false≢true, Contains-append_left, Contains-append_right, odd_of, pairs_of}
 use Rattle.std.specs.Option.{option_to_list}
 
@@ -9,11 +9,6 @@ module _ {T : Type 0} where
   length_pairs (x ∷ (y ∷ xs)) =
       let rest = length_pairs xs in omega (arith, rest)
   length_pairs u = refl
-
-  -- too few items for a pair
-  pub no_pair : (xs : List T) → length xs < 2 → pairs_of xs ≡ []
-  no_pair (x ∷ (y ∷ xs)) few = absurd (omega (arith, few))
-  no_pair u few = refl
 
   -- the first two items are the first pair
   pub two_taken : (all mid rest : List T) (x y : T) → all ≡ x ∷ mid → mid ≡ y ∷ rest
@@ -34,7 +29,7 @@ module _ {T : Type 0} where
   no_odd (x ∷ []) even = absurd (omega (arith, even))
   no_odd (x ∷ (y ∷ xs)) even = no_odd xs (omega (arith, even))
 
-  -- the item behind an even number of them is the odd one, and in no pair
+  -- the item after an even number of them is the odd one, and in no pair
   pub one_odd : (xs : List T) (z : T) → length xs % 2 ≡ 0
       → (odd_of (xs ++ z ∷ []) ≡ Some z) × (pairs_of (xs ++ z ∷ []) ≡ pairs_of xs)
   one_odd [] z even = (refl, refl)
@@ -52,7 +47,7 @@ module _ {T : Type 0} where
       let last = one_odd front z (omega (arith, long, odd)) in
       (ap odd_of at ∙ last.0, ap pairs_of at ∙ last.1)
 
-  -- the pairs of the first so many pairs' items, and those of the rest
+  -- the pairs of that many pairs' items, the first ones, and those of the rest
   pub pairs_cut : (all : List T) (i : ℕ) → i ≤ length all / 2
       → pairs_of (take (2 * i) all) ++ pairs_of (drop (2 * i) all) ≡ pairs_of all
   pairs_cut all i within =
@@ -60,7 +55,7 @@ module _ {T : Type 0} where
       sym (pairs_append (take (2 * i) all) (drop (2 * i) all) i front)
       ∙ ap pairs_of (take-append-drop (2 * i) all)
 
-  -- there are so many of the first
+  -- there are that many of the first
   pub pairs_front : (all : List T) (i : ℕ) → i ≤ length all / 2
       → length (pairs_of (take (2 * i) all)) ≡ i
   pairs_front all i within =

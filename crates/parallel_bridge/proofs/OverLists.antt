@@ -65,7 +65,7 @@ pub in_one : {X R : Type 0} (identity : R → Type 0) (allowed : List X → R �
 in_one identity allowed reduce depth path xs r h serial =
     subst (λ p. FoldsAs identity allowed reduce depth p xs r) serial h
 
--- one side of what is said of an answer
+-- one side of what is said of a result
 pub if_ok : {R E : Type 0} (P : R → Type 0) (Q : E → Type 0) (result : Result R E)
     → MatchResult result P Q → IfOk result P
 if_ok P Q (Ok r) h = h

@@ -1,4 +1,4 @@
--- What a list call answers by the path that it took.
+-- What a list call returns by the path that it took.
 use Rattle.parallel_bridge.proofs.Common.{Path, FoldSegment, FoldsAs, FoldInitSegment, StatesAs, TryFoldSegment, TryFoldsAs, FoldedAs, FoldedInitAs, TryFoldedAs, MappedInitAs, ◌≡◌, ℕ, List, Result}
 use Rattle.parallel_bridge.proofs.Common.{sym, subst}
 use Rattle.parallel_bridge.proofs.Bracketings.{bracketing_from_folds}

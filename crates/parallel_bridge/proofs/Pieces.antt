@@ -7,7 +7,7 @@ use Rattle.parallel_bridge.proofs.Fronts.{borrows_front}
 use Rattle.std.specs.Slice.Iter.{chunks_rest, chunks_size, chunks_steps}
 use Rattle.std.specs.declared.slice.Chunks.{Chunks}
 
--- so many parts of size k hold n items, and one part less doesn't
+-- that many parts of size k hold n items, and one part less doesn't
 abbrev Holds : ℕ → ℕ → ℕ → Type 0
 Holds n k parts = (n ≤ parts * k) × (parts * k < n + k)
 
@@ -48,7 +48,7 @@ module _ (n k : ℕ) (some : 0 < k) where
       (omega (arith, cut, below, parts, holds.0), omega (arith, cut, below, parts, holds.1))
 
 module _ {A : Type 0} where
-  -- there are so many pieces
+  -- there are that many pieces
   pub length_pieces : (n size : ℕ) (xs : List A) → length (pieces_of n size xs) ≡ n
   length_pieces zero size xs = refl
   length_pieces (suc n) size xs = ap suc (length_pieces n size (drop size xs))
@@ -66,7 +66,7 @@ module _ {A : Type 0} where
     | inr long ↦ drop_all m xs (omega (arith, least, long)) ∙ sym (drop_all n xs long)
   ]
 
-  -- pieces, and behind them more
+  -- pieces, and after them more
   more_pieces : (m n size : ℕ) (xs : List A)
       → pieces_of m size xs ++ pieces_of n size (drop (m * size) xs) ≡ pieces_of (m + n) size xs
   more_pieces zero n size xs = ap (λ k. pieces_of n size (drop k xs)) (zero-mul size)
@@ -80,7 +80,7 @@ module _ {A : Type 0} where
       ∙ ap (λ l. take size xs ∷ l) (more_pieces m n size (drop size xs))
       ∙ ap (λ k. pieces_of k size xs) one
 
-  -- pieces see no item behind them
+  -- pieces see no item after them
   in_front : (n m size : ℕ) (xs : List A) → n * size ≤ m
       → pieces_of n size (take m xs) ≡ pieces_of n size xs
   in_front zero m size xs within = refl
@@ -94,7 +94,7 @@ module _ {A : Type 0} where
       ∙ ap (λ l. take size xs ∷ l) (in_front n (m - size) size (drop size xs)
       (omega (arith, within, far)))
 
-  -- a cut behind so many whole pieces, or at the end
+  -- a cut after that many whole pieces, or at the end
   module _ (i m size : ℕ) (xs : List A) (some : 0 < size) (within : i ≤ div_ceil (length xs) size)
       (cut : m ≡ min (i * size) (length xs)) where
     pub front_count : div_ceil (length (take m xs)) size ≡ i

@@ -35,6 +35,6 @@ indices_split a b index xs ys within front back =
     ∙ (ap (λ l. range_with_len a index ++ l) back
     ∙ (joins a index (b - (a + index)) ∙ ap (range_with_len a) n))
 
--- there are so many
+-- there are that many
 pub indices_long : (a n : ℕ) → length (range_with_len a n) ≡ n
 indices_long a n = length-range_with_len a n

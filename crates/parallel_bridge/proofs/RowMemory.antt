@@ -14,6 +14,11 @@ use borrow.Table.OneValue.{part_in, part_out}
 use Rattle.parallel_bridge.specs.contracts.window.cells.Cells as cells
 use Rattle.parallel_bridge.specs.contracts.window.cells.Base as begins
 
+-- a pair, for what is said of each parameter in turn
+infixr 2 ◌⊗◌
+abbrev pub ◌⊗◌ {ℓ κ} : {A : Type ℓ} {B : Type κ} → A → B → A × B
+a ⊗ b = (a, b)
+
 module _ (E : El) where
   -- a row of places
   abbrev pub Places : RattleType

@@ -21,7 +21,7 @@ pub Shape-node : {X : Type 0} (k : ℕ) (xs : List X) → 2 ≤ length xs
 Shape-node k (x ∷ (y ∷ xs)) h = refl
 Shape-node k u h = absurd (omega arith)
 
--- the answers of two neighbouring parts are those of both
+-- the results of two neighbouring parts are those of both
 pub MapOf-append : {X Y : Type 0} (allowed : X → Y → Type 0) (xs xs' : List X) (ys ys' : List Y)
     → MapOf allowed xs ys → MapOf allowed xs' ys' → MapOf allowed (xs ++ xs') (ys ++ ys')
 MapOf-append allowed [] xs' [] ys' h i = i

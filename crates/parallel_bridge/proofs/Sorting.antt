@@ -1,19 +1,7 @@
--- Two parts sorted, a sort after a sort, and a sort by a closure that calls another.
-use Rattle.parallel_bridge.proofs.Common.{◌≡◌, Bool, List, [], ◌∷◌, ◌++◌, ◌∙◌, refl, IsPermutation, Bor, Mut, Called, ComparesAs, answers_by}
+-- A sort by a closure that calls another.
+use Rattle.parallel_bridge.proofs.Common.{◌≡◌, Bool, List, [], ◌∷◌, ◌∙◌, refl, Bor, Mut, Called, ComparesAs, answers_by}
 use Rattle.std.specs.declared.cmp.Ordering.{Ordering}
 use Rattle.std.specs.List.Sorted.{IsSortedByClosure, IsStableByClosure}
-use Rattle.std.proofs.lemmas.List.Sorted.{IsPermutation-append, IsPermutation-trans}
-
-pub parted_permutation : {X : Type 0} {all front back first second : List X}
-    → all ≡ front ++ back → IsPermutation front first → IsPermutation back second
-    → IsPermutation all (first ++ second)
-parted_permutation {front = front} {back = back} {first = first} {second = second} cut a b =
-    rw cut (IsPermutation-append front first back second a b)
-
-pub then_permutation : {X : Type 0} {before between after : List X} → IsPermutation before between
-    → IsPermutation between after → IsPermutation before after
-then_permutation {before = before} {between = between} {after = after} a b =
-    IsPermutation-trans before between after a b
 
 -- g has the members of the closure, and h those of what calls it: a call of s is one of `inner s`,
 -- and leaves that.

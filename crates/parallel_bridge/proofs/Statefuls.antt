@@ -1,4 +1,4 @@
--- Whichever way states go along a list, its answers fall into segments, each from a fresh state.
+-- Whichever way states go along a list, its results fall into segments, each from a fresh state.
 use Rattle.parallel_bridge.proofs.Common.{ℕ, List, [], ◌∷◌, ◌++◌, sym, ◌∙◌, ap, subst, append_assoc, append-nil, Path, Serial, Parallel, Cut, segment, halves, cut_items, Shape, StateSegment, Stateful}
 use Rattle.parallel_bridge.proofs.Common.{no_segment, more_segments, StatesAlong, StatesAs}
 use Rattle.parallel_bridge.proofs.Shapes.{Shape-items}

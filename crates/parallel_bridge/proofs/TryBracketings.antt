@@ -7,7 +7,7 @@ use Rattle.parallel_bridge.proofs.Bracketings.{brackets_from_folds}
 
 module _ {S X R : Type 0} (init : S → Type 0) (identity : R → Type 0)
     (step : S → R → X → R → S → Type 0) (reduce : R → R → R → Type 0) where
-  -- an identity is the answer of no item from the state that another segment began with
+  -- an identity is the result of no item from the state that another segment began with
   pub fold_init_fresh : (e : R) (xs : List X) (b : R) → identity e
       → FoldInitSegment init identity step xs b → FoldInitSegment init identity step [] e
   fold_init_fresh e xs b h (s, a, made, first, chain) = (s, e, made, h, refl)

@@ -49,7 +49,7 @@ module _ {X R E : Type 0} (leaf : List X → Result R E → Type 0)
       (λ s. TryAlongCut leaf node s out)
       (shape_halves depth half xs front back positive long at left right) h
 
--- where nothing fails, the answers go along the cut
+-- where nothing fails, the results go along the cut
 module _ {X R : Type 0} (E : Type 0) (leaf : List X → R → Type 0) (node : R → R → R → Type 0) where
   pub along_unfailing : (cut : Cut X) (r : R)
       → TryAlongCut {E = E} (λ xs. OnlyOk (leaf xs)) (λ a b. OnlyOk (node a b)) cut (Ok r)

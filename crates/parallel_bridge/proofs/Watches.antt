@@ -98,17 +98,15 @@ pub list_unstopped : (count seats word : ℕ) (v : GateView) (how : Ending) → 
     → SeatEnds 0 count seats v how
     → ((start : ℕ) → start ≤ greatest → v.least < start → (word < start) × Contains v.told word)
     → IsUnstopped how
-list_unstopped count seats word v well small ends closed = tt
-list_unstopped count seats word v failing small ends closed = tt
 list_unstopped count seats word v stopping small (same, from, (at, near, less, beyond)) closed =
     let end = closed at (omega arith) less in
     let far : at ≤ word = All-contains (λ told. at ≤ told) v.told word beyond end.1 in
     let under = end.0 in
     omega arith
-list_unstopped count seats word v refusing small ends closed = tt
+list_unstopped count seats word v how small ends closed = tt
 
--- a seat that stands for all of a gate that was just opened may watch so many items, from the first
--- one on
+-- a seat that stands for all of a gate that was just opened may watch that many items, from the
+-- first one on
 pub fresh_watch : (gate : Gate) (seat : GateSeat) (n count : ℕ) → IsGateSeatOf gate seat
     → known seat ≡ newcomer n → 0 < n → count ≤ n → count ≤ greatest
     → (IsGateSeatOf gate seat × (0 < stands_for seat) × ((known seat).told ≡ []))
@@ -130,31 +128,25 @@ halt_ends R S Stopped = refl
 
 pub not_stopped : {R E : Type 0} (done : Result R (Trouble (Halt E)))
     → IsUnstopped (ending_of done) → NotStopped done
-not_stopped (Ok r) h = tt
-not_stopped (Err (Closure (Failed e))) h = tt
 not_stopped (Err (Closure Stopped)) h = h
-not_stopped (Err (OfFault f)) h = tt
+not_stopped done h = tt
 
 module _ {R E : Type 0} (node : R → R → Result R (Halt E) → Type 0)
     (unstopped : (a b : R) → node a b (Err Stopped) → ⊥) where
   left_trouble : (t : Trouble (Halt E)) (y : Ending)
       → EndTogether (ending_of {R = R} (Err t)) y (ending_of {R = R} (Err t))
   left_trouble (Closure (Failed e)) y = refl
-  left_trouble (Closure Stopped) y = refl
-  left_trouble (OfFault f) y = refl
+  left_trouble t y = refl
 
   right_trouble : (t : Trouble (Halt E))
       → EndTogether well (ending_of {R = R} (Err t)) (ending_of {R = R} (Err t))
   right_trouble (Closure (Failed e)) = refl
-  right_trouble (Closure Stopped) = refl
-  right_trouble (OfFault f) = refl
+  right_trouble t = refl
 
   two_values : (a b : R) (c : Result R (Trouble (Halt E))) → UnlessRefused c (λ out. node a b out)
       → IsUnstopped (ending_of c)
-  two_values a b (Ok r) n = tt
-  two_values a b (Err (Closure (Failed e))) n = tt
   two_values a b (Err (Closure Stopped)) n = unstopped a b n
-  two_values a b (Err (OfFault f)) n = tt
+  two_values a b c n = tt
 
   -- outcomes that are put together end together
   pub ends_together : (a b c : Result R (Trouble (Halt E))) → PutTogether node a b c
@@ -172,10 +164,8 @@ module _ {R E : Type 0} (node : R → R → Result R (Halt E) → Type 0)
 -- the values don't matter to how an outcome ended
 written_ends : {T E : Type 0} (window : View T) (done : Result (Unit {0}) (Trouble (Halt E)))
     → ending_of (written window done) ≡ ending_of done
-written_ends window (Ok u) = refl
 written_ends window (Err (Closure (Failed e))) = refl
-written_ends window (Err (Closure Stopped)) = refl
-written_ends window (Err (OfFault f)) = refl
+written_ends window done = refl
 
 pub windows_together : {T E : Type 0} (a b c : View T)
     (x y z : Result (Unit {0}) (Trouble (Halt E)))

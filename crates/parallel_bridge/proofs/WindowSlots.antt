@@ -31,7 +31,7 @@ module _ {X : Type 0} where
       → laid b (xs ++ ys) r ≡ front b xs ++ (map Some ys ++ empty r)
   then_on b xs ys r = simp (map-append, append_assoc)
 
-  -- the place behind those is read, and written
+  -- the place after those is read, and written
   next_place : (b : ℕ) (xs : List X) (y z : Option X) (l slots : List (Option X)) (i : ℕ)
       → slots ≡ front b xs ++ y ∷ l → i ≡ b + length xs
       → (get_or slots i None ≡ y) × (set slots i z ≡ front b xs ++ z ∷ l)
@@ -126,7 +126,7 @@ module _ {X : Type 0} {at start : Ptr} {slots : List (Option X)} {room n : ℕ} 
       let same : length slots ≡ length (laid b items left) = ap length row.3 in
       omega arith
 
-  -- one more item, in the place behind the others
+  -- one more item, in the place after the others
   pub put_row : {v : View X} (x : X) → part start room b items ≡ v
       → v.before + length v.items < v.room → (b + n < length slots) × (get_or slots (b + n) None ≡ None)
       × IsRow at start (set slots (b + n) (Some x)) room b (n + 1)
@@ -248,7 +248,7 @@ pub whole_row : {X : Type 0} {at start : Ptr} {slots : List (Option X)} (c n : �
 whole_row {at = at} {start = start} {slots = slots} c n xs a e long le =
     is_row at start slots c 0 n xs (c - length xs) a e long (omega arith)
 
--- a block that begins with its items, cut behind them
+-- a block that begins with its items, cut after them
 pub opened_rows : {X : Type 0} {at start : Ptr} {slots : List (Option X)} (c i n : ℕ) (xs : List X)
     → at ≡ start → slots ≡ laid 0 xs (c - length xs) → n ≡ length xs → n ≤ i → i ≤ c
     → (IsRow at start (take i slots) i 0 n × (values (take i slots) ≡ xs))
@@ -261,7 +261,7 @@ opened_rows c i n xs a e long le lc =
           ∙ ap (λ l. laid 0 l (c - i)) (drop_all i xs (omega arith)),
     )
 
--- a row of items with the empty places behind it is a block
+-- a row of items with the empty places after it is a block
 pub closed_rows : {X : Type 0} {at start : Ptr} {slots tail : List (Option X)} {room n : ℕ} (c : ℕ)
     → IsRow at start slots room 0 n → tail ≡ replicate (c - room) None → room ≤ c
     → (length (slots ++ tail) ≡ c) × (length (values (slots ++ tail)) ≡ n)

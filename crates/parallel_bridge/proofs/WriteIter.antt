@@ -1,14 +1,14 @@
--- For the loop that writes answers: an answer for each item that came, and what is left.
+-- For the loop that writes results: a result for each item that came, and what is left.
 use Rattle.parallel_bridge.proofs.Common.{◌≡◌, ℕ, ◌+◌, ◌≤◌, List, [], ◌∷◌, ◌++◌, length, refl, sym, ap, subst, ◌∙◌, arith, length-append}
 use Rattle.parallel_bridge.proofs.Common.{Contains, Contains-append_right}
 
 module _ {X : Type 0} where
-  -- what stands behind the front item stands in the list
+  -- what stands after the front item stands in the list
   pub others_of : (all rest : List X) (x y : X) → all ≡ x ∷ rest → Contains rest y → Contains all y
   others_of all rest x y at h =
       subst (λ l. Contains l y) (sym at) (Contains-append_right (x ∷ []) rest y h)
 
--- one item more, and an answer more, where the answers lie
+-- one item more, and a result more, where the results lie
 pub one_answered : {A T Y : Type 0} (taken : List A → Type 0)
     (so_far : List A → T → List Y → Type 0) (xs : List A) (x : A) (ys zs : List Y) (y : Y)
     (state : T) → taken (xs ++ x ∷ []) → zs ≡ ys ++ y ∷ []

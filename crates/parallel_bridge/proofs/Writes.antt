@@ -1,4 +1,4 @@
--- Answers that are written one after another into a window, where no item fails, and up to the
+-- Results that are written one after another into a window, where no item fails, and up to the
 -- first error.
 use Rattle.parallel_bridge.proofs.Common.{MapOf, Cut, segment, halves, cut_items, Shape, TryAlongCut, OnlyOk, ℕ, List, ◌++◌, Result, Ok, Err, sym, subst, inl, inr, Answered, OneAfterAnother}
 use Rattle.parallel_bridge.proofs.Common.{[], ◌∷◌, IfOk, refl, Global, Vec, Trouble, Closure, OfFault, UnlessRefused, listed, Driven, GivesSome, EachOk, FirstErr, TryMapOf}
@@ -6,7 +6,7 @@ use Rattle.parallel_bridge.proofs.Shapes.{MapOf-append, Shape-items}
 use Rattle.parallel_bridge.proofs.TryShapes.{try_along_wider}
 use Rattle.parallel_bridge.proofs.FoldersAppend.{onto_append}
 
--- where no item fails, each segment has its answers
+-- where no item fails, each segment has its results
 module _ {X S Y : Type 0} (E : Type 0) (so_far : List X → S → List Y → Type 0)
     (leaf : List X → List Y → Type 0) (ends : (xs : List X) (state : S) (ys : List Y)
     → so_far xs state ys → leaf xs ys) where
@@ -23,7 +23,7 @@ module _ {X S Y : Type 0} (E : Type 0) (so_far : List X → S → List Y → Typ
       (λ a b o n. n) cut out h
 
 module _ {X Y : Type 0} (allowed : X → Y → Type 0) where
-  -- the answers of the segments, one after another
+  -- the results of the segments, one after another
   filled_along : (E : Type 0) (cut : Cut X) (ys : List Y)
       → TryAlongCut {E = E} (λ l out. OnlyOk (MapOf allowed l) out) OneAfterAnother cut (Ok ys)
       → MapOf allowed (cut_items cut) ys
@@ -77,7 +77,7 @@ module _ {X Y E : Type 0} (allowed : X → Result Y E → Type 0) where
       (onto_append allowed [] (cut_items p) (cut_items q) (Ok a) (Err e)
       (a, refl, tried_along p (Ok a) h) (tried_along q (Err e) i))
 
-  -- what is answered along the shape of a list
+  -- what comes along the shape of a list
   abbrev pub Tried : ℕ → List X → Result (List Y) E → Type 0
   Tried k xs out =
       TryAlongCut (Answered {S = Unit {0}} (λ xs s ys. EachOk allowed xs ys) (FirstErr allowed))

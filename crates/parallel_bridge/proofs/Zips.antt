@@ -6,7 +6,7 @@ use Rattle.std.proofs.lemmas.Slice.Zip.{length-zip}
 use Rattle.parallel_bridge.specs.declared.zipped.ZippedIter.{ZippedIter}
 
 module _ {A B : Type 0} where
-  -- two lists behind two others that are as long
+  -- two lists after two others that are as long
   pub zip_append : (xs more : List A) (ys others : List B) → length xs ≡ length ys
       → zip (xs ++ more) (ys ++ others) ≡ zip xs ys ++ zip more others
   zip_append [] more [] others same = refl
@@ -14,7 +14,7 @@ module _ {A B : Type 0} where
       ap (λ l. (x, y) ∷ l) (zip_append xs more ys others (omega (arith, same)))
   zip_append u more v others same = absurd (omega (arith, same))
 
-  -- so many pairs as each list has items
+  -- as many pairs as each list has items
   pub pairs_long : (n m : ℕ) (P : List A → Type 0) (Q : List B → Type 0) (zs : List (A × B))
       → PairsOf P Q zs → ((xs : List A) → P xs → length xs ≡ n)
       → ((ys : List B) → Q ys → length ys ≡ m) → length zs ≡ min n m
@@ -23,7 +23,7 @@ module _ {A B : Type 0} where
       let right = second ys two in
       omega (arith, seen, long, left, right)
 
-  -- the pairs of two fronts, and behind them those of the rests
+  -- the pairs of two fronts, and after them those of the rests
   module _ (n : ℕ) (P P' P'' : List A → Type 0) (Q Q' Q'' : List B → Type 0)
       (left : (xs more : List A) → P' xs → P'' more → P (xs ++ more))
       (right : (ys others : List B) → Q' ys → Q'' others → Q (ys ++ others))

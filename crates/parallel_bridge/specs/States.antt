@@ -44,12 +44,6 @@ abbrev pub StatesAlong : {S X Y : Type 0} → (S → Type 0) → (S → X → Y 
     → Type 0
 StatesAlong init step cut ys = AlongCut (StateSegment init step) (λ a b c. c ≡ a ++ b) cut ys
 
--- what follows from the state t follows from the state s with the items xs and results ys in front
-abbrev pub StatesContinue : {S X Y : Type 0} → (S → X → Y → S → Type 0) → S → List X → List Y → S
-    → Type 0
-StatesContinue {X = X} {Y = Y} step s xs ys t = (more : List X) (zs : List Y)
-    → StatesFrom step t more zs → StatesFrom step s (xs ++ more) (ys ++ zs)
-
 -- serially one fresh state for the whole list; in parallel one for each segment of the list's shape
 -- of that depth
 abbrev pub StatesAs : {S X Y : Type 0} → (S → Type 0) → (S → X → Y → S → Type 0) → ℕ → Path → List X
@@ -63,13 +57,6 @@ abbrev pub StateChain : {S X R : Type 0} → (S → R → X → R → S → Type
 StateChain step s a [] r = a ≡ r
 StateChain {S = S} {R = R} step s a (x ∷ xs) r = (b : R) × (t : S) × step s a x b t
     × StateChain step t b xs r
-
--- what is reached from the state t and the value b is reached from the state s and the value a with
--- the items xs in front
-abbrev pub StateChainContinues : {S X R : Type 0} → (S → R → X → R → S → Type 0) → S → R → List X → S
-    → R → Type 0
-StateChainContinues {X = X} {R = R} step s a xs t b = (more : List X) (r : R)
-    → StateChain step t b more r → StateChain step s a (xs ++ more) r
 
 -- r is reached by a chain over all items from a fresh state and a value that identity may return
 abbrev pub FoldInitSegment : {S X R : Type 0} → (S → Type 0) → (R → Type 0)

@@ -26,7 +26,7 @@ use std::thread::Threads;
 pub mod feed;
 
 /// Hands a list to the consumer, split along its shape for that many threads, of which the caller's
-/// is one. Where several segments fail, the leftmost one's error is answered; a refusal of memory
+/// is one. Where several segments fail, the leftmost one's error is returned; a refusal of memory
 /// may stand in its place.
 ///
 /// # Errors

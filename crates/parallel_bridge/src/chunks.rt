@@ -67,7 +67,7 @@ impl<'a, T: Sync> Producer for Chunks<'a, T> {
     }
 }
 
-// Where a list of so many items is cut behind so many whole pieces, or at its end.
+// Where a list of that many items is cut after that many whole pieces, or at its end.
 fn middle_of(len: usize, size: NonZeroUsize, index: usize) -> usize
     ensures cut { result ≡ min (index * non_zero_usize_get size) len }
     ensures some { 0 < non_zero_usize_get size }

@@ -1,4 +1,4 @@
-//! What gives the items of a segment one by one, and what is left of the segment behind them.
+//! What gives the items of a segment one by one, and what is left of the segment after them.
 ghost use Rattle.std.specs.Prelude.{◌∷◌, ◌<◌, ℕ, [], IfNone, IfSome, List};
 ghost use Rattle.std.specs.Iterator.{Drains, IsFinite, size};
 ghost use Rattle.parallel_bridge.specs.Sources.{MayCome};

@@ -1,4 +1,4 @@
-//! Lists whose answers are written where they stay, in memory that is reserved before any segment
+//! Lists whose results are written where they stay, in memory that is reserved before any segment
 //! starts.
 ghost use Rattle.std.specs.Prelude.{◌≡◌, ◌+◌, ◌<◌, ◌≤◌, ◌⊎◌, List, IfOk, length};
 ghost use Rattle.std.specs.List.{Contains};
@@ -27,9 +27,9 @@ pub mod map_init;
 pub mod try_map;
 pub mod writer;
 
-/// Writes the answers for the items of a list into the room for them, where the segments of the
-/// list's shape, halved at most `depth` times over, are answered side by side. Where several
-/// segments fail, the leftmost one's error is answered; a refusal of memory may stand in its place.
+/// Writes the results for the items of a list into the room for them, where the segments of the
+/// list's shape, halved at most `depth` times over, run side by side. Where several segments fail,
+/// the leftmost one's error is returned; a refusal of memory may stand in its place.
 pub fn fill<Rt: Threads + Sync, P: Parts, W: Writer<P::Item> + Sync>(
     rt: &Rt,
     alloc: Global,
@@ -91,7 +91,7 @@ where
     (room, done, watch)
 }
 
-// A part of a list with what answers it, the room for the answers, and its watch.
+// A part of a list with what gives its results, the room for the results, and its watch.
 #[derive(Drop)]
 struct Filling<'w, X: Send + Drop, S: Segment<X>, W: Writer<X>, G> {
     parts: S,

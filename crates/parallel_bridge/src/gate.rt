@@ -140,7 +140,7 @@ impl Gate {
         self.table.shared.load::<Looks>(&mut seat.seat, 0) < start as u64
     }
 
-    /// Ends the gate with all of its seats, and answers the word: the greatest number, or a start
+    /// Ends the gate with all of its seats, and returns the word: the greatest number, or a start
     /// that one of the seats told. It is at most each start that was told and each word that a seat
     /// saw. No memory is taken, and nothing is waited for.
     pub fn close(self, seats: Vec<GateSeat>) -> usize
@@ -155,7 +155,7 @@ impl Gate {
     /// The same with one seat that the others were joined into.
     ///
     /// Whoever saw a word less than its own start, and so was stopped, has a start that is greater
-    /// than the answer, and the answer is a start that was told.
+    /// than the result, and the result is a start that was told.
     pub fn close_joined(self, seat: GateSeat) -> usize
         requires belongs { IsGateSeatOf self seat }
         requires all { stands_for seat ≡ seats_of self }

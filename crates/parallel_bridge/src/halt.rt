@@ -4,7 +4,7 @@
 /// segment to its left had failed.
 #[derive(Debug, PartialEq, Eq, Drop)]
 pub enum Halt<E> {
-    /// The error that a closure answered for an item of the segment.
+    /// The error that a closure returned for an item of the segment.
     Failed(E),
     /// The gate had been told of a lesser start.
     Stopped,

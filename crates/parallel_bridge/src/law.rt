@@ -1,4 +1,4 @@
-//! When a fold or a map through any shape has one answer, the plain one.
+//! When a fold or a map through any shape has one result, the plain one.
 ghost use Rattle.std.specs.Prelude.{◌≡◌, List, map};
 ghost use Rattle.std.specs.List.{Contains};
 ghost use Rattle.parallel_bridge.specs.Lists.{MapOf};
@@ -20,7 +20,7 @@ pub fn fold_law<X, R, I: Fn() -> R, F: Fn(R, X) -> R, G: Fn(R, R) -> R>(
 }
 
 /// The law of lawful folds with a state: where the closures keep the laws that `FoldLaws` names
-/// whatever the state is, so that no step's answer depends on it, the fold is the plain one from
+/// whatever the state is, so that no step's result depends on it, the fold is the plain one from
 /// the left. It does nothing.
 pub fn fold_init_law<
     X,
@@ -40,8 +40,8 @@ pub fn fold_init_law<
     let _ = reduce_op;
 }
 
-/// The law of maps: where each item of the list has one answer at most, that of a function, the
-/// answers are the function's. It does nothing.
+/// The law of maps: where each item of the list has one result at most, that of a function, the
+/// results are the function's. It does nothing.
 pub fn map_law<X, T, F: Fn(X) -> T>(map_op: &F)
     ensures { (xs : List X) (ys : List T) → MapOf (F.post map_op.now) xs ys
         → (f : X → T) → ((x : X) (y : T) → Contains xs x → F.post map_op.now x y → y ≡ f x)

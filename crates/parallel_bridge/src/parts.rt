@@ -140,7 +140,7 @@ impl<T: Send + Drop> Parts for DrainProducer<T> {
     }
 
     fn into_items(self) -> SliceDrain<T> {
-        self.drain()
+        Producer::into_items(self)
     }
 
     fn into_segment(self, _alloc: Global) -> Result<(WindowSegment<T>, Home<T, Global>), Fault> {

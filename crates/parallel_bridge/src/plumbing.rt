@@ -8,15 +8,15 @@ ghost use Rattle.parallel_bridge.specs.Outcomes.{UnlessRefused};
 use parallel_fault::{Fault, Trouble};
 use std::alloc::Global;
 
-/// Puts the answers of two neighbouring parts of a list together, left before right. `E` is the
-/// error of a closure that it may answer.
+/// Puts the results of two neighbouring parts of a list together, left before right. `E` is the
+/// error of a closure that it may return.
 pub trait Reducer<R, E>: Drop {
-    /// The answers that may be put together.
+    /// The results that may be put together.
     ghost can_reduce: { Self → R → R → Type 0 };
-    /// What the answers of a left and a right part may be put together to.
+    /// What the results of a left and a right part may be put together to.
     ghost reduce_gives: { Self → R → R → Result R E → Type 0 };
 
-    /// Puts two answers together.
+    /// Puts two results together.
     ///
     /// # Errors
     ///
@@ -27,14 +27,14 @@ pub trait Reducer<R, E>: Drop {
         ensures { UnlessRefused result (λ out. reduce_gives self left right out) };
 }
 
-/// Takes the items of one segment in turn, and then answers. `R` is its answer, `E` the error of a
-/// closure that it may answer instead.
+/// Takes the items of one segment in turn, and then returns. `R` is its result, `E` the error of a
+/// closure that it may return instead.
 pub trait Folder<Item: Drop, R, E>: Sized + Drop {
     /// A folder that may work.
     ghost ready: { Self → Type 0 };
     /// An item that it may take.
     ghost takes: { Self → Item → Type 0 };
-    /// What it may answer after it took so many items more.
+    /// What it may return after it took these items more.
     ghost gives: { Self → List Item → Result R E → Type 0 };
 
     /// The folder with one item taken.
@@ -51,7 +51,7 @@ pub trait Folder<Item: Drop, R, E>: Sized + Drop {
             → gives self (item ∷ xs) out) }
         ensures fault { IsMemoryOnErr result };
 
-    /// The answer, or the error that a closure answered for one of the items.
+    /// The result, or the error that a closure returned for one of the items.
     ///
     /// # Errors
     ///
@@ -93,31 +93,31 @@ pub trait Folder<Item: Drop, R, E>: Sized + Drop {
 
 /// Takes the items of a list, which may be split first, each part for a consumer of its own.
 pub trait Consumer<Item: Drop>: Sized + Drop {
-    /// What a part of the list is answered by.
+    /// What a part of the list comes to.
     type Result: Send + Drop;
 
-    /// The error of a closure that may be answered instead.
+    /// The error of a closure that may be returned instead.
     type Error: Send + Drop;
 
     /// What takes the items of a segment.
     type Folder: Folder<Item, Self::Result, Self::Error> + Send;
 
-    /// What puts the answers of two parts together.
+    /// What puts the results of two parts together.
     type Reducer: Reducer<Self::Result, Self::Error> + Send;
 
     /// A consumer that may work.
     ghost ready: { Self → Type 0 };
     /// An item that may be handed over.
     ghost takes: { Self → Item → Type 0 };
-    /// Whether it may be handed a list of so many items, for a consumer that knows its place.
+    /// Whether it may be handed a list of that many items, for a consumer that knows its place.
     ghost fits: { Self → ℕ → Type 0 };
     /// What the items of a list that is not split may give.
     ghost leaf_gives: { Self → List Item → Result Self.Result Self.Error → Type 0 };
-    /// What the answers of a left and a right part may give.
+    /// What the results of a left and a right part may give.
     ghost node_gives: { Self → Self.Result → Self.Result → Result Self.Result Self.Error → Type 0 };
 
     /// Two consumers, for the first `index` items and for the rest, and the reducer of their
-    /// answers.
+    /// results.
     ///
     /// # Errors
     ///

@@ -153,7 +153,7 @@ impl<'a, T: Copy + Send + Sync + Drop> Producer for Copies<'a, T> {
 pub struct Indices {
     /// The first index.
     pub start: usize,
-    /// The index behind the last one.
+    /// The index after the last one.
     pub end: usize,
 }
 

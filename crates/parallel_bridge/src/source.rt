@@ -112,7 +112,7 @@ impl<T: Send + Drop> Source<ByVec> for Vec<T> {
     ghost may = { λ source x. Contains source.items x };
 
     fn into_items(self) -> SliceDrain<T> {
-        DrainProducer::from_vec(self).drain()
+        Producer::into_items(DrainProducer::from_vec(self))
     }
 
     fn into_parts(self, _alloc: Global) -> Result<DrainProducer<T>, Fault> {
@@ -187,7 +187,7 @@ where
     ghost may = { λ source x. MayCome I.next_gives source.iter x };
 
     fn into_items(self) -> I {
-        self.iter
+        Parts::into_items(self)
     }
 
     fn into_parts(self, _alloc: Global) -> Result<Counted<I>, Fault> {
@@ -205,7 +205,9 @@ where
     I::Item: Drop,
     requires can { I.can_next iter }
     requires ends { IsFinite (I.remaining iter) }
-    ensures { IfOk result (λ all. Drains I.next_gives iter all.items) }
+    ensures drained { IfOk result (λ all. Drains I.next_gives iter all.items) }
+    ensures may { IfOk result (λ all. (x : I.Item) → Contains all.items x
+        → MayCome I.next_gives iter x) }
 {
     let mut items = with_places(alloc, places_for(iter.size_hint().0));
     items.extend(iter)?;

@@ -9,12 +9,12 @@ ghost use Rattle.parallel_bridge.specs.Endings.{EndTogether, Ending, Goes, IsUnd
 /// It is no fact of any part that it is stopped. One that ends without a stop is one of which
 /// `ends` says so.
 pub trait Watch: Sized + Drop {
-    /// Whether it may watch a part of so many items.
+    /// Whether it may watch a part of that many items.
     ghost may: { Self → ℕ → Type 0 };
     /// The watch before a part's first item, how many items the part has, the watch at its end, and
     /// how it may then have ended.
     ghost ends: { Self → ℕ → Self → Ending → Type 0 };
-    /// What may have become of a watch by so many looks.
+    /// What may have become of a watch by that many looks.
     ghost looked: { Self → ℕ → Self → Type 0 };
     /// What may have watched the two halves of one part.
     ghost meets: { Self → Self → Type 0 };

@@ -12,7 +12,7 @@ use crate::watch::Watch;
 use parallel_fault::Trouble;
 use std::alloc::Global;
 
-/// Hands items to a folder, in order, up to the one behind which the others make no difference, or
+/// Hands items to a folder, in order, up to the one after which the others make no difference, or
 /// to the look that stops them. The caller has looked once; it looks after each item, and tells the
 /// watch of an error before it drops the items that are left.
 pub fn feed_items<X: Drop, L, C: Cursor<X, L>, R: Drop, E: Drop, F: Folder<X, R, E>, G: Watch>(

@@ -11,7 +11,7 @@ use std::alloc::Global;
 pub struct FoldConsumer<'c, C, I, F> {
     /// What takes the value of a segment.
     pub base: C,
-    /// The closure that answers a value to fold from.
+    /// The closure that returns a value to fold from.
     pub identity: &'c I,
     /// The closure that takes the folded value one item further.
     pub fold_op: &'c F,

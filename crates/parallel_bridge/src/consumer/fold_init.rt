@@ -15,7 +15,7 @@ pub struct FoldInitConsumer<'c, C, N, I, F> {
     pub base: C,
     /// The closure that makes a state.
     pub init: &'c N,
-    /// The closure that answers a value to fold from.
+    /// The closure that returns a value to fold from.
     pub identity: &'c I,
     /// The closure that takes the folded value one item further.
     pub fold_op: &'c F,

@@ -1,4 +1,4 @@
-//! The answers of a closure.
+//! The results of a closure.
 ghost use Rattle.std.specs.Prelude.{◌++◌, [], List, Result};
 ghost use Rattle.parallel_bridge.specs.Lists.{MapOf};
 
@@ -6,21 +6,21 @@ use crate::plumbing::{Consumer, Folder};
 use parallel_fault::{Fault, Trouble};
 use std::alloc::Global;
 
-/// Answers each item by a closure, and hands the answers to another consumer.
+/// Maps each item by a closure, and hands the results to another consumer.
 #[derive(Drop)]
 pub struct MapConsumer<'f, C, F> {
-    /// What takes the answers.
+    /// What takes the results.
     pub base: C,
-    /// The closure that answers an item.
+    /// The closure that maps an item.
     pub map_op: &'f F,
 }
 
-/// Answers the items of a segment by a closure, and hands the answers to another folder.
+/// Maps the items of a segment by a closure, and hands the results to another folder.
 #[derive(Drop)]
 pub struct MapFolder<'f, C, F> {
-    /// What takes the answers.
+    /// What takes the results.
     pub base: C,
-    /// The closure that answers an item.
+    /// The closure that maps an item.
     pub map_op: &'f F,
 }
 

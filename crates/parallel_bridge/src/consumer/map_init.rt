@@ -1,4 +1,4 @@
-//! The answers of a closure with a state at hand.
+//! The results of a closure with a state at hand.
 ghost use Rattle.std.specs.Prelude.{IfOk, List, Result};
 ghost use Rattle.std.specs.Borrow.{MutBor};
 ghost use Rattle.parallel_bridge.specs.States.{MapStep, StateSegment, StatesFrom};
@@ -7,26 +7,26 @@ use crate::plumbing::{Consumer, Folder};
 use parallel_fault::{Fault, Trouble};
 use std::alloc::Global;
 
-/// Answers each item by a closure with a state at hand, fresh for each segment, and hands the
-/// answers to another consumer.
+/// Maps each item by a closure with a state at hand, fresh for each segment, and hands the
+/// results to another consumer.
 #[derive(Drop)]
 pub struct MapInitConsumer<'f, C, N, F> {
-    /// What takes the answers.
+    /// What takes the results.
     pub base: C,
     /// The closure that makes a state.
     pub init: &'f N,
-    /// The closure that answers an item.
+    /// The closure that maps an item.
     pub map_op: &'f F,
 }
 
-/// Answers the items of a segment with one state, and hands the answers to another folder.
+/// Maps the items of a segment with one state, and hands the results to another folder.
 #[derive(Drop)]
 pub struct MapWithFolder<'f, C, S, F> {
-    /// What takes the answers.
+    /// What takes the results.
     pub base: C,
     /// The state that the next item meets.
     pub item: S,
-    /// The closure that answers an item.
+    /// The closure that maps an item.
     pub map_op: &'f F,
 }
 

@@ -11,11 +11,11 @@ use parallel_fault::{Fault, Trouble};
 use std::alloc::Global;
 use std::convert::Infallible;
 
-/// Answers each item by a closure, and gives a list of the values and one of the keys of the items
+/// Maps each item by a closure, and gives a list of the values and one of the keys of the items
 /// without one for each segment, both in the items' order.
 #[derive(Drop)]
 pub struct PartitionConsumer<'f, U, K, F> {
-    /// The closure that answers an item.
+    /// The closure that maps an item.
     pub map_op: &'f F,
     /// How many items are expected.
     pub items: usize,
@@ -30,7 +30,7 @@ pub struct PartitionFolder<'f, U, K, F> {
     /// The values, and the keys of the items without one. They lie in a box, so that for each item
     /// no more than its place is moved.
     pub lists: Box<(Vec<U>, Vec<K>)>,
-    /// The closure that answers an item.
+    /// The closure that maps an item.
     pub map_op: &'f F,
 }
 
@@ -147,7 +147,7 @@ impl<'f, X: Drop, U: Send + Drop, K: Send + Drop, F: Fn(X) -> (K, Option<U>) + S
     }
 }
 
-/// The first pair of spare lists, emptied, or where there is none a pair of new ones for so many
+/// The first pair of spare lists, emptied, or where there is none a pair of new ones for that many
 /// items.
 fn first_lists<U: Drop, K: Drop>(
     alloc: Global,
@@ -166,7 +166,7 @@ fn first_lists<U: Drop, K: Drop>(
     }
 }
 
-/// Spare lists for segments of such lengths, the first ones with so many places more.
+/// Spare lists for segments of such lengths, the first ones with that many places more.
 ///
 /// # Errors
 ///

@@ -8,10 +8,10 @@ use parallel_fault::{Fault, Trouble};
 use std::alloc::Global;
 use std::convert::Infallible;
 
-/// Reduces the items of each segment behind an identity, and then the results.
+/// Reduces the items of each segment after an identity, and then the results.
 #[derive(Drop)]
 pub struct ReduceConsumer<'r, I, G> {
-    /// The closure that answers a value to reduce from.
+    /// The closure that returns a value to reduce from.
     pub identity: &'r I,
     /// The closure that reduces two values, the left one first.
     pub reduce_op: &'r G,

@@ -13,7 +13,7 @@ use std::alloc::Global;
 pub struct TryFoldConsumer<'c, C, I, F> {
     /// What takes the outcome of a segment.
     pub base: C,
-    /// The closure that answers a value to fold from.
+    /// The closure that returns a value to fold from.
     pub identity: &'c I,
     /// The closure that takes the folded value one item further, or fails.
     pub fold_op: &'c F,

@@ -7,11 +7,11 @@ use crate::plumbing::{Consumer, Folder, Reducer};
 use parallel_fault::{Fault, Trouble};
 use std::alloc::Global;
 
-/// Reduces the outcomes of each segment behind an identity, and then the results; the leftmost
-/// error is answered instead.
+/// Reduces the outcomes of each segment after an identity, and then the results; the leftmost
+/// error is returned instead.
 #[derive(Drop)]
 pub struct TryReduceConsumer<'r, I, G> {
-    /// The closure that answers a value to reduce from.
+    /// The closure that returns a value to reduce from.
     pub identity: &'r I,
     /// The closure that reduces two values, the left one first.
     pub reduce_op: &'r G,

@@ -13,10 +13,10 @@ use crate::drive::{Task, drive_both, drive_plain};
 use std::alloc::{AllocError, Global};
 use std::thread::{Threads, join};
 
-// One thread starts fewer than so many others in a row, since each takes some of its stack.
+// One thread starts fewer than that many others in a row, since each takes some of its stack.
 const ROW: usize = 64;
 
-// Where loads are halved until there are so many in a row, no more are in hand at a time.
+// Where loads are halved until there are that many in a row, no more are in hand at a time.
 const PLACES: usize = 8;
 
 // Two tasks, how often each may be halved, and how many threads share them.
@@ -339,11 +339,9 @@ fn drive_two<Rt: Threads + Sync, T: Task>(
     requires none { done.items ≡ [] }
     requires places { vec_len loads + 2 ≤ vec_capacity loads }
     requires room { vec_len loads + 2 ≤ vec_capacity done }
-    ensures outer_first { T.ends outer.depth outer.left result.0.0 }
-    ensures outer_second { T.ends outer.depth outer.right result.0.1 }
-    ensures inner_first { T.ends inner.depth inner.left result.1.0 }
-    ensures inner_second { T.ends inner.depth inner.right result.1.1 }
-    ensures ends { CameTo T.ends loads.items result.2.items }
+    ensures ends { CameTo T.ends loads.items result.2.items
+        × (T.ends inner.depth inner.left result.1.0 × T.ends inner.depth inner.right result.1.1)
+        × (T.ends outer.depth outer.left result.0.0 × T.ends outer.depth outer.right result.0.1) }
     ensures len { vec_len result.2 ≡ vec_len loads }
     ensures room { vec_capacity result.2 ≡ vec_capacity done }
 {

@@ -1,13 +1,13 @@
-//! The answers of a closure.
+//! The results of a closure.
 ghost use Rattle.parallel_bridge.specs.Lists.{MapOf};
 
 use crate::fill::writer::Writer;
 use std::convert::Infallible;
 
-/// Answers each item by a closure.
+/// Maps each item by a closure.
 #[derive(Drop)]
 pub struct MapWriter<'f, F> {
-    /// The closure that answers an item.
+    /// The closure that maps an item.
     pub map_op: &'f F,
 }
 

@@ -1,4 +1,4 @@
-//! The answers of a closure with a state at hand.
+//! The results of a closure with a state at hand.
 ghost use Rattle.std.specs.Prelude.{◌++◌, List};
 ghost use Rattle.std.specs.Borrow.{MutBor};
 ghost use Rattle.parallel_bridge.specs.States.{MapStep, StateSegment, StatesFrom};
@@ -6,12 +6,12 @@ ghost use Rattle.parallel_bridge.specs.States.{MapStep, StateSegment, StatesFrom
 use crate::fill::writer::Writer;
 use std::convert::Infallible;
 
-/// Answers each item by a closure with a state at hand, which is fresh for each segment.
+/// Maps each item by a closure with a state at hand, which is fresh for each segment.
 #[derive(Drop)]
 pub struct MapInitWriter<'f, N, F> {
     /// The closure that makes a state.
     pub init: &'f N,
-    /// The closure that answers an item.
+    /// The closure that maps an item.
     pub map_op: &'f F,
 }
 

@@ -4,10 +4,10 @@ ghost use Rattle.parallel_bridge.specs.Tries.{EachOk, FirstErr};
 
 use crate::fill::writer::Writer;
 
-/// Answers each item by a closure that may fail.
+/// Maps each item by a closure that may fail.
 #[derive(Drop)]
 pub struct TryMapWriter<'f, F> {
-    /// The closure that answers an item.
+    /// The closure that maps an item.
     pub map_op: &'f F,
 }
 

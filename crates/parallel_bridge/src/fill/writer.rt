@@ -1,4 +1,4 @@
-//! What answers the items of a list one by one, and the loop that writes the answers.
+//! What gives the results for a list's items one by one, and the loop that writes them.
 ghost use Rattle.std.specs.Prelude.{◌≡◌, ◌++◌, ◌+◌, ◌<◌, ◌∷◌, [], IfErr, IfOk, List, Result, length};
 ghost use Rattle.parallel_bridge.specs.Fills.{Answered, IsFull, IsRoom, SamePlaces, kept};
 ghost use Rattle.parallel_bridge.specs.Endings.{Goes, IsUnderway, ending};
@@ -10,13 +10,13 @@ use crate::halt::Halt;
 use crate::watch::Watch;
 use crate::window::part::Window;
 
-/// Answers the items of a segment one by one, with a state that goes from item to item and is fresh
-/// for each segment.
+/// Gives the results for the items of a segment one by one, with a state that goes from item to item
+/// and is fresh for each segment.
 pub trait Writer<Item: Drop>: Sized + Drop {
-    /// What an item is answered by.
+    /// The result for an item.
     type Answer: Drop;
 
-    /// The error of a closure that may be answered instead.
+    /// The error of a closure that may be returned instead.
     type Error: Drop;
 
     /// What goes from item to item.
@@ -26,9 +26,9 @@ pub trait Writer<Item: Drop>: Sized + Drop {
     ghost ready: { Self → Type 0 };
     /// An item that it may take.
     ghost takes: { Self → Item → Type 0 };
-    /// The items so far, the state behind them, and their answers.
+    /// The items so far, the state after them, and their results.
     ghost so_far: { Self → List Item → Self.State → List Self.Answer → Type 0 };
-    /// The items of a segment, and the error that one of them answers.
+    /// The items of a segment, and the error that one of them came to.
     ghost fails: { Self → List Item → Self.Error → Type 0 };
 
     /// A fresh state.
@@ -36,7 +36,7 @@ pub trait Writer<Item: Drop>: Sized + Drop {
         requires { ready self.now }
         ensures { so_far self.now [] result [] };
 
-    /// The answer for the next item, or its error.
+    /// The result for the next item, or its error.
     ///
     /// # Errors
     ///
@@ -50,10 +50,10 @@ pub trait Writer<Item: Drop>: Sized + Drop {
             → so_far self.now xs state.old ys → fails self.now (xs ++ item ∷ more) e) };
 }
 
-/// Writes the answers for the items that come, in their order, up to the first item that fails,
-/// whose error it answers, or to the look that stops it. There is a place for each item. It looks
+/// Writes the results for the items that come, in their order, up to the first item that fails,
+/// whose error it returns, or to the look that stops it. There is a place for each item. It looks
 /// before the first item and after each, and tells the watch of its own error at once. The items
-/// behind an error or a stop are dropped. It takes no memory.
+/// after an error or a stop are dropped. It takes no memory.
 pub fn write_items<X: Drop, L, C: Cursor<X, L>, W: Writer<X>, G: Watch>(
     writer: &W,
     items: C,

@@ -6,7 +6,7 @@ use std::collections::LinkedList;
 pub struct GateView {
     /// How many of the gate's seats it stands for.
     pub seats: u64,
-    /// The starts that it told, in order. A seat that took in others has theirs behind its own.
+    /// The starts that it told, in order. A seat that took in others has theirs after its own.
     pub told: LinkedList<u64>,
     /// The least word that it saw, and the greatest number where it saw none.
     pub least: u64,

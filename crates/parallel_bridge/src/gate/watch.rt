@@ -108,7 +108,7 @@ impl<'g> Watch for GateWatch<'g> {
     }
 }
 
-/// How many seats a gate is opened for, by which a list of so many items is cut.
+/// How many seats a gate is opened for, by which a list of that many items is cut.
 pub(crate) fn seats_for(len: usize) -> NonZeroUsize
     ensures { (len ≤ non_zero_usize_get result) × (0 < non_zero_usize_get result) }
 {

@@ -43,7 +43,7 @@ pub fn fold_iter<I: Iterator, R: Drop, ID: Fn() -> R, F: Fn(R, I::Item) -> R>(
 }
 
 /// The items of a list folded along its shape for that many threads: each segment from an identity
-/// of its own and reduced behind a further identity, and neighbours reduced left before right.
+/// of its own and reduced after a further identity, and neighbours reduced left before right.
 ///
 /// # Errors
 ///
@@ -121,7 +121,7 @@ pub fn fold_by<
     match path {
         Path::Serial => Ok(fold_iter(parts.into_items(), identity, fold_op)),
         Path::Parallel => {
-            // (bound before it is answered, so that its facts have a name in the proof)
+            // (bound before it is returned, so that its facts have a name in the proof)
             let answer = fold_parallel(rt, alloc, threads, parts, identity, fold_op, reduce_op)?;
             Ok(answer)
         }

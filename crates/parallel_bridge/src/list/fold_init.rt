@@ -51,7 +51,7 @@ pub fn fold_init_iter<
 }
 
 /// The items of a list folded along its shape for that many threads: each segment from a state and
-/// an identity of its own and reduced behind a further identity, and neighbours reduced left before
+/// an identity of its own and reduced after a further identity, and neighbours reduced left before
 /// right.
 ///
 /// # Errors
@@ -139,7 +139,7 @@ pub fn fold_init_by<
     match path {
         Path::Serial => Ok(fold_init_iter(parts.into_items(), init, identity, fold_op)),
         Path::Parallel => {
-            // (bound before it is answered, so that its facts have a name in the proof)
+            // (bound before it is returned, so that its facts have a name in the proof)
             let answer = fold_init_parallel(
                 rt, alloc, threads, parts, init, identity, fold_op, reduce_op,
             )?;

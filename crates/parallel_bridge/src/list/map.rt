@@ -18,8 +18,8 @@ use std::alloc::Global;
 use std::num::NonZeroUsize;
 use std::thread::Threads;
 
-/// The answers of `map_op` for the items that an iterator gives, as they come and in their order,
-/// on the caller's thread. The answers alone are gathered, not the items.
+/// The results of `map_op` for the items that an iterator gives, as they come and in their order,
+/// on the caller's thread. The results alone are gathered, not the items.
 ///
 /// # Errors
 ///
@@ -43,9 +43,9 @@ pub fn map_iter<I: Iterator, T: Drop, F: Fn(I::Item) -> T>(
     Ok(iter.map(answer).collect(alloc)?)
 }
 
-/// The answers of `map_op` for the items of a list, in their order, where the segments of the
-/// list's shape for that many threads are answered side by side. Memory for the answers is reserved
-/// once, before any segment starts, and each answer is written where it stays.
+/// The results of `map_op` for the items of a list, in their order, where the segments of the
+/// list's shape for that many threads run side by side. Memory for the results is reserved
+/// once, before any segment starts, and each result is written where it stays.
 ///
 /// # Errors
 ///
@@ -75,7 +75,7 @@ pub fn map_parallel<
     }
 }
 
-/// The answers of `map_op` for the items of a list, in their order: serially as they come, in
+/// The results of `map_op` for the items of a list, in their order: serially as they come, in
 /// parallel side by side.
 ///
 /// # Errors

@@ -22,7 +22,7 @@ use std::alloc::Global;
 use std::num::NonZeroUsize;
 use std::thread::Threads;
 
-/// The answers of `map_op` for the items that an iterator gives, as they come and in their order,
+/// The results of `map_op` for the items that an iterator gives, as they come and in their order,
 /// with one state that `init` makes and that goes from item to item, on the caller's thread.
 ///
 /// # Errors
@@ -52,10 +52,10 @@ pub fn map_init_iter<I: Iterator, S: Drop, T: Drop, N: Fn() -> S, F: Fn(&mut S, 
     Ok(answers)
 }
 
-/// The answers of `map_op` for the items of a list, in their order, where the segments of the
-/// list's shape for that many threads are answered side by side. Each segment has a fresh state,
-/// which goes from item to item. Memory for the answers is reserved once, before any segment
-/// starts, and each answer is written where it stays.
+/// The results of `map_op` for the items of a list, in their order, where the segments of the
+/// list's shape for that many threads run side by side. Each segment has a fresh state,
+/// which goes from item to item. Memory for the results is reserved once, before any segment
+/// starts, and each result is written where it stays.
 ///
 /// # Errors
 ///
@@ -97,7 +97,7 @@ pub fn map_init_parallel<
     }
 }
 
-/// The answers of `map_op` for the items of a list, in their order: serially as they come and with
+/// The results of `map_op` for the items of a list, in their order: serially as they come and with
 /// one state, in parallel side by side and with a state for each segment.
 ///
 /// # Errors
@@ -127,7 +127,7 @@ pub fn map_init_by<
         (levels threads) path xs ys.items)) }
     ensures fault { IsMemoryOnErr result }
 {
-    // (each bound before it is answered, so that its facts have a name in the proof)
+    // (each bound before it is returned, so that its facts have a name in the proof)
     match path {
         Path::Serial => {
             let answers = map_init_iter(alloc, parts.into_items(), init, map_op)?;

@@ -18,8 +18,8 @@ use std::alloc::Global;
 use std::num::NonZeroUsize;
 use std::thread::Threads;
 
-/// The values that `map_op` answers for the items that an iterator gives, and the keys of those for
-/// which it answers none, as they come and in their order, on the caller's thread.
+/// The values that `map_op` returns for the items that an iterator gives, and the keys of those for
+/// which it returns none, as they come and in their order, on the caller's thread.
 ///
 /// # Errors
 ///
@@ -50,7 +50,7 @@ pub fn partition_iter<I: Iterator, K: Drop, U: Drop, F: Fn(I::Item) -> (K, Optio
 }
 
 /// The values and the keys of the items of a list, in their order, where the segments of the list's
-/// shape for that many threads are answered side by side.
+/// shape for that many threads run side by side.
 ///
 /// # Errors
 ///

@@ -13,7 +13,7 @@ use std::thread::{Threads, join_mut};
 // A part of fewer items isn't worth a thread.
 const PART: usize = 8192;
 
-// One thread starts fewer than so many others in a row, since each takes some of its stack.
+// One thread starts fewer than that many others in a row, since each takes some of its stack.
 const ROW: usize = 64;
 
 /// Sorts the items by an order, parts of at least 8192 side by side where there are threads to
@@ -46,7 +46,7 @@ pub fn sort_parallel<Rt: Threads + Sync, T: Send, C: Fn(&T, &T) -> Ordering + Se
     sort_rounds(rt, alloc, parts, items, by_reference)
 }
 
-// So many parts side by side, and then half as many, of which each has two sorted runs.
+// That many parts side by side, and then half as many, of which each has two sorted runs.
 #[cycle(rounds)]
 fn sort_rounds<Rt: Threads + Sync, T: Send, C: FnMut(&T, &T) -> Ordering + Copy + Send + Sync>(
     rt: &Rt,
@@ -69,7 +69,7 @@ fn sort_rounds<Rt: Threads + Sync, T: Send, C: FnMut(&T, &T) -> Ordering + Copy 
     sort_rounds(rt, alloc, parts / 2, items, compare)
 }
 
-// So many parts side by side, `grain` of them for each thread that this one starts, and the last
+// That many parts side by side, `grain` of them for each thread that this one starts, and the last
 // ones for this one. A part whose sort finds no memory is left to the sort of more.
 #[cycle(rounds)]
 fn sort_row<Rt: Threads + Sync, T: Send, C: FnMut(&T, &T) -> Ordering + Copy + Send + Sync>(

@@ -55,8 +55,8 @@ where
 }
 
 /// The items of a list folded along its shape for that many threads: each segment from an identity
-/// of its own, up to its own first error, and reduced behind a further identity; neighbours are
-/// reduced left before right, and of several errors the leftmost is answered. A segment stops at
+/// of its own, up to its own first error, and reduced after a further identity; neighbours are
+/// reduced left before right, and of several errors the leftmost is returned. A segment stops at
 /// that of a segment to its left, too: then the closures aren't called for its other items.
 ///
 /// # Errors

@@ -23,8 +23,8 @@ use std::alloc::Global;
 use std::num::NonZeroUsize;
 use std::thread::Threads;
 
-/// The values that `map_op` answers for the items that an iterator gives, as they come and in their
-/// order, on the caller's thread; or the error of the first item that fails, behind which the other
+/// The values that `map_op` returns for the items that an iterator gives, as they come and in their
+/// order, on the caller's thread; or the error of the first item that fails, after which the other
 /// items are passed over and the closure isn't called.
 ///
 /// # Errors
@@ -55,8 +55,8 @@ where
     }
 }
 
-/// The values that `map_op` answers for the items of a list, in their order, where the segments of
-/// the list's shape for that many threads are answered side by side; or the error of the first item
+/// The values that `map_op` returns for the items of a list, in their order, where the segments of
+/// the list's shape for that many threads run side by side; or the error of the first item
 /// that fails, whichever segment ends first. A segment stops at its own first error, and at that of
 /// a segment to its left: then the closure isn't called for its other items. Memory for the values
 /// is reserved once, before any segment starts, and each value is written where it stays.
@@ -138,7 +138,7 @@ pub fn try_map_by<
     }
 }
 
-// Puts the value of an item behind those that are there, or its error down. Where an error is there,
+// Puts the value of an item after those that are there, or its error down. Where an error is there,
 // the item is passed over and the closure isn't called.
 fn try_map_step<X: Drop, T: Drop, E: Drop, F: Fn(X) -> Result<T, E>>(
     values: &mut Vec<T>,

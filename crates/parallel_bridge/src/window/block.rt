@@ -32,7 +32,7 @@ impl<T, A: Allocator> Model for Block<T, A> {
 }
 
 impl<T, A: Allocator> Block<T, A> {
-    /// A vector's own block, with its items where they lie and its spare places behind them.
+    /// A vector's own block, with its items where they lie and its spare places after them.
     /// Nothing is copied.
     pub fn from_vec(mut vec: Vec<T, A>) -> Self
         ensures { result ≡ part result.start vec.cap 0 vec.items }
@@ -69,7 +69,7 @@ impl<T, A: Allocator> Block<T, A> {
         self.window.len()
     }
 
-    /// Writes an item behind the others, where there is room for it. It takes no memory.
+    /// Writes an item after the others, where there is room for it. It takes no memory.
     pub fn put(&mut self, item: T)
         requires { self.old.before + length self.old.items < self.old.room }
         ensures { self.new ≡ part self.old.start self.old.room self.old.before
@@ -100,7 +100,7 @@ impl<T, A: Allocator> Block<T, A> {
 }
 
 impl<T: Drop, A: Allocator> Block<T, A> {
-    /// The block with one item more, behind the others. Where it has no room left, its items move
+    /// The block with one item more, after the others. Where it has no room left, its items move
     /// into a bigger one.
     ///
     /// # Errors

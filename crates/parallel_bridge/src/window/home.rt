@@ -51,7 +51,7 @@ impl<T, A: Allocator> Home<T, A> {
         ensures site { IfOk result (λ r. IsSite T.row r.1) }
     {
         // glibc gives free memory at the end of its heap back once that is twice the greatest block
-        // that was freed. A list that was gathered and its answers, as long, would be just as much,
+        // that was freed. A list that was gathered and its results, as long, would be just as much,
         // and each call would get all their pages anew; an eighth more keeps them.
         let vec = Vec::with_capacity(alloc, room.saturating_add(room / 8))?;
         Ok(Home::over(vec, room))

@@ -46,7 +46,7 @@ impl<T> Window<T> {
         self.room
     }
 
-    /// Writes an item behind the others, where there is room for it. It takes no memory.
+    /// Writes an item after the others, where there is room for it. It takes no memory.
     pub fn put(&mut self, item: T)
         requires { self.old.before + length self.old.items < self.old.room }
         ensures { self.new ≡ part self.old.start self.old.room self.old.before

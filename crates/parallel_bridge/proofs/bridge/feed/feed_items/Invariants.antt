@@ -1,4 +1,4 @@
--- what is said of the items that are left holds of all, behind those that the folder took
+-- what is said of the items that are left holds of all, after those that the folder took
 use Rattle.parallel_bridge.proofs.{◌++◌, List, Result, length}
 use Rattle.parallel_bridge.specs.Endings.{Goes, LooksMore, well}
 use Rattle.parallel_bridge.proofs.bridge.feed.feed_items.Given as goal

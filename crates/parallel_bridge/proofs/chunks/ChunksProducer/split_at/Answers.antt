@@ -1,4 +1,4 @@
--- A cut behind so many pieces of the slice.
+-- A cut after that many pieces of the slice.
 use Rattle.parallel_bridge.proofs.{◌-◌, length, drop, take, ap, ◌∙◌, div_ceil, non_zero_usize_get, take_rest, chunks_of, some_borrows, back_count, chunk_of_back, chunk_of_front}
 use Rattle.parallel_bridge.proofs.{front_count}
 use Rattle.parallel_bridge.proofs.chunks.ChunksProducer.split_at.Goals as goal

@@ -1,4 +1,4 @@
--- What comes may come, and what may come behind it.
+-- What comes may come, and what may come after it.
 use Rattle.parallel_bridge.proofs.{item_may_come, others_may_come}
 use Rattle.parallel_bridge.proofs.cursor.IterCursorCursorItemUnit.next.Goals as goal
 

@@ -27,35 +27,14 @@ drive_split-returns-in-Err-split-clause-ends g t c =
 
 pub drive_split-returns-clause-ends : goal.drive_split-returns-clause-ends
 drive_split-returns-clause-ends g t c =
-    let two = c.drive_two-outer.ensures in
-    one_came g.T.Task.ends _ _ _ _ _ c.push_reserved-2.ensures.items two.ends (
-      c.in-Ok.ensures.node _ _ _ _ c.requires.depth two.outer_first two.inner_first
-          c.join-first.ensures,
-      c.in-Ok-split.ensures.node _ _ _ _ c.requires.depth two.inner_second two.outer_second
-          c.join-second.ensures,
+    let (rest, inner, outer) = c.drive_two-outer.ensures.ends in
+    let one = c.in-Ok.ensures.node _ _ _ _ c.requires.depth outer.0 inner.0 c.join-first.ensures in
+    one_came g.T.Task.ends _ _ _ _ _ c.push_reserved-2.ensures.items rest (
+      one,
+      c.in-Ok-split.ensures.node _ _ _ _ c.requires.depth inner.1 outer.1 c.join-second.ensures,
     )
 
-pub drive_two-returns-clause-outer_first : goal.drive_two-returns-clause-outer_first
-drive_two-returns-clause-outer_first g t c = (two_came g.T.Task.ends _ _ _ _ _ _ _ _ _ _
-    c.push_reserved.ensures.items c.push_reserved-2.ensures.items c.take_last-outer.ensures.items
-    c.take_last-inner.ensures.items c.drive_row-done.ensures.ends).2.0
-
-pub drive_two-returns-clause-outer_second : goal.drive_two-returns-clause-outer_second
-drive_two-returns-clause-outer_second g t c = (two_came g.T.Task.ends _ _ _ _ _ _ _ _ _ _
-    c.push_reserved.ensures.items c.push_reserved-2.ensures.items c.take_last-outer.ensures.items
-    c.take_last-inner.ensures.items c.drive_row-done.ensures.ends).2.1
-
-pub drive_two-returns-clause-inner_first : goal.drive_two-returns-clause-inner_first
-drive_two-returns-clause-inner_first g t c = (two_came g.T.Task.ends _ _ _ _ _ _ _ _ _ _
-    c.push_reserved.ensures.items c.push_reserved-2.ensures.items c.take_last-outer.ensures.items
-    c.take_last-inner.ensures.items c.drive_row-done.ensures.ends).1.0
-
-pub drive_two-returns-clause-inner_second : goal.drive_two-returns-clause-inner_second
-drive_two-returns-clause-inner_second g t c = (two_came g.T.Task.ends _ _ _ _ _ _ _ _ _ _
-    c.push_reserved.ensures.items c.push_reserved-2.ensures.items c.take_last-outer.ensures.items
-    c.take_last-inner.ensures.items c.drive_row-done.ensures.ends).1.1
-
 pub drive_two-returns-clause-ends : goal.drive_two-returns-clause-ends
-drive_two-returns-clause-ends g t c = (two_came g.T.Task.ends _ _ _ _ _ _ _ _ _ _
+drive_two-returns-clause-ends g t c = two_came g.T.Task.ends _ _ _ _ _ _ _ _ _ _
     c.push_reserved.ensures.items c.push_reserved-2.ensures.items c.take_last-outer.ensures.items
-    c.take_last-inner.ensures.items c.drive_row-done.ensures.ends).0
+    c.take_last-inner.ensures.items c.drive_row-done.ensures.ends

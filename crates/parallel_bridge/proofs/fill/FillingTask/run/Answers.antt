@@ -8,10 +8,10 @@ pub returns-in-Ok : goal.returns-in-Ok
 returns-in-Ok g c depth short =
     let self = c.args.self in let room = c.write_items-done.new.room in
     let watch = c.write_items-done.new.watch in let written = c.write_items-done.ensures in
-    let made = c.into_items.ensures in let count = g.S.Segment.count self.parts in
+    let made = c.into_items-items.ensures in let count = g.S.Segment.count self.parts in
     let leaf =
     halting (Answered (g.W.Writer.so_far self.writer.now) (g.W.Writer.fails self.writer.now)) in
-    let some = subst (λ d. GivesSome g.S.Items.Cursor.gives c.into_items.result
+    let some = subst (λ d. GivesSome g.S.Items.Cursor.gives c.into_items-items.result
     (λ xs. leaf xs (kept d room.items))) c.in-Ok.is written.gives in (
       (
         written.place,
@@ -28,10 +28,10 @@ pub returns-in-Err : goal.returns-in-Err
 returns-in-Err g c depth short =
     let self = c.args.self in let room = c.write_items-done.new.room in
     let watch = c.write_items-done.new.watch in let written = c.write_items-done.ensures in
-    let made = c.into_items.ensures in let count = g.S.Segment.count self.parts in
+    let made = c.into_items-items.ensures in let count = g.S.Segment.count self.parts in
     let leaf =
     halting (Answered (g.W.Writer.so_far self.writer.now) (g.W.Writer.fails self.writer.now)) in
-    let some = subst (λ d. GivesSome g.S.Items.Cursor.gives c.into_items.result
+    let some = subst (λ d. GivesSome g.S.Items.Cursor.gives c.into_items-items.result
     (λ xs. leaf xs (kept d room.items))) c.in-Err.is written.gives in (
       (
         written.place,

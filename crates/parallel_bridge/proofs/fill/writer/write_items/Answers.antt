@@ -1,4 +1,4 @@
--- One turn is one answer more, and there are as many items as places.
+-- One turn is one result more, and there are as many items as places.
 use Rattle.parallel_bridge.proofs.{rules, ◌≡◌, ◌+◌, ◌++◌, ◌∙◌, ◌∷◌, [], List, ap, append_assoc, append-nil, arith, length, length-append, none_left, one_answered, subst, sym}
 use Rattle.parallel_bridge.proofs.fill.writer.write_items.Goals as goal
 

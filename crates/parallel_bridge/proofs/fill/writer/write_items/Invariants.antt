@@ -1,4 +1,4 @@
--- an answer for each item that came; what the items that are left may give is all, behind those; a
+-- a result for each item that came; what the items that are left may give is all, after those; a
 -- part that might end well still may
 use Rattle.parallel_bridge.proofs.{◌≡◌, ◌-◌, ◌++◌, List, length, SamePlaces}
 use Rattle.parallel_bridge.specs.Endings.{Goes, well}

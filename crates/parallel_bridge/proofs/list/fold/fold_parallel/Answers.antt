@@ -1,4 +1,4 @@
--- The value of each segment is reduced behind an identity.
+-- The value of each segment is reduced after an identity.
 use Rattle.parallel_bridge.proofs.{Infallible, FoldSegment, Shape, cutdepth, Along, GivesSome, TryAlongCut, OnlyOk, ◌∷◌, [], driven, fold_driven}
 use Rattle.parallel_bridge.proofs.list.fold.fold_parallel.Goals as goal
 

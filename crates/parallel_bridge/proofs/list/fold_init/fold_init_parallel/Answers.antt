@@ -1,4 +1,4 @@
--- The value of each segment is reduced behind an identity.
+-- The value of each segment is reduced after an identity.
 use Rattle.parallel_bridge.proofs.{◌∷◌, [], Infallible, FoldSegment, AlongLeaves, Shape, cutdepth, GivesSome, FoldStep, FoldInitSegment, TryAlongCut, OnlyOk, driven, fold_driven}
 use Rattle.parallel_bridge.proofs.list.fold_init.fold_init_parallel.Goals as goal
 

@@ -1,4 +1,4 @@
--- The closure may be called at each item that comes, and what was collected are its answers.
+-- The closure may be called at each item that comes, and what was collected are its results.
 use Rattle.parallel_bridge.proofs.{rules, map_steps, mapped_from, serves_along}
 use Rattle.parallel_bridge.proofs.list.map.map_iter.Goals as goal
 

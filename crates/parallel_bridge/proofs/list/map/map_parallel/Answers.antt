@@ -1,4 +1,4 @@
--- What was written into the segments' rooms, side by side, are the answers for the list.
+-- What was written into the segments' rooms, side by side, are the results for the list.
 use Rattle.parallel_bridge.proofs.{Infallible, MapOf, Shape, Driven, GivesSome, TryAlongCut, Ok, subst, sym, Answered, OneAfterAnother, written, filled_shape}
 use Rattle.parallel_bridge.proofs.list.map.map_parallel.Goals as goal
 

@@ -1,4 +1,4 @@
--- One state serially, one for each segment in parallel; either way the answers fall into segments.
+-- One state serially, one for each segment in parallel; either way the results fall into segments.
 use Rattle.parallel_bridge.proofs.{Serial, Parallel, rules, cutdepth, MapStep, mapped_init_by}
 use Rattle.parallel_bridge.proofs.list.map_init.map_init_by.Goals as goal
 

@@ -1,4 +1,4 @@
--- answers from here for more items are, behind those so far, answers from the start
+-- results from here for more items are, after those so far, results from the start
 use Rattle.parallel_bridge.proofs.{List, ◌++◌, MapStep, StatesFrom}
 use Rattle.parallel_bridge.proofs.list.map_init.map_init_iter.Given as goal
 

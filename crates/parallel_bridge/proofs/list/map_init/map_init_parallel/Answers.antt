@@ -1,4 +1,4 @@
--- Each segment has a fresh state, and the answers of two parts are one after another.
+-- Each segment has a fresh state, and the results of two parts are one after another.
 use Rattle.parallel_bridge.proofs.{List, Ok, [], ◌≡◌, ◌++◌, refl, subst, sym, append-nil, Infallible, Shape, Driven, GivesSome, MapStep, StatesFrom, StateSegment, StatesAlong, TryAlongCut, Answered}
 use Rattle.parallel_bridge.proofs.{OneAfterAnother, written, along_unfailing, answers_along}
 use Rattle.parallel_bridge.proofs.list.map_init.map_init_parallel.Goals as goal

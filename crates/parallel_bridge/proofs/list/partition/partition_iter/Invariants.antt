@@ -1,4 +1,4 @@
--- the lists have what the items so far put behind those of the start
+-- the lists have what the items so far put after those of the start
 use Rattle.parallel_bridge.proofs.{PartitionOnto}
 use Rattle.parallel_bridge.proofs.list.partition.partition_iter.Given as goal
 

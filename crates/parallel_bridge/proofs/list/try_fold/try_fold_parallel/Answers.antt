@@ -1,4 +1,4 @@
--- The outcome of each segment is reduced behind an identity, unless it is an error, and no stop
+-- The outcome of each segment is reduced after an identity, unless it is an error, and no stop
 -- stands.
 use Rattle.parallel_bridge.proofs.{GivesSome, List, OnlyOk, ReducesTo, Result, Shape, TryAlong, TryAlongCut, TryFoldSegment, UnlessRefused, [], ◌∷◌, ◌∙◌, ap, arith, stands_for, subst, sym}
 use Rattle.parallel_bridge.proofs.{driven_unhalted, try_fold_driven, unless_weaker, unstopped}

@@ -1,4 +1,4 @@
--- the values and errors so far stand behind those of the start
+-- the values and errors so far stand after those of the start
 use Rattle.parallel_bridge.proofs.{TryMapBehind, ended}
 use Rattle.parallel_bridge.proofs.list.try_map.try_map_iter.Given as goal
 

@@ -1,4 +1,4 @@
--- Behind the first pair are the others.
+-- After the first pair are the others.
 use Rattle.parallel_bridge.proofs.{others_of, pairs_of}
 use Rattle.parallel_bridge.proofs.pairs.PairSegmentCursorTuple2Window.next.Goals as goal
 

@@ -1,4 +1,4 @@
--- what is said of further items holds of all, behind those that came
+-- what is said of further items holds of all, after those that came
 use Rattle.parallel_bridge.proofs.{◌++◌, List, Result}
 use Rattle.parallel_bridge.proofs.plumbing.Folder.consume_iter.Given as goal
 

@@ -1,4 +1,4 @@
--- As many indices as the end is behind the start.
+-- As many indices as the end is past the start.
 use Rattle.parallel_bridge.proofs.{length, ◌∙◌, ap, ◌-◌, arith, length-range_with_len}
 use Rattle.parallel_bridge.proofs.producer.IndicesProducer.len.Goals as goal
 

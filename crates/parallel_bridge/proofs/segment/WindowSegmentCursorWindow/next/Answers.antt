@@ -1,4 +1,4 @@
--- Behind the first item are the others.
+-- After the first item are the others.
 use Rattle.parallel_bridge.proofs.{others_of}
 use Rattle.parallel_bridge.proofs.segment.WindowSegmentCursorWindow.next.Goals as goal
 

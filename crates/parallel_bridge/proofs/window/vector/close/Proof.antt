@@ -1,5 +1,5 @@
 -- `close` gives a vector a row of places as its block. Assumes `Logic`.
-use Rattle.parallel_bridge.proofs.{Places, Start, mark, mark_had, start_had, plainly, stored_within, block_in}
+use Rattle.parallel_bridge.proofs.{◌⊗◌, Places, Start, mark, mark_had, start_had, plainly, stored_within, block_in}
 use Rattle.parallel_bridge.proofs.Walks.{proved_at, ◌≡◌, refl, sym, ap, subst, ◌∙◌, ℕ, ◌-◌, ◌*◌, ◌≤◌, ◌<◌, ◌^◌, List, [], ◌∷◌, ◌++◌, map, length, replicate, Ura, full_share, Fn, w64, inst_fn, Val}
 use Rattle.parallel_bridge.proofs.Walks.{vunit, vint, vptr, SProp, ent, never, id⊢, ftrue, fat, flft, Memory, Routine, Env, WpFn, Tables, Logic, ◌⊑◌, Fun, fact, tables, tables_of, ‵, raw, ◌⊛◌, at_ret}
 use Rattle.parallel_bridge.proofs.Walks.{◌$◌, ◌∵◌, !, qed, move, keep, drop, use2, split, split3, join, rewrite, fsplit, fsplit3, fjoin3, feq_i, feq_l, flt_l, suffices, done, whole, sub, store_in}
@@ -25,22 +25,10 @@ module _ (E : El) where
   Deeds = deeds.the_row (R E) (P E) E.al.g
 
   abbrev stayed : Stays ended.signature.params ended.kept
-  stayed = (
-    stay_ref (0 ∷ []) tt (plain (λ _. Vr E)),
-    (
-      stay_dropped (plain (λ _. Start (plainly E))) no,
-      (
-        stay_dropped (plain (λ _. usize)) yes,
-        (
-          stay_dropped (plain (λ _. usize)) yes,
-          (
-            stay_dropped (plain (λ _. Places (plainly E))) no,
-            (stay_dropped (plain (λ _. Deeds)) no, tt),
-          ),
-        ),
-      ),
-    ),
-  )
+  stayed = stay_ref (0 ∷ []) tt (plain (λ _. Vr E)) ⊗
+      stay_dropped (plain (λ _. Start (plainly E))) no ⊗ stay_dropped (plain (λ _. usize)) yes ⊗
+      stay_dropped (plain (λ _. usize)) yes ⊗ stay_dropped (plain (λ _. Places (plainly E))) no ⊗
+      stay_dropped (plain (λ _. Deeds)) no ⊗ tt
 
   module _ {M : Type 1} {𝓤 : Ura M} (𝓛 : Logic 𝓤) (at_mem : Memory → SProp 𝓤)
       (run : Routine → Fun 𝓤) (𝓣 : Tables 𝓤 𝓛.H) where
@@ -88,16 +76,8 @@ module _ (E : El) where
         suffices ! (Run us) (subst (λ (ws : List Val). ent 𝓤 (Run us) (Run ws))
         (sym (λ i. e₀ i ++ (e₁ i ++ (e₂ i ++ (e₃ i ++ (e₄ i ++ (e₅ i ++ [])))))))
         (id⊢ 𝓤 (Run us))) $ enter ! 𝓣.C 𝓣.Λ here us Post $ alloc_all !
-        (λ l. pass_all ! refl (
-          (tt, tt),
-          (
-            word-Good [] begin.ptr,
-            (
-              (tt, record { fits = fn }),
-              ((tt, record { fits = fc }), ((tt, (tt, tt)), ((tt, (tt, tt)), tt))),
-            ),
-          ),
-        ) $
+        (λ l. pass_all ! refl ((tt, tt) ⊗ word-Good [] begin.ptr ⊗ (tt, record { fits = fn }) ⊗
+        (tt, record { fits = fc }) ⊗ (tt, (tt, tt)) ⊗ (tt, (tt, tt)) ⊗ tt) $
         let En : Env 𝓤 H = env here.locals l in
         in_a_block ! row.at (λ p. cells_own (R E) p cs) (id⊢ 𝓤 (never 𝓤))
         (λ b o e. fsplit ! $ flt_l ! (λ small.
@@ -154,21 +134,12 @@ close_spec 𝓤 𝓛 𝓜 𝓡 wired X Z L LZ g d dd met md =
     record { row = X; laws = L; al = record { row = Z; laws = LZ; g = g; d = d; drops = dd } }
     in
     let 𝓣 : Tables 𝓤 𝓛.H = tables_of 𝓤 𝓛.H 𝓜 (tables 𝓤 𝓛.H 𝓜 𝓡 𝓡.env) in
-    proved_at 𝓛 (ended E) (stayed E) (F.clauses X Z g d dd 𝓛 𝓜.mem 𝓡.returns) 𝓜 𝓡 (
-      Goes-ref 𝓛 3 0 tt (plain (λ _. Vr E)),
-      (
-        Goes-dropped 𝓛 3 (plain (λ _. Start (plainly E))) no (λ κs x f. refl),
-        (
-          Goes-dropped 𝓛 3 (plain (λ _. usize)) yes (λ κs x f. refl),
-          (
-            Goes-dropped 𝓛 3 (plain (λ _. usize)) yes (λ κs x f. refl),
-            (
-              Goes-blank 𝓛 3 (plain (λ _. Places (plainly E))) no (λ κs x f. tt),
-              (Goes-blank 𝓛 3 (plain (λ _. Deeds E)) no (λ κs x f. tt), tt),
-            ),
-          ),
-        ),
-      ),
-    )
+    proved_at 𝓛 (ended E) (stayed E) (F.clauses X Z g d dd 𝓛 𝓜.mem 𝓡.returns) 𝓜 𝓡
+    (Goes-ref 𝓛 3 0 tt (plain (λ _. Vr E)) ⊗
+    Goes-dropped 𝓛 3 (plain (λ _. Start (plainly E))) no (λ κs x f. refl) ⊗
+    Goes-dropped 𝓛 3 (plain (λ _. usize)) yes (λ κs x f. refl) ⊗
+    Goes-dropped 𝓛 3 (plain (λ _. usize)) yes (λ κs x f. refl) ⊗
+    Goes-blank 𝓛 3 (plain (λ _. Places (plainly E))) no (λ κs x f. tt) ⊗
+    Goes-blank 𝓛 3 (plain (λ _. Deeds E)) no (λ κs x f. tt) ⊗ tt)
     (#self (args E)) (here E) (code.unfolded 𝓤 𝓛.H 𝓜 𝓡 wired (X, (Z, tt)) d dd)
     (λ y are. walk E 𝓛 𝓜.mem 𝓡.returns 𝓣 y)

@@ -1,4 +1,4 @@
--- What comes behind the item comes behind all of it.
+-- What comes after the item comes after all of it.
 use Rattle.parallel_bridge.proofs.{rules, part_put}
 use Rattle.parallel_bridge.proofs.consumer.partition.PartitionFolderFolderVecTuple2VecVecInfallible.consume.Goals as goal
 

@@ -1,4 +1,4 @@
--- The lists of the right part come behind those of the left one.
+-- The lists of the right part come after those of the left one.
 use Rattle.parallel_bridge.proofs.{lists_joined}
 use Rattle.parallel_bridge.proofs.consumer.partition.PartitionReducerReducerVecTuple2VecVecInfallible.reduce.Goals as goal
 

@@ -1,4 +1,4 @@
--- One answer more.
+-- One result more.
 use Rattle.parallel_bridge.proofs.{[], ◌∷◌, MapOf-append}
 use Rattle.parallel_bridge.proofs.fill.map.MapWriterWriter.answer.Goals as goal
 

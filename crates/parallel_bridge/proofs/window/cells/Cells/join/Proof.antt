@@ -1,5 +1,5 @@
 -- `join` makes one row of two that lie side by side. Assumes `Logic`.
-use Rattle.parallel_bridge.proofs.{FitsInBlock, Places, Mark, Place, sz, mark, mark_from, mark_had, glue}
+use Rattle.parallel_bridge.proofs.{◌⊗◌, FitsInBlock, Places, Mark, Place, sz, mark, mark_from, mark_had, glue}
 use Rattle.parallel_bridge.proofs.Walks.{proved_at, ◌≡◌, refl, sym, ap, subst, ◌∙◌, ℕ, ◌+◌, ◌*◌, ◌<◌, ◌^◌, List, [], ◌∷◌, ◌++◌, length, length-append, Ura, Fn, inst_fn, Val, SProp, ent, never, id⊢}
 use Rattle.parallel_bridge.proofs.Walks.{ftrue, flft, Memory, Routine, WpFn, Tables, Logic, ◌⊑◌, Fun, fact, tables, tables_of, ‵, raw, ◌⊛◌, ◌$◌, ◌∵◌, !, qed, move, keep, drop, use0, use2, split, join}
 use Rattle.parallel_bridge.proofs.Walks.{rewrite, fsplit, fjoin, fjoin3, flt_i, suffices, done, agg, and_then, no_more, returns, enter, alloc_all, pass_all, free_all, look_at, get, sets, no, owns}
@@ -76,9 +76,8 @@ unfolding tables_of
 join_spec 𝓤 𝓛 𝓜 𝓡 wired X L =
     let E : El = record { row = X; laws = L } in
     let 𝓣 : Tables 𝓤 𝓛.H = tables_of 𝓤 𝓛.H 𝓜 (tables 𝓤 𝓛.H 𝓜 𝓡 𝓡.env) in
-    proved_at 𝓛 (ended E) (stayed E) (F.clauses X 𝓛 𝓜.mem 𝓡.returns) 𝓜 𝓡 (
-      Goes-blank 𝓛 1 (plain (λ _. Places E)) no (λ κs x f. tt),
-      (Goes-blank 𝓛 1 (plain (λ _. Places E)) no (λ κs x f. tt), tt),
-    )
+    proved_at 𝓛 (ended E) (stayed E) (F.clauses X 𝓛 𝓜.mem 𝓡.returns) 𝓜 𝓡
+    (Goes-blank 𝓛 1 (plain (λ _. Places E)) no (λ κs x f. tt) ⊗
+    Goes-blank 𝓛 1 (plain (λ _. Places E)) no (λ κs x f. tt) ⊗ tt)
     (#self (args E)) (here E) (code.unfolded 𝓤 𝓛.H 𝓜 𝓡 wired (X, tt))
     (λ y are. walk E 𝓛 𝓜.mem 𝓡.returns 𝓣 y)

@@ -1,5 +1,5 @@
 -- `read` moves an item out, whose place is empty then. Assumes `Logic`.
-use Rattle.parallel_bridge.proofs.{Places, Start, Place, sz, start_had, item_out, says_two, has_index, Others, place_out, place_in}
+use Rattle.parallel_bridge.proofs.{◌⊗◌, Places, Start, Place, sz, start_had, item_out, says_two, has_index, Others, place_out, place_in}
 use Rattle.parallel_bridge.proofs.Walks.{proved_at, ◌≡◌, refl, sym, subst, ◌∙◌, ℕ, ◌+◌, ◌*◌, ◌<◌, ◌^◌, arith, List, [], ◌∷◌, ◌++◌, length, set, get_or, length-set, Ura, full_share, Fn, w64, inst_fn}
 use Rattle.parallel_bridge.proofs.Walks.{Val, vptr, vint, SProp, ent, never, id⊢, ftrue, fat, froom, flft, Memory, Routine, Env, WpFn, Tables, Logic, ◌⊑◌, Fun, fact, tables, tables_of, ‵, raw, ◌⊛◌}
 use Rattle.parallel_bridge.proofs.Walks.{some, given, pick, learn, at_ret, ◌$◌, ◌∵◌, !, qed, move, keep, drop, use1, use2, split, split3, join, rewrite, fsplit, fsplit3, fjoin, fjoin3, feq_i, feq_l}
@@ -20,10 +20,8 @@ module _ (E : El) where
   ended = F.ended E.row
 
   abbrev stayed : Stays ended.signature.params ended.kept
-  stayed = (
-    stay_ref (0 ∷ []) tt (plain (λ _. Places E)),
-    (stay_dropped (plain (λ _. Start E)) no, (stay_dropped (plain (λ _. usize)) yes, tt)),
-  )
+  stayed = stay_ref (0 ∷ []) tt (plain (λ _. Places E)) ⊗ stay_dropped (plain (λ _. Start E)) no ⊗
+      stay_dropped (plain (λ _. usize)) yes ⊗ tt
 
   module _ {M : Type 1} {𝓤 : Ura M} (𝓛 : Logic 𝓤) (at_mem : Memory → SProp 𝓤)
       (run : Routine → Fun 𝓤) (𝓣 : Tables 𝓤 𝓛.H) where
@@ -59,10 +57,8 @@ module _ (E : El) where
         suffices ! (Run us) (subst (λ (ws : List Val). ent 𝓤 (Run us) (Run ws))
         (sym (λ j. e₀ j ++ (e₁ j ++ (e₂ j ++ [])))) (id⊢ 𝓤 (Run us))) $
         enter ! 𝓣.C 𝓣.Λ here us Post $ alloc_all !
-        (λ l. pass_all ! refl (
-          (tt, tt),
-          (word-Good [] base.ptr, ((tt, record { fits = fits }), tt)),
-        ) $
+        (λ l. pass_all ! refl ((tt, tt) ⊗ word-Good [] base.ptr ⊗ (tt, record { fits = fits }) ⊗
+        tt) $
         let En : Env 𝓤 H = env here.locals l in
         opens ! tt (Places E) {h = d} rb ro (λ vs. move ! (1 ∷ []) $ fsplit ! $ move ! (1 ∷ []) $
         in_a_block ! d.at (λ p. cells_own (R E) p d.slots) (id⊢ 𝓤 (never 𝓤))
@@ -109,12 +105,9 @@ unfolding tables_of
 read_spec 𝓤 𝓛 𝓜 𝓡 wired X L =
     let E : El = record { row = X; laws = L } in
     let 𝓣 : Tables 𝓤 𝓛.H = tables_of 𝓤 𝓛.H 𝓜 (tables 𝓤 𝓛.H 𝓜 𝓡 𝓡.env) in
-    proved_at 𝓛 (ended E) (stayed E) (F.clauses X 𝓛 𝓜.mem 𝓡.returns) 𝓜 𝓡 (
-      Goes-ref 𝓛 2 0 tt (plain (λ _. Places E)),
-      (
-        Goes-dropped 𝓛 2 (plain (λ _. Start E)) no (λ κs x f. refl),
-        (Goes-dropped 𝓛 2 (plain (λ _. usize)) yes (λ κs x f. refl), tt),
-      ),
-    )
+    proved_at 𝓛 (ended E) (stayed E) (F.clauses X 𝓛 𝓜.mem 𝓡.returns) 𝓜 𝓡
+    (Goes-ref 𝓛 2 0 tt (plain (λ _. Places E)) ⊗
+    Goes-dropped 𝓛 2 (plain (λ _. Start E)) no (λ κs x f. refl) ⊗
+    Goes-dropped 𝓛 2 (plain (λ _. usize)) yes (λ κs x f. refl) ⊗ tt)
     (#self (args E)) (here E) (code.unfolded 𝓤 𝓛.H 𝓜 𝓡 wired (X, tt))
     (λ y are. walk E 𝓛 𝓜.mem 𝓡.returns 𝓣 y)

@@ -1,5 +1,5 @@
 -- `split` cuts a row in two. Assumes `Logic`.
-use Rattle.parallel_bridge.proofs.{Places, Start, Mark, Place, sz, mark, mark_from, mark_had, start_had, start_made, triple, triple_made, cut_at}
+use Rattle.parallel_bridge.proofs.{◌⊗◌, Places, Start, Mark, Place, sz, mark, mark_from, mark_had, start_had, start_made, triple, triple_made, cut_at}
 use Rattle.parallel_bridge.proofs.Walks.{proved_at, ◌≡◌, refl, sym, ap, subst, ◌∙◌, ℕ, ◌+◌, ◌*◌, ◌<◌, ◌≤◌, ◌^◌, arith, List, [], ◌∷◌, ◌++◌, length, take, from, length-take, length-drop, Ura}
 use Rattle.parallel_bridge.proofs.Walks.{full_share, Fn, w64, inst_fn, Val, vint, SProp, ent, never, id⊢, ftrue, fat, flft, Memory, Routine, Env, WpFn, Tables, Logic, ◌⊑◌, Fun, fact, tables}
 use Rattle.parallel_bridge.proofs.Walks.{tables_of, ‵, raw, ◌⊛◌, at_ret, ◌$◌, ◌∵◌, !, qed, move, keep, drop, use0, use1, use3, split, join, rewrite, fsplit, fjoin, fjoin3, feq_l, flt_l, flt_i}
@@ -21,10 +21,8 @@ module _ (E : El) where
   ended = F.ended E.row
 
   abbrev stayed : Stays ended.signature.params ended.kept
-  stayed = (
-    stay_dropped (plain (λ _. Places E)) no,
-    (stay_dropped (plain (λ _. Start E)) no, (stay_dropped (plain (λ _. usize)) yes, tt)),
-  )
+  stayed = stay_dropped (plain (λ _. Places E)) no ⊗ stay_dropped (plain (λ _. Start E)) no ⊗
+      stay_dropped (plain (λ _. usize)) yes ⊗ tt
 
   abbrev Three : RattleType
   Three = Tuple (Places E ∷ Start E ∷ Places E ∷ [])
@@ -59,10 +57,8 @@ module _ (E : El) where
         suffices ! (Run us) (subst (λ (ws : List Val). ent 𝓤 (Run us) (Run ws))
         (sym (λ j. e₀ j ++ (e₁ j ++ (e₂ j ++ [])))) (id⊢ 𝓤 (Run us))) $
         enter ! 𝓣.C 𝓣.Λ here us Post $ alloc_all !
-        (λ l. pass_all ! refl (
-          (tt, (tt, tt)),
-          (word-Good [] base.ptr, ((tt, record { fits = fits }), tt)),
-        ) $
+        (λ l. pass_all ! refl ((tt, (tt, tt)) ⊗ word-Good [] base.ptr ⊗
+        (tt, record { fits = fits }) ⊗ tt) $
         let En : Env 𝓤 H = env here.locals l in
         in_a_block ! d.at (λ p. cells_own (R E) p cs) (id⊢ 𝓤 (never 𝓤))
         (λ b o e. fsplit ! $ flt_l ! (λ small.
@@ -118,12 +114,9 @@ unfolding tables_of
 split_spec 𝓤 𝓛 𝓜 𝓡 wired X L =
     let E : El = record { row = X; laws = L } in
     let 𝓣 : Tables 𝓤 𝓛.H = tables_of 𝓤 𝓛.H 𝓜 (tables 𝓤 𝓛.H 𝓜 𝓡 𝓡.env) in
-    proved_at 𝓛 (ended E) (stayed E) (F.clauses X 𝓛 𝓜.mem 𝓡.returns) 𝓜 𝓡 (
-      Goes-blank 𝓛 1 (plain (λ _. Places E)) no (λ κs x f. tt),
-      (
-        Goes-dropped 𝓛 1 (plain (λ _. Start E)) no (λ κs x f. refl),
-        (Goes-dropped 𝓛 1 (plain (λ _. usize)) yes (λ κs x f. refl), tt),
-      ),
-    )
+    proved_at 𝓛 (ended E) (stayed E) (F.clauses X 𝓛 𝓜.mem 𝓡.returns) 𝓜 𝓡
+    (Goes-blank 𝓛 1 (plain (λ _. Places E)) no (λ κs x f. tt) ⊗
+    Goes-dropped 𝓛 1 (plain (λ _. Start E)) no (λ κs x f. refl) ⊗
+    Goes-dropped 𝓛 1 (plain (λ _. usize)) yes (λ κs x f. refl) ⊗ tt)
     (#self (args E)) (here E) (code.unfolded 𝓤 𝓛.H 𝓜 𝓡 wired (X, tt))
     (λ y are. walk E 𝓛 𝓜.mem 𝓡.returns 𝓣 y)

@@ -1,4 +1,4 @@
--- The block is cut behind its first places.
+-- The block is cut after its first places.
 use Rattle.parallel_bridge.proofs.{moved, values, IsRow, part, ◌≡◌, ◌≤◌, ◌<◌, ◌-◌, ◌^◌, length, take, drop, replicate, None, refl, sym, ap, subst, ◌∙◌, opened_rows}
 use Rattle.parallel_bridge.proofs.window.home.Home.over.Goals as goal
 use Rattle.parallel_bridge.proofs.window.home.Home.over.Given.{Over}

@@ -1,4 +1,4 @@
--- The items with one more, in the place behind them.
+-- The items with one more, in the place after them.
 use Rattle.parallel_bridge.proofs.{values, part, ◌++◌, ◌∷◌, [], sym, ap, ◌∙◌, put_row, moved}
 use Rattle.parallel_bridge.proofs.window.part.Window.put.Goals as goal
 

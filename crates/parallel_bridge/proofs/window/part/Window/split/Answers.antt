@@ -11,7 +11,7 @@ nothing_before g c = ap (λ v. v.before) c.self.view_is ∙ c.requires.0
 within : (g : Over) (c : After-split-front g) → c.args.index ≤ c.self.inside.room
 within g c = subst (λ v. c.args.index ≤ v.room) (sym c.self.view_is) c.requires.1
 
--- so many of the items stand in front of the index: all of them, or as many as there are places
+-- that many of the items stand in front of the index: all of them, or as many as there are places
 in_front : (g : Over) (c : After-split-front g) → (c.if-len-index.filled ≤ c.args.index)
     × (c.if-len-index.filled ≤ c.self.inside.len)
     × ((c.if-len-index.filled ≡ c.self.inside.len) ⊎ (c.if-len-index.filled ≡ c.args.index))
