@@ -70,11 +70,8 @@ module _ {X K U V : Type 0} (E : Type 0) (values : V → List U) (keys : V → L
       → PartitionOf allowed (cut_items cut) (values r) (keys r)
   partition_driven (segment xs) r h = h
   partition_driven (halves p q) r (inl (a, b, h, i, n)) =
-      subst (λ us. PartitionOf allowed (cut_items p ++ cut_items q) us (keys r)) (sym n.0)
-      (subst (λ ks. PartitionOf allowed (cut_items p ++ cut_items q) (values a ++ values b) ks)
-      (sym n.1) (PartitionOf-append allowed (cut_items p)
-      (cut_items q) (values a) (values b) (keys a) (keys b) (partition_driven p a h)
-      (partition_driven q b i)))
+      rw n.0 (rw n.1 (PartitionOf-append allowed (cut_items p) (cut_items q) (values a) (values b)
+      (keys a) (keys b) (partition_driven p a h) (partition_driven q b i)))
   partition_driven (halves p q) r (inr (inl (e, same, h))) = absurd (cc same)
   partition_driven (halves p q) r (inr (inr (a, e, same, h, i))) = absurd (cc same)
 

@@ -53,15 +53,12 @@ module _ {P X R E : Type 0} (gives : P → List X → Type 0) (all front back : 
       → Driven gives back leaf_r node_r (depth - 1) second → PutTogether reduce first second result
       → Driven gives all leaf node depth result
   driven_node (Err (Closure e)) second result (xs, gx, h) k is =
-      subst (Driven gives all leaf node depth) (sym is)
-      (both xs some.0 (Err e) gx some.1 (inr (inl (e, refl, wide_left xs (Err e) h))))
-  driven_node (Err (OfFault f)) second result h k is =
-      subst (Driven gives all leaf node depth) (sym is) h
+      rw is (both xs some.0 (Err e) gx some.1 (inr (inl (e, refl, wide_left xs (Err e) h))))
+  driven_node (Err (OfFault f)) second result h k is = rw is h
   driven_node (Ok a) (Err (Closure e)) result (xs, gx, h) (ys, gy, k) is =
-      subst (Driven gives all leaf node depth) (sym is) (both xs ys (Err e) gx gy (inr
+      rw is (both xs ys (Err e) gx gy (inr
       (inr (a, e, refl, wide_left xs (Ok a) h, wide_right ys (Err e) k))))
-  driven_node (Ok a) (Err (OfFault f)) result h k is =
-      subst (Driven gives all leaf node depth) (sym is) k
+  driven_node (Ok a) (Err (OfFault f)) result h k is = rw is k
   driven_node (Ok a) (Ok b) result (xs, gx, h) (ys, gy, k) is = unless_weaker result (reduce a b)
       (λ out. GivesSome gives all (λ zs. TryAlongCut leaf node (Shape depth zs) out))
       (λ out n. both xs ys out gx gy

@@ -24,8 +24,7 @@ module _ {S X Y : Type 0} (init : S → Type 0) (step : S → X → Y → S → 
   pub stateful_from_along : (cut : Cut X) (ys : List Y) → StatesAlong init step cut ys
       → Stateful init step (cut_items cut) ys
   stateful_from_along (segment xs) ys h = stateful_from_segment xs ys h
-  stateful_from_along (halves p q) ys (a, b, h, i, joined) = subst
-      (Stateful init step (cut_items p ++ cut_items q)) (sym joined)
+  stateful_from_along (halves p q) ys (a, b, h, i, joined) = rw joined
       (Stateful-append (stateful_from_along p a h) (stateful_from_along q b i))
 
   -- the same along the shape of a list

@@ -1,7 +1,7 @@
 -- What goes along the shape of a list comes from neighbouring segments, also where segments may
 -- fail or have a state.
 use Rattle.parallel_bridge.proofs.Common.{Path, Serial, Parallel, Brackets, Cut, segment, halves, cut_items, Shape, FoldsAs, FoldInitSegment, TryFoldSegment, TryBrackets, of_try_segment, of_values}
-use Rattle.parallel_bridge.proofs.Common.{of_left_error, of_right_error, TryBracketing, TryAlongLeaves, TryFoldsAs, ℕ, List, [], ◌++◌, Result, Ok, Err, refl, sym, subst, inl, inr}
+use Rattle.parallel_bridge.proofs.Common.{of_left_error, of_right_error, TryBracketing, TryAlongLeaves, TryFoldsAs, ℕ, List, [], Result, Ok, Err, refl, subst, inl, inr}
 use Rattle.parallel_bridge.proofs.Shapes.{Shape-items}
 use Rattle.parallel_bridge.proofs.Bracketings.{brackets_from_folds}
 
@@ -31,11 +31,9 @@ module _ {X R E : Type 0} (identity : R → Type 0) (allowed : List X → Result
   try_brackets_from_leaves (halves p q) (Ok r) (inl (a, b, h, i, n)) =
       of_values refl (try_brackets_from_leaves p (Ok a) h) (try_brackets_from_leaves q (Ok b) i) n
   try_brackets_from_leaves (halves p q) (Err x) (inl (a, b, h, i, n)) = absurd n
-  try_brackets_from_leaves (halves p q) out (inr (inl (e, same, h))) = subst
-      (TryBrackets allowed reduce (cut_items p ++ cut_items q)) (sym same)
+  try_brackets_from_leaves (halves p q) out (inr (inl (e, same, h))) = rw same
       (of_left_error (cut_items p) (cut_items q) refl (try_brackets_from_leaves p (Err e) h))
-  try_brackets_from_leaves (halves p q) out (inr (inr (a, e, same, h, i))) = subst
-      (TryBrackets allowed reduce (cut_items p ++ cut_items q)) (sym same)
+  try_brackets_from_leaves (halves p q) out (inr (inr (a, e, same, h, i))) = rw same
       (of_right_error refl (try_brackets_from_leaves p (Ok a) h)
       (try_brackets_from_leaves q (Err e) i))
 

@@ -51,14 +51,11 @@ module _ {X R E : Type 0} (leaf : List X → Result R E → Type 0)
       → Driven gives parts (halting leaf) meeting depth outcome → IsUnhalted outcome result
       → Driven gives parts leaf node depth result
   driven_unhalted gives parts depth (Ok r) result (xs, came, h) is =
-      subst (Driven gives parts leaf node depth) (sym is)
-      (xs, came, along_unhalted (Shape depth xs) (Ok r) h)
+      rw is (xs, came, along_unhalted (Shape depth xs) (Ok r) h)
   driven_unhalted gives parts depth (Err (Closure (Failed e))) result (xs, came, h) is =
-      subst (Driven gives parts leaf node depth) (sym is)
-      (xs, came, along_unhalted (Shape depth xs) (Err (Failed e)) h)
+      rw is (xs, came, along_unhalted (Shape depth xs) (Err (Failed e)) h)
   driven_unhalted gives parts depth (Err (Closure Stopped)) result h is = absurd is
-  driven_unhalted gives parts depth (Err (OfFault f)) result h is =
-      subst (Driven gives parts leaf node depth) (sym is) h
+  driven_unhalted gives parts depth (Err (OfFault f)) result h is = rw is h
 
 -- the values don't matter to what an outcome is
 pub written_unhalted : {T E : Type 0} (window : View T)

@@ -1,6 +1,6 @@
 -- How two halves of a part end together, and what the seats of their watches then say, joined.
 use Rattle.parallel_bridge.proofs.Common.{◌≡◌, ℕ, ◌+◌, ◌-◌, ◌/◌, ◌≤◌, ◌<◌, List, [], ◌++◌, All, Contains, IfOk, Result, Ok, Err, refl, sym, subst, ◌∙◌, arith, All-append, All-weaker, All-contains}
-use Rattle.parallel_bridge.proofs.Common.{Trouble, Closure, OfFault, PutTogether, UnlessRefused, Halt, Failed, Stopped, GateSeat, GateView, GateWatch, greatest, gathered, newcomer, IsGateSeatOf, All-nil, front_half, back_half, known, stands_for}
+use Rattle.parallel_bridge.proofs.Common.{Trouble, Closure, PutTogether, UnlessRefused, Halt, Failed, Stopped, GateSeat, GateView, GateWatch, greatest, gathered, newcomer, IsGateSeatOf, All-nil, front_half, back_half, known, stands_for}
 use Rattle.parallel_bridge.proofs.Common.{IsFull, OneAfterAnother, View, written, IsUnhalted, NotStopped, halting}
 use Rattle.parallel_bridge.specs.Endings.{EndTogether, Ending, IsUnstopped, SeatEnds, ToldAfter, WatchEnds, WatchesJoin, ending, ending_of, failing, refusing, stopping, well}
 use Rattle.parallel_bridge.specs.Fills.{Filled}
@@ -28,33 +28,20 @@ module _ (start half count seats : ℕ) (within : half ≤ count) (positive : 0 
       → ToldAfter (start + half) (count - half) w y → All (λ told. start + half ≤ told) w.told
       → EndTogether x y z → ToldAfter start count (gathered v w) z
   told_together well well z left right beyond is = both_told z left right is
-  told_together well failing z left right beyond is =
-      subst (ToldAfter start count (gathered v w)) (sym is) tt
+  told_together well failing z left right beyond is = rw is tt
   told_together well stopping z left (at, near, less, far) beyond is =
-      subst (ToldAfter start count (gathered v w)) (sym is) (
-        at,
-        omega arith,
-        omega arith,
-        All-append (λ told. at ≤ told) v.told w.told (silent (λ told. at ≤ told) v.told left) far,
-      )
-  told_together well refusing z left right beyond is =
-      subst (ToldAfter start count (gathered v w)) (sym is) (All-append (λ told. start < told)
+      let all = silent (λ told. at ≤ told) v.told left in
+      rw is (at, omega arith, omega arith, All-append (λ told. at ≤ told) v.told w.told all far)
+  told_together well refusing z left right beyond is = rw is (All-append (λ told. start < told)
       v.told w.told (silent (λ told. start < told) v.told left)
       (All-weaker (λ told. start + half < told) (λ told. start < told) (λ told h. omega arith)
       w.told right))
-  told_together failing y z left right beyond is =
-      subst (ToldAfter start count (gathered v w)) (sym is) tt
+  told_together failing y z left right beyond is = rw is tt
   told_together stopping y z (at, near, less, none) right beyond is =
-      subst (ToldAfter start count (gathered v w)) (sym is) (
-        at,
-        omega arith,
-        omega arith,
-        All-append (λ told. at ≤ told) v.told w.told none
-            (All-weaker (λ told. start + half ≤ told) (λ told. at ≤ told) (λ told h. omega arith)
-            w.told beyond),
-      )
-  told_together refusing y z left right beyond is =
-      subst (ToldAfter start count (gathered v w)) (sym is) (All-append (λ told. start < told)
+      let all = All-weaker (λ told. start + half ≤ told) (λ told. at ≤ told) (λ told h. omega arith)
+      w.told beyond in
+      rw is (at, omega arith, omega arith, All-append (λ told. at ≤ told) v.told w.told none all)
+  told_together refusing y z left right beyond is = rw is (All-append (λ told. start < told)
       v.told w.told left
       (All-weaker (λ told. start + half ≤ told) (λ told. start < told) (λ told h. omega arith)
       w.told beyond))
@@ -179,11 +166,8 @@ windows_together a b c x y z is =
 unhalted_full : {E : Type 0} (Full : Type 0) (done : Result (Unit {0}) (Trouble (Halt E)))
     (result : Result (Unit {0}) (Trouble E)) → IsUnhalted done result → IfOk done (λ _. Full)
     → IfOk result (λ _. Full)
-unhalted_full Full (Ok u) result is h = subst (λ r. IfOk r (λ _. Full)) (sym is) h
-unhalted_full Full (Err (Closure (Failed e))) result is h =
-    subst (λ r. IfOk r (λ _. Full)) (sym is) tt
 unhalted_full Full (Err (Closure Stopped)) result is h = absurd is
-unhalted_full Full (Err (OfFault f)) result is h = subst (λ r. IfOk r (λ _. Full)) (sym is) tt
+unhalted_full Full done result is h = rw is h
 
 -- what was filled under a watch was filled, where no stop stands
 pub filled_unhalted : {P X T E : Type 0} (gives : P → List X → Type 0) (parts : P)

@@ -28,10 +28,8 @@ module _ {X Y : Type 0} (allowed : X → Y → Type 0) where
       → TryAlongCut {E = E} (λ l out. OnlyOk (MapOf allowed l) out) OneAfterAnother cut (Ok ys)
       → MapOf allowed (cut_items cut) ys
   filled_along E (segment xs) ys h = h
-  filled_along E (halves p q) ys (inl (a, b, h, i, n)) = subst
-      (MapOf allowed (cut_items p ++ cut_items q)) (sym n)
-      (MapOf-append allowed (cut_items p) (cut_items q) a b (filled_along E p a h)
-      (filled_along E q b i))
+  filled_along E (halves p q) ys (inl (a, b, h, i, n)) = rw n (MapOf-append allowed
+      (cut_items p) (cut_items q) a b (filled_along E p a h) (filled_along E q b i))
   filled_along E (halves p q) ys (inr (inl (e, same, h))) = absurd (cc same)
   filled_along E (halves p q) ys (inr (inr (a, e, same, h, i))) = absurd (cc same)
 
@@ -69,12 +67,10 @@ module _ {X Y E : Type 0} (allowed : X → Result Y E → Type 0) where
       (tried_along p (Ok a) h) (tried_along q (Ok b) i))
   tried_along (halves p q) (Err x) (inl (a, b, h, i, n)) = absurd n
   tried_along (halves p q) out (inr (inl (e, same, h))) =
-      subst (TryMapOf allowed (cut_items p ++ cut_items q)) (sym same)
-      (onto_append allowed [] (cut_items p) (cut_items q) (Err e) (Err e)
+      rw same (onto_append allowed [] (cut_items p) (cut_items q) (Err e) (Err e)
       (tried_along p (Err e) h) refl)
   tried_along (halves p q) out (inr (inr (a, e, same, h, i))) =
-      subst (TryMapOf allowed (cut_items p ++ cut_items q)) (sym same)
-      (onto_append allowed [] (cut_items p) (cut_items q) (Ok a) (Err e)
+      rw same (onto_append allowed [] (cut_items p) (cut_items q) (Ok a) (Err e)
       (a, refl, tried_along p (Ok a) h) (tried_along q (Err e) i))
 
   -- what comes along the shape of a list
