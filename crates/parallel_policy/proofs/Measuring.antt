@@ -52,7 +52,7 @@ run-goes_on None serial count parallelism = inl refl
 run-goes_on (Some parallel) serial count parallelism =
     arbitrated-goes_on (run_contest parallel serial parallelism) count
 
--- none of the counts that follow one, so many of them, is a multiple of ten
+-- none of the counts that follow one, that many of them, is a multiple of ten
 abbrev pub SkipsTens : ℕ → ℕ → Type 0
 SkipsTens count choices = (j : ℕ) → 0 < j → j ≤ choices → (count + j) % 10 ≢ 0
 

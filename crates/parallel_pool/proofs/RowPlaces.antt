@@ -1,4 +1,4 @@
--- Places in which items wait for their calls, and the answers that come to be there.
+-- Places in which items wait for their calls, and the results that come to be there.
 use Rattle.parallel_pool.proofs.Common.{◌≡◌, ℕ, zero, suc, ◌+◌, ◌-◌, ◌<◌, ◌≤◌, List, [], ◌∷◌, ◌++◌, map, length, get_or, set, take, take_all, Option, Some, None, refl, sym, ap, subst, ◌∙◌, arith, length-append, inl, inr}
 use Rattle.std.proofs.lemmas.List.{get_or_append_left, get_or-append-add, length-map, take-append-le}
 use Rattle.std.proofs.Common.{drop}
@@ -78,9 +78,9 @@ one_changed R from (z ∷ []) e y one r zero d h = subst (λ i. R i z y) {x = fr
 one_changed R from (z ∷ []) e y one r (suc k) d h = absurd (omega (arith, h))
 one_changed R from (z ∷ w ∷ zs) e y one r k d h = absurd (omega (arith, one))
 
--- ---- the answers in the places
+-- ---- the results in the places
 
--- the answers in the places so far, with one more place
+-- the results in the places so far, with one more place
 pub one_more_answer : {X T : Type 0} (ps : List (Place X T)) (p : Place X T) (old new : List T)
     → old ≡ filter_map answer_of ps → new ≡ old ++ cons_option p.answer []
     → new ≡ filter_map answer_of (ps ++ p ∷ [])
@@ -113,7 +113,7 @@ module _ {F X T : Type 0} (g : Shared F (X × Unit {0}) T) (f : F) where
         call = one.call;
       }
 
-  -- where each place is answered, the answers are those to the items
+  -- where each place has its result, the results are those of the items
   pub all_answered : (items : List X) (olds ps : List (Place X T)) → olds ≡ map waits items
       → length ps ≡ length olds → AnswersPlaces g f olds ps
       → (length (filter_map answer_of ps) ≡ length items)
@@ -134,7 +134,7 @@ module _ {F X T : Type 0} (g : Shared F (X × Unit {0}) T) (f : F) where
       (sym first.1)
       (omega (arith, rest.0), first_given x xs first.0 (filter_map answer_of ps) first.2 rest.1)
 
-  -- the same of a list that has the answers in the places, which are the first n of a block
+  -- the same of a list that has the results in the places, which are the first n of a block
   pub answered : (items : List X) (ts : List T) (olds block ps : List (Place X T)) (n : ℕ)
       → olds ≡ map waits items → length ps ≡ length olds → length olds ≡ n
       → AnswersPlaces g f olds ps

@@ -1,4 +1,4 @@
--- What a try to sleep leaves behind, by its result.
+-- What holds after a try to sleep, by its result.
 use Rattle.std.specs.Prelude.{ℕ, Option, None, slice_set}
 use Rattle.parallel_pool.specs.declared.sleep.sleep_state.Block.{Block}
 use Rattle.parallel_pool.specs.declared.sleep.sleep_state.Block.TheVariants.{Changed, Injected, Blocked}

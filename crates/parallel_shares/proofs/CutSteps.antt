@@ -1,5 +1,5 @@
 -- A balanced cut built range by range: the longer ranges first.
-use Rattle.parallel_shares.proofs.Common.{◌≡◌, ℕ, ◌+◌, ◌*◌, ◌<◌, ◌≤◌, inl, inr, min, List, [], ◌∷◌, ◌++◌, length, All, arith, length_push, All-push, cases_lt, Range, range_length, CutsFrom, IsEven}
+use Rattle.parallel_shares.proofs.Common.{◌≡◌, ℕ, ◌+◌, ◌*◌, ◌<◌, ◌≤◌, inl, inr, min, List, [], ◌∷◌, ◌++◌, length, get_or, All, arith, length_push, All-push, cases_lt, Range, range_length, CutsFrom, IsEven}
 use Rattle.std.proofs.lemmas.List.Quantifiers.{all_pairs_push}
 use Rattle.parallel_shares.proofs.Cuts.{CutsFrom-push, IsNear}
 
@@ -16,30 +16,17 @@ pub record IsCutSoFar (shorter longer count : ℕ) (rs : List (Range ℕ)) (to :
   pub near : All (IsNear shorter) rs
   pub longest : count ≤ longer → All (IsLonger shorter) rs
 
--- one more of the longer ranges
-IsCutSoFar-longer : (shorter longer count : ℕ) (rs : List (Range ℕ)) (r : Range ℕ)
-    → IsCutSoFar shorter longer count rs r.start → count < longer → r.end ≡ r.start + shorter + 1
+-- one more range, with one index more than `shorter` while `longer` asks for it
+pub IsCutSoFar-more : (shorter longer count extra : ℕ) (rs : List (Range ℕ)) (r : Range ℕ)
+    → IsCutSoFar shorter longer count rs r.start → (count < longer → extra ≡ 1)
+    → (longer ≤ count → extra ≡ 0) → r.end ≡ r.start + shorter + extra
     → IsCutSoFar shorter longer (count + 1) (rs ++ r ∷ []) r.end
-IsCutSoFar-longer shorter longer count rs r so_far more ends =
-    let all_longest = so_far.longest (omega arith) in
-    record {
-      placed = omega (arith, so_far.placed);
-      counted = omega (arith, length_push rs r, so_far.counted);
-      cuts = CutsFrom-push 0 rs r so_far.cuts (omega arith);
-      even =
-          all_pairs_push (λ a b. (range_length b ≤ range_length a)
-          × (range_length a ≤ range_length b + 1)) rs r so_far.even
-          (λ k d within. let same = all_longest k d within in
-          (omega (arith, same), omega (arith, same)));
-      near = All-push (IsNear shorter) rs r so_far.near (omega arith, omega arith);
-      longest = λ _. All-push (IsLonger shorter) rs r all_longest (omega arith);
-    }
-
--- one more of the shorter ranges
-IsCutSoFar-shorter : (shorter longer count : ℕ) (rs : List (Range ℕ)) (r : Range ℕ)
-    → IsCutSoFar shorter longer count rs r.start → longer ≤ count → r.end ≡ r.start + shorter
-    → IsCutSoFar shorter longer (count + 1) (rs ++ r ∷ []) r.end
-IsCutSoFar-shorter shorter longer count rs r so_far fewer ends =
+IsCutSoFar-more shorter longer count extra rs r so_far more fewer ends =
+    let longer_by : extra + min count longer ≡ min (count + 1) longer =
+    elim (cases_lt count longer) [
+      | inl before ↦ omega (arith, more before)
+      | inr after ↦ omega (arith, fewer after)
+    ] in
     record {
       placed = omega (arith, so_far.placed);
       counted = omega (arith, length_push rs r, so_far.counted);
@@ -48,20 +35,12 @@ IsCutSoFar-shorter shorter longer count rs r so_far fewer ends =
           all_pairs_push (λ a b. (range_length b ≤ range_length a)
           × (range_length a ≤ range_length b + 1)) rs r so_far.even
           (λ k d within. let close = so_far.near k d within in
-          (omega (arith, close.0), omega (arith, close.1)));
+          let wide : shorter + extra ≤ range_length (get_or rs k d) =
+          elim (cases_lt count longer) [
+            | inl before ↦ omega (arith, more before, so_far.longest (omega arith) k d within)
+            | inr after ↦ omega (arith, fewer after, close.0)
+          ] in (omega (arith, close), omega (arith, close)));
       near = All-push (IsNear shorter) rs r so_far.near (omega arith, omega arith);
-      longest = λ few. absurd (omega arith);
+      longest =
+          λ few. All-push (IsLonger shorter) rs r (so_far.longest (omega arith)) (omega arith);
     }
-
--- one more range, with one index more than `shorter` while `longer` asks for it
-pub IsCutSoFar-more : (shorter longer count extra : ℕ) (rs : List (Range ℕ)) (r : Range ℕ)
-    → IsCutSoFar shorter longer count rs r.start → (count < longer → extra ≡ 1)
-    → (longer ≤ count → extra ≡ 0) → r.end ≡ r.start + shorter + extra
-    → IsCutSoFar shorter longer (count + 1) (rs ++ r ∷ []) r.end
-IsCutSoFar-more shorter longer count extra rs r so_far more fewer ends =
-    elim (cases_lt count longer) [
-      | inl before ↦ IsCutSoFar-longer shorter longer count rs r so_far before
-          (omega (arith, more before))
-      | inr behind ↦ IsCutSoFar-shorter shorter longer count rs r so_far behind
-          (omega (arith, fewer behind))
-    ]

@@ -42,7 +42,7 @@ IsLaterOf a b = (range_length b ≤ range_length a) × (range_length a ≤ range
 IsEven-head : (r : Range ℕ) (rs : List (Range ℕ)) → IsEven (r ∷ rs) → All (IsLaterOf r) rs
 IsEven-head r rs even = λ k d within. even 0 (suc k) d (omega arith) (omega arith)
 
--- the ranges behind the first are even
+-- the ranges after the first are even
 IsEven-tail : (r : Range ℕ) (rs : List (Range ℕ)) → IsEven (r ∷ rs) → IsEven rs
 IsEven-tail r rs even = λ i j d before within. even (suc i) (suc j) d (omega arith) (omega arith)
 
@@ -70,7 +70,7 @@ record IsNearOne (rs : List (Range ℕ)) (shorter : ℕ) : Type 0 where
   near : All (IsNear shorter) rs
   below : sum_by range_length rs < length rs * (shorter + 1)
 
--- a first range is near the number that those behind it are near
+-- a first range is near the number that those after it are near
 IsNearOne-cons : (r s : Range ℕ) (rs : List (Range ℕ)) (shorter : ℕ) → IsEven (r ∷ s ∷ rs)
     → IsNearOne (s ∷ rs) shorter → IsNearOne (r ∷ s ∷ rs) shorter
 IsNearOne-cons r s rs shorter even rest =

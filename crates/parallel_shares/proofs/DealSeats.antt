@@ -3,7 +3,7 @@ use Rattle.parallel_shares.proofs.Common.{◌≡◌, ℕ, zero, suc, ◌+◌, �
 use Rattle.parallel_shares.proofs.Common.{length-replicate, View, Seat, Shares, Sizes, shares_of, fresh_view, undealt, dealt_from, dealt, known, index_of, IsSeatOf, AreSeatsOf, AreFresh, IsFresh}
 use Rattle.parallel_shares.proofs.Common.{Carries}
 
--- what holds of each element at its place, and of one more behind them
+-- what holds of each element at its place, and of one more after them
 pub each_push : {A : Type 0} (P : ℕ → A → Type 0) (xs : List A) (x : A) (n : ℕ) → length xs ≡ n
     → ((i : ℕ) (d : A) → i < length xs → P i (get_or xs i d)) → P n x → (i : ℕ) (d : A)
     → i < length (xs ++ x ∷ []) → P i (get_or (xs ++ x ∷ []) i d)

@@ -32,14 +32,14 @@ module _ (shares : Shares) (before after : Seat) where
   ]
 
 module _ (shares : Shares) (before seen after : Seat) where
-  -- a load of the seat's own share, and behind it a look round
+  -- a load of the seat's own share, and after it a look round
   pub each_grow : own_loads shares seen ≡ own_loads shares before + 1 → IsSameSeat before seen
       → OthersStay shares before seen → LoadsOthers shares seen after → LoadsGrow before after
   each_grow once same others looks =
       grows_from before seen after (tries_grow shares before seen once same.0 others)
       (steals_grow shares seen after looks)
 
-  -- a look round behind a load of the seat's own share, which was empty, found nothing
+  -- a look round after a load of the seat's own share, which was empty, found nothing
   found_nothing : own_loads shares seen ≡ own_loads shares before + 1 → IsSameSeat before seen
       → OthersStay shares before seen → (known seen).since ≡ [] → IsEmptyWord (own_word shares seen)
       → index_of after ≡ index_of seen → has_emptied after ≡ true → LoadsOthers shares seen after
@@ -72,7 +72,7 @@ module _ (shares : Shares) (before seen after : Seat) where
         transit = transit;
       }
 
-  -- what a try to steal tells, behind a try to claim that met an empty word
+  -- what a try to steal tells, after a try to claim that met an empty word
   pub each_gains : (answer : Tried) → own_loads shares seen ≡ own_loads shares before + 1
       → IsSameSeat before seen → OthersStay shares before seen → (known seen).since ≡ []
       → TriesClaim (plan_of shares) (own_word shares seen) before Empty seen

@@ -35,7 +35,7 @@ module _ (sizes : Sizes) (sound : IsSound sizes) where
   pub within_units : (k : ℕ) → k ≤ shares_of sizes → opening_start sizes k ≤ sizes.units
   within_units k h = omega (arith, in_order k (shares_of sizes) h, at_end)
 
--- the share, of the first so many, that a unit opens in
+-- the share, of that many first ones, that a unit opens in
 abbrev owner : Sizes → ℕ → ℕ → ℕ
 owner sizes zero u = 0
 owner sizes (suc k) u = cond (ltb u (opening_start sizes k)) (owner sizes k u) k

@@ -6,7 +6,7 @@ use Rattle.parallel_shares.proofs.EventsKeepState.{answers_keep}
 use Rattle.parallel_shares.proofs.EventsMoveUnits.{answers_move}
 use Rattle.parallel_shares.proofs.Openings.{first, first_is_opening, opening_shows}
 
--- what holds after an answer, and where a refusal left the machine as it was, holds afterwards
+-- what holds after an event, and where a refusal left the machine as it was, holds afterwards
 pub either_way : (old new : Machine) (result : Result Outcome Fault) (A : Outcome → Type 0)
     (P : Machine → Type 0) → IfOk result A → OnErr result (new ≡ old)
     → ((outcome : Outcome) → A outcome → P new) → P old → P new

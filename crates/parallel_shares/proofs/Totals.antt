@@ -83,7 +83,7 @@ is_same i j h =
 pub same_once : (i : ℕ) → same_number i i ≡ 1
 same_once i = rw (eq-eqb i i refl) refl
 
--- a number that was put behind a list is in it once more
+-- a number that was put after a list is in it once more
 pub times_push : (k : ℕ) (xs : List ℕ) → times k (xs ++ k ∷ []) ≡ times k xs + 1
 times_push k xs = omega (arith, total_append (same_number k) xs (k ∷ []), same_once k)
 
@@ -98,7 +98,7 @@ pub no_numbers : (xs : List ℕ) → ((k : ℕ) → times k xs ≡ 0) → xs ≡
 no_numbers [] h = refl
 no_numbers (x ∷ xs) h = absurd (omega (arith, h x, same_once x))
 
--- the first number of a list and those behind it
+-- the first number of a list and those after it
 pub times_dealt : (k : ℕ) (xs : List ℕ) → times k (drop 1 xs) + times k (take 1 xs) ≡ times k xs
 times_dealt k [] = refl
 times_dealt k (x ∷ xs) = omega arith

@@ -18,7 +18,7 @@ within_packed units start end fit o h = (
 
 -- ---- what a claim and a steal take
 
--- a word is its front and what is left behind it
+-- a word is its front and what is left after it
 pub cut_front : (u word stop : ℕ) → start_of word ≤ stop → stop ≤ end_of word → end_of word ≤ 65535
     → in_word u (packed stop (end_of word)) + inside u (start_of word) stop ≡ in_word u word
 cut_front u word stop a b f =

@@ -6,17 +6,22 @@ use Rattle.parallel_shares.specs.declared.shares.stretch.Stretch.{Stretch}
 use Rattle.parallel_shares.specs.declared.shares.stretch.Piece.{Piece}
 use Rattle.parallel_shares.specs.Fronts.{IsFront}
 use Rattle.parallel_shares.specs.Sizes.{Sizes}
-use Rattle.parallel_shares.specs.Stretches.{Cutting, IsPiece, Parted, piece_cells}
+use Rattle.parallel_shares.specs.Stretches.{Cutting, IsPiece, Parted, piece_cells, stretch_of}
 
--- answered is a call that is lent a state: s is the state before the call, t the state after it
+-- called is a call that is lent a state: s is the state before the call, t the state after it
 abbrev pub Fills : {T : Type 0} → (MutBor T → ℕ → Range ℕ → Unit {0} → MutBor T → Type 0) → T → ℕ
     → Range ℕ → T → Type 0
-Fills {T = T} answered s row columns t = (p q : MutBor T) × (p.now ≡ s)
-    × answered p row columns tt q × (q.now ≡ t)
+Fills {T = T} called s row columns t = (p q : MutBor T) × (p.now ≡ s)
+    × called p row columns tt q × (q.now ≡ t)
 
 -- the same of a call that returns r
-abbrev pub Gives : {T R : Type 0} → (MutBor T → ℕ → R → MutBor T → Type 0) → T → ℕ → R → T → Type 0
-Gives {T = T} answered s row r t = (p q : MutBor T) × (p.now ≡ s) × answered p row r q × (q.now ≡ t)
+abbrev pub Gives : {T P R : Type 0} → (MutBor T → P → R → MutBor T → Type 0) → T → P → R → T → Type 0
+Gives {T = T} called s x r t = (p q : MutBor T) × (p.now ≡ s) × called p x r q × (q.now ≡ t)
+
+-- the same of a call that is handed part of a stretch
+abbrev pub Ends : {T P R : Type 0} → (Stretch → P) → (MutBor T → P → R → MutBor T → Type 0) → T
+    → Stretch → R → T → Type 0
+Ends part called s x = Gives called s (part x)
 
 -- fills of nonempty ranges that tile the columns of a row from one up to another, in order, lead
 -- from the state s to the state t
@@ -26,20 +31,28 @@ pub data Filled {T : Type 0} (fill : T → ℕ → Range ℕ → T → Type 0) (
   last_fill : (s u t : T) (a m b : ℕ) → Filled fill row s a m u → m < b
       → fill u row (record { start = m; end = b }) t → Filled fill row s a b t
 
+-- the fills of a stretch, and then what ends it
+abbrev pub Ended : {T R : Type 0} → (T → ℕ → Range ℕ → T → Type 0) → (T → Stretch → R → T → Type 0)
+    → T → Stretch → R → T → Type 0
+Ended {T = T} fill ends s x r t =
+    (u : T) × Filled fill x.row s x.columns.start x.columns.end u × ends u x r t
+
 -- the fills of a stretch, and then its result
 abbrev pub Finishes : {T R : Type 0} → (T → ℕ → Range ℕ → T → Type 0) → (T → ℕ → R → T → Type 0) → T
     → Stretch → R → T → Type 0
-Finishes {T = T} fill finish s x r t =
-    (u : T) × Filled fill x.row s x.columns.start x.columns.end u × finish u x.row r t
+Finishes fill finish = Ended fill (λ s x. finish s x.row)
+
+-- one result for each element, in order, by one chain from the state s to the state t
+abbrev pub Chained : {T X R : Type 0} → (T → X → R → T → Type 0) → T → List X → List R → T → Type 0
+Chained does s [] [] t = s ≡ t
+Chained does s [] (r ∷ rs) t = ⊥
+Chained does s (x ∷ xs) [] t = ⊥
+Chained {T = T} does s (x ∷ xs) (r ∷ rs) t = (u : T) × does s x r u × Chained does u xs rs t
 
 -- one result for each stretch, in order, by one chain from the state s to the state t
 abbrev pub Finished : {T R : Type 0} → (T → ℕ → Range ℕ → T → Type 0) → (T → ℕ → R → T → Type 0) → T
     → List Stretch → List R → T → Type 0
-Finished fill finish s [] [] t = s ≡ t
-Finished fill finish s [] (r ∷ rs) t = ⊥
-Finished fill finish s (x ∷ xs) [] t = ⊥
-Finished {T = T} fill finish s (x ∷ xs) (r ∷ rs) t =
-    (u : T) × Finishes fill finish s x r u × Finished fill finish u xs rs t
+Finished fill finish = Chained (Finishes fill finish)
 
 -- ---- a chain on its way, with a stretch that is open
 
@@ -50,40 +63,40 @@ FilledOpen fill s None t = s ≡ t
 FilledOpen fill s (Some p) t = Filled fill p.row s p.start p.end t
 
 -- the open stretch, if one is, gets its result
-abbrev pub Closes : {T R : Type 0} → (T → ℕ → R → T → Type 0) → Option Piece → T → List R → T
+abbrev pub Closes : {T R : Type 0} → (T → Stretch → R → T → Type 0) → Option Piece → T → List R → T
     → List R → Type 0
-Closes finish None s before t after = (s ≡ t) × (after ≡ before)
-Closes {R = R} finish (Some p) s before t after = (r : R) × finish s p.row r t
+Closes ends None s before t after = (s ≡ t) × (after ≡ before)
+Closes {R = R} ends (Some p) s before t after = (r : R) × ends s (stretch_of p) r t
     × (after ≡ before ++ r ∷ [])
 
 -- from the first state on, the cells so far were cut; the stretches before the open one have their
 -- results, and the open one was filled so far
 pub record Underway {T R : Type 0}
-    (fill : T → ℕ → Range ℕ → T → Type 0) (finish : T → ℕ → R → T → Type 0)
+    (fill : T → ℕ → Range ℕ → T → Type 0) (ends : T → Stretch → R → T → Type 0)
     (len : ℕ) (first : T) (cells : List ℕ)
     (opened : Option Piece) (results : List R) (state : T) : Type 0 where
   pub done : List Stretch
   pub before : T
-  pub finished : Finished fill finish first done results before
+  pub chained : Chained (Ended fill ends) first done results before
   pub filled : FilledOpen fill before opened state
   pub parted : Parted len cells done opened
 
 -- whatever is on its way goes on by these cells: from an open stretch, results and a state to those
 -- after
-abbrev pub GoesOn : {T R : Type 0} → (T → ℕ → Range ℕ → T → Type 0) → (T → ℕ → R → T → Type 0) → ℕ
+abbrev pub GoesOn : {T R : Type 0} → (T → ℕ → Range ℕ → T → Type 0) → (T → Stretch → R → T → Type 0) → ℕ
     → List ℕ → Option Piece → List R → T → Option Piece → List R → T → Type 0
-GoesOn {T = T} fill finish len more opened results state opened_after results_after state_after =
+GoesOn {T = T} fill ends len more opened results state opened_after results_after state_after =
     (first : T) (cells : List ℕ)
-    → Underway fill finish len first cells opened results state
-    → Underway fill finish len first (cells ++ more) opened_after results_after state_after
+    → Underway fill ends len first cells opened results state
+    → Underway fill ends len first (cells ++ more) opened_after results_after state_after
 
 -- the same by a piece, on rows of any length that it is a piece of
 abbrev pub GoesOnByPiece : {T R : Type 0} → (T → ℕ → Range ℕ → T → Type 0)
-    → (T → ℕ → R → T → Type 0) → Piece → Option Piece → List R → T → Option Piece → List R → T
+    → (T → Stretch → R → T → Type 0) → Piece → Option Piece → List R → T → Option Piece → List R → T
     → Type 0
-GoesOnByPiece fill finish piece opened results state opened_after results_after state_after =
+GoesOnByPiece fill ends piece opened results state opened_after results_after state_after =
     (len : ℕ) → IsPiece len piece
-    → GoesOn fill finish len (piece_cells len piece) opened results state opened_after results_after
+    → GoesOn fill ends len (piece_cells len piece) opened results state opened_after results_after
     state_after
 
 -- ---- a run over claims

@@ -1,4 +1,4 @@
-//! What stands behind a pool that was built: its queues, its workers, and the calls that bring
+//! What serves a pool that was built: its queues, its workers, and the calls that bring
 //! jobs.
 ghost use Rattle.std.specs.Prelude.{◌≡◌, ◌≢◌, ◌≤◌, ◌<◌, ◌+◌, ◌↔◌, ℕ, ◌++◌, length, IfErr, IfSome, MatchOption, MatchResult, None, Some};
 ghost use Rattle.parallel_pool.specs.JobHistory.{HasPushed};

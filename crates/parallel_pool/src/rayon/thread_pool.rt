@@ -17,7 +17,7 @@ use std::{fmt, thread};
 pub const MAX_THREADS: usize = 65_535;
 
 /// A number of threads, 1 to `MAX_THREADS`, the calls that run closures on scoped workers, and what
-/// stands behind them: `Staff`, the workers and the queues of a pool that was built, or nothing.
+/// serves them: `Staff`, the workers and the queues of a pool that was built, or nothing.
 ///
 /// Contracts name the number by `thread_count` and the label by `label_of`.
 #[derive(Drop)]
@@ -67,7 +67,7 @@ impl<W: Drop> ThreadPool<W> {
     ghost use Rattle.parallel_pool.specs.ThreadPool.{thread_count, label_of};
     ghost use Rattle.parallel_pool.specs.Broadcast.{context};
 
-    /// The pool of that many threads, with this label, and what stands behind it.
+    /// The pool of that many threads, with this label, and what serves it.
     pub(crate) fn over(num_threads: NonZeroUsize, label: u64, staff: W) -> ThreadPool<W>
         requires { non_zero_usize_get num_threads ≤ MAX_THREADS }
         ensures count { thread_count result ≡ non_zero_usize_get num_threads }

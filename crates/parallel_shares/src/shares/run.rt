@@ -3,13 +3,13 @@
 ghost use Rattle.std.specs.Prelude.{◌≡◌, ◌≢◌, ◌<◌, ◌-◌, ◌+◌, ℕ, None, Some, IfOk, IfSome};
 ghost use Rattle.std.specs.Borrow.{MutBor};
 ghost use Rattle.std.specs.declared.ops.Range.{Range};
-ghost use Rattle.parallel_shares.specs.Stretches.{IsPartOfRow, StartsBelow, range_cells};
-ghost use Rattle.parallel_shares.specs.Fillings.{Fills, Gives, Closes, GoesOn, GoesOnByPiece, Worked};
+ghost use Rattle.parallel_shares.specs.Stretches.{IsPartOfRow, StartsBelow, range_cells, stretch_of};
+ghost use Rattle.parallel_shares.specs.Fillings.{Fills, Gives, Ends, Closes, GoesOn, GoesOnByPiece, Worked};
 ghost use Rattle.parallel_fault.specs.Trouble.{IsMemoryOnErr};
 
 use super::Shares;
 use super::seat::Seat;
-use super::stretch::{Piece, front, grown};
+use super::stretch::{Piece, Stretch, front, grown};
 use parallel_fault::Fault;
 use std::alloc::Global;
 use std::ops::Range;
@@ -72,8 +72,41 @@ impl Shares {
     }
 }
 
+/// What of a stretch a finish is handed: its row, or all of it.
+pub trait Part {
+    ghost use Rattle.parallel_shares.specs.declared.shares.stretch.Stretch.{Stretch};
+
+    ghost part_of: { Stretch → Self };
+
+    /// The part.
+    fn of(stretch: Stretch) -> Self
+        ensures { result ≡ part_of stretch };
+}
+
+impl Part for usize {
+    ghost part_of = { λ stretch. stretch.row };
+
+    fn of(stretch: Stretch) -> usize {
+        stretch.row
+    }
+}
+
+impl Part for Stretch {
+    ghost part_of = { λ stretch. stretch };
+
+    fn of(stretch: Stretch) -> Stretch {
+        stretch
+    }
+}
+
 // Fills the cells of a claim, and returns the stretch that is open then.
-fn fill_claim<T, R: Drop, L: Fn(&mut T, usize, Range<usize>), N: Fn(&mut T, usize) -> R>(
+pub(super) fn fill_claim<
+    T,
+    P: Part,
+    R: Drop,
+    L: Fn(&mut T, usize, Range<usize>),
+    N: Fn(&mut T, P) -> R,
+>(
     results: &mut Vec<R>,
     opened: Option<Piece>,
     claim: Range<usize>,
@@ -85,14 +118,14 @@ fn fill_claim<T, R: Drop, L: Fn(&mut T, usize, Range<usize>), N: Fn(&mut T, usiz
     requires some_cells { len ≢ 0 }
     requires fill_accepts { (state : MutBor T) (row : ℕ) (columns : Range ℕ)
         → IsPartOfRow claim.end len row columns → L.pre fill.now state row columns }
-    requires finish_accepts { (state : MutBor T) (row : ℕ) → StartsBelow claim.end len row
-        → N.pre finish.now state row }
+    requires finish_accepts { (state : MutBor T) (stretch : Stretch)
+        → StartsBelow claim.end len stretch.row → N.pre finish.now state (P.part_of stretch) }
     requires open_accepts { IfSome opened (λ piece. (state : MutBor T)
-        → N.pre finish.now state piece.row) }
+        → N.pre finish.now state (P.part_of (stretch_of piece))) }
     ensures open_accepts { IfOk result (λ next. IfSome next (λ piece. (state : MutBor T)
-        → N.pre finish.now state piece.row)) }
+        → N.pre finish.now state (P.part_of (stretch_of piece)))) }
     ensures chain { IfOk result (λ next.
-        GoesOn (Fills (L.post fill.now)) (Gives (N.post finish.now)) len (range_cells claim)
+        GoesOn (Fills (L.post fill.now)) (Ends P.part_of (N.post finish.now)) len (range_cells claim)
         opened results.old.items state.old next results.new.items state.new) }
     ensures fault { IsMemoryOnErr result }
 {
@@ -108,7 +141,7 @@ fn fill_claim<T, R: Drop, L: Fn(&mut T, usize, Range<usize>), N: Fn(&mut T, usiz
 
 // Fills a piece, and returns the stretch that is open then: the one that was, where the piece goes
 // on there; else that one is finished first.
-fn fill_piece<T, R: Drop, L: Fn(&mut T, usize, Range<usize>), N: Fn(&mut T, usize) -> R>(
+fn fill_piece<T, P: Part, R: Drop, L: Fn(&mut T, usize, Range<usize>), N: Fn(&mut T, P) -> R>(
     results: &mut Vec<R>,
     opened: Option<Piece>,
     piece: Piece,
@@ -119,10 +152,10 @@ fn fill_piece<T, R: Drop, L: Fn(&mut T, usize, Range<usize>), N: Fn(&mut T, usiz
     requires fill_accepts { (state : MutBor T) → L.pre fill.now state piece.row
         (record { start = piece.start; end = piece.end }) }
     requires open_accepts { IfSome opened (λ before. (state : MutBor T)
-        → N.pre finish.now state before.row) }
+        → N.pre finish.now state (P.part_of (stretch_of before))) }
     ensures row { IfOk result (λ next. next.row ≡ piece.row) }
     ensures chain { IfOk result (λ next.
-        GoesOnByPiece (Fills (L.post fill.now)) (Gives (N.post finish.now)) piece
+        GoesOnByPiece (Fills (L.post fill.now)) (Ends P.part_of (N.post finish.now)) piece
         opened results.old.items state.old (Some next) results.new.items state.new) }
     ensures fault { IsMemoryOnErr result }
 {
@@ -139,20 +172,21 @@ fn fill_piece<T, R: Drop, L: Fn(&mut T, usize, Range<usize>), N: Fn(&mut T, usiz
 // loop over claims keeps its numbers in registers.
 #[cold]
 #[inline(never)]
-fn finish_open<T, R: Drop, N: Fn(&mut T, usize) -> R>(
+pub(super) fn finish_open<T, P: Part, R: Drop, N: Fn(&mut T, P) -> R>(
     results: &mut Vec<R>,
     opened: Option<Piece>,
     state: &mut T,
     finish: &N,
 ) -> Result<(), Fault>
-    requires { IfSome opened (λ piece. (state : MutBor T) → N.pre finish.now state piece.row) }
+    requires { IfSome opened (λ piece. (state : MutBor T) → N.pre finish.now state (P.part_of (stretch_of piece))) }
     ensures closes { IfOk result (λ _. Closes
-        (Gives (N.post finish.now)) opened state.old results.old.items state.new
+        (Ends P.part_of (N.post finish.now)) opened state.old results.old.items state.new
         results.new.items) }
     ensures fault { IsMemoryOnErr result }
 {
-    if let Some(piece) = opened {
-        results.push(finish(state, piece.row))?;
+    if let Some(Piece { row, start, end }) = opened {
+        let columns = start..end;
+        results.push(finish(state, P::of(Stretch { row, columns })))?;
     }
     Ok(())
 }

@@ -1,8 +1,10 @@
 //! Claimed cells, cut at the ends of the rows.
-ghost use Rattle.std.specs.Prelude.{◌≡◌, ◌≢◌, ◌+◌, ◌*◌, ◌-◌, ◌<◌, ◌≤◌, ◌++◌, ℕ, List, Some, IfOk};
-ghost use Rattle.parallel_shares.specs.Stretches.{Cutting, Parted, IsPiece, Grown, stretches_of, piece_cells, range_cells};
+ghost use Rattle.std.specs.Prelude.{◌≡◌, ◌≢◌, ◌+◌, ◌*◌, ◌-◌, ◌<◌, ◌≤◌, IfOk};
+ghost use Rattle.std.specs.Borrow.{MutBor};
+ghost use Rattle.parallel_shares.specs.Stretches.{Cutting, IsPiece, Grown};
 ghost use Rattle.parallel_fault.specs.Trouble.{IsMemoryOnErr};
 
+use super::run::{fill_claim, finish_open};
 use parallel_fault::Fault;
 use std::alloc::Global;
 use std::ops::Range;
@@ -38,63 +40,35 @@ pub fn stretches(alloc: Global, claims: &[Range<usize>], len: usize) -> Result<V
     ensures cutting { IfOk result (λ found. Cutting claims.now len found.items) }
     ensures fault { IsMemoryOnErr result }
 {
+    let fill = |_: &mut (), _: usize, _: Range<usize>| {};
+    let whole = |_: &mut (), stretch: Stretch| stretch;
+    cut_all(alloc, claims, len, &fill, &whole)
+}
+
+// Cuts claims by a run that fills nothing, and whose stretches are their own results.
+fn cut_all<L: Fn(&mut (), usize, Range<usize>), N: Fn(&mut (), Stretch) -> Stretch>(
+    alloc: Global,
+    claims: &[Range<usize>],
+    len: usize,
+    fill: &L,
+    whole: &N,
+) -> Result<Vec<Stretch>, Fault>
+    requires some_cells { len ≢ 0 }
+    requires fill_accepts { L.IsAlwaysCallable fill.now }
+    requires whole_accepts { N.IsAlwaysCallable whole.now }
+    requires whole { (s t : MutBor (Unit {0})) (stretch found : Stretch)
+        → N.post whole.now s stretch found t → found ≡ stretch }
+    ensures cutting { IfOk result (λ found. Cutting claims.now len found.items) }
+    ensures fault { IsMemoryOnErr result }
+{
     let mut found = Vec::new(alloc);
     let mut opened = None;
     for claim in claims {
-        opened = add_claim(&mut found, opened, claim, len)?;
+        let claim = claim.start..claim.end;
+        opened = fill_claim(&mut found, opened, claim, len, &mut (), fill, whole)?;
     }
-    close(&mut found, opened)?;
+    finish_open(&mut found, opened, &mut (), whole)?;
     Ok(found)
-}
-
-// Adds the cells of a claim to the stretches, and returns the one that is open then.
-fn add_claim(
-    found: &mut Vec<Stretch>,
-    opened: Option<Piece>,
-    claim: &Range<usize>,
-    len: usize,
-) -> Result<Option<Piece>, Fault>
-    requires { len ≢ 0 }
-    ensures parted { IfOk result (λ next. (cells : List ℕ) → Parted len cells found.old.items opened
-        → Parted len (cells ++ range_cells claim.now) found.new.items next) }
-    ensures fault { IsMemoryOnErr result }
-{
-    let mut opened = opened;
-    let mut at = claim.start;
-    while at < claim.end {
-        let piece = front(opened, at, claim.end, len);
-        opened = Some(add(found, opened, piece)?);
-        at += piece.end - piece.start;
-    }
-    Ok(opened)
-}
-
-// Adds a piece to the stretches, and returns the one that is open then.
-fn add(found: &mut Vec<Stretch>, opened: Option<Piece>, piece: Piece) -> Result<Piece, Fault>
-    ensures parted { IfOk result (λ next. (len : ℕ) (cells : List ℕ) → IsPiece len piece
-        → Parted len cells found.old.items opened
-        → Parted len (cells ++ piece_cells len piece) found.new.items (Some next)) }
-    ensures fault { IsMemoryOnErr result }
-{
-    if let Some(longer) = grown(opened, piece) {
-        return Ok(longer);
-    }
-    close(found, opened)?;
-    Ok(piece)
-}
-
-// Ends the stretch that is open, if one is.
-fn close(found: &mut Vec<Stretch>, opened: Option<Piece>) -> Result<(), Fault>
-    ensures found { IfOk result (λ _. found.new.items ≡ found.old.items ++ stretches_of opened) }
-    ensures fault { IsMemoryOnErr result }
-{
-    if let Some(Piece { row, start, end }) = opened {
-        found.push(Stretch {
-            row,
-            columns: start..end,
-        })?;
-    }
-    Ok(())
 }
 
 /// The cells from `start` up to `end`, as far as the row goes on in which they start.

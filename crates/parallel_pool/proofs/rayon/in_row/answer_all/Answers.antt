@@ -1,4 +1,4 @@
--- What a call leaves in its place is an answer to the item.
+-- What a call leaves in its place is a result for the item.
 use Rattle.std.proofs.Common.{refl}
 use Rattle.parallel_pool.specs.InRow.{AnswersPlace}
 use Rattle.parallel_pool.proofs.{carried}

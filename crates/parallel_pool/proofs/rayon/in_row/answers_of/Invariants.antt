@@ -1,4 +1,4 @@
--- The answers in the places so far.
+-- The results in the places so far.
 use Rattle.std.proofs.Common.{◌≡◌}
 use Rattle.std.specs.List.{filter_map}
 use Rattle.parallel_pool.specs.InRow.{answer_of}

@@ -1,4 +1,4 @@
--- A place for each item, and an answer in each place.
+-- A place for each item, and a result in each place.
 use Rattle.std.proofs.Common.{rules, arith, refl, ◌∙◌}
 use Rattle.parallel_pool.proofs.{answered, waiting_accepted}
 use Rattle.parallel_pool.proofs.rayon.in_row.map_in_row.Goals as goal

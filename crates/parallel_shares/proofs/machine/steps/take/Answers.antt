@@ -1,4 +1,4 @@
--- What each event answers tells what it moves, and keeps what belongs to the plan.
+-- The outcome of each event tells what it moves, and keeps what belongs to the plan.
 use Rattle.parallel_shares.proofs.{Load, Claim, Steal, Refill, IsStateOf, ClaimAnswers, StepsByMoves, answers_keep, answers_move, unmoved, either_way}
 use Rattle.parallel_shares.proofs.machine.steps.take.Goals as goal
 

@@ -1,4 +1,4 @@
--- Each claim is filled behind those before it, and at the end the open stretch gets its result.
+-- Each claim is filled after those before it, and at the end the open stretch gets its result.
 use Rattle.parallel_shares.proofs.{◌++◌, ◌∷◌, [], refl, sym, ap, ◌∙◌, append-nil, append_assoc, arith, All-nil, All-cons, All-append, plan_of, claims_of, IsFront, all_cells, cells_push, way_begins}
 use Rattle.parallel_shares.proofs.{way_ends, grows_from, found_since}
 use Rattle.parallel_shares.proofs.shares.Shares.run.Goals as goal
@@ -26,7 +26,7 @@ fill_claim-requires g c =
       some_cells = c.requires.some_cells;
       fill_accepts = λ state row columns part. c.requires.fill_accepts state row columns
           (part.0, part.1, omega (arith, part.2, cells.1));
-      finish_accepts = λ state row below. c.requires.finish_accepts state row
+      finish_accepts = λ state stretch below. c.requires.finish_accepts state stretch.row
           (omega (arith, below, cells.1));
       open_accepts = c.loop.invariant.accepts;
     }

@@ -1,4 +1,4 @@
--- What a try to steal tells behind a try to claim. The places of calls aren't named, so that a body
+-- What a try to steal tells after a try to claim. The places of calls aren't named, so that a body
 -- with the calls in another order fails at these goals.
 use Rattle.parallel_shares.proofs.{rules, each_grow, each_gains}
 use Rattle.parallel_shares.proofs.shares.Shares.try_each.Goals as goal

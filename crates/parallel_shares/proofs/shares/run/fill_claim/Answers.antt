@@ -1,5 +1,5 @@
 -- Each turn fills one piece of the claim.
-use Rattle.parallel_shares.proofs.{◌++◌, ◌-◌, arith, range_with_len, claim_none, claim_more, claim_all}
+use Rattle.parallel_shares.proofs.{◌++◌, ◌-◌, arith, stretch_of, range_with_len, claim_none, claim_more, claim_all}
 use Rattle.parallel_shares.proofs.shares.run.fill_claim.Goals as goal
 
 pub loop-at-init : goal.loop-at-init
@@ -38,8 +38,8 @@ loop-at-preserved g c =
     record {
       begun = omega (arith, i.begun);
       within = omega (arith, i.begun, i.within, piece.ensures.within, c.loop-at-test.true);
-      accepts = λ state. rw c.in_ok-fill_piece.ensures.row (c.requires.finish_accepts state
-          piece.result.row
+      accepts = λ state. c.requires.finish_accepts state (stretch_of c.in_ok-fill_piece.field-0)
+          (rw c.in_ok-fill_piece.ensures.row
           (omega (arith, piece.ensures.start, c.loop-at-test.true, piece.ensures.piece.0)));
       chain = λ first cells way.
           rw (← claim_more len cells start at piece.result i.begun piece.ensures.start)

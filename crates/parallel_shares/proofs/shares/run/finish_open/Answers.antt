@@ -6,9 +6,9 @@ pub returns-in_ok-push-clause-closes : goal.returns-in_ok-push-clause-closes
 returns-in_ok-push-clause-closes g c =
     rw c.in-Some.is (
       c.finish.result,
-      (_, _, refl, c.finish.ensures, refl),
+      (_, _, refl, rw c.of.ensures at c.finish.ensures, refl),
       c.in_ok-push.ensures.items,
     )
 
 pub finish-requires : goal.finish-requires
-finish-requires g c = let asks = rw c.in-Some.is at c.requires in asks _
+finish-requires g c = let asks = rw c.in-Some.is at c.requires in rw c.of.ensures (asks _)

@@ -1,4 +1,4 @@
--- The exchange moves what the call is to move, and what it found tells the answer.
+-- The exchange moves what the call is to move, and what it found tells the result.
 use Rattle.parallel_pool.proofs.{◌==◌, arith, either, FallAsleep, is_sleepy, steps, answers, stays_set, falling, sleepy_word}
 use Rattle.parallel_pool.proofs.latch.core_latch.CoreLatch.fall_asleep.Goals as goal
 

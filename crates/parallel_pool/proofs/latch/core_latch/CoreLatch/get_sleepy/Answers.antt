@@ -1,4 +1,4 @@
--- The exchange moves what the call is to move, and what it found tells the answer.
+-- The exchange moves what the call is to move, and what it found tells the result.
 use Rattle.parallel_pool.proofs.{◌==◌, arith, either, GetSleepy, is_unset, steps, answers, stays_set, getting, unset_word}
 use Rattle.parallel_pool.proofs.latch.core_latch.CoreLatch.get_sleepy.Goals as goal
 

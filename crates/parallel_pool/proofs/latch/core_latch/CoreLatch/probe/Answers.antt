@@ -1,4 +1,4 @@
--- The load moves nothing, and what it found tells the answer.
+-- The load moves nothing, and what it found tells the result.
 use Rattle.parallel_pool.proofs.{◌==◌, arith, ap, refl, Probe, is_latched, steps, answers, found_set, probe_sees, latched_word}
 use Rattle.parallel_pool.proofs.latch.core_latch.CoreLatch.probe.Goals as goal
 

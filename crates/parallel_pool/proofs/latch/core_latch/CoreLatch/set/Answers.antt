@@ -1,4 +1,4 @@
--- The swap sets the latch, and what it found tells the answer.
+-- The swap sets the latch, and what it found tells the result.
 use Rattle.parallel_pool.proofs.{◌==◌, arith, ap, refl, Set, is_sleeping, steps, answers, found_set, sees_set, sleeping_word}
 use Rattle.parallel_pool.proofs.latch.core_latch.CoreLatch.set.Goals as goal
 

@@ -1,4 +1,4 @@
--- The count goes down by the share, and what it found tells the answer.
+-- The count goes down by the share, and what it found tells the result.
 use Rattle.std.proofs.lemmas.Grind.{common_steps}
 use Rattle.parallel_pool.proofs.{arith, gives}
 use Rattle.parallel_pool.proofs.latch.count_latch.CountLatch.give.Goals as goal

@@ -1,4 +1,4 @@
--- The items are the indices, so each answer is the one to its own index.
+-- The items are the indices, so each result is the one for its own index.
 use Rattle.parallel_pool.proofs.{◌≡◌, ◌<◌, ◌+◌, ap, arith, get_or, length, subst, sym, ◌∙◌}
 use Rattle.std.proofs.lemmas.List.FromFn.{get_or-range_with_len, length-range_with_len}
 use Rattle.parallel_pool.specs.Broadcast.{context}
