@@ -5,7 +5,7 @@ from pathlib import Path
 
 SEQUENTIAL, PARALLEL, LEARNT, KIT = "Sequential", "Rayon", "Rayon with its policy", "kit-rayon"
 OVER = {"": "slice", "vec": "vector", "iter": "plain iterator", "counted": "counted iterator", "fresh": "slice, fresh memory"}
-OWN = {"rows-above": "tiles of bytes", "digests": "`Zipped` slices"}
+OWN = {"rows-above": "tiles of bytes", "digests": "`Zipped` slices", "each-light": "slice, in place", "each-heavy": "slice, in place"}
 WAYS = [SEQUENTIAL, PARALLEL, LEARNT, KIT]
 LINE = re.compile(r"(.+): best [0-9.]+ us, median ([0-9.]+) us, [0-9.]+ and ([0-9.]+) of the loop")
 

@@ -18,6 +18,8 @@ pub enum Case {
     PartitionHeavy,
     /// A sort of a copy.
     Sort,
+    /// A list of its own that is changed where it lies, by a function of that cost.
+    Each(Cost),
     /// A sum over the items as the cells of a grid.
     Tiles(Rows, Cost),
     /// The root of a tree over the items as its leaves, of light or of heavy nodes.
@@ -46,7 +48,7 @@ pub enum Rows {
 }
 
 /// Every case with the name by which the command line asks for it.
-pub const CASES: [(&str, Case); 21] = [
+pub const CASES: [(&str, Case); 23] = [
     ("map-light", Case::Map(Cost::Light)),
     ("map-heavy", Case::Map(Cost::Heavy)),
     ("map-rising", Case::Map(Cost::Rising)),
@@ -59,6 +61,8 @@ pub const CASES: [(&str, Case); 21] = [
     ("partition", Case::PartitionLight),
     ("partition-heavy", Case::PartitionHeavy),
     ("sort", Case::Sort),
+    ("each-light", Case::Each(Cost::Light)),
+    ("each-heavy", Case::Each(Cost::Heavy)),
     ("tiles-rows-light", Case::Tiles(Rows::Whole, Cost::Light)),
     ("tiles-rows-heavy", Case::Tiles(Rows::Whole, Cost::Heavy)),
     ("tiles-cut-light", Case::Tiles(Rows::Cut, Cost::Light)),
@@ -98,6 +102,11 @@ impl Case {
                 | Case::PartitionLight
                 | Case::PartitionHeavy
         )
+    }
+
+    /// Whether the case changes a list of its own where it lies, which each call takes.
+    pub fn is_in_place(self) -> bool {
+        matches!(self, Case::Each(_))
     }
 
     /// Whether the kit's `rayon` has the call.

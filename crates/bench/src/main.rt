@@ -7,6 +7,7 @@ mod callers;
 mod calls;
 mod case;
 mod counted_job;
+mod in_place;
 mod jobs;
 mod kit;
 mod loops;

@@ -1,6 +1,8 @@
 //! Rounds in which the ways of a case run one after the other.
 use crate::callers::{Extras, bytes_of, digests_of, messages_of};
 use crate::calls::by_strategy;
+use crate::case::{Case, Cost};
+use crate::in_place::{change_by_loop, change_by_strategy};
 use crate::kit::by_kit;
 use crate::loops::by_loop;
 use crate::request::Trial;
@@ -241,6 +243,10 @@ impl<Rt: Print + Runtime, C: Clock> Bench<'_, Rt, C> {
     #[inline(never)]
     fn call_on(&self, way: Way, items: Items<'_>) -> Result<Answer, Fault> {
         let (rt, alloc, case, extras) = (self.rt, self.alloc, self.trial.case, self.extras);
+        let items = match (case, items) {
+            (Case::Each(cost), Items::Owned(items)) => return self.change(way, cost, items),
+            (_, items) => items,
+        };
         match way {
             Way::Loop => by_loop(alloc, case, items.as_slice(), extras),
             Way::Sequential => by_strategy(rt, alloc, &Sequential, case, items, extras),
@@ -248,6 +254,19 @@ impl<Rt: Print + Runtime, C: Clock> Bench<'_, Rt, C> {
             Way::Policy => by_strategy(rt, alloc, self.learning, case, items, extras),
             Way::Kit => by_kit(rt, alloc, case, items.as_slice()),
         }
+    }
+
+    // The items of a list after a way has changed each.
+    fn change(&self, way: Way, cost: Cost, items: Vec<u64>) -> Result<Answer, Fault> {
+        let mut items = items;
+        let (rt, alloc, list) = (self.rt, self.alloc, items.as_mut_slice());
+        match way {
+            Way::Loop | Way::Kit => change_by_loop(cost, list),
+            Way::Sequential => change_by_strategy(rt, alloc, &Sequential, cost, list)?,
+            Way::Rayon => change_by_strategy(rt, alloc, self.parallel, cost, list)?,
+            Way::Policy => change_by_strategy(rt, alloc, self.learning, cost, list)?,
+        }
+        Ok(Answer::Numbers(items))
     }
 
     // Prints a line for each way: its times in microseconds, and how many times the loop's they

@@ -92,15 +92,20 @@ fn parse_trial(words: &[String], once: Option<Way>) -> Option<Request> {
         return None;
     };
     let (form, is_fresh) = parse_options(options)?;
+    let case = Case::named(case.as_str())?;
+    let is_known = form == Form::Slice || case.takes_source();
     let trial = Trial {
-        case: Case::named(case.as_str())?,
+        case,
         len: len.parse().ok()?,
         threads: NonZeroUsize::new(threads.parse().ok()?)?,
-        form,
+        form: if case.is_in_place() {
+            Form::Owned
+        } else {
+            form
+        },
         is_fresh,
         once,
     };
-    let is_known = form == Form::Slice || trial.case.takes_source();
     let is_included = trial.includes(once.unwrap_or(Way::Loop));
     (is_known && is_included).then_some(Request::Time(trial))
 }
