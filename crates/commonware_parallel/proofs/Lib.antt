@@ -14,6 +14,8 @@ pub mod SeatResults
 pub mod NamedResults
 pub mod SortedStretches
 pub mod RowMerges
+pub mod OneGrid
+pub mod RowFolds
 pub mod RowLaws
 pub mod Chunked
 pub use Batched.*

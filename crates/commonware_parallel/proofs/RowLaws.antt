@@ -10,7 +10,7 @@ tiles_up row a b (s ∷ ss) tiled =
     omega (arith, tiled.2, tiles_up row s.columns.end b ss tiled.3)
 
 -- the numbers below one more
-one_number_more : (n : ℕ) → range_with_len 0 (suc n) ≡ range_with_len 0 n ++ n ∷ []
+pub one_number_more : (n : ℕ) → range_with_len 0 (suc n) ≡ range_with_len 0 n ++ n ∷ []
 one_number_more n =
     let same : 0 + n ≡ n = omega arith in
     more 0 n ∙ ap (λ k. range_with_len 0 n ++ k ∷ []) same

@@ -14,6 +14,7 @@ pub mod OnePlace
 pub mod Rayon
 pub mod Chains
 pub mod Rectangles
+pub mod RowFolds
 pub mod Seated
 pub mod Spawned
 pub mod Tiles

@@ -23,8 +23,9 @@ pub use Rattle.commonware_parallel.specs.Answers.{AnswersAs, OfOne, OneOf}
 pub use Rattle.commonware_parallel.specs.Batches.{IsBatch, OnSomeBatch, ranges_of}
 pub use Rattle.commonware_parallel.specs.Calls.{AtSomePath, body_call, goes_by_path, join_call, multiplied_call, spawn_call}
 pub use Rattle.commonware_parallel.specs.ListCalls.{Asked, AskedOver, GoesByLength}
+pub use Rattle.commonware_parallel.specs.RowFolds.{AskedByRow, FoldsRows, GivesRows, IsAdditive, IsPartOfRows}
 pub use Rattle.commonware_parallel.specs.Spawned.{BeginsAs, FailsToSpawn, gives_answer}
-pub use Rattle.commonware_parallel.specs.Tiles.{IsSerialCost, IsTiling, OnSomeTiles, tiles_place, tiles_strategy}
+pub use Rattle.commonware_parallel.specs.Tiles.{IsSerialCost, IsTiling, OnSomeTiles, columns_of, rows_of, tiles_place, tiles_strategy}
 pub use Rattle.commonware_parallel.specs.declared.batches.Batches.{Batches}
 pub use Rattle.commonware_parallel.specs.declared.call.Kind.TheVariants.{Body, Spawn}
 pub use Rattle.commonware_parallel.specs.declared.call.Pick.TheVariants.{By, Into}

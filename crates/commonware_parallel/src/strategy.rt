@@ -1,9 +1,11 @@
 //! What a program calls: maps, folds, joins, sorts, batches, tiles and jobs through any strategy.
-ghost use Rattle.std.specs.Prelude.{◌<◌, ◌≡◌, IfErr, IfOk, OnOk, length, ℕ};
+ghost use Rattle.std.specs.Prelude.{◌<◌, ◌≡◌, ◌*◌, ◌^◌, IfErr, IfOk, OnOk, length, ℕ};
+ghost use Rattle.std.specs.declared.ops.Range.{Range};
 ghost use Rattle.commonware_parallel.specs.Words.{AnswersAs, Asked, AskedOver, AtSomePath, Batches, BeginsAs, Bracketing, Brackets, By, FailsToSpawn, Fits, FoldInitSegment, FoldStep};
 ghost use Rattle.commonware_parallel.specs.Words.{FoldedAs, FoldedInitAs, GivesSome, GoesByLength, IsBatch, IsMemoryOnErr, IsMemoryOnFault, IsPermutation, IsSortedByClosure};
 ghost use Rattle.commonware_parallel.specs.Words.{IsStableByClosure, IsTiling, MapOf, MapStep, MappedInitAs, MutBor, OfOne, OnSomeBatch, OnSomeTiles, OneOf, PartitionOf, Stateful, Tiles};
 ghost use Rattle.commonware_parallel.specs.Words.{TryBracketing, TryFoldedAs, TryMapOf, UnlessRefused, body_call, gives_answer, join_call, listed, multiplied_call, non_zero_usize_get};
+ghost use Rattle.commonware_parallel.specs.Words.{AskedByRow, FoldsRows, GivesRows, IsAdditive, IsPartOfRows, columns_of, rows_of};
 ghost use Rattle.commonware_parallel.specs.Words.{AcceptsChunksMut, AcceptsEach, ChangesChunks, ChangesEach, div_ceil, ranges_of, spawn_call};
 
 use crate::batches::Batches;
@@ -19,7 +21,7 @@ use crate::list::{
     try_fold_as_it_comes, try_fold_by, try_map_by, try_map_iter,
 };
 use crate::spawned::{Job, Spawned, begin};
-use crate::tiles::{Tiles, serial_cost};
+use crate::tiles::{Tiles, fold_tiles, serial_cost};
 use parallel_bridge::list::sort::sort_parallel;
 use parallel_bridge::{Path, Source};
 use parallel_fault::{Fault, Trouble};
@@ -28,6 +30,7 @@ use parallel_shares::Grid;
 use std::alloc::Global;
 use std::cmp::Ordering;
 use std::num::NonZeroUsize;
+use std::ops::Range;
 use std::sync::Wait;
 use std::thread::{self, Threads};
 
@@ -936,6 +939,73 @@ pub trait Strategy: Chooser {
         let answer = run(tiles);
         end_run(self, rt, running, true);
         Ok(answer)
+    }
+
+    /// A value for each row, of a kernel over parts of rows: `kernel` is called with a row and
+    /// neighbouring columns of it, and `merge` with the values of neighbouring columns, left before
+    /// right (`FoldsRows`). A row of no columns has the value of none, `0..0`.
+    ///
+    /// Where merged values are values of all their columns (`IsAdditive`), each is one that `kernel`
+    /// may give of its whole row, however rows were cut (`whole`): sums, counts, the least column.
+    ///
+    /// `tile_cost` is what a part of a row costs besides its columns, counted in columns. A kernel
+    /// that takes 2 ns a column, and 100 ns to begin, has 50. Rows of fewer than twice as many
+    /// columns stay whole; others are cut if the longest chain of work gets shorter by it. The work,
+    /// by which a policy tells calls apart, is `rows * (len + tile_cost)`, in columns too. The cells
+    /// have to be countable.
+    ///
+    /// ```text
+    /// // how many cells of each row are set
+    /// let kernel = |row: usize, columns: Range<usize>| {
+    ///     count(&cells[row * len + columns.start..row * len + columns.end])
+    /// };
+    /// let tile_cost = NonZeroUsize::MIN.saturating_add(49);
+    /// let add = |left: usize, right: usize| left.wrapping_add(right);
+    /// let counts = strategy.fold_rows(rt, alloc, SITE, rows, len, tile_cost, kernel, add)?;
+    /// ```
+    ///
+    /// # Errors
+    ///
+    /// `Fault::Memory` alone. Any number of the closures may have been called then.
+    final fn fold_rows<Rt: Threads + Wait + Sync, P: Place, R: Send + Drop, K, M>(
+        &self,
+        rt: &Rt,
+        alloc: Global,
+        site: P,
+        rows: usize,
+        len: usize,
+        tile_cost: NonZeroUsize,
+        kernel: K,
+        merge: M,
+    ) -> Result<Vec<R>, Fault>
+    where
+        K: Fn(usize, Range<usize>) -> R + Send + Sync + Drop,
+        M: Fn(R, R) -> R + Send + Sync + Drop,
+        requires fits { rows * len < 2 ^ 64 }
+        requires kernel_accepts { (row : ℕ) (columns : Range ℕ)
+            → IsPartOfRows rows len row columns → K.pre kernel row columns }
+        requires merge_accepts { M.IsAlwaysCallable merge }
+        ensures whole { IsAdditive (K.post kernel) (M.post merge) rows len
+            → IfOk result (λ values. GivesRows (K.post kernel) rows len values.items) }
+        ensures folds { IfOk result
+            (λ values. FoldsRows (K.post kernel) (M.post merge) rows len values.items) }
+        ensures asked { OnOk result (AskedByRow Self.takes Self.plans self.now (P.site_of site)
+            (record { rows = rows; tile_cost = tile_cost }) len) }
+        ensures fault { IsMemoryOnErr result }
+    {
+        let grids = [Grid { rows, tile_cost }];
+        let run = |tiles: Tiles<'_, Self, P>| -> Result<Vec<R>, Fault>
+            requires kernel_accepts { (row : ℕ) (columns : Range ℕ)
+                → IsPartOfRows (rows_of tiles) (columns_of tiles) row columns
+                → K.pre kernel row columns }
+            requires merge_accepts { M.IsAlwaysCallable merge }
+            ensures folds { IfOk result (λ values. FoldsRows (K.post kernel) (M.post merge)
+                (rows_of tiles.entry) (columns_of tiles.entry) values.items) }
+            ensures fault { IsMemoryOnErr result }
+        { fold_tiles(tiles, rt, alloc, &kernel, &merge) };
+        let folded = self.run_tiles(rt, alloc, site, len, &grids, 1, run)?;
+        let values = folded?;
+        Ok(values)
     }
 }
 

@@ -11,6 +11,7 @@ ghost use Rattle.commonware_parallel.specs.MergedRows.{FillsCut};
 ghost use Rattle.commonware_parallel.specs.Rectangles.{IsInGrid};
 
 mod cost;
+mod folded;
 mod law;
 mod merged;
 mod rows;
@@ -18,6 +19,7 @@ mod seats;
 
 use crate::strategy::Strategy;
 pub(crate) use cost::serial_cost;
+pub(crate) use folded::fold_tiles;
 pub use law::merge_law;
 use merged::{fill_parts, merge_sorted};
 use parallel_fault::Fault;

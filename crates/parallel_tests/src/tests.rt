@@ -22,6 +22,7 @@ mod printed;
 mod probes;
 mod refusals;
 mod roots;
+mod rows;
 mod runs;
 mod same;
 mod sequentials;

@@ -15,4 +15,3 @@ pub mod Tiles
 pub mod Trees
 pub mod Verdicts
 mod FirstNumbered
-mod RowKernels

@@ -176,8 +176,8 @@ fn merge_ordered<R: Drop, M: Fn(R, R) -> R>(
     Ok(values)
 }
 
-// What came so far of a row with its next result.
-fn joined<R: Drop, M: Fn(R, R) -> R>(held: Option<R>, next: R, merge: &M) -> R
+/// What came so far of a row with its next result.
+pub(super) fn joined<R: Drop, M: Fn(R, R) -> R>(held: Option<R>, next: R, merge: &M) -> R
     requires { M.IsAlwaysCallable merge.now }
     ensures { Joins (M.post merge.now) held next result }
 {

@@ -1,0 +1,150 @@
+//! Kernels by row: the value of each row, however the rows were cut.
+use crate::tests::same::lists;
+use crate::tests::strategies::{SITE, explorers, number, pool, pools};
+use crate::tests::threads::Meeting;
+use commonware_parallel::{Fault, Sequential, Strategy};
+use std::alloc::Global;
+use std::ops::Range;
+use std::process::Abort;
+use std::sync::Wait;
+use std::sync::atomic::{AtomicU64, Ordering};
+use std::thread::Threads;
+
+// Columns of a row, from the first one up to the second, and the sum of their cells.
+type Part = (usize, usize, usize, usize);
+
+// The part, whose cell of a column is three times the column, and the row.
+fn part_of(row: usize, columns: Range<usize>) -> Part {
+    let (first, end) = (columns.start, columns.end);
+    let mut sum = 0usize;
+    for column in columns {
+        sum = sum.wrapping_add(column.wrapping_mul(3).wrapping_add(row));
+    }
+    (row, first, end, sum)
+}
+
+// Two neighbouring parts of a row as one. Any others, or the two the wrong way round, are no part.
+fn both_parts(left: Part, right: Part) -> Part {
+    if left.0 != right.0 || left.2 != right.1 {
+        return (usize::MAX, 0, 0, 0);
+    }
+    (left.0, left.1, right.2, left.3.wrapping_add(right.3))
+}
+
+// What a plain loop has for each row.
+fn plain_rows(rt: &impl Abort, alloc: Global, rows: usize, len: usize) -> Vec<Part> {
+    let mut values = Vec::with_capacity(alloc, rows).expect(rt, "memory");
+    for row in 0..rows {
+        values.push(part_of(row, 0..len)).expect(rt, "memory");
+    }
+    values
+}
+
+fn folded<Rt: Threads + Wait + Abort + Sync, S: Strategy>(
+    rt: &Rt,
+    alloc: Global,
+    strategy: &S,
+    (rows, len, tile_cost): (usize, usize, usize),
+) {
+    assert!(rt; rows.checked_mul(len).is_some());
+    let cost = number(rt, tile_cost);
+    let values = strategy.fold_rows(rt, alloc, SITE, rows, len, cost, part_of, both_parts);
+    let wanted = plain_rows(rt, alloc, rows, len);
+    lists(rt, (rows, len, tile_cost), values, wanted.as_slice());
+}
+
+// No row, rows of no columns, one row, and many: whole, and cut.
+fn rows_are_folded<Rt: Threads + Wait + Abort + Sync, S: Strategy>(
+    rt: &Rt,
+    alloc: Global,
+    strategies: &[S],
+) {
+    for strategy in strategies {
+        for shape in [
+            (0, 0, 1),
+            (0, 7, 1),
+            (0, usize::MAX, 3),
+            (1, 0, 1),
+            (5, 0, 64),
+            (1, 1, 1),
+            (1, 64, 1),
+            (1, 64, 64),
+            (3, 5, 2),
+            (7, 3, 8),
+            (2, 100, 1),
+            (5, 41, 4),
+            (64, 7, 1),
+        ] {
+            folded(rt, alloc, strategy, shape);
+        }
+    }
+}
+
+#[test]
+fn each_row_has_the_value_of_all_its_columns(rt: HostRuntime) {
+    let alloc = rt.alloc();
+    rows_are_folded(&rt, alloc, &[Sequential]);
+    rows_are_folded(&rt, alloc, &pools(&rt, alloc));
+    rows_are_folded(&rt, alloc, &explorers(&rt, alloc));
+    rows_are_folded(&rt, alloc, &[pool(&rt, alloc, 3, 16)]);
+}
+
+#[test]
+fn rows_of_three_columns_by_hand(rt: HostRuntime) {
+    let alloc = rt.alloc();
+    let two = pool(&rt, alloc, 2, 2);
+    let cost = number(&rt, 1);
+    let values = two.fold_rows(&rt, alloc, SITE, 2, 3, cost, part_of, both_parts);
+    lists(&rt, 1, values, &[(0, 0, 3, 9), (1, 0, 3, 12)]);
+    let values = two.fold_rows(&rt, alloc, SITE, 2, 0, cost, part_of, both_parts);
+    lists(&rt, 2, values, &[(0, 0, 0, 0), (1, 0, 0, 0)]);
+}
+
+// How many parts the kernel was called with, of one row of that many columns.
+fn parts_of_a_row<Rt: Threads + Wait + Abort + Sync, S: Strategy>(
+    rt: &Rt,
+    alloc: Global,
+    strategy: &S,
+    len: usize,
+    tile_cost: usize,
+) -> Result<Vec<u64>, Fault> {
+    let called = AtomicU64::new(0);
+    let cost = number(rt, tile_cost);
+    let kernel = |_row: usize, _columns: Range<usize>| called.fetch_add(1, Ordering::SeqCst);
+    let merge = |left: u64, right: u64| left.max(right);
+    assert!(rt; 1usize.checked_mul(len).is_some());
+    let _values = strategy.fold_rows(rt, alloc, SITE, 1, len, cost, kernel, merge)?;
+    let mut calls = Vec::new(alloc);
+    calls.push(called.load(Ordering::SeqCst))?;
+    Ok(calls)
+}
+
+#[test]
+fn a_row_of_two_tiles_is_cut_and_a_shorter_one_is_not(rt: HostRuntime) {
+    let alloc = rt.alloc();
+    let four = pool(&rt, alloc, 4, 4);
+    let cut = parts_of_a_row(&rt, alloc, &four, 640, 1).expect(&rt, "memory");
+    assert!(rt; cut.iter().all(|calls| *calls > 1));
+    lists(&rt, 1, parts_of_a_row(&rt, alloc, &four, 15, 8), &[1]);
+    lists(
+        &rt,
+        2,
+        parts_of_a_row(&rt, alloc, &Sequential, 640, 1),
+        &[1],
+    );
+    lists(&rt, 3, parts_of_a_row(&rt, alloc, &four, 0, 1), &[1]);
+}
+
+fn either(left: bool, right: bool) -> bool {
+    left || right
+}
+
+#[test]
+fn two_rows_see_each_other(rt: HostRuntime) {
+    let alloc = rt.alloc();
+    let two = pool(&rt, alloc, 2, 2);
+    let flags = Meeting::new();
+    let kernel = |row: usize, _columns: Range<usize>| flags.meet(row == 0);
+    let met = two.fold_rows(&rt, alloc, SITE, 2, 64, number(&rt, 99), kernel, either);
+    lists(&rt, 1, met, &[true, true]);
+}
