@@ -1,10 +1,12 @@
 mod Common
+mod BlockNames
 pub mod Batched
 pub mod ListCalls
 pub mod Outcomes
 pub mod Picks
 pub mod Hashes
 pub mod Merkles
+pub mod MerkleBlocks
 pub mod Searches
 pub mod FilledRows
 pub mod Rectangles
@@ -25,6 +27,7 @@ pub use FilledRows.*
 pub use Hashes.*
 pub use ListCalls.*
 pub use Merkles.*
+pub use MerkleBlocks.*
 pub use NamedResults.*
 pub use Outcomes.*
 pub use Picks.*

@@ -8,6 +8,7 @@ pub mod ListCalls
 pub mod Measures
 pub mod MergedRows
 pub mod Merkle
+pub mod MerkleBlocks
 pub mod Mixes
 pub mod Noting
 pub mod OnePlace

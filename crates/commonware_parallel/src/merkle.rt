@@ -4,16 +4,20 @@
 //! (`MerkleRoot`).
 //!
 //! `combine` isn't told leaves from nodes, and a root says nothing of how many leaves there were:
-//! before membership is checked against it, hash leaves and nodes behind different bytes, and
+//! before membership is checked against it, hash leaves and nodes after different bytes, and
 //! publish a digest of the number of leaves and the root, as `uses::merkle` does.
 ghost use Rattle.std.specs.Prelude.{IfOk};
 ghost use Rattle.parallel_fault.specs.Trouble.{IsMemoryOnErr};
 ghost use Rattle.commonware_parallel.specs.Merkle.{MerkleRoot, NextLevel};
 
+mod blocks;
+mod descent;
 mod law;
 mod plain;
+mod tops;
 
 use crate::strategy::Strategy;
+pub use blocks::root_by_blocks;
 pub use law::root_law;
 use parallel_bridge::Pairs;
 use parallel_fault::Fault;
@@ -54,8 +58,8 @@ pub fn root<
     Ok(level.pop())
 }
 
-// The next level: the answers for the pairs, and behind them an odd last node, for which a map's
-// answers mostly have a place to spare.
+// The next level: the results for the pairs, and after them an odd last node, for which a map's
+// results mostly have a place to spare.
 fn next_level<
     Rt: Threads + Wait + Sync,
     P: Place,

@@ -35,6 +35,7 @@ mod strategies;
 mod threads;
 mod tiles;
 mod trees;
+mod trees_by_blocks;
 mod tried;
 mod tries;
 mod unrecorded;
