@@ -70,6 +70,15 @@ fn by_slice<Rt: Runtime, S: Strategy>(
             let leaves = items.iter().copied().collect(alloc)?;
             merkle::root(rt, alloc, strategy, SITE, leaves, combined_heavily)?.unwrap_or(0)
         }
+        Case::BlocksLight => {
+            let leaves = items.iter().copied().collect(alloc)?;
+            merkle::root_by_blocks(rt, alloc, strategy, SITE, leaves, combined)?.unwrap_or(0)
+        }
+        Case::BlocksHeavy => {
+            let leaves = items.iter().copied().collect(alloc)?;
+            let node = combined_heavily;
+            merkle::root_by_blocks(rt, alloc, strategy, SITE, leaves, node)?.unwrap_or(0)
+        }
         Case::RowsAbove => bytes_above(rt, alloc, strategy, extras.bytes)?,
         Case::Digests => first_mismatch(rt, alloc, strategy, extras)? as u64,
         _ => 0,

@@ -25,6 +25,9 @@ pub enum Case {
     /// The root of a tree over the items as its leaves, of light or of heavy nodes.
     TreeLight,
     TreeHeavy,
+    /// The same root by blocks of leaves.
+    BlocksLight,
+    BlocksHeavy,
     /// The bytes of a matrix above a threshold, counted by row.
     RowsAbove,
     /// Messages that are checked against their digests.
@@ -48,7 +51,7 @@ pub enum Rows {
 }
 
 /// Every case with the name by which the command line asks for it.
-pub const CASES: [(&str, Case); 23] = [
+pub const CASES: [(&str, Case); 25] = [
     ("map-light", Case::Map(Cost::Light)),
     ("map-heavy", Case::Map(Cost::Heavy)),
     ("map-rising", Case::Map(Cost::Rising)),
@@ -70,6 +73,8 @@ pub const CASES: [(&str, Case); 23] = [
     ("tiles-uneven", Case::Tiles(Rows::Whole, Cost::Rising)),
     ("merkle-light", Case::TreeLight),
     ("merkle-heavy", Case::TreeHeavy),
+    ("merkle-blocks-light", Case::BlocksLight),
+    ("merkle-blocks-heavy", Case::BlocksHeavy),
     ("rows-above", Case::RowsAbove),
     ("digests", Case::Digests),
 ];

@@ -36,8 +36,10 @@ pub fn by_loop(
             let tiling = Tiling::of(rows, cost, items.len());
             Ok(Answer::Number(tiling.sum(items)))
         }
-        Case::TreeLight => Ok(Answer::Number(root(alloc, items, combined)?)),
-        Case::TreeHeavy => Ok(Answer::Number(root(alloc, items, combined_heavily)?)),
+        Case::TreeLight | Case::BlocksLight => Ok(Answer::Number(root(alloc, items, combined)?)),
+        Case::TreeHeavy | Case::BlocksHeavy => {
+            Ok(Answer::Number(root(alloc, items, combined_heavily)?))
+        }
         Case::RowsAbove => Ok(Answer::Number(bytes_above(extras.bytes))),
         Case::Digests => Ok(Answer::Number(first_mismatch(extras) as u64)),
         Case::Each(_) => Ok(Answer::Number(0)),

@@ -143,8 +143,8 @@ module _ {T : Type 0} (combine : T → T → T → Type 0) where
   LeadsToTops size all done left = (levels : ℕ) → size ≡ leaves_below levels → (more : List T)
       → Levels combine levels left more → Levels combine levels all (done ++ more)
 
-  pub leads_start : (size : ℕ) (all done : List T) → done ≡ [] → LeadsToTops size all done all
-  leads_start size all done none levels at more h =
+  pub tops_start : (size : ℕ) (all done : List T) → done ≡ [] → LeadsToTops size all done all
+  tops_start size all done none levels at more h =
       subst (λ l. Levels combine levels all (l ++ more)) (sym none) h
 
   -- the tops of the first block, and those of the rest
@@ -200,9 +200,9 @@ block_less size len count rest less blocks more left =
     (omega (arith, blocks.0, all, left), omega (arith, blocks.1, all, left))
 
 -- so many whole blocks in front, fewer than there are, and those of the rest
-pub blocks_behind : (size len count front : ℕ) → AreBlocks size len count → front < count
+pub blocks_after : (size len count front : ℕ) → AreBlocks size len count → front < count
     → (front * size ≤ len) × AreBlocks size (len - front * size) (count - front)
-blocks_behind size len count front blocks fewer =
+blocks_after size len count front blocks fewer =
     let last = count - front - 1 in let back : count - front ≡ last + 1 = omega (arith, fewer) in
     let behind : (count - front) * size ≡ last * size + size =
     ap (λ n. n * size) back ∙ add-mul last 1 size ∙ ap (λ n. last * size + n) (one-mul size) in

@@ -1,6 +1,6 @@
 -- Whole blocks in front, and the others behind them: their tops, one after the other, are those of
 -- all.
-use Rattle.commonware_parallel.proofs.{◌≡◌, ◌-◌, ◌*◌, ◌/◌, ◌++◌, ◌∙◌, arith, rules, ap, sym, subst, drop, drop-nil, length, length-drop, length-take-le, take-append-drop, AreBlocks, blocks_behind, halved_room, tops_append}
+use Rattle.commonware_parallel.proofs.{◌≡◌, ◌-◌, ◌*◌, ◌/◌, ◌++◌, ◌∙◌, arith, rules, ap, sym, subst, drop, drop-nil, length, length-drop, length-take-le, take-append-drop, AreBlocks, blocks_after, halved_room, tops_append}
 use denote.Param.{param}
 use Rattle.std.specs.Vec.Ownership.{FitsInBlock}
 use Rattle.commonware_parallel.proofs.merkle.descent.DescentTask.split.Goals as goal
@@ -8,7 +8,7 @@ use Rattle.commonware_parallel.proofs.merkle.descent.DescentTask.split.Goals as 
 pub returns-clause-right : goal.returns-clause-right
 returns-clause-right g c =
     let self = c.args.self in let front = c.room-blocks.result / 2 in
-    let behind = blocks_behind self.size (length self.leaves.items) self.tops.room front
+    let behind = blocks_after self.size (length self.leaves.items) self.tops.room front
     c.requires.ready.6 (omega (arith, c.requires.long, c.room-blocks.ensures)) in
     let long = ap (λ w. length w.items) c.split-front.ensures.right
     ∙ length-drop (front * self.size) self.leaves.items in
@@ -31,7 +31,7 @@ returns-clause-right g c =
 pub returns-clause-meet : goal.returns-clause-meet
 returns-clause-meet g c depth a b left right =
     let self = c.args.self in let front = c.room-blocks.result / 2 in
-    let behind = blocks_behind self.size (length self.leaves.items) self.tops.room front
+    let behind = blocks_after self.size (length self.leaves.items) self.tops.room front
     c.requires.ready.6 (omega (arith, c.requires.long, c.room-blocks.ensures)) in
     let tops = halved_room (param 0 g.row.T) self.tops _ _ front _ _ c.split-front_tops.ensures.left
     c.split-front_tops.ensures.right (omega (arith, c.room-blocks.ensures)) a.0 b.0 left.0 right.0 in
@@ -51,7 +51,7 @@ returns-clause-meet g c depth a b left right =
 pub returns-clause-node : goal.returns-clause-node
 returns-clause-node g c depth a b all above left right together =
     let self = c.args.self in let front = c.room-blocks.result / 2 in
-    let behind = blocks_behind self.size (length self.leaves.items) self.tops.room front
+    let behind = blocks_after self.size (length self.leaves.items) self.tops.room front
     c.requires.ready.6 (omega (arith, c.requires.long, c.room-blocks.ensures)) in
     let tops = halved_room (param 0 g.row.T) self.tops _ _ front _ _ c.split-front_tops.ensures.left
     c.split-front_tops.ensures.right (omega (arith, c.room-blocks.ensures)) a.0 b.0 left.0 right.0 in
