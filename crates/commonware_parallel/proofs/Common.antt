@@ -60,3 +60,14 @@ pub use Rattle.std.specs.declared.ops.Range.{Range}
 pub use Rattle.std.proofs.Math.Seq.{drop-append-add}
 pub use Rattle.std.specs.Fork.{AcceptsAt, AcceptsChunksMut, ChangesAt, IsChunk, slice_chunk}
 pub use Rattle.std.specs.Fork.Halves.{AllChunks, ChangesByChunks}
+pub use Rattle.commonware_parallel.specs.MerkleBlocks.{AreBlocks, AreTops, IsBlockSize, Levels, leaves_below}
+pub use Rattle.parallel_bridge.specs.Fills.{IsFull, IsRoom, SamePlaces}
+pub use Rattle.parallel_bridge.specs.Windows.{Adjoins, View, part}
+pub use Rattle.parallel_bridge.proofs.Halves.{halved_room}
+pub use Rattle.std.proofs.Common.{length-take-le, take-append-drop}
+pub use Rattle.std.proofs.Math.Seq.{drop-nil, take-add}
+pub use Rattle.std.proofs.Math.Nat.{mul-add, suc-mul, zero-mul}
+pub use Rattle.std.proofs.lemmas.List.{drop-drop, drop_all}
+pub use Rattle.std.proofs.lemmas.Grind.{div_ceil_times}
+pub use Rattle.std.specs.Int.{div_ceil}
+pub use Rattle.std.proofs.lemmas.Result.{IfOk-weaker}

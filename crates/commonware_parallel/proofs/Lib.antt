@@ -1,5 +1,4 @@
 mod Common
-mod BlockNames
 pub mod Batched
 pub mod ListCalls
 pub mod Outcomes

@@ -1,7 +1,7 @@
 -- Levels of a tree by blocks of its leaves.
-use Rattle.commonware_parallel.proofs.BlockNames.{ℕ, zero, suc, ◌+◌, ◌-◌, ◌*◌, ◌/◌, ◌<◌, ◌≤◌, ◌≡◌, ◌++◌, ◌∷◌, [], List, Option, length, take, drop, refl, sym, ◌∙◌, ap, subst, arith}
-use Rattle.commonware_parallel.proofs.BlockNames.{drop-drop, length-take-le, take-add, take-append-drop, take_all, drop_all, append_assoc, append-nil, add-mul, mul-add, one-mul, suc-mul, zero-mul, cases_lt, inl, inr}
-use Rattle.commonware_parallel.proofs.BlockNames.{AreBlocks, AreTops, Levels, MerkleRoot, NextLevel, leaves_below, of_level}
+use Rattle.commonware_parallel.proofs.Common.{ℕ, zero, suc, ◌+◌, ◌-◌, ◌*◌, ◌/◌, ◌<◌, ◌≤◌, ◌≡◌, ◌++◌, ◌∷◌, [], List, Option, length, take, drop, refl, sym, ◌∙◌, ap, subst, arith}
+use Rattle.commonware_parallel.proofs.Common.{drop-drop, length-take-le, take-add, take-append-drop, take_all, drop_all, append_assoc, append-nil, add-mul, mul-add, one-mul, suc-mul, zero-mul, cases_lt, inl, inr}
+use Rattle.commonware_parallel.proofs.Common.{AreBlocks, AreTops, Levels, MerkleRoot, NextLevel, leaves_below, of_level}
 
 -- a node is above some leaf
 pub leaves_some : (levels : ℕ) → 0 < leaves_below levels
