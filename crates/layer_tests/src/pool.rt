@@ -5,6 +5,7 @@ mod jobs;
 mod latches;
 mod limits;
 mod pools;
+mod probes;
 mod refused_builds;
 mod refused_jobs;
 mod seats;
