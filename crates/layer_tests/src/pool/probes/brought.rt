@@ -1,6 +1,8 @@
 //! The ways in which a job comes to a pool, each of any number of workers, of which this thread is
 //! the first.
-use crate::pool::tally::{Act, Tally, awaits, broadcasts, empty_tally, job, jobs, push_by, workers};
+use crate::pool::tally::{
+    Act, Tally, awaits, broadcasts, empty_tally, job, jobs, push_by, workers,
+};
 use parallel_pool::rayon::{OwnedJob, Queue, Staff, ThreadPool, WorkerThread, Yield};
 use std::alloc::Global;
 use std::collections::VecDeque;
@@ -38,7 +40,7 @@ pub(crate) const ALL: [Brought; 6] = [
 ];
 
 /// The most workers of a pool here.
-pub(crate) const MOST: usize = 5;
+pub(crate) const MOST: usize = 48;
 
 /// A pool of which this thread is the first worker, and that worker; with its tally.
 #[derive(Drop)]

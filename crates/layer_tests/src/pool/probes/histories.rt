@@ -113,7 +113,11 @@ fn a_worker_calls_what_is_for_it_then_what_it_steals_then_what_is_injected(rt: H
     let halted = led.halts(&rt, rt.alloc(), 1);
     brings_six(&rt, rt.alloc(), &mut led, 1);
     opens(&halted);
-    assert!(rt; becomes(&rt, &led.tally.called, 123_456), "{}", read(&led.tally.called));
+    assert!(rt;
+        becomes(&rt, &led.tally.called, 123_456),
+        "{}",
+        read(&led.tally.called)
+    );
     led.ends(&rt);
 }
 
@@ -153,7 +157,12 @@ fn one_is_at_work<R: Threads + Wait + Abort + Clock + Copy + Send + 'static>(
         let job = job(rt, alloc, &tally, Act::AddsAt(2));
         let came = push_by(rt, &mut worker, queue, job);
         let found = (came, becomes(rt, &tally.called, called));
-        row(rt, (matches!(queue, Queue::Injected), called), found, (true, true));
+        row(
+            rt,
+            (matches!(queue, Queue::Injected), called),
+            found,
+            (true, true),
+        );
     }
     opens(&halted);
     awaits(rt, &tally.ended, 1, "the workers have ended");

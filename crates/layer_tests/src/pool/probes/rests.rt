@@ -4,6 +4,7 @@ ghost use Rattle.std.specs.Prelude.{◌≡◌};
 ghost use Rattle.parallel_pool.specs.Latch.{IsLatchSeatOf};
 
 use crate::pool::latches::core_latch;
+use crate::pool::limits::no_jobs;
 use crate::pool::probes::brought::{ALL, leads, opens};
 use crate::pool::tally::{Act, becomes, let_it_sleep, read};
 use crate::pool::waits::{give_all, one_sleep};
@@ -69,7 +70,12 @@ fn own_time(rt: &(impl CpuClock + Abort)) -> u128 {
 }
 
 // Stops the test where a thread works while it waits, or doesn't wait.
-fn waits_quietly<R: CpuClock + Clock + Abort, F: FnOnce()>(rt: &R, at: &str, passed: &AtomicU64, wait: F)
+fn waits_quietly<R: CpuClock + Clock + Abort, F: FnOnce()>(
+    rt: &R,
+    at: &str,
+    passed: &AtomicU64,
+    wait: F,
+)
     requires { F.IsAlwaysCallable wait }
 {
     let before = own_time(rt);
@@ -90,11 +96,16 @@ fn waits_for_lock<R: Threads + Wait + Clock + CpuClock + Abort + Sync>(rt: &R, r
     let (latch, passed) = (LockLatch::new(), AtomicU64::new(0));
     join(
         rt,
-        || waits_quietly(rt, "a lock latch", &passed, || if resets {
-            latch.wait_and_reset(rt);
-        } else {
-            latch.wait(rt);
-        }),
+        || waits_quietly(
+            rt,
+            "a lock latch",
+            &passed,
+            || if resets {
+                latch.wait_and_reset(rt);
+            } else {
+                latch.wait(rt);
+            },
+        ),
         || {
             passes(rt, &passed);
             latch.set(rt);
@@ -235,7 +246,12 @@ fn sleeps_until<R: Threads + Wait + Clock + CpuClock + Abort + Sync>(
             wakes(rt, asleep, until, waker);
         },
     );
-    row(rt, waker, (idled, sleep.counters(rt).word()), (Some((34, 1)), word));
+    row(
+        rt,
+        waker,
+        (idled, sleep.counters(rt).word()),
+        (Some((34, 1)), word),
+    );
 }
 
 #[test]
@@ -262,35 +278,39 @@ fn yields_alone(rt: &(impl CpuClock + Abort)) -> u128 {
     own_time(rt).saturating_sub(before)
 }
 
-// The same of an idle worker in one of its rounds.
-fn yields_idle<R: Wait + CpuClock + Abort>(rt: &R, alloc: Global, round: u32) -> u128 {
+// The same of an idle worker in its first round, or in its last one where its latch is set: it
+// yields in the one and not in the other.
+fn yields_idle<R: Wait + CpuClock + Abort>(rt: &R, alloc: Global, is_last: bool) -> u128 {
     let (sleep, parker) = one_sleep(rt, alloc);
     let (latch, mut seat) = core_latch(rt, alloc);
+    latch.set(&mut seat);
     let mut idle = sleep.start_looking(rt, 0).expect(rt, "a worker");
+    for _ in 0..33 {
+        idle.next_round();
+    }
     let before = own_time(rt);
     for _ in 0..OFTEN {
-        if idle.rounds() > round {
+        if is_last {
+            idle.record(1);
+        } else {
             idle.wake_fully();
         }
-        if round == 32 {
-            idle.wake_partly();
-        }
-        sleep.no_work_found(rt, &mut idle, &parker, &latch, &mut seat, || false);
+        sleep.no_work_found(rt, &mut idle, &parker, &latch, &mut seat, no_jobs);
     }
     own_time(rt).saturating_sub(before)
 }
 
 #[test]
-fn an_idle_worker_yields_in_each_round(rt: HostRuntime) {
-    for round in [0u32, 31, 32] {
-        let mut is_yielding = false;
-        for _ in 0..5 {
-            let alone = yields_alone(&rt);
-            let idle = yields_idle(&rt, rt.alloc(), round);
-            is_yielding = is_yielding || idle.saturating_mul(4) > alone.saturating_mul(3);
-        }
-        row(&rt, round, is_yielding, true);
+fn an_idle_worker_yields(rt: HostRuntime) {
+    let mut is_yielding = false;
+    for _ in 0..5 {
+        let alone = yields_alone(&rt);
+        let last = yields_idle(&rt, rt.alloc(), true);
+        let first = yields_idle(&rt, rt.alloc(), false);
+        let _told = eprintln!(&rt; "{first} and {last} without, where {alone} alone");
+        is_yielding = is_yielding || first.saturating_sub(last) > alone / 2;
     }
+    assert!(rt; is_yielding);
 }
 
 #[test]
@@ -304,5 +324,10 @@ fn an_install_has_a_thread_of_its_own(rt: HostRuntime) {
     let rt = &rt;
     let first = pool.install(rt, || own_time(rt));
     let second = install(rt, || own_time(rt));
-    row(rt, "they have worked less", (first < 20_000_000, second < 20_000_000), (true, true));
+    row(
+        rt,
+        "they have worked less",
+        (first < 20_000_000, second < 20_000_000),
+        (true, true),
+    );
 }
