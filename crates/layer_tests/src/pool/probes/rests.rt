@@ -1,10 +1,8 @@
-//! That whoever waits takes no time of a processor, that a sleeper sleeps until it is woken, and
-//! that a worker yields before.
+//! That whoever waits takes no time of a processor, and that a sleeper sleeps until it is woken.
 ghost use Rattle.std.specs.Prelude.{◌≡◌};
 ghost use Rattle.parallel_pool.specs.Latch.{IsLatchSeatOf};
 
 use crate::pool::latches::core_latch;
-use crate::pool::limits::no_jobs;
 use crate::pool::probes::brought::{ALL, leads, opens};
 use crate::pool::tally::{Act, becomes, let_it_sleep, read};
 use crate::pool::waits::{give_all, one_sleep};
@@ -264,53 +262,6 @@ fn a_sleeper_sleeps_until_it_is_woken(rt: HostRuntime) {
     ] {
         sleeps_until(&rt, rt.alloc(), waker, word);
     }
-}
-
-// How often a thread yields to be measured.
-const OFTEN: u32 = 20_000;
-
-// How long a thread works that does nothing but yield, in nanoseconds.
-fn yields_alone(rt: &(impl CpuClock + Abort)) -> u128 {
-    let before = own_time(rt);
-    for _ in 0..OFTEN {
-        thread::yield_now();
-    }
-    own_time(rt).saturating_sub(before)
-}
-
-// The same of an idle worker in its first round, or in its last one where its latch is set: it
-// yields in the one and not in the other.
-fn yields_idle<R: Wait + CpuClock + Abort>(rt: &R, alloc: Global, is_last: bool) -> u128 {
-    let (sleep, parker) = one_sleep(rt, alloc);
-    let (latch, mut seat) = core_latch(rt, alloc);
-    latch.set(&mut seat);
-    let mut idle = sleep.start_looking(rt, 0).expect(rt, "a worker");
-    for _ in 0..33 {
-        idle.next_round();
-    }
-    let before = own_time(rt);
-    for _ in 0..OFTEN {
-        if is_last {
-            idle.record(1);
-        } else {
-            idle.wake_fully();
-        }
-        sleep.no_work_found(rt, &mut idle, &parker, &latch, &mut seat, no_jobs);
-    }
-    own_time(rt).saturating_sub(before)
-}
-
-#[test]
-fn an_idle_worker_yields(rt: HostRuntime) {
-    let mut is_yielding = false;
-    for _ in 0..5 {
-        let alone = yields_alone(&rt);
-        let last = yields_idle(&rt, rt.alloc(), true);
-        let first = yields_idle(&rt, rt.alloc(), false);
-        let _told = eprintln!(&rt; "{first} and {last} without, where {alone} alone");
-        is_yielding = is_yielding || first.saturating_sub(last) > alone / 2;
-    }
-    assert!(rt; is_yielding);
 }
 
 #[test]
