@@ -2,13 +2,14 @@
 //! with it, so that it grows by each block. Elsewhere there is nothing to be seen.
 ghost use Rattle.std.specs.Prelude.{◌≡◌};
 ghost use Rattle.parallel_shares.specs.Seats.{AreSeatsOf};
+ghost use Rattle.parallel_bridge.specs.Gates.{IsGateSeatOf, seats_of, stands_for};
 
 use crate::bridge::number;
-use crate::claims::{last_claim, opened, refill_at, steal_at};
+use crate::claims::{self, last_claim, opened, refill_at, steal_at};
 use crate::pool::latches::core_latch;
 use crate::pool::waits::give_all;
 use crate::same::row;
-use parallel_bridge::gate::Gate;
+use parallel_bridge::gate::{Gate, GateSeat};
 use parallel_bridge::list::fold::fold_iter;
 use parallel_bridge::list::fold_init::fold_init_iter;
 use parallel_bridge::list::try_fold::try_fold_iter;
@@ -74,21 +75,31 @@ fn shares<R: Wait + Abort>(rt: &R, alloc: Global, used: Used) {
     }
 }
 
+// A gate whose one seat stands for two.
 fn gate(rt: &impl Abort, alloc: Global, used: Used) {
-    let (gate, mut seat) = Gate::open(alloc, number(rt, 2)).expect(rt, "memory");
-    match used {
-        Used::Not => drop((gate, seat)),
-        Used::Closed => {
-            gate.close_joined(seat);
-        }
-        Used::InFull => {
-            let mut back = gate.split(&mut seat);
-            gate.tell(&mut back, 3);
-            gate.stopped(&mut seat, 5);
-            gate.join(&mut seat, back);
-            gate.close_joined(seat);
-        }
+    let (gate, seat) = Gate::open(alloc, claims::number(rt, 2)).expect(rt, "memory");
+    let mut seats = Vec::with_capacity(alloc, 1).expect(rt, "memory");
+    if used == Used::InFull {
+        use_gate(gate, seat);
+        return;
     }
+    seats.push(seat).expect(rt, "it has room");
+    if used == Used::Closed {
+        gate.close(seats);
+    }
+}
+
+// The seat is cut, one half tells the gate of a start, and the other looks.
+fn use_gate(gate: Gate, mut seat: GateSeat)
+    requires belongs { IsGateSeatOf gate seat }
+    requires two { stands_for seat ≡ 2 }
+    requires all { seats_of gate ≡ 2 }
+{
+    let mut back = gate.split(&mut seat);
+    gate.tell(&mut back, 3);
+    gate.stopped(&mut seat, 5);
+    gate.join(&mut seat, back);
+    gate.close_joined(seat);
 }
 
 fn count_latch(rt: &impl Abort, alloc: Global, used: Used) {
