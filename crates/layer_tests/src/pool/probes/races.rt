@@ -1,14 +1,13 @@
 //! Jobs that come while a worker goes to sleep: each is called.
 use crate::pool::probes::brought::{Brought, Led, MOST, leads};
-use crate::pool::tally::{Act, Tally, becomes, empty_tally, let_it_sleep, push_by, read, told_to};
+use crate::pool::tally::{Act, becomes, let_it_sleep, read};
 use crate::same::row;
-use parallel_pool::rayon::{Execute, Queue, Staff, ThreadPool, WorkerThread};
 use std::alloc::Global;
 use std::process::Abort;
-use std::sync::atomic::{AtomicU64, Ordering};
-use std::sync::{Arc, Wait};
+use std::sync::Wait;
+use std::sync::atomic::AtomicU64;
 use std::thread::{self, Threads};
-use std::time::{Clock, Duration};
+use std::time::Clock;
 
 // How many jobs come, one after the other.
 const ROUNDS: u64 = 3000;
@@ -55,84 +54,6 @@ fn comes_meanwhile<R: Threads + Wait + Abort + Clock + Copy + Send + 'static>(
     }
     led.ends(rt);
     soon
-}
-
-// A job that is long to move.
-#[derive(Drop)]
-struct Heavy {
-    tally: Arc<Tally>,
-    load: [u64; 65_536],
-}
-
-impl Execute for Heavy {
-    fn execute(self, _index: usize) {
-        let Heavy { tally, load } = self;
-        tally.called.fetch_add(load[0], Ordering::SeqCst);
-    }
-}
-
-fn load_of(rt: &impl Abort, tally: &Arc<Tally>) -> Heavy {
-    Heavy {
-        tally: Arc::try_clone(tally).expect(rt, "a handle"),
-        load: [1; 65_536],
-    }
-}
-
-// Brings such a job in one of the ways that wake any worker.
-fn brings_heavy(
-    rt: &(impl Wait + Abort),
-    pool: &ThreadPool<Staff<Heavy>>,
-    worker: &mut WorkerThread<Heavy>,
-    tally: &Arc<Tally>,
-    brought: Brought,
-) -> bool {
-    let job = load_of(rt, tally);
-    match brought {
-        Brought::Own => pool.spawn_from(rt, worker, job).is_ok(),
-        Brought::ToOne => push_by(rt, worker, Queue::Broadcast(1), job),
-        Brought::Injected => push_by(rt, worker, Queue::Injected, job),
-        _ => pool.spawn(rt, job).is_ok(),
-    }
-}
-
-// Brings such jobs, each to a worker that sleeps: it is woken once the job is there.
-fn heavy_jobs_come<R: Threads + Wait + Abort + Clock + Copy + Send + 'static>(
-    rt: &R,
-    alloc: Global,
-) {
-    let tally = empty_tally(rt, alloc);
-    let builder = told_to(alloc, 2, &tally).expect(rt, "memory");
-    let builder = builder.stack_size(STACK).use_current_thread();
-    let built = builder.build_for::<R, Heavy>(rt, alloc);
-    let (pool, current) = built.expect(rt, "memory");
-    let mut worker = current.expect(rt, "the current worker");
-    for called in 1..161u64 {
-        thread::sleep(rt, Duration::from_millis(2));
-        let brought = HEAVY[called as usize % 4];
-        let came = brings_heavy(rt, &pool, &mut worker, &tally, brought);
-        let found = (came, becomes(rt, &tally.called, called));
-        row(rt, (brought, called), found, (true, true));
-    }
-    pool.close(rt);
-}
-
-// The ways in which they come.
-const HEAVY: [Brought; 4] = [
-    Brought::Spawned,
-    Brought::Injected,
-    Brought::Own,
-    Brought::ToOne,
-];
-
-// Room for many of them.
-const STACK: usize = 1 << 28;
-
-#[test]
-fn a_sleeper_is_woken_once_its_job_is_there(rt: HostRuntime) {
-    let alloc = rt.alloc();
-    let caller = thread::Builder::new().stack_size(STACK);
-    let caller = caller.spawn(&rt, move || heavy_jobs_come(&rt, alloc));
-    caller.expect(&rt, "a thread").join(&rt);
 }
 
 #[test]
