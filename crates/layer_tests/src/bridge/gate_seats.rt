@@ -160,7 +160,7 @@ fn counted_behind<'a>(
 }
 
 // Maps that many counted items on that many threads, of which the first fails and the others wait
-// for that. It answers whether memory was refused.
+// for that. It returns whether memory was refused.
 pub(crate) fn stop_counted<R: Threads + Sync + Abort>(
     rt: &R,
     alloc: Global,

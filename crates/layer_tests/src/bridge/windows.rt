@@ -85,7 +85,7 @@ fn place_taken(item: Option<Counted<'_>>) -> Option<usize> {
     place_of(item.as_ref())
 }
 
-// Maps that many counted items on that many threads. It answers whether memory was refused.
+// Maps that many counted items on that many threads. It returns whether memory was refused.
 pub(crate) fn map_counted<R: Threads + Sync + Abort>(
     rt: &R,
     alloc: Global,
@@ -119,7 +119,7 @@ fn add(left: usize, right: usize) -> usize {
 }
 
 // Adds the places of that many counted items up on that many threads, of which the one at `end`
-// fails. It answers whether memory was refused.
+// fails. It returns whether memory was refused.
 pub(crate) fn fold_counted<R: Threads + Sync + Abort>(
     rt: &R,
     alloc: Global,
@@ -224,7 +224,7 @@ fn each_folded_item_is_dropped_once_before_and_behind_one_that_fails(rt: HostRun
     }
 }
 
-// Maps the neighbouring pairs of that many counted items on that many threads. It answers whether
+// Maps the neighbouring pairs of that many counted items on that many threads. It returns whether
 // memory was refused.
 pub(crate) fn pair_counted<R: Threads + Sync + Abort>(
     rt: &R,

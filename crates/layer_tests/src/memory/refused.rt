@@ -282,7 +282,7 @@ fn greatest(alloc: Global, most: usize) -> Vec<u8> {
     Vec::new(alloc)
 }
 
-// Tries a call with more and more memory, up to its first answer, and answers how often it was
+// Tries a call with more and more memory, up to its first result, and returns how often it was
 // refused.
 fn refusals<R: Threads + Wait + Sync + Abort>(
     rt: &R,

@@ -22,11 +22,17 @@ use std::process::Abort;
 use std::rt::Files;
 use std::sync::Wait;
 
-// How many pages of this process are in memory, by Linux's own count.
+// One of the counts of pages.
+fn count_at(rt: &impl Abort, counts: &str, place: usize) -> usize {
+    let count = counts.split(' ').nth(place).expect(rt, "a count");
+    count.parse::<usize>().expect(rt, "a number")
+}
+
+// How many pages of this process are in memory and of no file, by Linux's own count.
 fn resident<R: Files + AllocGlobal + Abort>(rt: &R) -> usize {
     let counts = fs::read_to_string(rt, "/proc/self/statm").expect(rt, "the counts");
-    let resident = counts.as_str().split(' ').nth(1).expect(rt, "two counts");
-    resident.parse::<usize>().expect(rt, "a number")
+    let of_files = count_at(rt, counts.as_str(), 2);
+    count_at(rt, counts.as_str(), 1).saturating_sub(of_files)
 }
 
 // What is used.

@@ -81,11 +81,6 @@ fn push_each(rt: &impl Wait, worker: &mut WorkerThread, jobs: VecDeque<OwnedJob>
 }
 
 impl Led {
-    /// How many workers it has.
-    fn count(&self) -> usize {
-        self.pool.current_num_threads().min(MOST)
-    }
-
     /// Brings a job, which one worker is to call where it is for one, and returns whether it came.
     pub(crate) fn brings(
         &mut self,
@@ -96,7 +91,9 @@ impl Led {
         act: Act,
     ) -> bool {
         let each = acts(target, act);
-        let each = &each[..self.count()];
+        let count = self.pool.current_num_threads();
+        assert!(rt; count <= each.len());
+        let each = &each[..count];
         match brought {
             Brought::ToEach => broadcasts(rt, alloc, &self.pool, &self.tally, each),
             Brought::ToEachBySeat => {
