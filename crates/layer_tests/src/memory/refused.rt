@@ -1,9 +1,8 @@
-//! Calls of which each request for memory is refused in turn: the result is the usual one or want
-//! of memory, and each item is dropped once.
+//! Calls of which a request for memory may be refused: the result is the usual one or want of
+//! memory, and each item is dropped once.
 //!
-//! All memory is taken first but for a room, of which each further try is left 16 bytes more. Where
-//! memory has no end (`no_memory`) each call is tried twice, of which at most one may be refused:
-//! that is for runs in which some allocation fails.
+//! Each call is tried twice, of which at most one may be refused: that is for runs in which some
+//! allocation fails.
 use crate::bridge::gate_seats::stop_counted;
 use crate::bridge::number;
 use crate::bridge::windows::{
@@ -11,7 +10,6 @@ use crate::bridge::windows::{
     split_counted,
 };
 use crate::claims::{self, count_columns, row_cells_and_calls};
-use crate::no_memory::all_memory;
 use crate::same::{row, same};
 use parallel_bridge::gate::Gate;
 use parallel_bridge::segments::segments;
@@ -256,7 +254,7 @@ fn is_refused<R: Threads + Wait + Sync + Abort>(rt: &R, alloc: Global, called: C
 }
 
 #[test]
-fn each_call_of_a_layer_answers_or_is_refused(rt: HostRuntime) {
+fn each_call_of_a_layer_returns_or_is_refused(rt: HostRuntime) {
     let mut refused = 0u32;
     for called in ALL {
         for _ in 0..2 {
@@ -267,55 +265,4 @@ fn each_call_of_a_layer_answers_or_is_refused(rt: HostRuntime) {
         }
     }
     row(&rt, "but for one at most", refused.min(1), refused);
-}
-
-const ROOM: usize = 16_384;
-
-// The greatest block, up to a size, that is still to be had.
-fn greatest(alloc: Global, most: usize) -> Vec<u8> {
-    for step in 0..1200usize {
-        let size = most.saturating_sub(step.saturating_mul(16));
-        if let Ok(block) = Vec::with_capacity(alloc, size) {
-            return block;
-        }
-    }
-    Vec::new(alloc)
-}
-
-// Tries a call with more and more memory, up to its first result, and returns how often it was
-// refused.
-fn refusals<R: Threads + Wait + Sync + Abort>(
-    rt: &R,
-    alloc: Global,
-    called: Called,
-) -> Option<u64> {
-    for step in 0..1000usize {
-        let plug = greatest(alloc, ROOM.saturating_sub(step.saturating_mul(16)));
-        let is_refused = is_refused(rt, alloc, called);
-        drop(plug);
-        if !is_refused {
-            return Some(step as u64);
-        }
-    }
-    None
-}
-
-#[test]
-fn each_request_of_a_layer_is_refused_in_turn(rt: HostRuntime) {
-    let alloc = rt.alloc();
-    let room = Vec::<u8>::with_capacity(alloc, ROOM).expect(&rt, "memory");
-    let mut counts = Vec::with_capacity(alloc, ALL.len()).expect(&rt, "memory");
-    let Some(held) = all_memory(alloc) else {
-        return;
-    };
-    drop(room);
-    for called in ALL {
-        let count = refusals(&rt, alloc, called);
-        counts.push((called, count)).expect(&rt, "it has room");
-    }
-    drop(held);
-    for (called, count) in counts {
-        let is_answered = matches!(count, Some(count) if count > 0);
-        row(&rt, (called, count), is_answered, true);
-    }
 }

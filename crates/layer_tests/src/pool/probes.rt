@@ -1,6 +1,2 @@
-//! What a pool does between its jobs, over tables of histories: how each job comes, and what each
-//! worker does meanwhile.
-mod brought;
-mod histories;
-mod races;
+//! What a pool does between its jobs.
 mod rests;

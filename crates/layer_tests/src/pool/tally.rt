@@ -180,8 +180,6 @@ pub(crate) enum Act {
     Fills,
     // Waits until the tally is opened.
     Waits,
-    // Counts as one that fills a queue, and waits until so many have.
-    Meets(u64),
 }
 
 // A while.
@@ -196,17 +194,6 @@ fn wait_inside(tally: &Tally) {
     tally.entered.store(1, Ordering::SeqCst);
     for _ in 0..1_000_000_000u64 {
         if read(&tally.opened) == 1 {
-            break;
-        }
-        thread::yield_now();
-    }
-}
-
-// Waits until so many have come, this one with them, but not for ever.
-fn wait_for_others(tally: &Tally, all: u64) {
-    tally.filled.fetch_add(1, Ordering::SeqCst);
-    for _ in 0..10_000_000u32 {
-        if read(&tally.filled) >= all {
             break;
         }
         thread::yield_now();
@@ -240,10 +227,6 @@ fn added(act: Act, tally: &Tally, index: usize) -> u64 {
         }
         Act::Waits => {
             wait_inside(tally);
-            0
-        }
-        Act::Meets(all) => {
-            wait_for_others(tally, all);
             0
         }
     }

@@ -3,8 +3,7 @@ ghost use Rattle.std.specs.Prelude.{◌≡◌};
 ghost use Rattle.parallel_pool.specs.Latch.{IsLatchSeatOf};
 
 use crate::pool::latches::core_latch;
-use crate::pool::probes::brought::{ALL, leads, opens};
-use crate::pool::tally::{Act, becomes, let_it_sleep, read};
+use crate::pool::tally::{let_it_sleep, read};
 use crate::pool::waits::{give_all, one_sleep};
 use crate::same::{row, same};
 use crossbeam_utils::sync::Parker;
@@ -40,25 +39,6 @@ fn nobody_works<R: Clock + CpuClock + Abort>(rt: &R, at: &str) {
     linger(rt);
     let after = worked(rt);
     row(rt, at, after.saturating_sub(before) < SHORT, true);
-}
-
-#[test]
-fn idle_workers_take_no_time(rt: HostRuntime) {
-    for num_threads in [2usize, 4] {
-        let mut led = leads(&rt, rt.alloc(), num_threads);
-        let_it_sleep(&rt);
-        nobody_works(&rt, "before the first job");
-        let mut called = 0u64;
-        for brought in ALL {
-            let came = led.brings(&rt, rt.alloc(), brought, 1, Act::Adds(1));
-            called = called.wrapping_add(1);
-            let found = (came, becomes(&rt, &led.tally.called, called));
-            row(&rt, brought, found, (true, true));
-            let_it_sleep(&rt);
-            nobody_works(&rt, "after a job");
-        }
-        led.ends(&rt);
-    }
 }
 
 // The time that this thread has worked, in nanoseconds.
@@ -134,21 +114,6 @@ fn a_count_latch_waits_quietly(rt: HostRuntime) {
         },
     );
     same(&rt, last, 1);
-}
-
-#[test]
-fn whoever_closes_a_pool_waits_quietly(rt: HostRuntime) {
-    let mut led = leads(&rt, rt.alloc(), 2);
-    let halted = led.halts(&rt, rt.alloc(), 1);
-    let passed = AtomicU64::new(0);
-    join(
-        &rt,
-        || waits_quietly(&rt, "an end", &passed, || led.ends(&rt)),
-        || {
-            passes(&rt, &passed);
-            opens(&halted);
-        },
-    );
 }
 
 // An idle worker, until it has slept and was woken: how many rounds it was idle for, and how often
