@@ -254,7 +254,7 @@ fn is_refused<R: Threads + Wait + Sync + Abort>(rt: &R, alloc: Global, called: C
 }
 
 #[test]
-fn each_call_of_a_layer_returns_or_is_refused(rt: HostRuntime) {
+fn each_call_of_a_layer_answers_or_is_refused(rt: HostRuntime) {
     let mut refused = 0u32;
     for called in ALL {
         for _ in 0..2 {
