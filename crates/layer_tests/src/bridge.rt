@@ -1,16 +1,16 @@
 //! Consumers, producers and sources at concrete types.
 mod blocks;
 mod consumers;
-mod gate_seats;
+pub(crate) mod gate_seats;
 mod producers;
 mod sources;
 mod troubles;
-mod windows;
+pub(crate) mod windows;
 
 use std::num::NonZeroUsize;
 use std::process::Abort;
 
 // A number that isn't 0.
-fn number(rt: &impl Abort, value: usize) -> NonZeroUsize {
+pub(crate) fn number(rt: &impl Abort, value: usize) -> NonZeroUsize {
     NonZeroUsize::new(value).expect(rt, "not 0")
 }

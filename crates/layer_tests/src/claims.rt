@@ -12,14 +12,19 @@ use std::ops::Range;
 use std::process::Abort;
 use std::sync::Wait;
 
-fn number(rt: &impl Abort, value: usize) -> NonZeroUsize
+pub(crate) fn number(rt: &impl Abort, value: usize) -> NonZeroUsize
     ensures { non_zero_usize_get result ≡ value }
 {
     NonZeroUsize::new(value).expect(rt, "a number above 0")
 }
 
 // One try of the seat at a place to claim.
-fn claim_at(rt: &impl Abort, shares: &Shares, seats: &mut Vec<Seat>, index: usize) -> Tried
+pub(crate) fn claim_at(
+    rt: &impl Abort,
+    shares: &Shares,
+    seats: &mut Vec<Seat>,
+    index: usize,
+) -> Tried
     requires { AreSeatsOf shares.now seats.old.items }
     ensures { AreSeatsOf shares.now seats.new.items }
 {
@@ -28,7 +33,7 @@ fn claim_at(rt: &impl Abort, shares: &Shares, seats: &mut Vec<Seat>, index: usiz
 }
 
 // One try of the seat at a place to steal, and what it has in transit then.
-fn steal_at(
+pub(crate) fn steal_at(
     rt: &impl Abort,
     shares: &Shares,
     seats: &mut Vec<Seat>,
@@ -46,7 +51,7 @@ fn steal_at(
 }
 
 // The seat at a place puts down what it has in transit.
-fn refill_at(rt: &impl Abort, shares: &Shares, seats: &mut Vec<Seat>, index: usize)
+pub(crate) fn refill_at(rt: &impl Abort, shares: &Shares, seats: &mut Vec<Seat>, index: usize)
     requires { AreSeatsOf shares.now seats.old.items }
     ensures { AreSeatsOf shares.now seats.new.items }
 {
@@ -57,7 +62,7 @@ fn refill_at(rt: &impl Abort, shares: &Shares, seats: &mut Vec<Seat>, index: usi
 }
 
 // The seat at a place claims until its own word is empty, and answers its last claim.
-fn last_claim<R: Wait + Abort>(
+pub(crate) fn last_claim<R: Wait + Abort>(
     rt: &R,
     shares: &Shares,
     seats: &mut Vec<Seat>,
@@ -130,7 +135,7 @@ fn play<R: Wait + Abort>(rt: &R, shares: &Shares, seats: &mut Vec<Seat>, steps: 
 }
 
 // Shares of so many rows and cells a row, and their seats.
-fn opened(
+pub(crate) fn opened(
     rt: &impl Abort,
     alloc: Global,
     rows: usize,
@@ -435,13 +440,16 @@ fn a_small_cut_plan_is_claimed_across_rows(rt: HostRuntime) {
 }
 
 // Counts cells and calls.
-fn count_columns(filled: &mut (usize, usize), _row: usize, columns: Range<usize>) {
+pub(crate) fn count_columns(filled: &mut (usize, usize), _row: usize, columns: Range<usize>) {
     let cells = columns.end.saturating_sub(columns.start);
     *filled = (filled.0.saturating_add(cells), filled.1.saturating_add(1));
 }
 
 // The row with what was counted, of which the next row has nothing yet.
-fn row_cells_and_calls(filled: &mut (usize, usize), row: usize) -> (usize, usize, usize) {
+pub(crate) fn row_cells_and_calls(
+    filled: &mut (usize, usize),
+    row: usize,
+) -> (usize, usize, usize) {
     let (cells, calls) = (filled.0, filled.1);
     *filled = (0, 0);
     (row, cells, calls)

@@ -6,6 +6,8 @@
 mod bridge;
 #[cfg(test)]
 mod claims;
+#[cfg(test)]
+mod memory;
 pub mod no_memory;
 #[cfg(test)]
 mod policy;

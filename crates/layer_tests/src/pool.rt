@@ -2,12 +2,13 @@
 mod count_latches;
 mod environments;
 mod jobs;
-mod latches;
+pub(crate) mod latches;
 mod limits;
 mod pools;
+mod probes;
 mod refused_builds;
 mod refused_jobs;
 mod seats;
 mod sleeps;
-mod tally;
-mod waits;
+pub(crate) mod tally;
+pub(crate) mod waits;

@@ -160,16 +160,22 @@ fn counted_behind<'a>(
 }
 
 // Maps that many counted items on that many threads, of which the first fails and the others wait
-// for that. Memory may be refused.
-fn stop_counted<R: Threads + Sync + Abort>(rt: &R, alloc: Global, threads: usize, len: usize) {
+// for that. It returns whether memory was refused.
+pub(crate) fn stop_counted<R: Threads + Sync + Abort>(
+    rt: &R,
+    alloc: Global,
+    threads: usize,
+    len: usize,
+) -> bool {
     let counts = no_counts();
     let failed = AtomicU64::new(0);
     let items = counted_items(alloc, &counts, len);
     let answer = |item: Counted<'_>| counted_behind(&counts, &failed, item.place);
     let parts = DrainProducer::from_vec(items);
     let told = try_map_parallel(rt, alloc, number(rt, threads), parts, &answer);
-    is_first(rt, told);
+    let is_told = is_first(rt, told);
     assert!(rt; all_gone_but(&counts, 0));
+    !is_told
 }
 
 // The same over a list whose items aren't owned: the values are counted. Answers how many there

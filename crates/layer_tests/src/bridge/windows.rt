@@ -85,8 +85,14 @@ fn place_taken(item: Option<Counted<'_>>) -> Option<usize> {
     place_of(item.as_ref())
 }
 
-// Maps that many counted items on that many threads. Memory may be refused.
-fn map_counted<R: Threads + Sync + Abort>(rt: &R, alloc: Global, threads: usize, len: usize) {
+// Maps that many counted items on that many threads. It returns whether memory was refused.
+pub(crate) fn map_counted<R: Threads + Sync + Abort>(
+    rt: &R,
+    alloc: Global,
+    threads: usize,
+    len: usize,
+) -> bool {
+    let mut is_refused = true;
     let counts = no_counts();
     let items = counted_items(alloc, &counts, len);
     let count = items.len();
@@ -98,8 +104,10 @@ fn map_counted<R: Threads + Sync + Abort>(rt: &R, alloc: Global, threads: usize,
             same(rt, place_of(answers.get(place)), Some(place));
         }
         assert!(rt; all_gone_but(&counts, count));
+        is_refused = count < len;
     }
     assert!(rt; all_gone_but(&counts, 0));
+    is_refused
 }
 
 fn no_sum() -> usize {
@@ -111,14 +119,15 @@ fn add(left: usize, right: usize) -> usize {
 }
 
 // Adds the places of that many counted items up on that many threads, of which the one at `end`
-// fails.
-fn fold_counted<R: Threads + Sync + Abort>(
+// fails. It returns whether memory was refused.
+pub(crate) fn fold_counted<R: Threads + Sync + Abort>(
     rt: &R,
     alloc: Global,
     threads: usize,
     len: usize,
     end: usize,
-) {
+) -> bool {
+    let mut is_refused = false;
     let counts = no_counts();
     let items = counted_items(alloc, &counts, len);
     let count = items.len();
@@ -135,9 +144,10 @@ fn fold_counted<R: Threads + Sync + Abort>(
             same(rt, sum.wrapping_mul(2), twice);
         }
         Err(Trouble::Closure(place)) => same(rt, place, end),
-        Err(Trouble::Fault(_fault)) => (),
+        Err(Trouble::Fault(_fault)) => is_refused = true,
     }
     assert!(rt; all_gone_but(&counts, 0));
+    is_refused || count < len
 }
 
 // Takes so many counted items from the front of a drain and so many from its back, and lets it go.
@@ -159,8 +169,11 @@ fn drain_counted<R: Abort>(rt: &R, alloc: Global, len: usize, front: usize, back
     assert!(rt; all_gone_but(&counts, 0));
 }
 
-// Splits counted items at an index, and lets the front one go before the back one.
-fn split_counted<R: Abort>(rt: &R, alloc: Global, len: usize, index: usize) {
+// Splits counted items at an index, and lets the front one go before the back one. It answers
+// whether memory was refused.
+pub(crate) fn split_counted<R: Abort>(rt: &R, alloc: Global, len: usize, index: usize) -> bool {
+    let wanted = len;
+    let mut is_refused = true;
     let counts = no_counts();
     let parts = DrainProducer::from_vec(counted_items(alloc, &counts, len));
     let len = parts.len();
@@ -171,8 +184,10 @@ fn split_counted<R: Abort>(rt: &R, alloc: Global, len: usize, index: usize) {
         drop(front);
         assert!(rt; all_gone_but(&counts, len.wrapping_sub(index)));
         same(rt, back.len(), len.wrapping_sub(index));
+        is_refused = len < wanted;
     }
     assert!(rt; all_gone_but(&counts, 0));
+    is_refused
 }
 
 #[test]
@@ -209,9 +224,15 @@ fn each_folded_item_is_dropped_once_before_and_behind_one_that_fails(rt: HostRun
     }
 }
 
-// Maps the neighbouring pairs of that many counted items on that many threads. Memory may be
-// refused.
-fn pair_counted<R: Threads + Sync + Abort>(rt: &R, alloc: Global, threads: usize, len: usize) {
+// Maps the neighbouring pairs of that many counted items on that many threads. It returns whether
+// memory was refused.
+pub(crate) fn pair_counted<R: Threads + Sync + Abort>(
+    rt: &R,
+    alloc: Global,
+    threads: usize,
+    len: usize,
+) -> bool {
+    let mut is_refused = true;
     let counts = no_counts();
     let items = counted_items(alloc, &counts, len);
     let count = items.len();
@@ -230,10 +251,12 @@ fn pair_counted<R: Threads + Sync + Abort>(rt: &R, alloc: Global, threads: usize
             let expected = Some((front, front.wrapping_add(1)));
             same(rt, answers.get(place).copied(), expected);
         }
+        is_refused = count < len;
     }
     assert!(rt; all_gone_but(&counts, count % 2));
     drop(odd);
     assert!(rt; all_gone_but(&counts, 0));
+    is_refused
 }
 
 #[test]

@@ -1,0 +1,3 @@
+//! What the layers do with memory: who takes none, and what comes of a request that is refused.
+mod refused;
+mod untaken;

@@ -1,0 +1,2 @@
+//! What a pool does between its jobs.
+mod rests;
