@@ -18,6 +18,8 @@ use std::alloc::Global;
 use std::process::Abort;
 use std::sync::{Arc, Wait};
 use std::thread::Threads;
+use uses::merkle::{Digest, Tree};
+use uses::verifier::verify_digests;
 
 // The place of each call.
 const PLACE: Site = Site { column: 7, ..SITE };
@@ -149,7 +151,7 @@ fn side_asks<Rt: Threads + Wait + Abort + Sync>(rt: &Rt, alloc: Global, side: Si
     let made = make_side(&on, side, Visitor::Writes(noting.log()));
     row(rt, side, made, Ok(()));
     let asked = asked(call_of_side(side));
-    if matches!(side, Side::Sort(_) | Side::Join) {
+    if matches!(side, Side::Sort(_) | Side::Change(_) | Side::Join) {
         noting.log().has(rt, side, &[asked, BEGUN, RAN, TOLD]);
         return;
     }
@@ -278,4 +280,34 @@ fn a_job_is_asked_about_once_and_its_measure_begins_and_ends_aside(rt: HostRunti
         (Who::Outer, Event::Ended),
     ];
     noting.log().has(&rt, "job", &lines);
+}
+
+#[test]
+fn a_caller_asks_at_its_place(rt: HostRuntime) {
+    let alloc = rt.alloc();
+    let leaves: [&[u8]; 5] = [b""; 5];
+    let digests: [Digest; 5] = [[0; 32]; 5];
+    let noting = Noting::new(&rt, alloc, 4);
+    let checked = verify_digests(&rt, alloc, &noting, PLACE, &leaves, &digests);
+    row(&rt, "digests", checked, Err(Trouble::Closure(0)));
+    noting.log().has(&rt, "digests", &[asked(Call::body(5)), BEGUN, DROPPED]);
+    // The leaves, and levels of five nodes, three and two.
+    let noting = Noting::new(&rt, alloc, 4);
+    let tree = Tree::build(&rt, alloc, &noting, PLACE, &leaves).expect(&rt, "memory");
+    row(&rt, "tree", tree.leaf_count(), 5);
+    let lines = [
+        asked(Call::body(5)),
+        BEGUN,
+        TOLD,
+        asked(Call::body(3)),
+        BEGUN,
+        TOLD,
+        asked(Call::body(2)),
+        BEGUN,
+        TOLD,
+        asked(Call::body(1)),
+        BEGUN,
+        TOLD,
+    ];
+    noting.log().has(&rt, "tree", &lines);
 }
