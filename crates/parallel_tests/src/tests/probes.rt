@@ -1,8 +1,8 @@
 //! Probes: what each call does, whatever its source and its strategy. Each is a small function over
 //! both, and a table runs it for all of them.
 mod asks;
-mod calls;
-mod given;
+pub mod calls;
+pub mod given;
 mod logs;
 mod looks;
 mod meetings;
@@ -10,6 +10,6 @@ mod meets;
 mod noting;
 mod records;
 mod sides;
-mod splits;
+pub mod splits;
 mod starts;
-mod visits;
+pub mod visits;

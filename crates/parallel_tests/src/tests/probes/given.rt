@@ -43,6 +43,25 @@ pub const SOURCES: [Given; 12] = [
     Given::OwnSource,
 ];
 
+/// A source of items that it owns.
+#[derive(Clone, Copy, Debug, PartialEq, Eq)]
+pub enum Owned {
+    Vector,
+    Pairs,
+    Counted,
+    Iterator,
+    OwnProducer,
+}
+
+/// All of them.
+pub const OWNED: [Owned; 5] = [
+    Owned::Vector,
+    Owned::Pairs,
+    Owned::Counted,
+    Owned::Iterator,
+    Owned::OwnProducer,
+];
+
 /// One of a list that is cut as it is, one of owned items, and one that has to be gathered.
 pub const FEW: [Given; 3] = [Given::Slice, Given::Vector, Given::Iterator];
 

@@ -1,7 +1,7 @@
 //! What becomes of a list once an item has failed: right of an error that is known nothing is
 //! called, and an error is known before the rest of its own segment is let go.
 use crate::tests::probes::calls::{Called, tried};
-use crate::tests::probes::given::{Given, SOURCES, make_over};
+use crate::tests::probes::given::{Given, OWNED, Owned, SOURCES, make_over};
 use crate::tests::probes::noting::Noting;
 use crate::tests::probes::splits::Cut;
 use crate::tests::probes::visits::Visitor;
@@ -9,7 +9,7 @@ use crate::tests::same::row;
 use crate::tests::steps::{both, yes};
 use crate::tests::strategies::SITE;
 use commonware_parallel::bridge::DrainProducer;
-use commonware_parallel::{Fault, On, Pairs, Site, Source, Strategy, Trouble};
+use commonware_parallel::{Counted, Fault, On, Pairs, Site, Source, Strategy, Trouble};
 use std::alloc::Global;
 use std::process::Abort;
 use std::sync::Wait;
@@ -198,15 +198,7 @@ where
     tried(on.try_fold(source, yes, step, both))
 }
 
-// The sources whose items are let go by the call: a list of items, their pairs, and a list of one's
-// own.
-#[derive(Clone, Copy, Debug, PartialEq, Eq)]
-enum Owned {
-    Vector,
-    Pairs,
-    OwnProducer,
-}
-
+// The call over such a source.
 fn act_over<Rt: Threads + Wait + Abort + Sync, S: Strategy>(
     on: &On<'_, Rt, S, Site>,
     called: Called,
@@ -222,6 +214,11 @@ fn act_over<Rt: Threads + Wait + Abort + Sync, S: Strategy>(
             let (pairs, _none) = Pairs::new(items);
             act_all(on, called, pairs)
         }
+        Owned::Counted => {
+            let iter = items.into_iter();
+            act_all(on, called, Counted { iter })
+        }
+        Owned::Iterator => act_all(on, called, items.into_iter()),
         Owned::OwnProducer => {
             let times = AtomicUsize::new(0);
             let list = DrainProducer::from_vec(items);
@@ -259,7 +256,7 @@ fn an_error_is_known_before_the_rest_of_its_segment_is_let_go(rt: HostRuntime) {
         site: SITE,
     };
     for called in FALLIBLE {
-        for owned in [Owned::Vector, Owned::Pairs, Owned::OwnProducer] {
+        for owned in OWNED {
             is_known_at_once(&on, called, owned);
         }
     }
