@@ -83,7 +83,12 @@ fn list<Rt: Threads + Wait + Sync, S: Strategy>(
         }
         Owned::Counted => {
             let iter = items.into_iter();
-            make(on, called, commonware_parallel::Counted { iter }, Visitor::Passes)
+            make(
+                on,
+                called,
+                commonware_parallel::Counted { iter },
+                Visitor::Passes,
+            )
         }
         Owned::Iterator => make(on, called, items.into_iter(), Visitor::Passes),
         Owned::OwnProducer => {

@@ -290,7 +290,9 @@ fn a_caller_asks_at_its_place(rt: HostRuntime) {
     let noting = Noting::new(&rt, alloc, 4);
     let checked = verify_digests(&rt, alloc, &noting, PLACE, &leaves, &digests);
     row(&rt, "digests", checked, Err(Trouble::Closure(0)));
-    noting.log().has(&rt, "digests", &[asked(Call::body(5)), BEGUN, DROPPED]);
+    noting
+        .log()
+        .has(&rt, "digests", &[asked(Call::body(5)), BEGUN, DROPPED]);
     // The leaves, and levels of five nodes, three and two.
     let noting = Noting::new(&rt, alloc, 4);
     let tree = Tree::build(&rt, alloc, &noting, PLACE, &leaves).expect(&rt, "memory");

@@ -148,7 +148,11 @@ fn changes_meet<Rt: Threads + Wait + Abort + Sync, S: Strategy>(
     let on = on(rt, alloc, strategy);
     for len in lengths(threads) {
         for is_chunked in [false, true] {
-            let count = if is_chunked { len.saturating_mul(2) } else { len };
+            let count = if is_chunked {
+                len.saturating_mul(2)
+            } else {
+                len
+            };
             let mut numbers = numbers(rt, alloc, count);
             let meeting = Meeting::of(threads, TURNS);
             let visitor = Visitor::Meets(&meeting);

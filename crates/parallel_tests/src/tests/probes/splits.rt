@@ -85,7 +85,12 @@ fn cuts<Rt: Threads + Wait + Abort + Sync, S: Strategy>(
         let made = make(&on, called, list, Visitor::Counts(&closures));
         let found = (made, times.load(Ordering::SeqCst), closures.counted());
         let states = states_of(called, wanted.saturating_add(1));
-        row(rt, (called, wanted), found, (Ok(()), wanted, (1000, states)));
+        row(
+            rt,
+            (called, wanted),
+            found,
+            (Ok(()), wanted, (1000, states)),
+        );
     }
 }
 
