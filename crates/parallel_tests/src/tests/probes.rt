@@ -1,6 +1,7 @@
 //! Probes: what each call does, whatever its source and its strategy. Each is a small function over
 //! both, and a table runs it for all of them.
 mod asks;
+mod callers;
 pub mod calls;
 pub mod given;
 mod logs;

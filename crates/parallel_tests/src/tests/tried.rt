@@ -81,15 +81,6 @@ fn list<Rt: Threads + Wait + Sync, S: Strategy>(
             let (pairs, _odd) = Pairs::new(items);
             make(on, called, pairs, Visitor::Passes)
         }
-        Owned::Counted => {
-            let iter = items.into_iter();
-            make(
-                on,
-                called,
-                commonware_parallel::Counted { iter },
-                Visitor::Passes,
-            )
-        }
         Owned::Iterator => make(on, called, items.into_iter(), Visitor::Passes),
         Owned::OwnProducer => {
             let times = AtomicUsize::new(0);

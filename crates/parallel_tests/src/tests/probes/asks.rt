@@ -2,6 +2,7 @@
 //! call's own numbers, and told once that the run has answered, or never where it failed.
 ghost use Rattle.std.specs.Prelude.{◌≡◌, ⊤};
 
+use crate::tests::probes::callers::{CALLERS, Caller, call};
 use crate::tests::probes::calls::{CALLS, Called, MULTIPLIER, make};
 use crate::tests::probes::given::{SOURCES, make_over};
 use crate::tests::probes::logs::{Event, Line, Log, Who};
@@ -12,14 +13,12 @@ use crate::tests::probes::sides::{
 use crate::tests::probes::visits::Visitor;
 use crate::tests::same::row;
 use crate::tests::strategies::{SITE, number};
-use commonware_parallel::{Call, Indices, Job, On, Site, Strategy, Trouble};
+use commonware_parallel::{Call, Indices, Job, Kind, On, Site, Strategy, Trouble};
 use futures::executor::block_on;
 use std::alloc::Global;
 use std::process::Abort;
 use std::sync::{Arc, Wait};
 use std::thread::Threads;
-use uses::merkle::{Digest, Tree};
-use uses::verifier::verify_digests;
 
 // The place of each call.
 const PLACE: Site = Site { column: 7, ..SITE };
@@ -282,34 +281,45 @@ fn a_job_is_asked_about_once_and_its_measure_begins_and_ends_aside(rt: HostRunti
     noting.log().has(&rt, "job", &lines);
 }
 
+// Stops the test where a caller, over eight items, left other lines.
+fn caller_has<Rt: Wait + Abort>(rt: &Rt, noting: &Noting, caller: Caller) {
+    let log = noting.log();
+    let eight = asked(Call::body(8));
+    match caller {
+        Caller::SquareInPlace => {
+            let batch = Call {
+                kind: Kind::Batches,
+                max_parts: 4,
+                ..Call::body(8)
+            };
+            let inside = asked_inside(Call::body(4));
+            let lines = [asked(batch), BEGUN, inside, BEGUN_INSIDE, TOLD_INSIDE, TOLD];
+            log.has(rt, caller, &lines);
+        }
+        Caller::SquaresAndSum => {
+            log.has(rt, caller, &[eight, BEGUN, TOLD, eight, BEGUN, TOLD]);
+        }
+        Caller::VerifyDigests => log.has(rt, caller, &[eight, BEGUN, DROPPED]),
+        Caller::Commitment | Caller::Build => {
+            let four = asked(Call::body(4));
+            let two = asked(Call::body(2));
+            let one = asked(Call::body(1));
+            let lines = [
+                eight, BEGUN, TOLD, four, BEGUN, TOLD, two, BEGUN, TOLD, one, BEGUN, TOLD,
+            ];
+            log.has(rt, caller, &lines);
+        }
+        _ => log.has(rt, caller, &[eight, BEGUN, TOLD]),
+    }
+}
+
 #[test]
 fn a_caller_asks_at_its_place(rt: HostRuntime) {
     let alloc = rt.alloc();
-    let leaves: [&[u8]; 5] = [b""; 5];
-    let digests: [Digest; 5] = [[0; 32]; 5];
-    let noting = Noting::new(&rt, alloc, 4);
-    let checked = verify_digests(&rt, alloc, &noting, PLACE, &leaves, &digests);
-    row(&rt, "digests", checked, Err(Trouble::Closure(0)));
-    noting
-        .log()
-        .has(&rt, "digests", &[asked(Call::body(5)), BEGUN, DROPPED]);
-    // The leaves, and levels of five nodes, three and two.
-    let noting = Noting::new(&rt, alloc, 4);
-    let tree = Tree::build(&rt, alloc, &noting, PLACE, &leaves).expect(&rt, "memory");
-    row(&rt, "tree", tree.leaf_count(), 5);
-    let lines = [
-        asked(Call::body(5)),
-        BEGUN,
-        TOLD,
-        asked(Call::body(3)),
-        BEGUN,
-        TOLD,
-        asked(Call::body(2)),
-        BEGUN,
-        TOLD,
-        asked(Call::body(1)),
-        BEGUN,
-        TOLD,
-    ];
-    noting.log().has(&rt, "tree", &lines);
+    for caller in CALLERS {
+        let noting = Noting::new(&rt, alloc, 4);
+        let is_right = call(&rt, alloc, &noting, PLACE, caller);
+        row(&rt, caller, is_right, true);
+        caller_has(&rt, &noting, caller);
+    }
 }

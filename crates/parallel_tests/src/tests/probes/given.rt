@@ -48,16 +48,14 @@ pub const SOURCES: [Given; 12] = [
 pub enum Owned {
     Vector,
     Pairs,
-    Counted,
     Iterator,
     OwnProducer,
 }
 
 /// All of them.
-pub const OWNED: [Owned; 5] = [
+pub const OWNED: [Owned; 4] = [
     Owned::Vector,
     Owned::Pairs,
-    Owned::Counted,
     Owned::Iterator,
     Owned::OwnProducer,
 ];

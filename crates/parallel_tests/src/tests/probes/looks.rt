@@ -1,15 +1,16 @@
 //! What becomes of a list once an item has failed: right of an error that is known nothing is
 //! called, and an error is known before the rest of its own segment is let go.
 use crate::tests::probes::calls::{Called, tried};
-use crate::tests::probes::given::{Given, OWNED, Owned, SOURCES, make_over};
+use crate::tests::probes::given::{FEW, Given, OWNED, Owned, SOURCES, make_over, make_over_few};
 use crate::tests::probes::noting::Noting;
 use crate::tests::probes::splits::Cut;
 use crate::tests::probes::visits::Visitor;
 use crate::tests::same::row;
 use crate::tests::steps::{both, yes};
-use crate::tests::strategies::SITE;
+use crate::tests::strategies::{SITE, pool};
 use commonware_parallel::bridge::DrainProducer;
-use commonware_parallel::{Counted, Fault, On, Pairs, Site, Source, Strategy, Trouble};
+use commonware_parallel::mocks::{Explorer, Rule};
+use commonware_parallel::{Fault, On, Pairs, Site, Source, Strategy, Trouble};
 use std::alloc::Global;
 use std::process::Abort;
 use std::sync::Wait;
@@ -52,6 +53,42 @@ fn right_of_a_known_error_nothing_is_called(rt: HostRuntime) {
                 ends_at_its_error(&on, called, given, len);
             }
         }
+    }
+}
+
+// The same of calls that go serially.
+fn ends_serially<Rt: Threads + Wait + Abort + Sync, S: Strategy>(
+    rt: &Rt,
+    alloc: Global,
+    strategy: &S,
+) {
+    let on = On {
+        rt,
+        alloc,
+        strategy,
+        site: SITE,
+    };
+    for called in FALLIBLE {
+        for given in FEW {
+            for at in 0..5usize {
+                let calls = AtomicUsize::new(0);
+                let failing = Visitor::FailsAt(&calls, at);
+                let made = make_over_few(&on, called, given, 5, failing);
+                let found = (made, calls.load(Ordering::SeqCst));
+                let wanted = (Err(Trouble::Closure(7)), at.saturating_add(1));
+                row(rt, (called, given, at), found, wanted);
+            }
+        }
+    }
+}
+
+#[test]
+fn after_an_error_of_a_serial_call_nothing_is_called(rt: HostRuntime) {
+    let alloc = rt.alloc();
+    for (planned, rule) in [(4, Rule::Serial), (1, Rule::Parallel)] {
+        let four = pool(&rt, alloc, 4, planned);
+        let explorer = Explorer::by_rule(&four, rule).expect(&rt, "memory for a handle");
+        ends_serially(&rt, alloc, &explorer);
     }
 }
 
@@ -213,10 +250,6 @@ fn act_over<Rt: Threads + Wait + Abort + Sync, S: Strategy>(
         Owned::Pairs => {
             let (pairs, _none) = Pairs::new(items);
             act_all(on, called, pairs)
-        }
-        Owned::Counted => {
-            let iter = items.into_iter();
-            act_all(on, called, Counted { iter })
         }
         Owned::Iterator => act_all(on, called, items.into_iter()),
         Owned::OwnProducer => {

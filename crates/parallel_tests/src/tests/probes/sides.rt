@@ -144,21 +144,18 @@ fn fill_tiles<Rt: Threads + Wait + Sync, S: Strategy>(
     is_merged: bool,
     visited: Visitor<'_>,
 ) -> Result<usize, Fault> {
+    let begin = || {
+        visited.begin();
+        no_count()
+    };
     let fill = |count: &mut usize, _: usize, columns: Range<usize>| {
         let _ = visited.visit();
         *count = count.saturating_add(columns.len());
     };
     let filled = if is_merged {
-        tiles.fill_merge_collect_vec(
-            rt,
-            alloc,
-            no_count,
-            fill,
-            cells_counted,
-            usize::wrapping_add,
-        )
+        tiles.fill_merge_collect_vec(rt, alloc, begin, fill, cells_counted, usize::wrapping_add)
     } else {
-        tiles.fill_collect_vec(rt, alloc, no_count, fill, cells_counted)
+        tiles.fill_collect_vec(rt, alloc, begin, fill, cells_counted)
     };
     Ok(filled?.len())
 }

@@ -2,6 +2,7 @@
 //! at most twice as many as threads; and how often it calls its closures.
 use crate::tests::probes::calls::{CALLS, Called, make};
 use crate::tests::probes::noting::Noting;
+use crate::tests::probes::sides::{Side, make_side};
 use crate::tests::probes::visits::{Times, Visitor};
 use crate::tests::same::row;
 use crate::tests::strategies::{SITE, pool};
@@ -100,7 +101,31 @@ fn each_list_call_cuts_a_list_into_segments_and_begins_a_state_for_each(rt: Host
     for (threads, times) in [(1, 1), (2, 3), (3, 3), (4, 7), (7, 7), (8, 15)] {
         cuts(&rt, alloc, &Noting::new(&rt, alloc, threads), times);
     }
-    let four = pool(&rt, alloc, 4, 4);
-    let serial = Explorer::by_rule(&four, Rule::Serial).expect(&rt, "memory for a handle");
-    cuts(&rt, alloc, &serial, 0);
+    // What goes serially is one segment.
+    for (planned, rule) in [(4, Rule::Serial), (1, Rule::Parallel)] {
+        let four = pool(&rt, alloc, 4, planned);
+        let serial = Explorer::by_rule(&four, rule).expect(&rt, "memory for a handle");
+        cuts(&rt, alloc, &serial, 0);
+    }
+}
+
+#[test]
+fn tiles_begin_a_state_for_each_worker(rt: HostRuntime) {
+    let alloc = rt.alloc();
+    for threads in 1..5usize {
+        let noting = Noting::new(&rt, alloc, threads);
+        let on = On {
+            rt: &rt,
+            alloc,
+            strategy: &noting,
+            site: SITE,
+        };
+        for is_merged in [false, true] {
+            let closures = Times::new();
+            let made = make_side(&on, Side::Fill(is_merged), Visitor::Counts(&closures));
+            row(&rt, (is_merged, threads), made, Ok(()));
+            let (_, states) = closures.counted();
+            row(&rt, (is_merged, threads), states, threads);
+        }
+    }
 }

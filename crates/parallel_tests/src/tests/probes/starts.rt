@@ -3,6 +3,7 @@
 //! Linux numbers threads in the order in which they are started. So between the numbers of two
 //! threads, started before and after a call, lie those of the call's own, and of others that were
 //! started meanwhile. The fewest of several tries are the call's own.
+use crate::tests::probes::callers::{CALLERS, Caller, call};
 use crate::tests::probes::calls::CALLS;
 use crate::tests::probes::given::{SOURCES, make_over};
 use crate::tests::probes::meets::numbers;
@@ -19,8 +20,6 @@ use std::process::Abort;
 use std::rt::Files;
 use std::sync::Wait;
 use std::thread::{Threads, join};
-use uses::merkle::{Digest, Tree};
-use uses::verifier::verify_digests;
 
 // The number of the thread that calls it.
 fn own_number<Rt: Files + AllocGlobal>(rt: &Rt) -> Option<u64> {
@@ -155,11 +154,13 @@ fn sorts_start<Rt: Threads + Wait + Files + AllocGlobal + Abort + Sync>(
 ) {
     let strategy = Noting::new(rt, alloc, threads);
     let on = on(rt, alloc, &strategy);
-    let started = fewest(rt, wanted, || {
-        let mut numbers = numbers(rt, alloc, threads.saturating_mul(8192));
-        let _ = sort(&on, true, numbers.as_mut_slice(), Visitor::Passes);
-    });
-    row(rt, ("sort", threads), started, wanted);
+    for is_stable in [true, false] {
+        let started = fewest(rt, wanted, || {
+            let mut numbers = numbers(rt, alloc, threads.saturating_mul(8192));
+            let _ = sort(&on, is_stable, numbers.as_mut_slice(), Visitor::Passes);
+        });
+        row(rt, (is_stable, threads), started, wanted);
+    }
 }
 
 #[test]
@@ -172,21 +173,28 @@ fn a_list_that_is_changed_or_sorted_starts_no_more_threads(rt: HostRuntime) {
     }
 }
 
+// How many threads a caller starts, of four: one fewer for each call that it makes of eight items.
+fn started_by_caller(caller: Caller) -> u64 {
+    match caller {
+        Caller::SquaresAndSum => 6,
+        // The leaves, and levels of four nodes, two and one.
+        Caller::Commitment | Caller::Build => 7,
+        _ => 3,
+    }
+}
+
 #[test]
 fn callers_start_the_threads_of_their_strategy(rt: HostRuntime) {
     let alloc = rt.alloc();
     let strategy = Noting::new(&rt, alloc, 4);
-    let leaves: [&[u8]; 8] = [b""; 8];
-    let digests: [Digest; 8] = [[0; 32]; 8];
-    let started = fewest(&rt, 3, || {
-        let _ = verify_digests(&rt, alloc, &strategy, SITE, &leaves, &digests);
-    });
-    row(&rt, "digests", started, 3);
-    // The leaves, and levels of four nodes, two and one.
-    let started = fewest(&rt, 7, || {
-        let _ = Tree::build(&rt, alloc, &strategy, SITE, &leaves);
-    });
-    row(&rt, "tree", started, 7);
+    for caller in CALLERS {
+        let wanted = started_by_caller(caller);
+        let started = fewest(&rt, wanted, || {
+            let is_right = call(&rt, alloc, &strategy, SITE, caller);
+            row(&rt, caller, is_right, true);
+        });
+        row(&rt, caller, started, wanted);
+    }
 }
 
 // How many threads a command of these words starts.
