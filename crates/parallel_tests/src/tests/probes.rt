@@ -8,6 +8,7 @@ mod logs;
 mod looks;
 mod meetings;
 mod meets;
+mod memory;
 mod noting;
 mod records;
 mod sides;
