@@ -51,7 +51,8 @@ fn folded(called: Called, segments: usize) -> Outcome {
 }
 
 // Stops the test where a call over a list that is cut as it is takes a block for its items, or where
-// one that needs a block for its answers calls a closure. (A partition's blocks are its segments'.)
+// one that needs a block for its answers calls a closure. (A partition by whose closure all items
+// pass, with values that take no place, needs none.)
 fn cut_lists_take_no_block<Rt: Threads + Wait + Abort + Sync, S: Strategy>(
     rt: &Rt,
     alloc: Global,
@@ -63,7 +64,7 @@ fn cut_lists_take_no_block<Rt: Threads + Wait + Abort + Sync, S: Strategy>(
         let found = outcome(&on, called, indices);
         let wanted = match called {
             Called::Fold | Called::FoldInit | Called::TryFold => folded(called, 8),
-            Called::Partition => (Err(Trouble::Fault(Fault::Memory)), found.1),
+            Called::Partition => (Ok(()), (LEN, 0)),
             _ => (Err(Trouble::Fault(Fault::Memory)), (0, 0)),
         };
         row(rt, called, found, wanted);

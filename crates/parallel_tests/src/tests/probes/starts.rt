@@ -138,7 +138,7 @@ fn changes_start<Rt: Threads + Wait + Files + AllocGlobal + Abort + Sync>(
     let on = on(rt, alloc, &strategy);
     for is_chunked in [false, true] {
         let started = fewest(rt, wanted, || {
-            let mut numbers = numbers(rt, alloc, 1000);
+            let mut numbers = numbers(rt, alloc, threads.saturating_mul(100));
             let _ = change(&on, is_chunked, numbers.as_mut_slice(), Visitor::Passes);
         });
         row(rt, (is_chunked, threads), started, wanted);
