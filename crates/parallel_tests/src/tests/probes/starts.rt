@@ -33,7 +33,7 @@ fn next_number<Rt: Threads + Files + AllocGlobal + Abort + Sync>(rt: &Rt) -> u64
     number.expect(rt, "a number")
 }
 
-// How many threads a closure starts: the fewest of three tries, and of more, up to a thousand,
+// How many threads a closure starts: the fewest of seven tries, and of more, up to a thousand,
 // until there are no more than is wanted.
 fn fewest<Rt: Threads + Files + AllocGlobal + Abort + Sync, F: Fn()>(
     rt: &Rt,
@@ -48,7 +48,7 @@ fn fewest<Rt: Threads + Files + AllocGlobal + Abort + Sync, F: Fn()>(
         call();
         let after = next_number(rt);
         fewest = fewest.min(after.wrapping_sub(before).wrapping_sub(1));
-        if turn > 1 && fewest <= wanted {
+        if turn > 5 && fewest <= wanted {
             return fewest;
         }
     }
