@@ -6,11 +6,9 @@
 //! (`no_memory`) each call is tried once: that is for runs in which each allocation fails in turn.
 use crate::tests::errors::{Counted, Counts, counted_items};
 use crate::tests::no_memory::all_memory;
-use crate::tests::probes::calls::CALLS;
-use crate::tests::probes::given::OWNED;
 use crate::tests::same::row;
 use crate::tests::strategies::{Stopped, number};
-use crate::tests::tried::{OTHERS, Tried, outcome};
+use crate::tests::tried::{ALL, Tried, outcome};
 use commonware_parallel::rayon::ThreadPoolBuildError;
 use commonware_parallel::{Fault, Rayon, Sequential, Strategy, Trouble};
 use std::alloc::Global;
@@ -84,30 +82,17 @@ fn refused<Rt: Threads + Wait + Abort + Copy + Send + Sync + 'static, S: Strateg
     (count, false)
 }
 
-// All calls that are tried: those over lists, over each source that owns its items, and the others.
-fn all_tried(alloc: Global) -> Result<Vec<Tried>, Fault> {
-    let mut all = Vec::new(alloc);
-    for called in CALLS {
-        for owned in OWNED {
-            all.push(Tried::List(called, owned))?;
-        }
-    }
-    all.extend_from_slice(&OTHERS)?;
-    Ok(all)
-}
-
 // Tries each call once, with no item, one, two, some and many, whatever is refused.
 fn try_all<Rt: Threads + Wait + Abort + Copy + Send + Sync + 'static, S: Strategy>(
     rt: &Rt,
     alloc: Global,
     strategy: &S,
-    all: &[Tried],
 ) {
     for len in [0, 1, 2, LEN, 1000] {
-        for tried in all {
+        for tried in ALL {
             let counts = Counts::new();
             if let Ok(items) = counted_items(alloc, &counts, len) {
-                try_one(rt, alloc, strategy, *tried, &counts, items);
+                try_one(rt, alloc, strategy, tried, &counts, items);
             }
         }
     }
@@ -116,17 +101,14 @@ fn try_all<Rt: Threads + Wait + Abort + Copy + Send + Sync + 'static, S: Strateg
 #[test]
 fn each_call_answers_or_is_refused(rt: HostRuntime) {
     let alloc = rt.alloc();
-    let Ok(all) = all_tried(alloc) else {
-        return;
-    };
-    try_all(&rt, alloc, &Sequential, &all);
+    try_all(&rt, alloc, &Sequential);
     for threads in [1usize, 2, 4, 8] {
         // A pool's own memory may be refused too.
         match Rayon::new(&rt, alloc, number(&rt, threads), Stopped) {
             Ok(learning) => {
-                try_all(&rt, alloc, &learning, &all);
+                try_all(&rt, alloc, &learning);
                 if let Ok(fixed) = learning.without_policy() {
-                    try_all(&rt, alloc, &fixed, &all);
+                    try_all(&rt, alloc, &fixed);
                 }
             }
             Err(error) => assert!(rt; matches!(error, ThreadPoolBuildError::Memory)),
@@ -140,11 +122,10 @@ fn refuse_all<Rt: Threads + Wait + Abort + Copy + Send + Sync + 'static, S: Stra
     rt: &Rt,
     alloc: Global,
     strategy: &S,
-    all: &[Tried],
 ) -> (u64, u64) {
     let (mut total, mut calls) = (0u64, 0u64);
-    for tried in all {
-        let (count, _) = refused(rt, alloc, strategy, *tried);
+    for tried in ALL {
+        let (count, _) = refused(rt, alloc, strategy, tried);
         total = total.saturating_add(count);
         calls = calls.saturating_add(count.min(1));
     }
@@ -160,9 +141,6 @@ fn each_growth_is_refused_in_turn(rt: HostRuntime) {
     let Ok(four) = learning.without_policy() else {
         return;
     };
-    let Ok(all) = all_tried(alloc) else {
-        return;
-    };
     let Ok(room) = Vec::<u8>::with_capacity(alloc, ROOM) else {
         return;
     };
@@ -173,8 +151,8 @@ fn each_growth_is_refused_in_turn(rt: HostRuntime) {
     // (what a call lets go stays at hand for later ones, so only the first is surely refused)
     let (roots, is_answered) = refused(&rt, alloc, &Sequential, Tried::Root);
     assert!(rt; roots > 0 && is_answered, "{roots} roots were refused");
-    let serial = refuse_all(&rt, alloc, &Sequential, &all);
-    let parallel = refuse_all(&rt, alloc, &four, &all);
+    let serial = refuse_all(&rt, alloc, &Sequential);
+    let parallel = refuse_all(&rt, alloc, &four);
     drop(held);
     let _told = eprintln!(rt;
         "{roots} roots; of serial calls {serial:?} and of parallel ones {parallel:?} were refused"

@@ -1,33 +1,33 @@
 //! The calls whose growths are refused, each with whether its result is the right one. Their items
 //! and values are counted.
-use crate::tests::errors::{Counted, Counts, again, counted_items, greater};
-use crate::tests::probes::calls::{Called, make};
-use crate::tests::probes::given::Owned;
-use crate::tests::probes::splits::Cut;
-use crate::tests::probes::visits::Visitor;
-use crate::tests::steps::Gives;
+use crate::tests::errors::{Counted, Counts, again, count_again, counted_items, greater};
+use crate::tests::steps::{Gives, add_counts, no_count, zero};
 use crate::tests::strategies::SITE;
-use commonware_parallel::bridge::DrainProducer;
 use commonware_parallel::merkle::root;
 use commonware_parallel::mocks::{ExploreError, explore};
 use commonware_parallel::rayon::ThreadPoolBuildError;
-use commonware_parallel::{
-    Batches, Chooser, Fault, Grid, On, Pairs, Site, Strategy, Tiles, Trouble,
-};
+use commonware_parallel::{Batches, Chooser, Fault, Grid, Site, Strategy, Tiles, Trouble};
 use std::alloc::Global;
 use std::cmp::Ordering;
 use std::num::NonZeroUsize;
 use std::ops::Range;
 use std::process::Abort;
 use std::sync::Wait;
-use std::sync::atomic::AtomicUsize;
 use std::thread::Threads;
 
 /// Which call is tried.
 #[derive(Clone, Copy, Debug, PartialEq, Eq)]
 pub enum Tried {
-    List(Called, Owned),
     Root,
+    Map,
+    MapOfIterator,
+    Fold,
+    FoldOfIterator,
+    MultipliedMap,
+    MapWithState,
+    MultipliedMapWithState,
+    FoldWithState,
+    Partition,
     Sort,
     UnstableSort,
     Batch,
@@ -38,9 +38,18 @@ pub enum Tried {
     Explore,
 }
 
-/// All calls that are tried but those over lists.
-pub const OTHERS: [Tried; 9] = [
+/// All calls that are tried.
+pub const ALL: [Tried; 18] = [
     Tried::Root,
+    Tried::Map,
+    Tried::MapOfIterator,
+    Tried::Fold,
+    Tried::FoldOfIterator,
+    Tried::MultipliedMap,
+    Tried::MapWithState,
+    Tried::MultipliedMapWithState,
+    Tried::FoldWithState,
+    Tried::Partition,
     Tried::Sort,
     Tried::UnstableSort,
     Tried::Batch,
@@ -68,61 +77,93 @@ fn another(item: Counted<'_>) -> Counted<'_> {
     item.at(item.place)
 }
 
-// The call over such a source of the items. Maps and partitions return them.
-fn list<Rt: Threads + Wait + Sync, S: Strategy>(
-    on: &On<'_, Rt, S, Site>,
-    called: Called,
-    owned: Owned,
-    items: Vec<Counted<'_>>,
-) -> Result<(), Trouble<u32>> {
-    match owned {
-        Owned::Vector => make(on, called, items, Visitor::Passes),
-        Owned::Pairs => {
-            let (pairs, _odd) = Pairs::new(items);
-            make(on, called, pairs, Visitor::Passes)
-        }
-        Owned::Iterator => make(on, called, items.into_iter(), Visitor::Passes),
-        Owned::OwnProducer => {
-            let times = AtomicUsize::new(0);
-            let list = DrainProducer::from_vec(items);
-            let times = &times;
-            make(on, called, Cut { list, times }, Visitor::Passes)
-        }
-    }
+fn another_by_state<'a>(_state: &mut u32, item: Counted<'a>) -> Counted<'a> {
+    item.at(item.place)
 }
 
-// Whether it returns. (What it returns then, its contract says.)
-fn is_list<Rt: Threads + Wait + Sync, S: Strategy>(
-    rt: &Rt,
-    alloc: Global,
-    strategy: &S,
-    (called, owned): (Called, Owned),
-    items: Vec<Counted<'_>>,
-) -> Result<bool, Trouble<usize>> {
-    let on = On {
-        rt,
-        alloc,
-        strategy,
-        site: SITE,
+fn count_by_state(count: usize, _state: &mut u32, item: Counted<'_>) -> usize {
+    count.wrapping_add(usize::from(item.place < usize::MAX))
+}
+
+// The items as keys, and a further value for each but the last.
+fn keyed(item: Counted<'_>) -> (Counted<'_>, Option<Counted<'_>>) {
+    let value = if item.place < 8 {
+        Some(item.at(item.place))
+    } else {
+        None
     };
-    match list(&on, called, owned, items) {
-        Ok(()) => Ok(true),
-        Err(Trouble::Fault(fault)) => Err(Trouble::Fault(fault)),
-        Err(Trouble::Closure(_)) => Ok(false),
-    }
+    (item, value)
 }
 
-// Whether the root is of the last one's place, which is the greatest.
-fn is_root<Rt: Threads + Wait + Sync, S: Strategy>(
+// Whether a map of the items, as a list or as they come, answers each.
+fn is_map<Rt: Threads + Wait + Sync, S: Strategy>(
     rt: &Rt,
     alloc: Global,
     strategy: &S,
+    tried: Tried,
     items: Vec<Counted<'_>>,
 ) -> Result<bool, Trouble<usize>> {
     let len = items.len();
-    let count = match root(rt, alloc, strategy, SITE, items, greater)? {
-        Some(node) => node.place.saturating_add(1),
-        None => 0,
+    let values = match tried {
+        Tried::Map => strategy.try_map_collect_vec(rt, alloc, SITE, items, again)?,
+        Tried::MapOfIterator => {
+            strategy.try_map_collect_vec(rt, alloc, SITE, items.into_iter(), again)?
+        }
+        Tried::MultipliedMap => {
+            strategy.map_collect_vec_with_multiplier(rt, alloc, SITE, items, 3, another)?
+        }
+        Tried::MapWithState => {
+            strategy.map_init_collect_vec(rt, alloc, SITE, items, zero, another_by_state)?
+        }
+        _ => strategy.map_init_collect_vec_with_multiplier(
+            rt,
+            alloc,
+            SITE,
+            items,
+            3,
+            zero,
+            another_by_state,
+        )?,
+    };
+    Ok(are_all(&values, len))
+}
+
+// Whether a fold counts the items, a partition has none in its place, or the root is of the last
+// one's place, which is the greatest.
+fn is_fold<Rt: Threads + Wait + Sync, S: Strategy>(
+    rt: &Rt,
+    alloc: Global,
+    strategy: &S,
+    tried: Tried,
+    items: Vec<Counted<'_>>,
+) -> Result<bool, Trouble<usize>> {
+    let len = items.len();
+    let count = match tried {
+        Tried::Fold => {
+            strategy.try_fold(rt, alloc, SITE, items, no_count, count_again, add_counts)?
+        }
+        Tried::FoldOfIterator => {
+            let items = items.into_iter();
+            strategy.try_fold(rt, alloc, SITE, items, no_count, count_again, add_counts)?
+        }
+        Tried::FoldWithState => strategy.fold_init(
+            rt,
+            alloc,
+            SITE,
+            items,
+            zero,
+            no_count,
+            count_by_state,
+            add_counts,
+        )?,
+        Tried::Partition => {
+            let (values, keys) = strategy.map_partition_collect_vec(rt, alloc, SITE, items, keyed)?;
+            values.len().wrapping_add(keys.len())
+        }
+        _ => match root(rt, alloc, strategy, SITE, items, greater)? {
+            Some(node) => node.place.saturating_add(1),
+            None => 0,
+        },
     };
     Ok(count == len)
 }
@@ -289,8 +330,11 @@ pub fn outcome<Rt: Threads + Wait + Abort + Copy + Send + Sync + 'static, S: Str
     items: Vec<Counted<'_>>,
 ) -> Result<bool, Trouble<usize>> {
     match tried {
-        Tried::List(called, owned) => is_list(rt, alloc, strategy, (called, owned), items),
-        Tried::Root => is_root(rt, alloc, strategy, items),
+        Tried::Map
+        | Tried::MapOfIterator
+        | Tried::MultipliedMap
+        | Tried::MapWithState
+        | Tried::MultipliedMapWithState => is_map(rt, alloc, strategy, tried, items),
         Tried::Sort => is_sort(rt, alloc, strategy, true),
         Tried::UnstableSort => is_sort(rt, alloc, strategy, false),
         Tried::Batch => is_batch(rt, alloc, strategy, counts, (items.len(), false)),
@@ -299,5 +343,6 @@ pub fn outcome<Rt: Threads + Wait + Abort + Copy + Send + Sync + 'static, S: Str
         Tried::MergedTiles => are_tiles(rt, alloc, strategy, counts, (items.len(), true)),
         Tried::Spawn => is_spawned(rt, alloc, strategy),
         Tried::Explore => is_search(rt, alloc),
+        _ => is_fold(rt, alloc, strategy, tried, items),
     }
 }
