@@ -4,7 +4,7 @@ ghost use Rattle.std.specs.Prelude.{◌≡◌, ⊤};
 
 use crate::tests::probes::callers::{CALLERS, Caller, call};
 use crate::tests::probes::calls::{CALLS, Called, MULTIPLIER, make};
-use crate::tests::probes::given::{SOURCES, make_over};
+use crate::tests::probes::given::{Given, SOURCES, is_made, make_over};
 use crate::tests::probes::logs::{Event, Line, Log, Who};
 use crate::tests::probes::noting::Noting;
 use crate::tests::probes::sides::{
@@ -59,17 +59,29 @@ fn may_fail(called: Called) -> bool {
     matches!(called, Called::TryMap | Called::TryFold)
 }
 
+// Stops the test where a list call over sixteen items of a source asks or tells otherwise.
+fn list_asks<Rt: Threads + Wait + Abort + Sync>(
+    rt: &Rt,
+    alloc: Global,
+    called: Called,
+    given: Given,
+) {
+    let noting = Noting::new(rt, alloc, 4);
+    let on = on(rt, alloc, &noting);
+    let made = make_over(&on, called, given, 16, Visitor::Writes(noting.log()));
+    row(rt, (called, given), made, Ok(()));
+    let lines = [asked(call_of(called, 16)), BEGUN, RAN, TOLD];
+    noting.log().has(rt, (called, given), &lines);
+}
+
 #[test]
 fn each_list_call_asks_once_by_its_length_and_tells_once(rt: HostRuntime) {
     let alloc = rt.alloc();
     for called in CALLS {
         for given in SOURCES {
-            let noting = Noting::new(&rt, alloc, 4);
-            let on = on(&rt, alloc, &noting);
-            let made = make_over(&on, called, given, 16, Visitor::Writes(noting.log()));
-            row(&rt, (called, given), made, Ok(()));
-            let lines = [asked(call_of(called, 16)), BEGUN, RAN, TOLD];
-            noting.log().has(&rt, (called, given), &lines);
+            if is_made(called, given) {
+                list_asks(&rt, alloc, called, given);
+            }
         }
     }
 }

@@ -164,6 +164,21 @@ fn partition<Rt: Threads + Wait + Sync, S: Strategy, M, I: Source<M>>(
     done(on.map_partition(source, map_op))
 }
 
+/// The fallible map, or else the fallible fold.
+pub fn make_fallible<Rt: Threads + Wait + Sync, S: Strategy, M, I: Source<M>>(
+    on: &On<'_, Rt, S, Site>,
+    called: Called,
+    source: I,
+    visited: Visitor<'_>,
+) -> Result<(), Trouble<u32>>
+    requires { I.can source }
+{
+    if called == Called::TryMap {
+        return try_map(on, source, visited);
+    }
+    try_fold(on, source, visited)
+}
+
 /// Makes such a call, of which each closure visits once for each item. A map returns the items.
 pub fn make<Rt: Threads + Wait + Sync, S: Strategy, M, I: Source<M>>(
     on: &On<'_, Rt, S, Site>,

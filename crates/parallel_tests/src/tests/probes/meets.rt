@@ -3,7 +3,7 @@
 ghost use Rattle.std.specs.Prelude.{◌≡◌, ⊤};
 
 use crate::tests::probes::calls::{CALLS, Called};
-use crate::tests::probes::given::{FEW, Given, SOURCES, make_over, make_over_few};
+use crate::tests::probes::given::{FEW, Given, SOURCES, is_made, make_over, make_over_few};
 use crate::tests::probes::meetings::Meeting;
 use crate::tests::probes::noting::Noting;
 use crate::tests::probes::records::{Squares, fresh};
@@ -61,9 +61,11 @@ fn items_meet<Rt: Threads + Wait + Abort + Sync, S: Strategy>(
     let on = on(rt, alloc, strategy);
     for called in CALLS {
         for given in SOURCES {
-            let meeting = Meeting::of(strategy.thread_number().get(), turns);
-            let made = make_over(&on, called, given, len, Visitor::Meets(&meeting));
-            met(rt, (called, given, len), made, &meeting);
+            if is_made(called, given) {
+                let meeting = Meeting::of(strategy.thread_number().get(), turns);
+                let made = make_over(&on, called, given, len, Visitor::Meets(&meeting));
+                met(rt, (called, given, len), made, &meeting);
+            }
         }
     }
 }
