@@ -12,6 +12,6 @@ mod memory;
 mod noting;
 mod records;
 mod sides;
-pub mod splits;
+mod splits;
 mod starts;
 pub mod visits;

@@ -23,7 +23,7 @@ pub enum Given {
     Indices,
     Counted,
     Iterator,
-    OwnProducer,
+    Producer,
     OwnSource,
 }
 
@@ -39,7 +39,7 @@ pub const SOURCES: [Given; 12] = [
     Given::Indices,
     Given::Counted,
     Given::Iterator,
-    Given::OwnProducer,
+    Given::Producer,
     Given::OwnSource,
 ];
 
@@ -49,7 +49,7 @@ pub enum Owned {
     Vector,
     Pairs,
     Iterator,
-    OwnProducer,
+    Producer,
 }
 
 /// All of them.
@@ -57,7 +57,7 @@ pub const OWNED: [Owned; 4] = [
     Owned::Vector,
     Owned::Pairs,
     Owned::Iterator,
-    Owned::OwnProducer,
+    Owned::Producer,
 ];
 
 /// One of a list that is cut as it is, one of owned items, and one that has to be gathered.

@@ -3,7 +3,6 @@
 use crate::tests::probes::calls::{Called, tried};
 use crate::tests::probes::given::{FEW, Given, OWNED, Owned, SOURCES, make_over, make_over_few};
 use crate::tests::probes::noting::Noting;
-use crate::tests::probes::splits::Cut;
 use crate::tests::probes::visits::Visitor;
 use crate::tests::same::row;
 use crate::tests::steps::{both, yes};
@@ -252,12 +251,7 @@ fn act_over<Rt: Threads + Wait + Abort + Sync, S: Strategy>(
             act_all(on, called, pairs)
         }
         Owned::Iterator => act_all(on, called, items.into_iter()),
-        Owned::OwnProducer => {
-            let times = AtomicUsize::new(0);
-            let list = DrainProducer::from_vec(items);
-            let times = &times;
-            act_all(on, called, Cut { list, times })
-        }
+        Owned::Producer => act_all(on, called, DrainProducer::from_vec(items)),
     }
 }
 

@@ -14,13 +14,11 @@ use std::sync::Wait;
 use std::sync::atomic::{AtomicUsize, Ordering};
 use std::thread::Threads;
 
-/// A list, with the number of times that it was cut.
+// A list, with the number of times that it was cut.
 #[derive(Drop)]
-pub struct Cut<'a, P> {
-    /// The list.
-    pub list: P,
-    /// The number.
-    pub times: &'a AtomicUsize,
+struct Cut<'a, P> {
+    list: P,
+    times: &'a AtomicUsize,
 }
 
 impl<'a, P: Producer> Producer for Cut<'a, P> {

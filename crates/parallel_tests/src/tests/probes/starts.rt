@@ -1,8 +1,8 @@
 //! How many threads each call starts: one fewer than there are, and no more.
 //!
-//! Linux numbers threads in the order in which they are started. So between the numbers of two
-//! threads, started before and after a call, lie those of the call's own, and of others that were
-//! started meanwhile. The fewest of several tries are the call's own.
+//! Linux numbers threads in the order in which they are started, and tells the last number. Between
+//! the numbers that it tells before and after a call lie those of the call's own threads, and of
+//! others that were started meanwhile. The fewest of several tries are the call's own.
 use crate::tests::probes::callers::{CALLERS, Caller, call};
 use crate::tests::probes::calls::CALLS;
 use crate::tests::probes::given::{SOURCES, is_made, make_over};
@@ -19,35 +19,27 @@ use std::fs;
 use std::process::Abort;
 use std::rt::Files;
 use std::sync::Wait;
-use std::thread::{Threads, join};
+use std::thread::Threads;
 
-// The number of the thread that calls it.
-fn own_number<Rt: Files + AllocGlobal>(rt: &Rt) -> Option<u64> {
-    let line = fs::read_to_string(rt, "/proc/thread-self/stat").ok()?;
-    line.as_str().split(' ').next()?.parse::<u64>().ok()
-}
-
-// The number of a thread that is started.
-fn next_number<Rt: Threads + Files + AllocGlobal + Abort + Sync>(rt: &Rt) -> u64 {
-    let (number, ()) = join(rt, || own_number(rt), || ());
-    number.expect(rt, "a number")
+// The number of the thread that was started last.
+fn last_number<Rt: Files + AllocGlobal + Abort>(rt: &Rt) -> u64 {
+    let counts = fs::read_to_string(rt, "/proc/loadavg").expect(rt, "the counts");
+    let line = counts.as_str().trim();
+    let number = line.split(' ').nth(4).expect(rt, "five counts");
+    number.parse::<u64>().expect(rt, "a number")
 }
 
 // How many threads a closure starts: the fewest of seven tries, and of more, up to a thousand,
 // until there are no more than is wanted.
-fn fewest<Rt: Threads + Files + AllocGlobal + Abort + Sync, F: Fn()>(
-    rt: &Rt,
-    wanted: u64,
-    call: F,
-) -> u64
+fn fewest<Rt: Files + AllocGlobal + Abort, F: Fn()>(rt: &Rt, wanted: u64, call: F) -> u64
     requires { F.IsAlwaysCallable call }
 {
     let mut fewest = u64::MAX;
     for turn in 0..1000u32 {
-        let before = next_number(rt);
+        let before = last_number(rt);
         call();
-        let after = next_number(rt);
-        fewest = fewest.min(after.wrapping_sub(before).wrapping_sub(1));
+        let after = last_number(rt);
+        fewest = fewest.min(after.wrapping_sub(before));
         if turn > 5 && fewest <= wanted {
             return fewest;
         }
