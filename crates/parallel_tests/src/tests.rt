@@ -8,6 +8,7 @@ mod entries;
 mod errors;
 mod explorers;
 mod folds;
+mod gates;
 mod in_place;
 mod layers;
 mod lent;

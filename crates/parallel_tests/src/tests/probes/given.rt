@@ -43,23 +43,6 @@ pub const SOURCES: [Given; 12] = [
     Given::OwnSource,
 ];
 
-/// A source of items that it owns.
-#[derive(Clone, Copy, Debug, PartialEq, Eq)]
-pub enum Owned {
-    Vector,
-    Pairs,
-    Iterator,
-    Producer,
-}
-
-/// All of them.
-pub const OWNED: [Owned; 4] = [
-    Owned::Vector,
-    Owned::Pairs,
-    Owned::Iterator,
-    Owned::Producer,
-];
-
 /// One of a list that is cut as it is, one of owned items, and one that has to be gathered.
 pub const FEW: [Given; 3] = [Given::Slice, Given::Vector, Given::Iterator];
 
