@@ -5,6 +5,7 @@ mod callers;
 pub mod calls;
 pub mod given;
 mod logs;
+mod looks;
 mod meetings;
 mod meets;
 mod memory;
