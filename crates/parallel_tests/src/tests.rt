@@ -27,7 +27,6 @@ mod runs;
 mod same;
 mod sequentials;
 mod shares;
-mod spans;
 mod spawns;
 mod states;
 mod steps;

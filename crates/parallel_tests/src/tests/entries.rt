@@ -8,10 +8,9 @@ use crate::tests::steps::{
 };
 use crate::tests::strategies::{SITE, number};
 use commonware_parallel::policy::{Key, RunExecution};
-use commonware_parallel::{Batches, Fault, Grid, Policy, Rayon, Site, Strategy, Trouble};
+use commonware_parallel::{Fault, Grid, Policy, Rayon, Site, Strategy, Trouble};
 use std::alloc::Global;
 use std::num::NonZeroUsize;
-use std::ops::Range;
 use std::process::Abort;
 use std::sync::Wait;
 use std::thread::Threads;
@@ -31,10 +30,8 @@ pub fn times<Rt: Wait>(rt: &Rt, policy: &Policy, site: Site, len: usize, work: u
 // By how much the clocks go on.
 const STEP: u64 = 100_000;
 
-// One measured run in parallel, and an entry without a time.
+// One measured run in parallel.
 const ONCE: Times = Some((Some(100_000), None));
-
-const UNTIMED: Times = Some((None, None));
 
 fn fresh(rt: &impl Abort, alloc: Global) -> Policy {
     Policy::new(alloc).expect(rt, "memory for a policy")
@@ -127,25 +124,6 @@ fn work_at(place: u32) -> usize {
         15 => 68,
         _ => 16,
     }
-}
-
-#[test]
-fn each_operation_is_recorded_at_its_place(rt: HostRuntime) {
-    let alloc = rt.alloc();
-    let policy = fresh(&rt, alloc);
-    let strategy = by_policy(&rt, alloc, &policy, STEP);
-    row(&rt, "maps", maps(&rt, alloc, &strategy), Ok(()));
-    row(&rt, "folds", folds_and_sorts(&rt, alloc, &strategy), Ok(()));
-    row(&rt, "bodies", bodies(&rt, alloc, &strategy), Ok(()));
-    for place in 1..16u32 {
-        let kept = times(&rt, &policy, at(place), 16, work_at(place));
-        row(&rt, place, kept, ONCE);
-    }
-    for place in [2, 5, 15] {
-        let kept = times(&rt, &policy, at(place), 16, 16);
-        row(&rt, (place, "without its multiplier"), kept, None);
-    }
-    row(&rt, 0, times(&rt, &policy, at(0), 16, 16), None);
 }
 
 // Whether a policy has an entry of jobs or of runs at a place, for one item.
@@ -283,105 +261,6 @@ fn an_entry_is_of_the_digits_of_length_and_work(rt: HostRuntime) {
         answers(&rt, of, count, len as usize);
         let work = (len as usize).saturating_mul(multiplier);
         row(&rt, of, times(&rt, &policy, SITE, len as usize, work), kept);
-    }
-}
-
-// Which of a batch's closures fails: the one that maps what was prepared, or the batch's own.
-#[derive(Clone, Copy, Debug, PartialEq, Eq)]
-enum Failing {
-    Neither,
-    Map,
-    Batch,
-}
-
-// The lengths of the ranges.
-fn lengths_of(alloc: Global, ranges: &[Range<usize>]) -> Result<Vec<usize>, Fault> {
-    let mut lengths = Vec::new(alloc);
-    for range in ranges {
-        lengths.push(range.end.saturating_sub(range.start))?;
-    }
-    Ok(lengths)
-}
-
-fn sum_of(lengths: &[usize]) -> usize {
-    let mut sum = 0usize;
-    for length in lengths {
-        sum = sum.wrapping_add(*length);
-    }
-    sum
-}
-
-// How many indices a batch has, counted by a map of its ranges, and the number of ranges.
-fn counted_ranges<Rt: Threads + Wait + Sync, S: Strategy>(
-    rt: &Rt,
-    alloc: Global,
-    batches: Batches<'_, S, Site>,
-    failing: Failing,
-) -> Result<(usize, usize), Trouble<u8>> {
-    let prepare = |ranges: &[Range<usize>]| lengths_of(alloc, ranges);
-    let check = |length: usize| {
-        if failing == Failing::Map {
-            Err(1u8)
-        } else {
-            Ok(length)
-        }
-    };
-    let lengths = batches.try_map_collect_vec(rt, alloc, prepare, check)?;
-    if failing == Failing::Batch {
-        return Err(Trouble::Closure(2));
-    }
-    Ok((sum_of(&lengths), lengths.len()))
-}
-
-// The same of a batch of 16.
-fn counted<Rt: Threads + Wait + Sync, S: Strategy>(
-    rt: &Rt,
-    alloc: Global,
-    strategy: &S,
-    site: Site,
-    failing: Failing,
-) -> Result<(usize, usize), Trouble<Trouble<u8>>> {
-    let least = NonZeroUsize::MIN;
-    strategy.try_run_batches(rt, alloc, site, 16, least, usize::MAX, |batches| {
-        counted_ranges(rt, alloc, batches, failing)
-    })
-}
-
-#[test]
-fn a_batch_is_recorded_once_and_only_where_it_answers(rt: HostRuntime) {
-    let alloc = rt.alloc();
-    let policy = fresh(&rt, alloc);
-    let strategy = by_policy(&rt, alloc, &policy, STEP);
-    for (place, failing, wanted, kept) in [
-        (
-            1,
-            Failing::Map,
-            Err(Trouble::Closure(Trouble::Closure(1))),
-            UNTIMED,
-        ),
-        (
-            2,
-            Failing::Batch,
-            Err(Trouble::Closure(Trouble::Closure(2))),
-            UNTIMED,
-        ),
-        (3, Failing::Neither, Ok((16, 4)), ONCE),
-    ] {
-        let counted = counted(&rt, alloc, &strategy, at(place), failing);
-        row(&rt, failing, counted, wanted);
-        row(
-            &rt,
-            failing,
-            times(&rt, &policy, at(place), 16, usize::MAX),
-            kept,
-        );
-        // The map of its four ranges, at the same place, asks no policy.
-        row(
-            &rt,
-            (failing, "map"),
-            times(&rt, &policy, at(place), 4, 4),
-            None,
-        );
     }
 }
 

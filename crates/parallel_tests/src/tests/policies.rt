@@ -1,9 +1,9 @@
 //! What a policy learns, through the calls of a pool.
 use crate::tests::clocks::{Stepping, learning};
-use crate::tests::same::{answers, lists, row, same};
-use crate::tests::steps::{add, ascending, count, ten, zero};
+use crate::tests::same::{answers, lists};
+use crate::tests::steps::{add, count, ten, zero};
 use crate::tests::strategies::{SITE, fresh, number};
-use commonware_parallel::{Fault, Rayon, Sequential, Site, Strategy, Trouble};
+use commonware_parallel::{Fault, Rayon, Sequential, Site, Strategy};
 use std::alloc::Global;
 use std::num::NonZeroUsize;
 use std::process::Abort;
@@ -106,41 +106,6 @@ fn batches_ask_the_policy(rt: HostRuntime) {
     }
 }
 
-// The number of ranges of a batch of 16 indices, or of the same batch as its closure's error.
-fn ranges_or_error<Rt: Wait, S: Strategy>(
-    rt: &Rt,
-    alloc: Global,
-    strategy: &S,
-    fails: bool,
-) -> Result<usize, Trouble<usize>> {
-    let one = NonZeroUsize::MIN;
-    strategy.try_run_batches(rt, alloc, SITE, 16, one, 1, |batches| {
-        let count = batches.ranges().len();
-        if fails { Err(count) } else { Ok(count) }
-    })
-}
-
-#[test]
-fn a_batch_that_fails_is_not_recorded(rt: HostRuntime) {
-    let alloc = rt.alloc();
-    let strategy = by_steps(&rt, alloc, 100_000);
-    for (at, fails, count) in [
-        (1, true, 4),
-        (2, true, 4),
-        (3, false, 4),
-        (4, false, 1),
-        (5, true, 1),
-    ] {
-        let wanted = if fails {
-            Err(Trouble::Closure(count))
-        } else {
-            Ok(count)
-        };
-        let found = ranges_or_error(&rt, alloc, &strategy, fails);
-        row(&rt, at, found, wanted);
-    }
-}
-
 #[test]
 fn a_policy_learns_apart_by_length(rt: HostRuntime) {
     let alloc = rt.alloc();
@@ -188,16 +153,4 @@ fn a_policy_learns_apart_by_multiplier(rt: HostRuntime) {
         let found = states_of_three(&rt, alloc, &strategy, multiplier);
         lists(&rt, multiplier, found, &states);
     }
-}
-
-#[test]
-fn a_sort_tells_the_policy_its_time(rt: HostRuntime) {
-    let alloc = rt.alloc();
-    let strategy = by_steps(&rt, alloc, 100_000);
-    let mut numbers = [3u32, 1, 2];
-    let sorted = strategy.sort_by(&rt, alloc, SITE, &mut numbers, ascending);
-    answers(&rt, 1, sorted, ());
-    same(&rt, numbers, [1, 2, 3]);
-    let taken = one_of(&rt, alloc, &strategy, SITE, 3, "serial", "parallel");
-    answers(&rt, 2, taken, "serial");
 }

@@ -1,13 +1,16 @@
 //! Probes: what each call does, whatever its source and its strategy. Each is a small function over
 //! both, and a table runs it for all of them.
 mod asks;
-mod calls;
-mod given;
+mod callers;
+pub mod calls;
+pub mod given;
 mod logs;
+mod looks;
 mod meetings;
 mod meets;
+mod memory;
 mod noting;
 mod records;
 mod sides;
 mod splits;
-mod visits;
+pub mod visits;

@@ -2,7 +2,6 @@
 use crate::tests::errors::{Counts, counted_items, greater};
 use crate::tests::same::{answers, row};
 use crate::tests::strategies::{SITE, explorers, fresh, pool};
-use crate::tests::threads::Meeting;
 use commonware_parallel::merkle::{plain_root, root};
 use commonware_parallel::{Fault, Sequential, Strategy};
 use std::alloc::Global;
@@ -121,22 +120,4 @@ fn each_node_is_let_go_once(rt: HostRuntime) {
             nodes_left(&rt, alloc, &pool(&rt, alloc, threads, threads), len);
         }
     }
-}
-
-// Whether each node of two pairs of leaves saw the other one, or a later one.
-fn nodes_meet<Rt: Threads + Wait + Sync, S: Strategy>(
-    rt: &Rt,
-    alloc: Global,
-    strategy: &S,
-) -> Result<Option<bool>, Fault> {
-    let met = Meeting::new();
-    let leaves = Vec::from_slice(alloc, &[true; 4])?;
-    let combine = |left: bool, right: bool| left & right & met.next();
-    root(rt, alloc, strategy, SITE, leaves, combine)
-}
-
-#[test]
-fn the_nodes_of_a_level_see_each_other(rt: HostRuntime) {
-    let two = pool(&rt, rt.alloc(), 2, 2);
-    answers(&rt, 1, nodes_meet(&rt, rt.alloc(), &two), Some(true));
 }

@@ -95,10 +95,6 @@ pub fn yes() -> bool {
     true
 }
 
-pub fn no() -> bool {
-    false
-}
-
 pub fn both(left: bool, right: bool) -> bool {
     left & right
 }

@@ -1,8 +1,7 @@
 //! Tiles: which cells are filled, for how many workers, and what is returned for each row.
 use crate::tests::same::{answers, lists, row, same};
-use crate::tests::steps::{no, no_count};
+use crate::tests::steps::no_count;
 use crate::tests::strategies::{SITE, explorers, number, pool, pools};
-use crate::tests::threads::Meeting;
 use commonware_parallel::shares::machine::{Event, Outcome, Plan, replay};
 use commonware_parallel::{Fault, Grid, Sequential, Site, Strategy, Tiles};
 use std::alloc::Global;
@@ -215,50 +214,6 @@ fn a_grid_without_cells_has_no_results(rt: HostRuntime) {
     nothing_comes(&rt, alloc, &[Sequential]);
     nothing_comes(&rt, alloc, &pools(&rt, alloc));
     nothing_comes(&rt, alloc, &explorers(&rt, alloc));
-}
-
-// What a stretch has seen.
-fn has_seen(seen: &mut bool, _row: usize) -> bool {
-    *seen
-}
-
-// Of tiles of rows of 64, whether they may be cut, and whether each stretch saw one of the other
-// row, or of the other half of the one row.
-fn stretches_meet<Rt: Threads + Wait + Abort + Sync, S: Strategy>(
-    rt: &Rt,
-    alloc: Global,
-    strategy: &S,
-    (rows, tile_cost): (usize, usize),
-) -> Result<(bool, Vec<bool>), Fault> {
-    let flags = Meeting::new();
-    let grids = [grid(rt, rows, tile_cost)];
-    assert!(rt; Grid::fits(&grids, 64));
-    strategy.run_tiles(rt, alloc, SITE, 64, &grids, 1, |tiles| {
-        let is_cut = tiles.is_cut() && tiles.workers().get() == 2;
-        let fill = |seen: &mut bool, row: usize, columns: Range<usize>| {
-            *seen = flags.meet(row == 0 && columns.start < 32);
-        };
-        let seen = tiles.fill_collect_vec(rt, alloc, no, fill, has_seen)?;
-        Ok((is_cut, seen))
-    })?
-}
-
-#[test]
-fn two_rows_see_each_other_on_two_threads(rt: HostRuntime) {
-    let two = pool(&rt, rt.alloc(), 2, 2);
-    let met = stretches_meet(&rt, rt.alloc(), &two, (2, 99));
-    let (is_cut, seen) = met.expect(&rt, "memory");
-    same(&rt, is_cut, false);
-    same(&rt, seen.as_slice(), [true, true].as_slice());
-}
-
-#[test]
-fn two_workers_of_one_row_see_each_other(rt: HostRuntime) {
-    let two = pool(&rt, rt.alloc(), 2, 2);
-    let met = stretches_meet(&rt, rt.alloc(), &two, (1, 1));
-    let (is_cut, seen) = met.expect(&rt, "memory");
-    assert!(rt; is_cut && seen.len() > 1);
-    assert!(rt; seen.iter().all(|seen| *seen));
 }
 
 fn load(seat: usize, share: usize) -> Event {

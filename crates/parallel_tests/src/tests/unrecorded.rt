@@ -1,11 +1,11 @@
-//! What a policy keeps of a call that is refused or fails, through a pool: that it was asked, where
-//! it was, and no time. The clock goes on by a second at each reading, so that a time of such a
+//! What a policy keeps of a call that is refused, through a pool: that it was asked, where it was, and
+//! no time. The clock goes on by a second at each reading, so that a time of such a
 //! call would be seen in the estimates.
 use crate::tests::clocks::Stepping;
 use crate::tests::entries::{Times, by_policy, times};
 use crate::tests::no_memory::{all_memory, all_places};
 use crate::tests::same::{answers, row};
-use crate::tests::steps::{Gives, descending, zero};
+use crate::tests::steps::{Gives, descending};
 use crate::tests::strategies::SITE;
 use commonware_parallel::policy::{Key, RunExecution, SpawnExecution, SpawnSample};
 use commonware_parallel::{Fault, Indices, Policy, Rayon, Strategy, Trouble};
@@ -46,30 +46,13 @@ fn after_nine_choices<Rt: Wait + Abort>(rt: &Rt, alloc: Global) -> Policy {
     policy
 }
 
-// The calls: a map that gathers its items first, a map and a fallible map that don't, a sort, and a
-// fallible map and a fallible fold that fail at the third number.
+// The calls: a map that gathers its items first, a map and a fallible map that don't, and a sort.
 #[derive(Clone, Copy, Debug, PartialEq, Eq)]
 enum Made {
     Gathered,
     Map,
     Tried,
     Sort,
-    FailingMap,
-    FailingFold,
-}
-
-// Fails at a number, and counts the calls.
-fn check(calls: &AtomicU64, number: u32, failing: u32) -> Result<u32, u32> {
-    calls.fetch_add(1, Ordering::SeqCst);
-    if number == failing {
-        Err(number)
-    } else {
-        Ok(number)
-    }
-}
-
-fn greater(left: u32, right: u32) -> u32 {
-    left.max(right)
 }
 
 // A map and a fallible map of indices.
@@ -92,14 +75,16 @@ fn try_map_indices<Rt: Threads + Wait + Sync, S: Strategy>(
     alloc: Global,
     strategy: &S,
     calls: &AtomicU64,
-    failing: u32,
 ) -> Result<(), Trouble<u32>> {
-    let map = |index: usize| check(calls, index as u32, failing);
+    let map = |index: usize| -> Result<u32, u32> {
+        calls.fetch_add(1, Ordering::SeqCst);
+        Ok(index as u32)
+    };
     strategy.try_map_collect_vec(rt, alloc, SITE, INDICES, map)?;
     Ok(())
 }
 
-// A map of numbers as they come, and a fold of indices that fails at the third.
+// A map of numbers as they come.
 fn map_numbers<Rt: Threads + Wait + Sync, S: Strategy>(
     rt: &Rt,
     alloc: Global,
@@ -111,20 +96,6 @@ fn map_numbers<Rt: Threads + Wait + Sync, S: Strategy>(
         number
     };
     strategy.map_collect_vec(rt, alloc, SITE, 0..LEN as u32, map)?;
-    Ok(())
-}
-
-fn fold_indices<Rt: Threads + Wait + Sync, S: Strategy>(
-    rt: &Rt,
-    alloc: Global,
-    strategy: &S,
-    calls: &AtomicU64,
-) -> Result<(), Trouble<u32>> {
-    let step = |last: u32, index: usize| match check(calls, index as u32, 2) {
-        Ok(passed) => Ok(passed.max(last)),
-        Err(failed) => Err(failed),
-    };
-    strategy.try_fold(rt, alloc, SITE, INDICES, zero, step, greater)?;
     Ok(())
 }
 
@@ -140,10 +111,8 @@ fn outcome_of<Rt: Threads + Wait + Sync, S: Strategy>(
     match call {
         Made::Gathered => map_numbers(rt, alloc, strategy, calls)?,
         Made::Map => map_indices(rt, alloc, strategy, calls)?,
-        Made::Tried => try_map_indices(rt, alloc, strategy, calls, u32::MAX)?,
-        Made::FailingMap => try_map_indices(rt, alloc, strategy, calls, 2)?,
+        Made::Tried => try_map_indices(rt, alloc, strategy, calls)?,
         Made::Sort => strategy.sort_by(rt, alloc, SITE, numbers, descending)?,
-        Made::FailingFold => fold_indices(rt, alloc, strategy, calls)?,
     }
     Ok(())
 }
@@ -170,24 +139,19 @@ fn sum_of(numbers: &[u32]) -> u32 {
     sum
 }
 
-// The outcome of such a call as the tenth choice of a policy, where large blocks are refused or
-// aren't, how often its closure was called, what the policy knows then, and what it chooses next.
+// The outcome of such a call as the tenth choice of a policy, where large blocks are refused, how
+// often its closure was called, what the policy knows then, and what it chooses next.
 fn outcome<Rt: Threads + Wait + Abort + Sync>(
     rt: &Rt,
     alloc: Global,
     call: Made,
-    is_refused: bool,
 ) -> (Result<(), Trouble<u32>>, u64, Times, (RunExecution, bool)) {
     let policy = after_nine_choices(rt, alloc);
     let strategy = by_policy(rt, alloc, &policy, SECOND);
     let mut numbers = numbers_of(alloc, call).expect(rt, "memory for numbers");
     let sum = sum_of(&numbers);
     let calls = AtomicU64::new(0);
-    let held = if is_refused {
-        Some(all_places(alloc).expect(rt, "places that have an end"))
-    } else {
-        None
-    };
+    let held = all_places(alloc).expect(rt, "places that have an end");
     let found = outcome_of(rt, alloc, &strategy, call, &mut numbers, &calls);
     drop(held);
     row(rt, call, sum_of(&numbers), sum);
@@ -207,7 +171,7 @@ fn a_run_that_is_refused_is_not_recorded(rt: HostRuntime) {
         (Made::Tried, (SERIAL, false)),
         (Made::Sort, (SERIAL, false)),
     ] {
-        let (found, calls, known, then) = outcome(&rt, rt.alloc(), call, true);
+        let (found, calls, known, then) = outcome(&rt, rt.alloc(), call);
         row(&rt, call, (known, then), (KNOWN, next));
         if found == Err(Trouble::Fault(Fault::Memory)) {
             refused = refused.saturating_add(1);
@@ -215,25 +179,6 @@ fn a_run_that_is_refused_is_not_recorded(rt: HostRuntime) {
         assert!(rt; call != Made::Gathered || calls == 0, "{calls} calls");
     }
     row(&rt, "refused", refused, 4);
-}
-
-#[test]
-fn a_run_that_fails_is_not_recorded(rt: HostRuntime) {
-    for call in [Made::FailingMap, Made::FailingFold] {
-        let (found, calls, known, then) = outcome(&rt, rt.alloc(), call, false);
-        row(&rt, call, (found, calls), (Err(Trouble::Closure(2)), 3));
-        row(&rt, call, (known, then), (KNOWN, (SERIAL, false)));
-    }
-    // What answers is recorded: a second moves the estimate, and the next run is parallel.
-    let (found, _, known, then) = outcome(&rt, rt.alloc(), Made::Sort, false);
-    row(&rt, "sort", found, Ok(()));
-    let moved = Some((Some(100_000), Some(200_076_000)));
-    row(
-        &rt,
-        "sort",
-        (known, then),
-        (moved, (RunExecution::Parallel, false)),
-    );
 }
 
 // Spawns jobs with more and more memory until a worker is refused: how often memory was, before

@@ -2,8 +2,9 @@
 //! call's own numbers, and told once that the run has answered, or never where it failed.
 ghost use Rattle.std.specs.Prelude.{◌≡◌, ⊤};
 
+use crate::tests::probes::callers::{CALLERS, Caller, call};
 use crate::tests::probes::calls::{CALLS, Called, MULTIPLIER, make};
-use crate::tests::probes::given::{SOURCES, make_over};
+use crate::tests::probes::given::{Given, SOURCES, is_made, make_over};
 use crate::tests::probes::logs::{Event, Line, Log, Who};
 use crate::tests::probes::noting::Noting;
 use crate::tests::probes::sides::{
@@ -12,7 +13,7 @@ use crate::tests::probes::sides::{
 use crate::tests::probes::visits::Visitor;
 use crate::tests::same::row;
 use crate::tests::strategies::{SITE, number};
-use commonware_parallel::{Call, Indices, Job, On, Site, Strategy, Trouble};
+use commonware_parallel::{Call, Indices, Job, Kind, On, Site, Strategy, Trouble};
 use futures::executor::block_on;
 use std::alloc::Global;
 use std::process::Abort;
@@ -58,17 +59,29 @@ fn may_fail(called: Called) -> bool {
     matches!(called, Called::TryMap | Called::TryFold)
 }
 
+// Stops the test where a list call over sixteen items of a source asks or tells otherwise.
+fn list_asks<Rt: Threads + Wait + Abort + Sync>(
+    rt: &Rt,
+    alloc: Global,
+    called: Called,
+    given: Given,
+) {
+    let noting = Noting::new(rt, alloc, 4);
+    let on = on(rt, alloc, &noting);
+    let made = make_over(&on, called, given, 16, Visitor::Writes(noting.log()));
+    row(rt, (called, given), made, Ok(()));
+    let lines = [asked(call_of(called, 16)), BEGUN, RAN, TOLD];
+    noting.log().has(rt, (called, given), &lines);
+}
+
 #[test]
 fn each_list_call_asks_once_by_its_length_and_tells_once(rt: HostRuntime) {
     let alloc = rt.alloc();
     for called in CALLS {
         for given in SOURCES {
-            let noting = Noting::new(&rt, alloc, 4);
-            let on = on(&rt, alloc, &noting);
-            let made = make_over(&on, called, given, 16, Visitor::Writes(noting.log()));
-            row(&rt, (called, given), made, Ok(()));
-            let lines = [asked(call_of(called, 16)), BEGUN, RAN, TOLD];
-            noting.log().has(&rt, (called, given), &lines);
+            if is_made(called, given) {
+                list_asks(&rt, alloc, called, given);
+            }
         }
     }
 }
@@ -149,7 +162,7 @@ fn side_asks<Rt: Threads + Wait + Abort + Sync>(rt: &Rt, alloc: Global, side: Si
     let made = make_side(&on, side, Visitor::Writes(noting.log()));
     row(rt, side, made, Ok(()));
     let asked = asked(call_of_side(side));
-    if matches!(side, Side::Sort(_) | Side::Join) {
+    if matches!(side, Side::Sort(_) | Side::Change(_) | Side::Join) {
         noting.log().has(rt, side, &[asked, BEGUN, RAN, TOLD]);
         return;
     }
@@ -278,4 +291,47 @@ fn a_job_is_asked_about_once_and_its_measure_begins_and_ends_aside(rt: HostRunti
         (Who::Outer, Event::Ended),
     ];
     noting.log().has(&rt, "job", &lines);
+}
+
+// Stops the test where a caller, over eight items, left other lines.
+fn caller_has<Rt: Wait + Abort>(rt: &Rt, noting: &Noting, caller: Caller) {
+    let log = noting.log();
+    let eight = asked(Call::body(8));
+    match caller {
+        Caller::SquareInPlace => {
+            let batch = Call {
+                kind: Kind::Batches,
+                max_parts: 4,
+                ..Call::body(8)
+            };
+            let inside = asked_inside(Call::body(4));
+            let lines = [asked(batch), BEGUN, inside, BEGUN_INSIDE, TOLD_INSIDE, TOLD];
+            log.has(rt, caller, &lines);
+        }
+        Caller::SquaresAndSum => {
+            log.has(rt, caller, &[eight, BEGUN, TOLD, eight, BEGUN, TOLD]);
+        }
+        Caller::VerifyDigests => log.has(rt, caller, &[eight, BEGUN, DROPPED]),
+        Caller::Commitment | Caller::Build => {
+            let four = asked(Call::body(4));
+            let two = asked(Call::body(2));
+            let one = asked(Call::body(1));
+            let lines = [
+                eight, BEGUN, TOLD, four, BEGUN, TOLD, two, BEGUN, TOLD, one, BEGUN, TOLD,
+            ];
+            log.has(rt, caller, &lines);
+        }
+        _ => log.has(rt, caller, &[eight, BEGUN, TOLD]),
+    }
+}
+
+#[test]
+fn a_caller_asks_at_its_place(rt: HostRuntime) {
+    let alloc = rt.alloc();
+    for caller in CALLERS {
+        let noting = Noting::new(&rt, alloc, 4);
+        let is_right = call(&rt, alloc, &noting, PLACE, caller);
+        row(&rt, caller, is_right, true);
+        caller_has(&rt, &noting, caller);
+    }
 }

@@ -1,6 +1,6 @@
 //! The list calls, each over any source, with closures that visit a probe.
 use crate::tests::probes::visits::Visitor;
-use crate::tests::steps::{both, nothing, yes};
+use crate::tests::steps::{both, yes};
 use commonware_parallel::{Fault, On, Site, Source, Strategy, Trouble};
 use std::sync::Wait;
 use std::thread::Threads;
@@ -59,7 +59,10 @@ fn map<Rt: Threads + Wait + Sync, S: Strategy, M, I: Source<M>>(
 ) -> Result<(), Trouble<u32>>
     requires { I.can source }
 {
-    let map_op = |_: I::Item| visited.visit().is_ok();
+    let map_op = |item: I::Item| {
+        let _ = visited.visit();
+        item
+    };
     if called == Called::Map {
         return done(on.map(source, map_op));
     }
@@ -77,7 +80,11 @@ fn try_map<Rt: Threads + Wait + Sync, S: Strategy, M, I: Source<M>>(
 ) -> Result<(), Trouble<u32>>
     requires { I.can source }
 {
-    tried(on.try_map(source, |_: I::Item| visited.visit()))
+    let map_op = |item: I::Item| match visited.visit() {
+        Ok(()) => Ok(item),
+        Err(error) => Err(error),
+    };
+    tried(on.try_map(source, map_op))
 }
 
 fn map_init<Rt: Threads + Wait + Sync, S: Strategy, M, I: Source<M>>(
@@ -88,15 +95,19 @@ fn map_init<Rt: Threads + Wait + Sync, S: Strategy, M, I: Source<M>>(
 ) -> Result<(), Trouble<u32>>
     requires { I.can source }
 {
-    let map_op = |_: &mut (), _: I::Item| visited.visit().is_ok();
+    let init = || visited.begin();
+    let map_op = |_: &mut (), item: I::Item| {
+        let _ = visited.visit();
+        item
+    };
     if called == Called::MapInit {
-        return done(on.map_init(source, nothing, map_op));
+        return done(on.map_init(source, init, map_op));
     }
     let (rt, alloc, site) = (on.rt, on.alloc, on.site);
     done(
         on.strategy
             .map_init_collect_vec_with_multiplier(
-                rt, alloc, site, source, MULTIPLIER, nothing, map_op,
+                rt, alloc, site, source, MULTIPLIER, init, map_op,
             ),
     )
 }
@@ -120,7 +131,7 @@ fn fold_init<Rt: Threads + Wait + Sync, S: Strategy, M, I: Source<M>>(
     requires { I.can source }
 {
     let step = |so_far: bool, _: &mut (), _: I::Item| so_far & visited.visit().is_ok();
-    done(on.fold_init(source, nothing, yes, step, both))
+    done(on.fold_init(source, || visited.begin(), yes, step, both))
 }
 
 // Keeps what came so far where a visit doesn't fail.
@@ -149,11 +160,26 @@ fn partition<Rt: Threads + Wait + Sync, S: Strategy, M, I: Source<M>>(
 ) -> Result<(), Trouble<u32>>
     requires { I.can source }
 {
-    let map_op = |_: I::Item| ((), visited.visit().ok());
+    let map_op = |item: I::Item| (item, visited.visit().ok());
     done(on.map_partition(source, map_op))
 }
 
-/// Makes such a call, of which each closure visits once for each item.
+/// The fallible map, or else the fallible fold.
+pub fn make_fallible<Rt: Threads + Wait + Sync, S: Strategy, M, I: Source<M>>(
+    on: &On<'_, Rt, S, Site>,
+    called: Called,
+    source: I,
+    visited: Visitor<'_>,
+) -> Result<(), Trouble<u32>>
+    requires { I.can source }
+{
+    if called == Called::TryMap {
+        return try_map(on, source, visited);
+    }
+    try_fold(on, source, visited)
+}
+
+/// Makes such a call, of which each closure visits once for each item. A map returns the items.
 pub fn make<Rt: Threads + Wait + Sync, S: Strategy, M, I: Source<M>>(
     on: &On<'_, Rt, S, Site>,
     called: Called,

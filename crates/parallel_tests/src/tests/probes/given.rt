@@ -1,5 +1,5 @@
 //! The sources that a list call may be given, each of any length.
-use crate::tests::probes::calls::{Called, make};
+use crate::tests::probes::calls::{Called, make, make_fallible};
 use crate::tests::probes::visits::Visitor;
 use commonware_parallel::{
     Chunks, Copies, Counted, Enumerated, Fault, Indices, On, Pairs, Site, Strategy, Trouble, Zipped,
@@ -23,7 +23,7 @@ pub enum Given {
     Indices,
     Counted,
     Iterator,
-    OwnProducer,
+    Producer,
     OwnSource,
 }
 
@@ -39,12 +39,20 @@ pub const SOURCES: [Given; 12] = [
     Given::Indices,
     Given::Counted,
     Given::Iterator,
-    Given::OwnProducer,
+    Given::Producer,
     Given::OwnSource,
 ];
 
 /// One of a list that is cut as it is, one of owned items, and one that has to be gathered.
 pub const FEW: [Given; 3] = [Given::Slice, Given::Vector, Given::Iterator];
+
+/// Whether a table has the call over the source: each call over those few, and over each source the
+/// fallible map and the fallible fold. No call's own body differs by its source, but how a list is
+/// cut does.
+pub fn is_made(called: Called, given: Given) -> bool {
+    matches!(given, Given::Slice | Given::Vector | Given::Iterator)
+        || matches!(called, Called::TryMap | Called::TryFold)
+}
 
 // Twice as many as the longest list has.
 static NUMBERS: [u32; 2000] = [7; 2000];
@@ -79,13 +87,12 @@ fn make_over_parts<Rt: Threads + Wait + Sync, S: Strategy>(
         size: NonZeroUsize::MIN.saturating_add(1),
     };
     match given {
-        Given::Slice => make(on, called, slice, visited),
-        Given::Copies => make(on, called, copies, visited),
-        Given::Indices => make(on, called, indices, visited),
-        Given::Chunks => make(on, called, chunks, visited),
-        Given::Zipped => make(on, called, Zipped::new(chunks, indices), visited),
-        Given::Enumerated => make(on, called, Enumerated::new(copies), visited),
-        _ => make(on, called, Backwards { slice }, visited),
+        Given::Copies => make_fallible(on, called, copies, visited),
+        Given::Indices => make_fallible(on, called, indices, visited),
+        Given::Chunks => make_fallible(on, called, chunks, visited),
+        Given::Zipped => make_fallible(on, called, Zipped::new(chunks, indices), visited),
+        Given::Enumerated => make_fallible(on, called, Enumerated::new(copies), visited),
+        _ => make_fallible(on, called, Backwards { slice }, visited),
     }
 }
 
@@ -109,10 +116,10 @@ fn make_over_pairs<Rt: Threads + Wait + Sync, S: Strategy>(
 ) -> Result<(), Trouble<u32>> {
     let items = vector(on.alloc, len.saturating_mul(2))?;
     let (pairs, _none) = Pairs::new(items);
-    make(on, called, pairs, visited)
+    make_fallible(on, called, pairs, visited)
 }
 
-/// The call over such a source of so many items, at most 1000.
+/// The call over such a source of so many items, at most 1000: one that a table has.
 pub fn make_over<Rt: Threads + Wait + Sync, S: Strategy>(
     on: &On<'_, Rt, S, Site>,
     called: Called,
@@ -122,16 +129,17 @@ pub fn make_over<Rt: Threads + Wait + Sync, S: Strategy>(
 ) -> Result<(), Trouble<u32>> {
     let slice = first(len);
     match given {
+        Given::Slice => make(on, called, slice, visited),
         Given::Pairs => make_over_pairs(on, called, len, visited),
         Given::Vector => make_over_items(on, called, len, visited),
-        Given::Counted => make(on, called, Counted { iter: 0..len }, visited),
+        Given::Counted => make_fallible(on, called, Counted { iter: 0..len }, visited),
         Given::Iterator => make(on, called, slice.iter().copied(), visited),
         Given::OwnSource => {
             let wrapped = Wrapped {
                 front: slice,
                 back: &[],
             };
-            make(on, called, wrapped, visited)
+            make_fallible(on, called, wrapped, visited)
         }
         _ => make_over_parts(on, called, given, len, visited),
     }

@@ -3,11 +3,11 @@
 ghost use Rattle.std.specs.Prelude.{◌≡◌, ⊤};
 
 use crate::tests::probes::calls::{CALLS, Called};
-use crate::tests::probes::given::{FEW, Given, SOURCES, make_over, make_over_few};
+use crate::tests::probes::given::{FEW, Given, SOURCES, is_made, make_over, make_over_few};
 use crate::tests::probes::meetings::Meeting;
 use crate::tests::probes::noting::Noting;
 use crate::tests::probes::records::{Squares, fresh};
-use crate::tests::probes::sides::{BATCHES, fill, join, map_batch, root, sort};
+use crate::tests::probes::sides::{BATCHES, change, fill, join, map_batch, root, sort};
 use crate::tests::probes::visits::Visitor;
 use crate::tests::same::{answers, row};
 use crate::tests::strategies::{SITE, number};
@@ -61,9 +61,11 @@ fn items_meet<Rt: Threads + Wait + Abort + Sync, S: Strategy>(
     let on = on(rt, alloc, strategy);
     for called in CALLS {
         for given in SOURCES {
-            let meeting = Meeting::of(strategy.thread_number().get(), turns);
-            let made = make_over(&on, called, given, len, Visitor::Meets(&meeting));
-            met(rt, (called, given, len), made, &meeting);
+            if is_made(called, given) {
+                let meeting = Meeting::of(strategy.thread_number().get(), turns);
+                let made = make_over(&on, called, given, len, Visitor::Meets(&meeting));
+                met(rt, (called, given, len), made, &meeting);
+            }
         }
     }
 }
@@ -108,8 +110,8 @@ fn few_items_meet<Rt: Threads + Wait + Abort + Sync, S: Strategy>(
     }
 }
 
-// So many numbers, none of which is in its place.
-fn numbers(rt: &impl Abort, alloc: Global, count: usize) -> Vec<u32> {
+/// So many numbers, none of which is in its place.
+pub fn numbers(rt: &impl Abort, alloc: Global, count: usize) -> Vec<u32> {
     let mut numbers = Vec::with_capacity(alloc, count).expect(rt, "memory for numbers");
     let mut place = 0u32;
     for _ in 0..count {
@@ -135,6 +137,31 @@ fn parts_of_sorts_meet<Rt: Threads + Wait + Abort + Sync, S: Strategy>(
         answers(rt, sorted, outcome, ());
         let found = (meeting.most(), numbers.is_sorted());
         row(rt, (sorted, threads), found, (threads, true));
+    }
+}
+
+// The same of a change in place: of items, and of chunks of two.
+fn changes_meet<Rt: Threads + Wait + Abort + Sync, S: Strategy>(
+    rt: &Rt,
+    alloc: Global,
+    strategy: &S,
+) {
+    let threads = strategy.thread_number().get();
+    let on = on(rt, alloc, strategy);
+    for len in lengths(threads) {
+        for is_chunked in [false, true] {
+            let count = if is_chunked {
+                len.saturating_mul(2)
+            } else {
+                len
+            };
+            let mut numbers = numbers(rt, alloc, count);
+            let meeting = Meeting::of(threads, TURNS);
+            let visitor = Visitor::Meets(&meeting);
+            let changed = change(&on, is_chunked, numbers.as_mut_slice(), visitor);
+            let found = (changed, meeting.most());
+            row(rt, (is_chunked, len), found, (Ok(()), threads));
+        }
     }
 }
 
@@ -290,6 +317,7 @@ fn all_meet<Rt: Threads + Wait + Abort + Copy + Send + Sync + 'static, S: Strate
 ) {
     few_items_meet(rt, alloc, strategy);
     parts_of_sorts_meet(rt, alloc, strategy);
+    changes_meet(rt, alloc, strategy);
     sides_of_a_join_meet(rt, alloc, strategy);
     ranges_meet(rt, alloc, strategy);
     fills_meet(rt, alloc, strategy, false);

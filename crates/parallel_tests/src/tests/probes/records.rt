@@ -4,16 +4,18 @@
 //! The clock's readings are the squares of whole milliseconds, so that the time between two of them
 //! tells which two they were. Each entry has a time already, which a sample moves by a fifth, so
 //! that a sample recorded twice shows.
+ghost use Rattle.std.specs.Prelude.{⊤};
+
 use crate::tests::probes::calls::{CALLS, Called, MULTIPLIER};
 use crate::tests::probes::given::{FEW, Given, make_over_few};
 use crate::tests::probes::logs::Log;
 use crate::tests::probes::sides::{SIDES, Side, call_of_side, make_side, root};
 use crate::tests::probes::visits::Visitor;
 use crate::tests::same::{answers, row};
-use crate::tests::steps::{Gives, answer_one, answer_two};
+use crate::tests::steps::{answer_one, answer_two};
 use crate::tests::strategies::{SITE, number};
 use commonware_parallel::policy::{Key, RunExecution, SpawnSample};
-use commonware_parallel::{Clock, On, Policy, Rayon, Site, Strategy, Trouble};
+use commonware_parallel::{Clock, Job, On, Policy, Rayon, Site, Strategy, Trouble};
 use futures::executor::block_on;
 use std::alloc::{AllocGlobal, Global};
 use std::fmt::Debug;
@@ -240,12 +242,29 @@ impl Asked {
     }
 }
 
-// What a job answers, once it has ended.
-fn answer_of_a_job<Rt, S: Strategy>(rt: &Rt, alloc: Global, strategy: &S) -> u64
+// A job that reads the clock, and returns how often it had been read.
+#[derive(Drop)]
+struct Reads {
+    readings: Arc<AtomicU64, Global>,
+}
+
+impl<S: Drop> Job<S, u64> for Reads {
+    ghost may_run = { λ _ _. ⊤ };
+
+    ghost may_answer = { λ _ _ _. ⊤ };
+
+    fn run_on(self, _strategy: S) -> u64 {
+        self.readings.fetch_add(1, Ordering::SeqCst)
+    }
+}
+
+// What such a job returns, once it has ended.
+fn read_by_a_job<Rt>(rt: &Rt, alloc: Global, asked: &Asked) -> u64
 where
     Rt: Threads + Wait + RandomSource + AllocGlobal + Abort + Copy + Send + 'static,
 {
-    let spawned = strategy.spawn(rt, alloc, SITE, 1, Gives(7));
+    let readings = Arc::try_clone(&asked.readings).expect(rt, "a handle");
+    let spawned = asked.pool.spawn(rt, alloc, SITE, 1, Reads { readings });
     block_on(rt, spawned.expect(rt, "a job")).expect(rt, "a queue")
 }
 
@@ -256,16 +275,16 @@ fn a_job_records_its_own_time_and_its_hand_off_once(rt: HostRuntime) {
     // A job is keyed by the pool's number of threads, and not by the planning number.
     let key = Key::new(SITE, 1, 1, 4);
     asked.knows_job(&rt, key);
-    row(&rt, "job", answer_of_a_job(&rt, alloc, &asked.pool), 7);
-    // Chosen at 0, begun at 1 and ended at 4 milliseconds: the job took 3, and its hand-off 1.
+    row(&rt, "job", read_by_a_job(&rt, alloc, &asked), 2);
+    // Chosen at 0, begun at 1 and ended at 9 milliseconds: the job took 8, and its hand-off 1.
     let times = asked.job_times(&rt, key);
     row(
         &rt,
         "times",
         times,
-        [Some(40_600_000), Some(8_200_000), None],
+        [Some(41_600_000), Some(8_200_000), None],
     );
-    row(&rt, "readings", asked.readings(), 3);
+    row(&rt, "readings", asked.readings(), 4);
     let of_runs = asked.policy.run_entry(&rt, key);
     row(&rt, "runs", of_runs.is_none(), true);
 }
@@ -283,14 +302,14 @@ fn a_job_that_runs_inline_records_its_own_time_alone(rt: HostRuntime) {
         let chosen = asked.policy.choose_spawn(&rt, key, MILLISECOND);
         row(&rt, choice, chosen.is_ok(), true);
     }
-    row(&rt, "job", answer_of_a_job(&rt, alloc, &asked.pool), 7);
-    // Begun at 1 and ended at 4 milliseconds.
+    row(&rt, "job", read_by_a_job(&rt, alloc, &asked), 2);
+    // Begun at 1 and ended at 9 milliseconds.
     let times = asked.job_times(&rt, key);
     let known = [
         Some(50 * MILLISECOND),
         Some(10 * MILLISECOND),
-        Some(MILLISECOND),
+        Some(2 * MILLISECOND),
     ];
     row(&rt, "times", times, known);
-    row(&rt, "readings", asked.readings(), 3);
+    row(&rt, "readings", asked.readings(), 4);
 }

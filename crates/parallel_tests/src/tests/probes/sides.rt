@@ -33,6 +33,24 @@ pub fn sort<Rt: Threads + Wait + Sync, S: Strategy>(
     }
 }
 
+/// A change of numbers in place, one by one or in chunks of two, of which each call visits.
+pub fn change<Rt: Threads + Wait + Sync, S: Strategy>(
+    on: &On<'_, Rt, S, Site>,
+    is_chunked: bool,
+    numbers: &mut [u32],
+    visited: Visitor<'_>,
+) -> Result<(), Fault> {
+    if is_chunked {
+        let two = NonZeroUsize::MIN.saturating_add(1);
+        return on.for_each_chunk_mut(numbers, two, |_: usize, _: &mut [u32]| {
+            let _ = visited.visit();
+        });
+    }
+    on.for_each_mut(numbers, |_: usize, _: &mut u32| {
+        let _ = visited.visit();
+    })
+}
+
 /// A join of two closures that visit.
 pub fn join<Rt: Threads + Wait + Sync, S: Strategy>(
     on: &On<'_, Rt, S, Site>,
@@ -126,21 +144,18 @@ fn fill_tiles<Rt: Threads + Wait + Sync, S: Strategy>(
     is_merged: bool,
     visited: Visitor<'_>,
 ) -> Result<usize, Fault> {
+    let begin = || {
+        visited.begin();
+        no_count()
+    };
     let fill = |count: &mut usize, _: usize, columns: Range<usize>| {
         let _ = visited.visit();
         *count = count.saturating_add(columns.len());
     };
     let filled = if is_merged {
-        tiles.fill_merge_collect_vec(
-            rt,
-            alloc,
-            no_count,
-            fill,
-            cells_counted,
-            usize::wrapping_add,
-        )
+        tiles.fill_merge_collect_vec(rt, alloc, begin, fill, cells_counted, usize::wrapping_add)
     } else {
-        tiles.fill_collect_vec(rt, alloc, no_count, fill, cells_counted)
+        tiles.fill_collect_vec(rt, alloc, begin, fill, cells_counted)
     };
     Ok(filled?.len())
 }
@@ -184,20 +199,23 @@ pub fn root<Rt: Threads + Wait + Sync, S: Strategy>(
     merkle::root(on.rt, on.alloc, on.strategy, on.site, nodes, combine)
 }
 
-/// A call that isn't over a list: a sort of four numbers, a join, the map of a batch of sixteen
-/// indices in four ranges, or the fill of tiles on four rows of ten.
+/// A call that isn't over a list: a sort or a change of four numbers, a join, the map of a batch of
+/// sixteen indices in four ranges, or the fill of tiles on four rows of ten.
 #[derive(Clone, Copy, Debug, PartialEq, Eq)]
 pub enum Side {
     Sort(bool),
+    Change(bool),
     Join,
     Batch(Batched),
     Fill(bool),
 }
 
 /// All of them.
-pub const SIDES: [Side; 8] = [
+pub const SIDES: [Side; 10] = [
     Side::Sort(true),
     Side::Sort(false),
+    Side::Change(false),
+    Side::Change(true),
     Side::Join,
     Side::Batch(Batched::Map),
     Side::Batch(Batched::TryMap),
@@ -210,7 +228,8 @@ pub const SIDES: [Side; 8] = [
 /// row of the tiles takes eighteen, and they stand for five times as much.
 pub fn call_of_side(side: Side) -> Call {
     let (kind, len, work) = match side {
-        Side::Sort(_) => return Call::body(4),
+        Side::Sort(_) | Side::Change(false) => return Call::body(4),
+        Side::Change(true) => return Call::body(2),
         Side::Join => return Call::join(),
         Side::Batch(_) => (Kind::Batches, 16, 48),
         Side::Fill(_) => (Kind::Tiles, 10, 360),
@@ -247,6 +266,7 @@ pub fn make_side<Rt: Threads + Wait + Abort + Sync, S: Strategy>(
     let mut numbers = [2u32, 1, 4, 3];
     match side {
         Side::Sort(is_stable) => done(sort(on, is_stable, &mut numbers, visited)),
+        Side::Change(is_chunked) => done(change(on, is_chunked, &mut numbers, visited)),
         Side::Join => join(on, visited),
         Side::Batch(batched) => tried(map_batch(on, batched, 16, four, visited)),
         Side::Fill(is_merged) => done(fill_four(on, is_merged, visited)),

@@ -1,10 +1,12 @@
 //! How often each list call cuts a list: once less often than it has segments, of which there are
-//! at most twice as many as threads.
-use crate::tests::probes::calls::{CALLS, make};
+//! at most twice as many as threads; and how often it calls its closures.
+use crate::tests::probes::calls::{CALLS, Called, make};
 use crate::tests::probes::noting::Noting;
-use crate::tests::probes::visits::Visitor;
+use crate::tests::probes::sides::{Side, make_side};
+use crate::tests::probes::visits::{Times, Visitor};
 use crate::tests::same::row;
-use crate::tests::strategies::SITE;
+use crate::tests::strategies::{SITE, pool};
+use commonware_parallel::mocks::{Explorer, Rule};
 use commonware_parallel::{Fault, Indices, On, Producer, Strategy};
 use std::alloc::Global;
 use std::process::Abort;
@@ -46,7 +48,17 @@ impl<'a, P: Producer> Producer for Cut<'a, P> {
     }
 }
 
-// Stops the test where a list call cuts a list of a thousand items more or less often than that.
+// How many states a list call begins for so many segments.
+fn states_of(called: Called, segments: usize) -> usize {
+    match called {
+        Called::MapInit | Called::MultipliedMapInit | Called::FoldInit => segments,
+        _ => 0,
+    }
+}
+
+// Stops the test where a list call cuts a list of a thousand items more or less often than that,
+// where it doesn't call its closure once for each, or begins more or fewer states than there are
+// segments.
 fn cuts<Rt: Threads + Wait + Abort + Sync, S: Strategy>(
     rt: &Rt,
     alloc: Global,
@@ -61,6 +73,7 @@ fn cuts<Rt: Threads + Wait + Abort + Sync, S: Strategy>(
     };
     for called in CALLS {
         let times = AtomicUsize::new(0);
+        let closures = Times::new();
         let list = Cut {
             list: Indices {
                 start: 3,
@@ -68,16 +81,49 @@ fn cuts<Rt: Threads + Wait + Abort + Sync, S: Strategy>(
             },
             times: &times,
         };
-        let made = make(&on, called, list, Visitor::Passes);
-        let found = (made, times.load(Ordering::SeqCst));
-        row(rt, (called, wanted), found, (Ok(()), wanted));
+        let made = make(&on, called, list, Visitor::Counts(&closures));
+        let found = (made, times.load(Ordering::SeqCst), closures.counted());
+        let states = states_of(called, wanted.saturating_add(1));
+        row(
+            rt,
+            (called, wanted),
+            found,
+            (Ok(()), wanted, (1000, states)),
+        );
     }
 }
 
 #[test]
-fn each_list_call_cuts_a_list_less_often_than_there_are_segments(rt: HostRuntime) {
+fn each_list_call_cuts_a_list_into_segments_and_begins_a_state_for_each(rt: HostRuntime) {
     let alloc = rt.alloc();
     for (threads, times) in [(1, 1), (2, 3), (3, 3), (4, 7), (7, 7), (8, 15)] {
         cuts(&rt, alloc, &Noting::new(&rt, alloc, threads), times);
+    }
+    // What goes serially is one segment.
+    for (planned, rule) in [(4, Rule::Serial), (1, Rule::Parallel)] {
+        let four = pool(&rt, alloc, 4, planned);
+        let serial = Explorer::by_rule(&four, rule).expect(&rt, "memory for a handle");
+        cuts(&rt, alloc, &serial, 0);
+    }
+}
+
+#[test]
+fn tiles_begin_a_state_for_each_worker(rt: HostRuntime) {
+    let alloc = rt.alloc();
+    for threads in 1..5usize {
+        let noting = Noting::new(&rt, alloc, threads);
+        let on = On {
+            rt: &rt,
+            alloc,
+            strategy: &noting,
+            site: SITE,
+        };
+        for is_merged in [false, true] {
+            let closures = Times::new();
+            let made = make_side(&on, Side::Fill(is_merged), Visitor::Counts(&closures));
+            row(&rt, (is_merged, threads), made, Ok(()));
+            let (_, states) = closures.counted();
+            row(&rt, (is_merged, threads), states, threads);
+        }
     }
 }

@@ -1,6 +1,29 @@
 //! What a probe has the closures of a call do.
 use crate::tests::probes::logs::{Event, Log, Who};
 use crate::tests::probes::meetings::Meeting;
+use std::sync::atomic::{AtomicUsize, Ordering};
+
+/// How often closures are called: those for items, and those that begin a state.
+#[derive(Drop)]
+pub struct Times {
+    items: AtomicUsize,
+    states: AtomicUsize,
+}
+
+impl Times {
+    pub fn new() -> Times {
+        Times {
+            items: AtomicUsize::new(0),
+            states: AtomicUsize::new(0),
+        }
+    }
+
+    /// How many items came, and how many states were begun.
+    pub fn counted(&self) -> (usize, usize) {
+        let items = self.items.load(Ordering::SeqCst);
+        (items, self.states.load(Ordering::SeqCst))
+    }
+}
 
 /// What each closure of a call does, whatever its item.
 #[derive(Clone, Copy)]
@@ -17,6 +40,10 @@ pub enum Visitor<'a> {
     Writes(&'a Log),
     /// Writes that it ran, and fails, where it may.
     Fails(&'a Log),
+    /// Counts its calls, and fails in that of a number, from 0 on, where it may.
+    FailsAt(&'a AtomicUsize, usize),
+    /// Counts its calls, and the states.
+    Counts(&'a Times),
 }
 
 impl Visitor<'_> {
@@ -24,6 +51,10 @@ impl Visitor<'_> {
     pub fn visit(self) -> Result<(), u32> {
         match self {
             Visitor::Passes | Visitor::MeetsByLevel(_) => Ok(()),
+            Visitor::Counts(times) => {
+                times.items.fetch_add(1, Ordering::SeqCst);
+                Ok(())
+            }
             Visitor::Meets(meeting) => {
                 meeting.attend();
                 Ok(())
@@ -40,6 +71,20 @@ impl Visitor<'_> {
                 log.write(Who::Body, Event::Ran);
                 Err(7)
             }
+            Visitor::FailsAt(calls, at) => {
+                if calls.fetch_add(1, Ordering::SeqCst) == at {
+                    Err(7)
+                } else {
+                    Ok(())
+                }
+            }
+        }
+    }
+
+    /// One call of the closure that begins a state.
+    pub fn begin(self) {
+        if let Visitor::Counts(times) = self {
+            times.states.fetch_add(1, Ordering::SeqCst);
         }
     }
 

@@ -1,0 +1,176 @@
+//! The callers that others may read, through any strategy, each over eight items.
+use commonware_parallel::{Fault, Site, Strategy, Trouble};
+use std::alloc::Global;
+use std::sync::Wait;
+use std::thread::Threads;
+use uses::folds::sum_of_squares;
+use uses::in_place::double_each;
+use uses::maps::{borrowed_squares, first_squares};
+use uses::merkle::{Tree, commitment};
+use uses::one_place::squares_and_sum;
+use uses::outputs::square_in_place;
+use uses::own_lists::{squares_backwards, squares_of_wrapped};
+use uses::squares::squares;
+use uses::stateful::leave_out_repeats;
+use uses::verifier::{split_by_check, sum_within, verify_all, verify_digests};
+use uses::words::longest_word;
+
+/// A caller.
+#[derive(Clone, Copy, Debug, PartialEq, Eq)]
+pub enum Caller {
+    SumOfSquares,
+    BorrowedSquares,
+    FirstSquares,
+    SquaresAndSum,
+    SquareInPlace,
+    SquaresBackwards,
+    SquaresOfWrapped,
+    Squares,
+    LeaveOutRepeats,
+    DoubleEach,
+    VerifyAll,
+    SplitByCheck,
+    SumWithin,
+    LongestWord,
+    VerifyDigests,
+    Commitment,
+    Build,
+}
+
+/// All of them.
+pub const CALLERS: [Caller; 17] = [
+    Caller::SumOfSquares,
+    Caller::BorrowedSquares,
+    Caller::FirstSquares,
+    Caller::SquaresAndSum,
+    Caller::SquareInPlace,
+    Caller::SquaresBackwards,
+    Caller::SquaresOfWrapped,
+    Caller::Squares,
+    Caller::LeaveOutRepeats,
+    Caller::DoubleEach,
+    Caller::VerifyAll,
+    Caller::SplitByCheck,
+    Caller::SumWithin,
+    Caller::LongestWord,
+    Caller::VerifyDigests,
+    Caller::Commitment,
+    Caller::Build,
+];
+
+const NUMBERS: [u32; 8] = [3, 1, 4, 1, 5, 9, 2, 6];
+
+fn is_small(number: u32) -> bool {
+    number < 10
+}
+
+// Those over numbers that stay as they are.
+fn over_numbers<Rt: Threads + Wait + Sync, S: Strategy>(
+    rt: &Rt,
+    alloc: Global,
+    strategy: &S,
+    site: Site,
+    caller: Caller,
+) -> Result<(), Fault> {
+    let numbers = NUMBERS.as_slice();
+    match caller {
+        Caller::SumOfSquares => drop(sum_of_squares(rt, alloc, strategy, site, numbers)?),
+        Caller::BorrowedSquares => drop(borrowed_squares(rt, alloc, strategy, site, numbers)?),
+        Caller::FirstSquares => drop(first_squares(rt, alloc, strategy, site, 8)?),
+        Caller::SquaresAndSum => drop(squares_and_sum(rt, alloc, strategy, site, numbers)?),
+        Caller::SquaresBackwards => drop(squares_backwards(rt, alloc, strategy, site, numbers)?),
+        Caller::SquaresOfWrapped => {
+            let (front, back) = numbers.split_at(3);
+            drop(squares_of_wrapped(rt, alloc, strategy, site, front, back)?);
+        }
+        Caller::Squares => drop(squares(rt, alloc, strategy, site, numbers)?),
+        Caller::SplitByCheck => {
+            drop(split_by_check(rt, alloc, strategy, site, numbers, is_small)?);
+        }
+        _ => drop(leave_out_repeats(rt, alloc, strategy, site, numbers)?),
+    }
+    Ok(())
+}
+
+// Those that change numbers in place.
+fn in_place<Rt: Threads + Wait + Sync, S: Strategy>(
+    rt: &Rt,
+    alloc: Global,
+    strategy: &S,
+    site: Site,
+    caller: Caller,
+) -> Result<(), Fault> {
+    let mut numbers = [3u64, 1, 4, 1, 5, 9, 2, 6];
+    if caller == Caller::SquareInPlace {
+        square_in_place(rt, alloc, strategy, site, &mut numbers)?;
+        return Ok(());
+    }
+    double_each(rt, alloc, strategy, site, &mut numbers)
+}
+
+// Those whose items may fail; all but the digests pass.
+fn fallible<Rt: Threads + Wait + Sync, S: Strategy>(
+    rt: &Rt,
+    alloc: Global,
+    strategy: &S,
+    site: Site,
+    caller: Caller,
+) -> bool {
+    match caller {
+        Caller::VerifyAll => {
+            verify_all(rt, alloc, strategy, site, NUMBERS.as_slice(), is_small).is_ok()
+        }
+        Caller::VerifyDigests => {
+            let messages: [&[u8]; 8] = [b""; 8];
+            let digests = [[0u8; 32]; 8];
+            let checked = verify_digests(rt, alloc, strategy, site, &messages, &digests);
+            matches!(checked, Err(Trouble::Closure(0)))
+        }
+        _ => {
+            let numbers = [3u64, 1, 4, 1, 5, 9, 2, 6];
+            sum_within(rt, alloc, strategy, site, &numbers, 9).is_ok()
+        }
+    }
+}
+
+// Those over texts.
+fn over_texts<Rt: Threads + Wait + Sync, S: Strategy>(
+    rt: &Rt,
+    alloc: Global,
+    strategy: &S,
+    site: Site,
+    caller: Caller,
+) -> Result<(), Fault> {
+    let leaves: [&[u8]; 8] = [b""; 8];
+    match caller {
+        Caller::LongestWord => {
+            let words = ["a", "bc", "d", "e", "fgh", "i", "j", "k"];
+            drop(longest_word(rt, alloc, strategy, site, &words)?);
+        }
+        Caller::Commitment => drop(commitment(rt, alloc, strategy, site, &leaves)?),
+        _ => drop(Tree::build(rt, alloc, strategy, site, &leaves)?),
+    }
+    Ok(())
+}
+
+/// Such a caller: whether it returns as it should.
+pub fn call<Rt: Threads + Wait + Sync, S: Strategy>(
+    rt: &Rt,
+    alloc: Global,
+    strategy: &S,
+    site: Site,
+    caller: Caller,
+) -> bool {
+    match caller {
+        Caller::SquareInPlace | Caller::DoubleEach => {
+            in_place(rt, alloc, strategy, site, caller).is_ok()
+        }
+        Caller::VerifyAll | Caller::SumWithin | Caller::VerifyDigests => {
+            fallible(rt, alloc, strategy, site, caller)
+        }
+        Caller::LongestWord | Caller::Commitment | Caller::Build => {
+            over_texts(rt, alloc, strategy, site, caller).is_ok()
+        }
+        _ => over_numbers(rt, alloc, strategy, site, caller).is_ok(),
+    }
+}
