@@ -59,7 +59,7 @@ pub use Rattle.std.specs.Vec.Iter.{into_iter_items, into_iter_len}
 pub use Rattle.std.specs.declared.ops.Range.{Range}
 pub use Rattle.std.proofs.Math.Seq.{drop-append-add}
 pub use Rattle.std.specs.Fork.{AcceptsAt, AcceptsChunksMut, ChangesAt, IsChunk, slice_chunk}
-pub use Rattle.std.specs.Fork.Halves.{AllChunks, ChangesByChunks}
+pub use Rattle.std.specs.Fork.Halves.{AllChunks}
 pub use Rattle.commonware_parallel.specs.MerkleBlocks.{AreBlocks, AreTops, IsBlockSize, Levels, leaves_below}
 pub use Rattle.parallel_bridge.specs.Fills.{IsFull, IsRoom, SamePlaces}
 pub use Rattle.parallel_bridge.specs.Windows.{Adjoins, View, part}
@@ -71,3 +71,5 @@ pub use Rattle.std.proofs.lemmas.List.{drop-drop, drop_all}
 pub use Rattle.std.proofs.lemmas.Grind.{div_ceil_times}
 pub use Rattle.std.specs.Int.{div_ceil}
 pub use Rattle.std.proofs.lemmas.Result.{IfOk-weaker}
+pub use Rattle.commonware_parallel.specs.InPlace.{Rises, part_of_cut, place_in}
+pub use Rattle.parallel_shares.specs.Cut.{CutsFrom}

@@ -1,4 +1,4 @@
--- Chains of fills and finishes, one behind another.
+-- Chains of fills and finishes, one after another.
 use Rattle.commonware_parallel.proofs.Common.{◌≡◌, ◌≢◌, ℕ, zero, suc, ◌+◌, ◌<◌, List, [], ◌∷◌, ◌++◌, refl, sym, subst, add-one, arith, Range, Stretch, Filled, no_fill, last_fill, Finished, WholeRows}
 use Rattle.commonware_parallel.proofs.Common.{whole_row, whole_rows}
 

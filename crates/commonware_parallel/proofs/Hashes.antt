@@ -1,4 +1,4 @@
--- A hash of one list behind another.
+-- A hash of one list after another.
 use Rattle.commonware_parallel.proofs.Common.{◌≡◌, ◌<◌, ◌+◌, ◌∙◌, ℕ, List, [], ◌∷◌, ◌++◌, refl, sym, ap, take, get_or, length, take_more, mixed_in, mixed_all}
 
 pub mixed_append : (hash : ℕ) (xs ys : List ℕ)
@@ -15,7 +15,7 @@ one_more start hash new bytes i below is more =
     ∙ sym (mixed_append start (take i bytes) (get_or bytes i 0 ∷ []))
     ∙ ap (mixed_all start) (sym (take_more bytes i 0 below))
 
--- three values behind the bytes
+-- three values after the bytes
 pub three_more : (start hash lined placed result line column len : ℕ) (bytes : List ℕ)
     → hash ≡ mixed_all start bytes → lined ≡ mixed_in hash line → placed ≡ mixed_in lined column
     → result ≡ mixed_in placed len

@@ -19,9 +19,11 @@ pub mod OneGrid
 pub mod RowFolds
 pub mod RowLaws
 pub mod Chunked
+pub mod CutParts
 pub use Batched.*
 pub use Chunked.*
 pub use Common.*
+pub use CutParts.*
 pub use FilledRows.*
 pub use Hashes.*
 pub use ListCalls.*

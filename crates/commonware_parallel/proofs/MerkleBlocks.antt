@@ -18,7 +18,7 @@ half_below size half (suc lower) more is at =
     (lower, refl, same, omega (arith, same, at))
 
 module _ {T : Type 0} where
-  -- what is left behind one leaf, and behind two halves
+  -- what is left after one leaf, and after two halves
   pub leaf_rest : (size : ℕ) (xs ys : List T) (l : T) → size < 2 → 0 < size → xs ≡ l ∷ ys
       → ys ≡ drop size xs
   leaf_rest size xs ys l few some is =
@@ -137,8 +137,8 @@ module _ {T : Type 0} (combine : T → T → T → Type 0) where
       (levels_append levels count xs ys ms ns (whole ∙ ap (λ n. count * n) at) (h levels at)
       (k levels at)))
 
-  -- Tops that were pushed behind those that are done are tops of all leaves: whatever tops the rest
-  -- has, behind what is done they are those of all.
+  -- Tops that were pushed after those that are done are tops of all leaves: whatever tops the rest
+  -- has, after what is done they are those of all.
   abbrev pub LeadsToTops : ℕ → List T → List T → List T → Type 0
   LeadsToTops size all done left = (levels : ℕ) → size ≡ leaves_below levels → (more : List T)
       → Levels combine levels left more → Levels combine levels all (done ++ more)
@@ -191,7 +191,7 @@ pub block_none : (size len count : ℕ) → AreBlocks size len count → count �
 block_none size len count blocks none =
     omega (arith, blocks.0, ap (λ n. n * size) none ∙ zero-mul size)
 
--- behind the first block there is one less
+-- after the first block there is one less
 pub block_less : (size len count rest less : ℕ) → AreBlocks size len count → count ≡ less + 1
     → rest ≡ len - size → AreBlocks size rest less
 block_less size len count rest less blocks more left =
@@ -199,7 +199,7 @@ block_less size len count rest less blocks more left =
     ap (λ n. n * size) more ∙ add-mul less 1 size ∙ ap (λ n. less * size + n) (one-mul size) in
     (omega (arith, blocks.0, all, left), omega (arith, blocks.1, all, left))
 
--- so many whole blocks in front, fewer than there are, and those of the rest
+-- that many whole blocks in front, fewer than there are, and those of the rest
 pub blocks_after : (size len count front : ℕ) → AreBlocks size len count → front < count
     → (front * size ≤ len) × AreBlocks size (len - front * size) (count - front)
 blocks_after size len count front blocks fewer =

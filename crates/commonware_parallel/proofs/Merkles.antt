@@ -38,7 +38,7 @@ module _ {T : Type 0} (combine : T → T → T → Type 0) where
       subst (λ l. MerkleRoot combine l (Some x))
       (sym (split ∙ ap (λ l. l ++ x ∷ []) (nil_from_length rest none))) of_one
 
-  -- whatever next level what is left has, behind what is done it is that of all
+  -- whatever next level what is left has, after what is done it is that of all
   abbrev pub Leads : List T → List T → List T → Type 0
   Leads all done left = (more : List T) → NextLevel combine left more
       → NextLevel combine all (done ++ more)
@@ -65,7 +65,7 @@ module _ {T : Type 0} (combine : T → T → T → Type 0) where
   leads_none all done xs leads none = subst (NextLevel combine all) (append-nil done)
       (leads [] (subst (λ l. NextLevel combine l []) (sym (nil_from_length xs none)) refl))
 
-  -- answers for the pairs, and behind them the odd last one, are the next level
+  -- results for the pairs, and after them the odd last one, are the next level
   pub level_of_pairs : (allowed : T × T → T → Type 0)
       → ((p : T × T) (node : T) → allowed p node → combine p.0 p.1 node) → (level nodes : List T)
       → MapOf allowed (pairs_of level) nodes
@@ -78,8 +78,8 @@ module _ {T : Type 0} (combine : T → T → T → Type 0) where
   level_of_pairs allowed told (x ∷ (y ∷ xs)) (n ∷ nodes) h =
       (told (x, y) n h.0, level_of_pairs allowed told xs nodes h.1)
 
-  -- the same of what a map over the pairs says, where the odd last one was pushed behind its
-  -- answers
+  -- the same of what a map over the pairs says, where the odd last one was pushed after its
+  -- results
   pub level_from_map : (allowed : T × T → T → Type 0) (level nodes all : List T)
       (pairs : List (T × T)) (odd : Option T)
       → ((xs : List (T × T)) × (xs ≡ pairs) × MapOf allowed xs nodes)
@@ -91,7 +91,7 @@ module _ {T : Type 0} (combine : T → T → T → Type 0) where
       (level_of_pairs allowed told level nodes
       (subst (λ l. MapOf allowed l nodes) (came ∙ taken) maps))
 
-  -- one level is one at most where combine answers one
+  -- one level is one at most where combine returns one
   module _ (one_answer : IsDetermined combine) where
     one_next : (xs ms ns : List T) → NextLevel combine xs ms → NextLevel combine xs ns → ms ≡ ns
     one_next [] ms ns h k = h ∙ sym k

@@ -29,7 +29,7 @@ times_all k (r ∷ rs) =
       times_all k rs,
     )
 
--- two cuttings, one behind the other
+-- two cuttings, one after the other
 pub cut_append : (len : ℕ) (ss ts : List Stretch)
     → cut_cells len (ss ++ ts) ≡ cut_cells len ss ++ cut_cells len ts
 cut_append len [] ts = refl
@@ -93,7 +93,7 @@ module _ (len row column : ℕ) (below : column < len) where
         total_append (same_number (row * len + column)) (stretch_cells len s) (cut_cells len ss),
       )
 
--- a row at or behind another one does not start before it
+-- a row at or after another one does not start before it
 starts_behind : (rows row len : ℕ) → rows ≤ row → rows * len ≤ row * len
 starts_behind rows row len h =
     elim (cases_lt rows row) as (λ _. rows * len ≤ row * len) [
@@ -109,7 +109,7 @@ row_there rows row len h = elim (cases_lt row rows) as (λ _. row < rows) [
   | inr m ↦ absurd (omega (arith, h, starts_behind rows row len m))
 ]
 
--- where no cell is at or behind the rows, no stretch is
+-- where no cell is at or after the rows, no stretch is
 within_rows : (rows len : ℕ) (cut : List Stretch) → All (IsStretch len) cut
     → ((k : ℕ) → rows * len ≤ k → times k (cut_cells len cut) ≡ 0)
     → All (λ s. (s.row < rows) × IsStretch len s) cut

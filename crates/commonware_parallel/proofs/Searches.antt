@@ -1,4 +1,4 @@
--- What a search through the rules answers, from what its runs did.
+-- What a search through the rules returns, from what its runs did.
 use Rattle.commonware_parallel.proofs.Common.{◌≡◌, [], ◌∷◌, ◌++◌, List, Bool, Result, Ok, Err, IsErrAnd, refl, sym, subst, Bor, Explorer}
 use Rattle.commonware_parallel.specs.Exploring.{RunsBy, Compares, Agree, Explored, rules_behind}
 use Rattle.commonware_parallel.specs.declared.mocks.explore_error.ExploreError.{ExploreError}
@@ -6,7 +6,7 @@ use Rattle.commonware_parallel.specs.declared.mocks.explore_error.ExploreError.T
 use Rattle.commonware_parallel.specs.declared.mocks.rule.Rule.{Rule}
 use Rattle.commonware_parallel.specs.declared.mocks.rule.Rule.TheVariants.{Serial}
 
--- the runs so far: the serial one, and behind it those by these rules, which agree with it
+-- the runs so far: the serial one, and after it those by these rules, which agree with it
 pub record AgreeSoFar {F R : Type 0} (step : F → Bor Explorer → R → F → Type 0)
     (eq : R → R → Bool) (f : F) (serial : R) (before : List Rule) (h : F) : Type 0 where
   pub behind : F

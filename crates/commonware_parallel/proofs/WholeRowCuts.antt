@@ -25,7 +25,7 @@ some_number a (suc m) xs p e =
     let l : suc (length (range_with_len (a + 1) m ++ xs)) ≡ 0 = ap length e in
     omega (arith, l)
 
--- behind the shorter of two beginnings
+-- after the shorter of two beginnings
 left_over : (a b m n : ℕ) (xs ys : List ℕ) → a ≡ b → m ≤ n
     → range_with_len a m ++ xs ≡ range_with_len b n ++ ys
     → xs ≡ range_with_len (b + m) (n - m) ++ ys
@@ -42,7 +42,7 @@ left_over a b m n xs ys same short e =
 -- ---- a cutting of whole rows is whole rows
 
 module _ (len : ℕ) (wide : 0 < len) where
-  -- behind a stretch that ends inside its row, its row does not go on
+  -- after a stretch that ends inside its row, its row does not go on
   not_short : (s : Stretch) (ss : List Stretch) (j : ℕ) (ys : List ℕ) → AreApart len (s ∷ ss)
       → s.columns.end < len → 0 < j → cut_cells len ss ≡ range_with_len
       (s.row * len + s.columns.end) j ++ ys → ⊥
@@ -93,7 +93,7 @@ module _ (len : ℕ) (wide : 0 < len) where
 
 -- ---- claims of whole rows
 
--- so many whole rows, from one on
+-- that many whole rows, from one on
 abbrev rows_from : ℕ → ℕ → ℕ → List Stretch
 rows_from len row zero = []
 rows_from len row (suc n) = whole_row len row ∷ rows_from len (row + 1) n

@@ -2,13 +2,13 @@
 use Rattle.std.specs.Prelude.{◌≡◌, ℕ, zero, suc, ◌+◌, ◌*◌, ◌<◌, ◌≤◌, List}
 use Rattle.commonware_parallel.specs.Merkle.{NextLevel}
 
--- the nodes so many levels above the leaves
+-- the nodes that many levels above the leaves
 abbrev pub Levels : {T : Type 0} → (T → T → T → Type 0) → ℕ → List T → List T → Type 0
 Levels combine zero leaves nodes = nodes ≡ leaves
 Levels {T = T} combine (suc levels) leaves nodes =
     (above : List T) × NextLevel combine leaves above × Levels combine levels above nodes
 
--- How many leaves are below a node so many levels above them, where none is missing: each level
+-- How many leaves are below a node that many levels above them, where none is missing: each level
 -- doubles them.
 abbrev pub leaves_below : ℕ → ℕ
 leaves_below zero = 1
@@ -19,7 +19,7 @@ abbrev pub IsBlockSize : ℕ → Type 0
 IsBlockSize size = (levels : ℕ) × (size ≡ leaves_below levels)
 
 -- The nodes at the level at which a full block of that many leaves is one node. Of leaves that fill
--- so many blocks it has as many, and one more where some leaves are left.
+-- that many blocks it has as many, and one more where some leaves are left.
 abbrev pub AreTops : {T : Type 0} → (T → T → T → Type 0) → ℕ → List T → List T → Type 0
 AreTops combine size leaves tops = (levels : ℕ) → size ≡ leaves_below levels
     → Levels combine levels leaves tops

@@ -22,6 +22,7 @@ pub use Rattle.parallel_shares.specs.Grid.{Fits}
 pub use Rattle.commonware_parallel.specs.Answers.{AnswersAs, OfOne, OneOf}
 pub use Rattle.commonware_parallel.specs.Batches.{IsBatch, OnSomeBatch, ranges_of}
 pub use Rattle.commonware_parallel.specs.Calls.{AtSomePath, body_call, goes_by_path, join_call, multiplied_call, spawn_call}
+pub use Rattle.commonware_parallel.specs.InPlace.{AcceptsParts, ChangesParts}
 pub use Rattle.commonware_parallel.specs.ListCalls.{Asked, AskedOver, GoesByLength}
 pub use Rattle.commonware_parallel.specs.RowFolds.{AskedByRow, FoldsRows, GivesRows, IsAdditive, IsPartOfRows}
 pub use Rattle.commonware_parallel.specs.Spawned.{BeginsAs, FailsToSpawn, gives_answer}

@@ -1,5 +1,5 @@
 //! Batches: balanced ranges of the indices of a list, and the calls that go over them.
-ghost use Rattle.std.specs.Prelude.{◌≡◌, ◌↔◌, ◌+◌, ◌/◌, ◌<◌, ◌≤◌, [], ◌∷◌, Vec, length, All, IfErr, IfOk, IsTrue, Ok, max};
+ghost use Rattle.std.specs.Prelude.{◌≡◌, ◌≢◌, ◌↔◌, ◌+◌, ◌/◌, ◌<◌, ◌≤◌, [], ◌∷◌, Vec, length, All, IfErr, IfOk, IsTrue, Ok, OnOk, max};
 ghost use Rattle.std.specs.Fn.{FnOnceReturnsAt, FnOnceTakesAt};
 ghost use Rattle.std.specs.List.{Contains};
 ghost use Rattle.parallel_bridge.specs.Lists.{MapOf};
@@ -7,10 +7,13 @@ ghost use Rattle.parallel_bridge.specs.Outcomes.{listed};
 ghost use Rattle.parallel_bridge.specs.Tries.{TryMapOf};
 ghost use Rattle.std.specs.Int.NonZero.{non_zero_usize_get};
 ghost use Rattle.parallel_fault.specs.Trouble.{IsMemoryOnErr};
-ghost use Rattle.parallel_shares.specs.Cut.{BalancedCut, range_length};
+ghost use Rattle.parallel_shares.specs.Cut.{BalancedCut, CutsFrom, range_length};
 
 mod prepared;
 
+use crate::call::Call;
+use crate::chosen::{begin_path, end_run, threads_by};
+use crate::in_place::each_part;
 use crate::strategy::Strategy;
 use parallel_fault::{Fault, Trouble};
 use parallel_policy::Place;
@@ -32,6 +35,7 @@ pub struct Batches<'scope, S, P> {
 
 impl<'scope, S: Strategy, P: Place> Batches<'scope, S, P> {
     ghost use Rattle.commonware_parallel.specs.Batches.{AnswersPrepared, FailsPrepared, IsBatch, place_of, ranges_of, strategy_of};
+    ghost use Rattle.commonware_parallel.specs.Words.{AcceptsParts, Asked, ChangesParts, body_call};
 
     /// One range, `0..len`. An empty input has one range too, which is `0..0`.
     ///
@@ -117,15 +121,15 @@ impl<'scope, S: Strategy, P: Place> Batches<'scope, S, P> {
         self.ranges.len() == 1
     }
 
-    /// The answers of `map_op` for the items that `prepare` makes of the ranges, in the items'
+    /// The results of `map_op` for the items that `prepare` makes of the ranges, in the items'
     /// order (`MapOf`). A whole batch is mapped on the caller's thread, and any other is handed to
     /// the batch's strategy with the batch's place. By which of the two it went no clause says: a
     /// test counts how often the strategy is asked.
     ///
     /// # Errors
     ///
-    /// The refusal that `prepare` answers, and `map_op` isn't called then; or `Fault::Memory` of
-    /// the map's own, behind items that were prepared.
+    /// The refusal that `prepare` returns, and `map_op` isn't called then; or `Fault::Memory` of
+    /// the map's own, after items were prepared.
     pub fn map_collect_vec<
         Rt: Threads + Wait + Sync,
         T: Send + Drop,
@@ -149,14 +153,14 @@ impl<'scope, S: Strategy, P: Place> Batches<'scope, S, P> {
         Ok(answers)
     }
 
-    /// The same with a closure that may fail: the answers, or the error of the first item in the
+    /// The same with a closure that may fail: the results, or the error of the first item in the
     /// list that fails (`TryMapOf`), whichever thread was first.
     ///
     /// # Errors
     ///
     /// `Trouble::Closure` with that error. `Trouble::Fault` with the refusal that `prepare`
-    /// answers, and `map_op` isn't called then; or with `Fault::Memory` of the map's own, behind
-    /// items that were prepared.
+    /// returns, and `map_op` isn't called then; or with `Fault::Memory` of the map's own, after
+    /// items were prepared.
     pub fn try_map_collect_vec<
         Rt: Threads + Wait + Sync,
         T: Send + Drop,
@@ -177,7 +181,54 @@ impl<'scope, S: Strategy, P: Place> Batches<'scope, S, P> {
         try_map_prepared(self.strategy, rt, alloc, self.site, is_whole, items, map_op)
     }
 
-    // The batch of so many ranges, of which of two or more none is shorter than the minimum.
+    /// Changes each range's part of the items where it lies: `op` is called with the index at which
+    /// it begins and the part (`ChangesParts`). The items are as many as the batch's indices. A
+    /// whole batch is changed on the caller's thread; the parts of any other are split among at
+    /// most as many threads as the strategy has, which is asked by their number (`asked`).
+    ///
+    /// ```text
+    /// let batch = |batches: Batches<'_, S, P>| {
+    ///     batches.for_each_mut(rt, alloc, list, |from: usize, part: &mut [u64]| fill(from, part))
+    /// };
+    /// strategy.run_batches(rt, alloc, SITE, len, minimum, 1, batch)??;
+    /// ```
+    ///
+    /// # Errors
+    ///
+    /// `Fault::Memory` alone, and only what `refuses` allows; `op` was called with no part then,
+    /// and the list is as it was.
+    pub fn for_each_mut<
+        Rt: Threads + Wait + Sync,
+        T: Send,
+        F: Fn(usize, &mut [T]) + Send + Sync + Drop,
+    >(self, rt: &Rt, alloc: Global, items: &mut [T], op: F) -> Result<(), Fault>
+        requires cut { CutsFrom 0 (ranges_of self) (length items.old) }
+        requires accepts { AcceptsParts F.Fn op (ranges_of self) items.old }
+        ensures changes { OnOk result
+            (ChangesParts F.Fn op (ranges_of self.entry) items.old items.new) }
+        ensures unchanged { IfErr result (λ _. items.new ≡ items.old) }
+        ensures asked { OnOk result (length (ranges_of self.entry) ≢ 1
+            → Asked (S.takes (strategy_of self.entry) (P.site_of (place_of self.entry))
+            (body_call (length (ranges_of self.entry))))) }
+        ensures refused { IfErr result
+            (S.refuses (strategy_of self.entry) (P.site_of (place_of self.entry))
+            (body_call (length (ranges_of self.entry)))) }
+        ensures fault { IsMemoryOnErr result }
+    {
+        let ranges = self.ranges.as_slice();
+        if ranges.len() == 1 {
+            each_part(rt, NonZeroUsize::MIN, ranges, items, &op);
+            return Ok(());
+        }
+        let strategy = self.strategy;
+        let call = Call::body(ranges.len());
+        let (path, running) = begin_path(strategy, rt, alloc, self.site, call)?;
+        each_part(rt, threads_by(strategy, path), ranges, items, &op);
+        end_run(strategy, rt, running, true);
+        Ok(())
+    }
+
+    // The batch of that many ranges, of which of two or more none is shorter than the minimum.
     pub(crate) fn in_parts(
         alloc: Global,
         strategy: &'scope S,

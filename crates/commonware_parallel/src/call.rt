@@ -1,4 +1,4 @@
-//! What a strategy is asked, and what it answers: calls and picks.
+//! What a strategy is asked, and what it returns: calls and picks.
 ghost use Rattle.std.specs.Prelude.{◌≡◌, ◌<◌, ◌≤◌, false, true};
 ghost use Rattle.std.specs.Int.NonZero.{non_zero_usize_get};
 ghost use Rattle.commonware_parallel.specs.Calls.{HasPick, batches_call, body_call, first_pick, goes_by_path, join_call, last_pick, multiplied_call, nth_pick};
@@ -181,7 +181,7 @@ impl Call {
         }
     }
 
-    /// The pick that has so many before it: 0 is the first.
+    /// The pick that has that many before it: 0 is the first.
     pub fn nth(self, index: usize) -> Pick
         requires { index < options_of self }
         ensures pick { result ≡ nth_pick self index }

@@ -16,7 +16,7 @@ use std::sync::Wait;
 /// What a strategy writes: `choose`, readers of its numbers, `inner`, the type `Measure`, and six
 /// ghost members, in which it says what it may pick. One that learns by measuring writes `tell` too.
 ///
-/// A strategy is asked before a run, and told how long it went where it has answered; the run
+/// A strategy is asked before a run, and told how long it went where it has returned; the run
 /// itself is the trait's. Whatever chooses is a `Strategy`, so bounds name that trait.
 pub trait Chooser: Clone + Send + Sync + Debug + 'static {
     ghost use Rattle.parallel_policy.specs.declared.Site.{Site};
@@ -101,7 +101,7 @@ pub trait Chooser: Clone + Send + Sync + Debug + 'static {
         ensures refused { IfErr result (refuses self.now (P.site_of site) call) }
         ensures memory { call.kind ≢ Spawn → IsMemoryOnErr result };
 
-    /// Is told that a run for which it chose has answered. Of one that failed, or was refused,
+    /// Is told that a run for which it chose has returned. Of one that failed, or was refused,
     /// nothing is told. A job ends away from its strategy, so its measure alone is told of its end.
     ///
     /// Nothing is claimed of what is learnt. Where it isn't written the measure is ended.

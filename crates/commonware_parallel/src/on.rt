@@ -34,7 +34,7 @@ pub struct On<'s, Rt, S, P> {
 }
 
 impl<'s, Rt: Threads + Wait + Sync, S: Strategy, P: Place> On<'s, Rt, S, P> {
-    /// An answer of each of two closures: `Strategy::join`.
+    /// A result of each of two closures: `Strategy::join`.
     ///
     /// # Errors
     ///
@@ -140,7 +140,7 @@ impl<'s, Rt: Threads + Wait + Sync, S: Strategy, P: Place> On<'s, Rt, S, P> {
             .for_each_chunk_mut(self.rt, self.alloc, self.site, items, size, op)
     }
 
-    /// The answers for the items, in their order: `Strategy::map_collect_vec`.
+    /// The results for the items, in their order: `Strategy::map_collect_vec`.
     ///
     /// # Errors
     ///
@@ -258,7 +258,7 @@ impl<'s, Rt: Threads + Wait + Sync, S: Strategy, P: Place> On<'s, Rt, S, P> {
         )
     }
 
-    /// The answers, or the first failing item's error: `Strategy::try_map_collect_vec`.
+    /// The results, or the first failing item's error: `Strategy::try_map_collect_vec`.
     ///
     /// # Errors
     ///
@@ -283,7 +283,7 @@ impl<'s, Rt: Threads + Wait + Sync, S: Strategy, P: Place> On<'s, Rt, S, P> {
             .try_map_collect_vec(self.rt, self.alloc, self.site, source, map_op)
     }
 
-    /// The answers with a state at hand: `Strategy::map_init_collect_vec`.
+    /// The results with a state at hand: `Strategy::map_init_collect_vec`.
     ///
     /// # Errors
     ///

@@ -145,7 +145,7 @@ impl<C> Rayon<C> {
     }
 
     /// The same strategy, which starts no worker for a job: where it hands a job off the job is
-    /// dropped, and its answer stays pending. All other calls go as before, on scoped threads.
+    /// dropped, and its result stays pending. All other calls go as before, on scoped threads.
     pub fn without_workers(self) -> Rayon<C>
         ensures { result ≡ record self { starts = false } }
     {

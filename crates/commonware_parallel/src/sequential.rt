@@ -38,7 +38,7 @@ use std::sync::Wait;
 /// Runs each call on the caller's own thread, in one piece.
 ///
 /// Its own functions have the names of the trait's, take no right to wait or to start threads, and
-/// say the one answer that there is. In code that is generic over `Strategy` the trait's are
+/// say the one result that there is. In code that is generic over `Strategy` the trait's are
 /// called.
 #[derive(Clone, Copy, Debug, Default)]
 pub struct Sequential;
@@ -46,7 +46,7 @@ pub struct Sequential;
 impl Sequential {
     ghost use Rattle.commonware_parallel.specs.Spawned.{BeginsAs, gives_answer};
 
-    /// An answer of the serial body. The parallel one isn't called. Takes no memory.
+    /// A result of the serial body. The parallel one isn't called. Takes no memory.
     pub fn run<P: Place, R, A: FnOnce() -> R, B: FnOnce() -> R + Drop>(
         &self,
         _site: P,
@@ -60,7 +60,7 @@ impl Sequential {
         serial()
     }
 
-    /// An answer of the serial body, or its error. The parallel one isn't called. Takes no memory.
+    /// A result of the serial body, or its error. The parallel one isn't called. Takes no memory.
     ///
     /// # Errors
     ///
@@ -78,7 +78,7 @@ impl Sequential {
         serial()
     }
 
-    /// The answers of `map_op` for the items as they come, in their order. Its list alone is
+    /// The results of `map_op` for the items as they come, in their order. Its list alone is
     /// gathered.
     ///
     /// # Errors
@@ -186,7 +186,7 @@ impl Sequential {
     ///
     /// # Errors
     ///
-    /// The error of the first step that fails, behind which the other items are passed over.
+    /// The error of the first step that fails, after which the other items are passed over.
     pub fn try_fold<
         P: Place,
         I: Iterator,
@@ -209,8 +209,8 @@ impl Sequential {
         try_fold_iter(iter, &identity, &fold_op)
     }
 
-    /// The values that `map_op` answers for the items, in their order, or the error of the first
-    /// item that fails (`TryMapOf`), behind which the other items are passed over.
+    /// The values that `map_op` returns for the items, in their order, or the error of the first
+    /// item that fails (`TryMapOf`), after which the other items are passed over.
     ///
     /// # Errors
     ///
@@ -234,7 +234,7 @@ impl Sequential {
         try_map_iter(alloc, iter, &map_op)
     }
 
-    /// The answers of `map_op` for the items, in their order, with one state at hand that `init`
+    /// The results of `map_op` for the items, in their order, with one state at hand that `init`
     /// makes and that goes from item to item (`StateSegment`).
     ///
     /// # Errors
@@ -300,7 +300,7 @@ impl Sequential {
         self.map_init_collect_vec(alloc, site, iter, init, map_op)
     }
 
-    /// The values that `map_op` answers, and the keys of the items for which it answers none, both
+    /// The values that `map_op` returns, and the keys of the items for which it returns none, both
     /// in the items' order (`PartitionOf`).
     ///
     /// # Errors
@@ -326,7 +326,7 @@ impl Sequential {
         Ok(parts)
     }
 
-    /// An answer of each closure, the first one run first. Takes no memory.
+    /// A result of each closure, the first one run first. Takes no memory.
     pub fn join<P: Place, A: FnOnce() -> RA, B: FnOnce() -> RB, RA, RB>(
         &self,
         _site: P,
@@ -407,7 +407,7 @@ impl Sequential {
         each_chunk_in_turn(size, items, &op);
     }
 
-    /// A job, run at once on this strategy: its answer is there, so that the first poll gives it.
+    /// A job, run at once on this strategy: its result is there, so that the first poll gives it.
     ///
     /// `rt` is what a later poll needs, and is looked at by none before. The length tells no policy
     /// anything. Takes no memory.

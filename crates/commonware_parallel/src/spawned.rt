@@ -1,4 +1,4 @@
-//! Jobs that go on while their caller does, and their answers.
+//! Jobs that go on while their caller does, and their results.
 ghost use Rattle.std.specs.Prelude.{◌≡◌, ◌≢◌, IfSome, IsSome, None, false, true};
 ghost use Rattle.futures.specs.Poll.{IfReady, OnPending};
 ghost use Rattle.futures.specs.Task.{Covers, Keeps};
@@ -21,21 +21,21 @@ use std::thread::{PromisedHandle, Threads};
 // How far a job is.
 #[derive(Drop)]
 pub(crate) enum Stage<S, F: Job<S, T>, T> {
-    // Its answer is here.
+    // Its result is here.
     Ready(T),
     // It was handed off to a worker, which tells when it ends.
     Waiting(PromisedHandle<T, Kept<S, F>>, Arc<Ending, Global>),
     // There is no worker, and won't be one.
     Unstarted,
-    // Its answer was taken.
+    // Its result was taken.
     Taken,
 }
 
-/// A job that was spawned: its answer, or what waits for it.
+/// A job that was spawned: its result, or what waits for it.
 ///
-/// It is ready at once, or waits for a worker. As a future it gives the job's answer, once; a task
+/// It is ready at once, or waits for a worker. As a future it gives the job's result, once; a task
 /// or `block_on` of `futures` waits for it, and `poll` asks by hand. Dropped before its job has
-/// ended it leaves the job to run, and the answer goes with it.
+/// ended it leaves the job to run, and the result goes with it.
 #[derive(Drop)]
 pub struct Spawned<R, S, F: Job<S, T>, T> {
     rt: R,
@@ -59,14 +59,14 @@ impl<R, S, F: Job<S, T>, T> Spawned<R, S, F, T> {
         }
     }
 
-    /// Whether the answer is here already, so that the next poll gives it without a wait.
+    /// Whether the result is here already, so that the next poll gives it without a wait.
     pub fn is_ready(&self) -> bool
         ensures { result ≡ is_ready_now self.now }
     {
         matches!(self.stage, Stage::Ready(_))
     }
 
-    // Whether the answer was taken.
+    // Whether the result was taken.
     fn is_taken(&self) -> bool
         ensures { result ≡ is_taken self.now }
     {
@@ -77,7 +77,7 @@ impl<R, S, F: Job<S, T>, T> Spawned<R, S, F, T> {
 impl<R, S: Drop, F: Job<S, T> + Drop, T: Drop> Spawned<R, S, F, T> {
     ghost use Rattle.commonware_parallel.specs.Spawned.{gives_answer, is_ready_now, is_taken, stage_of};
 
-    /// The answer, where it is here already: it is taken then, without a poll and so without the
+    /// The result, where it is here already: it is taken then, without a poll and so without the
     /// right to wait. Where it isn't here there is none, and nothing changes.
     pub fn take_ready(&mut self) -> Option<T>
         ensures value { IfSome result (gives_answer F.may_answer self.old) }
@@ -105,10 +105,10 @@ impl<R, S: Drop, F: Job<S, T> + Drop, T: Drop> Spawned<R, S, F, T> {
 impl<R: Threads + Wait, S: Drop, F: Job<S, T> + Drop, T: Drop> Spawned<R, S, F, T> {
     ghost use Rattle.commonware_parallel.specs.Spawned.{gives_answer, is_ready_now, is_taken, needs_of, stage_of};
 
-    /// The answer, once it is here.
+    /// The result, once it is here.
     ///
     /// A pending poll has left its task's waker, and so the task is polled again once the job has
-    /// ended; a poll that sees the end joins the worker. After the answer was taken every poll is
+    /// ended; a poll that sees the end joins the worker. After the result was taken every poll is
     /// pending and leaves nothing.
     pub fn poll(&mut self, cx: &mut Context<'_>) -> Poll<T>
         ensures value { IfReady result (gives_answer F.may_answer self.old) }

@@ -38,7 +38,7 @@ use std::thread::{self, Threads};
 /// strategies.
 ///
 /// A strategy chooses and does nothing else: it implements `Chooser`, and is a `Strategy` by that.
-/// It is asked about a `Call`, and answers a `Pick`, one that the call has: a path, serial or
+/// It is asked about a `Call`, and returns a `Pick`, one that the call has: a path, serial or
 /// parallel, or a number of ranges or workers. What the call then does is one of the `final`
 /// functions below, proved here once for every strategy: an implementation can't break what they
 /// say.
@@ -61,7 +61,7 @@ use std::thread::{self, Threads};
 /// `identity`, `init`, `reduce_op` and `compare` have to accept every value of their arguments'
 /// types.
 pub trait Strategy: Chooser {
-    /// An answer of one of two bodies, by the path that the strategy takes. `len` is the number of
+    /// A result of one of two bodies, by the path that the strategy takes. `len` is the number of
     /// items that the bodies stand for, by which a policy tells calls apart.
     ///
     /// ```text
@@ -136,7 +136,7 @@ pub trait Strategy: Chooser {
         end_with(self, rt, running, outcome)
     }
 
-    /// An answer of each of two closures, which are run serially one after the other, and in
+    /// A result of each of two closures, which are run serially one after the other, and in
     /// parallel side by side, one of them on the caller's thread.
     ///
     /// ```text
@@ -174,7 +174,7 @@ pub trait Strategy: Chooser {
     /// own. In parallel, where workers aren't started, it is dropped and stays pending
     /// (`BeginsAs`).
     ///
-    /// Whatever it answers is an answer that the job allows on a clone (`gives`). `len` is the
+    /// Whatever it returns is a result that the job allows on a clone (`gives`). `len` is the
     /// number of items that the job stands for, by which a policy tells calls apart.
     ///
     /// ```text
@@ -217,8 +217,8 @@ pub trait Strategy: Chooser {
     /// sorts them; in parallel, where there are enough of them to gain, the pool's thread number of
     /// parts is sorted side by side first.
     ///
-    /// The order has to be lawful: a strict weak order that `compare` answers by. Whatever
-    /// `compare` answers, the items are those that were there before. The strategy is asked as for
+    /// The order has to be lawful: a strict weak order that `compare` follows. Whatever
+    /// `compare` returns, the items are those that were there before. The strategy is asked as for
     /// a body over the items, and may measure the sort (`asked`).
     ///
     /// ```text
@@ -343,7 +343,7 @@ pub trait Strategy: Chooser {
         Ok(())
     }
 
-    /// The answers of `map_op` for the items, in the items' order (`MapOf`). The strategy is asked
+    /// The results of `map_op` for the items, in the items' order (`MapOf`). The strategy is asked
     /// by the number of items (`asked`).
     ///
     /// ```text
@@ -430,8 +430,8 @@ pub trait Strategy: Chooser {
     /// segments' results reduced, left before right (`Bracketing`).
     ///
     /// Serially the list is one segment and nothing is reduced. In parallel it goes along the
-    /// list's shape for the pool's thread number, and each leaf is reduced behind a further
-    /// identity (`FoldedAs`). `parallel_bridge::fold_law` says when every such answer is the plain
+    /// list's shape for the pool's thread number, and each leaf is reduced after a further
+    /// identity (`FoldedAs`). `parallel_bridge::fold_law` says when every such result is the plain
     /// fold from the left.
     ///
     /// ```text
@@ -557,7 +557,7 @@ pub trait Strategy: Chooser {
     /// The items folded up to the first step that fails, in neighbouring segments, each from an
     /// identity of its own, and the segments' values reduced, left before right (`TryBracketing`).
     ///
-    /// A segment ends at its own first error, and of several the leftmost is answered, whichever
+    /// A segment ends at its own first error, and of several the leftmost is returned, whichever
     /// segment ended first. Where a segment has failed, the closures may go uncalled for the items
     /// to the right of it. The forms of the segments are those of `fold` (`TryFoldedAs`).
     ///
@@ -618,8 +618,8 @@ pub trait Strategy: Chooser {
         outcome
     }
 
-    /// The values that `map_op` answers for the items, in the items' order, or the error of the
-    /// first item that fails, whichever part of the list ended first (`TryMapOf`). Behind an item
+    /// The values that `map_op` returns for the items, in the items' order, or the error of the
+    /// first item that fails, whichever part of the list ended first (`TryMapOf`). After an item
     /// that fails the closure may go uncalled.
     ///
     /// ```text
@@ -660,7 +660,7 @@ pub trait Strategy: Chooser {
         outcome
     }
 
-    /// The answers of `map_op` for the items, in the items' order, with a state at hand that goes
+    /// The results of `map_op` for the items, in the items' order, with a state at hand that goes
     /// from item to item of a segment and begins there as a value of `init` (`Stateful`).
     ///
     /// Serially the list is one segment with one state. In parallel the states change at the
@@ -769,7 +769,7 @@ pub trait Strategy: Chooser {
         mapped
     }
 
-    /// The values that `map_op` answers, and the keys of the items for which it answers none, both
+    /// The values that `map_op` returns, and the keys of the items for which it returns none, both
     /// in the items' order (`PartitionOf`).
     ///
     /// ```text
@@ -812,7 +812,7 @@ pub trait Strategy: Chooser {
         sides
     }
 
-    /// An answer of `run` over a batch of `0..len`: balanced ranges, as many as the strategy picks.
+    /// A result of `run` over a batch of `0..len`: balanced ranges, as many as the strategy picks.
     /// Of two or more none is shorter than `minimum` (`IsBatch`); a whole one may be.
     ///
     /// There are at most as many ranges as the strategy is planned for. The work, by which a policy
@@ -894,7 +894,7 @@ pub trait Strategy: Chooser {
         end_with(self, rt, running, outcome)
     }
 
-    /// An answer of `run` over tiles of one of `grids`, on rows of `len` columns: of the first one
+    /// A result of `run` over tiles of one of `grids`, on rows of `len` columns: of the first one
     /// of least cost for as many workers as the strategy picks (`IsTiling`).
     ///
     /// There are at most as many workers as the strategy is planned for. The work, by which a

@@ -77,7 +77,7 @@ impl<'scope, S: Strategy, P: Place> Tiles<'scope, S, P> {
         !self.whole
     }
 
-    // Tiles of the grid of least cost for so many workers.
+    // Tiles of the grid of least cost for that many workers.
     pub(crate) fn for_workers(
         strategy: &'scope S,
         site: P,
@@ -123,7 +123,7 @@ impl<'scope, S: Strategy, P: Place> Tiles<'scope, S, P> {
     }
 
     /// A result for each stretch of the grid: `fill` is lent a state with a row and neighbouring
-    /// columns of it, until the stretch is filled, and then `finish` answers for the row.
+    /// columns of it, until the stretch is filled, and then `finish` gives its result.
     ///
     /// The stretches cut the grid (`CutsRectangle`): each cell is in just one. Where rows aren't
     /// cut each is a whole row. Stretches and results fall into chains (`Chains`), each from a

@@ -61,7 +61,7 @@ pub(crate) fn refill_at(rt: &impl Abort, shares: &Shares, seats: &mut Vec<Seat>,
     shares.refill(seat);
 }
 
-// The seat at a place claims until its own word is empty, and answers its last claim.
+// The seat at a place claims until its own word is empty, and returns its last claim.
 pub(crate) fn last_claim<R: Wait + Abort>(
     rt: &R,
     shares: &Shares,
@@ -134,7 +134,7 @@ fn play<R: Wait + Abort>(rt: &R, shares: &Shares, seats: &mut Vec<Seat>, steps: 
     }
 }
 
-// Shares of so many rows and cells a row, and their seats.
+// Shares of that many rows and cells a row, and their seats.
 pub(crate) fn opened(
     rt: &impl Abort,
     alloc: Global,
@@ -238,7 +238,7 @@ fn the_machine_opens_with_the_same_words(rt: HostRuntime) {
     opens_with(&rt, rt.alloc(), &small, &[2, 131_076]);
 }
 
-// One step answers so.
+// One step returns so.
 fn takes(rt: &impl Abort, plan: &Plan, state: &mut State, event: Event, wanted: Outcome) {
     same(rt, step(plan, state, event), Ok(wanted));
 }
@@ -386,7 +386,7 @@ fn cells(row: usize, columns: Range<usize>) -> Stretch {
     Stretch { row, columns }
 }
 
-// The stretches of a seat's claims over rows of so many cells.
+// The stretches of a seat's claims over rows of that many cells.
 fn claims_stretches(
     rt: &impl Abort,
     alloc: Global,

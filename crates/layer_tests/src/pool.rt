@@ -1,5 +1,5 @@
 //! What no clause says: worked values, each call on its happy path, and waits across threads.
-mod count_latches;
+pub(crate) mod count_latches;
 mod environments;
 mod jobs;
 pub(crate) mod latches;
@@ -9,6 +9,5 @@ mod probes;
 mod refused_builds;
 mod refused_jobs;
 mod seats;
-mod sleeps;
+pub(crate) mod sleeps;
 pub(crate) mod tally;
-pub(crate) mod waits;

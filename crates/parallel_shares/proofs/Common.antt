@@ -5,7 +5,7 @@ pub use Rattle.atomic_table.specs.Table.{Act, Allows, Joins, Me, Splits, State, 
 pub use Rattle.parallel_shares.specs.Answers.{Answers, CanClaim, CanRefill, CanSteal, ClaimAnswers, LoadAnswers, Pays, RefillAnswers, Replays, StealAnswers, cells_in, claim_cells, claim_stop}
 pub use Rattle.parallel_shares.specs.Answers.{middle_of}
 pub use Rattle.parallel_shares.specs.Cut.{BalancedCut, CutsFrom, IsEven, range_length}
-pub use Rattle.parallel_shares.specs.Fillings.{Chained, Closes, Ended, Ends, FilledOpen, Fills, Finishes, Gives, GoesOn, Underway, last_fill, no_fill}
+pub use Rattle.parallel_shares.specs.Fillings.{Chained, Closes, Ended, Ends, FilledOpen, Fills, GoesOn, Underway, last_fill, no_fill}
 pub use Rattle.parallel_shares.specs.Fronts.{IsFront}
 pub use Rattle.parallel_shares.specs.Gathered.{HasAll}
 pub use Rattle.parallel_shares.specs.Holders.{Claims, Hands, Holder, Holders, IsOpening, Leads, Move, Reached, Refills, Shows, Steals, StepsByMoves, carried, claim, claimed, in_range, in_ranges}
@@ -43,11 +43,11 @@ pub use Rattle.std.proofs.lemmas.Bool.Decides.{nat_tests}
 pub use Rattle.std.proofs.lemmas.Grind.{common_steps, div_ceil_times}
 pub use Rattle.std.proofs.lemmas.List.{get_or-map, get_or-replicate, get_or-set_other, get_or-set_same, get_or_append_left, get_or_past, get_or_push, length-map, length-replicate, length-set}
 pub use Rattle.std.proofs.lemmas.List.{length_push, map-append, take_all, take_more}
-pub use Rattle.std.proofs.lemmas.List.Elements.{All-append, All-cons, All-head, All-nil, All-push, All-tail, All-weaker, AllWithin-more, at_read}
+pub use Rattle.std.proofs.lemmas.List.Elements.{All-append, All-cons, All-head, All-nil, All-push, All-tail, All-weaker, at_read}
 pub use Rattle.std.proofs.lemmas.Nat.{div-mul-add, div_below, le-div, mod-mul-add, mod_below, mul-le}
 pub use Rattle.std.specs.Borrow.{MutBor}
 pub use Rattle.std.specs.Int.NonZero.{non_zero_usize_get}
-pub use Rattle.std.specs.List.{AllWithin, flat_map, range_with_len}
+pub use Rattle.std.specs.List.{flat_map, range_with_len}
 pub use Rattle.std.specs.Slots.{slots_items}
 pub use Rattle.std.specs.declared.ops.Range.{Range}
 pub use lib.ListN.{get_elem?}

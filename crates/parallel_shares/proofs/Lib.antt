@@ -1,4 +1,5 @@
 mod Common
+pub mod Best
 pub mod Cuts
 pub mod CutSteps
 pub mod ChooseGrid

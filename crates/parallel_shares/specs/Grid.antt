@@ -1,7 +1,8 @@
 -- What grids of tiles cost, and which of several is chosen.
-use Rattle.std.specs.Prelude.{ℕ, ◌+◌, ◌-◌, ◌*◌, ◌/◌, ◌^◌, ◌<◌, ◌≤◌, min, Bool, ◌||◌, if◌then◌else◌, nat_lt, nat_le, List, length, map, slice_index, EachIndex, All}
+use Rattle.std.specs.Prelude.{ℕ, ◌+◌, ◌-◌, ◌*◌, ◌/◌, ◌^◌, ◌<◌, min, Bool, ◌||◌, if◌then◌else◌, nat_lt, nat_le, List, length, map, slice_index, All}
 use Rattle.std.specs.Int.{div_ceil}
 use Rattle.std.specs.Int.NonZero.{non_zero_usize_get}
+use Rattle.parallel_shares.specs.Best.{IsBestOf, Precedes}
 use Rattle.parallel_shares.specs.declared.grid.Grid.{Grid}
 
 -- a sum or product that stops at the greatest usize
@@ -41,14 +42,14 @@ critical_cost grid len workers = if stays_whole grid len workers then whole_cost
 abbrev pub costs_of : List Grid → ℕ → ℕ → List ℕ
 costs_of grids len workers = map (λ grid. critical_cost grid len workers) grids
 
+-- among the first `count` grids the one at the index has the least cost, and no earlier one has it
+abbrev pub IsCheapest : List Grid → ℕ → ℕ → ℕ → ℕ → Type 0
+IsCheapest grids len workers count index =
+    IsBestOf (λ i best. Precedes (slice_index (costs_of grids len workers)) best i) count index
+
 -- the grid at the index has the least cost of the list, and no earlier one has it
 abbrev pub IsChosenGrid : List Grid → ℕ → ℕ → ℕ → Type 0
-IsChosenGrid grids len workers index =
-    (index < length grids)
-    × EachIndex grids (λ i. slice_index (costs_of grids len workers) index ≤ slice_index
-    (costs_of grids len workers) i)
-    × ((i : ℕ) → i < index → slice_index (costs_of grids len workers) index < slice_index
-    (costs_of grids len workers) i)
+IsChosenGrid grids len workers index = IsCheapest grids len workers (length grids) index
 
 -- there is a grid, and the number of indices of each is at most the greatest usize
 abbrev pub Fits : List Grid → ℕ → Type 0

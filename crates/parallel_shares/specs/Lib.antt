@@ -1,4 +1,5 @@
 pub mod Cut
+pub mod Best
 pub mod Grid
 pub mod Words
 pub mod Sizes

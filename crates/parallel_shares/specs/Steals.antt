@@ -7,6 +7,7 @@ use Rattle.parallel_shares.specs.declared.shares.seat.Tried.TheVariants.{Claimed
 use Rattle.parallel_shares.specs.declared.shares.steal.Victim.{Victim}
 use Rattle.std.specs.declared.ops.Range.{Range}
 use Rattle.parallel_shares.specs.declared.shares.Shares.{Shares}
+use Rattle.parallel_shares.specs.Best.{IsBestOf, Precedes}
 use Rattle.parallel_shares.specs.Words.{IsWithin, IsEmptyWord}
 use Rattle.parallel_shares.specs.Sizes.{Sizes, shares_of, share_of}
 use Rattle.parallel_shares.specs.Answers.{cells_in, Pays, claim_cells}
@@ -39,14 +40,11 @@ NonePays sizes own below view = (k : ℕ) → k < below → k ≢ own → ¬ Pay
 
 -- of the shares below a number but one, this one has the loaded word with the most cells of those
 -- whose split pays, the last of equals
-pub record IsVictim (sizes : Sizes) (own below : ℕ) (view : View) (share : ℕ) : Type 0 where
-  pub exists : share < below
-  pub other : share ≢ own
-  pub pays : Pays sizes (loaded_at view share)
-  pub most : (k : ℕ) → k < below → k ≢ own → Pays sizes (loaded_at view k)
-      → cells_in sizes (loaded_at view k) ≤ cells_in sizes (loaded_at view share)
-  pub last : (k : ℕ) → share < k → k < below → k ≢ own → Pays sizes (loaded_at view k)
-      → cells_in sizes (loaded_at view k) < cells_in sizes (loaded_at view share)
+abbrev pub IsVictim : Sizes → ℕ → ℕ → View → ℕ → Type 0
+IsVictim sizes own below view share =
+    (share ≢ own) × Pays sizes (loaded_at view share)
+    × IsBestOf (λ k best. k ≢ own → Pays sizes (loaded_at view k)
+    → Precedes (λ i. cells_in sizes (loaded_at view i)) k best) below share
 
 -- the victim, with its loaded word, where there is one
 abbrev pub IsBest : Sizes → ℕ → ℕ → View → Option Victim → Type 0

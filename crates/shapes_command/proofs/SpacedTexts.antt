@@ -2,7 +2,7 @@
 use Rattle.shapes_command.proofs.Common.{◌≡◌, ◌+◌, ◌<◌, ◌∙◌, ℕ, List, [], ◌∷◌, ◌++◌, length, map, take, get_or, ap, refl, sym, append_assoc, append-nil, arith, map-append, length-take-le, take_more}
 use Rattle.shapes_command.proofs.Common.{spaced}
 
--- a text behind others comes after a space
+-- a text after others comes after a space
 spaced_push : (t : List ℕ) (ts : List (List ℕ)) (text : List ℕ)
     → spaced ((t ∷ ts) ++ text ∷ []) ≡ spaced (t ∷ ts) ++ (32 ∷ text)
 spaced_push t [] text = refl
@@ -32,7 +32,7 @@ module _ {A : Type 0} (text : A → List ℕ) where
       wrote ∙ ap (λ s. line ++ (s ++ text x)) none ∙ ap (λ l. l ++ text x) bare
       ∙ ap (λ l. start ++ spaced (map text l)) (sym more)
 
-  -- any other behind a space
+  -- any other after a space
   pub next_written : (xs : List A) (i : ℕ) (d : A) (start line new space : List ℕ) → i < length xs
       → ¬ (i ≡ 0) → space ≡ 32 ∷ [] → line ≡ start ++ spaced (map text (take i xs))
       → new ≡ line ++ (space ++ text (get_or xs i d))

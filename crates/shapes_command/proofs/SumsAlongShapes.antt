@@ -39,7 +39,7 @@ depth_of_two =
     let one : top.0 ≡ 1 = exponent_one top.0 top.2 top.3 in
     omega (arith, top.1, one)
 
--- what an answer is at most along a shape of that depth: twice as much for each halving
+-- what a sum is at most along a shape of that depth: twice as much for each halving
 abbrev pub most_along : ℕ → ℕ
 most_along zero = 1002000000
 most_along (suc k) = most_along k + most_along k

@@ -27,7 +27,7 @@ pub rest_from : (words : List (String Global)) (i : ℕ)
     → take (length words - i) (drop i words) ≡ drop i words
 rest_from words i = take_all (length words - i) (drop i words) (omega (arith, length-drop i words))
 
--- so many words, of which the first passed the test for a name
+-- that many words, of which the first passed the test for a name
 pub has_form : (words : List (String Global)) (count : ℕ) (s : String Global) (text name : List ℕ)
     → length words ≡ count → 0 < count → s ≡ slice_index_or words 0 s → text ≡ string_bytes s
     → true ≡ bytes_eq text name → HasForm words name count

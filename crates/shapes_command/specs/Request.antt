@@ -166,7 +166,7 @@ abbrev pub SaysList : List (String Global) → Request → Type 0
 SaysList words request = SaysSegments words request
     ⊎ (SaysFold words request ⊎ SaysThreads words request)
 
--- one of the lines that a search answers
+-- one of the lines for which there is a search
 abbrev pub IsSearchLine : List (String Global) → Type 0
 IsSearchLine words = IsExploreLine (codes "sum") words ⊎ IsRootLine words
 

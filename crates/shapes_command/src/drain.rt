@@ -85,7 +85,7 @@ pub fn drain<R: Threads + Wait + Sync>(
     Ok(drained)
 }
 
-/// Closes the shares with the seats that came back, and answers the words that are left and all
+/// Closes the shares with the seats that came back, and returns the words that are left and all
 /// cells of the lists.
 ///
 /// No unit is left in any word, and each cell of the grid is in the lists just once: that no cell

@@ -26,7 +26,7 @@ use std::sync::Wait;
 use std::thread::Threads;
 use write::write_line;
 
-/// Runs the command that the words say and answers the program's status.
+/// Runs the command that the words say and returns the program's status.
 ///
 /// The status is 0 where the answer was written to `out`, as one line (`IsAnswer`). It is 2 where
 /// the words are no command line, which is found before anything runs: `err` then gets `shapes: bad
@@ -91,7 +91,7 @@ pub fn command<R: Threads + Wait + Sync, O: Write, E: Write>(
     }
 }
 
-/// Answers for a program whose words could not be read: the status, and a line on `err`.
+/// For a program whose words could not be read: returns the status, and puts a line on `err`.
 ///
 /// A word that is no text is a bad argument, so the status is that of `bad_arguments`. Else memory
 /// ran out while the words were copied, and the status is that of `out_of_memory`.

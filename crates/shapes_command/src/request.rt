@@ -156,7 +156,7 @@ fn about_explorers(words: &[String]) -> Option<Request<'_>>
     mix(words).or(fold_parallel(words)).or(searches(words))
 }
 
-// The request of a line that a search answers.
+// The request of a line that asks for a search.
 fn searches(words: &[String]) -> Option<Request<'_>>
     ensures { MatchOption result (¬ (IsSearchLine words.now)) (SaysSearch words.now) }
 {

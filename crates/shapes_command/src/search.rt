@@ -1,5 +1,4 @@
-//! Searches through the rules of an explorer: for the sum of a list, and for a body that answers
-//! otherwise.
+//! Searches through the rules of an explorer: for the sum of a list, and for a body that differs.
 ghost use Rattle.std.specs.Prelude.{◌≡◌, Bool, true, false, IfOk, IfErr};
 ghost use Rattle.commonware_parallel.specs.declared.mocks.rule.Rule.TheVariants.{Parallel, Serial};
 ghost use Rattle.shapes_command.specs.Answer.{EndsAtParallel};
@@ -91,7 +90,7 @@ pub fn differing_rule<R: Threads + Wait>(rt: &R, alloc: Global) -> Result<Rule, 
     }
 }
 
-// A search by a closure whose serial run and parallel run answer otherwise.
+// A search by a closure whose serial run and parallel run differ.
 fn searched<R: Threads, F: FnMut(&Explorer) -> bool>(
     rt: &R,
     alloc: Global,

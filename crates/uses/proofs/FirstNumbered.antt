@@ -1,4 +1,4 @@
--- The first item that fails, of a map over items with their indices whose closure answers the index
+-- The first item that fails, of a map over items with their indices whose closure returns the index
 -- of an item that fails.
 use Rattle.std.proofs.Common.{◌≡◌, ℕ, ◌+◌, ◌-◌, List, [], ◌∷◌, ◌++◌, Result, Ok, Err, Vec, Global, length, ap, subst, ◌∙◌, arith}
 use Rattle.std.specs.Prelude.{MatchResult}

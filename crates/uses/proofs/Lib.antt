@@ -3,6 +3,7 @@ pub mod Commitments
 pub mod TreeConstruction
 pub mod ClimbSteps
 pub mod Counts
+pub mod Layers
 pub mod Levels
 pub mod LongestWords
 pub mod Parts

@@ -104,7 +104,7 @@ longest_from seen best (word ∷ words) h =
     (λ p. subst (λ l. MatchOption (fold f (Some best) words) ⊥ (IsFirstLongest l)) joined
     (longest_from (seen ++ (word ∷ [])) best words (keeps seen best word (ltb-false _ _ p) h)))
 
--- an answer that is there
+-- a result that is there
 some_answer : {X : Type 0} (o : Option X) (N : Type 0) (P : X → Type 0) → MatchOption o ⊥ P
     → MatchOption o N P
 some_answer None N P h = absurd h

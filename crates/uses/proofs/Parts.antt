@@ -5,12 +5,12 @@ use Rattle.std.proofs.Math.Seq.{drop-cons}
 use Rattle.parallel_shares.specs.Cut.{CutsFrom, range_length}
 use Rattle.parallel_shares.proofs.Cuts.{CutsFrom-ordered}
 
--- the ranges that are left cut so many places
+-- the ranges that are left cut that many places
 abbrev pub CutsRest : List (Range ℕ) → ℕ → ℕ → Type 0
 CutsRest ranges index left =
     (at : ℕ) × (to : ℕ) × CutsFrom at (drop index ranges) to × (at + left ≡ to)
 
--- the next range is no longer than what is left, and the others cut what is left behind it
+-- the next range is no longer than what is left, and the others cut what is left after it
 pub next_part : (ranges : List (Range ℕ)) (index left : ℕ) (d : Range ℕ) → index < length ranges
     → CutsRest ranges index left
     → ((get_or ranges index d).start ≤ (get_or ranges index d).end)

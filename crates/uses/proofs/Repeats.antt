@@ -1,4 +1,4 @@
--- Lists that are answered with a state at hand, whatever the segments.
+-- Lists that are filled with a state at hand, whatever the segments.
 use Rattle.std.proofs.Common.{◌≡◌, ℕ, List, [], ◌∷◌, ◌++◌, Option, Some, None, refl, sym, ◌∙◌, ap, subst, ◌⊎◌, inl, inr}
 use Rattle.parallel_bridge.specs.States.{StatesFrom, Stateful, no_segment, more_segments}
 use Rattle.std.proofs.Common.{Result, IfOk, Vec, Global}
@@ -14,7 +14,7 @@ Entry last number entry next = (next ≡ Some number)
 module _ (init : Option ℕ → Type 0) (step : Option ℕ → ℕ → Option ℕ → Option ℕ → Type 0)
     (fresh : (s : Option ℕ) → init s → s ≡ None)
     (enters : (s : Option ℕ) (x : ℕ) (y t : Option ℕ) → step s x y t → Entry s x y t) where
-  -- entries that follow a number are filled from it, and those behind them by themselves
+  -- entries that follow a number are filled from it, and those after them by themselves
   follow : (last : ℕ) (xs : List ℕ) (ys more : List (Option ℕ)) (rest : List ℕ)
       → StatesFrom step (Some last) xs ys → ((n : ℕ) → filled n more ≡ rest)
       → filled last (ys ++ more) ≡ xs ++ rest
@@ -57,7 +57,7 @@ module _ (init : Option ℕ → Type 0) (step : Option ℕ → ℕ → Option �
       ap (filled n) joined ∙ begun n x xs ys more rest s first states (λ m. fills onward m)
       ∙ sym split
 
--- the same with the answers first, which tell the relations
+-- the same with the results first, which tell the relations
 pub all_filled : (init : Option ℕ → Type 0) (step : Option ℕ → ℕ → Option ℕ → Option ℕ → Type 0)
     (xs : List ℕ) (ys : List (Option ℕ)) → Stateful init step xs ys
     → ((s : Option ℕ) → init s → s ≡ None)
@@ -65,7 +65,7 @@ pub all_filled : (init : Option ℕ → Type 0) (step : Option ℕ → ℕ → O
     → filled n ys ≡ xs
 all_filled init step xs ys h fresh enters n = fills init step fresh enters h n
 
--- the same of a call's answers, over a list
+-- the same of a call's results, over a list
 pub filled_list : {E : Type 0} (all : List ℕ) (init : Option ℕ → Type 0)
     (step : Option ℕ → ℕ → Option ℕ → Option ℕ → Type 0) (result : Result (Vec (Option ℕ) Global) E)
     → IfOk result (λ ys. (xs : List ℕ) × (xs ≡ all) × Stateful init step xs ys.items)

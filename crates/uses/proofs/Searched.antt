@@ -1,4 +1,4 @@
--- Sums of the numbers below 100 through an explorer, and what a search answers.
+-- Sums of the numbers below 100 through an explorer, and what a search returns.
 use Rattle.std.proofs.Common.{◌≡◌, ◌+◌, ◌%◌, ◌^◌, ◌∙◌, ℕ, Bool, List, [], ◌∷◌, Result, Ok, Err, ap, sym, fold}
 use Rattle.std.specs.Prelude.{IfOk}
 use Rattle.std.specs.Borrow.{Bor}
@@ -19,7 +19,7 @@ chain_adds step is [] a r same = sym same
 chain_adds step is (x ∷ xs) a r (m, stepped, rest) = chain_adds step is xs m r rest
     ∙ ap (λ n. fold adds n xs) (is a x m stepped)
 
--- what a search answers is what a run by the serial rule gave
+-- what a search returns is what a run by the serial rule gave
 pub serial_output : {F R : Type 0} (step : F → Bor Explorer → R → F → Type 0) (eq : R → R → Bool)
     (run : F) (result : Result R ExploreError) → Explored step eq run result
     → IfOk result (λ r. (g : F) × RunsBy step eq Serial run r g)

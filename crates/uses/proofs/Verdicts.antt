@@ -109,7 +109,7 @@ pub parts_of_list : {X K U E : Type 0} (all : List X) (allowed : X → (K × Opt
 parts_of_list all allowed result gave =
     fact_of_list all (λ xs parts. PartitionOf allowed xs parts.0.items parts.1.items) result gave
 
--- what a checked sum answers for a list: its sum, or the first number over the limit
+-- what a checked sum returns for a list: its sum, or the first number over the limit
 abbrev pub Checked : ℕ → ℕ → List ℕ → Result ℕ ℕ → Type 0
 Checked limit start xs out = MatchResult out
     (λ r. All (λ x. x ≤ limit) xs × (r ≡ (start + sum xs) % 2 ^ 64)) (IsFirstOver limit xs)
@@ -214,7 +214,7 @@ module _ {X Y : Type 0} (xs : List X) (verdict : X → Bool → Type 0)
   by_items (Err (OfFault f)) h = tt
   by_items (Err (Closure e)) h = first_item e h
 
--- what a verifier's answer says, by the index of each item
+-- what a verifier's result says, by the index of each item
 pub verified : {X Y : Type 0} (xs : List X) (verdict : X → Bool → Type 0)
     (allowed : ℕ → Result Y ℕ → Type 0) (result : Result (Vec Y Global) (Trouble ℕ))
     → UnlessRefused result (λ out. (is : List ℕ) × (is ≡ range_with_len 0 (length xs - 0))
@@ -227,7 +227,7 @@ verified xs verdict allowed result gave judged =
     (first_failing allowed (λ i. HoldsAt (λ x. verdict x true) xs i)
     (λ i y k. judged i (Ok y) k) (length xs) result gave)
 
--- what a checked sum's answer says
+-- what a checked sum's result says
 pub summed : (xs : List ℕ) (limit : ℕ) (identity : ℕ → Type 0) (step : ℕ → ℕ → Result ℕ ℕ → Type 0)
     (reduce : ℕ → ℕ → ℕ → Type 0) (result : Result ℕ (Trouble ℕ))
     → UnlessRefused result (λ outcome. (ys : List ℕ) × (ys ≡ xs)
@@ -246,7 +246,7 @@ summed xs limit identity step reduce (Err (Closure e)) gave zeros steps joins =
     (checked_brackets limit identity step reduce zeros (λ a x b k. steps a x (Ok b) k)
     (λ a x e' k. steps a x (Err e') k) joins gave.2)
 
--- what a verifier of digests answers
+-- what a verifier of digests returns
 pub digests_compared : (messages : Bor (List (Bor (List ℕ)))) (digests : Bor (List (List ℕ)))
     (made : Zipped (Copies (Bor (List ℕ))) (Copies (List ℕ))) (start end : ℕ)
     → made ≡ record { left = record { slice = messages }; right = record { slice = digests } }

@@ -3,8 +3,8 @@
 //! `prepare` cuts the list by the batch's ranges, and hands out a `Vec` of its parts. Of the list
 //! afterwards clauses say its length alone: what is known of a map's closure is a relation of an
 //! item and a result, which has no place for what a `&mut` item is left at, and no word says of a
-//! `Vec` of parts that their list is left as they are. So where more is to be proved of the
-//! numbers, let the closure return them.
+//! `Vec` of parts that their list is left as they are. `Batches::for_each_mut` cuts the list
+//! itself, and its clauses say what becomes of each part; it returns nothing for a part.
 ghost use Rattle.std.specs.Prelude.{◌≡◌, length};
 ghost use Rattle.parallel_fault.specs.Trouble.{IsMemoryOnErr};
 ghost use Rattle.parallel_shares.specs.Cut.{BalancedCut, CutsFrom};

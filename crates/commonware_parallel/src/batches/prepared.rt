@@ -14,7 +14,7 @@ use std::alloc::Global;
 use std::sync::Wait;
 use std::thread::Threads;
 
-/// The answers of `map_op` for owned items, which a whole batch maps on the caller's thread.
+/// The results of `map_op` for owned items, which a whole batch maps on the caller's thread.
 ///
 /// # Errors
 ///

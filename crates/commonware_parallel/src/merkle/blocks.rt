@@ -7,7 +7,7 @@ ghost use Rattle.commonware_parallel.specs.MerkleBlocks.{AreTops, IsBlockSize};
 use crate::call::Call;
 use crate::chosen::{begin_path, end_run, threads_by};
 use crate::merkle::descent::{block_size, descend};
-use crate::merkle::root;
+use crate::merkle::{plain_root, root};
 use crate::strategy::Strategy;
 use parallel_fault::Fault;
 use parallel_policy::Place;
@@ -15,13 +15,18 @@ use std::alloc::Global;
 use std::sync::Wait;
 use std::thread::Threads;
 
+// Tops that are so few beside the leaves are combined on the caller's thread: that is at most a
+// 64th of what each thread did for the leaves, and less than threads that are started for it.
+const FEW: usize = 128;
+
 /// The root of the leaves (`MerkleRoot`), through a strategy: it is the root that
 /// `merkle::root` gives, for any `combine`.
 ///
 /// The leaves are cut into blocks of a power of two, of which each thread has eight or up to twice
 /// as many. One call brings each block down to its top, which a policy knows by about the number of
-/// leaves; the tops are then combined level by level, as by `merkle::root`. Fewer than 16 leaves a
-/// thread are no blocks, and go by levels alone. There is memory for the tops, and none for a level
+/// leaves; the tops are then combined level by level, as by `merkle::root`, or on the caller's
+/// thread where a block has 128 leaves for each thread. Fewer than 16 leaves a thread are no
+/// blocks, and go by levels alone. There is memory for the tops, and none for a level
 /// of the leaves.
 ///
 /// ```text
@@ -54,6 +59,9 @@ pub fn root_by_blocks<
         return root(rt, alloc, strategy, site, leaves, combine);
     }
     let tops = tops_through(rt, alloc, strategy, site, size, leaves, &combine)?;
+    if size / FEW >= strategy.thread_number().get() {
+        return plain_root(alloc, tops, &combine);
+    }
     root(rt, alloc, strategy, site, tops, combine)
 }
 

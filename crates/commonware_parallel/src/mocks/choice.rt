@@ -8,8 +8,8 @@ use crate::mocks::rule::Rule;
 use parallel_policy::Site;
 use std::num::NonZeroUsize;
 
-/// Which pick a rule gives a call of so many options at a site, over so many items, by the number
-/// of picks before it (`pick_of`).
+/// Which pick a rule gives a call of that many options at a site, over that many items, by how many
+/// picks are before it (`pick_of`).
 pub fn pick(rule: Rule, site: Site, len: usize, options: NonZeroUsize) -> usize
     ensures pick { result ≡ pick_of rule site len (non_zero_usize_get options) }
     ensures below { result < non_zero_usize_get options }

@@ -1,4 +1,4 @@
-//! Why a search through the rules gave no answer.
+//! Why a search through the rules gave no result.
 ghost use Rattle.std.specs.Prelude.{◌≡◌};
 
 use crate::mocks::rule::Rule;
@@ -6,10 +6,10 @@ use parallel_pool::rayon::ThreadPoolBuildError;
 use std::alloc::{AllocError, AllocFailed};
 use thiserror::Error;
 
-/// Why `explore` gave no answer.
+/// Why `explore` gave no result.
 #[derive(Debug, Drop, Error)]
 pub enum ExploreError {
-    /// The run by this rule answered otherwise than the serial run.
+    /// The run by this rule differed from the serial run.
     #[error("the {0:?} run must return the serial run's output")]
     Differs(Rule),
     /// The pool could not be built.

@@ -50,7 +50,7 @@ pub fn inline<Rt: Threads, C: Clock>(
 }
 
 /// A strategy over a pool of `workers` threads, 65535 at most, that are never started, planned for
-/// as many: a job that it hands off is dropped, and its answer stays pending.
+/// as many: a job that it hands off is dropped, and its result stays pending.
 ///
 /// It takes two workers at least: over one thread a job is run at once.
 ///

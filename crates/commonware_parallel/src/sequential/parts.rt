@@ -19,7 +19,7 @@ impl Sequential {
     ghost use Rattle.commonware_parallel.specs.Batches.{IsWholeBatch};
     ghost use Rattle.commonware_parallel.specs.Tiles.{IsSerialTiling};
 
-    /// An answer of `run` over the whole batch of `0..len`, which is one range, whatever the
+    /// A result of `run` over the whole batch of `0..len`, which is one range, whatever the
     /// minimum and the multiplier. The batch goes through this strategy and has the call's place
     /// (`IsWholeBatch`), and the closure has to accept that batch alone.
     ///
@@ -77,7 +77,7 @@ impl Sequential {
         }
     }
 
-    /// An answer of `run` over tiles of the first one of `grids` of least cost for one worker, on
+    /// A result of `run` over tiles of the first one of `grids` of least cost for one worker, on
     /// rows of `len` columns: a serial plan, which fills its rows whole and in order, whatever the
     /// multiplier. The tiles go through this strategy and have the call's place (`IsSerialTiling`),
     /// and the closure has to accept such tiles alone. Takes no memory.

@@ -1,10 +1,10 @@
-//! What is spawned, and the promise by which its answer is known.
+//! What is spawned, and the promise by which its result is known.
 ghost use Rattle.std.specs.Prelude.{◌≡◌};
 
 use std::snapshot::Snapshot;
 use std::thread::Promise;
 
-/// What can be spawned: it is run once, on a strategy of its own, and answers.
+/// What can be spawned: it is run once, on a strategy of its own, and returns.
 ///
 /// A closure is spawned as a `Closure`. A type of one's own is spawned where the type of its
 /// `Spawned` has to be written out.
@@ -12,7 +12,7 @@ pub trait Job<S, T> {
     /// The strategies on which the job may be run.
     ghost may_run: { Self → S → Type 0 };
 
-    /// The answers that it may give on a strategy.
+    /// The results that it may return on a strategy.
     ghost may_answer: { Self → S → T → Type 0 };
 
     /// Runs the job.
@@ -35,7 +35,7 @@ impl<S, T, F: FnOnce(S) -> T> Job<S, T> for Closure<F> {
     }
 }
 
-/// The promise of a worker: its answer is one that the job allows on the strategy.
+/// The promise of a worker: its result is one that the job allows on the strategy.
 #[derive(Drop)]
 pub(crate) struct Kept<S, F> {
     job: Snapshot<F>,

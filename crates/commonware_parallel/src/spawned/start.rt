@@ -16,7 +16,7 @@ use std::thread;
 use std::thread::Threads;
 
 /// Begins a job: serially on the caller's thread, in parallel on a worker of its own, where workers
-/// are started. Where they aren't the job is dropped, and never answers.
+/// are started. Where they aren't the job is dropped, and never returns.
 ///
 /// # Errors
 ///

@@ -187,7 +187,7 @@ pub(super) fn joined<R: Drop, M: Fn(R, R) -> R>(held: Option<R>, next: R, merge:
     }
 }
 
-// Puts the value of a row that ends behind the others, and answers that of one that goes on.
+// Puts the value of a row that ends after the others, and returns that of one that goes on.
 fn place<R: Drop>(values: &mut Vec<R>, end: usize, len: usize, value: R) -> Result<Option<R>, Fault>
     ensures placed { IfOk result (λ held. Placed len end value values.old.items values.new.items
         held) }

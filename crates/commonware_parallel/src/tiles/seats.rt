@@ -162,7 +162,7 @@ fn gather<R: Drop>(alloc: Global, worked: Vec<Worked<R>>) -> Result<(Vec<Seat>, 
     Ok((seats, all))
 }
 
-// The seat, when its results stand behind those that are there. Its run was refused memory alone.
+// The seat, when its results stand after those that are there. Its run was refused memory alone.
 fn add_results<R: Drop>(all: &mut Vec<R>, worked: Worked<R>) -> Result<Seat, Fault>
     ensures seat { IfOk result (λ seat. seat ≡ seat_of worked) }
     ensures results { IfOk result (λ _. (results : Vec R Global) × (worked.results ≡ Ok results)

@@ -35,7 +35,7 @@ fn each_segment_keeps_what_stands_before_its_first_none(rt: HostRuntime) {
     same(&rt, kept.as_slice(), [1, 4, 5].as_slice());
 }
 
-// Whether a folder is full before an item that makes no difference to that, behind it, and behind
+// Whether a folder is full before an item that makes no difference to that, after it, and after
 // one that fails.
 fn fullness<X: Drop, R, E, F: Folder<X, R, E>>(
     alloc: Global,
@@ -126,7 +126,7 @@ fn a_splitter_by_length_leaves_no_part_too_short(rt: HostRuntime) {
 }
 
 #[test]
-fn a_folder_of_options_is_full_behind_none(rt: HostRuntime) {
+fn a_folder_of_options_is_full_after_none(rt: HostRuntime) {
     let alloc = rt.alloc();
     let base = ListVecFolder {
         vec: Vec::new(alloc),
@@ -137,7 +137,7 @@ fn a_folder_of_options_is_full_behind_none(rt: HostRuntime) {
 }
 
 #[test]
-fn a_folder_of_a_fallible_reduction_is_full_behind_an_error(rt: HostRuntime) {
+fn a_folder_of_a_fallible_reduction_is_full_after_an_error(rt: HostRuntime) {
     let folder = TryReduceFolder {
         control: Ok(0),
         reduce_op: &add,
@@ -147,7 +147,7 @@ fn a_folder_of_a_fallible_reduction_is_full_behind_an_error(rt: HostRuntime) {
 }
 
 #[test]
-fn a_folder_of_a_fallible_fold_is_full_behind_an_error(rt: HostRuntime) {
+fn a_folder_of_a_fallible_fold_is_full_after_an_error(rt: HostRuntime) {
     let folder = TryFoldFolder {
         base: TryReduceFolder {
             control: Ok(0),

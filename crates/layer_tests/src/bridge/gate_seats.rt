@@ -129,7 +129,7 @@ fn await_error(failed: &AtomicU64) {
     }
 }
 
-// Whether a map whose first item fails answered that; if not, memory was refused.
+// Whether a map whose first item fails returned that; if not, memory was refused.
 fn is_first<'a>(rt: &impl Abort, answer: Result<Vec<Counted<'a>>, Trouble<usize>>) -> bool {
     match answer {
         Ok(values) => {
@@ -145,7 +145,7 @@ fn is_first<'a>(rt: &impl Abort, answer: Result<Vec<Counted<'a>>, Trouble<usize>
 }
 
 // The first item fails, and says so; the others wait for that and have a counted value.
-fn counted_behind<'a>(
+fn counted_after<'a>(
     counts: &'a Counts,
     failed: &AtomicU64,
     place: usize,
@@ -170,7 +170,7 @@ pub(crate) fn stop_counted<R: Threads + Sync + Abort>(
     let counts = no_counts();
     let failed = AtomicU64::new(0);
     let items = counted_items(alloc, &counts, len);
-    let answer = |item: Counted<'_>| counted_behind(&counts, &failed, item.place);
+    let answer = |item: Counted<'_>| counted_after(&counts, &failed, item.place);
     let parts = DrainProducer::from_vec(items);
     let told = try_map_parallel(rt, alloc, number(rt, threads), parts, &answer);
     let is_told = is_first(rt, told);
@@ -178,7 +178,7 @@ pub(crate) fn stop_counted<R: Threads + Sync + Abort>(
     !is_told
 }
 
-// The same over a list whose items aren't owned: the values are counted. Answers how many there
+// The same over a list whose items aren't owned: the values are counted. Returns how many there
 // were, if memory wasn't refused.
 fn stop_values<R: Threads + Sync + Abort>(
     rt: &R,
@@ -188,7 +188,7 @@ fn stop_values<R: Threads + Sync + Abort>(
 ) -> Option<u64> {
     let counts = no_counts();
     let failed = AtomicU64::new(0);
-    let answer = |place: usize| counted_behind(&counts, &failed, place);
+    let answer = |place: usize| counted_after(&counts, &failed, place);
     let parts = ProducerParts {
         list: Indices { start: 0, end: len },
     };

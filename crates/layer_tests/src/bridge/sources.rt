@@ -14,7 +14,7 @@ use std::fmt::Debug;
 use std::process::Abort;
 use std::thread::Threads;
 
-// The answers for the items of a list, on so many threads, are these.
+// The results for the items of a list, on that many threads, are these.
 fn comes<
     Rt: Threads + Sync + Abort,
     P: Parts,

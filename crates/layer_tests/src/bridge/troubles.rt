@@ -77,7 +77,7 @@ fn eight(start: usize, end: usize) -> ProducerParts<Refusing>
     }
 }
 
-// Each part that can't be split with an item that fails, and the item whose error is answered, if
+// Each part that can't be split with an item that fails, and the item whose error is returned, if
 // it is no refusal.
 const ROWS: [(usize, usize, usize, Option<usize>); 8] = [
     (4, 8, 0, Some(0)),
@@ -104,7 +104,7 @@ fn check(item: usize, bad: usize) -> Result<usize, usize> {
     if item == bad { Err(item) } else { Ok(item) }
 }
 
-// Which call is asked for the eight items: their answers written on so many threads, halved three
+// Which call is asked for the eight items: their results written on that many threads, halved three
 // times over, or one of the calls that gather them.
 #[derive(Clone, Copy, Debug)]
 enum Asked {
@@ -114,7 +114,7 @@ enum Asked {
     Fold,
 }
 
-// The answers for the items, written where they stay.
+// The results for the items, written where they stay.
 fn mapped<Rt: Threads + Sync + Abort>(
     rt: &Rt,
     alloc: Global,

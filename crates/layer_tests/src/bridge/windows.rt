@@ -66,7 +66,7 @@ pub(crate) fn no_counts() -> Counts {
     }
 }
 
-// Whether all but so many of those that were made were let go.
+// Whether all but that many of those that were made were let go.
 pub(crate) fn all_gone_but(counts: &Counts, left: usize) -> bool {
     let gone = counts.gone.load(Ordering::SeqCst);
     gone.wrapping_add(left as u64) == counts.made.load(Ordering::SeqCst)
@@ -150,7 +150,8 @@ pub(crate) fn fold_counted<R: Threads + Sync + Abort>(
     is_refused || count < len
 }
 
-// Takes so many counted items from the front of a drain and so many from its back, and lets it go.
+// Takes these numbers of counted items from the front of a drain and from its back, and lets it
+// go.
 fn drain_counted<R: Abort>(rt: &R, alloc: Global, len: usize, front: usize, back: usize) {
     let counts = no_counts();
     let items = counted_items(alloc, &counts, len);
@@ -169,7 +170,7 @@ fn drain_counted<R: Abort>(rt: &R, alloc: Global, len: usize, front: usize, back
     assert!(rt; all_gone_but(&counts, 0));
 }
 
-// Splits counted items at an index, and lets the front one go before the back one. It answers
+// Splits counted items at an index, and lets the front one go before the back one. It returns
 // whether memory was refused.
 pub(crate) fn split_counted<R: Abort>(rt: &R, alloc: Global, len: usize, index: usize) -> bool {
     let wanted = len;
@@ -214,7 +215,7 @@ fn each_item_and_each_answer_is_dropped_once(rt: HostRuntime) {
 }
 
 #[test]
-fn each_folded_item_is_dropped_once_before_and_behind_one_that_fails(rt: HostRuntime) {
+fn each_folded_item_is_dropped_once_before_and_after_one_that_fails(rt: HostRuntime) {
     for threads in 1..9usize {
         for len in [0usize, 1, 2, 1000] {
             fold_counted(&rt, rt.alloc(), threads, len, 1000);
@@ -337,7 +338,7 @@ fn counted_references_are_given_back(rt: HostRuntime) {
 }
 
 #[test]
-fn texts_before_and_behind_the_first_failing_one_are_let_go(rt: HostRuntime) {
+fn texts_before_and_after_the_first_failing_one_are_let_go(rt: HostRuntime) {
     let alloc = rt.alloc();
     let mut items = Vec::new(alloc);
     for place in 0..100usize {

@@ -6,8 +6,8 @@ ghost use Rattle.parallel_bridge.specs.Gates.{IsGateSeatOf, seats_of, stands_for
 
 use crate::bridge::number;
 use crate::claims::{self, last_claim, opened, refill_at, steal_at};
+use crate::pool::count_latches::give_all;
 use crate::pool::latches::core_latch;
-use crate::pool::waits::give_all;
 use crate::same::row;
 use parallel_bridge::gate::{Gate, GateSeat};
 use parallel_bridge::list::fold::fold_iter;

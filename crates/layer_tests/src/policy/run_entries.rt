@@ -9,12 +9,12 @@ use std::process::Abort;
 enum Step {
     // A sample of a path, in nanoseconds.
     Records(RunExecution, u64),
-    // One choice and its answer.
+    // One choice and its result.
     Answers(RunExecution, bool),
     // So many choices: all but the last of one path, measured at each tenth; the last of another,
     // measured.
     Waits(RunExecution, u32, RunExecution),
-    // As many choices, where each that is measured is recorded with so many nanoseconds.
+    // As many choices, where each that is measured is recorded with that many nanoseconds.
     Learns(RunExecution, u32, RunExecution, u64),
     // What the samples of a path say.
     Keeps(RunExecution, Option<u64>),

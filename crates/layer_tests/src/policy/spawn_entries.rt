@@ -13,7 +13,7 @@ enum Step {
     HandsOff(u64, u64),
     // A job inline, in nanoseconds.
     RunsInline(u64),
-    // One choice and its answer.
+    // One choice and its result.
     Answers(SpawnExecution, bool),
     // So many choices: all but the last of one way, measured at each tenth; the last of another,
     // measured.

@@ -22,7 +22,7 @@ const P: RunExecution = RunExecution::Parallel;
 
 const S: RunExecution = RunExecution::Serial;
 
-// What a choice of a run answers, and of a job, and what a record does.
+// What a choice of a run returns, and of a job, and what a record does.
 type RunChoice = Result<(RunExecution, bool), Fault>;
 
 type JobChoice = Result<(SpawnExecution, bool), Fault>;
@@ -224,7 +224,7 @@ fn a_run_planned_for_one_asks_no_policy(rt: HostRuntime) {
     }
 }
 
-// Whether a policy has an entry for runs of the site at each length and work, planned for so many
+// Whether a policy has an entry for runs of the site at each length and work, planned for that many
 // threads.
 fn has_runs_of(rt: &impl Wait, policy: &Policy, of: [(usize, usize, usize); 4]) -> [bool; 4] {
     let mut found = [false; 4];
@@ -275,7 +275,7 @@ fn a_policy_measures_what_passes_in_the_body(rt: HostRuntime) {
     same(&rt, estimates, Some([Some(70_000), Some(30_000)]));
 }
 
-// One run over ten items, by a clock that goes on by 1000 at each reading. It answers 7, or fails
+// One run over ten items, by a clock that goes on by 1000 at each reading. It returns 7, or fails
 // by 57 where it is of `fails`.
 fn run_of_ten<Rt: Wait>(
     rt: &Rt,

@@ -18,7 +18,7 @@ fn take_one(latch: &CountLatch, shares: &mut Vec<CountShare>) -> Option<CountSha
     shares.pop()
 }
 
-// Gives the last share of a list, and answers whether it was the last of the latch.
+// Gives the last share of a list, and returns whether it was the last of the latch.
 pub(crate) fn give_one(latch: &CountLatch, shares: &mut Vec<CountShare>) -> Option<bool>
     requires belong { All (IsShareOf latch.now) shares.old.items }
     requires unspent { All (λ share. unspent share ≡ 1) shares.old.items }
@@ -27,6 +27,20 @@ pub(crate) fn give_one(latch: &CountLatch, shares: &mut Vec<CountShare>) -> Opti
 {
     let mut share = take_one(latch, shares)?;
     Some(latch.give(&mut share))
+}
+
+// Gives all shares, and counts those that were the last.
+pub(crate) fn give_all(latch: &CountLatch, mut shares: Vec<CountShare>) -> u32
+    requires belong { All (IsShareOf latch.now) shares.items }
+    requires unspent { All (λ share. unspent share ≡ 1) shares.items }
+{
+    let mut last = 0u32;
+    for _ in 0..shares.len() {
+        if give_one(latch, &mut shares) == Some(true) {
+            last = last.saturating_add(1);
+        }
+    }
+    last
 }
 
 // Of three shares the third that is given is the last: each share learns which gives the one before

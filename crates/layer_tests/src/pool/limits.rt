@@ -1,13 +1,13 @@
 //! Threads that sleep, which have to be woken within a limit of time.
-ghost use Rattle.std.specs.Prelude.{◌≡◌, All};
+ghost use Rattle.std.specs.Prelude.{◌≡◌};
 ghost use Rattle.parallel_pool.specs.Latch.{IsLatchSeatOf};
 
 use crate::pool::latches::core_latch;
+use crate::pool::sleeps::one_sleep;
 use crate::pool::tally::{awaits, becomes, built, let_it_sleep};
-use crate::pool::waits::{give_all, one_sleep};
-use crate::same::{row, same};
+use crate::same::row;
 use crossbeam_utils::sync::Parker;
-use parallel_pool::latch::{CoreLatch, CountLatch, LatchSeat, LockLatch};
+use parallel_pool::latch::{CoreLatch, LatchSeat, LockLatch};
 use parallel_pool::rayon::ThreadPoolBuilder;
 use parallel_pool::sleep::Sleep;
 use std::alloc::Global;
@@ -26,25 +26,6 @@ fn word(rt: &impl Abort, alloc: Global) -> Arc<AtomicU64> {
 // Another handle of it.
 fn handle<T>(rt: &impl Abort, one: &Arc<T>) -> Arc<T> {
     Arc::try_clone(one).expect(rt, "a handle")
-}
-
-#[test]
-fn the_last_give_wakes_who_sleeps(rt: HostRuntime) {
-    let two = NonZeroUsize::MIN.saturating_add(1);
-    let (latch, shares) = CountLatch::with_count(rt.alloc(), two).expect(&rt, "memory");
-    let latch = Arc::new(rt.alloc(), latch).expect(&rt, "memory");
-    let passed = word(&rt, rt.alloc());
-    let (theirs, flag) = (handle(&rt, &latch), handle(&rt, &passed));
-    let waiter = thread::spawn(&rt, move || {
-        theirs.wait(&rt);
-        flag.store(1, Ordering::SeqCst);
-    })
-    .expect(&rt, "memory");
-    let_it_sleep(&rt);
-    same(&rt, passed.load(Ordering::SeqCst), 0);
-    same(&rt, give_all(&latch, shares), 1);
-    awaits(&rt, &passed, 1, "the waiter is woken");
-    waiter.join(&rt);
 }
 
 #[test]
@@ -67,7 +48,7 @@ fn a_lock_latch_is_reset_and_wakes_who_sleeps(rt: HostRuntime) {
     awaits(&rt, &passed, 2, "both waiters are woken");
 }
 
-// An idle worker for which a job is always there, until it has tried to sleep. It answers whether
+// An idle worker for which a job is always there, until it has tried to sleep. It returns whether
 // it starts at round 0, with an unset latch.
 fn idle_with_a_job<R: Wait>(
     rt: &R,
@@ -88,11 +69,11 @@ fn idle_with_a_job<R: Wait>(
 }
 
 // What a worker is told that asks whether jobs were injected.
-pub(crate) fn no_jobs() -> bool {
+fn no_jobs() -> bool {
     false
 }
 
-// An idle worker to which a job comes once it has announced itself. It answers whether it goes back
+// An idle worker to which a job comes once it has announced itself. It returns whether it goes back
 // to announce itself again, and does so.
 fn idle_before_a_job<R: Wait>(
     rt: &R,
@@ -170,7 +151,7 @@ fn a_worker_asks_for_jobs_before_it_sleeps(rt: HostRuntime) {
 }
 
 #[test]
-fn a_job_behind_its_announcement_keeps_a_worker_awake(rt: HostRuntime) {
+fn a_job_after_its_announcement_keeps_a_worker_awake(rt: HostRuntime) {
     assert!(rt; stays_awake(&rt, rt.alloc(), Comes::OnceAnnounced));
 }
 

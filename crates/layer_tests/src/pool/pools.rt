@@ -1,7 +1,6 @@
 //! Pools that were built: their workers, the jobs that come to them, and their end.
 use crate::pool::tally::{
-    Act, Raise, Tally, awaits, broadcasts, built, empty_tally, job, led, let_it_sleep, raises,
-    read, spawn, telling,
+    Act, awaits, built, empty_tally, job, led, let_it_sleep, read, spawn, telling,
 };
 use crate::same::{lists, prints, row, same};
 use parallel_pool::rayon::{
@@ -25,38 +24,6 @@ fn with_this_thread<R: Threads + Wait + Abort + Copy + Send + 'static>(
     led(rt, alloc, builder.unstarted_workers().label(label))
 }
 
-// Hands a pool five jobs: two from its worker, two from elsewhere, one to each worker.
-fn hands_in(
-    rt: &(impl Wait + Abort),
-    alloc: Global,
-    pool: &ThreadPool<Staff>,
-    worker: &mut WorkerThread,
-    tally: &Arc<Tally>,
-) -> bool {
-    for digit in 1..3u64 {
-        let job = job(rt, alloc, tally, Act::Writes(digit));
-        if pool.spawn_from(rt, worker, job).is_err() {
-            return false;
-        }
-    }
-    spawn(rt, alloc, pool, tally, Act::Writes(3));
-    spawn(rt, alloc, pool, tally, Act::Writes(4));
-    broadcasts(rt, alloc, pool, tally, &[Act::Writes(5)])
-}
-
-#[test]
-fn a_worker_looks_in_its_own_queues_first(rt: HostRuntime) {
-    let order = empty_tally(&rt, rt.alloc());
-    let (pool, mut worker) = with_this_thread(&rt, rt.alloc(), 1, 0);
-    let is_in = hands_in(&rt, rt.alloc(), &pool, &mut worker, &order);
-    assert!(rt; is_in);
-    for _ in 0..5 {
-        same(&rt, pool.yield_now(&rt, &mut worker), Some(Yield::Executed));
-    }
-    same(&rt, read(&order.called), 21_534);
-    same(&rt, pool.yield_now(&rt, &mut worker), Some(Yield::Idle));
-}
-
 // What a pool and that of a worker say when the worker yields, after it handed the pool a job.
 fn yields_of_a_stranger(
     rt: &impl Wait,
@@ -69,7 +36,7 @@ fn yields_of_a_stranger(
     Some((pool.yield_now(rt, stranger), theirs.yield_now(rt, stranger)))
 }
 
-// Calls a worker's next injected job as the first of its pool, and answers whether there was one.
+// Calls a worker's next injected job as the first of its pool, and returns whether there was one.
 fn calls_injected(rt: &impl Wait, worker: &mut WorkerThread) -> bool {
     let Some(job) = worker.jobs().take(rt, Queue::Injected) else {
         return false;
@@ -185,7 +152,7 @@ fn a_thousand_jobs_are_called_once_each_and_the_workers_end(rt: HostRuntime) {
     let tally = empty_tally(&rt, rt.alloc());
     let pool = telling(&rt, rt.alloc(), 4, &tally);
     for _ in 0..1000 {
-        spawn(&rt, rt.alloc(), &pool, &tally, Act::AddsBehind);
+        spawn(&rt, rt.alloc(), &pool, &tally, Act::AddsOnceBegun);
     }
     drop(pool);
     awaits(&rt, &tally.ended, 1, "each worker has ended");
@@ -194,52 +161,6 @@ fn a_thousand_jobs_are_called_once_each_and_the_workers_end(rt: HostRuntime) {
         (read(&tally.called), read(&tally.begun)),
         (1000, 16_843_009),
     );
-}
-
-#[test]
-fn workers_that_sleep_are_woken_by_jobs_and_by_the_end(rt: HostRuntime) {
-    let tally = empty_tally(&rt, rt.alloc());
-    let pool = telling(&rt, rt.alloc(), 2, &tally);
-    for called in 1..6u64 {
-        let_it_sleep(&rt);
-        spawn(&rt, rt.alloc(), &pool, &tally, Act::Adds(1));
-        awaits(&rt, &tally.called, called, "each job is called");
-    }
-    let_it_sleep(&rt);
-    drop(pool);
-    awaits(&rt, &tally.ended, 1, "the sleepers have ended");
-}
-
-#[test]
-fn each_worker_calls_the_job_that_was_broadcast_to_it(rt: HostRuntime) {
-    let tally = empty_tally(&rt, rt.alloc());
-    let pool = telling(&rt, rt.alloc(), 4, &tally);
-    let_it_sleep(&rt);
-    let acts = [
-        Act::AddsAt(0),
-        Act::AddsAt(1),
-        Act::AddsAt(2),
-        Act::AddsAt(3),
-    ];
-    let came = broadcasts(&rt, rt.alloc(), &pool, &tally, &acts);
-    assert!(rt; came);
-    awaits(&rt, &tally.called, 4, "each job is called");
-    pool.close(&rt);
-}
-
-#[test]
-fn a_pool_calls_jobs_of_ones_own_type(rt: HostRuntime) {
-    let tally = empty_tally(&rt, rt.alloc());
-    let builder = ThreadPoolBuilder::new().num_threads(2);
-    let (pool, _none) = builder
-        .build_for::<HostRuntime, Raise>(&rt, rt.alloc())
-        .expect(&rt, "memory");
-    for by in [3, 4] {
-        let came = pool.spawn(&rt, raises(&rt, &tally, by)).is_ok();
-        assert!(rt; came);
-    }
-    pool.close(&rt);
-    same(&rt, read(&tally.called), 7);
 }
 
 #[test]

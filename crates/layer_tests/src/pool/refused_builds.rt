@@ -84,7 +84,7 @@ fn a_build_works_or_leaves_no_worker(rt: HostRuntime) {
     }
 }
 
-// What is left free of a machine without places: room for so many stacks of the size below, each in
+// What is left free of a machine without places: room for as many stacks of the size below, each in
 // a place of its own, between places that stay taken.
 fn places(alloc: Global, count: usize) -> Option<(Vec<Vec<u8>>, Vec<Vec<u8>>)> {
     let mut stacks = Vec::with_capacity(alloc, count).ok()?;
@@ -115,7 +115,7 @@ fn builders(alloc: Global, count: usize, tally: &Arc<Tally>) -> Option<Vec<Threa
 }
 
 #[test]
-fn a_build_that_is_refused_behind_its_first_threads_ends_them(rt: HostRuntime) {
+fn a_build_that_is_refused_after_its_first_threads_ends_them(rt: HostRuntime) {
     let alloc = rt.alloc();
     let tally = empty_tally(&rt, alloc);
     let builders = builders(alloc, 5, &tally).expect(&rt, "memory");

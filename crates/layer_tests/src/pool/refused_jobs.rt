@@ -32,7 +32,7 @@ fn halts<R: Wait + Abort + Clock>(
     awaits(rt, &tally.entered, 1, "the worker waits");
 }
 
-// Spawns jobs, and calls each that is refused. Answers how many were.
+// Spawns jobs, and calls each that is refused. Returns how many were.
 fn calls_refused(
     rt: &(impl Wait + Abort),
     pool: &ThreadPool<Staff>,
@@ -84,7 +84,7 @@ fn a_refused_job_comes_back_and_runs_when_called(rt: HostRuntime) {
 // So many jobs are pushed to each queue.
 const MANY: u32 = 60_000;
 
-// Pushes many jobs to a queue, each of which adds one, and answers how many came.
+// Pushes many jobs to a queue, each of which adds one, and returns how many came.
 fn many_come(
     rt: &(impl Wait + Abort),
     worker: &mut WorkerThread<Raise>,
@@ -135,7 +135,7 @@ const FOUR: [Act; 4] = [
     Act::Adds(16_777_216),
 ];
 
-// What the first so many of the four broadcast jobs add, each called once.
+// What the first ones of the four broadcast jobs add, each called once.
 fn of_first(count: usize) -> u64 {
     match count {
         0 => 0,
@@ -146,7 +146,7 @@ fn of_first(count: usize) -> u64 {
     }
 }
 
-// Calls the jobs that came back, and answers whether they are the last of the four, in order.
+// Calls the jobs that came back, and returns whether they are the last of the four, in order.
 fn come_in_order(rt: &impl Clock, refused: VecDeque<OwnedJob>, tally: &Tally) -> bool {
     let mut first = 4usize.saturating_sub(refused.len());
     if !becomes(rt, &tally.called, of_first(first)) {
@@ -162,7 +162,7 @@ fn come_in_order(rt: &impl Clock, refused: VecDeque<OwnedJob>, tally: &Tally) ->
     true
 }
 
-// Pushes jobs to a queue until a push is refused, and answers how many came. Those that are left
+// Pushes jobs to a queue until a push is refused, and returns how many came. Those that are left
 // keep their memory.
 fn fills(
     rt: &impl Wait,

@@ -1,7 +1,6 @@
 //! Jobs that are brought and taken by a worker's own seat of its pool's queues: each is counted.
 use crate::pool::tally::{
-    Act, Tally, awaits, broadcasts, empty_tally, job, jobs, let_it_sleep, push_by, read, spawn,
-    workers,
+    Act, Tally, awaits, broadcasts, empty_tally, jobs, push_by, read, spawn, workers,
 };
 use crate::same::same;
 use parallel_pool::rayon::{OwnedJob, Queue, WorkerThread};
@@ -11,17 +10,6 @@ use std::sync::{Arc, Wait};
 
 // A job for each of two workers.
 const TWO: [Act; 2] = [Act::Adds(1), Act::Adds(1)];
-
-// Pushes a job by a worker's seat to a queue, and answers whether it came.
-fn pushes(
-    rt: &(impl Wait + Abort),
-    alloc: Global,
-    worker: &mut WorkerThread,
-    queue: Queue,
-    tally: &Arc<Tally>,
-) -> bool {
-    push_by(rt, worker, queue, job(rt, alloc, tally, Act::Adds(1)))
-}
 
 // Pushes a job for each of two workers by the seat of one.
 fn pushes_each(
@@ -44,21 +32,6 @@ fn own_job(rt: &(impl Wait + Abort), worker: &mut WorkerThread) -> OwnedJob {
         None
     };
     own.expect(rt, "the job for this worker")
-}
-
-#[test]
-fn a_job_that_a_seat_brought_is_counted(rt: HostRuntime) {
-    let alloc = rt.alloc();
-    let tally = empty_tally(&rt, alloc);
-    let (pool, mut worker) = workers(&rt, alloc, 2, &tally);
-    assert!(rt; pushes(&rt, alloc, &mut worker, Queue::Injected, &tally));
-    for brought in 2..5u64 {
-        spawn(&rt, alloc, &pool, &tally, Act::Adds(1));
-        awaits(&rt, &tally.called, brought, "each job is called");
-    }
-    pool.close(&rt);
-    same(&rt, read(&tally.called), 4);
-    awaits(&rt, &tally.ended, 1, "the worker has ended");
 }
 
 #[test]
@@ -100,43 +73,5 @@ fn pushes_takes_and_calls_are_counted_in_any_order(rt: HostRuntime) {
         11,
         "a job that was spawned before the end is called",
     );
-    awaits(&rt, &tally.ended, 1, "the other worker has ended");
-}
-
-#[test]
-fn a_job_that_a_seat_brings_wakes_a_worker(rt: HostRuntime) {
-    let alloc = rt.alloc();
-    let tally = empty_tally(&rt, alloc);
-    let (pool, mut worker) = workers(&rt, alloc, 2, &tally);
-    for (queue, called) in [(Queue::Injected, 1), (Queue::Broadcast(1), 2)] {
-        let_it_sleep(&rt);
-        assert!(rt; pushes(&rt, alloc, &mut worker, queue, &tally));
-        awaits(&rt, &tally.called, called, "the sleeper calls it");
-    }
-    let_it_sleep(&rt);
-    assert!(rt; pushes_each(&rt, alloc, &mut worker, &tally));
-    awaits(&rt, &tally.called, 3, "the sleeper calls its own");
-    pool.yield_now(&rt, &mut worker);
-    pool.close(&rt);
-    same(&rt, read(&tally.called), 4);
-}
-
-#[test]
-fn a_job_of_a_workers_own_wakes_another_and_is_counted(rt: HostRuntime) {
-    let alloc = rt.alloc();
-    let tally = empty_tally(&rt, alloc);
-    let (pool, mut worker) = workers(&rt, alloc, 2, &tally);
-    for called in 1..4u64 {
-        let_it_sleep(&rt);
-        let job = job(&rt, alloc, &tally, Act::Adds(1));
-        assert!(rt; pool.spawn_from(&rt, &mut worker, job).is_ok());
-        awaits(
-            &rt,
-            &tally.called,
-            called,
-            "the sleeper takes it from the other's deque",
-        );
-    }
-    drop(pool);
     awaits(&rt, &tally.ended, 1, "the other worker has ended");
 }

@@ -1,6 +1,8 @@
 //! The state of the workers' sleep.
 use crate::same::{row, same};
-use parallel_pool::sleep::{Block, Counters, Due, IdleState, SleepState, Standing};
+use crossbeam_utils::sync::Parker;
+use parallel_pool::sleep::{Block, Counters, Due, IdleState, Sleep, SleepState, Standing};
+use std::alloc::Global;
 use std::num::NonZeroUsize;
 use std::process::Abort;
 
@@ -10,6 +12,12 @@ fn a_word_of_three_counts(rt: HostRuntime) {
     same(&rt, counters.word(), 12_885_032_961);
     let counts = (counters.sleeping(), counters.inactive(), counters.events());
     same(&rt, counts, (1, 2, 3));
+}
+
+// The sleep of one worker, and its parker.
+pub(crate) fn one_sleep(rt: &impl Abort, alloc: Global) -> (Sleep, Parker) {
+    let (sleep, mut parkers) = Sleep::new(alloc, NonZeroUsize::MIN).expect(rt, "memory");
+    (sleep, parkers.pop().expect(rt, "a parker"))
 }
 
 // A worker that had work looks for more.

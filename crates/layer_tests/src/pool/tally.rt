@@ -13,7 +13,7 @@ use std::sync::{Arc, Wait};
 use std::thread::{self, Threads};
 use std::time::{Clock, Duration};
 
-/// Waits until a word is so much, for ten seconds at most, and returns whether it is.
+/// Waits until a word is that much, for ten seconds at most, and returns whether it is.
 pub(crate) fn becomes(rt: &impl Clock, word: &AtomicU64, wanted: u64) -> bool {
     for _ in 0..10_000 {
         if read(word) == wanted {
@@ -24,14 +24,18 @@ pub(crate) fn becomes(rt: &impl Clock, word: &AtomicU64, wanted: u64) -> bool {
     false
 }
 
-/// Stops the test where a word isn't so much in time.
+/// Stops the test where a word isn't that much in time.
 pub(crate) fn awaits<R: Clock + Abort>(rt: &R, word: &AtomicU64, wanted: u64, what: &str) {
     assert!(rt; becomes(rt, word, wanted), "{what}");
 }
 
-/// By then a thread that was started sleeps where it is to wait.
+/// By then a thread that was started sleeps where it is to wait, also on a machine that is busy: a
+/// worker yields 33 times before it sleeps.
 pub(crate) fn let_it_sleep(rt: &impl Clock) {
     thread::sleep(rt, Duration::from_millis(30));
+    for _ in 0..100u32 {
+        thread::yield_now();
+    }
 }
 
 /// What is told by a word.
@@ -166,14 +170,14 @@ pub(crate) fn workers<R: Threads + Wait + Abort + Copy + Send + 'static>(
 /// What a job tells a tally where it is called.
 #[derive(Clone, Copy)]
 pub(crate) enum Act {
-    // Adds so much.
+    // Adds that much.
     Adds(u64),
-    // Writes a digit behind those that were written.
+    // Writes a digit after those that were written.
     Writes(u64),
     // Adds 1 where the worker of that index calls it.
     AddsAt(usize),
     // Adds 1 where the worker that calls it has started.
-    AddsBehind,
+    AddsOnceBegun,
     // Adds 1, after a while.
     AddsLate,
     // Counts as one that only fills a queue.
@@ -210,13 +214,13 @@ fn has_begun(tally: &Tally, index: usize) -> bool {
     matches!(bytes, Some(bytes) if bytes % 256 == 1)
 }
 
-// What a job adds where the worker of an index calls it.
-fn added(act: Act, tally: &Tally, index: usize) -> u64 {
+/// What a job adds where the worker of an index calls it.
+pub(crate) fn added(act: Act, tally: &Tally, index: usize) -> u64 {
     match act {
         Act::Adds(unit) => unit,
         Act::Writes(digit) => read(&tally.called).wrapping_mul(9).wrapping_add(digit),
         Act::AddsAt(worker) => one_where(index == worker),
-        Act::AddsBehind => one_where(has_begun(tally, index)),
+        Act::AddsOnceBegun => one_where(has_begun(tally, index)),
         Act::AddsLate => {
             linger();
             1
@@ -281,7 +285,7 @@ pub(crate) fn broadcasts(
     jobs.len() == pool.current_num_threads() && pool.spawn_broadcast(rt, jobs).is_ok()
 }
 
-/// A job of a type of its own, which adds so much.
+/// A job of a type of its own, which adds that much.
 #[derive(Drop)]
 pub(crate) struct Raise {
     tally: Arc<Tally>,

@@ -1,5 +1,5 @@
 //! Batches: in which ranges their indices go.
-use crate::tests::same::{answers, lists, row, same};
+use crate::tests::same::{lists, returns, row, same};
 use crate::tests::steps::one_more;
 use crate::tests::strategies::{SITE, fresh, number, pool};
 use commonware_parallel::{Batches, Fault, Sequential, Site, Strategy, Trouble};
@@ -71,11 +71,11 @@ fn a_batch_looks_into_a_list_by_its_ranges(rt: HostRuntime) {
     let alloc = rt.alloc();
     let flags = [true, false, true, true, false];
     let set = count_by_ranges(&rt, alloc, &Sequential, SITE, &flags);
-    answers(&rt, "serial", set, 3);
+    returns(&rt, "serial", set, 3);
     for planned in 1..9usize {
         let strategy = pool(&rt, alloc, 1, planned);
         let set = count_by_ranges(&rt, alloc, &strategy, SITE, &flags);
-        answers(&rt, planned, set, 3);
+        returns(&rt, planned, set, 3);
     }
 }
 
@@ -101,10 +101,10 @@ fn run_whole_and_once<Rt: Wait + Abort, S: Strategy>(rt: &Rt, alloc: Global, str
     for (of, strategy) in strategies.iter().enumerate() {
         for len in [0, 1, 7, 8, 15] {
             let told = whole_and_calls(rt, alloc, strategy, len, eight);
-            answers(rt, (of, len), told, (true, 1));
+            returns(rt, (of, len), told, (true, 1));
         }
         let told = whole_and_calls(rt, alloc, strategy, usize::MAX, NonZeroUsize::MAX);
-        answers(rt, (of, usize::MAX), told, (true, 1));
+        returns(rt, (of, usize::MAX), told, (true, 1));
     }
 }
 
@@ -115,9 +115,9 @@ fn an_input_that_is_not_split_runs_whole_and_once(rt: HostRuntime) {
     let one = pool(&rt, alloc, 1, 1);
     let least = NonZeroUsize::MIN;
     let told = whole_and_calls(&rt, alloc, &one, usize::MAX, least);
-    answers(&rt, "one", told, (true, 1));
+    returns(&rt, "one", told, (true, 1));
     let told = whole_and_calls(&rt, alloc, &Sequential, usize::MAX, least);
-    answers(&rt, "serial", told, (true, 1));
+    returns(&rt, "serial", told, (true, 1));
     let four = [one, pool(&rt, alloc, 4, 4), fresh(&rt, alloc, 4)];
     run_whole_and_once(&rt, alloc, &four);
 }
@@ -151,7 +151,7 @@ pub fn mapped_starts<Rt: Threads + Wait + Sync, S: Strategy>(
     minimum: NonZeroUsize,
     limit: Option<usize>,
 ) -> Result<Vec<usize>, Trouble<usize>> {
-    let answer = strategy.run_batches(
+    let outcome = strategy.run_batches(
         rt,
         alloc,
         SITE,
@@ -168,7 +168,7 @@ pub fn mapped_starts<Rt: Threads + Wait + Sync, S: Strategy>(
             batches.try_map_collect_vec(rt, alloc, prepare, check)
         },
     )?;
-    answer
+    outcome
 }
 
 #[test]
@@ -255,9 +255,9 @@ fn ranges_or_second<Rt: Wait, S: Strategy>(
 }
 
 #[test]
-fn a_batch_answers_its_closures_error(rt: HostRuntime) {
+fn a_batch_returns_its_closures_error(rt: HostRuntime) {
     let alloc = rt.alloc();
-    answers(&rt, 1, ranges_or_second(&rt, alloc, &Sequential), 1);
+    returns(&rt, 1, ranges_or_second(&rt, alloc, &Sequential), 1);
     let strategy = pool(&rt, alloc, 1, 4);
     let failed = ranges_or_second(&rt, alloc, &strategy);
     assert!(rt; matches!(failed, Err(Trouble::Closure(3))));

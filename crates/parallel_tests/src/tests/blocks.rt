@@ -95,7 +95,7 @@ fn calls_fail<Rt: Threads + Wait + Abort + Sync, S: Strategy>(
     row(rt, call, folded.err(), Some(Trouble::Closure(255)));
 }
 
-// Whether the process has grown by as many blocks since it had so many pages.
+// Whether the process has grown by as many blocks since it had that many pages.
 fn has_grown<Rt: Files + AllocGlobal + Abort>(rt: &Rt, before: usize) -> bool {
     // One block for each call would be 12,288 pages.
     resident(rt) > before.saturating_add(6_144)

@@ -1,5 +1,5 @@
 //! The program's command lines, its refusals, and writers that fail.
-use crate::tests::same::{answers, row, same};
+use crate::tests::same::{returns, row, same};
 use crate::tests::strategies::number;
 use parallel_fault::Fault;
 use parallel_shares::Shares;
@@ -87,7 +87,7 @@ impl Write for Closed {
     }
 }
 
-// Command lines, and behind a colon the line that each answers. (One text, since a list of as many
+// Command lines, and after a colon the line that each prints. (One text, since a list of as many
 // borrowed texts takes the borrow check twelve seconds.)
 const ANSWERED: &str = "\
     : 0 1 2 3\n\
@@ -150,16 +150,16 @@ const ANSWERED: &str = "\
     root 01 02 003: 25";
 
 #[test]
-fn each_command_answers_one_line(rt: HostRuntime) {
+fn each_command_prints_one_line(rt: HostRuntime) {
     let alloc = rt.alloc();
     for told in ANSWERED.split('\n') {
-        let (line, answer) = told.split_once(": ").expect(&rt, "a colon");
-        let answer = format!(in alloc; "{answer}\n").expect(&rt, "memory");
-        leaves(&rt, alloc, line, (0, &answer, ""));
+        let (line, printed) = told.split_once(": ").expect(&rt, "a colon");
+        let printed = format!(in alloc; "{printed}\n").expect(&rt, "memory");
+        leaves(&rt, alloc, line, (0, &printed, ""));
     }
 }
 
-// How many words a command with a long answer leaves, where its answer begins and ends with these
+// How many words a command with a long line leaves, where its line begins and ends with these
 // texts.
 fn words_left<R: Threads + Wait + Abort + Sync>(
     rt: &R,
@@ -178,7 +178,7 @@ fn words_left<R: Threads + Wait + Abort + Sync>(
 }
 
 #[test]
-fn the_widest_commands_answer(rt: HostRuntime) {
+fn the_widest_commands_succeed(rt: HostRuntime) {
     let alloc = rt.alloc();
     let rows = words_left(&rt, alloc, "drain 65535 16", "0 1 2 ", " 65533 65534\n");
     row(&rt, 1, rows, 65_535);
@@ -190,7 +190,7 @@ fn the_widest_commands_answer(rt: HostRuntime) {
     row(&rt, 3, lengths, 65_536);
 }
 
-// The line of so many items behind these words, each the greatest number.
+// The line of that many items after these words, each the greatest number.
 fn widest(alloc: Global, words: &str, items: usize) -> Result<String, AllocError> {
     let mut line = String::from_str(alloc, words)?;
     for _ in 0..items {
@@ -199,15 +199,15 @@ fn widest(alloc: Global, words: &str, items: usize) -> Result<String, AllocError
     Ok(line)
 }
 
-// These words take a thousand items behind them and no more.
+// These words take a thousand items after them and no more.
 fn takes_a_thousand<R: Threads + Wait + Abort + Sync>(
     rt: &R,
     alloc: Global,
     words: &str,
-    answer: &str,
+    printed: &str,
 ) {
     let most = widest(alloc, words, 1_000).expect(rt, "memory");
-    leaves(rt, alloc, &most, (0, answer, ""));
+    leaves(rt, alloc, &most, (0, printed, ""));
     let more = widest(alloc, words, 1_001).expect(rt, "memory");
     leaves(rt, alloc, &more, (2, "", "shapes: bad arguments\n"));
 }
@@ -359,9 +359,9 @@ fn a_line_is_written_in_parts(rt: HostRuntime) {
     let mut err = Narrow {
         taken: Vec::new(alloc),
     };
-    answers(&rt, 1, command(&rt, alloc, &[], &mut out, &mut err), 0);
+    returns(&rt, 1, command(&rt, alloc, &[], &mut out, &mut err), 0);
     let unknown = words_of(alloc, "unknown").expect(&rt, "memory");
-    answers(&rt, 2, command(&rt, alloc, &unknown, &mut out, &mut err), 2);
+    returns(&rt, 2, command(&rt, alloc, &unknown, &mut out, &mut err), 2);
     same(&rt, text_of(&rt, out.taken).as_str(), "0 1 2 3\n");
     same(
         &rt,
@@ -390,15 +390,15 @@ fn a_failed_write_is_named_and_is_status_one(rt: HostRuntime) {
 #[test]
 fn a_refusal_says_its_text(rt: HostRuntime) {
     let mut err = Vec::new(rt.alloc());
-    answers(&rt, 1, out_of_memory(&mut err), 1);
+    returns(&rt, 1, out_of_memory(&mut err), 1);
     let line = format!(in rt.alloc(); "shapes: {}\n", Fault::Memory).expect(&rt, "memory");
     same(&rt, text_of(&rt, err).as_str(), line.as_str());
 }
 
-// Run with `rt try --test --fail-alloc N` for each N: a refused growth leaves no answer, half or
+// Run with `rt try --test --fail-alloc N` for each N: a refused growth leaves no line, half or
 // whole.
 #[test]
-fn a_refused_growth_leaves_no_answer(rt: HostRuntime) {
+fn a_refused_growth_leaves_no_line(rt: HostRuntime) {
     let alloc = rt.alloc();
     let lines = [
         ("drain 4 2", "0 1 2 3\n"),
@@ -410,12 +410,12 @@ fn a_refused_growth_leaves_no_answer(rt: HostRuntime) {
         ("mix 0 1 1 64", "2107625324\n"),
         ("root 1 2 3", "25\n"),
     ];
-    for (line, answer) in lines {
+    for (line, printed) in lines {
         let Some(ran) = run(&rt, alloc, line) else {
             continue;
         };
         let wanted = if ran.status == 0 {
-            (answer, "")
+            (printed, "")
         } else {
             ("", "shapes: out of memory\n")
         };
@@ -426,8 +426,8 @@ fn a_refused_growth_leaves_no_answer(rt: HostRuntime) {
 #[test]
 fn words_that_could_not_be_read(rt: HostRuntime) {
     let mut err = Vec::new(rt.alloc());
-    answers(&rt, 1, unread(ErrorKind::InvalidData, &mut err), 2);
-    answers(&rt, 2, unread(ErrorKind::OutOfMemory, &mut err), 1);
+    returns(&rt, 1, unread(ErrorKind::InvalidData, &mut err), 2);
+    returns(&rt, 2, unread(ErrorKind::OutOfMemory, &mut err), 1);
     let said = "shapes: bad arguments\nshapes: out of memory\n";
     same(&rt, text_of(&rt, err).as_str(), said);
 }

@@ -26,7 +26,7 @@ fn is_raised(flag: &AtomicBool) -> bool {
     false
 }
 
-// Says that it began, and answers whether it then saw that it may end.
+// Says that it began, and returns whether it then saw that it may end.
 #[derive(Drop)]
 struct Waits {
     begun: Arc<AtomicBool, Global>,

@@ -2,9 +2,9 @@
 //! entries, and the times that they keep. The clocks go on by 100000 nanoseconds at each reading,
 //! so each measured run takes as long.
 use crate::tests::clocks::{Stepping, learning};
-use crate::tests::same::{answers, row};
+use crate::tests::same::{returns, row};
 use crate::tests::steps::{
-    Gives, add, add_counted, answer_one, answer_two, as_it_is, ascending, count, descending, zero,
+    Gives, add, add_counted, as_it_is, ascending, count, descending, give_one, give_two, zero,
 };
 use crate::tests::strategies::{SITE, number};
 use commonware_parallel::policy::{Key, RunExecution};
@@ -139,7 +139,7 @@ fn joins_and_spawns<Rt: Threads + Wait + Copy + Send + Sync + 'static, S: Strate
     alloc: Global,
     strategy: &S,
 ) -> Result<(), Fault> {
-    strategy.join(rt, alloc, at(1), answer_one, answer_two)?;
+    strategy.join(rt, alloc, at(1), give_one, give_two)?;
     strategy.spawn(rt, alloc, at(2), 1, Gives(7))?;
     Ok(())
 }
@@ -149,7 +149,7 @@ fn a_join_has_no_entry_and_a_job_none_of_a_run(rt: HostRuntime) {
     let alloc = rt.alloc();
     let policy = fresh(&rt, alloc);
     let strategy = by_policy(&rt, alloc, &policy, STEP);
-    answers(&rt, 1, joins_and_spawns(&rt, alloc, &strategy), ());
+    returns(&rt, 1, joins_and_spawns(&rt, alloc, &strategy), ());
     row(&rt, "join", times(&rt, &policy, at(1), 2, 2), None);
     let of_join = has_job_or_run(&rt, &policy, at(1));
     row(&rt, "join", of_join, (false, false));
@@ -164,7 +164,7 @@ fn a_join_has_no_entry_and_a_job_none_of_a_run(rt: HostRuntime) {
     let one = one.expect(&rt, "memory").with_parallelism(number(&rt, 4));
     let policy = fresh(&rt, alloc);
     let one = one.with_policy(policy.clone().expect(&rt, "a handle"));
-    answers(&rt, 2, joins_and_spawns(&rt, alloc, &one), ());
+    returns(&rt, 2, joins_and_spawns(&rt, alloc, &one), ());
     row(
         &rt,
         "one",
@@ -204,7 +204,7 @@ fn takes<Rt: Wait + Abort>(
     (turn, body, kept): (u32, &'static str, Times),
 ) {
     let taken = one_of(rt, alloc, strategy, SITE, 16, "serial", "parallel");
-    answers(rt, turn, taken, body);
+    returns(rt, turn, taken, body);
     row(rt, turn, times(rt, policy, SITE, 16, 16), kept);
 }
 
@@ -218,7 +218,7 @@ fn strategies_over_one_policy_learn_from_each_other(rt: HostRuntime) {
     takes(&rt, alloc, &first, &policy, (1, "parallel", ONCE));
     takes(&rt, alloc, &second, &policy, (2, "serial", both));
     let third = one_of(&rt, alloc, &first, SITE, 16, "serial", "parallel");
-    answers(&rt, 3, third, "serial");
+    returns(&rt, 3, third, "serial");
     // A strategy with a policy of its own has learnt nothing, and tells them nothing.
     let other = learning(&rt, alloc, Stepping::new(&rt, alloc, 100_000));
     let own = other.policy().expect(&rt, "a policy");
@@ -227,7 +227,7 @@ fn strategies_over_one_policy_learn_from_each_other(rt: HostRuntime) {
     row(&rt, 6, times(&rt, &policy, SITE, 16, 16), both);
 }
 
-// Maps so many numbers, of which each stands for so much work.
+// Maps that many numbers, of which each stands for that much work.
 fn mapped<Rt: Threads + Wait + Sync, S: Strategy>(
     rt: &Rt,
     alloc: Global,
@@ -258,7 +258,7 @@ fn an_entry_is_of_the_digits_of_length_and_work(rt: HostRuntime) {
     ] {
         let of = (len, multiplier);
         let count = mapped(&rt, alloc, &strategy, len, multiplier);
-        answers(&rt, of, count, len as usize);
+        returns(&rt, of, count, len as usize);
         let work = (len as usize).saturating_mul(multiplier);
         row(&rt, of, times(&rt, &policy, SITE, len as usize, work), kept);
     }
@@ -283,11 +283,11 @@ fn a_batch_that_is_too_short_to_be_cut_has_no_entry(rt: HostRuntime) {
     let strategy = by_policy(&rt, alloc, &policy, STEP);
     let eight = number(&rt, 8);
     for len in [0usize, 1, 7, 8, 15] {
-        answers(&rt, len, ranges(&rt, alloc, &strategy, len, eight), 1);
+        returns(&rt, len, ranges(&rt, alloc, &strategy, len, eight), 1);
         row(&rt, len, times(&rt, &policy, SITE, len, len), None);
     }
     let most = ranges(&rt, alloc, &strategy, usize::MAX, NonZeroUsize::MAX);
-    answers(&rt, "most", most, 1);
+    returns(&rt, "most", most, 1);
     let kept = times(&rt, &policy, SITE, usize::MAX, usize::MAX);
     row(&rt, "most", kept, None);
     // One that may be cut is whole where its policy chooses the serial way.
@@ -297,9 +297,9 @@ fn a_batch_that_is_too_short_to_be_cut_has_no_entry(rt: HostRuntime) {
         (RunExecution::Serial, 95_000),
     ] {
         let recorded = policy.record_run(&rt, key, execution, time);
-        answers(&rt, "recorded", recorded, ());
+        returns(&rt, "recorded", recorded, ());
     }
-    answers(&rt, 16, ranges(&rt, alloc, &strategy, 16, eight), 1);
+    returns(&rt, 16, ranges(&rt, alloc, &strategy, 16, eight), 1);
     let kept = Some((Some(100_000), Some(95_000)));
     row(&rt, 16, times(&rt, &policy, SITE, 16, 16), kept);
 }

@@ -1,6 +1,6 @@
 //! Calls whose closures fail at many items, many times over: the first failing item's error is
 //! returned each time, and each item and each result is let go once.
-use crate::tests::same::{answers, count_of, row};
+use crate::tests::same::{count_of, returns, row};
 use crate::tests::steps::{add_counts, no_count};
 use crate::tests::strategies::{SITE, explorers, fresh, pool};
 use commonware_parallel::mocks::explore;
@@ -32,7 +32,7 @@ const EACH: Failing = (0, 0, 0);
 
 const MANY: Failing = (25, 25, 25);
 
-// In how many of so many runs another error was answered than the first one.
+// In how many of that many runs another error was returned than the first one.
 fn other_errors<Rt: Threads + Wait + Sync, S: Strategy>(
     rt: &Rt,
     alloc: Global,
@@ -42,8 +42,8 @@ fn other_errors<Rt: Threads + Wait + Sync, S: Strategy>(
 ) -> u32 {
     let mut others = 0u32;
     for _ in 0..runs {
-        let answer = fails_at(rt, alloc, strategy, one, from);
-        if !matches!(answer, Err(Trouble::Closure(error)) if error == first) {
+        let outcome = fails_at(rt, alloc, strategy, one, from);
+        if !matches!(outcome, Err(Trouble::Closure(error)) if error == first) {
             others = others.saturating_add(1);
         }
     }
@@ -52,7 +52,7 @@ fn other_errors<Rt: Threads + Wait + Sync, S: Strategy>(
 
 // None in a thousand runs through a pool of four without a policy and one with one. (A test that
 // makes more of them might not end in its time where the machine does much else.)
-fn first_is_answered<Rt: Threads + Wait + Abort + Sync>(rt: &Rt, alloc: Global, failing: Failing) {
+fn first_is_returned<Rt: Threads + Wait + Abort + Sync>(rt: &Rt, alloc: Global, failing: Failing) {
     let fixed = pool(rt, alloc, 4, 4);
     row(
         rt,
@@ -70,22 +70,22 @@ fn first_is_answered<Rt: Threads + Wait + Abort + Sync>(rt: &Rt, alloc: Global, 
 }
 
 #[test]
-fn the_first_of_two_errors_is_answered_in_each_of_a_thousand_runs(rt: HostRuntime) {
-    first_is_answered(&rt, rt.alloc(), TWO);
+fn the_first_of_two_errors_is_returned_in_each_of_a_thousand_runs(rt: HostRuntime) {
+    first_is_returned(&rt, rt.alloc(), TWO);
 }
 
 #[test]
-fn the_first_error_is_answered_in_each_of_a_thousand_runs_where_each_item_fails(rt: HostRuntime) {
-    first_is_answered(&rt, rt.alloc(), EACH);
+fn the_first_error_is_returned_in_each_of_a_thousand_runs_where_each_item_fails(rt: HostRuntime) {
+    first_is_returned(&rt, rt.alloc(), EACH);
 }
 
 #[test]
-fn the_first_of_many_errors_is_answered_in_each_of_a_thousand_runs(rt: HostRuntime) {
-    first_is_answered(&rt, rt.alloc(), MANY);
+fn the_first_of_many_errors_is_returned_in_each_of_a_thousand_runs(rt: HostRuntime) {
+    first_is_returned(&rt, rt.alloc(), MANY);
 }
 
 // None in 167 runs by each of six rules.
-fn a_search_answers_the_first<Rt: Threads + Wait + Abort + Sync>(
+fn a_search_returns_the_first<Rt: Threads + Wait + Abort + Sync>(
     rt: &Rt,
     alloc: Global,
     failing: Failing,
@@ -93,44 +93,44 @@ fn a_search_answers_the_first<Rt: Threads + Wait + Abort + Sync>(
     let explored = explore(rt, alloc, |explorer| {
         other_errors(rt, alloc, explorer, failing, 167)
     });
-    answers(rt, failing, explored, 0);
+    returns(rt, failing, explored, 0);
 }
 
 #[test]
-fn a_search_answers_the_first_of_two_errors_in_each_of_a_thousand_runs(rt: HostRuntime) {
-    a_search_answers_the_first(&rt, rt.alloc(), TWO);
+fn a_search_returns_the_first_of_two_errors_in_each_of_a_thousand_runs(rt: HostRuntime) {
+    a_search_returns_the_first(&rt, rt.alloc(), TWO);
 }
 
 #[test]
-fn a_search_answers_the_first_error_in_each_of_a_thousand_runs(rt: HostRuntime) {
-    a_search_answers_the_first(&rt, rt.alloc(), EACH);
-    a_search_answers_the_first(&rt, rt.alloc(), MANY);
+fn a_search_returns_the_first_error_in_each_of_a_thousand_runs(rt: HostRuntime) {
+    a_search_returns_the_first(&rt, rt.alloc(), EACH);
+    a_search_returns_the_first(&rt, rt.alloc(), MANY);
 }
 
-// Maps the numbers below so many to 0 or 1, by a word that all calls share: how many answers come,
+// Maps that many numbers to 0 or 1, by a word that all calls share: how many results come,
 // and how many of them are neither.
-fn unsteady_answers<Rt: Threads + Wait + Sync, S: Strategy>(
+fn unsteady_results<Rt: Threads + Wait + Sync, S: Strategy>(
     rt: &Rt,
     alloc: Global,
     strategy: &S,
     count: usize,
 ) -> Result<(usize, usize), Fault> {
     let calls = AtomicU64::new(0);
-    let answers = strategy.map_collect_vec(rt, alloc, SITE, 0..count, |_: usize| {
+    let results = strategy.map_collect_vec(rt, alloc, SITE, 0..count, |_: usize| {
         calls.fetch_add(1, Ordering::SeqCst) % 2
     })?;
-    let known = count_of(&answers, 0).wrapping_add(count_of(&answers, 1));
-    Ok((answers.len(), answers.len().wrapping_sub(known)))
+    let known = count_of(&results, 0).wrapping_add(count_of(&results, 1));
+    Ok((results.len(), results.len().wrapping_sub(known)))
 }
 
 #[test]
-fn an_unsteady_closure_answers_each_item_by_each_rule(rt: HostRuntime) {
+fn an_unsteady_closure_maps_each_item_by_each_rule(rt: HostRuntime) {
     let alloc = rt.alloc();
     let explorers = explorers(&rt, alloc);
     for explorer in &explorers {
         for count in [0usize, 1, 2, 1000] {
-            let told = unsteady_answers(&rt, alloc, explorer, count);
-            answers(&rt, (explorer.rule(), count), told, (count, 0));
+            let told = unsteady_results(&rt, alloc, explorer, count);
+            returns(&rt, (explorer.rule(), count), told, (count, 0));
         }
     }
 }
@@ -228,7 +228,7 @@ pub fn greater<'a>(left: Counted<'a>, right: Counted<'a>) -> Counted<'a> {
     left.at(left.place.max(right.place))
 }
 
-// What a map of counted items answered, of which one fails, and what is left of items and answers.
+// What a map of counted items returned, of which one fails, and what is left of items and results.
 fn map_left(
     rt: &impl Abort,
     counts: &Counts,
@@ -257,7 +257,7 @@ fn fold_left(rt: &impl Abort, counts: &Counts, len: usize, folded: Result<usize,
     row(rt, of, counts.left(), 0);
 }
 
-// Maps so many counted items of a slice.
+// Maps that many counted items of a slice.
 fn slice_left<Rt: Threads + Wait + Abort + Sync, S: Strategy>(
     rt: &Rt,
     alloc: Global,
@@ -270,7 +270,7 @@ fn slice_left<Rt: Threads + Wait + Abort + Sync, S: Strategy>(
     map_left(rt, counts, len, mapped, len);
 }
 
-// Maps and folds so many counted items of a vector.
+// Maps and folds that many counted items of a vector.
 fn vector_left<Rt: Threads + Wait + Abort + Sync, S: Strategy>(
     rt: &Rt,
     alloc: Global,
@@ -321,7 +321,7 @@ fn all_left<Rt: Threads + Wait + Abort + Sync, S: Strategy>(
 }
 
 #[test]
-fn each_item_and_each_answer_is_let_go_once(rt: HostRuntime) {
+fn each_item_and_each_result_is_let_go_once(rt: HostRuntime) {
     let alloc = rt.alloc();
     for threads in [2usize, 3, 8] {
         let strategy = pool(&rt, alloc, threads, threads);

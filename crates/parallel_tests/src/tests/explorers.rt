@@ -2,7 +2,7 @@
 ghost use Rattle.std.specs.Prelude.{◌<◌};
 ghost use Rattle.parallel_shares.specs.Grid.{Fits};
 
-use crate::tests::same::{answers, lists, row, same, says};
+use crate::tests::same::{lists, returns, row, same, says};
 use crate::tests::states::are_sorted;
 use crate::tests::steps::{
     add, add_sums, cells_counted, count, count_cells, no_count, no_sum, parallel, serial, square,
@@ -103,7 +103,7 @@ fn a_seed_picks_the_body_and_the_number_of_ranges(rt: HostRuntime) {
         let explorer = by_seed(&rt, alloc, seed);
         row(&rt, seed, explorer.rule(), Rule::Seeded(seed));
         let taken = one_of(&rt, alloc, &explorer, site, len, "serial", "parallel");
-        answers(&rt, (seed, site, len), taken, body);
+        returns(&rt, (seed, site, len), taken, body);
         let ranges = batch_ranges(&rt, alloc, &explorer, site, len, NonZeroUsize::MIN);
         let ranges = ranges.expect(&rt, "memory");
         row(&rt, (seed, site, len), ranges.len(), count);
@@ -170,7 +170,7 @@ fn a_seed_picks_the_way_of_a_join(rt: HostRuntime) {
         let explorer = by_seed(&rt, alloc, seed);
         row(&rt, seed, mix(seed, PLACE, 2), hash);
         let picked = picks_last(&rt, alloc, &explorer, Call::join());
-        answers(&rt, seed, picked, is_parallel);
+        returns(&rt, seed, picked, is_parallel);
     }
 }
 
@@ -204,9 +204,9 @@ fn tiles_and_sorts_come_out_alike_by_every_rule(rt: HostRuntime) {
     let explorers = explorers(&rt, alloc);
     for explorer in &explorers {
         let filled = cells_filled(&rt, alloc, explorer, &grids);
-        answers(&rt, explorer.rule(), filled, 900);
+        returns(&rt, explorer.rule(), filled, 900);
         let is_sorted = are_sorted(&rt, alloc, explorer);
-        answers(&rt, explorer.rule(), is_sorted, true);
+        returns(&rt, explorer.rule(), is_sorted, true);
     }
 }
 
@@ -217,7 +217,7 @@ fn is_parallel<Rt: Wait + Abort>(rt: &Rt, alloc: Global, explorer: &Explorer) {
     same(rt, (explorer.rule(), numbers), (Rule::Parallel, (2, 3)));
     for turn in 0..4 {
         let taken = explorer.run(rt, alloc, SITE, 64, serial, parallel);
-        answers(rt, turn, taken, "parallel");
+        returns(rt, turn, taken, "parallel");
     }
 }
 
@@ -247,8 +247,8 @@ fn sum_from_ten<Rt: Threads + Wait + Sync, S: Strategy>(
 fn the_parallel_rule_folds_and_maps_along_the_shape(rt: HostRuntime) {
     let alloc = rt.alloc();
     let explorer = Explorer::parallel(&pool(&rt, alloc, 2, 3)).expect(&rt, "memory");
-    answers(&rt, 1, sum_from_ten(&rt, alloc, &explorer, &[1, 2, 3]), 66);
-    answers(&rt, 2, sum_from_ten(&rt, alloc, &explorer, &[]), 20);
+    returns(&rt, 1, sum_from_ten(&rt, alloc, &explorer, &[1, 2, 3]), 66);
+    returns(&rt, 2, sum_from_ten(&rt, alloc, &explorer, &[]), 20);
     let states = explorer.map_init_collect_vec(&rt, alloc, SITE, 0..3u32, zero, count);
     lists(&rt, 3, states, &[1, 1, 1]);
 }
@@ -261,7 +261,7 @@ fn refuse_two(number: u64) -> Result<u64, u64> {
     }
 }
 
-// The sum of the squares of the numbers below 100 that a map answers, their own sum by a fold, and
+// The sum of the squares of the numbers below 100 that a map returns, their own sum by a fold, and
 // the error of a map that fails at two of them.
 fn outputs<Rt: Threads + Wait + Sync>(
     rt: &Rt,
@@ -284,11 +284,11 @@ fn outputs<Rt: Threads + Wait + Sync>(
 }
 
 #[test]
-fn outputs_that_the_shape_does_not_change_are_answered(rt: HostRuntime) {
+fn outputs_that_the_shape_does_not_change_are_returned(rt: HostRuntime) {
     let alloc = rt.alloc();
     let told = explore(&rt, alloc, |explorer| outputs(&rt, alloc, explorer).ok());
     // (99 * 100 * 199 / 6 is the sum of the squares)
-    answers(&rt, 1, told, Some((328_350, 4950, Some(57))));
+    returns(&rt, 1, told, Some((328_350, 4950, Some(57))));
 }
 
 // The numbers' sum, begun from a first number in each segment.
@@ -318,7 +318,7 @@ fn a_sum_does_not_depend_on_the_shape(rt: HostRuntime) -> Result<(), Fail> {
 
 #[test]
 fn two_closures_are_told_apart(rt: HostRuntime) {
-    answers(&rt, 1, explore_from_zero(&rt, rt.alloc()), Ok(4950));
+    returns(&rt, 1, explore_from_zero(&rt, rt.alloc()), Ok(4950));
     let told = explore_from_ten(&rt, rt.alloc());
     assert!(rt; matches!(told, Err(ExploreError::Differs(Rule::Parallel))));
 }
@@ -343,7 +343,7 @@ fn the_rules_come_in_their_order(rt: HostRuntime) {
         let numbers = (explorer.thread_number().get(), explorer.planning().get());
         rules.push(explorer.rule()).is_ok() && numbers == (4, 8)
     });
-    answers(&rt, 1, output, true);
+    returns(&rt, 1, output, true);
     same(&rt, rules.as_slice(), RULES.as_slice());
 }
 

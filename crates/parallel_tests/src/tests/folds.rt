@@ -1,7 +1,7 @@
 //! Folds through each strategy. The identity 10 isn't neutral for addition, so that the sum tells
 //! in how many segments a list went: each leaf of its shape adds 20, and a list in one piece adds
 //! 10.
-use crate::tests::same::{answers, row};
+use crate::tests::same::{returns, row};
 use crate::tests::steps::{add, add_counted, add_or_fail, ten, zero};
 use crate::tests::strategies::{SITE, number, pool, pools};
 use commonware_parallel::{Fault, Sequential, Strategy, Trouble};
@@ -37,8 +37,8 @@ fn fold_to<Rt: Threads + Wait + Abort + Sync, S: Strategy>(
     (three, none): (u32, u32),
 ) {
     let found = folds_from_ten(rt, alloc, strategy, 4);
-    answers(rt, (of, "three"), found, [three; 3]);
-    answers(
+    returns(rt, (of, "three"), found, [three; 3]);
+    returns(
         rt,
         (of, "none"),
         folds_from_ten(rt, alloc, strategy, 1),
@@ -78,9 +78,9 @@ fn a_strategy_of_ones_own_folds_by_length(rt: HostRuntime) {
     for (from, sum) in [(3, 66), (4, 16)] {
         let strategy = LongLists::new(number(&rt, 2), from);
         let found = folds_from_ten(&rt, alloc, &strategy, 4);
-        answers(&rt, from, found, [sum; 3]);
+        returns(&rt, from, found, [sum; 3]);
         let found = fold_by_length(&rt, alloc, &strategy, SITE, 1..4u32, ten, add, add);
-        answers(&rt, from, found, sum);
+        returns(&rt, from, found, sum);
     }
 }
 
@@ -118,15 +118,15 @@ fn lawful_folds<Rt: Threads + Wait + Abort + Sync, S: Strategy>(
     for (of, strategy) in strategies.iter().enumerate() {
         // 1 + 4 + 9 + (2^16 - 1)^2 + 2^32, without the multiples of 2^32.
         let sum = sum_of_squares(rt, alloc, strategy, SITE, &numbers);
-        answers(rt, of, sum, 4_294_836_239);
-        answers(rt, of, sum_of_squares(rt, alloc, strategy, SITE, &[]), 0);
+        returns(rt, of, sum, 4_294_836_239);
+        returns(rt, of, sum_of_squares(rt, alloc, strategy, SITE, &[]), 0);
         let entries = sum_of_entries(rt, alloc, strategy, SITE, &[10, 20, 30], &[2, 0, 2]);
-        answers(rt, of, entries, 70);
+        returns(rt, of, entries, 70);
         let longest = longest_word(rt, alloc, strategy, SITE, &words);
-        answers(rt, of, longest, Some("apple"));
-        answers(rt, of, longest_word(rt, alloc, strategy, SITE, &[]), None);
+        returns(rt, of, longest, Some("apple"));
+        returns(rt, of, longest_word(rt, alloc, strategy, SITE, &[]), None);
         let sums = sums_below(rt, alloc, strategy, 100);
-        answers(rt, of, sums, (4950, 4950));
+        returns(rt, of, sums, (4950, 4950));
     }
 }
 

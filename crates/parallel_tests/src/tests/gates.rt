@@ -55,10 +55,10 @@ impl Calls {
         Ok(call)
     }
 
-    // Stops the test where the first item's error isn't the answer, or a quarter of the items was
+    // Stops the test where the first item's error isn't the outcome, or a quarter of the items was
     // asked. Then it begins anew.
-    fn were_few<T: Drop>(&self, rt: &impl Abort, of: &str, answer: Result<T, Trouble<u64>>) {
-        assert!(rt; matches!(answer, Err(Trouble::Closure(7))), "{of}");
+    fn were_few<T: Drop>(&self, rt: &impl Abort, of: &str, outcome: Result<T, Trouble<u64>>) {
+        assert!(rt; matches!(outcome, Err(Trouble::Closure(7))), "{of}");
         let asked = self.count.load(Ordering::SeqCst);
         assert!(rt;
             4 <= asked && asked < LEN as u64 / 4,
@@ -84,7 +84,7 @@ fn ask_of(item: &Asked<'_>) -> Result<u64, u64> {
     ask(*item)
 }
 
-// Adds what an item answers.
+// Adds what an item returns.
 fn add(sum: u64, item: Asked<'_>) -> Result<u64, u64> {
     match ask(item) {
         Ok(call) => Ok(sum.wrapping_add(call)),
@@ -131,7 +131,7 @@ fn calls_stop<Rt: Threads + Wait + Abort + Sync, S: Strategy>(
 }
 
 #[test]
-fn what_lies_behind_the_first_error_is_mostly_not_asked(rt: HostRuntime) {
+fn what_lies_after_the_first_error_is_mostly_not_asked(rt: HostRuntime) {
     let alloc = rt.alloc();
     let four = pool(&rt, alloc, 4, 4);
     let calls = Calls::new();

@@ -1,6 +1,6 @@
 //! Each call of the layers below a strategy, once by itself.
-use crate::tests::same::{answers, lists, row, same};
-use crate::tests::steps::{add, answer_seven, ten};
+use crate::tests::same::{lists, returns, row, same};
+use crate::tests::steps::{add, give_seven, ten};
 use crate::tests::strategies::{SITE, number, pool};
 use commonware_parallel::bridge::list::fold::{fold_iter, fold_parallel};
 use commonware_parallel::bridge::list::map::{map_iter, map_parallel};
@@ -82,7 +82,7 @@ fn lists_are_driven_without_a_strategy(rt: HostRuntime) {
             slice: [1, 2, 3].as_slice(),
         },
     };
-    answers(
+    returns(
         &rt,
         3,
         fold_parallel(&rt, alloc, two, few, &ten, &add, &add),
@@ -92,8 +92,8 @@ fn lists_are_driven_without_a_strategy(rt: HostRuntime) {
 
 #[test]
 fn closures_run_on_a_worker(rt: HostRuntime) {
-    row(&rt, 1, install(&rt, answer_seven), 7);
+    row(&rt, 1, install(&rt, give_seven), 7);
     let pool = ThreadPool::new(number(&rt, 3));
     same(&rt, pool.current_num_threads(), 3);
-    row(&rt, 2, pool.install(&rt, answer_seven), 7);
+    row(&rt, 2, pool.install(&rt, give_seven), 7);
 }

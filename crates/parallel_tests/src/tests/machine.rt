@@ -72,7 +72,7 @@ fn a_unit_has_several_rows_where_there_are_many(rt: HostRuntime) {
     same(&rt, state.words(), [32_768].as_slice());
 }
 
-// A replay, and one claim by steps, answer what they always do, or want of memory. Run with each
+// A replay, and one claim by steps, return what they always do, or want of memory. Run with each
 // allocation failing in turn.
 fn replay_or_refusal(rt: &impl Abort, alloc: Global) {
     let plan = Plan::new(3, 2, number(rt, 1), number(rt, 2), true);

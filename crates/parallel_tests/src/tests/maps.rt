@@ -135,7 +135,7 @@ fn neighbouring_pairs_come_in_order_and_the_odd_item_apart(rt: HostRuntime) {
 
 fn no_item(_number: usize) {}
 
-// How many values of size zero come of so many items.
+// How many values of size zero come of that many items.
 fn map_nothing<Rt: Threads + Wait + Sync, S: Strategy>(
     rt: &Rt,
     alloc: Global,
@@ -203,31 +203,31 @@ fn map_unsteadily<Rt: Threads + Wait + Abort + Sync, S: Strategy>(
     count: usize,
 ) -> Result<Vec<u64>, Fault> {
     let calls = AtomicU64::new(0);
-    let answers = strategy.map_collect_vec(rt, alloc, SITE, 0..count, |_: usize| {
+    let results = strategy.map_collect_vec(rt, alloc, SITE, 0..count, |_: usize| {
         calls.fetch_add(1, Ordering::SeqCst) % 2
     })?;
     same(rt, calls.load(Ordering::SeqCst), count as u64);
-    Ok(answers)
+    Ok(results)
 }
 
-// Each of 1000 items has an answer of its own call, through each of the strategies.
-fn each_is_answered<Rt: Threads + Wait + Abort + Sync, S: Strategy>(
+// Each of 1000 items has a result of its own call, through each of the strategies.
+fn each_is_mapped<Rt: Threads + Wait + Abort + Sync, S: Strategy>(
     rt: &Rt,
     alloc: Global,
     strategies: &[S],
 ) {
     for (of, strategy) in strategies.iter().enumerate() {
-        let answers = map_unsteadily(rt, alloc, strategy, 1000).expect(rt, "memory");
-        let (zeros, ones) = (count_of(&answers, 0), count_of(&answers, 1));
+        let results = map_unsteadily(rt, alloc, strategy, 1000).expect(rt, "memory");
+        let (zeros, ones) = (count_of(&results, 0), count_of(&results, 1));
         row(rt, of, (zeros, ones), (500, 500));
     }
 }
 
 #[test]
-fn an_unsteady_closure_answers_each_item_once(rt: HostRuntime) {
+fn an_unsteady_closure_maps_each_item_once(rt: HostRuntime) {
     let alloc = rt.alloc();
     let serial = map_unsteadily(&rt, alloc, &Sequential, 5);
     lists(&rt, "serial", serial, &[0, 1, 0, 1, 0]);
-    each_is_answered(&rt, alloc, &[Sequential]);
-    each_is_answered(&rt, alloc, &pools(&rt, alloc));
+    each_is_mapped(&rt, alloc, &[Sequential]);
+    each_is_mapped(&rt, alloc, &pools(&rt, alloc));
 }

@@ -1,7 +1,7 @@
 //! The calls of one place, each under its short name.
-use crate::tests::same::{answers, lists, same};
+use crate::tests::same::{lists, returns, same};
 use crate::tests::steps::{
-    add, add_counted, answer_one, answer_two, ascending, descending, one_more, zero,
+    add, add_counted, ascending, descending, give_one, give_two, one_more, zero,
 };
 use crate::tests::strategies::{SITE, pools};
 use commonware_parallel::{Indices, On, Sequential, Strategy, Trouble};
@@ -78,8 +78,8 @@ fn sums_of_five<Rt: Threads + Wait + Abort + Sync, S: Strategy>(
         strategy,
         site: SITE,
     };
-    answers(rt, 1, on.fold(0..5u32, zero, add, add), 10);
-    answers(
+    returns(rt, 1, on.fold(0..5u32, zero, add, add), 10);
+    returns(
         rt,
         2,
         on.fold_init(0..5u32, zero, zero, add_counted, add),
@@ -107,11 +107,11 @@ fn sorts_and_a_join<Rt: Threads + Wait + Abort + Sync, S: Strategy>(
     on.sort_unstable_by(&mut numbers, ascending)
         .expect(rt, "memory");
     same(rt, numbers.as_slice(), [1, 2, 3].as_slice());
-    answers(rt, 1, on.join(answer_one, answer_two), (1, 2));
+    returns(rt, 1, on.join(give_one, give_two), (1, 2));
 }
 
 // All of them, and squares and their sum by a caller, through each of the strategies.
-fn one_place_answers<Rt: Threads + Wait + Abort + Sync, S: Strategy>(
+fn one_place_succeeds<Rt: Threads + Wait + Abort + Sync, S: Strategy>(
     rt: &Rt,
     alloc: Global,
     strategies: &[S],
@@ -128,8 +128,8 @@ fn one_place_answers<Rt: Threads + Wait + Abort + Sync, S: Strategy>(
 }
 
 #[test]
-fn each_call_of_one_place_answers(rt: HostRuntime) {
+fn each_call_of_one_place_succeeds(rt: HostRuntime) {
     let alloc = rt.alloc();
-    one_place_answers(&rt, alloc, &[Sequential]);
-    one_place_answers(&rt, alloc, &pools(&rt, alloc));
+    one_place_succeeds(&rt, alloc, &[Sequential]);
+    one_place_succeeds(&rt, alloc, &pools(&rt, alloc));
 }

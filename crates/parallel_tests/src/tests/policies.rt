@@ -1,6 +1,6 @@
 //! What a policy learns, through the calls of a pool.
 use crate::tests::clocks::{Stepping, learning};
-use crate::tests::same::{answers, lists};
+use crate::tests::same::{lists, returns};
 use crate::tests::steps::{add, count, ten, zero};
 use crate::tests::strategies::{SITE, fresh, number};
 use commonware_parallel::{Fault, Rayon, Sequential, Site, Strategy};
@@ -21,7 +21,7 @@ fn takes<Rt: Wait + Abort, S: Strategy>(
 ) {
     for (turn, body) in bodies.iter().enumerate() {
         let taken = one_of(rt, alloc, strategy, SITE, 64, "serial", "parallel");
-        answers(rt, turn, taken, *body);
+        returns(rt, turn, taken, *body);
     }
 }
 
@@ -84,7 +84,7 @@ fn folds_ask_the_policy_by_their_site(rt: HostRuntime) {
         let site = Site { column, ..SITE };
         for sum in [66, 16] {
             let found = sum_from_ten(&rt, alloc, &strategy, site);
-            answers(&rt, (column, sum), found, sum);
+            returns(&rt, (column, sum), found, sum);
         }
     }
 }
@@ -93,7 +93,7 @@ fn folds_ask_the_policy_by_their_site(rt: HostRuntime) {
 fn batches_ask_the_policy(rt: HostRuntime) {
     let alloc = rt.alloc();
     let strategy = by_steps(&rt, alloc, 100_000);
-    // Runs over so many items have a history of their own at another site alone.
+    // Runs over as many items have a history of their own at another site alone.
     let four = [0..4, 4..8, 8..12, 12..16];
     for (turn, column, ranges) in [
         (1, 1, four.as_slice()),
@@ -117,7 +117,7 @@ fn a_policy_learns_apart_by_length(rt: HostRuntime) {
         (1000, "serial"),
     ] {
         let taken = one_of(&rt, alloc, &strategy, SITE, len, "serial", "parallel");
-        answers(&rt, len, taken, body);
+        returns(&rt, len, taken, body);
     }
 }
 

@@ -1,5 +1,5 @@
 //! What is printed, and which traits the plain types have.
-use crate::tests::same::{answers, prints, row, says};
+use crate::tests::same::{prints, returns, row, says};
 use crate::tests::strategies::{SITE, number, pool};
 use commonware_parallel::mocks::{ExploreError, Explorer};
 use commonware_parallel::{
@@ -123,13 +123,13 @@ fn values_are_copied_compared_and_hashed(rt: HostRuntime) {
     let alloc = rt.alloc();
     let fault = Fault::Memory;
     let copied = fault;
-    answers(&rt, 1, fault.clone(), copied);
+    returns(&rt, 1, fault.clone(), copied);
     assert!(rt; fault != Fault::Worker);
     let trouble: Trouble<u32> = Trouble::Closure(57);
     assert!(rt; trouble == Trouble::Closure(57));
     assert!(rt; trouble != Trouble::Closure(58));
     let unmeasured = Unmeasured;
-    answers(&rt, 2, unmeasured.clone(), unmeasured);
+    returns(&rt, 2, unmeasured.clone(), unmeasured);
     let serial = Sequential::default().clone().expect(&rt, "a copy");
     prints(&rt, alloc, &serial, "Sequential");
 

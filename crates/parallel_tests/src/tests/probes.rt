@@ -13,4 +13,5 @@ mod noting;
 mod records;
 mod sides;
 mod splits;
+mod starts;
 pub mod visits;

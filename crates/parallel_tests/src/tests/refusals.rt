@@ -58,8 +58,8 @@ fn greatest(alloc: Global, most: usize) -> Vec<u8> {
     Vec::new(alloc)
 }
 
-// Tries a call with more and more memory, up to its first answer. It answers how often it was
-// refused, and whether it answered at last.
+// Tries a call with more and more memory, up to its first result: how often it was refused, and
+// whether it succeeded at last.
 fn refused<Rt: Threads + Wait + Abort + Copy + Send + Sync + 'static, S: Strategy>(
     rt: &Rt,
     alloc: Global,
@@ -99,7 +99,7 @@ fn try_all<Rt: Threads + Wait + Abort + Copy + Send + Sync + 'static, S: Strateg
 }
 
 #[test]
-fn each_call_answers_or_is_refused(rt: HostRuntime) {
+fn each_call_succeeds_or_is_refused(rt: HostRuntime) {
     let alloc = rt.alloc();
     try_all(&rt, alloc, &Sequential);
     for threads in [1usize, 2, 4, 8] {
@@ -116,8 +116,8 @@ fn each_call_answers_or_is_refused(rt: HostRuntime) {
     }
 }
 
-// Tries each call with more and more memory. It answers how often they were refused, and how many
-// of them were at all.
+// Tries each call with more and more memory: how often they were refused, and how many of them were
+// at all.
 fn refuse_all<Rt: Threads + Wait + Abort + Copy + Send + Sync + 'static, S: Strategy>(
     rt: &Rt,
     alloc: Global,

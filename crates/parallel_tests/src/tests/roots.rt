@@ -1,15 +1,50 @@
-//! Roots of Merkle trees: the plain program's, through every strategy, and each node let go once.
+//! Roots of Merkle trees, by levels and by blocks: the plain program's, through every strategy, and
+//! each node let go once.
 use crate::tests::errors::{Counts, counted_items, greater};
-use crate::tests::same::{answers, row};
+use crate::tests::same::{returns, row};
 use crate::tests::strategies::{SITE, explorers, fresh, pool};
-use commonware_parallel::merkle::{plain_root, root};
-use commonware_parallel::{Fault, Sequential, Strategy};
+use commonware_parallel::merkle::{plain_root, root, root_by_blocks};
+use commonware_parallel::{Fault, Place, Sequential, Strategy};
 use std::alloc::Global;
 use std::process::Abort;
 use std::sync::Wait;
 use std::thread::Threads;
 
-// A node of two neighbours, which tells their order.
+/// How a tree's root is found.
+#[derive(Clone, Copy, Debug, PartialEq, Eq)]
+pub enum Rooted {
+    ByLevels,
+    ByBlocks,
+}
+
+/// Both of them.
+pub const ROOTED: [Rooted; 2] = [Rooted::ByLevels, Rooted::ByBlocks];
+
+/// The root of the leaves.
+pub fn root_of<
+    Rt: Threads + Wait + Sync,
+    P: Place,
+    S: Strategy,
+    T: Send + Drop,
+    F: Fn(T, T) -> T + Send + Sync + Drop,
+>(
+    rt: &Rt,
+    alloc: Global,
+    strategy: &S,
+    site: P,
+    rooted: Rooted,
+    leaves: Vec<T>,
+    combine: F,
+) -> Result<Option<T>, Fault>
+    requires { F.IsAlwaysCallable combine }
+{
+    match rooted {
+        Rooted::ByLevels => root(rt, alloc, strategy, site, leaves, combine),
+        Rooted::ByBlocks => root_by_blocks(rt, alloc, strategy, site, leaves, combine),
+    }
+}
+
+// A node of two neighbours, which tells their order and how they are grouped.
 fn combine(left: u64, right: u64) -> u64 {
     let modulus = 1_000_003;
     let twice = (left % modulus).wrapping_mul(2);
@@ -25,17 +60,6 @@ fn leaves(alloc: Global, len: u64) -> Result<Vec<u64>, Fault> {
     Ok(leaves)
 }
 
-// The root of the numbers, through a strategy.
-fn root_of<Rt: Threads + Wait + Sync, S: Strategy>(
-    rt: &Rt,
-    alloc: Global,
-    strategy: &S,
-    numbers: &[u64],
-) -> Result<Option<u64>, Fault> {
-    let leaves = Vec::from_slice(alloc, numbers)?;
-    root(rt, alloc, strategy, SITE, leaves, combine)
-}
-
 const SEVEN: [u64; 7] = [1, 2, 3, 4, 5, 6, 7];
 
 // The root of [9], and those of the first of seven numbers.
@@ -43,38 +67,49 @@ fn known_roots<Rt: Threads + Wait + Abort + Sync, S: Strategy>(
     rt: &Rt,
     alloc: Global,
     strategy: &S,
+    rooted: Rooted,
 ) {
-    answers(rt, "nine", root_of(rt, alloc, strategy, &[9]), Some(9));
-    for (len, known) in [
-        (0usize, None),
-        (3, Some(25)),
-        (5, Some(155)),
-        (7, Some(371)),
+    for (numbers, known) in [
+        ([9].as_slice(), Some(9)),
+        (&SEVEN[..0], None),
+        (&SEVEN[..3], Some(25)),
+        (&SEVEN[..5], Some(155)),
+        (&SEVEN[..7], Some(371)),
     ] {
-        let leaves = SEVEN.get(..len).expect(rt, "so many leaves");
-        answers(rt, len, root_of(rt, alloc, strategy, leaves), known);
+        let leaves = Vec::from_slice(alloc, numbers).expect(rt, "memory for leaves");
+        let found = root_of(rt, alloc, strategy, SITE, rooted, leaves, combine);
+        returns(rt, (rooted, known), found, known);
     }
 }
 
-// Whether the root of so many leaves is the plain program's.
+// Whether the root of that many leaves is the plain program's.
 fn is_plain<Rt: Threads + Wait + Sync, S: Strategy>(
     rt: &Rt,
     alloc: Global,
     strategy: &S,
+    rooted: Rooted,
     len: u64,
 ) -> Result<bool, Fault> {
     let plain = plain_root(alloc, leaves(alloc, len)?, &combine)?;
-    let found = root(rt, alloc, strategy, SITE, leaves(alloc, len)?, combine)?;
+    let leaves = leaves(alloc, len)?;
+    let found = root_of(rt, alloc, strategy, SITE, rooted, leaves, combine)?;
     Ok(found == plain)
 }
 
-// The same of lists as long as a power of two, one more and one less.
-fn are_plain<Rt: Threads + Wait + Abort + Sync, S: Strategy>(rt: &Rt, alloc: Global, strategy: &S) {
-    known_roots(rt, alloc, strategy);
+// The same of lists as long as a power of two, one more and one less: no block, blocks that are all
+// full, and a last one that isn't, of one leaf too.
+fn are_plain<Rt: Threads + Wait + Abort + Sync, S: Strategy>(
+    rt: &Rt,
+    alloc: Global,
+    strategy: &S,
+    rooted: Rooted,
+) {
+    known_roots(rt, alloc, strategy, rooted);
     let mut power = 1u64;
     for _ in 0..13u32 {
         for len in [power.wrapping_sub(1), power, power.wrapping_add(1)] {
-            answers(rt, len, is_plain(rt, alloc, strategy, len), true);
+            let found = is_plain(rt, alloc, strategy, rooted, len);
+            returns(rt, (rooted, len), found, true);
         }
         power = power.wrapping_mul(2);
     }
@@ -83,15 +118,17 @@ fn are_plain<Rt: Threads + Wait + Abort + Sync, S: Strategy>(rt: &Rt, alloc: Glo
 #[test]
 fn roots_are_the_plain_programs(rt: HostRuntime) {
     let alloc = rt.alloc();
-    are_plain(&rt, alloc, &Sequential);
-    for threads in 1..9usize {
-        are_plain(&rt, alloc, &pool(&rt, alloc, threads, threads));
-        are_plain(&rt, alloc, &fresh(&rt, alloc, threads));
-    }
     let explorers = explorers(&rt, alloc);
-    for explorer in &explorers {
-        let found = is_plain(&rt, alloc, explorer, 1000);
-        answers(&rt, explorer.rule(), found, true);
+    for rooted in ROOTED {
+        are_plain(&rt, alloc, &Sequential, rooted);
+        for threads in 1..9usize {
+            are_plain(&rt, alloc, &pool(&rt, alloc, threads, threads), rooted);
+            are_plain(&rt, alloc, &fresh(&rt, alloc, threads), rooted);
+        }
+        for explorer in &explorers {
+            let found = is_plain(&rt, alloc, explorer, rooted, 1000);
+            returns(&rt, (rooted, explorer.rule()), found, true);
+        }
     }
 }
 
@@ -100,24 +137,27 @@ fn nodes_left<Rt: Threads + Wait + Abort + Sync, S: Strategy>(
     rt: &Rt,
     alloc: Global,
     strategy: &S,
+    rooted: Rooted,
     len: usize,
 ) {
     let counts = Counts::new();
     let leaves = counted_items(alloc, &counts, len).expect(rt, "memory");
-    let found = root(rt, alloc, strategy, SITE, leaves, greater).expect(rt, "memory");
-    row(rt, len, found.is_some(), len > 0);
-    row(rt, len, counts.left(), len.min(1) as u64);
+    let found = root_of(rt, alloc, strategy, SITE, rooted, leaves, greater).expect(rt, "memory");
+    row(rt, (rooted, len), found.is_some(), len > 0);
+    row(rt, (rooted, len), counts.left(), len.min(1) as u64);
     drop(found);
-    row(rt, len, counts.left(), 0);
+    row(rt, (rooted, len), counts.left(), 0);
 }
 
 #[test]
 fn each_node_is_let_go_once(rt: HostRuntime) {
     let alloc = rt.alloc();
-    for len in [0usize, 1, 2, 3, 7, 8, 9, 1000] {
-        nodes_left(&rt, alloc, &Sequential, len);
-        for threads in [1usize, 3, 8] {
-            nodes_left(&rt, alloc, &pool(&rt, alloc, threads, threads), len);
+    for rooted in ROOTED {
+        for len in [0usize, 1, 2, 3, 7, 8, 9, 1000] {
+            nodes_left(&rt, alloc, &Sequential, rooted, len);
+            for threads in [1usize, 3, 8] {
+                nodes_left(&rt, alloc, &pool(&rt, alloc, threads, threads), rooted, len);
+            }
         }
     }
 }

@@ -1,5 +1,5 @@
 //! Runs, and the numbers of a pool.
-use crate::tests::same::{answers, lists, row, same};
+use crate::tests::same::{lists, returns, row, same};
 use crate::tests::steps::{parallel, serial};
 use crate::tests::strategies::{SITE, Stopped, fresh, number, pool};
 use commonware_parallel::rayon::ThreadPoolBuilder;
@@ -13,8 +13,8 @@ use std::thread::available_parallelism;
 use uses::long_lists::LongLists;
 use uses::runs::{count_set, one_of};
 
-// Stops the test where a run over so many items doesn't take that body, by the trait's call and by
-// a caller, or where a count by either body isn't 3.
+// Stops the test where a run over that many items doesn't take that body, by the trait's call and
+// by a caller, or where a count by either body isn't 3.
 fn takes<Rt: Wait + Abort, S: Strategy>(
     rt: &Rt,
     alloc: Global,
@@ -23,12 +23,12 @@ fn takes<Rt: Wait + Abort, S: Strategy>(
     body: &'static str,
 ) {
     let taken = strategy.run(rt, alloc, SITE, len, serial, parallel);
-    answers(rt, len, taken, body);
+    returns(rt, len, taken, body);
     let taken = one_of(rt, alloc, strategy, SITE, len, "serial", "parallel");
-    answers(rt, len, taken, body);
+    returns(rt, len, taken, body);
     let flags = [true, false, true, true, false];
     let set = count_set(rt, alloc, strategy, SITE, &flags);
-    answers(rt, len, set, 3);
+    returns(rt, len, set, 3);
 }
 
 #[test]
@@ -76,7 +76,7 @@ fn a_strategy_has_the_number_of_a_pool_that_was_built(rt: HostRuntime) {
     drop(built);
     row(&rt, 1, numbers_of(&strategy), (3, 3));
     let taken = strategy.run(&rt, alloc, SITE, 64, serial, parallel);
-    answers(&rt, 2, taken, "parallel");
+    returns(&rt, 2, taken, "parallel");
 }
 
 #[test]
@@ -95,7 +95,7 @@ fn a_pool_may_read_the_monotonic_clock(rt: HostRuntime) {
     assert!(rt; earlier <= clock.now());
     let strategy = Rayon::new(&rt, alloc, number(&rt, 2), clock).expect(&rt, "memory");
     let taken = strategy.run(&rt, alloc, SITE, 64, serial, parallel);
-    answers(&rt, 1, taken, "parallel");
+    returns(&rt, 1, taken, "parallel");
 }
 
 #[test]

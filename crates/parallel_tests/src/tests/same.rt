@@ -20,13 +20,13 @@ pub fn row<L: Debug + Drop, T: PartialEq + Debug + Drop>(
 }
 
 /// The same of a call, which has to return.
-pub fn answers<L: Debug + Drop, T: PartialEq + Debug + Drop, E: Debug + Drop>(
+pub fn returns<L: Debug + Drop, T: PartialEq + Debug + Drop, E: Debug + Drop>(
     rt: &impl Abort,
     of: L,
     found: Result<T, E>,
     wanted: T,
 ) {
-    row(rt, of, found.expect(rt, "an answer"), wanted);
+    row(rt, of, found.expect(rt, "a result"), wanted);
 }
 
 /// The same of a call that returns a list.
@@ -36,7 +36,7 @@ pub fn lists<L: Debug + Drop, T: PartialEq + Debug + Drop, E: Debug + Drop>(
     found: Result<Vec<T>, E>,
     wanted: &[T],
 ) {
-    let list = found.expect(rt, "an answer");
+    let list = found.expect(rt, "a result");
     row(rt, of, list.as_slice(), wanted);
 }
 

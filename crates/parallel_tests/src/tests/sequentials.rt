@@ -1,5 +1,5 @@
 //! `Sequential`'s own functions: one range, a plan for one worker, a job that is run at once, maps.
-use crate::tests::same::{answers, lists, same};
+use crate::tests::same::{lists, returns, same};
 use crate::tests::steps::{Gives, count, count_cells, no_count, twice, zero};
 use crate::tests::strategies::{SITE, number};
 use commonware_parallel::{Fault, Grid, Sequential, Trouble};
@@ -27,7 +27,7 @@ fn all_indices_are_one_range(rt: HostRuntime) {
         let told = Sequential.run_batches(alloc, SITE, len, five, usize::MAX, |batches| {
             (batches.ranges() == [0..len].as_slice(), batches.site())
         });
-        answers(&rt, len, told, (true, SITE));
+        returns(&rt, len, told, (true, SITE));
     }
     let mapped = Sequential.try_run_batches(alloc, SITE, 16, five, 1, |batches| {
         let prepare = |ranges: &[Range<usize>]| ends(alloc, ranges);

@@ -68,7 +68,7 @@ fn mark(marks: &[AtomicU64], cells: Range<usize>) {
     }
 }
 
-// Drives each seat in a thread of its own, and answers the seats in their order.
+// Drives each seat in a thread of its own: the seats in their order.
 fn drive_all<Rt: Threads + Wait + Sync>(
     rt: &Rt,
     shares: &Shares,

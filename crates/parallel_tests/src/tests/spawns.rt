@@ -2,7 +2,7 @@
 ghost use Rattle.std.specs.Prelude.{◌≡◌, ⊤};
 
 use crate::tests::clocks::learning;
-use crate::tests::same::{answers, row, same};
+use crate::tests::same::{returns, row, same};
 use crate::tests::steps::Gives;
 use crate::tests::strategies::{SITE, Stopped, number, pool};
 use commonware_parallel::mocks::{Explorer, Rule, inline, pending};
@@ -25,7 +25,7 @@ use uses::spawned_jobs::{counts_beside, two_counts};
 // Turns to wait for what another thread counts.
 const TURNS: u64 = 10_000_000;
 
-// Counts a word up by its number, and answers the number.
+// Counts a word up by its number, and returns the number.
 #[derive(Drop)]
 struct Counts {
     word: Arc<AtomicU64, Global>,
@@ -88,7 +88,7 @@ impl Clock for Scripted {
     }
 }
 
-// Whether a job was handed off. It is waited for, and answers 7.
+// Whether a job was handed off. It is waited for, and returns 7.
 fn is_handed_off<
     Rt: Threads + Wait + RandomSource + AllocGlobal + Abort + Copy + Send + 'static,
     S: Strategy,
@@ -96,8 +96,8 @@ fn is_handed_off<
     let spawned = strategy.spawn(rt, rt.alloc(), site, 1, Gives(7));
     let spawned = spawned.expect(rt, "a job");
     let is_ready = spawned.is_ready();
-    let answer = block_on(rt, spawned).expect(rt, "a queue");
-    same(rt, answer, 7);
+    let value = block_on(rt, spawned).expect(rt, "a queue");
+    same(rt, value, 7);
     !is_ready
 }
 
@@ -116,7 +116,7 @@ fn a_job_runs_at_once_or_on_a_worker(rt: HostRuntime) {
 }
 
 #[test]
-fn an_answer_is_given_once(rt: HostRuntime) {
+fn a_result_is_given_once(rt: HostRuntime) {
     let alloc = rt.alloc();
     let task = MockTask::new(&rt).expect(&rt, "memory");
     let mut ready = Strategy::spawn(&Sequential, &rt, alloc, SITE, 1, Gives(7)).expect(
@@ -176,13 +176,13 @@ fn a_pool_without_workers_leaves_its_jobs_pending(rt: HostRuntime) {
     assert!(rt; is_never_run(&rt, &explorer));
     // Its other calls go on scoped threads.
     let taken = one_of(&rt, alloc, &fixed, SITE, 2, "serial", "parallel");
-    answers(&rt, 1, taken, "parallel");
+    returns(&rt, 1, taken, "parallel");
     let single = pool(&rt, alloc, 1, 1).without_workers();
     assert!(rt; !is_handed_off(&rt, &single, SITE));
 }
 
-// Spawns so many jobs that answer the numbers below, and waits for them in one task: how many
-// answer, and the sum.
+// Spawns that many jobs, which return the numbers below, and waits for them in one task: how many
+// end, and the sum.
 fn jobs_in_one_task<
     Rt: Threads + Wait + RandomSource + AllocGlobal + Abort + Copy + Send + 'static,
     S: Strategy,
@@ -194,12 +194,12 @@ fn jobs_in_one_task<
         jobs.push(spawned.expect(rt, "a job")).expect(rt, "memory");
     }
     let all = join_all(alloc, jobs).expect(rt, "memory");
-    let answers = block_on(rt, all).expect(rt, "a queue").expect(rt, "memory");
+    let results = block_on(rt, all).expect(rt, "a queue").expect(rt, "memory");
     let mut sum = 0u64;
-    for answer in &answers {
-        sum = sum.wrapping_add(*answer);
+    for value in &results {
+        sum = sum.wrapping_add(*value);
     }
-    (answers.len(), sum)
+    (results.len(), sum)
 }
 
 #[test]
@@ -208,7 +208,7 @@ fn a_thousand_jobs_are_awaited_in_one_task(rt: HostRuntime) {
     same(&rt, jobs_in_one_task(&rt, &strategy, 1000), (1000, 499_500));
 }
 
-// Lets the first of two jobs go, and waits for the second: what that answers.
+// Lets the first of two jobs go, and waits for the second: what that returns.
 fn second_of_two<
     Rt: Threads + Wait + RandomSource + AllocGlobal + Abort + Copy + Send + 'static,
     S: Strategy,
@@ -288,7 +288,7 @@ fn a_pool_of_one_thread_measures_no_job(rt: HostRuntime) {
     same(&rt, readings.load(Ordering::SeqCst), 0);
 }
 
-// How many of so many jobs are handed off.
+// How many of that many jobs are handed off.
 fn count_handed_off<
     Rt: Threads + Wait + RandomSource + AllocGlobal + Abort + Copy + Send + 'static,
 >(rt: &Rt, strategy: &Rayon<Scripted>, count: usize) -> usize {
@@ -322,11 +322,11 @@ fn flags_in_jobs<
     let flags = vec![in rt.alloc(); true, false, false].expect(rt, "memory");
     let others = [true, false, true];
     let beside = counts_beside(rt, strategy, SITE, flags, &others);
-    answers(rt, "beside", beside, (1, 2));
+    returns(rt, "beside", beside, (1, 2));
     let flags = vec![in rt.alloc(); true, true, true].expect(rt, "memory");
     let more = vec![in rt.alloc(); false, true].expect(rt, "memory");
     let two = two_counts(rt, strategy, SITE, flags, more);
-    answers(rt, "two", two, (3, 1));
+    returns(rt, "two", two, (3, 1));
 }
 
 #[test]
@@ -335,7 +335,7 @@ fn flags_are_counted_in_jobs(rt: HostRuntime) {
     flags_in_jobs(&rt, &pool(&rt, rt.alloc(), 4, 4));
 }
 
-// Jobs through a strategy, of which each one answers, or is refused memory or its worker.
+// Jobs through a strategy, of which each one ends, or is refused memory or its worker.
 fn jobs_or_refusals<
     Rt: Threads + Wait + RandomSource + AllocGlobal + Abort + Copy + Send + 'static,
     S: Strategy,
@@ -344,8 +344,8 @@ fn jobs_or_refusals<
         match strategy.spawn(rt, rt.alloc(), SITE, 1, Gives(number)) {
             Ok(spawned) => {
                 // The wait needs memory of its own.
-                if let Ok(answer) = block_on(rt, spawned) {
-                    same(rt, answer, number);
+                if let Ok(value) = block_on(rt, spawned) {
+                    same(rt, value, number);
                 }
             }
             Err(fault) => assert!(rt; matches!(fault, Fault::Memory | Fault::Worker)),
@@ -354,7 +354,7 @@ fn jobs_or_refusals<
 }
 
 #[test]
-fn spawned_jobs_answer_or_are_refused(rt: HostRuntime) {
+fn spawned_jobs_end_or_are_refused(rt: HostRuntime) {
     jobs_or_refusals(&rt, &Sequential);
     for threads in 1..4_usize {
         match Rayon::new(&rt, rt.alloc(), number(&rt, threads), Stopped) {

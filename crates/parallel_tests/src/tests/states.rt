@@ -1,8 +1,6 @@
 //! Maps with a state at hand, partitions, sorts and joins, through each strategy.
-use crate::tests::same::{answers, lists, same};
-use crate::tests::steps::{
-    answer_one, answer_two, ascending, count, descending, tenfold, twice, zero,
-};
+use crate::tests::same::{lists, returns, same};
+use crate::tests::steps::{ascending, count, descending, give_one, give_two, tenfold, twice, zero};
 use crate::tests::strategies::{SITE, explorers, number, pool, pools};
 use crate::tests::threads::sees;
 use commonware_parallel::{Fault, Sequential, Strategy};
@@ -53,7 +51,7 @@ fn below_four(number: u32) -> bool {
     number < 4
 }
 
-// What partitions and a multiplied map answer, through any strategy.
+// What partitions and a multiplied map return, through any strategy.
 fn partitions_are_known<Rt: Threads + Wait + Abort + Sync, S: Strategy>(
     rt: &Rt,
     alloc: Global,
@@ -71,7 +69,7 @@ fn partitions_are_known<Rt: Threads + Wait + Abort + Sync, S: Strategy>(
     lists(rt, "twice", doubled, &[0, 2, 4]);
 }
 
-// What sorts and joins leave and answer.
+// What sorts and joins leave and return.
 fn sorts_and_joins_are_known<Rt: Threads + Wait + Abort + Sync, S: Strategy>(
     rt: &Rt,
     alloc: Global,
@@ -79,14 +77,14 @@ fn sorts_and_joins_are_known<Rt: Threads + Wait + Abort + Sync, S: Strategy>(
 ) {
     let mut pairs = [(2, 97), (1, 98), (2, 99), (1, 100)];
     let sorted = sort_by_first(rt, alloc, strategy, SITE, &mut pairs);
-    answers(rt, "pairs", sorted, ());
+    returns(rt, "pairs", sorted, ());
     same(rt, pairs, [(1, 98), (1, 100), (2, 97), (2, 99)]);
     let mut numbers = [3, 1, 2, 1];
     let sorted = strategy.sort_unstable_by(rt, alloc, SITE, &mut numbers, descending);
-    answers(rt, "numbers", sorted, ());
+    returns(rt, "numbers", sorted, ());
     same(rt, numbers, [3, 2, 1, 1]);
-    let both = strategy.join(rt, alloc, SITE, answer_one, answer_two);
-    answers(rt, "join", both, (1, 2));
+    let both = strategy.join(rt, alloc, SITE, give_one, give_two);
+    returns(rt, "join", both, (1, 2));
 }
 
 // Both through each of the strategies.
@@ -116,7 +114,7 @@ fn passed(number: u32) -> Result<u32, u32> {
 }
 
 #[test]
-fn calls_of_a_serial_strategys_own_answer_alike(rt: HostRuntime) {
+fn calls_of_a_serial_strategys_own_return_alike(rt: HostRuntime) {
     let alloc = rt.alloc();
     let parts = Sequential.map_partition_collect_vec(alloc, SITE, 0..6u32, tenfold);
     let (values, keys) = parts.expect(&rt, "memory");
@@ -126,11 +124,11 @@ fn calls_of_a_serial_strategys_own_answer_alike(rt: HostRuntime) {
     lists(&rt, 1, tried, &[0, 1, 2]);
     let mut numbers = [3, 1, 2];
     let sorted = Sequential.sort_by(alloc, SITE, &mut numbers, ascending);
-    answers(&rt, 2, sorted, ());
+    returns(&rt, 2, sorted, ());
     same(&rt, numbers, [1, 2, 3]);
     Sequential.sort_unstable_by(SITE, &mut numbers, descending);
     same(&rt, numbers, [3, 2, 1]);
-    same(&rt, Sequential.join(SITE, answer_one, answer_two), (1, 2));
+    same(&rt, Sequential.join(SITE, give_one, give_two), (1, 2));
 }
 
 #[test]
@@ -165,7 +163,7 @@ fn joins_are_parallel_whatever_a_pool_is_planned_for(rt: HostRuntime) {
     let alloc = rt.alloc();
     for planned in [1, 2] {
         let two = pool(&rt, alloc, 2, planned);
-        answers(&rt, planned, parts_see(&rt, alloc, &two), (true, true));
+        returns(&rt, planned, parts_see(&rt, alloc, &two), (true, true));
     }
 }
 
@@ -188,9 +186,9 @@ fn order_of_join<Rt: Threads + Wait + Sync, S: Strategy>(
 #[test]
 fn a_serial_join_runs_its_first_closure_first(rt: HostRuntime) {
     let alloc = rt.alloc();
-    answers(&rt, 1, order_of_join(&rt, alloc, &Sequential), (0, 1));
+    returns(&rt, 1, order_of_join(&rt, alloc, &Sequential), (0, 1));
     let short = LongLists::new(number(&rt, 2), 3);
-    answers(&rt, 2, order_of_join(&rt, alloc, &short), (0, 1));
+    returns(&rt, 2, order_of_join(&rt, alloc, &short), (0, 1));
 }
 
 /// Whether a sort of 20,000 numbers leaves each number in its place.
@@ -215,5 +213,5 @@ pub fn are_sorted<Rt: Threads + Wait + Sync, S: Strategy>(
 fn many_numbers_are_sorted_on_four_threads(rt: HostRuntime) {
     let alloc = rt.alloc();
     let strategy = pool(&rt, alloc, 4, 4);
-    answers(&rt, 1, are_sorted(&rt, alloc, &strategy), true);
+    returns(&rt, 1, are_sorted(&rt, alloc, &strategy), true);
 }

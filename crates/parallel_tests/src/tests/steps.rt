@@ -22,7 +22,7 @@ pub fn add(left: u32, right: u32) -> u32 {
     left.wrapping_add(right)
 }
 
-// Adds 1 to the state and answers it, whatever the item.
+// Adds 1 to the state and returns it, whatever the item.
 pub fn count(state: &mut u32, _item: u32) -> u32 {
     *state = state.wrapping_add(1);
     *state
@@ -71,15 +71,15 @@ pub fn one_more(number: usize) -> usize {
     number.wrapping_add(1)
 }
 
-pub fn answer_one() -> u32 {
+pub fn give_one() -> u32 {
     1
 }
 
-pub fn answer_two() -> u32 {
+pub fn give_two() -> u32 {
     2
 }
 
-pub fn answer_seven() -> u32 {
+pub fn give_seven() -> u32 {
     7
 }
 

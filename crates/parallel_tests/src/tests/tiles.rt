@@ -1,5 +1,5 @@
 //! Tiles: which cells are filled, for how many workers, and what is returned for each row.
-use crate::tests::same::{answers, lists, row, same};
+use crate::tests::same::{lists, returns, row, same};
 use crate::tests::steps::no_count;
 use crate::tests::strategies::{SITE, explorers, number, pool, pools};
 use commonware_parallel::shares::machine::{Event, Outcome, Plan, replay};
@@ -12,7 +12,7 @@ use std::sync::atomic::{AtomicU64, Ordering};
 use std::thread::Threads;
 use uses::tile_rows::above_by_row;
 
-// What tiles answered: the grid, the workers, whether rows may be cut, and for each result its row
+// What tiles returned: the grid, the workers, whether rows may be cut, and for each result its row
 // and the number of cells that were filled for it.
 type Told = ((usize, usize, bool), Vec<(usize, usize)>);
 
@@ -30,7 +30,7 @@ fn row_and_cells(count: &mut usize, row: usize) -> (usize, usize) {
     (row, cells)
 }
 
-// What tiles answer, each cell of a row of `len` counted in `marks` as it is filled.
+// What tiles return, each cell of a row of `len` counted in `marks` as it is filled.
 fn fill_tiles<Rt: Threads + Wait + Sync, S: Strategy>(
     rt: &Rt,
     alloc: Global,
@@ -98,8 +98,7 @@ fn marked_once(marks: &[AtomicU64]) -> usize {
     once
 }
 
-// Each cell of the grid was filled once, and each row's results have all of its cells. Answers the
-// plan.
+// Each cell of the grid was filled once, and each row's results have all of its cells: the plan.
 fn covers<Rt: Threads + Wait + Abort + Sync, S: Strategy>(
     rt: &Rt,
     alloc: Global,
@@ -202,7 +201,7 @@ fn nothing_comes<Rt: Threads + Wait + Abort + Sync, S: Strategy>(
     for strategy in strategies {
         for shape in [(0, 7), (7, 0), (0, 0), (0, usize::MAX)] {
             let count = results_of_nothing(rt, alloc, strategy, shape, &made);
-            answers(rt, shape, count, 0);
+            returns(rt, shape, count, 0);
         }
     }
     same(rt, made.load(Ordering::SeqCst), 0);
@@ -326,7 +325,7 @@ fn a_kernel_counts_each_row(rt: HostRuntime) {
 // Columns of a row from the first one up to the second, with how many of their cells are above 4.
 type Span = (usize, usize, usize);
 
-// The span with the next columns of its row behind it.
+// The span with the next columns of its row after it.
 fn widened(span: Option<Span>, cells: &[u8], columns: Range<usize>) -> Span {
     let (first, _, so_far) = span.unwrap_or((columns.start, columns.start, 0));
     let mut above = so_far;
@@ -384,7 +383,7 @@ fn spans_by_row<Rt: Threads + Wait + Abort + Sync, S: Strategy>(
 }
 
 // The spans of two short rows and of the long matrix as two rows, and none of matrices without
-// cells, through each of the strategies. Answers how often rows might be cut.
+// cells, through each of the strategies: how often rows might be cut.
 fn spans_are_known<Rt: Threads + Wait + Abort + Sync, S: Strategy>(
     rt: &Rt,
     alloc: Global,

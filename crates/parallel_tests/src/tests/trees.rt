@@ -1,6 +1,6 @@
 //! A Merkle tree over SHA-256, as `uses` has it. Its roots and commitments were computed by another
 //! program, from what the digest of a leaf, of a node and of a whole tree is said to be.
-use crate::tests::same::{answers, row};
+use crate::tests::same::{returns, row};
 use crate::tests::strategies::{SITE, pool};
 use commonware_parallel::mocks::explore;
 use commonware_parallel::{Fault, Sequential, Strategy};
@@ -27,7 +27,7 @@ fn all_leaves() -> [&'static [u8]; 9] {
     ]
 }
 
-// The root of the first so many leaves, in hexadecimal digits.
+// The root of that many leaves, the first ones, in hexadecimal digits.
 fn known_root(count: usize) -> &'static str {
     match count {
         1 => "6e340b9cffb37a989ca544e6bb780a2c78901d3fb33738768511a30617afa01d",
@@ -42,7 +42,7 @@ fn known_root(count: usize) -> &'static str {
     }
 }
 
-// The commitment to the tree of the first so many leaves, in hexadecimal digits: in Python,
+// The commitment to the tree of that many leaves, the first ones, in hexadecimal digits: in Python,
 // hashlib.sha256(bytes([2]) + count.to_bytes(8, "big") + root).hexdigest(), where root is the 32
 // bytes of the root, and empty where there is no leaf.
 fn known_commitment(count: usize) -> &'static str {
@@ -114,16 +114,16 @@ fn roots_are_those_of_another_program(rt: HostRuntime) {
     let leaves = all_leaves();
     let four = pool(&rt, alloc, 4, 4);
     for count in [0usize, 1, 2, 3, 4, 5, 7, 8, 9] {
-        let first = leaves.get(..count).expect(&rt, "so many leaves");
-        answers(&rt, count, is_known(&rt, alloc, &Sequential, first), true);
-        answers(&rt, count, is_known(&rt, alloc, &four, first), true);
-        answers(&rt, count, is_committed(&rt, alloc, &four, first), true);
+        let first = leaves.get(..count).expect(&rt, "as many leaves");
+        returns(&rt, count, is_known(&rt, alloc, &Sequential, first), true);
+        returns(&rt, count, is_known(&rt, alloc, &four, first), true);
+        returns(&rt, count, is_committed(&rt, alloc, &four, first), true);
         let explored = explore(
             &rt,
             alloc,
             |explorer| is_known(&rt, alloc, explorer, first).ok(),
         );
-        answers(&rt, count, explored, Some(true));
+        returns(&rt, count, explored, Some(true));
     }
 }
 
@@ -215,9 +215,9 @@ fn proofs_hold(rt: &impl Abort, alloc: Global, tree: &Tree, leaves: &[&[u8]]) {
         row(rt, at, is_accepted, true);
         row(rt, at, places(&commitment, leaf, &proof), 1);
         let others = changed_steps(alloc, &commitment, at, leaf, &proof);
-        answers(rt, at, others, 0);
+        returns(rt, at, others, 0);
         let others = other_claims(alloc, (&commitment, &root), at, leaf, &proof);
-        answers(rt, at, others, 0);
+        returns(rt, at, others, 0);
         row(rt, at, tree.has_leaf(index, leaf), true);
         row(rt, at, tree.has_leaf(index, b"another"), false);
         for (claimed, own) in [
@@ -236,7 +236,7 @@ fn a_proof_is_accepted_for_its_leaf_alone(rt: HostRuntime) {
     let alloc = rt.alloc();
     let leaves = all_leaves();
     for count in 1..10usize {
-        let first = leaves.get(..count).expect(&rt, "so many leaves");
+        let first = leaves.get(..count).expect(&rt, "as many leaves");
         let tree = Tree::build(&rt, alloc, &Sequential, SITE, first).expect(&rt, "memory");
         proofs_hold(&rt, alloc, &tree, first);
     }

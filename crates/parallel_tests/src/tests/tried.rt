@@ -60,7 +60,7 @@ pub const ALL: [Tried; 18] = [
     Tried::Explore,
 ];
 
-// Whether a list is that of so many places in their order.
+// Whether a list is that of as many places in their order.
 fn are_all(values: &[Counted<'_>], len: usize) -> bool {
     let mut place = 0usize;
     for value in values {
@@ -95,7 +95,7 @@ fn keyed(item: Counted<'_>) -> (Counted<'_>, Option<Counted<'_>>) {
     (item, value)
 }
 
-// Whether a map of the items, as a list or as they come, answers each.
+// Whether a map of the items, as a list or as they come, has a result for each.
 fn is_map<Rt: Threads + Wait + Sync, S: Strategy>(
     rt: &Rt,
     alloc: Global,
@@ -203,7 +203,7 @@ fn is_sort<Rt: Threads + Wait + Sync, S: Strategy>(
     Ok(are_descending(&numbers))
 }
 
-// What a batch maps of so many prepared items.
+// What a batch maps of that many prepared items.
 fn mapped<'a, Rt: Threads + Wait + Sync, S: Strategy>(
     rt: &Rt,
     alloc: Global,
@@ -221,7 +221,7 @@ fn mapped<'a, Rt: Threads + Wait + Sync, S: Strategy>(
     }
 }
 
-// Whether a batch answers each item that is prepared.
+// Whether a batch has a result for each item that is prepared.
 fn is_batch<Rt: Threads + Wait + Sync, S: Strategy>(
     rt: &Rt,
     alloc: Global,
@@ -252,7 +252,7 @@ fn merge<'a>(left: Counted<'a>, right: Counted<'a>) -> Counted<'a> {
     left.at(left.place.saturating_add(right.place))
 }
 
-// What tiles answer, with each cell counted in the values' places.
+// What tiles return, with each cell counted in the values' places.
 fn filled<'a, Rt: Threads + Wait + Sync, S: Strategy>(
     rt: &Rt,
     alloc: Global,
@@ -296,7 +296,7 @@ fn are_tiles<Rt: Threads + Wait + Abort + Sync, S: Strategy>(
     Ok(cells_of(&values) == len.saturating_mul(3))
 }
 
-// Whether a search answers.
+// Whether a search succeeds.
 fn is_search<Rt: Threads>(rt: &Rt, alloc: Global) -> Result<bool, Trouble<usize>> {
     let told = explore(rt, alloc, |explorer| explorer.planning().get());
     match told {

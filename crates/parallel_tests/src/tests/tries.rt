@@ -1,6 +1,6 @@
 //! Calls whose closures may fail. The first failing item's error is the result, whichever part of
 //! the list ended first.
-use crate::tests::same::{answers, row, same};
+use crate::tests::same::{returns, row, same};
 use crate::tests::steps::{add, error_of_five, hundred, seven_or_error, zero};
 use crate::tests::strategies::{SITE, explorers, pool, pools};
 use commonware_parallel::{Copies, Sequential, Strategy, Trouble};
@@ -27,7 +27,7 @@ fn map_or_fail<Rt: Threads + Wait + Sync, S: Strategy>(
     })
 }
 
-// Each call answers its own number, and the calls from the one of this number on fail by it.
+// Each call returns its own number, and the calls from the one of this number on fail by it.
 fn map_unsteadily<Rt: Threads + Wait + Sync, S: Strategy>(
     rt: &Rt,
     alloc: Global,
@@ -50,7 +50,7 @@ fn even(number: u32) -> Result<u32, u32> {
     }
 }
 
-// Row: 57 and 99 fail, and 57 is answered; with 25 failing too, 25 is. Of four numbers of which two
+// Row: 57 and 99 fail, and 57 is returned; with 25 failing too, 25 is. Of four numbers of which two
 // are odd, the first odd one is.
 fn first_error_wins<Rt: Threads + Wait + Abort + Sync, S: Strategy>(
     rt: &Rt,
@@ -59,8 +59,8 @@ fn first_error_wins<Rt: Threads + Wait + Abort + Sync, S: Strategy>(
 ) {
     for (of, strategy) in strategies.iter().enumerate() {
         for (more, first) in [(99, 57), (25, 25), (0, 0)] {
-            let answer = map_or_fail(rt, alloc, strategy, more);
-            row(rt, (of, more), answer.err(), Some(Trouble::Closure(first)));
+            let outcome = map_or_fail(rt, alloc, strategy, more);
+            row(rt, (of, more), outcome.err(), Some(Trouble::Closure(first)));
         }
         let few = Copies {
             slice: &[2, 7, 4, 9],
@@ -71,7 +71,7 @@ fn first_error_wins<Rt: Threads + Wait + Abort + Sync, S: Strategy>(
 }
 
 #[test]
-fn the_first_error_is_answered(rt: HostRuntime) {
+fn the_first_error_is_returned(rt: HostRuntime) {
     let alloc = rt.alloc();
     first_error_wins(&rt, alloc, &[Sequential]);
     first_error_wins(&rt, alloc, &pools(&rt, alloc));
@@ -79,7 +79,7 @@ fn the_first_error_is_answered(rt: HostRuntime) {
 }
 
 // Where calls from the 50th on fail, the error is one of theirs; where none does, each of a hundred
-// items has an answer.
+// items has a result.
 fn errors_are_its_own<Rt: Threads + Wait + Abort + Sync, S: Strategy>(
     rt: &Rt,
     alloc: Global,
@@ -105,7 +105,7 @@ fn an_unsteady_closure_fails_by_an_error_of_its_own(rt: HostRuntime) {
 }
 
 #[test]
-fn a_serial_map_asks_no_item_behind_the_first_error(rt: HostRuntime) {
+fn a_serial_map_asks_no_item_after_the_first_error(rt: HostRuntime) {
     let calls = AtomicU32::new(0);
     let failed = Sequential.try_map_collect_vec(rt.alloc(), SITE, 0..10u32, |n: u32| {
         calls.fetch_add(1, Ordering::SeqCst);
@@ -169,7 +169,7 @@ fn a_fold_stops_at_its_first_error(rt: HostRuntime) {
     same(&rt, own, Err(7));
 }
 
-// What runs answer whose serial or whose parallel body fails.
+// What runs return whose serial or whose parallel body fails.
 fn failing_runs<Rt: Wait, S: Strategy>(
     rt: &Rt,
     alloc: Global,
@@ -182,7 +182,7 @@ fn failing_runs<Rt: Wait, S: Strategy>(
 }
 
 #[test]
-fn a_run_answers_the_error_of_its_body(rt: HostRuntime) {
+fn a_run_returns_the_error_of_its_body(rt: HostRuntime) {
     let alloc = rt.alloc();
     let two = pool(&rt, alloc, 2, 2);
     row(
@@ -208,7 +208,7 @@ fn is_even(number: u64) -> bool {
     number % 2 == 0
 }
 
-// What a verifier and a checked sum answer of numbers of which the third is over the limit or odd.
+// What a verifier and a checked sum return of numbers of which the third is over the limit or odd.
 fn find_the_third<Rt: Threads + Wait + Abort + Sync, S: Strategy>(
     rt: &Rt,
     alloc: Global,

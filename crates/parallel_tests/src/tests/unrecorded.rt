@@ -1,10 +1,10 @@
-//! What a policy keeps of a call that is refused, through a pool: that it was asked, where it was, and
-//! no time. The clock goes on by a second at each reading, so that a time of such a
-//! call would be seen in the estimates.
+//! What a policy keeps of a call that is refused, through a pool: that it was asked, where it was,
+//! and no time. The clock goes on by a second at each reading, so that a time of such a call would be
+//! seen in the estimates.
 use crate::tests::clocks::Stepping;
 use crate::tests::entries::{Times, by_policy, times};
 use crate::tests::no_memory::{all_memory, all_places};
-use crate::tests::same::{answers, row};
+use crate::tests::same::{returns, row};
 use crate::tests::steps::{Gives, descending};
 use crate::tests::strategies::SITE;
 use commonware_parallel::policy::{Key, RunExecution, SpawnExecution, SpawnSample};
@@ -33,7 +33,7 @@ fn after_nine_choices<Rt: Wait + Abort>(rt: &Rt, alloc: Global) -> Policy {
     let policy = Policy::new(alloc).expect(rt, "memory for a policy");
     let key = Key::new(SITE, LEN, LEN, 4);
     for (execution, time) in [(RunExecution::Parallel, 100_000), (SERIAL, 95_000)] {
-        answers(
+        returns(
             rt,
             "record",
             policy.record_run(rt, key, execution, time),
@@ -41,7 +41,7 @@ fn after_nine_choices<Rt: Wait + Abort>(rt: &Rt, alloc: Global) -> Policy {
         );
     }
     for choice in 1..10u32 {
-        answers(rt, choice, policy.choose_run(rt, key, 4), (SERIAL, false));
+        returns(rt, choice, policy.choose_run(rt, key, 4), (SERIAL, false));
     }
     policy
 }
@@ -99,7 +99,7 @@ fn map_numbers<Rt: Threads + Wait + Sync, S: Strategy>(
     Ok(())
 }
 
-// Makes such a call: its outcome without its answer.
+// Makes such a call: its outcome without its result.
 fn outcome_of<Rt: Threads + Wait + Sync, S: Strategy>(
     rt: &Rt,
     alloc: Global,
@@ -220,7 +220,7 @@ fn a_spawn_that_is_refused_is_not_recorded(rt: HostRuntime) {
     let strategy = by_policy(&rt, alloc, &policy, SECOND);
     let key = Key::new(SITE, 1, 1, 4);
     let first = (SpawnExecution::Offload, true);
-    answers(&rt, 1, policy.choose_spawn(&rt, key, 1_000_000), first);
+    returns(&rt, 1, policy.choose_spawn(&rt, key, 1_000_000), first);
     let room = Vec::<u8>::with_capacity(alloc, 4_096).expect(&rt, "memory");
     if let Some(held) = all_memory(alloc) {
         drop(room);
@@ -235,5 +235,5 @@ fn a_spawn_that_is_refused_is_not_recorded(rt: HostRuntime) {
         Some([None, None, None]),
     );
     assert!(rt; policy.run_entry(&rt, key).is_none());
-    answers(&rt, 3, policy.choose_spawn(&rt, key, 1_000_000), first);
+    returns(&rt, 3, policy.choose_spawn(&rt, key, 1_000_000), first);
 }

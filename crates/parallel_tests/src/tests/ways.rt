@@ -1,7 +1,7 @@
 //! The ways that explorers take: by the serial and the parallel rule, and by seeds.
 use crate::tests::explorers::{PLACE, picks_last};
 use crate::tests::no_memory::all_places;
-use crate::tests::same::{answers, row, same};
+use crate::tests::same::{returns, row, same};
 use crate::tests::steps::{add, add_counts, count, no_count, parallel, serial, zero};
 use crate::tests::strategies::{SITE, explorers, pool};
 use crate::tests::threads::Meeting;
@@ -39,7 +39,7 @@ fn serial_ways(aside: bool) -> Ways {
     }
 }
 
-// The most parallel ways, planned for so many.
+// The most parallel ways, planned for that many.
 fn parallel_ways(planned: usize) -> Ways {
     Ways {
         ranges: planned,
@@ -113,8 +113,8 @@ fn the_parallel_rule_takes_the_most_parallel_ways(rt: HostRuntime) {
         let strategy = pool(&rt, alloc, threads, planned);
         let explorer = Explorer::parallel(&strategy).expect(&rt, "memory");
         let of = (threads, planned);
-        answers(&rt, of, ways_of(&rt, alloc, &explorer), wanted);
-        answers(
+        returns(&rt, of, ways_of(&rt, alloc, &explorer), wanted);
+        returns(
             &rt,
             of,
             parts_of_a_join(&rt, alloc, &explorer),
@@ -178,7 +178,7 @@ fn a_seed_repeats_its_ways_and_seeds_take_each_of_them(rt: HostRuntime) {
     for seed in 0..256u64 {
         let explorer = Explorer::seeded(&strategy, seed).expect(&rt, "memory");
         let first = ways_of(&rt, alloc, &explorer).expect(&rt, "memory");
-        answers(&rt, seed, ways_of(&rt, alloc, &explorer), first);
+        returns(&rt, seed, ways_of(&rt, alloc, &explorer), first);
         add_seen(&mut seen, first);
     }
     // One to eight ranges, as many workers, and both ways of each other call.
@@ -212,8 +212,8 @@ fn third_next(_state: &mut u32, number: u32) -> u32 {
     add(number, 3)
 }
 
-// Whether each kind of map of the numbers below 100 answers in their order, and a fallible one the
-// number that fails.
+// Whether each kind of map of the numbers below 100 has its results in their order, and a fallible
+// one returns the number that fails.
 fn maps_in_order<Rt: Threads + Wait + Sync, S: Strategy>(
     rt: &Rt,
     alloc: Global,
@@ -252,7 +252,7 @@ fn each_map_keeps_its_order_by_each_rule(rt: HostRuntime) {
     let explorers = explorers(&rt, alloc);
     for explorer in &explorers {
         let mapped = maps_in_order(&rt, alloc, explorer);
-        answers(&rt, explorer.rule(), mapped, [true; 4]);
+        returns(&rt, explorer.rule(), mapped, [true; 4]);
     }
 }
 

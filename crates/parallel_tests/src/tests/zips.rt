@@ -82,7 +82,7 @@ fn fallible_maps<Rt: Threads + Wait + Sync, S: Strategy>(
     ]
 }
 
-// Three answers of each.
+// Three results of each.
 fn three_come<Rt: Threads + Wait + Abort + Sync, S: Strategy>(
     rt: &Rt,
     alloc: Global,

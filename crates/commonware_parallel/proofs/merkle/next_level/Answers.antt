@@ -1,4 +1,4 @@
--- The answers for the pairs, and behind them an odd last node.
+-- The results for the pairs, and after them an odd last node.
 use Rattle.commonware_parallel.proofs.{rules, ap, sym, ◌∙◌, ◌++◌, append-nil, option_to_list, level_from_map}
 use Rattle.commonware_parallel.proofs.merkle.next_level.Goals as goal
 use Rattle.commonware_parallel.proofs.merkle.next_level.Goals.{in-Some+in_ok-push, in_default}

@@ -2,9 +2,11 @@
 ghost use Rattle.std.specs.Prelude.{◌≡◌};
 ghost use Rattle.parallel_pool.specs.Latch.{IsLatchSeatOf};
 
+use crate::pool::count_latches::give_all;
 use crate::pool::latches::core_latch;
-use crate::pool::tally::{let_it_sleep, read};
-use crate::pool::waits::{give_all, one_sleep};
+use crate::pool::probes::brought::{ALL, leads};
+use crate::pool::sleeps::one_sleep;
+use crate::pool::tally::{Act, becomes, let_it_sleep, read};
 use crate::same::{row, same};
 use crossbeam_utils::sync::Parker;
 use parallel_pool::latch::{CoreLatch, CountLatch, LatchSeat, LockLatch};
@@ -33,12 +35,35 @@ fn worked(rt: &(impl CpuClock + Abort)) -> u128 {
     time.as_millis()
 }
 
-// Stops the test where the threads of this process work while they are to wait.
+// Stops the test where the threads of this process work on while they are to wait.
 fn nobody_works<R: Clock + CpuClock + Abort>(rt: &R, at: &str) {
-    let before = worked(rt);
-    linger(rt);
-    let after = worked(rt);
-    row(rt, at, after.saturating_sub(before) < SHORT, true);
+    let mut is_quiet = false;
+    for _ in 0..20 {
+        let before = worked(rt);
+        linger(rt);
+        let after = worked(rt);
+        is_quiet = after.saturating_sub(before) < SHORT;
+        if is_quiet {
+            break;
+        }
+    }
+    row(rt, at, is_quiet, true);
+}
+
+#[test]
+fn idle_workers_take_no_time(rt: HostRuntime) {
+    let mut led = leads(&rt, rt.alloc(), 4);
+    let_it_sleep(&rt);
+    nobody_works(&rt, "before the first job");
+    for brought in ALL {
+        let wanted = read(&led.tally.called).wrapping_add(1);
+        let came = led.brings(&rt, rt.alloc(), brought, 1, Act::Adds(1));
+        let is_called = becomes(&rt, &led.tally.called, wanted);
+        row(&rt, brought, (came, is_called), (true, true));
+        let_it_sleep(&rt);
+        nobody_works(&rt, "after a job");
+    }
+    led.ends(&rt);
 }
 
 // The time that this thread has worked, in nanoseconds.

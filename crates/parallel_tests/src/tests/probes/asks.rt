@@ -1,5 +1,5 @@
 //! What a strategy is asked and told of each call: asked once, at the call's own place, by the
-//! call's own numbers, and told once that the run has answered, or never where it failed.
+//! call's own numbers, and told once that the run has succeeded, or never where it failed.
 ghost use Rattle.std.specs.Prelude.{◌≡◌, ⊤};
 
 use crate::tests::probes::callers::{CALLERS, Caller, call};
@@ -8,9 +8,10 @@ use crate::tests::probes::given::{Given, SOURCES, is_made, make_over};
 use crate::tests::probes::logs::{Event, Line, Log, Who};
 use crate::tests::probes::noting::Noting;
 use crate::tests::probes::sides::{
-    BATCHES, Batched, SIDES, Side, call_of_side, make_side, map_batch, root,
+    BATCHES, Batched, SIDES, Side, call_of_side, leaves, make_side, map_batch, root,
 };
 use crate::tests::probes::visits::Visitor;
+use crate::tests::roots::Rooted;
 use crate::tests::same::row;
 use crate::tests::strategies::{SITE, number};
 use commonware_parallel::{Call, Indices, Job, Kind, On, Site, Strategy, Trouble};
@@ -45,7 +46,7 @@ fn on<'a, Rt>(rt: &'a Rt, alloc: Global, strategy: &'a Noting) -> On<'a, Rt, Not
     }
 }
 
-// What a list call over so many items asks about.
+// What a list call over that many items asks about.
 fn call_of(called: Called, len: usize) -> Call {
     match called {
         Called::MultipliedMap | Called::MultipliedMapInit => {
@@ -179,7 +180,7 @@ fn each_other_call_asks_once_and_tells_once(rt: HostRuntime) {
 }
 
 #[test]
-fn a_batch_whose_map_fails_tells_no_more_than_its_closure_answers(rt: HostRuntime) {
+fn a_batch_whose_map_fails_tells_no_more_than_its_closure_returns(rt: HostRuntime) {
     let alloc = rt.alloc();
     for (batched, end) in [(Batched::TryMap, TOLD), (Batched::TryBatch, DROPPED)] {
         let noting = Noting::new(&rt, alloc, 4);
@@ -224,36 +225,62 @@ fn a_whole_batch_asks_once_and_its_map_asks_nobody(rt: HostRuntime) {
     }
 }
 
+// Stops the test where a tree asks or tells otherwise than of calls of these lengths, with these
+// multipliers.
+fn tree_asks<Rt: Threads + Wait + Abort + Sync>(
+    rt: &Rt,
+    alloc: Global,
+    rooted: Rooted,
+    (count, levels): (usize, usize),
+    calls: &[(usize, usize)],
+) {
+    let noting = Noting::new(rt, alloc, 4);
+    let on = on(rt, alloc, &noting);
+    let leaves = leaves(alloc, count).expect(rt, "memory for leaves");
+    let found = root(&on, rooted, leaves, Visitor::Writes(noting.log()));
+    row(rt, (rooted, count), found, Ok(Some(levels)));
+    let mut lines = Vec::new(alloc);
+    for (len, multiplier) in calls {
+        let call = Call::body_with_multiplier(*len, *multiplier);
+        for line in [asked(call), BEGUN, RAN, TOLD] {
+            lines.push(line).expect(rt, "memory for lines");
+        }
+    }
+    noting.log().has(rt, (rooted, count), lines.as_slice());
+}
+
 #[test]
-fn a_tree_asks_about_the_pairs_of_each_level(rt: HostRuntime) {
+fn a_tree_asks_about_its_blocks_and_the_pairs_of_each_level(rt: HostRuntime) {
     let alloc = rt.alloc();
-    let noting = Noting::new(&rt, alloc, 4);
-    let on = on(&rt, alloc, &noting);
-    row(
-        &rt,
-        "tree",
-        root(&on, 13, Visitor::Writes(noting.log())),
-        Ok(Some(4)),
-    );
-    let lines = [
-        asked(Call::body(6)),
-        BEGUN,
-        RAN,
-        TOLD,
-        asked(Call::body(3)),
-        BEGUN,
-        RAN,
-        TOLD,
-        asked(Call::body(2)),
-        BEGUN,
-        RAN,
-        TOLD,
-        asked(Call::body(1)),
-        BEGUN,
-        RAN,
-        TOLD,
-    ];
-    noting.log().has(&rt, "tree", &lines);
+    for (rooted, count, levels, calls) in [
+        (
+            Rooted::ByLevels,
+            13,
+            4,
+            [(6, 1), (3, 1), (2, 1), (1, 1)].as_slice(),
+        ),
+        // Of fewer than sixteen leaves a thread there are no blocks.
+        (
+            Rooted::ByBlocks,
+            63,
+            6,
+            &[(31, 1), (16, 1), (8, 1), (4, 1), (2, 1), (1, 1)],
+        ),
+        (
+            Rooted::ByBlocks,
+            64,
+            6,
+            &[(32, 2), (16, 1), (8, 1), (4, 1), (2, 1), (1, 1)],
+        ),
+        (
+            Rooted::ByBlocks,
+            130,
+            8,
+            &[(33, 4), (16, 1), (8, 1), (4, 1), (2, 1), (1, 1), (1, 1)],
+        ),
+    ] {
+        tree_asks(&rt, alloc, rooted, (count, levels), calls);
+    }
 }
 
 // A job that writes that it ran.

@@ -35,17 +35,17 @@ pub const CALLS: [Called; 9] = [
 /// What stands for the work of an item in the calls that are told so.
 pub const MULTIPLIER: usize = 9;
 
-/// The outcome of a call without its answer.
-pub fn done<T: Drop>(answer: Result<T, Fault>) -> Result<(), Trouble<u32>> {
-    match answer {
+/// The outcome of a call without its result.
+pub fn done<T: Drop>(outcome: Result<T, Fault>) -> Result<(), Trouble<u32>> {
+    match outcome {
         Ok(_) => Ok(()),
         Err(fault) => Err(Trouble::Fault(fault)),
     }
 }
 
 /// The same of a call that may fail.
-pub fn tried<T: Drop>(answer: Result<T, Trouble<u32>>) -> Result<(), Trouble<u32>> {
-    match answer {
+pub fn tried<T: Drop>(outcome: Result<T, Trouble<u32>>) -> Result<(), Trouble<u32>> {
+    match outcome {
         Ok(_) => Ok(()),
         Err(trouble) => Err(trouble),
     }

@@ -119,7 +119,7 @@ fn make_over_pairs<Rt: Threads + Wait + Sync, S: Strategy>(
     make_fallible(on, called, pairs, visited)
 }
 
-/// The call over such a source of so many items, at most 1000: one that a table has.
+/// The call over such a source of that many items, at most 1000: one that a table has.
 pub fn make_over<Rt: Threads + Wait + Sync, S: Strategy>(
     on: &On<'_, Rt, S, Site>,
     called: Called,

@@ -17,7 +17,7 @@ pub enum Event {
     Begun,
     /// Closures run.
     Ran,
-    /// It is told that the run has answered.
+    /// It is told that the run has succeeded.
     Told,
     /// The measure of a run is told so.
     Ended,

@@ -1,18 +1,19 @@
 //! What becomes of a list once an item has failed: right of an error that is known nothing is
-//! called.
+//! called, and an error is known before what is left of its segment is let go.
 use crate::tests::probes::calls::Called;
 use crate::tests::probes::given::{FEW, Given, SOURCES, make_over, make_over_few};
 use crate::tests::probes::noting::Noting;
 use crate::tests::probes::visits::Visitor;
 use crate::tests::same::row;
+use crate::tests::steps::{add_counts, no_count};
 use crate::tests::strategies::{SITE, pool};
 use commonware_parallel::mocks::{Explorer, Rule};
-use commonware_parallel::{On, Site, Strategy, Trouble};
+use commonware_parallel::{Fault, On, Site, Strategy, Trouble};
 use std::alloc::Global;
 use std::process::Abort;
 use std::sync::Wait;
-use std::sync::atomic::{AtomicUsize, Ordering};
-use std::thread::Threads;
+use std::sync::atomic::{AtomicBool, AtomicUsize, Ordering};
+use std::thread::{Threads, yield_now};
 
 // The calls that may fail.
 const FALLIBLE: [Called; 2] = [Called::TryMap, Called::TryFold];
@@ -86,5 +87,157 @@ fn after_an_error_of_a_serial_call_nothing_is_called(rt: HostRuntime) {
         let four = pool(&rt, alloc, 4, planned);
         let explorer = Explorer::by_rule(&four, rule).expect(&rt, "memory for a handle");
         ends_serially(&rt, alloc, &explorer);
+    }
+}
+
+// What is known of a list whose first item fails while another segment is under way.
+#[derive(Drop)]
+struct Known {
+    // How many other items were handed over.
+    calls: AtomicUsize,
+    // Whether what is left of the first item's segment is being let go, and of another one.
+    first: AtomicBool,
+    others: AtomicBool,
+}
+
+// How many items each of its segments has.
+const SEGMENT: usize = 4;
+
+// Waits for the flag, for some seconds at most.
+fn await_flag(flag: &AtomicBool) {
+    for _ in 0..10_000_000u32 {
+        if flag.load(Ordering::SeqCst) {
+            return;
+        }
+        yield_now();
+    }
+}
+
+impl Known {
+    fn new() -> Known {
+        Known {
+            calls: AtomicUsize::new(0),
+            first: AtomicBool::new(false),
+            others: AtomicBool::new(false),
+        }
+    }
+
+    // Waits until that many other items were handed over, or one of them is let go, for some
+    // seconds at most.
+    fn await_calls(&self, calls: usize) {
+        for _ in 0..10_000_000u32 {
+            if self.calls.load(Ordering::SeqCst) >= calls || self.others.load(Ordering::SeqCst) {
+                return;
+            }
+            yield_now();
+        }
+    }
+
+    // The first item fails once another one was handed over, and the others wait until what is left
+    // after it is let go.
+    fn hand_over(&self, at: usize) -> Result<usize, u32> {
+        if at == 0 {
+            self.await_calls(1);
+            return Err(7);
+        }
+        self.calls.fetch_add(1, Ordering::SeqCst);
+        await_flag(&self.first);
+        Ok(at)
+    }
+
+    // An item is let go that wasn't handed over. Before this ends others have time to be.
+    fn let_go(&self, at: usize) {
+        if at < SEGMENT {
+            self.first.store(true, Ordering::SeqCst);
+            self.await_calls(4);
+        } else {
+            self.others.store(true, Ordering::SeqCst);
+        }
+    }
+}
+
+// An item of such a list.
+struct Kept<'a> {
+    at: usize,
+    known: &'a Known,
+    is_handed_over: bool,
+}
+
+impl Drop for Kept<'_> {
+    fn drop(self) {
+        let Self {
+            at,
+            known,
+            is_handed_over,
+        } = self;
+        if !is_handed_over {
+            known.let_go(at);
+        }
+    }
+}
+
+// Its place, or the error of the first one.
+fn hand_over(item: Kept<'_>) -> Result<usize, u32> {
+    let mut item = item;
+    item.is_handed_over = true;
+    item.known.hand_over(item.at)
+}
+
+// One more, or that error.
+fn count_over(count: usize, item: Kept<'_>) -> Result<usize, u32> {
+    match hand_over(item) {
+        Ok(_) => Ok(count.wrapping_add(1)),
+        Err(error) => Err(error),
+    }
+}
+
+// The items of such a list.
+fn four_segments<'a>(alloc: Global, known: &'a Known) -> Result<Vec<Kept<'a>>, Fault> {
+    let mut items = Vec::with_capacity(alloc, SEGMENT * 4)?;
+    for at in 0..SEGMENT * 4 {
+        items.push(Kept {
+            at,
+            known,
+            is_handed_over: false,
+        })?;
+    }
+    Ok(items)
+}
+
+// How many other items were handed over, of a list or an iterator, and the call's trouble.
+fn other_calls<Rt: Threads + Wait + Abort + Sync, S: Strategy>(
+    on: &On<'_, Rt, S, Site>,
+    called: Called,
+    is_iterator: bool,
+) -> (usize, Option<Trouble<u32>>) {
+    let known = Known::new();
+    let items = four_segments(on.alloc, &known).expect(on.rt, "memory for items");
+    let trouble = match (called, is_iterator) {
+        (Called::TryMap, false) => on.try_map(items, hand_over).err(),
+        (Called::TryMap, true) => on.try_map(items.into_iter(), hand_over).err(),
+        (_, false) => on.try_fold(items, no_count, count_over, add_counts).err(),
+        (_, true) => on
+            .try_fold(items.into_iter(), no_count, count_over, add_counts)
+            .err(),
+    };
+    (known.calls.load(Ordering::SeqCst), trouble)
+}
+
+#[test]
+fn an_error_is_known_before_what_is_left_of_its_segment_is_let_go(rt: HostRuntime) {
+    let alloc = rt.alloc();
+    let two = Noting::new(&rt, alloc, 2);
+    let on = On {
+        rt: &rt,
+        alloc,
+        strategy: &two,
+        site: SITE,
+    };
+    for called in FALLIBLE {
+        for is_iterator in [false, true] {
+            let found = other_calls(&on, called, is_iterator);
+            let wanted = (1, Some(Trouble::Closure(7)));
+            row(&rt, (called, is_iterator), found, wanted);
+        }
     }
 }

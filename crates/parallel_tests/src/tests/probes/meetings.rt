@@ -2,7 +2,7 @@
 use std::sync::atomic::{AtomicBool, AtomicUsize, Ordering};
 use std::thread::yield_now;
 
-/// A meeting of so many closures of one call: each waits until that many are under way at once, or
+/// A meeting of some closures of one call: each waits until that many are under way at once, or
 /// for a bounded time where they never are.
 #[derive(Drop)]
 pub struct Meeting {
@@ -17,7 +17,7 @@ pub struct Meeting {
 }
 
 impl Meeting {
-    /// A meeting of so many, which goes on for so many turns once they have met.
+    /// A meeting of that many, which goes on for that many turns once they have met.
     pub fn of(wanted: usize, turns: u32) -> Meeting {
         Meeting {
             wanted,

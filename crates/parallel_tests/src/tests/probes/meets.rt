@@ -7,12 +7,15 @@ use crate::tests::probes::given::{FEW, Given, SOURCES, is_made, make_over, make_
 use crate::tests::probes::meetings::Meeting;
 use crate::tests::probes::noting::Noting;
 use crate::tests::probes::records::{Squares, fresh};
-use crate::tests::probes::sides::{BATCHES, change, fill, join, map_batch, root, sort};
+use crate::tests::probes::sides::{
+    BATCHES, FILLINGS, Filling, change, fill, join, leaves, map_batch, root, sort,
+};
 use crate::tests::probes::visits::Visitor;
-use crate::tests::same::{answers, row};
-use crate::tests::strategies::{SITE, number};
+use crate::tests::roots::{ROOTED, Rooted};
+use crate::tests::same::{returns, row};
+use crate::tests::strategies::SITE;
 use commonware_parallel::mocks::Explorer;
-use commonware_parallel::{Fault, Grid, Job, On, Rayon, Site, Strategy, Trouble};
+use commonware_parallel::{Fault, Job, On, Rayon, Site, Strategy, Trouble};
 use std::alloc::Global;
 use std::num::NonZeroUsize;
 use std::process::Abort;
@@ -22,7 +25,7 @@ use std::thread::Threads;
 // For how many turns a meeting goes on, so that one too many may come.
 const TURNS: u32 = 1000;
 
-// A pool of so many threads, without a policy.
+// A pool of that many threads, without a policy.
 fn unasked<Rt: Threads + Abort>(rt: &Rt, alloc: Global, threads: usize) -> Rayon<Squares> {
     let asked = fresh(rt, alloc, threads);
     asked.pool.without_policy().expect(rt, "memory for a pool")
@@ -50,7 +53,7 @@ fn met<Rt: Abort>(
     row(rt, (called, given, len, meeting.wanted()), found, wanted);
 }
 
-// The same of all list calls over so many items of each source.
+// The same of all list calls over that many items of each source.
 fn items_meet<Rt: Threads + Wait + Abort + Sync, S: Strategy>(
     rt: &Rt,
     alloc: Global,
@@ -110,7 +113,7 @@ fn few_items_meet<Rt: Threads + Wait + Abort + Sync, S: Strategy>(
     }
 }
 
-/// So many numbers, none of which is in its place.
+/// That many numbers, none of which is in its place.
 pub fn numbers(rt: &impl Abort, alloc: Global, count: usize) -> Vec<u32> {
     let mut numbers = Vec::with_capacity(alloc, count).expect(rt, "memory for numbers");
     let mut place = 0u32;
@@ -134,7 +137,7 @@ fn parts_of_sorts_meet<Rt: Threads + Wait + Abort + Sync, S: Strategy>(
         let meeting = Meeting::of(threads, TURNS);
         let visitor = Visitor::MeetsEarly(&meeting);
         let outcome = sort(&on, sorted, numbers.as_mut_slice(), visitor);
-        answers(rt, sorted, outcome, ());
+        returns(rt, sorted, outcome, ());
         let found = (meeting.most(), numbers.is_sorted());
         row(rt, (sorted, threads), found, (threads, true));
     }
@@ -207,30 +210,21 @@ fn fills_meet<Rt: Threads + Wait + Abort + Sync, S: Strategy>(
     rt: &Rt,
     alloc: Global,
     strategy: &S,
-    is_merged: bool,
+    filling: Filling,
 ) {
     let threads = strategy.thread_number().get();
     let on = on(rt, alloc, strategy);
-    let tile_cost = number(rt, 8);
     for rows in [2, threads, threads.saturating_mul(2), 100] {
         let meeting = Meeting::of(threads.min(rows), TURNS);
-        let grids = [Grid { rows, tile_cost }];
-        assert!(rt; Grid::fits(&grids, 10));
-        let filled = fill(&on, is_merged, 10, &grids, Visitor::Meets(&meeting));
+        let filled = fill(&on, filling, rows, 10, Visitor::Meets(&meeting));
         let found = (filled, meeting.most());
-        row(
-            rt,
-            (is_merged, rows, threads),
-            found,
-            (Ok(rows), threads.min(rows)),
-        );
+        let wanted = (Ok(rows), threads.min(rows));
+        row(rt, (filling, rows, threads), found, wanted);
     }
     let meeting = Meeting::of(threads, TURNS);
-    let grids = [Grid { rows: 1, tile_cost }];
-    assert!(rt; Grid::fits(&grids, 1000));
-    let filled = fill(&on, is_merged, 1000, &grids, Visitor::Meets(&meeting));
+    let filled = fill(&on, filling, 1, 1000, Visitor::Meets(&meeting));
     let found = (filled.is_ok(), meeting.most());
-    row(rt, (is_merged, "cut", threads), found, (true, threads));
+    row(rt, (filling, "cut", threads), found, (true, threads));
 }
 
 // A meeting for each level of a tree.
@@ -252,22 +246,21 @@ fn pairs_meet<Rt: Threads + Wait + Abort + Sync, S: Strategy>(
     rt: &Rt,
     alloc: Global,
     strategy: &S,
+    rooted: Rooted,
 ) {
     let threads = strategy.thread_number().get();
     let on = on(rt, alloc, strategy);
-    for len in lengths(threads) {
-        let leaves = len.saturating_mul(2);
-        let levels = levels_of(alloc, threads, leaves).expect(rt, "memory for meetings");
+    // Of sixteen leaves a thread, and more, there are blocks.
+    for share in [16, 37] {
+        let count = threads.saturating_mul(share);
+        let levels = levels_of(alloc, threads, count).expect(rt, "memory for meetings");
         let visited = Visitor::MeetsByLevel(levels.as_slice());
-        let found = root(&on, leaves, visited).expect(rt, "memory for nodes");
-        row(rt, leaves, found, Some(levels.len()));
+        let leaves = leaves(alloc, count).expect(rt, "memory for leaves");
+        let found = root(&on, rooted, leaves, visited).expect(rt, "memory for nodes");
+        row(rt, (rooted, count), found, Some(levels.len()));
         for (level, meeting) in levels.iter().enumerate() {
-            row(
-                rt,
-                (leaves, level, threads),
-                meeting.most(),
-                meeting.wanted(),
-            );
+            let of = (rooted, count, level, threads);
+            row(rt, of, meeting.most(), meeting.wanted());
         }
     }
 }
@@ -320,9 +313,12 @@ fn all_meet<Rt: Threads + Wait + Abort + Copy + Send + Sync + 'static, S: Strate
     changes_meet(rt, alloc, strategy);
     sides_of_a_join_meet(rt, alloc, strategy);
     ranges_meet(rt, alloc, strategy);
-    fills_meet(rt, alloc, strategy, false);
-    fills_meet(rt, alloc, strategy, true);
-    pairs_meet(rt, alloc, strategy);
+    for filling in FILLINGS {
+        fills_meet(rt, alloc, strategy, filling);
+    }
+    for rooted in ROOTED {
+        pairs_meet(rt, alloc, strategy, rooted);
+    }
     jobs_meet_their_caller(rt, alloc, strategy);
 }
 

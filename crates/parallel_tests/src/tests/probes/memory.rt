@@ -1,20 +1,23 @@
-//! List calls over so many items that no block for all of them is to be had: a fold needs none, and
+//! List calls over more items than a block for all of them is to be had for: a fold needs none, and
 //! a map is refused before it calls anything.
 use crate::tests::no_memory::all_places;
-use crate::tests::probes::calls::{CALLS, Called, make};
+use crate::tests::probes::calls::{CALLS, Called, MULTIPLIER, make};
+use crate::tests::probes::logs::{Event, Who};
 use crate::tests::probes::noting::Noting;
+use crate::tests::probes::sides::{leaves, root};
 use crate::tests::probes::visits::{Times, Visitor};
+use crate::tests::roots::Rooted;
 use crate::tests::same::row;
 use crate::tests::strategies::{SITE, pool};
 use commonware_parallel::mocks::{Explorer, Rule};
-use commonware_parallel::{Fault, Indices, On, Site, Source, Strategy, Trouble};
+use commonware_parallel::{Call, Chooser, Fault, Indices, On, Site, Source, Strategy, Trouble};
 use std::alloc::Global;
 use std::process::Abort;
 use std::sync::Wait;
 use std::thread::Threads;
 
-// How many items each list has: they take 4 MiB.
-const LEN: usize = 524_288;
+// How many items each list has: they take 2 MiB.
+const LEN: usize = 262_144;
 
 // The outcome of such a call, and how often its closures were called.
 type Outcome = (Result<(), Trouble<u32>>, (usize, usize));
@@ -40,7 +43,8 @@ fn outcome<Rt: Threads + Wait + Sync, S: Strategy, M, I: Source<M>>(
     (made, closures.counted())
 }
 
-// That of a fold which calls its closure for each item, and begins so many states where it has some.
+// That of a fold which calls its closure for each item, and begins a state for each segment where
+// it has some.
 fn folded(called: Called, segments: usize) -> Outcome {
     let states = if called == Called::FoldInit {
         segments
@@ -50,9 +54,9 @@ fn folded(called: Called, segments: usize) -> Outcome {
     (Ok(()), (LEN, states))
 }
 
-// Stops the test where a call over a list that is cut as it is takes a block for its items, or where
-// one that needs a block for its answers calls a closure. (A partition by whose closure all items
-// pass, with values that take no place, needs none.)
+// Stops the test where a call over a list that is cut as it is takes a block for its items, or
+// where one that needs a block for its results calls a closure. (A partition by whose closure all
+// items pass, with values that take no place, needs none.)
 fn cut_lists_take_no_block<Rt: Threads + Wait + Abort + Sync, S: Strategy>(
     rt: &Rt,
     alloc: Global,
@@ -71,15 +75,50 @@ fn cut_lists_take_no_block<Rt: Threads + Wait + Abort + Sync, S: Strategy>(
     }
 }
 
-// Stops the test where a serial fold gathers the items of an iterator.
-fn serial_folds_gather_nothing<Rt: Threads + Wait + Abort + Sync, S: Strategy>(
+// How many results a map of an iterator's items has that take no place.
+fn mapped<Rt: Threads + Wait + Sync, S: Strategy>(
+    on: &On<'_, Rt, S, Site>,
+    called: Called,
+) -> Result<usize, Trouble<u32>> {
+    let (rt, alloc, site) = (on.rt, on.alloc, on.site);
+    let begin = || {};
+    let with = |_: &mut (), _: usize| {};
+    let results = match called {
+        Called::Map => on.map(0..LEN, |_: usize| {})?,
+        Called::MultipliedMap => on
+            .strategy
+            .map_collect_vec_with_multiplier(rt, alloc, site, 0..LEN, MULTIPLIER, |_: usize| {})?,
+        Called::MapInit => on.map_init(0..LEN, begin, with)?,
+        Called::MultipliedMapInit => on
+            .strategy
+            .map_init_collect_vec_with_multiplier(
+                rt,
+                alloc,
+                site,
+                0..LEN,
+                MULTIPLIER,
+                begin,
+                with,
+            )?,
+        _ => on.try_map(0..LEN, |_: usize| -> Result<(), u32> { Ok(()) })?,
+    };
+    Ok(results.len())
+}
+
+// Stops the test where a serial call gathers the items of an iterator.
+fn serial_calls_gather_nothing<Rt: Threads + Wait + Abort + Sync, S: Strategy>(
     rt: &Rt,
     alloc: Global,
     strategy: &S,
 ) {
     let on = on(rt, alloc, strategy);
-    for called in [Called::Fold, Called::FoldInit, Called::TryFold] {
-        row(rt, called, outcome(&on, called, 0..LEN), folded(called, 1));
+    for called in CALLS {
+        match called {
+            Called::Fold | Called::FoldInit | Called::TryFold | Called::Partition => {
+                row(rt, called, outcome(&on, called, 0..LEN), folded(called, 1));
+            }
+            _ => row(rt, called, mapped(&on, called), Ok(LEN)),
+        }
     }
 }
 
@@ -91,6 +130,55 @@ fn a_call_takes_no_block_for_items_that_it_need_not_gather(rt: HostRuntime) {
     let serial = Explorer::by_rule(&one, Rule::Parallel).expect(&rt, "memory for a handle");
     let held = all_places(alloc).expect(&rt, "places that have an end");
     cut_lists_take_no_block(&rt, alloc, &four);
-    serial_folds_gather_nothing(&rt, alloc, &serial);
+    serial_calls_gather_nothing(&rt, alloc, &serial);
     drop(held);
+}
+
+// Stops the test where a tree of twice as many leaves doesn't go through, or isn't refused before
+// its closure is called, while no block for a level of its leaves is to be had. With 32,768 threads
+// a block has two leaves, and there are as many tops.
+fn tree<Rt: Threads + Wait + Abort + Sync>(
+    rt: &Rt,
+    alloc: Global,
+    rooted: Rooted,
+    noting: &Noting,
+    leaves: Vec<usize>,
+) {
+    let closures = Times::new();
+    let on = on(rt, alloc, noting);
+    let found = root(&on, rooted, leaves, Visitor::Counts(&closures));
+    let found = (found, closures.counted().0);
+    let multiplier = match (rooted, noting.thread_number().get()) {
+        (Rooted::ByBlocks, 4) => {
+            row(rt, "few tops", found, (Ok(Some(19)), LEN * 2 - 1));
+            return;
+        }
+        (Rooted::ByBlocks, _) => 2,
+        (Rooted::ByLevels, _) => 1,
+    };
+    row(rt, rooted, found, (Err(Fault::Memory), 0));
+    let call = Call::body_with_multiplier(LEN, multiplier);
+    let lines = [
+        (Who::Outer, Event::Asked(1, call)),
+        (Who::Outer, Event::Begun),
+        (Who::Outer, Event::Dropped),
+    ];
+    noting.log().has(rt, rooted, &lines);
+}
+
+// The places are held for one tree at a time: the leaves that a call lets go leave one.
+#[test]
+fn a_tree_by_blocks_takes_memory_for_their_tops_alone(rt: HostRuntime) {
+    let alloc = rt.alloc();
+    for (rooted, threads) in [
+        (Rooted::ByBlocks, 4),
+        (Rooted::ByBlocks, 32_768),
+        (Rooted::ByLevels, 4),
+    ] {
+        let noting = Noting::new(&rt, alloc, threads);
+        let leaves = leaves(alloc, LEN * 2).expect(&rt, "memory for leaves");
+        let held = all_places(alloc).expect(&rt, "places that have an end");
+        tree(&rt, alloc, rooted, &noting, leaves);
+        drop(held);
+    }
 }

@@ -9,10 +9,11 @@ ghost use Rattle.std.specs.Prelude.{⊤};
 use crate::tests::probes::calls::{CALLS, Called, MULTIPLIER};
 use crate::tests::probes::given::{FEW, Given, make_over_few};
 use crate::tests::probes::logs::Log;
-use crate::tests::probes::sides::{SIDES, Side, call_of_side, make_side, root};
+use crate::tests::probes::sides::{SIDES, Side, call_of_side, leaves, make_side, root};
 use crate::tests::probes::visits::Visitor;
-use crate::tests::same::{answers, row};
-use crate::tests::steps::{answer_one, answer_two};
+use crate::tests::roots::Rooted;
+use crate::tests::same::{returns, row};
+use crate::tests::steps::{give_one, give_two};
 use crate::tests::strategies::{SITE, number};
 use commonware_parallel::policy::{Key, RunExecution, SpawnSample};
 use commonware_parallel::{Clock, Job, On, Policy, Rayon, Site, Strategy, Trouble};
@@ -48,12 +49,12 @@ pub struct Asked {
     pub pool: Rayon<Squares>,
 }
 
-/// A fresh policy, and a pool of so many threads, planned for as many.
+/// A fresh policy, and a pool of that many threads, planned for as many.
 pub fn fresh<Rt: Threads + Abort>(rt: &Rt, alloc: Global, threads: usize) -> Asked {
     planned(rt, alloc, threads, threads)
 }
 
-// The same, planned for so many.
+// The same, planned for that many.
 fn planned<Rt: Threads + Abort>(rt: &Rt, alloc: Global, threads: usize, planned: usize) -> Asked {
     let readings = Arc::new(alloc, AtomicU64::new(0)).expect(rt, "memory for a clock");
     let clock = Squares {
@@ -73,12 +74,12 @@ impl Asked {
     // What the next run of such a call is known to take, so that it goes in parallel, measured.
     fn knows<Rt: Wait + Abort>(&self, rt: &Rt, key: Key) {
         let first = self.policy.choose_run(rt, key, 4);
-        answers(rt, "first", first, (RunExecution::Parallel, true));
+        returns(rt, "first", first, (RunExecution::Parallel, true));
         let time = 50 * MILLISECOND;
         let known = self
             .policy
             .record_run(rt, key, RunExecution::Parallel, time);
-        answers(rt, "known", known, ());
+        returns(rt, "known", known, ());
     }
 
     fn on<'a, Rt>(&'a self, rt: &'a Rt, alloc: Global) -> On<'a, Rt, Rayon<Squares>, Site> {
@@ -197,28 +198,46 @@ fn a_run_records_one_time_at_its_key(rt: HostRuntime) {
     let asked = fresh(&rt, alloc, 4);
     let key = Key::new(SITE, 5, 5, 4);
     asked.knows(&rt, key);
-    let ran = asked.pool.run(&rt, alloc, SITE, 5, answer_one, answer_two);
+    let ran = asked.pool.run(&rt, alloc, SITE, 5, give_one, give_two);
     row(&rt, "run", ran, Ok(2));
     asked.has_one(&rt, alloc, "run", key);
 }
 
-#[test]
-fn a_tree_records_one_time_of_each_level(rt: HostRuntime) {
-    let alloc = rt.alloc();
-    let asked = fresh(&rt, alloc, 4);
-    for pairs in [4, 2, 1] {
-        asked.knows(&rt, Key::new(SITE, pairs, pairs, 4));
+// Stops the test where a tree records otherwise than of calls of these lengths and works.
+fn tree_records<Rt: Threads + Wait + Abort + Sync>(
+    rt: &Rt,
+    alloc: Global,
+    rooted: Rooted,
+    count: usize,
+    calls: &[(usize, usize)],
+) {
+    let asked = fresh(rt, alloc, 4);
+    for (len, work) in calls {
+        asked.knows(rt, Key::new(SITE, *len, *work, 4));
     }
-    let found = root(&asked.on(&rt, alloc), 8, Visitor::Passes);
-    row(&rt, "tree", found, Ok(Some(3)));
-    row(&rt, "tree", asked.readings(), 6);
-    // Two readings for each level: 1, 5 and 9 milliseconds.
-    for (pairs, time) in [(4, 40_200_000), (2, 41_000_000), (1, 41_800_000)] {
-        let entry = asked.policy.run_entry(&rt, Key::new(SITE, pairs, pairs, 4));
-        let entry = entry.expect(&rt, "an entry");
+    let leaves = leaves(alloc, count).expect(rt, "memory for leaves");
+    let found = root(&asked.on(rt, alloc), rooted, leaves, Visitor::Passes);
+    row(rt, (rooted, count), found.is_ok(), true);
+    let twice = (calls.len() as u64).wrapping_mul(2);
+    row(rt, (rooted, count), asked.readings(), twice);
+    // Between the readings of each call were 1, 5, 9 milliseconds, and so on.
+    let mut time = 40_200_000u64;
+    for (len, work) in calls {
+        let entry = asked.policy.run_entry(rt, Key::new(SITE, *len, *work, 4));
+        let entry = entry.expect(rt, "an entry");
         let parallel = entry.estimate(RunExecution::Parallel);
-        row(&rt, pairs, parallel, Some(time));
+        row(rt, (rooted, *len), parallel, Some(time));
+        time = time.wrapping_add(800_000);
     }
+}
+
+#[test]
+fn a_tree_records_one_time_of_its_blocks_and_of_each_level(rt: HostRuntime) {
+    let alloc = rt.alloc();
+    let levels = [(4, 4), (2, 2), (1, 1)];
+    tree_records(&rt, alloc, Rooted::ByLevels, 8, &levels);
+    let blocks = [(32, 64), (16, 16), (8, 8), (4, 4), (2, 2), (1, 1)];
+    tree_records(&rt, alloc, Rooted::ByBlocks, 64, &blocks);
 }
 
 impl Asked {

@@ -1,12 +1,9 @@
 //! The other calls: joins, sorts, batches, tiles and trees, with closures that visit a probe.
-ghost use Rattle.parallel_shares.specs.Grid.{Fits};
-
 use crate::tests::probes::calls::{done, tried};
 use crate::tests::probes::visits::Visitor;
+use crate::tests::roots::{Rooted, root_of};
 use crate::tests::steps::{cells_counted, no_count};
-use commonware_parallel::{
-    Batches, Call, Fault, Grid, Kind, On, Site, Strategy, Tiles, Trouble, merkle,
-};
+use commonware_parallel::{Batches, Call, Fault, Grid, Kind, On, Site, Strategy, Tiles, Trouble};
 use std::alloc::Global;
 use std::cmp::Ordering;
 use std::num::NonZeroUsize;
@@ -92,13 +89,13 @@ fn map_ranges<Rt: Threads + Wait + Sync, S: Strategy>(
     if batched == Batched::Map {
         let map_op = |_: usize| visited.visit().is_ok();
         return match batches.map_collect_vec(rt, alloc, prepare, map_op) {
-            Ok(answers) => Ok(answers.len()),
+            Ok(results) => Ok(results.len()),
             Err(fault) => Err(Trouble::Fault(fault)),
         };
     }
     let map_op = |_: usize| visited.visit();
-    let answers = batches.try_map_collect_vec(rt, alloc, prepare, map_op)?;
-    Ok(answers.len())
+    let results = batches.try_map_collect_vec(rt, alloc, prepare, map_op)?;
+    Ok(results.len())
 }
 
 // The outcome of a batch whose closure's own is this.
@@ -110,7 +107,7 @@ fn flat<T: Drop>(outcome: Result<T, Trouble<Trouble<u32>>>) -> Result<T, Trouble
     }
 }
 
-/// Such a map over a batch of so many indices in ranges of that many at least: how many ranges
+/// Such a map over a batch of that many indices, in ranges of at least `minimum`: how many ranges
 /// there are.
 pub fn map_batch<Rt: Threads + Wait + Sync, S: Strategy>(
     on: &On<'_, Rt, S, Site>,
@@ -136,12 +133,28 @@ pub fn map_batch<Rt: Threads + Wait + Sync, S: Strategy>(
     }
 }
 
-// The results of tiles whose fills visit, merged or not: how many there are.
+/// How tiles are filled: with a result for each stretch or for each row, or by a kernel by row.
+#[derive(Clone, Copy, Debug, PartialEq, Eq)]
+pub enum Filling {
+    Stretches,
+    Rows,
+    Kernel,
+}
+
+/// All of them.
+pub const FILLINGS: [Filling; 3] = [Filling::Stretches, Filling::Rows, Filling::Kernel];
+
+// What a tile costs.
+fn tile_cost() -> NonZeroUsize {
+    NonZeroUsize::MIN.saturating_add(7)
+}
+
+// The results of tiles whose fills visit, for each row or not: how many there are.
 fn fill_tiles<Rt: Threads + Wait + Sync, S: Strategy>(
     rt: &Rt,
     alloc: Global,
     tiles: Tiles<'_, S, Site>,
-    is_merged: bool,
+    filling: Filling,
     visited: Visitor<'_>,
 ) -> Result<usize, Fault> {
     let begin = || {
@@ -152,7 +165,7 @@ fn fill_tiles<Rt: Threads + Wait + Sync, S: Strategy>(
         let _ = visited.visit();
         *count = count.saturating_add(columns.len());
     };
-    let filled = if is_merged {
+    let filled = if filling == Filling::Rows {
         tiles.fill_merge_collect_vec(rt, alloc, begin, fill, cells_counted, usize::wrapping_add)
     } else {
         tiles.fill_collect_vec(rt, alloc, begin, fill, cells_counted)
@@ -160,43 +173,93 @@ fn fill_tiles<Rt: Threads + Wait + Sync, S: Strategy>(
     Ok(filled?.len())
 }
 
-/// The results of tiles on rows of so many columns, each fill of which visits.
+// The values of a kernel by row that visits: how many there are.
+fn fold_rows<Rt: Threads + Wait + Sync, S: Strategy>(
+    on: &On<'_, Rt, S, Site>,
+    rows: usize,
+    len: usize,
+    visited: Visitor<'_>,
+) -> Result<usize, Fault> {
+    if rows.checked_mul(len).is_none() {
+        return Err(Fault::Memory);
+    }
+    let (rt, alloc, site) = (on.rt, on.alloc, on.site);
+    let kernel = |_: usize, columns: Range<usize>| -> usize {
+        let _ = visited.visit();
+        columns.len()
+    };
+    let folded = on.strategy.fold_rows(
+        rt,
+        alloc,
+        site,
+        rows,
+        len,
+        tile_cost(),
+        kernel,
+        usize::wrapping_add,
+    );
+    Ok(folded?.len())
+}
+
+/// The results of tiles on that many rows of that many columns, each fill of which visits: how many
+/// there are.
 pub fn fill<Rt: Threads + Wait + Sync, S: Strategy>(
     on: &On<'_, Rt, S, Site>,
-    is_merged: bool,
+    filling: Filling,
+    rows: usize,
     len: usize,
-    grids: &[Grid],
     visited: Visitor<'_>,
-) -> Result<usize, Fault>
-    requires { Fits grids.now len }
-{
+) -> Result<usize, Fault> {
+    if filling == Filling::Kernel {
+        return fold_rows(on, rows, len, visited);
+    }
+    let grids = [Grid {
+        rows,
+        tile_cost: tile_cost(),
+    }];
+    if !Grid::fits(&grids, len) {
+        return Err(Fault::Memory);
+    }
     let (rt, alloc) = (on.rt, on.alloc);
-    let run = |tiles: Tiles<'_, S, Site>| fill_tiles(rt, alloc, tiles, is_merged, visited);
+    let run = |tiles: Tiles<'_, S, Site>| fill_tiles(rt, alloc, tiles, filling, visited);
     match on
         .strategy
-        .run_tiles(rt, alloc, on.site, len, grids, 5, run)
+        .run_tiles(rt, alloc, on.site, len, &grids, 5, run)
     {
         Ok(filled) => filled,
         Err(fault) => Err(fault),
     }
 }
 
-/// The root of a tree of so many leaves, each pair of which visits its level: how many levels there
-/// are.
+/// That many leaves.
+pub fn leaves(alloc: Global, count: usize) -> Result<Vec<usize>, Fault> {
+    let mut leaves = Vec::with_capacity(alloc, count)?;
+    for _ in 0..count {
+        leaves.push(0)?;
+    }
+    Ok(leaves)
+}
+
+/// The root of a tree, each pair of which visits its level: how many levels there are.
 pub fn root<Rt: Threads + Wait + Sync, S: Strategy>(
     on: &On<'_, Rt, S, Site>,
-    leaves: usize,
+    rooted: Rooted,
+    leaves: Vec<usize>,
     visited: Visitor<'_>,
 ) -> Result<Option<usize>, Fault> {
-    let mut nodes = Vec::new(on.alloc);
-    for _ in 0..leaves {
-        nodes.push(0_usize)?;
-    }
     let combine = |left: usize, _: usize| {
         visited.visit_level(left);
         left.wrapping_add(1)
     };
-    merkle::root(on.rt, on.alloc, on.strategy, on.site, nodes, combine)
+    root_of(
+        on.rt,
+        on.alloc,
+        on.strategy,
+        on.site,
+        rooted,
+        leaves,
+        combine,
+    )
 }
 
 /// A call that isn't over a list: a sort or a change of four numbers, a join, the map of a batch of
@@ -207,11 +270,11 @@ pub enum Side {
     Change(bool),
     Join,
     Batch(Batched),
-    Fill(bool),
+    Fill(Filling),
 }
 
 /// All of them.
-pub const SIDES: [Side; 10] = [
+pub const SIDES: [Side; 11] = [
     Side::Sort(true),
     Side::Sort(false),
     Side::Change(false),
@@ -220,18 +283,20 @@ pub const SIDES: [Side; 10] = [
     Side::Batch(Batched::Map),
     Side::Batch(Batched::TryMap),
     Side::Batch(Batched::TryBatch),
-    Side::Fill(false),
-    Side::Fill(true),
+    Side::Fill(Filling::Stretches),
+    Side::Fill(Filling::Rows),
+    Side::Fill(Filling::Kernel),
 ];
 
 /// What such a call is asked as, planned for four. Each index of the batch stands for three. Each
-/// row of the tiles takes eighteen, and they stand for five times as much.
+/// row of the tiles takes eighteen, and they stand for five times as much, but for a kernel's.
 pub fn call_of_side(side: Side) -> Call {
     let (kind, len, work) = match side {
         Side::Sort(_) | Side::Change(false) => return Call::body(4),
         Side::Change(true) => return Call::body(2),
         Side::Join => return Call::join(),
         Side::Batch(_) => (Kind::Batches, 16, 48),
+        Side::Fill(Filling::Kernel) => (Kind::Tiles, 10, 72),
         Side::Fill(_) => (Kind::Tiles, 10, 360),
     };
     Call {
@@ -240,20 +305,6 @@ pub fn call_of_side(side: Side) -> Call {
         work,
         max_parts: 4,
     }
-}
-
-// The fill.
-fn fill_four<Rt: Threads + Wait + Abort + Sync, S: Strategy>(
-    on: &On<'_, Rt, S, Site>,
-    is_merged: bool,
-    visited: Visitor<'_>,
-) -> Result<usize, Fault> {
-    let grids = [Grid {
-        rows: 4,
-        tile_cost: NonZeroUsize::MIN.saturating_add(7),
-    }];
-    assert!(on.rt; Grid::fits(&grids, 10));
-    fill(on, is_merged, 10, &grids, visited)
 }
 
 /// Such a call, of which each closure visits.
@@ -269,6 +320,6 @@ pub fn make_side<Rt: Threads + Wait + Abort + Sync, S: Strategy>(
         Side::Change(is_chunked) => done(change(on, is_chunked, &mut numbers, visited)),
         Side::Join => join(on, visited),
         Side::Batch(batched) => tried(map_batch(on, batched, 16, four, visited)),
-        Side::Fill(is_merged) => done(fill_four(on, is_merged, visited)),
+        Side::Fill(filling) => done(fill(on, filling, 4, 10, visited)),
     }
 }

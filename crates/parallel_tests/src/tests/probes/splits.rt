@@ -2,7 +2,7 @@
 //! at most twice as many as threads; and how often it calls its closures.
 use crate::tests::probes::calls::{CALLS, Called, make};
 use crate::tests::probes::noting::Noting;
-use crate::tests::probes::sides::{Side, make_side};
+use crate::tests::probes::sides::{FILLINGS, Filling, Side, make_side};
 use crate::tests::probes::visits::{Times, Visitor};
 use crate::tests::same::row;
 use crate::tests::strategies::{SITE, pool};
@@ -48,7 +48,7 @@ impl<'a, P: Producer> Producer for Cut<'a, P> {
     }
 }
 
-// How many states a list call begins for so many segments.
+// How many states a list call begins for that many segments.
 fn states_of(called: Called, segments: usize) -> usize {
     match called {
         Called::MapInit | Called::MultipliedMapInit | Called::FoldInit => segments,
@@ -107,8 +107,9 @@ fn each_list_call_cuts_a_list_into_segments_and_begins_a_state_for_each(rt: Host
     }
 }
 
+// Rows that are too short to be cut, of which a worker fills each by one call.
 #[test]
-fn tiles_begin_a_state_for_each_worker(rt: HostRuntime) {
+fn tiles_begin_a_state_for_each_worker_and_fill_each_row_once(rt: HostRuntime) {
     let alloc = rt.alloc();
     for threads in 1..5usize {
         let noting = Noting::new(&rt, alloc, threads);
@@ -118,12 +119,16 @@ fn tiles_begin_a_state_for_each_worker(rt: HostRuntime) {
             strategy: &noting,
             site: SITE,
         };
-        for is_merged in [false, true] {
+        for filling in FILLINGS {
             let closures = Times::new();
-            let made = make_side(&on, Side::Fill(is_merged), Visitor::Counts(&closures));
-            row(&rt, (is_merged, threads), made, Ok(()));
-            let (_, states) = closures.counted();
-            row(&rt, (is_merged, threads), states, threads);
+            let made = make_side(&on, Side::Fill(filling), Visitor::Counts(&closures));
+            let states = if filling == Filling::Kernel {
+                0
+            } else {
+                threads
+            };
+            let found = (made, closures.counted());
+            row(&rt, (filling, threads), found, (Ok(()), (4, states)));
         }
     }
 }

@@ -1,4 +1,4 @@
--- The words behind the name are the items of `root`.
+-- The words after the name are the items of `root`.
 use Rattle.shapes_command.proofs.{◌≤◌, length, refl, subst, arith, codes, AreItems, is_text, rest_from}
 use Rattle.shapes_command.proofs.request.root.Goals as goal
 

@@ -1,4 +1,4 @@
--- The closure's one answer is the node above the two.
+-- The closure's one result is the node above the two.
 use Rattle.shapes_command.proofs.{rules, ◌≡◌, subst, IfOk-weaker, MerkleRoot, combined, root_weaker}
 use Rattle.shapes_command.proofs.root.root_through.Goals as goal
 

@@ -1,4 +1,4 @@
--- The serial run and the parallel one answer otherwise.
+-- The serial run and the parallel one differ.
 use Rattle.shapes_command.proofs.{true≢false, sym, ends_at_parallel}
 use Rattle.shapes_command.proofs.search.searched.Goals as goal
 

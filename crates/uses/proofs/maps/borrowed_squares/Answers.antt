@@ -1,4 +1,4 @@
--- Each answer is the square of the item that was borrowed.
+-- Each result is the square of the item that was borrowed.
 use Rattle.std.proofs.Common.{rules, ◌*◌, ℕ}
 use Rattle.parallel_bridge.proofs.OverLists.{map_of_slice}
 use Rattle.uses.proofs.maps.borrowed_squares.Goals as goal

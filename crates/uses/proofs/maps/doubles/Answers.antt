@@ -1,4 +1,4 @@
--- The closure accepts each item of the slice, and answers its double.
+-- The closure accepts each item of the slice, and returns its double.
 use Rattle.std.proofs.Common.{rules, ◌*◌, ◌<◌, ◌^◌, ℕ}
 use Rattle.std.proofs.lemmas.List.Elements.{All-contains}
 use Rattle.parallel_bridge.proofs.OverLists.{map_of_list}

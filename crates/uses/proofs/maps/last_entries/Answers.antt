@@ -1,4 +1,4 @@
--- Each answer is the table's entry at the index, from the back.
+-- Each result is the table's entry at the index, from the back.
 use Rattle.std.proofs.Common.{rules, ◌-◌, ℕ, length}
 use Rattle.std.specs.List.{slice_index}
 use Rattle.parallel_bridge.proofs.OverLists.{map_of_list}

@@ -1,4 +1,4 @@
--- Each answer is the square of its item.
+-- Each result is the square of its item.
 use Rattle.std.proofs.Common.{rules, ◌*◌, ℕ, Result, Ok}
 use Rattle.std.specs.declared.vec.Vec.{Vec}
 use Rattle.std.specs.declared.alloc.Global.{Global}

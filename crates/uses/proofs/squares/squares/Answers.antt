@@ -1,4 +1,4 @@
--- Each answer is the square of its item.
+-- Each result is the square of its item.
 use Rattle.std.proofs.Common.{rules, ◌*◌, ℕ}
 use Rattle.parallel_bridge.proofs.OverLists.{map_of_list}
 use Rattle.uses.proofs.squares.squares.Goals as goal

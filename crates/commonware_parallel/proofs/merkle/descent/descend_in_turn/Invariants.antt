@@ -1,4 +1,4 @@
--- Whatever tops the leaves that are left have, behind those that are done they are those of all, and
+-- Whatever tops the leaves that are left have, after those that are done they are those of all, and
 -- there is a place for each.
 use Rattle.commonware_parallel.proofs.{◌≡◌, ◌-◌, ◌≤◌, length, AreBlocks, LeadsToTops, SamePlaces}
 use Rattle.commonware_parallel.proofs.merkle.descent.descend_in_turn.Given as goal

@@ -1,4 +1,4 @@
--- Whatever next level the items that are left have, behind the nodes it is that of the whole level.
+-- Whatever next level the items that are left have, after the nodes it is that of the whole level.
 use Rattle.commonware_parallel.proofs.{◌≡◌, length, into_iter_items, into_iter_len, Leads}
 use Rattle.commonware_parallel.proofs.merkle.plain.next_level.Given as goal
 

@@ -1,4 +1,4 @@
--- The front half is full where leaves are left behind it, and is all of them where none are.
+-- The front half is full where leaves are left after it, and is all of them where none are.
 use Rattle.commonware_parallel.proofs.{◌/◌, arith, refl, length, ap, length-drop, one_top, two_tops}
 use Rattle.commonware_parallel.proofs.merkle.tops.+first_top.Goals as goal
 

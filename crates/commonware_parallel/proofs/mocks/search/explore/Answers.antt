@@ -1,4 +1,4 @@
--- Each run behind the serial one agrees with it, or is told.
+-- Each run after the serial one agrees with it, or is told.
 use Rattle.commonware_parallel.proofs.{rules, ◌∷◌, [], refl, Bool, Bor, Explorer, Parallel, Seeded, one_agrees, serial_alone, told}
 use Rattle.std.specs.Fn.{Called}
 use Rattle.commonware_parallel.proofs.mocks.search.explore.Given.{Over}

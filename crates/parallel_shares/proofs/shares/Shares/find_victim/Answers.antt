@@ -1,6 +1,5 @@
 -- Each turn passes over the seat's own share, or loads another one and keeps the better.
-use Rattle.parallel_shares.proofs.{rules, ◌≡◌, ◌≢◌, ◌+◌, ◌<◌, ◌∙◌, length, Some, subst, sym, arith, shares_of, share_of, known, OnlyLooks, LooksRound, IsBest, passes_own, best_passes_own, looks_more}
-use Rattle.parallel_shares.proofs.{only_more, better, no_better}
+use Rattle.parallel_shares.proofs.{rules, ◌≡◌, ◌≢◌, ◌+◌, ◌<◌, ◌∙◌, length, sym, arith, shares_of, share_of, known, passes_own, better, no_better}
 use Rattle.parallel_shares.proofs.shares.Shares.find_victim.Goals as goal
 use Rattle.parallel_shares.proofs.shares.Shares.find_victim.Goals.{then-share-own+then-is_better, then-share-own+else-is_better, else-share-own}
 
@@ -11,6 +10,7 @@ loop-share-preserved c =
     let n = c.loop-share.share in
     let first = known c.args.seat.now in
     let seat = known c.loop-share.seat in
+    let best = c.loop-share.best in
     let i = c.loop-share.invariant in
     let exists : n < shares_of plan =
     omega (arith, c.loop-share-test.true, c.shares-share-end.ensures.shares) in
@@ -25,16 +25,10 @@ loop-share-preserved c =
             seat = now.ensures.seat;
             same = (now.ensures.same.0 ∙ i.same.0, now.ensures.same.1 ∙ i.same.1);
             emptied = now.ensures.emptied ∙ i.emptied;
-            only = subst (OnlyLooks first) (sym now.ensures.view)
-                (only_more plan own n first seat now.result apart fits counts i.only);
-            looks = subst (λ v. LooksRound plan own (n + 1) first v) (sym now.ensures.view)
-                (looks_more plan own n first seat now.result apart fits counts now.ensures.within
-                now.ensures.splits i.looks);
-            best =
-                subst (λ v. IsBest plan own (n + 1) v
-                (Some (record { share = n; word = now.result }))) (sym now.ensures.view)
-                (better plan own n first seat now.result apart fits counts c.loop-share.best
-                (rw w.if-is_better.true at w.is_better.ensures) i.best);
+            looks = rw now.ensures.view
+                (better plan own n first seat best i.looks now.result apart fits counts
+                now.ensures.within now.ensures.splits
+                (rw w.if-is_better.true at w.is_better.ensures));
           })
       | then-share-own+else-is_better w ↦
           let apart : n ≢ own = λ is. w.if-share-own.true (is ∙ sym c.share_of-own.ensures) in
@@ -44,14 +38,10 @@ loop-share-preserved c =
             seat = now.ensures.seat;
             same = (now.ensures.same.0 ∙ i.same.0, now.ensures.same.1 ∙ i.same.1);
             emptied = now.ensures.emptied ∙ i.emptied;
-            only = subst (OnlyLooks first) (sym now.ensures.view)
-                (only_more plan own n first seat now.result apart fits counts i.only);
-            looks = subst (λ v. LooksRound plan own (n + 1) first v) (sym now.ensures.view)
-                (looks_more plan own n first seat now.result apart fits counts now.ensures.within
-                now.ensures.splits i.looks);
-            best = subst (λ v. IsBest plan own (n + 1) v c.loop-share.best) (sym now.ensures.view)
-                (no_better plan own n first seat now.result apart fits counts c.loop-share.best
-                (rw w.if-is_better.false at w.is_better.ensures) i.best);
+            looks = rw now.ensures.view
+                (no_better plan own n first seat best i.looks now.result apart fits counts
+                now.ensures.within now.ensures.splits
+                (rw w.if-is_better.false at w.is_better.ensures));
           })
       | else-share-own w ↦
           let is : n ≡ own = omega (arith, w.if-share-own.false, c.share_of-own.ensures) in
@@ -60,9 +50,7 @@ loop-share-preserved c =
             seat = i.seat;
             same = i.same;
             emptied = i.emptied;
-            only = i.only;
-            looks = passes_own plan own n first seat is i.looks;
-            best = best_passes_own plan own n first seat is c.loop-share.best i.best;
+            looks = passes_own plan own n first seat best i.looks is;
           })
     ]
 

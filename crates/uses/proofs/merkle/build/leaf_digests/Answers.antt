@@ -1,4 +1,4 @@
--- Each answer is the digest of its leaf.
+-- Each result is the digest of its leaf.
 use Rattle.std.proofs.Common.{List, ℕ, rules}
 use Rattle.std.specs.Borrow.{Bor}
 use Rattle.parallel_bridge.proofs.OverLists.{map_of_list}

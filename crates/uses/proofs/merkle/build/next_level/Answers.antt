@@ -1,4 +1,4 @@
--- Each answer is the node at its place of the next level.
+-- Each result is the node at its place of the next level.
 use Rattle.std.proofs.Common.{◌≡◌, ◌∙◌, ◌-◌, ℕ, arith, length, rules}
 use Rattle.std.proofs.lemmas.Result.{IfOk-weaker}
 use Rattle.parallel_bridge.proofs.OverLists.{map_of_list}

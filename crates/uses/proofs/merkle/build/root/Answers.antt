@@ -1,4 +1,4 @@
--- The closure's one answer is the digest of the two.
+-- The closure's one result is the digest of the two.
 use Rattle.std.proofs.Common.{◌∙◌, ap, rules}
 use Rattle.std.proofs.lemmas.Result.{IfOk-weaker}
 use Rattle.uses.specs.Merkle.{merkle_root, node_digest}

@@ -1,4 +1,4 @@
--- Whole blocks in front, and the others behind them: their tops, one after the other, are those of
+-- Whole blocks in front, and the others after them: their tops, one after the other, are those of
 -- all.
 use Rattle.commonware_parallel.proofs.{◌≡◌, ◌-◌, ◌*◌, ◌/◌, ◌++◌, ◌∙◌, arith, rules, ap, sym, subst, drop, drop-nil, length, length-drop, length-take-le, take-append-drop, AreBlocks, blocks_after, halved_room, tops_append}
 use denote.Param.{param}

@@ -1,7 +1,7 @@
 -- The shares stay those of the latch, each unspent.
 use Rattle.std.proofs.Common.{◌≡◌, All}
 use Rattle.parallel_pool.specs.CountLatch.{IsShareOf, unspent}
-use Rattle.layer_tests.proofs.pool.waits.give_all.Given as goal
+use Rattle.layer_tests.proofs.pool.count_latches.give_all.Given as goal
 
 abbrev pub invariant-loop : goal.invariant-loop
 invariant-loop l = record {

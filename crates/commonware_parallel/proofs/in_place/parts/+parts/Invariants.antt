@@ -1,6 +1,6 @@
 -- threads are shared out
 use Rattle.commonware_parallel.proofs.{◌+◌, ◌-◌, ◌*◌}
-use Rattle.commonware_parallel.proofs.in_place.+parts.Given as goal
+use Rattle.commonware_parallel.proofs.in_place.parts.+parts.Given as goal
 
 abbrev pub decreases-in_parts : goal.decreases-in_parts
 decreases-in_parts g l = 4 * l.threads

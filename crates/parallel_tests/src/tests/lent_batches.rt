@@ -1,0 +1,158 @@
+//! A batch that changes a list where it lies: what becomes of its parts, in how many threads, and
+//! of a list whose call is refused.
+ghost use Rattle.std.specs.Prelude.{length};
+ghost use Rattle.parallel_shares.specs.Cut.{BalancedCut};
+ghost use Rattle.commonware_parallel.specs.Batches.{ranges_of};
+
+use crate::tests::in_place::{Refusing, mark, runs, zeros};
+use crate::tests::same::{returns, row, same};
+use crate::tests::strategies::{SITE, explorers, number, pool, pools};
+use commonware_parallel::{Batches, Fault, Sequential, Site, Strategy};
+use std::alloc::Global;
+use std::num::NonZeroUsize;
+use std::process::Abort;
+use std::sync::Wait;
+use std::sync::atomic::{AtomicU64, Ordering};
+use std::thread::Threads;
+
+// ---- what becomes of the parts
+
+// Marks each of that many parts of a list by where it begins and by its length.
+fn mark_parts<Rt: Threads + Wait + Abort + Sync, S: Strategy>(
+    rt: &Rt,
+    alloc: Global,
+    strategy: &S,
+    numbers: &mut [u64],
+    count: usize,
+) -> Result<(), Fault> {
+    let count = number(rt, count);
+    let batches = Batches::balanced(alloc, strategy, SITE, numbers.len(), count)?;
+    batches.for_each_mut(rt, alloc, numbers, mark)
+}
+
+// A list of zeros comes to the marks, in that many parts.
+fn marked<Rt: Threads + Wait + Abort + Sync, S: Strategy>(
+    rt: &Rt,
+    alloc: Global,
+    strategy: &S,
+    count: usize,
+    marks: &[u64],
+) {
+    let mut numbers = zeros(rt, alloc, marks.len());
+    let changed = mark_parts(rt, alloc, strategy, numbers.as_mut_slice(), count);
+    returns(rt, count, changed, ());
+    row(rt, count, numbers.as_slice(), marks);
+}
+
+// Lists of no item, one and some, in one part, some, as many as items and more.
+fn marks_are_right<Rt: Threads + Wait + Abort + Sync, S: Strategy>(
+    rt: &Rt,
+    alloc: Global,
+    strategies: &[S],
+) {
+    for strategy in strategies {
+        marked(rt, alloc, strategy, 1, &[]);
+        marked(rt, alloc, strategy, 3, &[]);
+        marked(rt, alloc, strategy, 1, &[1]);
+        marked(rt, alloc, strategy, 5, &[1, 11]);
+        marked(rt, alloc, strategy, 1, &[3, 3, 3]);
+        marked(rt, alloc, strategy, 3, &[3, 3, 3, 32, 32, 52, 52]);
+        marked(rt, alloc, strategy, 7, &[1, 11, 21, 31, 41, 51, 61]);
+    }
+}
+
+#[test]
+fn each_part_of_a_lent_list_is_changed(rt: HostRuntime) {
+    let alloc = rt.alloc();
+    marks_are_right(&rt, alloc, &[Sequential]);
+    marks_are_right(&rt, alloc, pools(&rt, alloc).as_slice());
+    marks_are_right(&rt, alloc, explorers(&rt, alloc).as_slice());
+}
+
+// Adds to each output what it is to be, and counts the parts.
+fn add_outputs<Rt: Threads + Wait + Sync, S: Strategy>(
+    rt: &Rt,
+    alloc: Global,
+    strategy: &S,
+    outputs: &mut [u64],
+    parts: &AtomicU64,
+) -> Result<(), Fault> {
+    let len = outputs.len();
+    // By a name of its own the list is moved into the closure: a reborrow wouldn't live on.
+    let whole = outputs;
+    let run = move |batches: Batches<'_, S, Site>| -> Result<(), Fault>
+        requires { BalancedCut (length whole.now) (ranges_of batches) }
+    {
+        let list = whole;
+        batches.for_each_mut(rt, alloc, list, |start: usize, part: &mut [u64]| {
+            parts.fetch_add(1, Ordering::SeqCst);
+            let mut wanted = (start as u64).wrapping_mul(3);
+            for output in part.iter_mut() {
+                *output = output.wrapping_add(wanted);
+                wanted = wanted.wrapping_add(3);
+            }
+        })
+    };
+    strategy.run_batches(rt, alloc, SITE, len, NonZeroUsize::MIN, 1, run)?
+}
+
+// Seventeen outputs in four parts, each of which is handed out once.
+#[test]
+fn lent_outputs_are_prepared_once(rt: HostRuntime) {
+    let alloc = rt.alloc();
+    let parts = AtomicU64::new(0);
+    let mut outputs = [0u64; 17];
+    let added = add_outputs(&rt, alloc, &pool(&rt, alloc, 4, 4), &mut outputs, &parts);
+    returns(&rt, 1, added, ());
+    let wanted = [
+        0, 3, 6, 9, 12, 15, 18, 21, 24, 27, 30, 33, 36, 39, 42, 45, 48u64,
+    ];
+    same(&rt, outputs.as_slice(), wanted.as_slice());
+    same(&rt, parts.load(Ordering::SeqCst), 4);
+}
+
+// ---- in how many threads
+
+// Of how many runs the numbers of the calls on that many parts are.
+fn runs_of_parts<Rt: Threads + Wait + Abort + Sync, S: Strategy>(
+    rt: &Rt,
+    alloc: Global,
+    strategy: &S,
+    numbers: &mut [u64],
+    count: usize,
+) -> Result<usize, Fault> {
+    let calls = AtomicU64::new(0);
+    let count = number(rt, count);
+    let batches = Batches::balanced(alloc, strategy, SITE, numbers.len(), count)?;
+    batches.for_each_mut(rt, alloc, numbers, |_start: usize, part: &mut [u64]| {
+        part.fill(calls.fetch_add(1, Ordering::SeqCst))
+    })?;
+    Ok(runs(numbers))
+}
+
+// However many parts there are, they are split among no more threads than the pool has.
+#[test]
+fn a_batch_has_no_more_threads_than_the_pool(rt: HostRuntime) {
+    let alloc = rt.alloc();
+    for threads in [1, 2, 3, 4, 8, 70usize] {
+        let strategy = pool(&rt, alloc, threads, threads);
+        let mut numbers = zeros(&rt, alloc, 10_000);
+        let found = runs_of_parts(&rt, alloc, &strategy, numbers.as_mut_slice(), 1000);
+        row(&rt, threads, found.expect(&rt, "memory") <= threads, true);
+    }
+}
+
+// ---- refusals
+
+// A whole batch goes without the strategy.
+#[test]
+fn a_refused_batch_leaves_the_list(rt: HostRuntime) {
+    let alloc = rt.alloc();
+    let mut numbers = [7, 8, 9];
+    let refused = mark_parts(&rt, alloc, &Refusing, &mut numbers, 2);
+    row(&rt, 2, refused, Err(Fault::Memory));
+    same(&rt, numbers.as_slice(), [7, 8, 9].as_slice());
+    let changed = mark_parts(&rt, alloc, &Refusing, &mut numbers, 1);
+    row(&rt, 1, changed, Ok(()));
+    same(&rt, numbers.as_slice(), [3, 3, 3].as_slice());
+}
