@@ -1,5 +1,5 @@
 //! The values and the keys of a partition.
-ghost use Rattle.std.specs.Prelude.{◌≡◌, ◌++◌, [], IfOk, List, Option, Result};
+ghost use Rattle.std.specs.Prelude.{◌≡◌, ◌++◌, ◌∷◌, [], IfOk, List, Option, Result};
 ghost use Rattle.parallel_fault.specs.Trouble.{IsMemoryOnErr};
 ghost use Rattle.parallel_bridge.specs.Onto.{PartitionOnto};
 ghost use Rattle.parallel_bridge.specs.Parts.{PartitionOf, keys_in, values_in};
@@ -27,9 +27,10 @@ pub struct PartitionConsumer<'f, U, K, F> {
 /// The values and the keys of a segment so far, in order.
 #[derive(Drop)]
 pub struct PartitionFolder<'f, U, K, F> {
-    /// The values, and the keys of the items without one. They lie in a box, so that for each item
-    /// no more than its place is moved.
-    pub lists: Box<(Vec<U>, Vec<K>)>,
+    /// The values.
+    pub values: Vec<U>,
+    /// The keys of the items without a value.
+    pub keys: Vec<K>,
     /// The closure that maps an item.
     pub map_op: &'f F,
 }
@@ -66,30 +67,41 @@ impl<'f, X: Drop, U: Drop, K: Drop, F: Fn(X) -> (K, Option<U>)> Folder<
     ghost takes = { λ s x. F.pre s.map_op.now x };
 
     ghost gives = { λ s xs out. OnlyOk
-        (λ r. PartitionOnto (F.post s.map_op.now) s.lists.value.0.items s.lists.value.1.items xs
+        (λ r. PartitionOnto (F.post s.map_op.now) s.values.items s.keys.items xs
         (values_in r.items) (keys_in r.items)) out };
 
     // (as a call of its own it would move the folder through memory for each item)
     #[inline(always)]
     fn consume(self, _alloc: Global, item: X) -> Result<Self, Fault> {
-        let PartitionFolder { lists, map_op } = self;
-        let mut lists = lists;
+        let PartitionFolder {
+            values,
+            keys,
+            map_op,
+        } = self;
         let (key, value) = map_op(item);
         match value {
             Some(value) => {
-                lists.0.push(value)?;
-                Ok(PartitionFolder { lists, map_op })
+                let values = put_item(values, value)?;
+                Ok(PartitionFolder {
+                    values,
+                    keys,
+                    map_op,
+                })
             }
             None => {
-                lists.1.push(key)?;
-                Ok(PartitionFolder { lists, map_op })
+                let keys = put_item(keys, key)?;
+                Ok(PartitionFolder {
+                    values,
+                    keys,
+                    map_op,
+                })
             }
         }
     }
 
     fn complete(self, alloc: Global) -> Result<Vec<(Vec<U>, Vec<K>)>, Trouble<Infallible>> {
         let mut lists = Vec::new(alloc);
-        lists.push(Box::into_inner(self.lists))?;
+        lists.push((self.values, self.keys))?;
         Ok(lists)
     }
 
@@ -139,12 +151,46 @@ impl<'f, X: Drop, U: Send + Drop, K: Send + Drop, F: Fn(X) -> (K, Option<U>) + S
     }
 
     fn into_folder(self, alloc: Global) -> Result<PartitionFolder<'f, U, K, F>, Fault> {
-        let lists = Box::new(alloc, first_lists(alloc, self.spares, self.items))?;
+        let (values, keys) = first_lists(alloc, self.spares, self.items);
         Ok(PartitionFolder {
-            lists,
+            values,
+            keys,
             map_op: self.map_op,
         })
     }
+}
+
+/// The list with one item more. One that has room is lent to nothing that is called, so that a loop
+/// has it in registers.
+///
+/// # Errors
+///
+/// `Fault::Memory` if an allocation fails.
+#[inline(always)]
+fn put_item<T: Drop>(mut list: Vec<T>, item: T) -> Result<Vec<T>, Fault>
+    ensures items { IfOk result (λ all. all.items ≡ list.items ++ item ∷ []) }
+    ensures fault { IsMemoryOnErr result }
+{
+    if list.len() == list.capacity() {
+        return grow_and_put(list, item);
+    }
+    list.push(item)?;
+    Ok(list)
+}
+
+/// The list with one item more, and with room for others.
+///
+/// # Errors
+///
+/// `Fault::Memory` if an allocation fails.
+#[cold]
+#[inline(never)]
+fn grow_and_put<T: Drop>(mut list: Vec<T>, item: T) -> Result<Vec<T>, Fault>
+    ensures items { IfOk result (λ all. all.items ≡ list.items ++ item ∷ []) }
+    ensures fault { IsMemoryOnErr result }
+{
+    list.push(item)?;
+    Ok(list)
 }
 
 /// The first pair of spare lists, emptied, or where there is none a pair of new ones for that many

@@ -114,7 +114,7 @@ impl<
 ///
 /// # Errors
 ///
-/// The error of the first step that fails.
+/// The error that is there; and where there is none, the one that `fold_op` returns.
 pub(crate) fn try_fold_step<X: Drop, R: Drop, E: Drop, F: Fn(R, X) -> Result<R, E>>(
     control: Result<R, E>,
     item: X,
