@@ -7,7 +7,6 @@ ghost use Rattle.parallel_shares.specs.Cut.{BalancedCut, CutsFrom, range_length}
 ghost use Rattle.commonware_parallel.specs.Batches.{ranges_of};
 ghost use Rattle.uses.specs.Batches.{CoversOnce, digests_of};
 
-use crate::merkle::Digest;
 use crate::runs::count_in_one;
 use commonware_parallel::{Batches, Fault, Place, Strategy};
 use sha2::{Digest as _, Sha256};
@@ -90,7 +89,7 @@ pub fn digests_by_ranges<Rt: Threads + Wait + Sync, P: Place, S: Strategy>(
     strategy: &S,
     site: P,
     messages: &[&[u8]],
-    digests: &mut [Digest],
+    digests: &mut [[u8; 32]],
 ) -> Result<(), Fault>
     requires { length digests.old ≡ length messages.now }
     ensures digests { OnOk result (digests.new ≡ digests_of messages.now) }
@@ -99,7 +98,7 @@ pub fn digests_by_ranges<Rt: Threads + Wait + Sync, P: Place, S: Strategy>(
 {
     let count = strategy.planning();
     let batches = Batches::balanced(alloc, strategy, site, digests.len(), count)?;
-    let digest_part = |from: usize, part: &mut [Digest]|
+    let digest_part = |from: usize, part: &mut [[u8; 32]]|
         requires { from + length part.now ≤ length messages.now }
         ensures { part.exit.now ≡ digests_of
             (slice_range messages.entry.now from (from + length part.entry.now)) }
@@ -108,7 +107,7 @@ pub fn digests_by_ranges<Rt: Threads + Wait + Sync, P: Place, S: Strategy>(
 }
 
 // The digests of the messages, written into a list of as many.
-fn digest_each(messages: &[&[u8]], digests: &mut [Digest])
+fn digest_each(messages: &[&[u8]], digests: &mut [[u8; 32]])
     requires { length digests.old ≡ length messages.now }
     ensures { digests.new ≡ digests_of messages.now }
 {
