@@ -1,7 +1,7 @@
 -- A list whose parts are filled, range by range, with the results of a function.
-use Rattle.std.proofs.Common.{◌≡◌, ℕ, ◌+◌, ◌-◌, ◌≤◌, ◌∙◌, min, List, [], ◌∷◌, ◌++◌, All, MutBor, length, map, drop, slice_range, refl, sym, ap, subst, arith}
+use Rattle.std.proofs.Common.{◌≡◌, ℕ, ◌+◌, ◌-◌, ◌<◌, ◌≤◌, ◌∙◌, min, List, [], ◌∷◌, ◌++◌, All, MutBor, length, map, drop, get_or, slice_range, refl, sym, ap, subst, arith}
 use Rattle.std.proofs.lemmas.List.{drop_all, length-take, length-drop, map-append}
-use Rattle.std.proofs.lemmas.List.Elements.{All-head, All-tail}
+use Rattle.std.proofs.lemmas.List.Elements.{All-nil, All-cons, All-head, All-tail}
 use Rattle.std.proofs.lemmas.List.Folds.{drop_split}
 use Rattle.std.specs.Fork.{ChangesAt}
 use Rattle.std.specs.declared.ops.Range.{Range}
@@ -9,6 +9,32 @@ use denote.Param.Members.{Shared}
 use Rattle.parallel_shares.specs.Cut.{CutsFrom}
 use Rattle.parallel_shares.proofs.Cuts.{CutsFrom-ordered}
 use Rattle.commonware_parallel.specs.InPlace.{ChangesParts}
+
+-- each range of a cut lies in what is cut
+in_cut : (from to : ℕ) (rs : List (Range ℕ)) → CutsFrom from rs to
+    → All (λ r. (r.start ≤ r.end) × (r.end ≤ to)) rs
+in_cut from to [] cuts = All-nil (λ r. (r.start ≤ r.end) × (r.end ≤ to))
+in_cut from to (r ∷ rs) cuts =
+    All-cons (λ s. (s.start ≤ s.end) × (s.end ≤ to)) r rs
+    (cuts.1, CutsFrom-ordered r.end to rs cuts.2) (in_cut r.end to rs cuts.2)
+
+-- so a range's part of a list lies in the list
+pub part_within : {Y : Type 0} (rs : List (Range ℕ)) (xs : List Y) → CutsFrom 0 rs (length xs)
+    → (n : ℕ) (d : Range ℕ) → n < length rs → (part : List Y)
+    → part ≡ slice_range xs (get_or rs n d).start (get_or rs n d).end
+    → (get_or rs n d).start + length part ≤ length xs
+part_within rs xs cuts n d inside part is =
+    let r = get_or rs n d in
+    let lies = in_cut 0 (length xs) rs cuts n d inside in
+    let long = ap (λ ys. length ys) is in
+    omega (
+      arith,
+      lies.0,
+      lies.1,
+      long,
+      length-take (r.end - r.start) (drop r.start xs),
+      length-drop r.start xs,
+    )
 
 module _ {F X Y : Type 0}
     (g : Shared F (ℕ × (MutBor (List Y) × Unit {0})) (Unit {0} × (MutBor (List Y) × Unit {0})))
