@@ -1,5 +1,5 @@
 -- A list whose parts are filled, range by range, with the results of a function.
-use Rattle.std.proofs.Common.{◌≡◌, ℕ, ◌+◌, ◌-◌, ◌<◌, ◌≤◌, ◌∙◌, min, List, [], ◌∷◌, ◌++◌, All, MutBor, length, map, drop, get_or, slice_range, refl, sym, ap, subst, arith}
+use Rattle.std.proofs.Common.{◌≡◌, ℕ, ◌+◌, ◌-◌, ◌<◌, ◌≤◌, ◌∙◌, List, [], ◌∷◌, ◌++◌, All, MutBor, length, map, drop, get_or, slice_range, sym, ap, subst, arith}
 use Rattle.std.proofs.lemmas.List.{drop_all, length-take, length-drop, map-append}
 use Rattle.std.proofs.lemmas.List.Elements.{All-nil, All-cons, All-head, All-tail}
 use Rattle.std.proofs.lemmas.List.Folds.{drop_split}

@@ -1,5 +1,5 @@
 -- Two lists of one length that are equal at each index are equal.
-use Rattle.std.proofs.Common.{arith, ℕ, List, [], Bor, length}
+use Rattle.std.proofs.Common.{arith, ℕ, List, [], Bor}
 use Rattle.std.proofs.lemmas.List.{ext_get_or, length-map}
 use Rattle.sha2.specs.Sha256.{sha256}
 use Rattle.uses.specs.Batches.{digests_of}
