@@ -3,6 +3,7 @@ pub mod Commitments
 pub mod TreeConstruction
 pub mod ClimbSteps
 pub mod Counts
+pub mod FilledParts
 pub mod Layers
 pub mod Levels
 pub mod LongestWords

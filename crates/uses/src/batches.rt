@@ -1,17 +1,20 @@
-//! Batches: a closure that is handed balanced ranges, and looks into a list by them.
-ghost use Rattle.std.specs.Prelude.{◌≡◌, ◌≤◌, All, count_by, length, max, IfOk};
+//! Batches: a closure that is handed balanced ranges, and looks into a list by them, and one that is
+//! handed the ranges' parts of a list that the caller lends.
+ghost use Rattle.std.specs.Prelude.{◌≡◌, ◌≤◌, ◌+◌, All, count_by, length, max, slice_range, IfErr, IfOk, OnOk};
 ghost use Rattle.std.specs.Int.NonZero.{non_zero_usize_get};
 ghost use Rattle.parallel_fault.specs.Trouble.{IsMemoryOnErr};
 ghost use Rattle.parallel_shares.specs.Cut.{BalancedCut, CutsFrom, range_length};
 ghost use Rattle.commonware_parallel.specs.Batches.{ranges_of};
-ghost use Rattle.uses.specs.Batches.{CoversOnce};
+ghost use Rattle.uses.specs.Batches.{CoversOnce, digests_of};
 
 use crate::runs::count_in_one;
 use commonware_parallel::{Batches, Fault, Place, Strategy};
+use sha2::{Digest as _, Sha256};
 use std::alloc::Global;
 use std::num::NonZeroUsize;
 use std::ops::Range;
 use std::sync::Wait;
+use std::thread::Threads;
 
 /// The ranges that the strategy runs a batch of `len` indices over, where no range of several is
 /// to be shorter than `minimum`.
@@ -72,4 +75,43 @@ fn count_ranges(flags: &[bool], ranges: &[Range<usize>]) -> usize
         count += count_in_one(&flags[range.start..range.end]);
     }
     count
+}
+
+/// The SHA-256 digests of the messages (`digests_of`), written into a list that the caller lends, by
+/// as many ranges as the strategy is planned for.
+///
+/// # Errors
+///
+/// `Fault::Memory` alone; the list is then as it was.
+pub fn digests_by_ranges<Rt: Threads + Wait + Sync, P: Place, S: Strategy>(
+    rt: &Rt,
+    alloc: Global,
+    strategy: &S,
+    site: P,
+    messages: &[&[u8]],
+    digests: &mut [[u8; 32]],
+) -> Result<(), Fault>
+    requires { length digests.old ≡ length messages.now }
+    ensures digests { OnOk result (digests.new ≡ digests_of messages.now) }
+    ensures unchanged { IfErr result (λ _. digests.new ≡ digests.old) }
+    ensures fault { IsMemoryOnErr result }
+{
+    let count = strategy.planning();
+    let batches = Batches::balanced(alloc, strategy, site, digests.len(), count)?;
+    let digest_part = |from: usize, part: &mut [[u8; 32]]|
+        requires { from + length part.now ≤ length messages.now }
+        ensures { part.exit.now ≡ digests_of
+            (slice_range messages.entry.now from (from + length part.entry.now)) }
+    { digest_each(&messages[from..from + part.len()], part) };
+    batches.for_each_mut(rt, alloc, digests, digest_part)
+}
+
+// The digests of the messages, written into a list of as many.
+fn digest_each(messages: &[&[u8]], digests: &mut [[u8; 32]])
+    requires { length digests.old ≡ length messages.now }
+    ensures { digests.new ≡ digests_of messages.now }
+{
+    for k in 0..digests.len() {
+        digests[k] = Sha256::digest(messages[k]);
+    }
 }
