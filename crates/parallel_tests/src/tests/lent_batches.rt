@@ -14,6 +14,7 @@ use std::process::Abort;
 use std::sync::Wait;
 use std::sync::atomic::{AtomicU64, Ordering};
 use std::thread::Threads;
+use uses::batches::digests_by_ranges;
 
 // ---- what becomes of the parts
 
@@ -155,4 +156,48 @@ fn a_refused_batch_leaves_the_list(rt: HostRuntime) {
     let changed = mark_parts(&rt, alloc, &Refusing, &mut numbers, 1);
     row(&rt, 1, changed, Ok(()));
     same(&rt, numbers.as_slice(), [3, 3, 3].as_slice());
+}
+
+// ---- a caller
+
+// The digests of the empty message, of "a" and of "abc", by another program.
+const DIGESTS: [[u8; 32]; 3] = [
+    [
+        227, 176, 196, 66, 152, 252, 28, 20, 154, 251, 244, 200, 153, 111, 185, 36, 39, 174, 65,
+        228, 100, 155, 147, 76, 164, 149, 153, 27, 120, 82, 184, 85,
+    ],
+    [
+        202, 151, 129, 18, 202, 27, 189, 202, 250, 194, 49, 179, 154, 35, 220, 77, 167, 134, 239,
+        248, 20, 124, 78, 114, 185, 128, 119, 133, 175, 238, 72, 187,
+    ],
+    [
+        186, 120, 22, 191, 143, 1, 207, 234, 65, 65, 64, 222, 93, 174, 34, 35, 176, 3, 97, 163,
+        150, 23, 122, 156, 180, 16, 255, 97, 242, 0, 21, 173,
+    ],
+];
+
+// The digests are written in the lists' order, and into no item of a list whose call is refused.
+fn digests_are<Rt: Threads + Wait + Abort + Sync, S: Strategy>(
+    rt: &Rt,
+    alloc: Global,
+    strategy: &S,
+    wanted: (Result<(), Fault>, &[[u8; 32]; 3]),
+) {
+    let mut digests = [[9u8; 32]; 3];
+    let messages: [&[u8]; 3] = [b"", b"a", b"abc"];
+    let written = digests_by_ranges(rt, alloc, strategy, SITE, &messages, &mut digests);
+    row(rt, 3, written, wanted.0);
+    for k in 0..3usize {
+        row(rt, k, digests[k].as_slice(), wanted.1[k].as_slice());
+    }
+}
+
+#[test]
+fn digests_are_written_by_ranges(rt: HostRuntime) {
+    let alloc = rt.alloc();
+    digests_are(&rt, alloc, &Sequential, (Ok(()), &DIGESTS));
+    digests_are(&rt, alloc, &pool(&rt, alloc, 2, 2), (Ok(()), &DIGESTS));
+    digests_are(&rt, alloc, &pool(&rt, alloc, 4, 4), (Ok(()), &DIGESTS));
+    let refused = (Err(Fault::Memory), &[[9u8; 32]; 3]);
+    digests_are(&rt, alloc, &Refusing, refused);
 }
