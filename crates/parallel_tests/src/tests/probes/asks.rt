@@ -8,7 +8,7 @@ use crate::tests::probes::given::{Given, SOURCES, is_made, make_over};
 use crate::tests::probes::logs::{Event, Line, Log, Who};
 use crate::tests::probes::noting::Noting;
 use crate::tests::probes::sides::{
-    BATCHES, Batched, SIDES, Side, call_of_side, leaves, make_side, map_batch, root,
+    BATCHES, Batched, SIDES, Side, call_of_side, leaves, make_side, root, run_batch,
 };
 use crate::tests::probes::visits::Visitor;
 use crate::tests::roots::Rooted;
@@ -186,7 +186,7 @@ fn a_batch_whose_map_fails_tells_no_more_than_its_closure_returns(rt: HostRuntim
         let noting = Noting::new(&rt, alloc, 4);
         let on = on(&rt, alloc, &noting);
         let failing = Visitor::Fails(noting.log());
-        let mapped = map_batch(&on, batched, 16, number(&rt, 4), failing);
+        let mapped = run_batch(&on, batched, 16, number(&rt, 4), failing);
         row(&rt, batched, mapped, Err(Trouble::Closure(7)));
         let lines = [
             asked(call_of_side(Side::Batch(batched))),
@@ -207,7 +207,7 @@ fn a_whole_batch_asks_once_and_its_map_asks_nobody(rt: HostRuntime) {
     for batched in BATCHES {
         let noting = Noting::new(&rt, alloc, 4);
         let on = on(&rt, alloc, &noting);
-        let mapped = map_batch(
+        let mapped = run_batch(
             &on,
             batched,
             16,

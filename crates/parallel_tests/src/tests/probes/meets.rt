@@ -8,7 +8,7 @@ use crate::tests::probes::meetings::Meeting;
 use crate::tests::probes::noting::Noting;
 use crate::tests::probes::records::{Squares, fresh};
 use crate::tests::probes::sides::{
-    BATCHES, FILLINGS, Filling, change, fill, join, leaves, map_batch, root, sort,
+    BATCHES, FILLINGS, Filling, change, fill, join, leaves, root, run_batch, sort,
 };
 use crate::tests::probes::visits::Visitor;
 use crate::tests::roots::{ROOTED, Rooted};
@@ -191,7 +191,7 @@ fn ranges_meet<Rt: Threads + Wait + Abort + Sync, S: Strategy>(
     for len in lengths(threads) {
         for batched in BATCHES {
             let meeting = Meeting::of(threads, TURNS);
-            let mapped = map_batch(
+            let mapped = run_batch(
                 &on,
                 batched,
                 len,
