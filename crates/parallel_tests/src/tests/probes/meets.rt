@@ -25,8 +25,8 @@ use std::thread::Threads;
 // For how many turns a meeting goes on, so that one too many may come.
 const TURNS: u32 = 1000;
 
-// A pool of that many threads, without a policy.
-fn unasked<Rt: Threads + Abort>(rt: &Rt, alloc: Global, threads: usize) -> Rayon<Squares> {
+/// A pool of that many threads, without a policy.
+pub fn unasked<Rt: Threads + Abort>(rt: &Rt, alloc: Global, threads: usize) -> Rayon<Squares> {
     let asked = fresh(rt, alloc, threads);
     asked.pool.without_policy().expect(rt, "memory for a pool")
 }
