@@ -334,4 +334,8 @@ fn as_many_closures_of_each_call_meet_as_there_are_threads(rt: HostRuntime) {
         let explorer = Explorer::parallel(&pool).expect(&rt, "memory for a handle");
         all_meet(&rt, alloc, &explorer);
     }
+    // Changes in place, which have threads of their own, on more of them.
+    for threads in 5..9usize {
+        changes_meet(&rt, alloc, &unasked(&rt, alloc, threads));
+    }
 }
