@@ -57,7 +57,8 @@ pub fn join<Rt: Threads + Wait + Sync, S: Strategy>(
     on: &On<'_, Rt, S, Site>,
     visited: Visitor<'_>,
 ) -> Result<(), Trouble<u32>> {
-    done(on.join(|| visited.visit().is_ok(), || visited.visit().is_ok()))
+    let side = || visited.visit().is_ok();
+    done(on.join(side, side))
 }
 
 /// What is done with a batch: a map of what is prepared of it, which may fail or can't, in one that
@@ -96,14 +97,13 @@ fn map_ranges<Rt: Threads + Wait + Sync, S: Strategy>(
     visited: Visitor<'_>,
 ) -> Result<usize, Trouble<u32>> {
     let prepare = |ranges: &[Range<usize>]| lengths_of(alloc, ranges);
+    let map_op = |_: usize| visited.visit();
     if batched == Batched::Map {
-        let map_op = |_: usize| visited.visit().is_ok();
         return match batches.map_collect_vec(rt, alloc, prepare, map_op) {
             Ok(results) => Ok(results.len()),
             Err(fault) => Err(Trouble::Fault(fault)),
         };
     }
-    let map_op = |_: usize| visited.visit();
     let results = batches.try_map_collect_vec(rt, alloc, prepare, map_op)?;
     Ok(results.len())
 }
