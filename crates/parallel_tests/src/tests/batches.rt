@@ -208,15 +208,12 @@ fn mapped_unprepared<Rt: Threads + Wait + Abort + Sync, S: Strategy>(
     strategy: &S,
 ) -> u64 {
     let calls = AtomicU64::new(0);
+    let map_op = |_: u32| -> Result<u64, u32> { Ok(calls.fetch_add(1, Ordering::SeqCst)) };
     let batch = Batches::balanced(alloc, strategy, SITE, 10, number(rt, 4)).expect(rt, "memory");
-    let refused = batch.map_collect_vec(rt, alloc, unprepared, |_: u32| {
-        calls.fetch_add(1, Ordering::SeqCst)
-    });
+    let refused = batch.map_collect_vec(rt, alloc, unprepared, map_op);
     row(rt, 1, refused.err(), Some(Fault::Worker));
     let batch = Batches::whole(alloc, strategy, SITE, 10).expect(rt, "memory");
-    let refused = batch.try_map_collect_vec(rt, alloc, unprepared, |_: u32| -> Result<u64, u32> {
-        Ok(calls.fetch_add(1, Ordering::SeqCst))
-    });
+    let refused = batch.try_map_collect_vec(rt, alloc, unprepared, map_op);
     row(rt, 2, refused.err(), Some(Trouble::Fault(Fault::Worker)));
     calls.load(Ordering::SeqCst)
 }

@@ -58,6 +58,10 @@ fn checked(number: u32) -> Result<u32, u8> {
     Ok(number)
 }
 
+fn checked_one() -> Result<u32, u8> {
+    Ok(1)
+}
+
 fn add_checked(sum: u32, number: u32) -> Result<u32, u8> {
     Ok(add(sum, number))
 }
@@ -105,7 +109,7 @@ fn bodies<Rt: Wait + Abort, S: Strategy>(
     strategy: &S,
 ) -> Result<(), Trouble<u8>> {
     one_of(rt, alloc, strategy, at(12), 16, 1u8, 2)?;
-    strategy.try_run(rt, alloc, at(13), 16, || checked(1), || checked(2))?;
+    strategy.try_run(rt, alloc, at(13), 16, checked_one, checked_one)?;
     let least = NonZeroUsize::MIN;
     batch_ranges(rt, alloc, strategy, at(14), 16, least)?;
     let grids = [Grid {

@@ -1,8 +1,8 @@
 //! Calls whose closures fail at many items, many times over: the first failing item's error is
 //! returned each time, and each item and each result is let go once.
-use crate::tests::same::{count_of, returns, row};
+use crate::tests::same::{returns, row};
 use crate::tests::steps::{add_counts, no_count};
-use crate::tests::strategies::{SITE, explorers, fresh, pool};
+use crate::tests::strategies::{SITE, fresh, pool};
 use commonware_parallel::mocks::explore;
 use commonware_parallel::{Fault, Strategy, Trouble};
 use std::alloc::Global;
@@ -11,16 +11,20 @@ use std::sync::Wait;
 use std::sync::atomic::{AtomicU64, Ordering};
 use std::thread::Threads;
 
-// Maps the numbers below 100, of which one fails and those from a further one on.
-fn fails_at<Rt: Threads + Wait + Sync, S: Strategy>(
+/// Maps the numbers below 100, of which one fails, a further one, and those from a third one on.
+pub fn fails_at<Rt: Threads + Wait + Sync, S: Strategy>(
     rt: &Rt,
     alloc: Global,
     strategy: &S,
-    one: u32,
-    from: u32,
+    (one, other, from): (u32, u32, u32),
 ) -> Result<Vec<u32>, Trouble<u32>> {
-    let check = |n: u32| if n == one || n >= from { Err(n) } else { Ok(n) };
-    strategy.try_map_collect_vec(rt, alloc, SITE, 0..100u32, check)
+    strategy.try_map_collect_vec(rt, alloc, SITE, 0..100u32, |number: u32| {
+        if number == one || number == other || number >= from {
+            Err(number)
+        } else {
+            Ok(number)
+        }
+    })
 }
 
 // Which of the numbers fail: one, and those from a further one on; and the first of them.
@@ -42,7 +46,7 @@ fn other_errors<Rt: Threads + Wait + Sync, S: Strategy>(
 ) -> u32 {
     let mut others = 0u32;
     for _ in 0..runs {
-        let outcome = fails_at(rt, alloc, strategy, one, from);
+        let outcome = fails_at(rt, alloc, strategy, (one, one, from));
         if !matches!(outcome, Err(Trouble::Closure(error)) if error == first) {
             others = others.saturating_add(1);
         }
@@ -105,34 +109,6 @@ fn a_search_returns_the_first_of_two_errors_in_each_of_a_thousand_runs(rt: HostR
 fn a_search_returns_the_first_error_in_each_of_a_thousand_runs(rt: HostRuntime) {
     a_search_returns_the_first(&rt, rt.alloc(), EACH);
     a_search_returns_the_first(&rt, rt.alloc(), MANY);
-}
-
-// Maps that many numbers to 0 or 1, by a word that all calls share: how many results come,
-// and how many of them are neither.
-fn unsteady_results<Rt: Threads + Wait + Sync, S: Strategy>(
-    rt: &Rt,
-    alloc: Global,
-    strategy: &S,
-    count: usize,
-) -> Result<(usize, usize), Fault> {
-    let calls = AtomicU64::new(0);
-    let results = strategy.map_collect_vec(rt, alloc, SITE, 0..count, |_: usize| {
-        calls.fetch_add(1, Ordering::SeqCst) % 2
-    })?;
-    let known = count_of(&results, 0).wrapping_add(count_of(&results, 1));
-    Ok((results.len(), results.len().wrapping_sub(known)))
-}
-
-#[test]
-fn an_unsteady_closure_maps_each_item_by_each_rule(rt: HostRuntime) {
-    let alloc = rt.alloc();
-    let explorers = explorers(&rt, alloc);
-    for explorer in &explorers {
-        for count in [0usize, 1, 2, 1000] {
-            let told = unsteady_results(&rt, alloc, explorer, count);
-            returns(&rt, (explorer.rule(), count), told, (count, 0));
-        }
-    }
 }
 
 /// Counts those that were made and those that were let go, and says at which place one fails.

@@ -48,6 +48,10 @@ fn a_strategy_hands_its_picks_out(rt: HostRuntime) {
     }
 }
 
+fn half(number: u32) -> u32 {
+    number / 2
+}
+
 #[test]
 fn lists_are_driven_without_a_strategy(rt: HostRuntime) {
     let alloc = rt.alloc();
@@ -56,7 +60,6 @@ fn lists_are_driven_without_a_strategy(rt: HostRuntime) {
     same(&rt, depth_of(two), 2);
     same(&rt, depth_of(NonZeroUsize::MAX), 64);
 
-    let half = |number: u32| number / 2;
     let halves = map_iter(
         alloc,
         vec![in alloc; 10, 20, 30].expect(&rt, "memory").into_iter(),

@@ -1,7 +1,7 @@
 //! Maps through each strategy.
 use crate::tests::same::{count_of, lists, row, same};
 use crate::tests::steps::square;
-use crate::tests::strategies::{SITE, number, pools};
+use crate::tests::strategies::{SITE, explorers, number, pools};
 use commonware_parallel::{Fault, Pairs, Sequential, Strategy};
 use std::alloc::Global;
 use std::process::Abort;
@@ -210,16 +210,18 @@ fn map_unsteadily<Rt: Threads + Wait + Abort + Sync, S: Strategy>(
     Ok(results)
 }
 
-// Each of 1000 items has a result of its own call, through each of the strategies.
+// Each item of each of these lists has a result of its own call, through each of the strategies.
 fn each_is_mapped<Rt: Threads + Wait + Abort + Sync, S: Strategy>(
     rt: &Rt,
     alloc: Global,
     strategies: &[S],
 ) {
     for (of, strategy) in strategies.iter().enumerate() {
-        let results = map_unsteadily(rt, alloc, strategy, 1000).expect(rt, "memory");
-        let (zeros, ones) = (count_of(&results, 0), count_of(&results, 1));
-        row(rt, of, (zeros, ones), (500, 500));
+        for count in [0usize, 1, 2, 1000] {
+            let results = map_unsteadily(rt, alloc, strategy, count).expect(rt, "memory");
+            let found = (count_of(&results, 0), count_of(&results, 1));
+            row(rt, (of, count), found, (count.div_ceil(2), count / 2));
+        }
     }
 }
 
@@ -230,4 +232,5 @@ fn an_unsteady_closure_maps_each_item_once(rt: HostRuntime) {
     lists(&rt, "serial", serial, &[0, 1, 0, 1, 0]);
     each_is_mapped(&rt, alloc, &[Sequential]);
     each_is_mapped(&rt, alloc, &pools(&rt, alloc));
+    each_is_mapped(&rt, alloc, &explorers(&rt, alloc));
 }

@@ -1,7 +1,7 @@
 //! Kernels by row: the value of each row, however the rows were cut.
 use crate::tests::same::lists;
+use crate::tests::steps::add_sums;
 use crate::tests::strategies::{SITE, explorers, number, pool, pools};
-use crate::tests::threads::Meeting;
 use commonware_parallel::{Fault, Sequential, Strategy};
 use std::alloc::Global;
 use std::ops::Range;
@@ -111,9 +111,8 @@ fn parts_of_a_row<Rt: Threads + Wait + Abort + Sync, S: Strategy>(
     let called = AtomicU64::new(0);
     let cost = number(rt, tile_cost);
     let kernel = |_row: usize, _columns: Range<usize>| called.fetch_add(1, Ordering::SeqCst);
-    let merge = |left: u64, right: u64| left.max(right);
     assert!(rt; 1usize.checked_mul(len).is_some());
-    let _values = strategy.fold_rows(rt, alloc, SITE, 1, len, cost, kernel, merge)?;
+    let _values = strategy.fold_rows(rt, alloc, SITE, 1, len, cost, kernel, add_sums)?;
     let mut calls = Vec::new(alloc);
     calls.push(called.load(Ordering::SeqCst))?;
     Ok(calls)
@@ -133,18 +132,4 @@ fn a_row_of_two_tiles_is_cut_and_a_shorter_one_is_not(rt: HostRuntime) {
         &[1],
     );
     lists(&rt, 3, parts_of_a_row(&rt, alloc, &four, 0, 1), &[1]);
-}
-
-fn either(left: bool, right: bool) -> bool {
-    left || right
-}
-
-#[test]
-fn two_rows_see_each_other(rt: HostRuntime) {
-    let alloc = rt.alloc();
-    let two = pool(&rt, alloc, 2, 2);
-    let flags = Meeting::new();
-    let kernel = |row: usize, _columns: Range<usize>| flags.meet(row == 0);
-    let met = two.fold_rows(&rt, alloc, SITE, 2, 64, number(&rt, 99), kernel, either);
-    lists(&rt, 1, met, &[true, true]);
 }

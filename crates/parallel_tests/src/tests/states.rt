@@ -142,8 +142,8 @@ fn repeats_are_left_out_of_each_segment(rt: HostRuntime) {
     lists(&rt, 2, left, &[Some(7), None, Some(7), Some(8)]);
 }
 
-// Whether each part of a join saw the other one.
-fn parts_see<Rt: Threads + Wait + Sync, S: Strategy>(
+/// Whether each part of a join saw the other one.
+pub fn parts_see<Rt: Threads + Wait + Sync, S: Strategy>(
     rt: &Rt,
     alloc: Global,
     strategy: &S,
@@ -174,13 +174,8 @@ fn order_of_join<Rt: Threads + Wait + Sync, S: Strategy>(
     strategy: &S,
 ) -> Result<(u32, u32), Fault> {
     let calls = AtomicU32::new(0);
-    strategy.join(
-        rt,
-        alloc,
-        SITE,
-        || calls.fetch_add(1, Ordering::SeqCst),
-        || calls.fetch_add(1, Ordering::SeqCst),
-    )
+    let next = || calls.fetch_add(1, Ordering::SeqCst);
+    strategy.join(rt, alloc, SITE, next, next)
 }
 
 #[test]
@@ -207,11 +202,4 @@ pub fn are_sorted<Rt: Threads + Wait + Sync, S: Strategy>(
         is_sorted &= *number as usize == place;
     }
     Ok(is_sorted)
-}
-
-#[test]
-fn many_numbers_are_sorted_on_four_threads(rt: HostRuntime) {
-    let alloc = rt.alloc();
-    let strategy = pool(&rt, alloc, 4, 4);
-    returns(&rt, 1, are_sorted(&rt, alloc, &strategy), true);
 }

@@ -1,6 +1,7 @@
 //! Calls whose closures may fail. The first failing item's error is the result, whichever part of
 //! the list ended first.
-use crate::tests::same::{returns, row, same};
+use crate::tests::errors::fails_at;
+use crate::tests::same::{row, same};
 use crate::tests::steps::{add, error_of_five, hundred, seven_or_error, zero};
 use crate::tests::strategies::{SITE, explorers, pool, pools};
 use commonware_parallel::{Copies, Sequential, Strategy, Trouble};
@@ -10,22 +11,6 @@ use std::sync::Wait;
 use std::sync::atomic::{AtomicU32, Ordering};
 use std::thread::Threads;
 use uses::verifier::{sum_within, verify_all, verify_digests};
-
-// The numbers below 100, of which 57 and 99 fail, and `more` too.
-fn map_or_fail<Rt: Threads + Wait + Sync, S: Strategy>(
-    rt: &Rt,
-    alloc: Global,
-    strategy: &S,
-    more: u32,
-) -> Result<Vec<u32>, Trouble<u32>> {
-    strategy.try_map_collect_vec(rt, alloc, SITE, 0..100u32, |n: u32| {
-        if n == 57 || n == 99 || n == more {
-            Err(n)
-        } else {
-            Ok(n)
-        }
-    })
-}
 
 // Each call returns its own number, and the calls from the one of this number on fail by it.
 fn map_unsteadily<Rt: Threads + Wait + Sync, S: Strategy>(
@@ -59,7 +44,7 @@ fn first_error_wins<Rt: Threads + Wait + Abort + Sync, S: Strategy>(
 ) {
     for (of, strategy) in strategies.iter().enumerate() {
         for (more, first) in [(99, 57), (25, 25), (0, 0)] {
-            let outcome = map_or_fail(rt, alloc, strategy, more);
+            let outcome = fails_at(rt, alloc, strategy, (57, more, 99));
             row(rt, (of, more), outcome.err(), Some(Trouble::Closure(first)));
         }
         let few = Copies {

@@ -8,14 +8,14 @@ use crate::tests::same::{returns, row};
 use crate::tests::steps::{Gives, descending};
 use crate::tests::strategies::SITE;
 use commonware_parallel::policy::{Key, RunExecution, SpawnExecution, SpawnSample};
-use commonware_parallel::{Fault, Indices, Policy, Rayon, Strategy, Trouble};
+use commonware_parallel::{Fault, Indices, Policy, Rayon, Source, Strategy, Trouble};
 use std::alloc::Global;
 use std::process::Abort;
 use std::sync::Wait;
 use std::sync::atomic::{AtomicU64, Ordering};
 use std::thread::Threads;
 
-// How many items each call has: as `u32`s they take 2 MiB.
+// How many items each call has: their results take 2 MiB at least.
 const LEN: usize = 524_288;
 
 const INDICES: Indices = Indices { start: 0, end: LEN };
@@ -55,21 +55,25 @@ enum Made {
     Sort,
 }
 
-// A map and a fallible map of indices.
-fn map_indices<Rt: Threads + Wait + Sync, S: Strategy>(
+// A map of a source's items.
+fn map_counted<Rt: Threads + Wait + Sync, S: Strategy, M, I: Source<M>>(
     rt: &Rt,
     alloc: Global,
     strategy: &S,
+    source: I,
     calls: &AtomicU64,
-) -> Result<(), Fault> {
-    let map = |index: usize| {
+) -> Result<(), Fault>
+    requires { I.can source }
+{
+    let map = |item: I::Item| {
         calls.fetch_add(1, Ordering::SeqCst);
-        index as u32
+        item
     };
-    strategy.map_collect_vec(rt, alloc, SITE, INDICES, map)?;
+    strategy.map_collect_vec(rt, alloc, SITE, source, map)?;
     Ok(())
 }
 
+// A fallible map of indices.
 fn try_map_indices<Rt: Threads + Wait + Sync, S: Strategy>(
     rt: &Rt,
     alloc: Global,
@@ -84,21 +88,6 @@ fn try_map_indices<Rt: Threads + Wait + Sync, S: Strategy>(
     Ok(())
 }
 
-// A map of numbers as they come.
-fn map_numbers<Rt: Threads + Wait + Sync, S: Strategy>(
-    rt: &Rt,
-    alloc: Global,
-    strategy: &S,
-    calls: &AtomicU64,
-) -> Result<(), Fault> {
-    let map = |number: u32| {
-        calls.fetch_add(1, Ordering::SeqCst);
-        number
-    };
-    strategy.map_collect_vec(rt, alloc, SITE, 0..LEN as u32, map)?;
-    Ok(())
-}
-
 // Makes such a call: its outcome without its result.
 fn outcome_of<Rt: Threads + Wait + Sync, S: Strategy>(
     rt: &Rt,
@@ -109,8 +98,8 @@ fn outcome_of<Rt: Threads + Wait + Sync, S: Strategy>(
     calls: &AtomicU64,
 ) -> Result<(), Trouble<u32>> {
     match call {
-        Made::Gathered => map_numbers(rt, alloc, strategy, calls)?,
-        Made::Map => map_indices(rt, alloc, strategy, calls)?,
+        Made::Gathered => map_counted(rt, alloc, strategy, 0..LEN, calls)?,
+        Made::Map => map_counted(rt, alloc, strategy, INDICES, calls)?,
         Made::Tried => try_map_indices(rt, alloc, strategy, calls)?,
         Made::Sort => strategy.sort_by(rt, alloc, SITE, numbers, descending)?,
     }

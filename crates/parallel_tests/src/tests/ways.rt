@@ -2,9 +2,9 @@
 use crate::tests::explorers::{PLACE, picks_last};
 use crate::tests::no_memory::all_places;
 use crate::tests::same::{returns, row, same};
+use crate::tests::states::parts_see;
 use crate::tests::steps::{add, add_counts, count, no_count, parallel, serial, zero};
 use crate::tests::strategies::{SITE, explorers, pool};
-use crate::tests::threads::Meeting;
 use commonware_parallel::mocks::{Explorer, Rule, TASKS, explore};
 use commonware_parallel::{Call, Counted, Fault, Grid, Strategy, Trouble};
 use std::alloc::Global;
@@ -91,16 +91,6 @@ fn ways_of<Rt: Threads + Wait + Sync + Abort>(
     })
 }
 
-// Whether each part of a join saw the other one.
-fn parts_of_a_join<Rt: Threads + Wait + Sync>(
-    rt: &Rt,
-    alloc: Global,
-    explorer: &Explorer,
-) -> Result<(bool, bool), Fault> {
-    let met = Meeting::new();
-    explorer.join(rt, alloc, SITE, || met.meet(true), || met.meet(false))
-}
-
 #[test]
 fn the_parallel_rule_takes_the_most_parallel_ways(rt: HostRuntime) {
     let alloc = rt.alloc();
@@ -114,12 +104,7 @@ fn the_parallel_rule_takes_the_most_parallel_ways(rt: HostRuntime) {
         let explorer = Explorer::parallel(&strategy).expect(&rt, "memory");
         let of = (threads, planned);
         returns(&rt, of, ways_of(&rt, alloc, &explorer), wanted);
-        returns(
-            &rt,
-            of,
-            parts_of_a_join(&rt, alloc, &explorer),
-            (true, true),
-        );
+        returns(&rt, of, parts_see(&rt, alloc, &explorer), (true, true));
     }
 }
 

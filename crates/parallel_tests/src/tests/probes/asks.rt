@@ -8,11 +8,12 @@ use crate::tests::probes::given::{Given, SOURCES, is_made, make_over};
 use crate::tests::probes::logs::{Event, Line, Log, Who};
 use crate::tests::probes::noting::Noting;
 use crate::tests::probes::sides::{
-    BATCHES, Batched, SIDES, Side, call_of_side, leaves, make_side, map_batch, root,
+    BATCHES, Batched, SIDES, Side, call_of_side, leaves, make_side, root, run_batch,
 };
 use crate::tests::probes::visits::Visitor;
 use crate::tests::roots::Rooted;
 use crate::tests::same::row;
+use crate::tests::steps::error_of_five;
 use crate::tests::strategies::{SITE, number};
 use commonware_parallel::{Call, Indices, Job, Kind, On, Site, Strategy, Trouble};
 use futures::executor::block_on;
@@ -116,9 +117,7 @@ fn runs(log: &Log, fails: bool) -> Result<u32, u32> {
 fn run_asks<Rt: Threads + Wait + Abort + Sync>(rt: &Rt, alloc: Global, fails: bool) {
     let noting = Noting::new(rt, alloc, 4);
     let log = noting.log();
-    let serial = || -> Result<u32, u32> { Err(8) };
-    let parallel = || runs(log, fails);
-    let tried = noting.try_run(rt, alloc, PLACE, 16, serial, parallel);
+    let tried = noting.try_run(rt, alloc, PLACE, 16, error_of_five, || runs(log, fails));
     let (outcome, end) = if fails {
         (Err(Trouble::Closure(7)), DROPPED)
     } else {
@@ -137,7 +136,7 @@ fn a_run_asks_once_and_tells_once(rt: HostRuntime) {
     run_asks(&rt, alloc, true);
     let noting = Noting::new(&rt, alloc, 4);
     let log = noting.log();
-    let ran = noting.run(&rt, alloc, PLACE, 16, || Err(8), || runs(log, true));
+    let ran = noting.run(&rt, alloc, PLACE, 16, error_of_five, || runs(log, true));
     row(&rt, "run", ran, Ok(Err(7)));
     noting
         .log()
@@ -186,7 +185,7 @@ fn a_batch_whose_map_fails_tells_no_more_than_its_closure_returns(rt: HostRuntim
         let noting = Noting::new(&rt, alloc, 4);
         let on = on(&rt, alloc, &noting);
         let failing = Visitor::Fails(noting.log());
-        let mapped = map_batch(&on, batched, 16, number(&rt, 4), failing);
+        let mapped = run_batch(&on, batched, 16, number(&rt, 4), failing);
         row(&rt, batched, mapped, Err(Trouble::Closure(7)));
         let lines = [
             asked(call_of_side(Side::Batch(batched))),
@@ -207,7 +206,7 @@ fn a_whole_batch_asks_once_and_its_map_asks_nobody(rt: HostRuntime) {
     for batched in BATCHES {
         let noting = Noting::new(&rt, alloc, 4);
         let on = on(&rt, alloc, &noting);
-        let mapped = map_batch(
+        let mapped = run_batch(
             &on,
             batched,
             16,

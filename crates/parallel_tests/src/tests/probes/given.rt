@@ -127,16 +127,15 @@ pub fn make_over<Rt: Threads + Wait + Sync, S: Strategy>(
     len: usize,
     visited: Visitor<'_>,
 ) -> Result<(), Trouble<u32>> {
-    let slice = first(len);
     match given {
-        Given::Slice => make(on, called, slice, visited),
+        Given::Slice | Given::Vector | Given::Iterator => {
+            make_over_few(on, called, given, len, visited)
+        }
         Given::Pairs => make_over_pairs(on, called, len, visited),
-        Given::Vector => make_over_items(on, called, len, visited),
         Given::Counted => make_fallible(on, called, Counted { iter: 0..len }, visited),
-        Given::Iterator => make(on, called, slice.iter().copied(), visited),
         Given::OwnSource => {
             let wrapped = Wrapped {
-                front: slice,
+                front: first(len),
                 back: &[],
             };
             make_fallible(on, called, wrapped, visited)

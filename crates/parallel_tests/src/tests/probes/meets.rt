@@ -8,7 +8,7 @@ use crate::tests::probes::meetings::Meeting;
 use crate::tests::probes::noting::Noting;
 use crate::tests::probes::records::{Squares, fresh};
 use crate::tests::probes::sides::{
-    BATCHES, FILLINGS, Filling, change, fill, join, leaves, map_batch, root, sort,
+    BATCHES, FILLINGS, Filling, change, fill, join, leaves, root, run_batch, sort,
 };
 use crate::tests::probes::visits::Visitor;
 use crate::tests::roots::{ROOTED, Rooted};
@@ -25,8 +25,8 @@ use std::thread::Threads;
 // For how many turns a meeting goes on, so that one too many may come.
 const TURNS: u32 = 1000;
 
-// A pool of that many threads, without a policy.
-fn unasked<Rt: Threads + Abort>(rt: &Rt, alloc: Global, threads: usize) -> Rayon<Squares> {
+/// A pool of that many threads, without a policy.
+pub fn unasked<Rt: Threads + Abort>(rt: &Rt, alloc: Global, threads: usize) -> Rayon<Squares> {
     let asked = fresh(rt, alloc, threads);
     asked.pool.without_policy().expect(rt, "memory for a pool")
 }
@@ -191,7 +191,7 @@ fn ranges_meet<Rt: Threads + Wait + Abort + Sync, S: Strategy>(
     for len in lengths(threads) {
         for batched in BATCHES {
             let meeting = Meeting::of(threads, TURNS);
-            let mapped = map_batch(
+            let mapped = run_batch(
                 &on,
                 batched,
                 len,
@@ -333,5 +333,9 @@ fn as_many_closures_of_each_call_meet_as_there_are_threads(rt: HostRuntime) {
         all_meet(&rt, alloc, &pool);
         let explorer = Explorer::parallel(&pool).expect(&rt, "memory for a handle");
         all_meet(&rt, alloc, &explorer);
+    }
+    // Changes in place, which have threads of their own, on more of them.
+    for threads in 5..9usize {
+        changes_meet(&rt, alloc, &unasked(&rt, alloc, threads));
     }
 }

@@ -8,6 +8,7 @@ use crate::tests::probes::sides::{leaves, root};
 use crate::tests::probes::visits::{Times, Visitor};
 use crate::tests::roots::Rooted;
 use crate::tests::same::row;
+use crate::tests::steps::nothing;
 use crate::tests::strategies::{SITE, pool};
 use commonware_parallel::mocks::{Explorer, Rule};
 use commonware_parallel::{Call, Chooser, Fault, Indices, On, Site, Source, Strategy, Trouble};
@@ -75,32 +76,37 @@ fn cut_lists_take_no_block<Rt: Threads + Wait + Abort + Sync, S: Strategy>(
     }
 }
 
-// How many results a map of an iterator's items has that take no place.
+// Results of items that take no place: by a map, by one that may fail and by one with a state.
+fn forget(_item: usize) {}
+
+fn forget_or_fail(_item: usize) -> Result<(), u32> {
+    Ok(())
+}
+
+fn forget_by_state(_state: &mut (), _item: usize) {}
+
+// How many such results a map of an iterator's items has.
 fn mapped<Rt: Threads + Wait + Sync, S: Strategy>(
     on: &On<'_, Rt, S, Site>,
     called: Called,
 ) -> Result<usize, Trouble<u32>> {
     let (rt, alloc, site) = (on.rt, on.alloc, on.site);
-    let begin = || {};
-    let with = |_: &mut (), _: usize| {};
     let results = match called {
-        Called::Map => on.map(0..LEN, |_: usize| {})?,
+        Called::Map => on.map(0..LEN, forget)?,
         Called::MultipliedMap => on
             .strategy
-            .map_collect_vec_with_multiplier(rt, alloc, site, 0..LEN, MULTIPLIER, |_: usize| {})?,
-        Called::MapInit => on.map_init(0..LEN, begin, with)?,
-        Called::MultipliedMapInit => on
-            .strategy
-            .map_init_collect_vec_with_multiplier(
-                rt,
-                alloc,
-                site,
-                0..LEN,
-                MULTIPLIER,
-                begin,
-                with,
-            )?,
-        _ => on.try_map(0..LEN, |_: usize| -> Result<(), u32> { Ok(()) })?,
+            .map_collect_vec_with_multiplier(rt, alloc, site, 0..LEN, MULTIPLIER, forget)?,
+        Called::MapInit => on.map_init(0..LEN, nothing, forget_by_state)?,
+        Called::MultipliedMapInit => on.strategy.map_init_collect_vec_with_multiplier(
+            rt,
+            alloc,
+            site,
+            0..LEN,
+            MULTIPLIER,
+            nothing,
+            forget_by_state,
+        )?,
+        _ => on.try_map(0..LEN, forget_or_fail)?,
     };
     Ok(results.len())
 }

@@ -1,4 +1,8 @@
 //! The other calls: joins, sorts, batches, tiles and trees, with closures that visit a probe.
+ghost use Rattle.std.specs.Prelude.{length};
+ghost use Rattle.parallel_shares.specs.Cut.{BalancedCut};
+ghost use Rattle.commonware_parallel.specs.Batches.{ranges_of};
+
 use crate::tests::probes::calls::{done, tried};
 use crate::tests::probes::visits::Visitor;
 use crate::tests::roots::{Rooted, root_of};
@@ -53,20 +57,27 @@ pub fn join<Rt: Threads + Wait + Sync, S: Strategy>(
     on: &On<'_, Rt, S, Site>,
     visited: Visitor<'_>,
 ) -> Result<(), Trouble<u32>> {
-    done(on.join(|| visited.visit().is_ok(), || visited.visit().is_ok()))
+    let side = || visited.visit().is_ok();
+    done(on.join(side, side))
 }
 
-/// A map of what is prepared of a batch: of one that may fail or can't, by a closure that may or
-/// can't.
+/// What is done with a batch: a map of what is prepared of it, which may fail or can't, in one that
+/// may fail or can't; or a change of a list's parts where they lie.
 #[derive(Clone, Copy, Debug, PartialEq, Eq)]
 pub enum Batched {
     Map,
     TryMap,
     TryBatch,
+    Change,
 }
 
 /// All of them.
-pub const BATCHES: [Batched; 3] = [Batched::Map, Batched::TryMap, Batched::TryBatch];
+pub const BATCHES: [Batched; 4] = [
+    Batched::Map,
+    Batched::TryMap,
+    Batched::TryBatch,
+    Batched::Change,
+];
 
 // The lengths of the ranges.
 fn lengths_of(alloc: Global, ranges: &[Range<usize>]) -> Result<Vec<usize>, Fault> {
@@ -86,14 +97,13 @@ fn map_ranges<Rt: Threads + Wait + Sync, S: Strategy>(
     visited: Visitor<'_>,
 ) -> Result<usize, Trouble<u32>> {
     let prepare = |ranges: &[Range<usize>]| lengths_of(alloc, ranges);
+    let map_op = |_: usize| visited.visit();
     if batched == Batched::Map {
-        let map_op = |_: usize| visited.visit().is_ok();
         return match batches.map_collect_vec(rt, alloc, prepare, map_op) {
             Ok(results) => Ok(results.len()),
             Err(fault) => Err(Trouble::Fault(fault)),
         };
     }
-    let map_op = |_: usize| visited.visit();
     let results = batches.try_map_collect_vec(rt, alloc, prepare, map_op)?;
     Ok(results.len())
 }
@@ -107,15 +117,46 @@ fn flat<T: Drop>(outcome: Result<T, Trouble<Trouble<u32>>>) -> Result<T, Trouble
     }
 }
 
-/// Such a map over a batch of that many indices, in ranges of at least `minimum`: how many ranges
-/// there are.
-pub fn map_batch<Rt: Threads + Wait + Sync, S: Strategy>(
+// The change of a list as long as the batch, of which each part visits once.
+fn change_batch<Rt: Threads + Wait + Sync, S: Strategy>(
+    on: &On<'_, Rt, S, Site>,
+    len: usize,
+    minimum: NonZeroUsize,
+    visited: Visitor<'_>,
+) -> Result<usize, Fault> {
+    let (rt, alloc, site) = (on.rt, on.alloc, on.site);
+    let mut items = leaves(alloc, len)?;
+    let whole = items.as_mut_slice();
+    let len = whole.len();
+    let run = move |batches: Batches<'_, S, Site>| -> Result<usize, Fault>
+        requires { BalancedCut (length whole.now) (ranges_of batches) }
+    {
+        let list = whole;
+        let count = batches.ranges().len();
+        batches.for_each_mut(rt, alloc, list, |_: usize, _: &mut [usize]| {
+            let _ = visited.visit();
+        })?;
+        Ok(count)
+    };
+    on.strategy
+        .run_batches(rt, alloc, site, len, minimum, 3, run)?
+}
+
+/// A batch of that many indices, in ranges of at least `minimum`, each of which visits once: how
+/// many there are.
+pub fn run_batch<Rt: Threads + Wait + Sync, S: Strategy>(
     on: &On<'_, Rt, S, Site>,
     batched: Batched,
     len: usize,
     minimum: NonZeroUsize,
     visited: Visitor<'_>,
 ) -> Result<usize, Trouble<u32>> {
+    if batched == Batched::Change {
+        return match change_batch(on, len, minimum, visited) {
+            Ok(count) => Ok(count),
+            Err(fault) => Err(Trouble::Fault(fault)),
+        };
+    }
     let (rt, alloc, site) = (on.rt, on.alloc, on.site);
     let run = |batches: Batches<'_, S, Site>| map_ranges(rt, alloc, batches, batched, visited);
     if batched == Batched::TryBatch {
@@ -262,8 +303,8 @@ pub fn root<Rt: Threads + Wait + Sync, S: Strategy>(
     )
 }
 
-/// A call that isn't over a list: a sort or a change of four numbers, a join, the map of a batch of
-/// sixteen indices in four ranges, or the fill of tiles on four rows of ten.
+/// A call that isn't over a list: a sort or a change of four numbers, a join, a batch of sixteen
+/// indices in four ranges, or the fill of tiles on four rows of ten.
 #[derive(Clone, Copy, Debug, PartialEq, Eq)]
 pub enum Side {
     Sort(bool),
@@ -274,7 +315,7 @@ pub enum Side {
 }
 
 /// All of them.
-pub const SIDES: [Side; 11] = [
+pub const SIDES: [Side; 12] = [
     Side::Sort(true),
     Side::Sort(false),
     Side::Change(false),
@@ -283,6 +324,7 @@ pub const SIDES: [Side; 11] = [
     Side::Batch(Batched::Map),
     Side::Batch(Batched::TryMap),
     Side::Batch(Batched::TryBatch),
+    Side::Batch(Batched::Change),
     Side::Fill(Filling::Stretches),
     Side::Fill(Filling::Rows),
     Side::Fill(Filling::Kernel),
@@ -319,7 +361,7 @@ pub fn make_side<Rt: Threads + Wait + Abort + Sync, S: Strategy>(
         Side::Sort(is_stable) => done(sort(on, is_stable, &mut numbers, visited)),
         Side::Change(is_chunked) => done(change(on, is_chunked, &mut numbers, visited)),
         Side::Join => join(on, visited),
-        Side::Batch(batched) => tried(map_batch(on, batched, 16, four, visited)),
+        Side::Batch(batched) => tried(run_batch(on, batched, 16, four, visited)),
         Side::Fill(filling) => done(fill(on, filling, 4, 10, visited)),
     }
 }
