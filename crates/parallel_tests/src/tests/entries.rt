@@ -2,13 +2,14 @@
 //! entries, and the times that they keep. The clocks go on by 100000 nanoseconds at each reading,
 //! so each measured run takes as long.
 use crate::tests::clocks::{Stepping, learning};
+use crate::tests::probes::calls::CALLS;
+use crate::tests::probes::given::{Given, make_over_few};
+use crate::tests::probes::visits::Visitor;
 use crate::tests::same::{returns, row};
-use crate::tests::steps::{
-    Gives, add, add_counted, as_it_is, ascending, count, descending, give_one, give_two, zero,
-};
+use crate::tests::steps::{Gives, as_it_is, ascending, descending, give_one, give_two};
 use crate::tests::strategies::{SITE, number};
 use commonware_parallel::policy::{Key, RunExecution};
-use commonware_parallel::{Fault, Grid, Policy, Rayon, Site, Strategy, Trouble};
+use commonware_parallel::{Fault, Grid, On, Policy, Rayon, Site, Strategy, Trouble};
 use std::alloc::Global;
 use std::num::NonZeroUsize;
 use std::process::Abort;
@@ -54,47 +55,27 @@ fn at(column: u32) -> Site {
     Site { column, ..SITE }
 }
 
-fn checked(number: u32) -> Result<u32, u8> {
-    Ok(number)
-}
-
 fn checked_one() -> Result<u32, u8> {
     Ok(1)
 }
 
-fn add_checked(sum: u32, number: u32) -> Result<u32, u8> {
-    Ok(add(sum, number))
-}
-
-fn keyed(number: u32) -> (u32, Option<u32>) {
-    (number, Some(number))
-}
-
-// Each kind of map of 16 numbers, at the places 1 to 6; those at 2 and 5 stand for twice the work.
-fn maps<Rt: Threads + Wait + Sync, S: Strategy>(
+// Each list call over 16 numbers, at the places 1 to 9, and both sorts of them, at 10 and 11.
+fn lists_and_sorts<Rt: Threads + Wait + Sync, S: Strategy>(
     rt: &Rt,
     alloc: Global,
     strategy: &S,
-) -> Result<(), Trouble<u8>> {
-    strategy.map_collect_vec(rt, alloc, at(1), 0..16u32, as_it_is)?;
-    strategy.map_collect_vec_with_multiplier(rt, alloc, at(2), 0..16u32, 2, as_it_is)?;
-    strategy.try_map_collect_vec(rt, alloc, at(3), 0..16u32, checked)?;
-    strategy.map_init_collect_vec(rt, alloc, at(4), 0..16u32, zero, count)?;
-    let numbers = 0..16u32;
-    strategy.map_init_collect_vec_with_multiplier(rt, alloc, at(5), numbers, 2, zero, count)?;
-    strategy.map_partition_collect_vec(rt, alloc, at(6), 0..16u32, keyed)?;
-    Ok(())
-}
-
-// Each kind of fold of 16 numbers and both sorts, at the places 7 to 11.
-fn folds_and_sorts<Rt: Threads + Wait + Sync, S: Strategy>(
-    rt: &Rt,
-    alloc: Global,
-    strategy: &S,
-) -> Result<(), Trouble<u8>> {
-    strategy.fold(rt, alloc, at(7), 0..16u32, zero, add, add)?;
-    strategy.fold_init(rt, alloc, at(8), 0..16u32, zero, zero, add_counted, add)?;
-    strategy.try_fold(rt, alloc, at(9), 0..16u32, zero, add_checked, add)?;
+) -> Result<(), Trouble<u32>> {
+    let mut site = at(1);
+    for called in CALLS {
+        let on = On {
+            rt,
+            alloc,
+            strategy,
+            site,
+        };
+        make_over_few(&on, called, Given::Iterator, 16, Visitor::Passes)?;
+        site = at(site.column.saturating_add(1));
+    }
     let mut numbers = [2u32, 1, 4, 3, 6, 5, 8, 7, 10, 9, 12, 11, 14, 13, 16, 15];
     strategy.sort_by(rt, alloc, at(10), &mut numbers, ascending)?;
     strategy.sort_unstable_by(rt, alloc, at(11), &mut numbers, descending)?;
@@ -121,10 +102,11 @@ fn bodies<Rt: Wait + Abort, S: Strategy>(
     Ok(())
 }
 
-// The work of the call at each place.
+// The work of the call at each place, of which that at 2 and that at 5 are told of nine times as
+// much.
 fn work_at(place: u32) -> usize {
     match place {
-        2 | 5 => 32,
+        2 | 5 => 144,
         15 => 68,
         _ => 16,
     }
@@ -185,12 +167,11 @@ fn what_has_no_policy_leaves_no_entry(rt: HostRuntime) {
     assert!(rt; strategy.policy().is_some());
     let fixed = strategy.without_policy().expect(&rt, "memory");
     assert!(rt; fixed.policy().is_none());
-    row(&rt, 1, maps(&rt, alloc, &fixed), Ok(()));
-    row(&rt, 2, folds_and_sorts(&rt, alloc, &fixed), Ok(()));
-    row(&rt, 3, bodies(&rt, alloc, &fixed), Ok(()));
+    row(&rt, 1, lists_and_sorts(&rt, alloc, &fixed), Ok(()));
+    row(&rt, 2, bodies(&rt, alloc, &fixed), Ok(()));
     // Planned for one, a call has nothing to choose either.
     let one = strategy.with_parallelism(number(&rt, 1));
-    row(&rt, 4, bodies(&rt, alloc, &one), Ok(()));
+    row(&rt, 3, bodies(&rt, alloc, &one), Ok(()));
     for place in 1..16u32 {
         let kept = times(&rt, &policy, at(place), 16, work_at(place));
         let alone = policy.run_entry(&rt, Key::new(at(place), 16, work_at(place), 1));

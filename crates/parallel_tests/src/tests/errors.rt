@@ -1,8 +1,8 @@
 //! Calls whose closures fail at many items, many times over: the first failing item's error is
 //! returned each time, and each item and each result is let go once.
 use crate::tests::same::{returns, row};
-use crate::tests::steps::{add_counts, no_count};
 use crate::tests::strategies::{SITE, fresh, pool};
+use crate::tests::tried::{try_count, try_map};
 use commonware_parallel::mocks::explore;
 use commonware_parallel::{Fault, Strategy, Trouble};
 use std::alloc::Global;
@@ -246,40 +246,18 @@ fn slice_left<Rt: Threads + Wait + Abort + Sync, S: Strategy>(
     map_left(rt, counts, len, mapped, len);
 }
 
-// Maps and folds that many counted items of a vector.
-fn vector_left<Rt: Threads + Wait + Abort + Sync, S: Strategy>(
+// Maps and folds that many counted items of a vector, or of an iterator.
+fn items_left<Rt: Threads + Wait + Abort + Sync, S: Strategy>(
     rt: &Rt,
     alloc: Global,
     strategy: &S,
     counts: &Counts,
-    len: usize,
+    (len, is_list): (usize, bool),
 ) {
     let items = counted_items(alloc, counts, len).expect(rt, "memory");
-    let mapped = strategy.try_map_collect_vec(rt, alloc, SITE, items, again);
-    map_left(rt, counts, len, mapped, 0);
+    map_left(rt, counts, len, try_map(rt, alloc, strategy, items, is_list), 0);
     let items = counted_items(alloc, counts, len).expect(rt, "memory");
-    let folded = strategy.try_fold(rt, alloc, SITE, items, no_count, count_again, add_counts);
-    fold_left(rt, counts, len, folded);
-}
-
-// The same of an iterator.
-fn iterator_left<Rt: Threads + Wait + Abort + Sync, S: Strategy>(
-    rt: &Rt,
-    alloc: Global,
-    strategy: &S,
-    counts: &Counts,
-    len: usize,
-) {
-    let items = counted_items(alloc, counts, len)
-        .expect(rt, "memory")
-        .into_iter();
-    let mapped = strategy.try_map_collect_vec(rt, alloc, SITE, items, again);
-    map_left(rt, counts, len, mapped, 0);
-    let items = counted_items(alloc, counts, len)
-        .expect(rt, "memory")
-        .into_iter();
-    let folded = strategy.try_fold(rt, alloc, SITE, items, no_count, count_again, add_counts);
-    fold_left(rt, counts, len, folded);
+    fold_left(rt, counts, len, try_count(rt, alloc, strategy, items, is_list));
 }
 
 // All of them, of which the item at a place fails.
@@ -292,8 +270,8 @@ fn all_left<Rt: Threads + Wait + Abort + Sync, S: Strategy>(
 ) {
     let counts = Counts::failing(fails);
     slice_left(rt, alloc, strategy, &counts, len);
-    vector_left(rt, alloc, strategy, &counts, len);
-    iterator_left(rt, alloc, strategy, &counts, len);
+    items_left(rt, alloc, strategy, &counts, (len, true));
+    items_left(rt, alloc, strategy, &counts, (len, false));
 }
 
 #[test]

@@ -16,7 +16,7 @@ use std::sync::Wait;
 use std::thread::Threads;
 
 /// Which call is tried.
-#[derive(Clone, Copy, Debug, PartialEq, Eq)]
+#[derive(Clone, Copy, Debug)]
 pub enum Tried {
     Root,
     Map,
@@ -95,6 +95,62 @@ fn keyed(item: Counted<'_>) -> (Counted<'_>, Option<Counted<'_>>) {
     (item, value)
 }
 
+/// The fallible map of such items, as a list or as they come.
+pub fn try_map<'a, Rt: Threads + Wait + Sync, S: Strategy>(
+    rt: &Rt,
+    alloc: Global,
+    strategy: &S,
+    items: Vec<Counted<'a>>,
+    is_list: bool,
+) -> Result<Vec<Counted<'a>>, Trouble<usize>> {
+    if is_list {
+        return strategy.try_map_collect_vec(rt, alloc, SITE, items, again);
+    }
+    strategy.try_map_collect_vec(rt, alloc, SITE, items.into_iter(), again)
+}
+
+/// The fallible fold that counts them, over a list or as they come.
+pub fn try_count<Rt: Threads + Wait + Sync, S: Strategy>(
+    rt: &Rt,
+    alloc: Global,
+    strategy: &S,
+    items: Vec<Counted<'_>>,
+    is_list: bool,
+) -> Result<usize, Trouble<usize>> {
+    if is_list {
+        return strategy.try_fold(rt, alloc, SITE, items, no_count, count_again, add_counts);
+    }
+    let items = items.into_iter();
+    strategy.try_fold(rt, alloc, SITE, items, no_count, count_again, add_counts)
+}
+
+// The maps that don't fail.
+fn map<'a, Rt: Threads + Wait + Sync, S: Strategy>(
+    rt: &Rt,
+    alloc: Global,
+    strategy: &S,
+    tried: Tried,
+    items: Vec<Counted<'a>>,
+) -> Result<Vec<Counted<'a>>, Fault> {
+    match tried {
+        Tried::MultipliedMap => {
+            strategy.map_collect_vec_with_multiplier(rt, alloc, SITE, items, 3, another)
+        }
+        Tried::MapWithState => {
+            strategy.map_init_collect_vec(rt, alloc, SITE, items, zero, another_by_state)
+        }
+        _ => strategy.map_init_collect_vec_with_multiplier(
+            rt,
+            alloc,
+            SITE,
+            items,
+            3,
+            zero,
+            another_by_state,
+        ),
+    }
+}
+
 // Whether a map of the items, as a list or as they come, has a result for each.
 fn is_map<Rt: Threads + Wait + Sync, S: Strategy>(
     rt: &Rt,
@@ -105,31 +161,39 @@ fn is_map<Rt: Threads + Wait + Sync, S: Strategy>(
 ) -> Result<bool, Trouble<usize>> {
     let len = items.len();
     let values = match tried {
-        Tried::Map => strategy.try_map_collect_vec(rt, alloc, SITE, items, again)?,
-        Tried::MapOfIterator => {
-            strategy.try_map_collect_vec(rt, alloc, SITE, items.into_iter(), again)?
-        }
-        Tried::MultipliedMap => {
-            strategy.map_collect_vec_with_multiplier(rt, alloc, SITE, items, 3, another)?
-        }
-        Tried::MapWithState => {
-            strategy.map_init_collect_vec(rt, alloc, SITE, items, zero, another_by_state)?
-        }
-        _ => strategy.map_init_collect_vec_with_multiplier(
-            rt,
-            alloc,
-            SITE,
-            items,
-            3,
-            zero,
-            another_by_state,
-        )?,
+        Tried::Map => try_map(rt, alloc, strategy, items, true)?,
+        Tried::MapOfIterator => try_map(rt, alloc, strategy, items, false)?,
+        _ => map(rt, alloc, strategy, tried, items)?,
     };
     Ok(are_all(&values, len))
 }
 
+// How many results a partition of the items has, as keys and values.
+fn parted<Rt: Threads + Wait + Sync, S: Strategy>(
+    rt: &Rt,
+    alloc: Global,
+    strategy: &S,
+    items: Vec<Counted<'_>>,
+) -> Result<usize, Fault> {
+    let (values, keys) = strategy.map_partition_collect_vec(rt, alloc, SITE, items, keyed)?;
+    Ok(values.len().wrapping_add(keys.len()))
+}
+
+// One more than the place of the root of the items, which is the greatest of theirs.
+fn rooted<Rt: Threads + Wait + Sync, S: Strategy>(
+    rt: &Rt,
+    alloc: Global,
+    strategy: &S,
+    items: Vec<Counted<'_>>,
+) -> Result<usize, Fault> {
+    match root(rt, alloc, strategy, SITE, items, greater)? {
+        Some(node) => Ok(node.place.saturating_add(1)),
+        None => Ok(0),
+    }
+}
+
 // Whether a fold counts the items, a partition has none in its place, or the root is of the last
-// one's place, which is the greatest.
+// one's place.
 fn is_fold<Rt: Threads + Wait + Sync, S: Strategy>(
     rt: &Rt,
     alloc: Global,
@@ -139,13 +203,8 @@ fn is_fold<Rt: Threads + Wait + Sync, S: Strategy>(
 ) -> Result<bool, Trouble<usize>> {
     let len = items.len();
     let count = match tried {
-        Tried::Fold => {
-            strategy.try_fold(rt, alloc, SITE, items, no_count, count_again, add_counts)?
-        }
-        Tried::FoldOfIterator => {
-            let items = items.into_iter();
-            strategy.try_fold(rt, alloc, SITE, items, no_count, count_again, add_counts)?
-        }
+        Tried::Fold => try_count(rt, alloc, strategy, items, true)?,
+        Tried::FoldOfIterator => try_count(rt, alloc, strategy, items, false)?,
         Tried::FoldWithState => strategy.fold_init(
             rt,
             alloc,
@@ -156,14 +215,8 @@ fn is_fold<Rt: Threads + Wait + Sync, S: Strategy>(
             count_by_state,
             add_counts,
         )?,
-        Tried::Partition => {
-            let (values, keys) = strategy.map_partition_collect_vec(rt, alloc, SITE, items, keyed)?;
-            values.len().wrapping_add(keys.len())
-        }
-        _ => match root(rt, alloc, strategy, SITE, items, greater)? {
-            Some(node) => node.place.saturating_add(1),
-            None => 0,
-        },
+        Tried::Partition => parted(rt, alloc, strategy, items)?,
+        _ => rooted(rt, alloc, strategy, items)?,
     };
     Ok(count == len)
 }

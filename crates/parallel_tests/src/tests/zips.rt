@@ -3,7 +3,9 @@
 use crate::tests::same::lists;
 use crate::tests::steps::zero;
 use crate::tests::strategies::{SITE, pool};
-use commonware_parallel::{Copies, Counted, Fault, Indices, Sequential, Strategy, Trouble, Zipped};
+use commonware_parallel::{
+    Copies, Counted, Indices, Sequential, Source, Strategy, Trouble, Zipped,
+};
 use std::alloc::Global;
 use std::iter::{Copied, Zip};
 use std::ops::Range;
@@ -28,74 +30,42 @@ fn of_range() -> Zip<Range<usize>, Copied<Iter<'static, u32>>> {
     (0..1_000_000_000_000usize).zip(THREE.iter().copied())
 }
 
-fn right_of(pair: (usize, u32)) -> u32 {
-    pair.1
-}
-
-fn right_or_error(pair: (usize, u32)) -> Result<u32, u32> {
-    Ok(pair.1)
-}
-
-fn right_by_state(_state: &mut u32, pair: (usize, u32)) -> u32 {
-    pair.1
-}
-
-// The maps of both, of the range also where it says how many come.
-fn plain_maps<Rt: Threads + Wait + Sync, S: Strategy>(
+// The items of a source by a map, by one with a state, or by one that may fail.
+fn mapped<Rt: Threads + Wait + Sync, S: Strategy, M, I: Source<M>>(
     rt: &Rt,
     alloc: Global,
     strategy: &S,
-) -> [Result<Vec<u32>, Fault>; 3] {
-    let counted = Counted { iter: of_range() };
-    [
-        strategy.map_collect_vec(rt, alloc, SITE, of_lists(), right_of),
-        strategy.map_collect_vec(rt, alloc, SITE, of_range(), right_of),
-        strategy.map_collect_vec(rt, alloc, SITE, counted, right_of),
-    ]
+    kind: &str,
+    source: I,
+) -> Result<Vec<I::Item>, Trouble<u32>>
+    requires { I.can source }
+{
+    let mapped = match kind {
+        "map" => strategy.map_collect_vec(rt, alloc, SITE, source, |item: I::Item| item),
+        "map with a state" => {
+            let keep = |_: &mut u32, item: I::Item| item;
+            strategy.map_init_collect_vec(rt, alloc, SITE, source, zero, keep)
+        }
+        _ => {
+            let keep = |item: I::Item| -> Result<I::Item, u32> { Ok(item) };
+            return strategy.try_map_collect_vec(rt, alloc, SITE, source, keep);
+        }
+    };
+    mapped.map_err(Trouble::Fault)
 }
 
-// The same by maps with a state.
-fn maps_with_a_state<Rt: Threads + Wait + Sync, S: Strategy>(
-    rt: &Rt,
-    alloc: Global,
-    strategy: &S,
-) -> [Result<Vec<u32>, Fault>; 3] {
-    let counted = Counted { iter: of_range() };
-    [
-        strategy.map_init_collect_vec(rt, alloc, SITE, of_lists(), zero, right_by_state),
-        strategy.map_init_collect_vec(rt, alloc, SITE, of_range(), zero, right_by_state),
-        strategy.map_init_collect_vec(rt, alloc, SITE, counted, zero, right_by_state),
-    ]
-}
-
-// The same by maps that may fail.
-fn fallible_maps<Rt: Threads + Wait + Sync, S: Strategy>(
-    rt: &Rt,
-    alloc: Global,
-    strategy: &S,
-) -> [Result<Vec<u32>, Trouble<u32>>; 3] {
-    let counted = Counted { iter: of_range() };
-    [
-        strategy.try_map_collect_vec(rt, alloc, SITE, of_lists(), right_or_error),
-        strategy.try_map_collect_vec(rt, alloc, SITE, of_range(), right_or_error),
-        strategy.try_map_collect_vec(rt, alloc, SITE, counted, right_or_error),
-    ]
-}
-
-// Three results of each.
+// The items of both, and of the range also where it says how many come: three of each.
 fn three_come<Rt: Threads + Wait + Abort + Sync, S: Strategy>(
     rt: &Rt,
     alloc: Global,
     strategy: &S,
 ) {
-    for found in plain_maps(rt, alloc, strategy) {
-        lists(rt, "map", found, THREE);
-    }
-    for found in maps_with_a_state(rt, alloc, strategy) {
-        lists(rt, "map with a state", found, THREE);
-    }
-    for found in fallible_maps(rt, alloc, strategy) {
-        lists(rt, "fallible map", found, THREE);
+    let three = [(0, 7), (1, 8), (2, 9)];
+    for kind in ["map", "map with a state", "fallible map"] {
+        lists(rt, kind, mapped(rt, alloc, strategy, kind, of_lists()), &three);
+        lists(rt, kind, mapped(rt, alloc, strategy, kind, of_range()), &three);
+        let counted = Counted { iter: of_range() };
+        lists(rt, kind, mapped(rt, alloc, strategy, kind, counted), &three);
     }
 }
 
