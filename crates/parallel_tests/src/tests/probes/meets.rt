@@ -3,12 +3,12 @@
 ghost use Rattle.std.specs.Prelude.{◌≡◌, ⊤};
 
 use crate::tests::probes::calls::{CALLS, Called};
-use crate::tests::probes::given::{FEW, Given, SOURCES, is_made, make_over, make_over_few};
+use crate::tests::probes::given::{FEW, Given, SOURCES, is_made, make_over, make_over_few, leaves};
 use crate::tests::probes::meetings::Meeting;
 use crate::tests::probes::noting::Noting;
 use crate::tests::probes::records::{Squares, fresh};
 use crate::tests::probes::sides::{
-    BATCHES, FILLINGS, Filling, change, fill, join, leaves, root, run_batch, sort,
+    BATCHES, FILLINGS, Filling, change, fill, join, root, run_batch, sort,
 };
 use crate::tests::probes::visits::Visitor;
 use crate::tests::roots::{ROOTED, Rooted};

@@ -2,9 +2,10 @@
 //! a map is refused before it calls anything.
 use crate::tests::no_memory::all_places;
 use crate::tests::probes::calls::{CALLS, Called, MULTIPLIER, make};
+use crate::tests::probes::given::leaves;
 use crate::tests::probes::logs::{Event, Who};
 use crate::tests::probes::noting::Noting;
-use crate::tests::probes::sides::{leaves, root};
+use crate::tests::probes::sides::{root};
 use crate::tests::probes::visits::{Times, Visitor};
 use crate::tests::roots::Rooted;
 use crate::tests::same::row;

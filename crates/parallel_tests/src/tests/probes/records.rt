@@ -7,9 +7,9 @@
 ghost use Rattle.std.specs.Prelude.{⊤};
 
 use crate::tests::probes::calls::{CALLS, Called, MULTIPLIER};
-use crate::tests::probes::given::{FEW, Given, make_over_few};
+use crate::tests::probes::given::{FEW, Given, make_over_few, leaves};
 use crate::tests::probes::logs::Log;
-use crate::tests::probes::sides::{SIDES, Side, call_of_side, leaves, make_side, root};
+use crate::tests::probes::sides::{SIDES, Side, call_of_side, make_side, root};
 use crate::tests::probes::visits::Visitor;
 use crate::tests::roots::Rooted;
 use crate::tests::same::{returns, row};

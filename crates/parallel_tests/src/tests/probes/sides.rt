@@ -4,6 +4,7 @@ ghost use Rattle.parallel_shares.specs.Cut.{BalancedCut};
 ghost use Rattle.commonware_parallel.specs.Batches.{ranges_of};
 
 use crate::tests::probes::calls::{done, tried};
+use crate::tests::probes::given::leaves;
 use crate::tests::probes::visits::Visitor;
 use crate::tests::roots::{Rooted, root_of};
 use crate::tests::steps::{cells_counted, no_count};
@@ -270,15 +271,6 @@ pub fn fill<Rt: Threads + Wait + Sync, S: Strategy>(
         Ok(filled) => filled,
         Err(fault) => Err(fault),
     }
-}
-
-/// That many leaves.
-pub fn leaves(alloc: Global, count: usize) -> Result<Vec<usize>, Fault> {
-    let mut leaves = Vec::with_capacity(alloc, count)?;
-    for _ in 0..count {
-        leaves.push(0)?;
-    }
-    Ok(leaves)
 }
 
 /// The root of a tree, each pair of which visits its level: how many levels there are.

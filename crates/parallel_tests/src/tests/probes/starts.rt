@@ -1,10 +1,10 @@
 //! How many threads each call starts: at most one fewer than its strategy has, and none where it
 //! goes serially.
 use crate::tests::probes::calls::{CALLS, Called};
-use crate::tests::probes::given::{FEW, Given, make_over_few};
+use crate::tests::probes::given::{FEW, Given, make_over_few, leaves};
 use crate::tests::probes::meets::{numbers, unasked};
 use crate::tests::probes::noting::Noting;
-use crate::tests::probes::sides::{SIDES, Side, leaves, make_side, root};
+use crate::tests::probes::sides::{SIDES, Side, make_side, root};
 use crate::tests::probes::visits::Visitor;
 use crate::tests::roots::{ROOTED, Rooted};
 use crate::tests::same::row;
