@@ -1,5 +1,6 @@
 //! Probes: what each call does, whatever its source and its strategy. Each is a small function over
 //! both, and a table runs it for all of them.
+mod acts;
 mod asks;
 mod callers;
 pub mod calls;

@@ -3,12 +3,12 @@
 ghost use Rattle.std.specs.Prelude.{◌≡◌, ⊤};
 
 use crate::tests::probes::callers::{CALLERS, Caller, call};
-use crate::tests::probes::calls::{CALLS, Called, MULTIPLIER, make};
-use crate::tests::probes::given::{Given, SOURCES, is_made, make_over};
+use crate::tests::probes::calls::{CALLS, Called, MULTIPLIER, make, may_fail};
+use crate::tests::probes::given::{Given, SOURCES, is_made, leaves, make_over};
 use crate::tests::probes::logs::{Event, Line, Log, Who};
 use crate::tests::probes::noting::Noting;
 use crate::tests::probes::sides::{
-    BATCHES, Batched, SIDES, Side, call_of_side, leaves, make_side, root, run_batch,
+    BATCHES, Batched, SIDES, Side, call_of_side, make_side, root, run_batch,
 };
 use crate::tests::probes::visits::Visitor;
 use crate::tests::roots::Rooted;
@@ -55,10 +55,6 @@ fn call_of(called: Called, len: usize) -> Call {
         }
         _ => Call::body(len),
     }
-}
-
-fn may_fail(called: Called) -> bool {
-    matches!(called, Called::TryMap | Called::TryFold)
 }
 
 // Stops the test where a list call over sixteen items of a source asks or tells otherwise.

@@ -1,5 +1,5 @@
 //! The callers that others may read, through any strategy, each over eight items.
-use commonware_parallel::{Fault, Site, Strategy, Trouble};
+use commonware_parallel::{Site, Strategy, Trouble};
 use std::alloc::Global;
 use std::sync::Wait;
 use std::thread::Threads;
@@ -16,7 +16,7 @@ use uses::verifier::{split_by_check, sum_within, verify_all, verify_digests};
 use uses::words::longest_word;
 
 /// A caller.
-#[derive(Clone, Copy, Debug, PartialEq, Eq)]
+#[derive(Clone, Copy, Debug)]
 pub enum Caller {
     SumOfSquares,
     BorrowedSquares,
@@ -71,25 +71,24 @@ fn over_numbers<Rt: Threads + Wait + Sync, S: Strategy>(
     strategy: &S,
     site: Site,
     caller: Caller,
-) -> Result<(), Fault> {
+) -> bool {
     let numbers = NUMBERS.as_slice();
     match caller {
-        Caller::SumOfSquares => drop(sum_of_squares(rt, alloc, strategy, site, numbers)?),
-        Caller::BorrowedSquares => drop(borrowed_squares(rt, alloc, strategy, site, numbers)?),
-        Caller::FirstSquares => drop(first_squares(rt, alloc, strategy, site, 8)?),
-        Caller::SquaresAndSum => drop(squares_and_sum(rt, alloc, strategy, site, numbers)?),
-        Caller::SquaresBackwards => drop(squares_backwards(rt, alloc, strategy, site, numbers)?),
+        Caller::SumOfSquares => sum_of_squares(rt, alloc, strategy, site, numbers).is_ok(),
+        Caller::BorrowedSquares => borrowed_squares(rt, alloc, strategy, site, numbers).is_ok(),
+        Caller::FirstSquares => first_squares(rt, alloc, strategy, site, 8).is_ok(),
+        Caller::SquaresAndSum => squares_and_sum(rt, alloc, strategy, site, numbers).is_ok(),
+        Caller::SquaresBackwards => squares_backwards(rt, alloc, strategy, site, numbers).is_ok(),
         Caller::SquaresOfWrapped => {
             let (front, back) = numbers.split_at(3);
-            drop(squares_of_wrapped(rt, alloc, strategy, site, front, back)?);
+            squares_of_wrapped(rt, alloc, strategy, site, front, back).is_ok()
         }
-        Caller::Squares => drop(squares(rt, alloc, strategy, site, numbers)?),
+        Caller::Squares => squares(rt, alloc, strategy, site, numbers).is_ok(),
         Caller::SplitByCheck => {
-            drop(split_by_check(rt, alloc, strategy, site, numbers, is_small)?);
+            split_by_check(rt, alloc, strategy, site, numbers, is_small).is_ok()
         }
-        _ => drop(leave_out_repeats(rt, alloc, strategy, site, numbers)?),
+        _ => leave_out_repeats(rt, alloc, strategy, site, numbers).is_ok(),
     }
-    Ok(())
 }
 
 // Those that change numbers in place.
@@ -99,13 +98,14 @@ fn in_place<Rt: Threads + Wait + Sync, S: Strategy>(
     strategy: &S,
     site: Site,
     caller: Caller,
-) -> Result<(), Fault> {
+) -> bool {
     let mut numbers = [3u64, 1, 4, 1, 5, 9, 2, 6];
-    if caller == Caller::SquareInPlace {
-        square_in_place(rt, alloc, strategy, site, &mut numbers)?;
-        return Ok(());
+    match caller {
+        Caller::SquareInPlace => {
+            square_in_place(rt, alloc, strategy, site, &mut numbers).is_ok()
+        }
+        _ => double_each(rt, alloc, strategy, site, &mut numbers).is_ok(),
     }
-    double_each(rt, alloc, strategy, site, &mut numbers)
 }
 
 // Those whose items may fail; all but the digests pass.
@@ -140,17 +140,16 @@ fn over_texts<Rt: Threads + Wait + Sync, S: Strategy>(
     strategy: &S,
     site: Site,
     caller: Caller,
-) -> Result<(), Fault> {
+) -> bool {
     let leaves: [&[u8]; 8] = [b""; 8];
     match caller {
         Caller::LongestWord => {
             let words = ["a", "bc", "d", "e", "fgh", "i", "j", "k"];
-            drop(longest_word(rt, alloc, strategy, site, &words)?);
+            longest_word(rt, alloc, strategy, site, &words).is_ok()
         }
-        Caller::Commitment => drop(commitment(rt, alloc, strategy, site, &leaves)?),
-        _ => drop(Tree::build(rt, alloc, strategy, site, &leaves)?),
+        Caller::Commitment => commitment(rt, alloc, strategy, site, &leaves).is_ok(),
+        _ => Tree::build(rt, alloc, strategy, site, &leaves).is_ok(),
     }
-    Ok(())
 }
 
 /// Such a caller: whether it returns as it should.
@@ -163,14 +162,14 @@ pub fn call<Rt: Threads + Wait + Sync, S: Strategy>(
 ) -> bool {
     match caller {
         Caller::SquareInPlace | Caller::DoubleEach => {
-            in_place(rt, alloc, strategy, site, caller).is_ok()
+            in_place(rt, alloc, strategy, site, caller)
         }
         Caller::VerifyAll | Caller::SumWithin | Caller::VerifyDigests => {
             fallible(rt, alloc, strategy, site, caller)
         }
         Caller::LongestWord | Caller::Commitment | Caller::Build => {
-            over_texts(rt, alloc, strategy, site, caller).is_ok()
+            over_texts(rt, alloc, strategy, site, caller)
         }
-        _ => over_numbers(rt, alloc, strategy, site, caller).is_ok(),
+        _ => over_numbers(rt, alloc, strategy, site, caller),
     }
 }

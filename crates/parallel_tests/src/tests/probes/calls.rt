@@ -6,7 +6,7 @@ use std::sync::Wait;
 use std::thread::Threads;
 
 /// A list call of one place, which is the strategy's of that name; and those of a strategy alone.
-#[derive(Clone, Copy, Debug, PartialEq, Eq)]
+#[derive(Clone, Copy, Debug)]
 pub enum Called {
     Map,
     MultipliedMap,
@@ -31,6 +31,11 @@ pub const CALLS: [Called; 9] = [
     Called::TryFold,
     Called::Partition,
 ];
+
+/// Whether the closures of such a call may fail.
+pub fn may_fail(called: Called) -> bool {
+    matches!(called, Called::TryMap | Called::TryFold)
+}
 
 /// What stands for the work of an item in the calls that are told so.
 pub const MULTIPLIER: usize = 9;
@@ -63,7 +68,7 @@ fn map<Rt: Threads + Wait + Sync, S: Strategy, M, I: Source<M>>(
         let _ = visited.visit();
         item
     };
-    if called == Called::Map {
+    if matches!(called, Called::Map) {
         return done(on.map(source, map_op));
     }
     let (rt, alloc, site) = (on.rt, on.alloc, on.site);
@@ -100,7 +105,7 @@ fn map_init<Rt: Threads + Wait + Sync, S: Strategy, M, I: Source<M>>(
         let _ = visited.visit();
         item
     };
-    if called == Called::MapInit {
+    if matches!(called, Called::MapInit) {
         return done(on.map_init(source, init, map_op));
     }
     let (rt, alloc, site) = (on.rt, on.alloc, on.site);
@@ -173,10 +178,10 @@ pub fn make_fallible<Rt: Threads + Wait + Sync, S: Strategy, M, I: Source<M>>(
 ) -> Result<(), Trouble<u32>>
     requires { I.can source }
 {
-    if called == Called::TryMap {
-        return try_map(on, source, visited);
+    match called {
+        Called::TryMap => try_map(on, source, visited),
+        _ => try_fold(on, source, visited),
     }
-    try_fold(on, source, visited)
 }
 
 /// Makes such a call, of which each closure visits once for each item. A map returns the items.

@@ -1,8 +1,9 @@
 //! The sources that a list call may be given, each of any length.
-use crate::tests::probes::calls::{Called, make, make_fallible};
+use crate::tests::probes::calls::{Called, make, make_fallible, may_fail};
 use crate::tests::probes::visits::Visitor;
 use commonware_parallel::{
-    Chunks, Copies, Counted, Enumerated, Fault, Indices, On, Pairs, Site, Strategy, Trouble, Zipped,
+    Chunks, Copies, Counted, Enumerated, Fault, Indices, On, Pairs, Producer, Site, Strategy,
+    Trouble, Zipped,
 };
 use std::alloc::Global;
 use std::num::NonZeroUsize;
@@ -11,7 +12,7 @@ use std::thread::Threads;
 use uses::own_lists::{Backwards, Wrapped};
 
 /// A source.
-#[derive(Clone, Copy, Debug, PartialEq, Eq)]
+#[derive(Clone, Copy, Debug)]
 pub enum Given {
     Slice,
     Copies,
@@ -50,76 +51,93 @@ pub const FEW: [Given; 3] = [Given::Slice, Given::Vector, Given::Iterator];
 /// fallible map and the fallible fold. No call's own body differs by its source, but how a list is
 /// cut does.
 pub fn is_made(called: Called, given: Given) -> bool {
-    matches!(given, Given::Slice | Given::Vector | Given::Iterator)
-        || matches!(called, Called::TryMap | Called::TryFold)
+    matches!(given, Given::Slice | Given::Vector | Given::Iterator) || may_fail(called)
 }
 
-// Twice as many as the longest list has.
-static NUMBERS: [u32; 2000] = [7; 2000];
-
-// The first ones of them.
-fn first(len: usize) -> &'static [u32] {
-    &NUMBERS[..len.min(2000)]
+/// That many items, which are a tree's leaves too.
+pub fn leaves(alloc: Global, count: usize) -> Result<Vec<usize>, Fault> {
+    let mut leaves = Vec::with_capacity(alloc, count)?;
+    for _ in 0..count {
+        leaves.push(0)?;
+    }
+    Ok(leaves)
 }
 
-fn vector(alloc: Global, len: usize) -> Result<Vec<u32>, Fault> {
-    let mut items = Vec::new(alloc);
-    items.extend_from_slice(first(len))?;
-    Ok(items)
+// The fallible call over a list that is cut as it is.
+fn over_list<Rt: Threads + Wait + Sync, S: Strategy, P: Producer>(
+    on: &On<'_, Rt, S, Site>,
+    called: Called,
+    list: P,
+    visited: Visitor<'_>,
+) -> Result<(), Trouble<u32>> {
+    make_fallible(on, called, list, visited)
 }
 
-// The call over lists that are cut as they are.
+// The same over the pairs of two lists.
+fn over_zipped<Rt: Threads + Wait + Sync, S: Strategy, L: Producer, R: Producer>(
+    on: &On<'_, Rt, S, Site>,
+    called: Called,
+    left: L,
+    right: R,
+    visited: Visitor<'_>,
+) -> Result<(), Trouble<u32>> {
+    over_list(on, called, Zipped::new(left, right), visited)
+}
+
+// The same over a list whose items are numbered.
+fn over_enumerated<Rt: Threads + Wait + Sync, S: Strategy, P: Producer>(
+    on: &On<'_, Rt, S, Site>,
+    called: Called,
+    list: P,
+    visited: Visitor<'_>,
+) -> Result<(), Trouble<u32>> {
+    over_list(on, called, Enumerated::new(list), visited)
+}
+
+// The same over the chunks of two of a list, alone or zipped.
+fn over_chunks<Rt: Threads + Wait + Sync, S: Strategy>(
+    on: &On<'_, Rt, S, Site>,
+    called: Called,
+    given: Given,
+    slice: &[usize],
+    visited: Visitor<'_>,
+) -> Result<(), Trouble<u32>> {
+    let size = NonZeroUsize::MIN.saturating_add(1);
+    let chunks = Chunks { slice, size };
+    if matches!(given, Given::Chunks) {
+        return over_list(on, called, chunks, visited);
+    }
+    let indices = Indices {
+        start: 3,
+        end: (slice.len() / 2).saturating_add(3),
+    };
+    over_zipped(on, called, chunks, indices, visited)
+}
+
+// The call over lists that are cut as they are, and a source of a user's own.
 fn make_over_parts<Rt: Threads + Wait + Sync, S: Strategy>(
     on: &On<'_, Rt, S, Site>,
     called: Called,
     given: Given,
-    len: usize,
+    slice: &[usize],
     visited: Visitor<'_>,
 ) -> Result<(), Trouble<u32>> {
-    let slice = first(len);
-    let copies = Copies { slice };
-    let indices = Indices {
-        start: 3,
-        end: len.saturating_add(3),
-    };
-    let chunks = Chunks {
-        slice: first(len.saturating_mul(2)),
-        size: NonZeroUsize::MIN.saturating_add(1),
-    };
     match given {
-        Given::Copies => make_fallible(on, called, copies, visited),
-        Given::Indices => make_fallible(on, called, indices, visited),
-        Given::Chunks => make_fallible(on, called, chunks, visited),
-        Given::Zipped => make_fallible(on, called, Zipped::new(chunks, indices), visited),
-        Given::Enumerated => make_fallible(on, called, Enumerated::new(copies), visited),
-        _ => make_fallible(on, called, Backwards { slice }, visited),
+        Given::Copies => over_list(on, called, Copies { slice }, visited),
+        Given::Enumerated => over_enumerated(on, called, Copies { slice }, visited),
+        Given::Producer => over_list(on, called, Backwards { slice }, visited),
+        Given::OwnSource => {
+            let wrapped = Wrapped {
+                front: slice,
+                back: &[],
+            };
+            make_fallible(on, called, wrapped, visited)
+        }
+        _ => over_chunks(on, called, given, slice, visited),
     }
 }
 
-// The call over owned items.
-fn make_over_items<Rt: Threads + Wait + Sync, S: Strategy>(
-    on: &On<'_, Rt, S, Site>,
-    called: Called,
-    len: usize,
-    visited: Visitor<'_>,
-) -> Result<(), Trouble<u32>> {
-    let items = vector(on.alloc, len)?;
-    make(on, called, items, visited)
-}
-
-// The call over pairs of them.
-fn make_over_pairs<Rt: Threads + Wait + Sync, S: Strategy>(
-    on: &On<'_, Rt, S, Site>,
-    called: Called,
-    len: usize,
-    visited: Visitor<'_>,
-) -> Result<(), Trouble<u32>> {
-    let items = vector(on.alloc, len.saturating_mul(2))?;
-    let (pairs, _none) = Pairs::new(items);
-    make_fallible(on, called, pairs, visited)
-}
-
-/// The call over such a source of that many items, at most 1000: one that a table has.
+/// The call over such a source of that many items: one that a table has.
 pub fn make_over<Rt: Threads + Wait + Sync, S: Strategy>(
     on: &On<'_, Rt, S, Site>,
     called: Called,
@@ -127,20 +145,27 @@ pub fn make_over<Rt: Threads + Wait + Sync, S: Strategy>(
     len: usize,
     visited: Visitor<'_>,
 ) -> Result<(), Trouble<u32>> {
+    let twice = len.saturating_mul(2);
+    let start = 3usize;
+    let end = len.saturating_add(start);
     match given {
         Given::Slice | Given::Vector | Given::Iterator => {
             make_over_few(on, called, given, len, visited)
         }
-        Given::Pairs => make_over_pairs(on, called, len, visited),
+        Given::Indices => over_list(on, called, Indices { start, end }, visited),
         Given::Counted => make_fallible(on, called, Counted { iter: 0..len }, visited),
-        Given::OwnSource => {
-            let wrapped = Wrapped {
-                front: first(len),
-                back: &[],
-            };
-            make_fallible(on, called, wrapped, visited)
+        Given::Pairs => {
+            let (pairs, _none) = Pairs::new(leaves(on.alloc, twice)?);
+            make_fallible(on, called, pairs, visited)
         }
-        _ => make_over_parts(on, called, given, len, visited),
+        Given::Chunks | Given::Zipped => {
+            let items = leaves(on.alloc, twice)?;
+            make_over_parts(on, called, given, items.as_slice(), visited)
+        }
+        _ => {
+            let items = leaves(on.alloc, len)?;
+            make_over_parts(on, called, given, items.as_slice(), visited)
+        }
     }
 }
 
@@ -152,9 +177,12 @@ pub fn make_over_few<Rt: Threads + Wait + Sync, S: Strategy>(
     len: usize,
     visited: Visitor<'_>,
 ) -> Result<(), Trouble<u32>> {
+    if matches!(given, Given::Iterator) {
+        return make(on, called, 0..len, visited);
+    }
+    let items = leaves(on.alloc, len)?;
     match given {
-        Given::Vector => make_over_items(on, called, len, visited),
-        Given::Iterator => make(on, called, first(len).iter().copied(), visited),
-        _ => make(on, called, first(len), visited),
+        Given::Vector => make(on, called, items, visited),
+        _ => make(on, called, items.as_slice(), visited),
     }
 }

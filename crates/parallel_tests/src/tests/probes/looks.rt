@@ -8,7 +8,7 @@ use crate::tests::same::row;
 use crate::tests::steps::{add_counts, no_count};
 use crate::tests::strategies::{SITE, pool};
 use commonware_parallel::mocks::{Explorer, Rule};
-use commonware_parallel::{Fault, On, Site, Strategy, Trouble};
+use commonware_parallel::{Fault, On, Site, Source, Strategy, Trouble};
 use std::alloc::Global;
 use std::process::Abort;
 use std::sync::Wait;
@@ -176,16 +176,27 @@ impl Drop for Kept<'_> {
     }
 }
 
-// Its place, or the error of the first one.
-fn hand_over(item: Kept<'_>) -> Result<usize, u32> {
-    let mut item = item;
-    item.is_handed_over = true;
-    item.known.hand_over(item.at)
+// What is handed over.
+trait Handed {
+    // Its place, or the error of the first one.
+    fn hand_over(self) -> Result<usize, u32>;
+}
+
+impl Handed for Kept<'_> {
+    fn hand_over(self) -> Result<usize, u32> {
+        let mut item = self;
+        item.is_handed_over = true;
+        item.known.hand_over(item.at)
+    }
+}
+
+fn hand_over<T: Handed>(item: T) -> Result<usize, u32> {
+    item.hand_over()
 }
 
 // One more, or that error.
-fn count_over(count: usize, item: Kept<'_>) -> Result<usize, u32> {
-    match hand_over(item) {
+fn count_over<T: Handed>(count: usize, item: T) -> Result<usize, u32> {
+    match item.hand_over() {
         Ok(_) => Ok(count.wrapping_add(1)),
         Err(error) => Err(error),
     }
@@ -204,6 +215,22 @@ fn four_segments<'a>(alloc: Global, known: &'a Known) -> Result<Vec<Kept<'a>>, F
     Ok(items)
 }
 
+// The trouble of such a call over a list of such items.
+fn trouble_of<Rt: Threads + Wait + Sync, S: Strategy, M, I: Source<M>>(
+    on: &On<'_, Rt, S, Site>,
+    called: Called,
+    source: I,
+) -> Option<Trouble<u32>>
+where
+    I::Item: Handed,
+    requires { I.can source }
+{
+    match called {
+        Called::TryMap => on.try_map(source, hand_over).err(),
+        _ => on.try_fold(source, no_count, count_over, add_counts).err(),
+    }
+}
+
 // How many other items were handed over, of a list or an iterator, and the call's trouble.
 fn other_calls<Rt: Threads + Wait + Abort + Sync, S: Strategy>(
     on: &On<'_, Rt, S, Site>,
@@ -212,13 +239,10 @@ fn other_calls<Rt: Threads + Wait + Abort + Sync, S: Strategy>(
 ) -> (usize, Option<Trouble<u32>>) {
     let known = Known::new();
     let items = four_segments(on.alloc, &known).expect(on.rt, "memory for items");
-    let trouble = match (called, is_iterator) {
-        (Called::TryMap, false) => on.try_map(items, hand_over).err(),
-        (Called::TryMap, true) => on.try_map(items.into_iter(), hand_over).err(),
-        (_, false) => on.try_fold(items, no_count, count_over, add_counts).err(),
-        (_, true) => on
-            .try_fold(items.into_iter(), no_count, count_over, add_counts)
-            .err(),
+    let trouble = if is_iterator {
+        trouble_of(on, called, items.into_iter())
+    } else {
+        trouble_of(on, called, items)
     };
     (known.calls.load(Ordering::SeqCst), trouble)
 }

@@ -3,12 +3,12 @@
 ghost use Rattle.std.specs.Prelude.{◌≡◌, ⊤};
 
 use crate::tests::probes::calls::{CALLS, Called};
-use crate::tests::probes::given::{FEW, Given, SOURCES, is_made, make_over, make_over_few};
+use crate::tests::probes::given::{FEW, Given, SOURCES, is_made, leaves, make_over, make_over_few};
 use crate::tests::probes::meetings::Meeting;
 use crate::tests::probes::noting::Noting;
 use crate::tests::probes::records::{Squares, fresh};
 use crate::tests::probes::sides::{
-    BATCHES, FILLINGS, Filling, change, fill, join, leaves, root, run_batch, sort,
+    BATCHES, FILLINGS, Filling, change, fill, join, root, run_batch, sort,
 };
 use crate::tests::probes::visits::Visitor;
 use crate::tests::roots::{ROOTED, Rooted};
@@ -55,18 +55,16 @@ fn met<Rt: Abort>(
 
 // The same of all list calls over that many items of each source.
 fn items_meet<Rt: Threads + Wait + Abort + Sync, S: Strategy>(
-    rt: &Rt,
-    alloc: Global,
-    strategy: &S,
+    on: &On<'_, Rt, S, Site>,
     len: usize,
     turns: u32,
 ) {
-    let on = on(rt, alloc, strategy);
+    let (rt, threads) = (on.rt, on.strategy.thread_number().get());
     for called in CALLS {
         for given in SOURCES {
             if is_made(called, given) {
-                let meeting = Meeting::of(strategy.thread_number().get(), turns);
-                let made = make_over(&on, called, given, len, Visitor::Meets(&meeting));
+                let meeting = Meeting::of(threads, turns);
+                let made = make_over(on, called, given, len, Visitor::Meets(&meeting));
                 met(rt, (called, given, len), made, &meeting);
             }
         }
@@ -85,7 +83,7 @@ fn as_many_items_of_each_source_meet_as_there_are_threads(rt: HostRuntime) {
         (4, 1000, 0),
     ] {
         let own = Noting::new(&rt, alloc, threads);
-        items_meet(&rt, alloc, &own, len, turns);
+        items_meet(&on(&rt, alloc, &own), len, turns);
     }
 }
 
@@ -95,18 +93,13 @@ fn lengths(threads: usize) -> [usize; 4] {
 }
 
 // The same over few sources, as many items as there are threads, and a hundred.
-fn few_items_meet<Rt: Threads + Wait + Abort + Sync, S: Strategy>(
-    rt: &Rt,
-    alloc: Global,
-    strategy: &S,
-) {
-    let threads = strategy.thread_number().get();
-    let on = on(rt, alloc, strategy);
+fn few_items_meet<Rt: Threads + Wait + Abort + Sync, S: Strategy>(on: &On<'_, Rt, S, Site>) {
+    let (rt, threads) = (on.rt, on.strategy.thread_number().get());
     for called in CALLS {
         for given in FEW {
             for len in [threads, 100] {
                 let meeting = Meeting::of(threads, TURNS);
-                let made = make_over_few(&on, called, given, len, Visitor::Meets(&meeting));
+                let made = make_over_few(on, called, given, len, Visitor::Meets(&meeting));
                 met(rt, (called, given, len), made, &meeting);
             }
         }
@@ -125,18 +118,13 @@ pub fn numbers(rt: &impl Abort, alloc: Global, count: usize) -> Vec<u32> {
 }
 
 // The same of each sort: of a list that has just as many parts as there are threads.
-fn parts_of_sorts_meet<Rt: Threads + Wait + Abort + Sync, S: Strategy>(
-    rt: &Rt,
-    alloc: Global,
-    strategy: &S,
-) {
-    let threads = strategy.thread_number().get();
-    let on = on(rt, alloc, strategy);
+fn parts_of_sorts_meet<Rt: Threads + Wait + Abort + Sync, S: Strategy>(on: &On<'_, Rt, S, Site>) {
+    let (rt, threads) = (on.rt, on.strategy.thread_number().get());
     for sorted in [true, false] {
-        let mut numbers = numbers(rt, alloc, threads.saturating_mul(8192));
+        let mut numbers = numbers(rt, on.alloc, threads.saturating_mul(8192));
         let meeting = Meeting::of(threads, TURNS);
         let visitor = Visitor::MeetsEarly(&meeting);
-        let outcome = sort(&on, sorted, numbers.as_mut_slice(), visitor);
+        let outcome = sort(on, sorted, numbers.as_mut_slice(), visitor);
         returns(rt, sorted, outcome, ());
         let found = (meeting.most(), numbers.is_sorted());
         row(rt, (sorted, threads), found, (threads, true));
@@ -144,13 +132,8 @@ fn parts_of_sorts_meet<Rt: Threads + Wait + Abort + Sync, S: Strategy>(
 }
 
 // The same of a change in place: of items, and of chunks of two.
-fn changes_meet<Rt: Threads + Wait + Abort + Sync, S: Strategy>(
-    rt: &Rt,
-    alloc: Global,
-    strategy: &S,
-) {
-    let threads = strategy.thread_number().get();
-    let on = on(rt, alloc, strategy);
+fn changes_meet<Rt: Threads + Wait + Abort + Sync, S: Strategy>(on: &On<'_, Rt, S, Site>) {
+    let (rt, threads) = (on.rt, on.strategy.thread_number().get());
     for len in lengths(threads) {
         for is_chunked in [false, true] {
             let count = if is_chunked {
@@ -158,10 +141,10 @@ fn changes_meet<Rt: Threads + Wait + Abort + Sync, S: Strategy>(
             } else {
                 len
             };
-            let mut numbers = numbers(rt, alloc, count);
+            let mut numbers = numbers(rt, on.alloc, count);
             let meeting = Meeting::of(threads, TURNS);
             let visitor = Visitor::Meets(&meeting);
-            let changed = change(&on, is_chunked, numbers.as_mut_slice(), visitor);
+            let changed = change(on, is_chunked, numbers.as_mut_slice(), visitor);
             let found = (changed, meeting.most());
             row(rt, (is_chunked, len), found, (Ok(()), threads));
         }
@@ -169,35 +152,21 @@ fn changes_meet<Rt: Threads + Wait + Abort + Sync, S: Strategy>(
 }
 
 // The same of a join, which has two closures.
-fn sides_of_a_join_meet<Rt: Threads + Wait + Abort + Sync, S: Strategy>(
-    rt: &Rt,
-    alloc: Global,
-    strategy: &S,
-) {
-    let on = on(rt, alloc, strategy);
+fn sides_of_a_join_meet<Rt: Threads + Wait + Abort + Sync, S: Strategy>(on: &On<'_, Rt, S, Site>) {
+    let rt = on.rt;
     let meeting = Meeting::of(2, TURNS);
-    row(rt, "join", join(&on, Visitor::Meets(&meeting)), Ok(()));
+    row(rt, "join", join(on, Visitor::Meets(&meeting)), Ok(()));
     row(rt, "join", meeting.most(), 2);
 }
 
 // The same of what is prepared of a batch.
-fn ranges_meet<Rt: Threads + Wait + Abort + Sync, S: Strategy>(
-    rt: &Rt,
-    alloc: Global,
-    strategy: &S,
-) {
-    let threads = strategy.thread_number().get();
-    let on = on(rt, alloc, strategy);
+fn ranges_meet<Rt: Threads + Wait + Abort + Sync, S: Strategy>(on: &On<'_, Rt, S, Site>) {
+    let (rt, threads) = (on.rt, on.strategy.thread_number().get());
     for len in lengths(threads) {
         for batched in BATCHES {
             let meeting = Meeting::of(threads, TURNS);
-            let mapped = run_batch(
-                &on,
-                batched,
-                len,
-                NonZeroUsize::MIN,
-                Visitor::Meets(&meeting),
-            );
+            let visitor = Visitor::Meets(&meeting);
+            let mapped = run_batch(on, batched, len, NonZeroUsize::MIN, visitor);
             let found = (mapped, meeting.most());
             row(rt, (batched, len), found, (Ok(threads), threads));
         }
@@ -207,22 +176,19 @@ fn ranges_meet<Rt: Threads + Wait + Abort + Sync, S: Strategy>(
 // The same of the fills of tiles on rows that are too short to be cut: as many meet as there are
 // rows, where these are fewer than threads. Then of one row, which is cut.
 fn fills_meet<Rt: Threads + Wait + Abort + Sync, S: Strategy>(
-    rt: &Rt,
-    alloc: Global,
-    strategy: &S,
+    on: &On<'_, Rt, S, Site>,
     filling: Filling,
 ) {
-    let threads = strategy.thread_number().get();
-    let on = on(rt, alloc, strategy);
+    let (rt, threads) = (on.rt, on.strategy.thread_number().get());
     for rows in [2, threads, threads.saturating_mul(2), 100] {
         let meeting = Meeting::of(threads.min(rows), TURNS);
-        let filled = fill(&on, filling, rows, 10, Visitor::Meets(&meeting));
+        let filled = fill(on, filling, rows, 10, Visitor::Meets(&meeting));
         let found = (filled, meeting.most());
         let wanted = (Ok(rows), threads.min(rows));
         row(rt, (filling, rows, threads), found, wanted);
     }
     let meeting = Meeting::of(threads, TURNS);
-    let filled = fill(&on, filling, 1, 1000, Visitor::Meets(&meeting));
+    let filled = fill(on, filling, 1, 1000, Visitor::Meets(&meeting));
     let found = (filled.is_ok(), meeting.most());
     row(rt, (filling, "cut", threads), found, (true, threads));
 }
@@ -243,20 +209,17 @@ fn levels_of(alloc: Global, threads: usize, leaves: usize) -> Result<Vec<Meeting
 // The same of the pairs of each level of a tree: as many meet as there are pairs, where these are
 // fewer than threads.
 fn pairs_meet<Rt: Threads + Wait + Abort + Sync, S: Strategy>(
-    rt: &Rt,
-    alloc: Global,
-    strategy: &S,
+    on: &On<'_, Rt, S, Site>,
     rooted: Rooted,
 ) {
-    let threads = strategy.thread_number().get();
-    let on = on(rt, alloc, strategy);
+    let (rt, threads) = (on.rt, on.strategy.thread_number().get());
     // Of sixteen leaves a thread, and more, there are blocks.
     for share in [16, 37] {
         let count = threads.saturating_mul(share);
-        let levels = levels_of(alloc, threads, count).expect(rt, "memory for meetings");
+        let levels = levels_of(on.alloc, threads, count).expect(rt, "memory for meetings");
         let visited = Visitor::MeetsByLevel(levels.as_slice());
-        let leaves = leaves(alloc, count).expect(rt, "memory for leaves");
-        let found = root(&on, rooted, leaves, visited).expect(rt, "memory for nodes");
+        let leaves = leaves(on.alloc, count).expect(rt, "memory for leaves");
+        let found = root(on, rooted, leaves, visited).expect(rt, "memory for nodes");
         row(rt, (rooted, count), found, Some(levels.len()));
         for (level, meeting) in levels.iter().enumerate() {
             let of = (rooted, count, level, threads);
@@ -284,17 +247,16 @@ impl<S: Drop> Job<S, u32> for Attends {
 
 // Stops the test where jobs, each handed off after the one before, don't meet their caller.
 fn jobs_meet_their_caller<Rt: Threads + Wait + Abort + Copy + Send + 'static, S: Strategy>(
-    rt: &Rt,
-    alloc: Global,
-    strategy: &S,
+    on: &On<'_, Rt, S, Site>,
 ) {
+    let (rt, alloc) = (on.rt, on.alloc);
     for jobs in [1usize, 2, 3] {
         let all = jobs.wrapping_add(1);
         let meeting = Meeting::of(all, 0);
         let meeting = Arc::new(alloc, meeting).expect(rt, "memory for a meeting");
         for job in 0..jobs {
             let meeting = Arc::try_clone(&meeting).expect(rt, "a handle");
-            let spawned = strategy.spawn(rt, alloc, SITE, 1, Attends { meeting });
+            let spawned = on.strategy.spawn(rt, alloc, SITE, 1, Attends { meeting });
             row(rt, ("job", job), spawned.is_ok(), true);
         }
         meeting.attend();
@@ -308,18 +270,19 @@ fn all_meet<Rt: Threads + Wait + Abort + Copy + Send + Sync + 'static, S: Strate
     alloc: Global,
     strategy: &S,
 ) {
-    few_items_meet(rt, alloc, strategy);
-    parts_of_sorts_meet(rt, alloc, strategy);
-    changes_meet(rt, alloc, strategy);
-    sides_of_a_join_meet(rt, alloc, strategy);
-    ranges_meet(rt, alloc, strategy);
+    let on = on(rt, alloc, strategy);
+    few_items_meet(&on);
+    parts_of_sorts_meet(&on);
+    changes_meet(&on);
+    sides_of_a_join_meet(&on);
+    ranges_meet(&on);
     for filling in FILLINGS {
-        fills_meet(rt, alloc, strategy, filling);
+        fills_meet(&on, filling);
     }
     for rooted in ROOTED {
-        pairs_meet(rt, alloc, strategy, rooted);
+        pairs_meet(&on, rooted);
     }
-    jobs_meet_their_caller(rt, alloc, strategy);
+    jobs_meet_their_caller(&on);
 }
 
 #[test]
@@ -336,6 +299,6 @@ fn as_many_closures_of_each_call_meet_as_there_are_threads(rt: HostRuntime) {
     }
     // Changes in place, which have threads of their own, on more of them.
     for threads in 5..9usize {
-        changes_meet(&rt, alloc, &unasked(&rt, alloc, threads));
+        changes_meet(&on(&rt, alloc, &unasked(&rt, alloc, threads)));
     }
 }

@@ -2,9 +2,10 @@
 //! a map is refused before it calls anything.
 use crate::tests::no_memory::all_places;
 use crate::tests::probes::calls::{CALLS, Called, MULTIPLIER, make};
+use crate::tests::probes::given::leaves;
 use crate::tests::probes::logs::{Event, Who};
 use crate::tests::probes::noting::Noting;
-use crate::tests::probes::sides::{leaves, root};
+use crate::tests::probes::sides::root;
 use crate::tests::probes::visits::{Times, Visitor};
 use crate::tests::roots::Rooted;
 use crate::tests::same::row;
@@ -47,10 +48,9 @@ fn outcome<Rt: Threads + Wait + Sync, S: Strategy, M, I: Source<M>>(
 // That of a fold which calls its closure for each item, and begins a state for each segment where
 // it has some.
 fn folded(called: Called, segments: usize) -> Outcome {
-    let states = if called == Called::FoldInit {
-        segments
-    } else {
-        0
+    let states = match called {
+        Called::FoldInit => segments,
+        _ => 0,
     };
     (Ok(()), (LEN, states))
 }
@@ -77,36 +77,39 @@ fn cut_lists_take_no_block<Rt: Threads + Wait + Abort + Sync, S: Strategy>(
 }
 
 // Results of items that take no place: by a map, by one that may fail and by one with a state.
-fn forget(_item: usize) {}
+fn forget<T: Drop>(_item: T) {}
 
-fn forget_or_fail(_item: usize) -> Result<(), u32> {
+fn forget_or_fail<T: Drop>(_item: T) -> Result<(), u32> {
     Ok(())
 }
 
-fn forget_by_state(_state: &mut (), _item: usize) {}
+fn forget_by_state<T: Drop>(_state: &mut (), _item: T) {}
 
-// How many such results a map of an iterator's items has.
-fn mapped<Rt: Threads + Wait + Sync, S: Strategy>(
+// How many such results a map of a source's items has.
+fn mapped<Rt: Threads + Wait + Sync, S: Strategy, M, I: Source<M>>(
     on: &On<'_, Rt, S, Site>,
     called: Called,
-) -> Result<usize, Trouble<u32>> {
+    source: I,
+) -> Result<usize, Trouble<u32>>
+    requires { I.can source }
+{
     let (rt, alloc, site) = (on.rt, on.alloc, on.site);
     let results = match called {
-        Called::Map => on.map(0..LEN, forget)?,
+        Called::Map => on.map(source, forget)?,
         Called::MultipliedMap => on
             .strategy
-            .map_collect_vec_with_multiplier(rt, alloc, site, 0..LEN, MULTIPLIER, forget)?,
-        Called::MapInit => on.map_init(0..LEN, nothing, forget_by_state)?,
+            .map_collect_vec_with_multiplier(rt, alloc, site, source, MULTIPLIER, forget)?,
+        Called::MapInit => on.map_init(source, nothing, forget_by_state)?,
         Called::MultipliedMapInit => on.strategy.map_init_collect_vec_with_multiplier(
             rt,
             alloc,
             site,
-            0..LEN,
+            source,
             MULTIPLIER,
             nothing,
             forget_by_state,
         )?,
-        _ => on.try_map(0..LEN, forget_or_fail)?,
+        _ => on.try_map(source, forget_or_fail)?,
     };
     Ok(results.len())
 }
@@ -123,7 +126,7 @@ fn serial_calls_gather_nothing<Rt: Threads + Wait + Abort + Sync, S: Strategy>(
             Called::Fold | Called::FoldInit | Called::TryFold | Called::Partition => {
                 row(rt, called, outcome(&on, called, 0..LEN), folded(called, 1));
             }
-            _ => row(rt, called, mapped(&on, called), Ok(LEN)),
+            _ => row(rt, called, mapped(&on, called, 0..LEN), Ok(LEN)),
         }
     }
 }

@@ -6,17 +6,18 @@
 //! that a sample recorded twice shows.
 ghost use Rattle.std.specs.Prelude.{⊤};
 
+use crate::tests::probes::acts::{Act, does};
 use crate::tests::probes::calls::{CALLS, Called, MULTIPLIER};
-use crate::tests::probes::given::{FEW, Given, make_over_few};
+use crate::tests::probes::given::{FEW, Given};
 use crate::tests::probes::logs::Log;
-use crate::tests::probes::sides::{SIDES, Side, call_of_side, leaves, make_side, root};
+use crate::tests::probes::sides::{SIDES, Side, call_of_side};
 use crate::tests::probes::visits::Visitor;
 use crate::tests::roots::Rooted;
 use crate::tests::same::{returns, row};
 use crate::tests::steps::{give_one, give_two};
 use crate::tests::strategies::{SITE, number};
 use commonware_parallel::policy::{Key, RunExecution, SpawnSample};
-use commonware_parallel::{Clock, Job, On, Policy, Rayon, Site, Strategy, Trouble};
+use commonware_parallel::{Clock, Job, On, Policy, Rayon, Strategy, Trouble};
 use futures::executor::block_on;
 use std::alloc::{AllocGlobal, Global};
 use std::fmt::Debug;
@@ -82,13 +83,21 @@ impl Asked {
         returns(rt, "known", known, ());
     }
 
-    fn on<'a, Rt>(&'a self, rt: &'a Rt, alloc: Global) -> On<'a, Rt, Rayon<Squares>, Site> {
-        On {
+    // The outcome of such a call through the pool.
+    fn make<Rt: Threads + Wait + Abort + Sync>(
+        &self,
+        rt: &Rt,
+        alloc: Global,
+        called: Act,
+        visited: Visitor<'_>,
+    ) -> Result<(), Trouble<u32>> {
+        let on = On {
             rt,
             alloc,
             strategy: &self.pool,
             site: SITE,
-        }
+        };
+        does(&on, called, visited)
     }
 
     fn readings(&self) -> u64 {
@@ -138,7 +147,8 @@ fn each_list_call_records_one_time_at_its_key(rt: HostRuntime) {
             asked.knows(&rt, key);
             // The second call isn't measured, and reads no clock.
             for turn in 1..3u32 {
-                let made = make_over_few(&asked.on(&rt, alloc), called, given, 16, Visitor::Passes);
+                let list = Act::List(called, given, 16);
+                let made = asked.make(&rt, alloc, list, Visitor::Passes);
                 row(&rt, (called, given), made, Ok(()));
                 asked.has_one(&rt, alloc, (called, given, turn), key);
             }
@@ -155,7 +165,8 @@ fn a_list_call_that_fails_records_nothing(rt: HostRuntime) {
         asked.knows(&rt, key);
         let log = Log::new(alloc);
         let failing = Visitor::Fails(&log);
-        let made = make_over_few(&asked.on(&rt, alloc), called, Given::Slice, 16, failing);
+        let list = Act::List(called, Given::Slice, 16);
+        let made = asked.make(&rt, alloc, list, failing);
         row(&rt, called, made, Err(Trouble::Closure(7)));
         // It was to be measured, and the clock was read before it.
         let entry = asked.policy.run_entry(&rt, key).expect(&rt, "an entry");
@@ -172,14 +183,14 @@ fn side_records<Rt: Threads + Wait + Abort + Sync>(rt: &Rt, alloc: Global, side:
     let call = call_of_side(side);
     let key = Key::new(SITE, call.len, call.work, 4);
     if matches!(side, Side::Join) {
-        let made = make_side(&asked.on(rt, alloc), side, Visitor::Passes);
+        let made = asked.make(rt, alloc, Act::Side(side), Visitor::Passes);
         row(rt, side, (made, asked.readings()), (Ok(()), 0));
         row(rt, side, asked.policy.run_entry(rt, key).is_none(), true);
         return;
     }
     asked.knows(rt, key);
     for turn in 1..3u32 {
-        let made = make_side(&asked.on(rt, alloc), side, Visitor::Passes);
+        let made = asked.make(rt, alloc, Act::Side(side), Visitor::Passes);
         row(rt, side, made, Ok(()));
         asked.has_one(rt, alloc, (side, turn), key);
     }
@@ -215,9 +226,8 @@ fn tree_records<Rt: Threads + Wait + Abort + Sync>(
     for (len, work) in calls {
         asked.knows(rt, Key::new(SITE, *len, *work, 4));
     }
-    let leaves = leaves(alloc, count).expect(rt, "memory for leaves");
-    let found = root(&asked.on(rt, alloc), rooted, leaves, Visitor::Passes);
-    row(rt, (rooted, count), found.is_ok(), true);
+    let found = asked.make(rt, alloc, Act::Tree(rooted, count), Visitor::Passes);
+    row(rt, (rooted, count), found, Ok(()));
     let twice = (calls.len() as u64).wrapping_mul(2);
     row(rt, (rooted, count), asked.readings(), twice);
     // Between the readings of each call were 1, 5, 9 milliseconds, and so on.

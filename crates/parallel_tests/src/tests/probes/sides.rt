@@ -4,6 +4,7 @@ ghost use Rattle.parallel_shares.specs.Cut.{BalancedCut};
 ghost use Rattle.commonware_parallel.specs.Batches.{ranges_of};
 
 use crate::tests::probes::calls::{done, tried};
+use crate::tests::probes::given::leaves;
 use crate::tests::probes::visits::Visitor;
 use crate::tests::roots::{Rooted, root_of};
 use crate::tests::steps::{cells_counted, no_count};
@@ -63,7 +64,7 @@ pub fn join<Rt: Threads + Wait + Sync, S: Strategy>(
 
 /// What is done with a batch: a map of what is prepared of it, which may fail or can't, in one that
 /// may fail or can't; or a change of a list's parts where they lie.
-#[derive(Clone, Copy, Debug, PartialEq, Eq)]
+#[derive(Clone, Copy, Debug)]
 pub enum Batched {
     Map,
     TryMap,
@@ -98,7 +99,7 @@ fn map_ranges<Rt: Threads + Wait + Sync, S: Strategy>(
 ) -> Result<usize, Trouble<u32>> {
     let prepare = |ranges: &[Range<usize>]| lengths_of(alloc, ranges);
     let map_op = |_: usize| visited.visit();
-    if batched == Batched::Map {
+    if matches!(batched, Batched::Map) {
         return match batches.map_collect_vec(rt, alloc, prepare, map_op) {
             Ok(results) => Ok(results.len()),
             Err(fault) => Err(Trouble::Fault(fault)),
@@ -151,7 +152,7 @@ pub fn run_batch<Rt: Threads + Wait + Sync, S: Strategy>(
     minimum: NonZeroUsize,
     visited: Visitor<'_>,
 ) -> Result<usize, Trouble<u32>> {
-    if batched == Batched::Change {
+    if matches!(batched, Batched::Change) {
         return match change_batch(on, len, minimum, visited) {
             Ok(count) => Ok(count),
             Err(fault) => Err(Trouble::Fault(fault)),
@@ -159,7 +160,7 @@ pub fn run_batch<Rt: Threads + Wait + Sync, S: Strategy>(
     }
     let (rt, alloc, site) = (on.rt, on.alloc, on.site);
     let run = |batches: Batches<'_, S, Site>| map_ranges(rt, alloc, batches, batched, visited);
-    if batched == Batched::TryBatch {
+    if matches!(batched, Batched::TryBatch) {
         return flat(
             on.strategy
                 .try_run_batches(rt, alloc, site, len, minimum, 3, run),
@@ -175,7 +176,7 @@ pub fn run_batch<Rt: Threads + Wait + Sync, S: Strategy>(
 }
 
 /// How tiles are filled: with a result for each stretch or for each row, or by a kernel by row.
-#[derive(Clone, Copy, Debug, PartialEq, Eq)]
+#[derive(Clone, Copy, Debug)]
 pub enum Filling {
     Stretches,
     Rows,
@@ -206,7 +207,7 @@ fn fill_tiles<Rt: Threads + Wait + Sync, S: Strategy>(
         let _ = visited.visit();
         *count = count.saturating_add(columns.len());
     };
-    let filled = if filling == Filling::Rows {
+    let filled = if matches!(filling, Filling::Rows) {
         tiles.fill_merge_collect_vec(rt, alloc, begin, fill, cells_counted, usize::wrapping_add)
     } else {
         tiles.fill_collect_vec(rt, alloc, begin, fill, cells_counted)
@@ -251,7 +252,7 @@ pub fn fill<Rt: Threads + Wait + Sync, S: Strategy>(
     len: usize,
     visited: Visitor<'_>,
 ) -> Result<usize, Fault> {
-    if filling == Filling::Kernel {
+    if matches!(filling, Filling::Kernel) {
         return fold_rows(on, rows, len, visited);
     }
     let grids = [Grid {
@@ -270,15 +271,6 @@ pub fn fill<Rt: Threads + Wait + Sync, S: Strategy>(
         Ok(filled) => filled,
         Err(fault) => Err(fault),
     }
-}
-
-/// That many leaves.
-pub fn leaves(alloc: Global, count: usize) -> Result<Vec<usize>, Fault> {
-    let mut leaves = Vec::with_capacity(alloc, count)?;
-    for _ in 0..count {
-        leaves.push(0)?;
-    }
-    Ok(leaves)
 }
 
 /// The root of a tree, each pair of which visits its level: how many levels there are.
@@ -305,7 +297,7 @@ pub fn root<Rt: Threads + Wait + Sync, S: Strategy>(
 
 /// A call that isn't over a list: a sort or a change of four numbers, a join, a batch of sixteen
 /// indices in four ranges, or the fill of tiles on four rows of ten.
-#[derive(Clone, Copy, Debug, PartialEq, Eq)]
+#[derive(Clone, Copy, Debug)]
 pub enum Side {
     Sort(bool),
     Change(bool),

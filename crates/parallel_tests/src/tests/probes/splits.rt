@@ -7,7 +7,7 @@ use crate::tests::probes::visits::{Times, Visitor};
 use crate::tests::same::row;
 use crate::tests::strategies::{SITE, pool};
 use commonware_parallel::mocks::{Explorer, Rule};
-use commonware_parallel::{Fault, Indices, On, Producer, Strategy};
+use commonware_parallel::{Fault, Indices, On, Producer, Site, Strategy, Trouble};
 use std::alloc::Global;
 use std::process::Abort;
 use std::sync::Wait;
@@ -56,6 +56,17 @@ fn states_of(called: Called, segments: usize) -> usize {
     }
 }
 
+// A list call over a list, with its cuts and its closures counted.
+fn make_cut<Rt: Threads + Wait + Sync, S: Strategy, P: Producer>(
+    on: &On<'_, Rt, S, Site>,
+    called: Called,
+    list: P,
+    times: &AtomicUsize,
+    closures: &Times,
+) -> Result<(), Trouble<u32>> {
+    make(on, called, Cut { list, times }, Visitor::Counts(closures))
+}
+
 // Stops the test where a list call cuts a list of a thousand items more or less often than that,
 // where it doesn't call its closure once for each, or begins more or fewer states than there are
 // segments.
@@ -74,14 +85,11 @@ fn cuts<Rt: Threads + Wait + Abort + Sync, S: Strategy>(
     for called in CALLS {
         let times = AtomicUsize::new(0);
         let closures = Times::new();
-        let list = Cut {
-            list: Indices {
-                start: 3,
-                end: 1003,
-            },
-            times: &times,
+        let list = Indices {
+            start: 3,
+            end: 1003,
         };
-        let made = make(&on, called, list, Visitor::Counts(&closures));
+        let made = make_cut(&on, called, list, &times, &closures);
         let found = (made, times.load(Ordering::SeqCst), closures.counted());
         let states = states_of(called, wanted.saturating_add(1));
         row(
@@ -122,7 +130,7 @@ fn tiles_begin_a_state_for_each_worker_and_fill_each_row_once(rt: HostRuntime) {
         for filling in FILLINGS {
             let closures = Times::new();
             let made = make_side(&on, Side::Fill(filling), Visitor::Counts(&closures));
-            let states = if filling == Filling::Kernel {
+            let states = if matches!(filling, Filling::Kernel) {
                 0
             } else {
                 threads

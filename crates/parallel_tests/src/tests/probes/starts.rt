@@ -1,84 +1,41 @@
 //! How many threads each call starts: at most one fewer than its strategy has, and none where it
 //! goes serially.
-use crate::tests::probes::calls::{CALLS, Called};
-use crate::tests::probes::given::{FEW, Given, make_over_few};
-use crate::tests::probes::meets::{numbers, unasked};
+use crate::tests::probes::acts::{Act, does};
+use crate::tests::probes::calls::CALLS;
+use crate::tests::probes::given::FEW;
+use crate::tests::probes::meets::unasked;
 use crate::tests::probes::noting::Noting;
-use crate::tests::probes::sides::{SIDES, Side, leaves, make_side, root};
+use crate::tests::probes::sides::SIDES;
 use crate::tests::probes::visits::Visitor;
-use crate::tests::roots::{ROOTED, Rooted};
+use crate::tests::roots::ROOTED;
 use crate::tests::same::row;
 use crate::tests::strategies::SITE;
 use commonware_parallel::mocks::{Explorer, Rule};
 use commonware_parallel::{On, Site, Strategy};
 use std::alloc::{AllocGlobal, Global};
 use std::fs;
-use std::num::NonZeroUsize;
 use std::process::Abort;
 use std::rt::Files;
 use std::sync::Wait;
-use std::thread::{Threads, yield_now};
-
-// What is done while the threads that start are counted.
-#[derive(Clone, Copy, Debug, PartialEq, Eq)]
-enum Act {
-    // A rest for a while, in which a call would have ended.
-    Rest,
-    // A list call over a hundred items of a source.
-    List(Called, Given),
-    Side(Side),
-    // A tree of 128 leaves, of seven levels.
-    Tree(Rooted),
-    // A change of a hundred thousand numbers in place, in chunks of one.
-    Chunks,
-}
-
-// Leaves a chunk as it is.
-fn leave(_from: usize, _chunk: &mut [u32]) {}
-
-// Does that: whether it succeeds.
-fn succeeds<Rt: Threads + Wait + Abort + Sync, S: Strategy>(
-    on: &On<'_, Rt, S, Site>,
-    act: Act,
-) -> bool {
-    match act {
-        Act::Rest => {
-            for _ in 0..1000u32 {
-                yield_now();
-            }
-            true
-        }
-        Act::List(called, given) => make_over_few(on, called, given, 100, Visitor::Passes).is_ok(),
-        Act::Side(side) => make_side(on, side, Visitor::Passes).is_ok(),
-        Act::Tree(rooted) => {
-            let leaves = leaves(on.alloc, 128).expect(on.rt, "memory for leaves");
-            root(on, rooted, leaves, Visitor::Passes).is_ok()
-        }
-        Act::Chunks => {
-            let mut numbers = numbers(on.rt, on.alloc, 100_000);
-            on.for_each_chunk_mut(&mut numbers, NonZeroUsize::MIN, leave)
-                .is_ok()
-        }
-    }
-}
+use std::thread::Threads;
 
 // The number that was given last to a process or a thread, by Linux's own count.
 fn last_number<Rt: Files + AllocGlobal + Abort>(rt: &Rt) -> u64 {
     let counts = fs::read_to_string(rt, "/proc/loadavg").expect(rt, "the counts");
-    let last = counts.trim().split(' ').nth(4).expect(rt, "a number");
+    let (_others, last) = counts.trim().rsplit_once(' ').expect(rt, "a number");
     last.parse::<u64>().expect(rt, "a number")
 }
 
 // How many threads are started meanwhile, as few as in the best of many tries, as others start
 // threads too. The greatest number is where it never succeeds.
-fn least_started<Rt, S: Strategy>(on: &On<'_, Rt, S, Site>, act: Act, enough: u64) -> u64
+fn least_started<Rt, S: Strategy>(on: &On<'_, Rt, S, Site>, done: Act, enough: u64) -> u64
 where
     Rt: Threads + Wait + Files + AllocGlobal + Abort + Sync,
 {
     let mut least = u64::MAX;
     for _ in 0..200u32 {
         let before = last_number(on.rt);
-        if succeeds(on, act) {
+        if does(on, done, Visitor::Passes).is_ok() {
             least = least.min(last_number(on.rt).wrapping_sub(before));
         }
         if least <= enough {
@@ -90,14 +47,14 @@ where
 
 // Stops the test where each such act starts more threads than that. Where others start threads all
 // the time there is nothing to be seen.
-fn starts<Rt, S: Strategy>(on: &On<'_, Rt, S, Site>, act: Act, most: usize)
+fn starts<Rt, S: Strategy>(on: &On<'_, Rt, S, Site>, done: Act, most: usize)
 where
     Rt: Threads + Wait + Files + AllocGlobal + Abort + Sync,
 {
     let most = most as u64;
-    let least = least_started(on, act, most);
+    let least = least_started(on, done, most);
     if least > most && least_started(on, Act::Rest, 0) == 0 {
-        row(on.rt, act, least, most);
+        row(on.rt, done, least, most);
     }
 }
 
@@ -115,16 +72,17 @@ where
     };
     for called in CALLS {
         for given in FEW {
-            starts(&on, Act::List(called, given), most);
+            starts(&on, Act::List(called, given, 100), most);
         }
     }
     for side in SIDES {
         starts(&on, Act::Side(side), most);
     }
+    // A tree of 128 leaves has seven levels.
     for rooted in ROOTED {
-        starts(&on, Act::Tree(rooted), most.saturating_mul(7));
+        starts(&on, Act::Tree(rooted, 128), most.saturating_mul(7));
     }
-    starts(&on, Act::Chunks, most);
+    starts(&on, Act::Chunks(100_000), most);
 }
 
 #[test]

@@ -1,0 +1,75 @@
+//! The acts of a probe: one call of any kind, through any strategy.
+use crate::tests::probes::calls::{Called, done};
+use crate::tests::probes::given::{Given, leaves, make_over_few};
+use crate::tests::probes::sides::{Side, make_side, root};
+use crate::tests::probes::visits::Visitor;
+use crate::tests::roots::Rooted;
+use commonware_parallel::{Fault, On, Site, Strategy, Trouble};
+use std::num::NonZeroUsize;
+use std::process::Abort;
+use std::sync::Wait;
+use std::thread::{Threads, yield_now};
+
+/// A call, or a rest.
+#[derive(Clone, Copy, Debug)]
+pub enum Act {
+    /// A rest for a while, in which a call would have ended.
+    Rest,
+    /// A list call over that many items of one of a few sources.
+    List(Called, Given, usize),
+    /// A call that isn't over a list.
+    Side(Side),
+    /// A tree of that many leaves.
+    Tree(Rooted, usize),
+    /// A change of that many items in place, in chunks of one.
+    Chunks(usize),
+}
+
+// Leaves a chunk as it is.
+fn leave(_from: usize, _chunk: &mut [usize]) {}
+
+// The change in chunks.
+fn change_chunks<Rt: Threads + Wait + Sync, S: Strategy>(
+    on: &On<'_, Rt, S, Site>,
+    len: usize,
+) -> Result<(), Fault> {
+    let mut items = leaves(on.alloc, len)?;
+    on.for_each_chunk_mut(&mut items, NonZeroUsize::MIN, leave)
+}
+
+// The tree, of which only the outcome is told.
+fn grow<Rt: Threads + Wait + Sync, S: Strategy>(
+    on: &On<'_, Rt, S, Site>,
+    rooted: Rooted,
+    count: usize,
+    visited: Visitor<'_>,
+) -> Result<(), Fault> {
+    match root(on, rooted, leaves(on.alloc, count)?, visited) {
+        Ok(_) => Ok(()),
+        Err(fault) => Err(fault),
+    }
+}
+
+fn rest() {
+    for _ in 0..1000u32 {
+        yield_now();
+    }
+}
+
+/// Does that, each closure of which visits.
+pub fn does<Rt: Threads + Wait + Abort + Sync, S: Strategy>(
+    on: &On<'_, Rt, S, Site>,
+    act: Act,
+    visited: Visitor<'_>,
+) -> Result<(), Trouble<u32>> {
+    match act {
+        Act::Rest => {
+            rest();
+            Ok(())
+        }
+        Act::List(called, given, len) => make_over_few(on, called, given, len, visited),
+        Act::Side(side) => make_side(on, side, visited),
+        Act::Tree(rooted, count) => done(grow(on, rooted, count, visited)),
+        Act::Chunks(len) => done(change_chunks(on, len)),
+    }
+}
