@@ -45,7 +45,11 @@ fn each_segment_keeps_what_stands_before_its_first_none(rt: HostRuntime) {
     let items = vec![in alloc; Some(1u8), None, Some(3), Some(4), Some(5), None, Some(7)].expect(
         &rt, "memory",
     );
-    same(&rt, kept(&rt, alloc, items).as_slice(), [1, 4, 5].as_slice());
+    same(
+        &rt,
+        kept(&rt, alloc, items).as_slice(),
+        [1, 4, 5].as_slice(),
+    );
 }
 
 // Whether a folder is full before an item that makes no difference to that, after it, and after

@@ -112,10 +112,13 @@ fn items_come_with_their_indices_in_the_whole_list(rt: HostRuntime) {
 }
 
 // An iterator of five pairs, which says so, gives them, on that many threads.
-fn five_come<
-    Rt: Threads + Sync + Abort,
-    I: ExactSize<Item = (usize, u8)> + Send + Drop,
->(rt: &Rt, alloc: Global, threads: usize, iter: I, wanted: &[(usize, u8); 5]) {
+fn five_come<Rt: Threads + Sync + Abort, I: ExactSize<Item = (usize, u8)> + Send + Drop>(
+    rt: &Rt,
+    alloc: Global,
+    threads: usize,
+    iter: I,
+    wanted: &[(usize, u8); 5],
+) {
     let list = Counted { iter };
     row(rt, threads, Parts::len(&list), 5);
     let answers = map_parallel(rt, alloc, number(rt, threads), list, &itself);

@@ -152,7 +152,15 @@ pub(crate) fn fold_counted<R: Threads + Sync + Abort>(
     let items = counted_items(alloc, &counts, len);
     let count = items.len();
     let parts = DrainProducer::from_vec(items);
-    match try_fold_parallel(rt, alloc, number(rt, threads), parts, &no_sum, &add_place, &add) {
+    match try_fold_parallel(
+        rt,
+        alloc,
+        number(rt, threads),
+        parts,
+        &no_sum,
+        &add_place,
+        &add,
+    ) {
         Ok(sum) => {
             assert!(rt; count <= end);
             let twice = count.wrapping_mul(count).wrapping_sub(count);
@@ -353,7 +361,11 @@ fn counted_references_are_given_back(rt: HostRuntime) {
 
 // The text, or as an error where it is the one that fails.
 fn unless_failing(text: String) -> Result<String, String> {
-    if text.as_str() == "text 57" { Err(text) } else { Ok(text) }
+    if text.as_str() == "text 57" {
+        Err(text)
+    } else {
+        Ok(text)
+    }
 }
 
 #[test]
