@@ -66,12 +66,14 @@ impl Producer for Refusing {
 }
 
 // The indices below 8, where the part from `start` up to `end` can't be split.
-fn eight(start: usize, end: usize) -> Refusing
-    ensures { result.list.end - result.list.start ≡ 8 }
+fn eight(start: usize, end: usize) -> ProducerParts<Refusing>
+    ensures { result.list.list.end - result.list.list.start ≡ 8 }
 {
-    Refusing {
-        list: Indices { start: 0, end: 8 },
-        refused: Indices { start, end },
+    ProducerParts {
+        list: Refusing {
+            list: Indices { start: 0, end: 8 },
+            refused: Indices { start, end },
+        },
     }
 }
 
@@ -113,16 +115,15 @@ enum Asked {
 }
 
 // The results for the items, written where they stay.
-fn mapped<Rt: Threads + Sync + Abort, P: Producer<Item = usize>>(
+fn mapped<Rt: Threads + Sync + Abort>(
     rt: &Rt,
     alloc: Global,
     asked: Asked,
-    list: P,
+    parts: ProducerParts<Refusing>,
     bad: usize,
 ) -> Result<(), Trouble<usize>>
-    requires { P.count list ≡ 8 }
+    requires { parts.list.list.end - parts.list.list.start ≡ 8 }
 {
-    let parts = ProducerParts { list };
     let answer = |item: usize| check(item, bad);
     let Asked::Fill(threads) = asked else {
         let values = try_map_parallel(rt, alloc, number(rt, 4), parts, &answer)?;
@@ -145,14 +146,15 @@ fn last_of(_left: usize, right: usize) -> usize {
 }
 
 // The last of the items.
-fn folded<Rt: Threads + Sync + Abort, P: Producer<Item = usize>>(
+fn folded<Rt: Threads + Sync + Abort>(
     rt: &Rt,
     alloc: Global,
     asked: Asked,
-    list: P,
+    parts: ProducerParts<Refusing>,
     bad: usize,
-) -> Result<usize, Trouble<usize>> {
-    let parts = ProducerParts { list };
+) -> Result<usize, Trouble<usize>>
+    requires { parts.list.list.end - parts.list.list.start ≡ 8 }
+{
     let step = |_: usize, item: usize| check(item, bad);
     let four = number(rt, 4);
     if matches!(asked, Asked::Fold) {
@@ -173,10 +175,10 @@ fn folded<Rt: Threads + Sync + Abort, P: Producer<Item = usize>>(
 // Each row is answered as it says by a call.
 fn blames<Rt: Threads + Sync + Abort>(rt: &Rt, alloc: Global, asked: Asked) {
     for (start, end, bad, wanted) in ROWS {
-        let list = eight(start, end);
+        let parts = eight(start, end);
         let blamed = match asked {
-            Asked::Fill(_) | Asked::Map => blamed(mapped(rt, alloc, asked, list, bad)),
-            Asked::Bridge | Asked::Fold => blamed(folded(rt, alloc, asked, list, bad)),
+            Asked::Fill(_) | Asked::Map => blamed(mapped(rt, alloc, asked, parts, bad)),
+            Asked::Bridge | Asked::Fold => blamed(folded(rt, alloc, asked, parts, bad)),
         };
         row(rt, (asked, start, end, bad), blamed, Err(wanted));
     }

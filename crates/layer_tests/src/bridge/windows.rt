@@ -1,7 +1,8 @@
 //! Owned items that are taken from where they lie, and results that are written where they stay:
 //! each is dropped once, or handed out.
-use crate::bridge::{mapped_by, number};
+use crate::bridge::number;
 use crate::same::{row, same};
+use parallel_bridge::list::map::map_parallel;
 use parallel_bridge::list::try_fold::try_fold_parallel;
 use parallel_bridge::list::try_map::try_map_parallel;
 use parallel_bridge::pairs::Pairs;
@@ -15,13 +16,11 @@ use std::sync::Arc;
 use std::sync::atomic::{AtomicU64, Ordering};
 use std::thread::Threads;
 
-// Counts those that were made and those that were let go, and says from which place on a fold of
-// them fails.
+// Counts those that were made and those that were let go.
 #[derive(Drop)]
 pub(crate) struct Counts {
     made: AtomicU64,
     gone: AtomicU64,
-    end: usize,
 }
 
 impl Counts {
@@ -60,17 +59,11 @@ pub(crate) fn counted_items<'a>(alloc: Global, counts: &'a Counts, len: usize) -
     items
 }
 
-// None were made so far, and a fold of them fails from this place on.
-fn no_counts_before(end: usize) -> Counts {
+pub(crate) fn no_counts() -> Counts {
     Counts {
         made: AtomicU64::new(0),
         gone: AtomicU64::new(0),
-        end,
     }
-}
-
-pub(crate) fn no_counts() -> Counts {
-    no_counts_before(usize::MAX)
 }
 
 // Whether all but that many of those that were made were let go.
@@ -92,11 +85,6 @@ fn place_taken(item: Option<Counted<'_>>) -> Option<usize> {
     place_of(item.as_ref())
 }
 
-// Another item of the same place.
-fn made_anew<'a>(item: Counted<'a>) -> Counted<'a> {
-    Counted::new(item.counts, item.place)
-}
-
 // Maps that many counted items on that many threads. It returns whether memory was refused.
 pub(crate) fn map_counted<R: Threads + Sync + Abort>(
     rt: &R,
@@ -108,8 +96,9 @@ pub(crate) fn map_counted<R: Threads + Sync + Abort>(
     let counts = no_counts();
     let items = counted_items(alloc, &counts, len);
     let count = items.len();
+    let answer = |item: Counted<'_>| Counted::new(&counts, item.place);
     let parts = DrainProducer::from_vec(items);
-    if let Ok(answers) = mapped_by(rt, alloc, threads, parts, &made_anew) {
+    if let Ok(answers) = map_parallel(rt, alloc, number(rt, threads), parts, &answer) {
         same(rt, answers.len(), count);
         for place in 0..count {
             same(rt, place_of(answers.get(place)), Some(place));
@@ -129,15 +118,6 @@ fn add(left: usize, right: usize) -> usize {
     left.wrapping_add(right)
 }
 
-// The sum with an item's place, or the place where it is no longer added.
-fn add_place(sum: usize, item: Counted<'_>) -> Result<usize, usize> {
-    if item.place < item.counts.end {
-        Ok(sum.wrapping_add(item.place))
-    } else {
-        Err(item.place)
-    }
-}
-
 // Adds the places of that many counted items up on that many threads, of which the one at `end`
 // fails. It returns whether memory was refused.
 pub(crate) fn fold_counted<R: Threads + Sync + Abort>(
@@ -148,19 +128,16 @@ pub(crate) fn fold_counted<R: Threads + Sync + Abort>(
     end: usize,
 ) -> bool {
     let mut is_refused = false;
-    let counts = no_counts_before(end);
+    let counts = no_counts();
     let items = counted_items(alloc, &counts, len);
     let count = items.len();
+    let step = |sum: usize, item: Counted<'_>| if item.place < end {
+        Ok(sum.wrapping_add(item.place))
+    } else {
+        Err(item.place)
+    };
     let parts = DrainProducer::from_vec(items);
-    match try_fold_parallel(
-        rt,
-        alloc,
-        number(rt, threads),
-        parts,
-        &no_sum,
-        &add_place,
-        &add,
-    ) {
+    match try_fold_parallel(rt, alloc, number(rt, threads), parts, &no_sum, &step, &add) {
         Ok(sum) => {
             assert!(rt; count <= end);
             let twice = count.wrapping_mul(count).wrapping_sub(count);
@@ -248,10 +225,6 @@ fn each_folded_item_is_dropped_once_before_and_after_one_that_fails(rt: HostRunt
     }
 }
 
-fn places_of(pair: (Counted<'_>, Counted<'_>)) -> (usize, usize) {
-    (pair.0.place, pair.1.place)
-}
-
 // Maps the neighbouring pairs of that many counted items on that many threads. It returns whether
 // memory was refused.
 pub(crate) fn pair_counted<R: Threads + Sync + Abort>(
@@ -271,7 +244,8 @@ pub(crate) fn pair_counted<R: Threads + Sync + Abort>(
         None
     };
     same(rt, place_of(odd.as_ref()), last);
-    if let Ok(answers) = mapped_by(rt, alloc, threads, pairs, &places_of) {
+    let places = |pair: (Counted<'_>, Counted<'_>)| (pair.0.place, pair.1.place);
+    if let Ok(answers) = map_parallel(rt, alloc, number(rt, threads), pairs, &places) {
         same(rt, answers.len(), count / 2);
         for place in 0..count / 2 {
             let front = place.wrapping_mul(2);
@@ -326,18 +300,16 @@ fn values_of_size_zero_are_mapped_in_order(rt: HostRuntime) {
             end: 5000,
         },
     };
-    let nothing = mapped_by(&rt, alloc, 4, all, &let_go).expect(&rt, "memory");
+    let nothing = map_parallel(&rt, alloc, number(&rt, 4), all, &let_go).expect(&rt, "memory");
     row(&rt, 1, nothing.len(), 5000);
     let parts = DrainProducer::from_vec(nothing);
-    let ones = mapped_by(&rt, alloc, 4, parts, &one_for_nothing).expect(&rt, "memory");
+    let ones = map_parallel(&rt, alloc, number(&rt, 4), parts, &one_for_nothing).expect(
+        &rt, "memory",
+    );
     row(&rt, 2, ones.len(), 5000);
     for one in &ones {
         same(&rt, *one, 1);
     }
-}
-
-fn itself(item: Arc<usize>) -> Arc<usize> {
-    item
 }
 
 #[test]
@@ -352,19 +324,16 @@ fn counted_references_are_given_back(rt: HostRuntime) {
                 .expect(&rt, "memory");
         }
         let parts = DrainProducer::from_vec(items);
-        let answers = mapped_by(&rt, alloc, 3, parts, &itself).expect(&rt, "memory");
+        let answers = map_parallel(
+            &rt,
+            alloc,
+            number(&rt, 3),
+            parts,
+            &|item: Arc<usize>| item,
+        ).expect(&rt, "memory");
         same(&rt, answers.len(), len);
         drop(answers);
         assert!(rt; Arc::into_inner(one).is_some());
-    }
-}
-
-// The text, or as an error where it is the one that fails.
-fn unless_failing(text: String) -> Result<String, String> {
-    if text.as_str() == "text 57" {
-        Err(text)
-    } else {
-        Ok(text)
     }
 }
 
@@ -378,7 +347,12 @@ fn texts_before_and_after_the_first_failing_one_are_let_go(rt: HostRuntime) {
             .expect(&rt, "memory");
     }
     let parts = DrainProducer::from_vec(items);
-    match try_map_parallel(&rt, alloc, number(&rt, 4), parts, &unless_failing) {
+    let answer = |text: String| if text.as_str() == "text 57" {
+        Err(text)
+    } else {
+        Ok(text)
+    };
+    match try_map_parallel(&rt, alloc, number(&rt, 4), parts, &answer) {
         Err(Trouble::Closure(text)) => same(&rt, text.as_str(), "text 57"),
         Err(Trouble::Fault(_fault)) => assert!(rt; false),
         Ok(_values) => assert!(rt; false),
