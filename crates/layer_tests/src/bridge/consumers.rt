@@ -11,10 +11,33 @@ use parallel_bridge::consumer::try_reduce::TryReduceFolder;
 use parallel_bridge::consumer::while_some::{WhileSomeConsumer, WhileSomeFolder};
 use parallel_bridge::parts::ProducerParts;
 use parallel_bridge::plumbing::Folder;
-use parallel_bridge::producer::{Copies, DrainProducer};
+use parallel_bridge::producer::{Copies, DrainProducer, Producer};
 use parallel_bridge::splitter::LengthSplitter;
-use parallel_fault::Fault;
+use parallel_fault::{Fault, Trouble};
 use std::alloc::Global;
+use std::convert::Infallible;
+use std::num::NonZeroUsize;
+use std::process::Abort;
+use std::thread::Threads;
+
+// What stands in each segment before its first `None`, for one thread.
+fn kept<Rt: Threads + Sync + Abort, T: Send + Drop>(
+    rt: &Rt,
+    alloc: Global,
+    items: Vec<Option<T>>,
+) -> Vec<T> {
+    let consumer = WhileSomeConsumer {
+        base: ListVecConsumer,
+    };
+    let parts = DrainProducer::from_vec(items);
+    let lists = bridge(rt, alloc, number(rt, 1), parts, consumer).expect(rt, "memory");
+    let mut kept = Vec::new(alloc);
+    for list in lists {
+        let mut more = list;
+        kept.append(&mut more).expect(rt, "memory");
+    }
+    kept
+}
 
 #[test]
 fn each_segment_keeps_what_stands_before_its_first_none(rt: HostRuntime) {
@@ -22,17 +45,11 @@ fn each_segment_keeps_what_stands_before_its_first_none(rt: HostRuntime) {
     let items = vec![in alloc; Some(1u8), None, Some(3), Some(4), Some(5), None, Some(7)].expect(
         &rt, "memory",
     );
-    let consumer = WhileSomeConsumer {
-        base: ListVecConsumer,
-    };
-    let parts = DrainProducer::from_vec(items);
-    let lists = bridge(&rt, alloc, number(&rt, 1), parts, consumer).expect(&rt, "memory");
-    let mut kept = Vec::new(alloc);
-    for list in lists {
-        let mut more = list;
-        kept.append(&mut more).expect(&rt, "memory");
-    }
-    same(&rt, kept.as_slice(), [1, 4, 5].as_slice());
+    same(
+        &rt,
+        kept(&rt, alloc, items).as_slice(),
+        [1, 4, 5].as_slice(),
+    );
 }
 
 // Whether a folder is full before an item that makes no difference to that, after it, and after
@@ -83,29 +100,43 @@ fn so_far(sum: &mut u8, item: u8) -> u8 {
     *sum
 }
 
-#[test]
-fn consumers_that_map_hand_on_to_another(rt: HostRuntime) {
-    let alloc = rt.alloc();
-    let items = [1u8, 2, 3, 4, 5];
+// Twice the numbers of a list, by a consumer that maps before another.
+fn doubled<Rt: Threads + Sync, P: Producer<Item = u8>>(
+    rt: &Rt,
+    alloc: Global,
+    threads: NonZeroUsize,
+    list: P,
+) -> Result<Vec<u8>, Trouble<Infallible>> {
     let doubling = MapConsumer {
         base: CollectConsumer,
         map_op: &twice,
     };
-    let parts = ProducerParts {
-        list: Copies { slice: &items },
-    };
-    let doubled: Result<Vec<u8>, _> = bridge(&rt, alloc, number(&rt, 2), parts, doubling);
-    lists(&rt, "doubled", doubled, &[2, 4, 6, 8, 10]);
+    bridge(rt, alloc, threads, ProducerParts { list }, doubling)
+}
 
+// The sums within each segment, by a consumer that maps with a state.
+fn added_up<Rt: Threads + Sync, P: Producer<Item = u8>>(
+    rt: &Rt,
+    alloc: Global,
+    threads: NonZeroUsize,
+    list: P,
+) -> Result<Vec<u8>, Trouble<Infallible>> {
     let adding = MapInitConsumer {
         base: CollectConsumer,
         init: &no_sum,
         map_op: &so_far,
     };
-    let parts = ProducerParts {
-        list: Copies { slice: &items },
-    };
-    let sums: Result<Vec<u8>, _> = bridge(&rt, alloc, number(&rt, 1), parts, adding);
+    bridge(rt, alloc, threads, ProducerParts { list }, adding)
+}
+
+#[test]
+fn consumers_that_map_hand_on_to_another(rt: HostRuntime) {
+    let alloc = rt.alloc();
+    let items = [1u8, 2, 3, 4, 5];
+    let list = Copies { slice: &items };
+    let doubled = doubled(&rt, alloc, number(&rt, 2), list);
+    lists(&rt, "doubled", doubled, &[2, 4, 6, 8, 10]);
+    let sums = added_up(&rt, alloc, number(&rt, 1), list);
     // (for one thread the list is halved once, and the state begins anew)
     lists(&rt, "sums", sums, &[1, 3, 3, 7, 12]);
 }

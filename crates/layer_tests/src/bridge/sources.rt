@@ -3,7 +3,7 @@
 use crate::bridge::number;
 use crate::same::{lists, row, same};
 use parallel_bridge::chunks::Chunks;
-use parallel_bridge::counted::Counted;
+use parallel_bridge::counted::{Counted, ExactSize};
 use parallel_bridge::enumerated::Enumerated;
 use parallel_bridge::list::map::map_parallel;
 use parallel_bridge::parts::{Parts, ProducerParts};
@@ -17,12 +17,13 @@ use std::thread::Threads;
 // The results for the items of a list, on that many threads, are these.
 fn comes<
     Rt: Threads + Sync + Abort,
-    P: Parts,
+    P: Producer,
     T: PartialEq + Debug + Send + Drop,
     F: Fn(P::Item) -> T + Send + Sync,
->(rt: &Rt, alloc: Global, threads: usize, parts: P, answer: &F, wanted: &[T])
-    requires accepts { (x : P.Item) → P.may parts x → F.pre answer.now x }
+>(rt: &Rt, alloc: Global, threads: usize, list: P, answer: &F, wanted: &[T])
+    requires accepts { (x : P.Item) → F.pre answer.now x }
 {
+    let parts = ProducerParts { list };
     let answers = map_parallel(rt, alloc, number(rt, threads), parts, answer);
     lists(rt, threads, answers, wanted);
 }
@@ -44,8 +45,7 @@ fn a_slice_comes_in_pieces_the_last_one_short(rt: HostRuntime) {
             slice: &slice,
             size: number(&rt, 3),
         };
-        let parts = ProducerParts { list };
-        comes(&rt, rt.alloc(), threads, parts, &first_and_len, &wanted);
+        comes(&rt, rt.alloc(), threads, list, &first_and_len, &wanted);
     }
 }
 
@@ -78,8 +78,7 @@ fn lists_come_pair_by_pair(rt: HostRuntime) {
     let wanted = [11, 22, 33, 44, 55];
     for threads in [1, 2, 4] {
         let list = Zipped::new(left.as_slice(), Copies { slice: &right });
-        let parts = ProducerParts { list };
-        comes(&rt, rt.alloc(), threads, parts, &sum_of_two, &wanted);
+        comes(&rt, rt.alloc(), threads, list, &sum_of_two, &wanted);
     }
 }
 
@@ -108,9 +107,22 @@ fn items_come_with_their_indices_in_the_whole_list(rt: HostRuntime) {
     let wanted = [(0, b'a'), (1, b'b'), (2, b'c'), (3, b'd'), (4, b'e')];
     for threads in [1, 2, 4] {
         let list = Enumerated::new(Copies { slice: &slice });
-        let parts = ProducerParts { list };
-        comes(&rt, rt.alloc(), threads, parts, &itself, &wanted);
+        comes(&rt, rt.alloc(), threads, list, &itself, &wanted);
     }
+}
+
+// An iterator of five pairs, which says so, gives them, on that many threads.
+fn five_come<Rt: Threads + Sync + Abort, I: ExactSize<Item = (usize, u8)> + Send + Drop>(
+    rt: &Rt,
+    alloc: Global,
+    threads: usize,
+    iter: I,
+    wanted: &[(usize, u8); 5],
+) {
+    let list = Counted { iter };
+    row(rt, threads, Parts::len(&list), 5);
+    let answers = map_parallel(rt, alloc, number(rt, threads), list, &itself);
+    lists(rt, threads, answers, wanted);
 }
 
 #[test]
@@ -118,11 +130,8 @@ fn iterators_that_know_their_number_come_whole_and_cut(rt: HostRuntime) {
     let slice = LETTERS;
     let wanted = [(3, b'a'), (4, b'b'), (5, b'c'), (6, b'd'), (7, b'e')];
     for threads in [1, 2, 4] {
-        let list = Counted {
-            iter: (3..9usize).zip(slice.iter().copied()),
-        };
-        row(&rt, threads, Parts::len(&list), 5);
-        comes(&rt, rt.alloc(), threads, list, &itself, &wanted);
+        let iter = (3..9usize).zip(slice.iter().copied());
+        five_come(&rt, rt.alloc(), threads, iter, &wanted);
     }
 }
 
