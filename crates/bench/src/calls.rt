@@ -1,12 +1,9 @@
 //! The same cases through a strategy, over any source of the items.
 use crate::callers::{Extras, bytes_above, first_mismatch};
-use crate::case::{Case, Cost};
+use crate::case::{Cost, Over, With};
 use crate::tiles::{Tiling, sum_of_tiles};
 use crate::ways::{Answer, Items};
-use crate::work::{
-    add, add_counted, add_heavy, add_rising, ascending, combined, combined_heavily, heavy, light,
-    parted_heavily, parted_lightly, rising, try_heavy, try_light, zero,
-};
+use crate::work::{Work, add, add_counted, ascending, zero};
 use commonware_parallel::{
     Copies, Counted, Fault, Runtime, Site, Source, Strategy, Trouble, merkle,
 };
@@ -20,143 +17,132 @@ pub const SITE: Site = Site {
     column: 1,
 };
 
-/// The case's result through a strategy.
+/// The result through a strategy, over a source of the items.
 ///
 /// # Errors
 ///
 /// What was refused.
-pub fn by_strategy<Rt: Runtime, S: Strategy>(
+pub fn call_over<W: Work, Rt: Runtime, S: Strategy>(
     rt: &Rt,
     alloc: Global,
     strategy: &S,
-    case: Case,
+    over: Over,
     items: Items<'_>,
-    extras: Extras<'_>,
 ) -> Result<Answer, Fault> {
-    if !case.takes_source() {
-        return by_slice(rt, alloc, strategy, case, items.as_slice(), extras);
-    }
     match items {
-        Items::Slice(items) => by_source(rt, alloc, strategy, case, Copies { slice: items }),
-        Items::Iterator(items) => by_source(rt, alloc, strategy, case, items.iter().copied()),
+        Items::Slice(slice) => {
+            call_source::<W, Rt, S, _, _>(rt, alloc, strategy, over, Copies { slice })
+        }
+        Items::Iterator(items) => {
+            call_source::<W, Rt, S, _, _>(rt, alloc, strategy, over, items.iter().copied())
+        }
         Items::Counted(items) => {
             let iter = items.iter().copied();
-            by_source(rt, alloc, strategy, case, Counted { iter })
+            call_source::<W, Rt, S, _, _>(rt, alloc, strategy, over, Counted { iter })
         }
-        Items::Owned(items) => by_source(rt, alloc, strategy, case, items),
+        Items::Owned(items) => call_source::<W, Rt, S, _, _>(rt, alloc, strategy, over, items),
     }
 }
 
-// The result of a case that goes by no source.
-fn by_slice<Rt: Runtime, S: Strategy>(
-    rt: &Rt,
-    alloc: Global,
-    strategy: &S,
-    case: Case,
-    items: &[u64],
-    extras: Extras<'_>,
-) -> Result<Answer, Fault> {
-    let number = match case {
-        Case::Sort => return sorted(rt, alloc, strategy, items),
-        Case::Tiles(rows, cost) => {
-            let tiling = Tiling::of(rows, cost, items.len());
-            sum_of_tiles(rt, alloc, strategy, tiling, items)?
-        }
-        Case::TreeLight => {
-            let leaves = items.iter().copied().collect(alloc)?;
-            merkle::root(rt, alloc, strategy, SITE, leaves, combined)?.unwrap_or(0)
-        }
-        Case::TreeHeavy => {
-            let leaves = items.iter().copied().collect(alloc)?;
-            merkle::root(rt, alloc, strategy, SITE, leaves, combined_heavily)?.unwrap_or(0)
-        }
-        Case::BlocksLight => {
-            let leaves = items.iter().copied().collect(alloc)?;
-            merkle::root_by_blocks(rt, alloc, strategy, SITE, leaves, combined)?.unwrap_or(0)
-        }
-        Case::BlocksHeavy => {
-            let leaves = items.iter().copied().collect(alloc)?;
-            let node = combined_heavily;
-            merkle::root_by_blocks(rt, alloc, strategy, SITE, leaves, node)?.unwrap_or(0)
-        }
-        Case::RowsAbove => bytes_above(rt, alloc, strategy, extras.bytes)?,
-        Case::Digests => first_mismatch(rt, alloc, strategy, extras)? as u64,
-        _ => 0,
-    };
-    Ok(Answer::Number(number))
-}
-
-fn sorted<Rt: Runtime, S: Strategy>(
-    rt: &Rt,
-    alloc: Global,
-    strategy: &S,
-    items: &[u64],
-) -> Result<Answer, Fault> {
-    let mut sorted: Vec<u64> = items.iter().copied().collect(alloc)?;
-    strategy.sort_by(rt, alloc, SITE, sorted.as_mut_slice(), ascending)?;
-    Ok(Answer::Numbers(sorted))
-}
-
-// The result of a case over a source.
-fn by_source<
+fn call_source<
+    W: Work,
     Rt: Runtime,
     S: Strategy,
     M,
     I: Source<M, Item = u64, Parts: Parts<Segment: Segment<u64>>> + Drop,
->(rt: &Rt, alloc: Global, strategy: &S, case: Case, source: I) -> Result<Answer, Fault>
+>(rt: &Rt, alloc: Global, strategy: &S, over: Over, source: I) -> Result<Answer, Fault>
     requires { I.can source }
 {
-    match case {
-        Case::Map(cost) => Ok(Answer::Numbers(mapped(rt, alloc, strategy, cost, source)?)),
-        Case::Fold(cost) => Ok(Answer::Number(folded(rt, alloc, strategy, cost, source)?)),
-        Case::FoldInit => {
-            let total = strategy.fold_init(rt, alloc, SITE, source, zero, zero, add_counted, add)?;
-            Ok(Answer::Number(total))
+    match over {
+        Over::Map => {
+            let op = |item: u64| W::of(item);
+            numbers(strategy.map_collect_vec(rt, alloc, SITE, source, op))
         }
-        Case::TryMapLight => {
-            tried(strategy.try_map_collect_vec(rt, alloc, SITE, source, try_light))
+        Over::Fold => {
+            let step = |total: u64, item: u64| W::add(total, item);
+            number(strategy.fold(rt, alloc, SITE, source, zero, step, add))
         }
-        Case::TryMapEarly => {
-            tried(strategy.try_map_collect_vec(rt, alloc, SITE, source, try_heavy))
+        Over::FoldInit => {
+            number(strategy.fold_init(rt, alloc, SITE, source, zero, zero, add_counted, add))
         }
-        Case::PartitionLight => {
-            parted(strategy.map_partition_collect_vec(rt, alloc, SITE, source, parted_lightly))
+        Over::TryMap => {
+            let op = |item: u64| W::try_of(item);
+            tried(strategy.try_map_collect_vec(rt, alloc, SITE, source, op))
         }
-        Case::PartitionHeavy => {
-            parted(strategy.map_partition_collect_vec(rt, alloc, SITE, source, parted_heavily))
+        Over::Partition => {
+            let op = |item: u64| W::part(item);
+            parted(strategy.map_partition_collect_vec(rt, alloc, SITE, source, op))
         }
-        _ => Ok(Answer::Number(0)),
     }
 }
 
-fn mapped<
-    Rt: Runtime,
-    S: Strategy,
-    M,
-    I: Source<M, Item = u64, Parts: Parts<Segment: Segment<u64>>>,
->(rt: &Rt, alloc: Global, strategy: &S, cost: Cost, source: I) -> Result<Vec<u64>, Fault>
-    requires { I.can source }
-{
-    match cost {
-        Cost::Light => strategy.map_collect_vec(rt, alloc, SITE, source, light),
-        Cost::Heavy => strategy.map_collect_vec(rt, alloc, SITE, source, heavy),
-        Cost::Rising => strategy.map_collect_vec(rt, alloc, SITE, source, rising),
-    }
+/// The result through a strategy, over the items as they lie, or over what a caller takes.
+///
+/// # Errors
+///
+/// What was refused.
+pub fn call_with<W: Work, Rt: Runtime, S: Strategy>(
+    rt: &Rt,
+    alloc: Global,
+    strategy: &S,
+    with: With,
+    cost: Cost,
+    items: &[u64],
+    extras: Extras<'_>,
+) -> Result<Answer, Fault> {
+    let combine = |left: u64, right: u64| W::combine(left, right);
+    let number = match with {
+        With::Sort => {
+            let mut sorted: Vec<u64> = items.iter().copied().collect(alloc)?;
+            strategy.sort_by(rt, alloc, SITE, sorted.as_mut_slice(), ascending)?;
+            return Ok(Answer::Numbers(sorted));
+        }
+        With::TilesRows | With::TilesCut => {
+            let tiling = Tiling::of(with, cost, items.len());
+            sum_of_tiles(rt, alloc, strategy, tiling, items)?
+        }
+        With::Tree => {
+            let leaves = items.iter().copied().collect(alloc)?;
+            merkle::root(rt, alloc, strategy, SITE, leaves, combine)?.unwrap_or(0)
+        }
+        With::Blocks => {
+            let leaves = items.iter().copied().collect(alloc)?;
+            merkle::root_by_blocks(rt, alloc, strategy, SITE, leaves, combine)?.unwrap_or(0)
+        }
+        With::RowsAbove => bytes_above(rt, alloc, strategy, extras.bytes)?,
+        With::Digests => first_mismatch(rt, alloc, strategy, extras)?,
+    };
+    Ok(Answer::Number(number))
 }
 
-fn folded<
-    Rt: Runtime,
-    S: Strategy,
-    M,
-    I: Source<M, Item = u64, Parts: Parts<Segment: Segment<u64>>>,
->(rt: &Rt, alloc: Global, strategy: &S, cost: Cost, source: I) -> Result<u64, Fault>
-    requires { I.can source }
-{
-    match cost {
-        Cost::Light => strategy.fold(rt, alloc, SITE, source, zero, add, add),
-        Cost::Heavy => strategy.fold(rt, alloc, SITE, source, zero, add_heavy, add),
-        Cost::Rising => strategy.fold(rt, alloc, SITE, source, zero, add_rising, add),
-    }
+/// A list of its own, after each item was changed where it lies through a strategy.
+///
+/// # Errors
+///
+/// What was refused.
+pub fn call_each<W: Work, Rt: Runtime, S: Strategy>(
+    rt: &Rt,
+    alloc: Global,
+    strategy: &S,
+    items: Vec<u64>,
+) -> Result<Answer, Fault> {
+    let mut items = items;
+    let set = |_index: usize, item: &mut u64| *item = W::of(*item);
+    strategy.for_each_mut(rt, alloc, SITE, items.as_mut_slice(), set)?;
+    Ok(Answer::Numbers(items))
+}
+
+fn numbers(answers: Result<Vec<u64>, Fault>) -> Result<Answer, Fault> {
+    Ok(Answer::Numbers(answers?))
+}
+
+fn number(total: Result<u64, Fault>) -> Result<Answer, Fault> {
+    Ok(Answer::Number(total?))
+}
+
+fn parted(parts: Result<(Vec<u64>, Vec<u64>), Fault>) -> Result<Answer, Fault> {
+    let (values, keys) = parts?;
+    Ok(Answer::Parts(values, keys))
 }
 
 // What a map returns that may fail.
@@ -166,10 +152,4 @@ fn tried(outcome: Result<Vec<u64>, Trouble<u64>>) -> Result<Answer, Fault> {
         Err(Trouble::Closure(failing)) => Ok(Answer::Number(failing)),
         Err(Trouble::Fault(fault)) => Err(fault),
     }
-}
-
-// What a partition returns.
-fn parted(parts: Result<(Vec<u64>, Vec<u64>), Fault>) -> Result<Answer, Fault> {
-    let (values, keys) = parts?;
-    Ok(Answer::Parts(values, keys))
 }

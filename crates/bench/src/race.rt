@@ -1,39 +1,18 @@
 //! Rounds in which the ways of a case run one after the other.
-use crate::callers::{Extras, bytes_of, digests_of, messages_of};
-use crate::calls::by_strategy;
-use crate::case::{Case, Cost};
-use crate::in_place::{change_by_loop, change_by_strategy};
+use crate::callers::{Extras, bytes_of, digest_of, messages_of};
+use crate::calls::{call_each, call_over, call_with};
+use crate::case::{Call, Case, Cost};
+use crate::host::Host;
 use crate::kit::by_kit;
-use crate::loops::by_loop;
+use crate::loops::{loop_each, loop_over, loop_with};
 use crate::request::Trial;
-use crate::times::{Decimal, Times};
-use crate::ways::{Answer, Items, WAYS, Way};
-use crate::work::items_of;
+use crate::times::{Decimal, Times, rounds_of};
+use crate::ways::{Answer, Form, Items, WAYS, Way};
+use crate::work::{Heavy, Light, Rising, Work, items_of};
 use anyhow::{Context, Result, ensure};
-use commonware_parallel::{Clock, Fault, MonotonicClock, Rayon, Runtime, Sequential};
+use commonware_parallel::{Clock, Fault, MonotonicClock, Rayon, Runtime, Sequential, Strategy};
 use std::alloc::Global;
-use std::fmt::Debug;
-use std::sync::Wait;
-use std::thread::Threads;
-use std::time;
-
-/// The order of the ways in every other round, from the first on.
-const FORTH: [Way; 5] = [
-    Way::Loop,
-    Way::Sequential,
-    Way::Rayon,
-    Way::Policy,
-    Way::Kit,
-];
-
-/// Their order in the rounds between, so that no way always comes after the same other one.
-const BACK: [Way; 5] = [
-    Way::Kit,
-    Way::Policy,
-    Way::Rayon,
-    Way::Sequential,
-    Way::Loop,
-];
+use uses::merkle::Digest;
 
 /// How many calls a policy sees before the first round, at most.
 const WARM_UP: usize = 50_000;
@@ -55,33 +34,13 @@ struct Bench<'a, Rt, C> {
     extras: Extras<'a>,
 }
 
-/// What a way took in a round, in nanoseconds.
-#[derive(Clone, Copy)]
-struct Reading {
-    way: Way,
-    time: u64,
-}
-
 /// Times a trial and prints a line for each way, or calls one way of it once and prints its
 /// result's checksum, for whoever measures the whole program.
 ///
 /// # Errors
 ///
 /// A refusal of a way, and `the answers differ` where the ways' results do.
-pub fn race<Rt>(rt: &Rt, trial: Trial) -> Result<()>
-where
-    Rt: time::Clock
-        + Print
-        + AllocGlobal
-        + Threads
-        + Wait
-        + Copy
-        + Drop
-        + Send
-        + Sync
-        + Debug
-        + 'static,
-{
+pub fn race(rt: &impl Host, trial: Trial) -> Result<()> {
     let alloc = rt.alloc();
     let clock = MonotonicClock::new(*rt)?;
     let learning = Rayon::new(rt, alloc, trial.threads, clock.clone()?)?;
@@ -103,9 +62,9 @@ fn prepare<Rt: Print + Runtime, C: Clock>(
     trial: Trial,
 ) -> Result<()> {
     let items = items_of(alloc, trial.case, trial.len)?;
-    let bytes = bytes_of(alloc, trial.case, items.as_slice())?;
-    let messages = messages_of(alloc, trial.case, bytes.as_slice())?;
-    let digests = digests_of(alloc, messages.as_slice())?;
+    let bytes = bytes_of(alloc, trial.case.call, items.as_slice())?;
+    let messages = messages_of(alloc, bytes.as_slice())?;
+    let digests: Vec<Digest> = messages.iter().map(digest_of).collect(alloc)?;
     let extras = Extras {
         bytes: bytes.as_slice(),
         messages: messages.as_slice(),
@@ -144,12 +103,6 @@ fn measure<'a, Rt: Print + Runtime, C: Clock>(
     }
 }
 
-/// An odd number of rounds: 7 for a long list, and up to 1001 for a short one.
-pub fn rounds_of(len: usize) -> u64 {
-    let pairs = 10_000 / len.max(1);
-    pairs.clamp(3, 500) as u64 * 2 + 1
-}
-
 impl<Rt: Print + Runtime, C: Clock> Bench<'_, Rt, C> {
     fn print_checksum(&self, way: Way, items: &[u64]) -> Result<()> {
         let checksum = self.call(way, items)?.checksum();
@@ -157,8 +110,8 @@ impl<Rt: Print + Runtime, C: Clock> Bench<'_, Rt, C> {
         Ok(())
     }
 
-    // Runs the rounds, and prints what was read of them. The first item is another one in each, so
-    // that no round's result serves for the next.
+    // Runs the rounds, every other one backward, and prints what was read of them. The first item
+    // is another one in each, so that no round's result serves for the next.
     fn run_rounds(&self, items: Vec<u64>) -> Result<()> {
         let mut items = items;
         self.warm_up(items.as_slice())?;
@@ -168,11 +121,11 @@ impl<Rt: Print + Runtime, C: Clock> Bench<'_, Rt, C> {
             if let Some(first) = items.first_mut() {
                 *first = number;
             }
-            let order = if number % 2 == 0 { FORTH } else { BACK };
-            self.run_round(order, items.as_slice(), &mut readings, &mut kept)?;
+            let is_back = number % 2 == 1;
+            self.run_round(is_back, items.as_slice(), &mut readings, &mut kept)?;
         }
         drop(kept);
-        self.report(readings.as_slice())
+        report(self.rt, self.alloc, readings.as_slice())
     }
 
     // Calls the strategy that has a policy, until the policy has settled: 50,000 times, or for
@@ -188,21 +141,28 @@ impl<Rt: Print + Runtime, C: Clock> Bench<'_, Rt, C> {
         Ok(())
     }
 
-    // One call of each way, whose results have to be one.
+    // One call of each way, whose results have to be one, so that no way always comes after the
+    // same other one.
     fn run_round(
         &self,
-        order: [Way; 5],
+        is_back: bool,
         items: &[u64],
-        readings: &mut Vec<Reading>,
+        readings: &mut Vec<(Way, u64)>,
         kept: &mut Vec<Answer>,
     ) -> Result<()> {
         let mut expected = None;
-        for way in order {
+        for place in 0..WAYS.len() {
+            let place = if is_back {
+                WAYS.len() - 1 - place
+            } else {
+                place
+            };
+            let (way, _, _) = WAYS[place];
             if self.trial.includes(way) {
                 let (time, checksum) = self.time_call(way, items, kept)?;
                 let known = *expected.get_or_insert(checksum);
                 ensure!(known == checksum, "the answers differ");
-                readings.push(Reading { way, time })?;
+                readings.push((way, time))?;
             }
         }
         Ok(())
@@ -228,7 +188,7 @@ impl<Rt: Print + Runtime, C: Clock> Bench<'_, Rt, C> {
     }
 
     fn keep(&self, kept: &mut Vec<Answer>, answer: Answer) -> Result<()> {
-        if self.trial.is_fresh {
+        if self.trial.form == Form::Fresh {
             kept.push(answer)?;
         }
         Ok(())
@@ -242,59 +202,76 @@ impl<Rt: Print + Runtime, C: Clock> Bench<'_, Rt, C> {
     // The case's result in a way.
     #[inline(never)]
     fn call_on(&self, way: Way, items: Items<'_>) -> Result<Answer, Fault> {
-        let (rt, alloc, case, extras) = (self.rt, self.alloc, self.trial.case, self.extras);
-        let items = match (case, items) {
-            (Case::Each(cost), Items::Owned(items)) => return self.change(way, cost, items),
-            (_, items) => items,
-        };
-        match way {
-            Way::Loop => by_loop(alloc, case, items.as_slice(), extras),
-            Way::Sequential => by_strategy(rt, alloc, &Sequential, case, items, extras),
-            Way::Rayon => by_strategy(rt, alloc, self.parallel, case, items, extras),
-            Way::Policy => by_strategy(rt, alloc, self.learning, case, items, extras),
-            Way::Kit => by_kit(rt, alloc, case, items.as_slice()),
+        match self.trial.case.cost {
+            Cost::Light => self.call_of::<Light>(way, items),
+            Cost::Heavy => self.call_of::<Heavy>(way, items),
+            Cost::Rising => self.call_of::<Rising>(way, items),
         }
     }
 
-    // The items of a list after a way has changed each.
-    fn change(&self, way: Way, cost: Cost, items: Vec<u64>) -> Result<Answer, Fault> {
-        let mut items = items;
-        let (rt, alloc, list) = (self.rt, self.alloc, items.as_mut_slice());
+    // The same by closures of one cost.
+    fn call_of<W: Work>(&self, way: Way, items: Items<'_>) -> Result<Answer, Fault> {
+        let (rt, alloc, case) = (self.rt, self.alloc, self.trial.case);
         match way {
-            Way::Loop | Way::Kit => change_by_loop(cost, list),
-            Way::Sequential => change_by_strategy(rt, alloc, &Sequential, cost, list)?,
-            Way::Rayon => change_by_strategy(rt, alloc, self.parallel, cost, list)?,
-            Way::Policy => change_by_strategy(rt, alloc, self.learning, cost, list)?,
+            Way::Loop => self.call_loop::<W>(items),
+            Way::Sequential => self.call_strategy::<W, Sequential>(&Sequential, items),
+            Way::Rayon => self.call_strategy::<W, Rayon<C>>(self.parallel, items),
+            Way::Policy => self.call_strategy::<W, Rayon<C>>(self.learning, items),
+            Way::Kit => by_kit::<W, Rt>(rt, alloc, case, items.as_slice()),
         }
-        Ok(Answer::Numbers(items))
     }
 
-    // Prints a line for each way: its times in microseconds, and how many times the loop's they
-    // are.
-    fn report(&self, readings: &[Reading]) -> Result<()> {
-        let base = Times::of(times_of(self.alloc, readings, Way::Loop)?)?;
-        for (label, way) in WAYS {
-            if self.trial.includes(way) {
-                let times = Times::of(times_of(self.alloc, readings, way)?)?;
-                report(self.rt, label, times, base)?;
+    fn call_loop<W: Work>(&self, items: Items<'_>) -> Result<Answer, Fault> {
+        let (alloc, extras, Case { call, cost }) = (self.alloc, self.extras, self.trial.case);
+        match call {
+            Call::Over(over) => loop_over::<W>(alloc, over, items.as_slice()),
+            Call::With(with) => loop_with::<W>(alloc, with, cost, items.as_slice(), extras),
+            Call::Each => Ok(loop_each::<W>(items.into_owned(alloc)?)),
+        }
+    }
+
+    fn call_strategy<W: Work, S: Strategy>(
+        &self,
+        strategy: &S,
+        items: Items<'_>,
+    ) -> Result<Answer, Fault> {
+        let (rt, alloc, extras) = (self.rt, self.alloc, self.extras);
+        let Case { call, cost } = self.trial.case;
+        match call {
+            Call::Over(over) => call_over::<W, Rt, S>(rt, alloc, strategy, over, items),
+            Call::With(with) => {
+                let items = items.as_slice();
+                call_with::<W, Rt, S>(rt, alloc, strategy, with, cost, items, extras)
             }
+            Call::Each => { call_each::<W, Rt, S>(rt, alloc, strategy, items.into_owned(alloc)?) }
         }
-        Ok(())
     }
 }
 
+// Prints a line for each way: its times in microseconds, and how many times the loop's they are.
+fn report(rt: &impl Print, alloc: Global, readings: &[(Way, u64)]) -> Result<()> {
+    let base = Times::of(times_of(alloc, readings, Way::Loop)?)?;
+    for (way, _, label) in WAYS {
+        let times = times_of(alloc, readings, way)?;
+        if !times.is_empty() {
+            report_way(rt, label, Times::of(times)?, base)?;
+        }
+    }
+    Ok(())
+}
+
 // What a way took in each round.
-fn times_of(alloc: Global, readings: &[Reading], way: Way) -> Result<Vec<u64>> {
+fn times_of(alloc: Global, readings: &[(Way, u64)], wanted: Way) -> Result<Vec<u64>> {
     let mut times = Vec::new(alloc);
-    for reading in readings {
-        if reading.way == way {
-            times.push(reading.time)?;
+    for (way, time) in readings {
+        if *way == wanted {
+            times.push(*time)?;
         }
     }
     Ok(times)
 }
 
-fn report(rt: &impl Print, label: &str, times: Times, base: Times) -> Result<()> {
+fn report_way(rt: &impl Print, label: &str, times: Times, base: Times) -> Result<()> {
     let best = Decimal::microseconds(times.best);
     let median = Decimal::microseconds(times.median);
     let best_ratio = Decimal::ratio(times.best, base.best).context("the clock stands still")?;
