@@ -1,19 +1,32 @@
 //! The plain loops that the calls stand for. A loop that gathers as many results as there are items
 //! is a chain, which is its faster form.
 use crate::callers::{Extras, ROWS, THRESHOLD, digest_of};
-use crate::case::{Cost, Over, With};
+use crate::case::{Call, Case, Cost, Over, With};
 use crate::tiles::Tiling;
-use crate::ways::Answer;
+use crate::ways::{Answer, Items};
 use crate::work::{Light, Work, ascending};
 use commonware_parallel::Fault;
 use std::alloc::{AllocError, Global};
 
-/// The result by a plain loop over the items.
+/// The case's result by a plain loop over the items, or over what a caller takes.
 ///
 /// # Errors
 ///
 /// What was refused.
-pub fn loop_over<W: Work>(alloc: Global, over: Over, items: &[u64]) -> Result<Answer, Fault> {
+pub fn by_loop<W: Work>(
+    alloc: Global,
+    case: Case,
+    items: Items<'_>,
+    extras: Extras<'_>,
+) -> Result<Answer, Fault> {
+    match case.call {
+        Call::Over(over) => loop_over::<W>(alloc, over, items.as_slice()),
+        Call::With(with) => loop_with::<W>(alloc, with, case.cost, items.as_slice(), extras),
+        Call::Each => Ok(loop_each::<W>(items.into_owned(alloc)?)),
+    }
+}
+
+fn loop_over<W: Work>(alloc: Global, over: Over, items: &[u64]) -> Result<Answer, Fault> {
     match over {
         Over::Map => {
             let answers = items
@@ -30,12 +43,7 @@ pub fn loop_over<W: Work>(alloc: Global, over: Over, items: &[u64]) -> Result<An
     }
 }
 
-/// The result by a plain loop over the items, or over what a caller takes.
-///
-/// # Errors
-///
-/// What was refused.
-pub fn loop_with<W: Work>(
+fn loop_with<W: Work>(
     alloc: Global,
     with: With,
     cost: Cost,
@@ -52,8 +60,8 @@ pub fn loop_with<W: Work>(
     Ok(Answer::Number(number))
 }
 
-/// A list, after each item was changed where it lies.
-pub fn loop_each<W: Work>(items: Vec<u64>) -> Answer {
+// A list, after each item was changed where it lies.
+fn loop_each<W: Work>(items: Vec<u64>) -> Answer {
     let mut items = items;
     for item in items.iter_mut() {
         *item = W::of(*item);

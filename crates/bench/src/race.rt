@@ -1,16 +1,16 @@
 //! Rounds in which the ways of a case run one after the other.
 use crate::callers::{Extras, bytes_of, digest_of, messages_of};
-use crate::calls::{call_each, call_over, call_with};
-use crate::case::{Call, Case, Cost};
+use crate::calls::Given;
+use crate::case::Cost;
 use crate::host::Host;
 use crate::kit::by_kit;
-use crate::loops::{loop_each, loop_over, loop_with};
+use crate::loops::by_loop;
 use crate::request::Trial;
 use crate::times::{Decimal, Times, rounds_of};
 use crate::ways::{Answer, Form, Items, WAYS, Way};
 use crate::work::{Heavy, Light, Rising, Work, items_of};
 use anyhow::{Context, Result, ensure};
-use commonware_parallel::{Clock, Fault, MonotonicClock, Rayon, Runtime, Sequential, Strategy};
+use commonware_parallel::{Clock, Fault, MonotonicClock, Rayon, Runtime, Sequential};
 use std::alloc::Global;
 use uses::merkle::Digest;
 
@@ -31,7 +31,6 @@ struct Bench<'a, Rt, C> {
     /// The one with its policy.
     learning: &'a Rayon<C>,
     trial: Trial,
-    extras: Extras<'a>,
 }
 
 /// Times a trial and prints a line for each way, or calls one way of it once and prints its
@@ -44,77 +43,47 @@ pub fn race(rt: &impl Host, trial: Trial) -> Result<()> {
     let alloc = rt.alloc();
     let clock = MonotonicClock::new(*rt)?;
     let learning = Rayon::new(rt, alloc, trial.threads, clock.clone()?)?;
-    let parallel = learning.without_policy()?;
-    prepare(rt, alloc, &clock, &parallel, &learning, trial)
-}
-
-/// Makes what the calls of a trial take, and makes them.
-///
-/// # Errors
-///
-/// What was refused, the error of a write, or that the results differ.
-fn prepare<Rt: Print + Runtime, C: Clock>(
-    rt: &Rt,
-    alloc: Global,
-    clock: &C,
-    parallel: &Rayon<C>,
-    learning: &Rayon<C>,
-    trial: Trial,
-) -> Result<()> {
-    let items = items_of(alloc, trial.case, trial.len)?;
-    let bytes = bytes_of(alloc, trial.case.call, items.as_slice())?;
-    let messages = messages_of(alloc, bytes.as_slice())?;
-    let digests: Vec<Digest> = messages.iter().map(digest_of).collect(alloc)?;
-    let extras = Extras {
-        bytes: bytes.as_slice(),
-        messages: messages.as_slice(),
-        digests: digests.as_slice(),
-    };
-    measure(rt, alloc, clock, parallel, learning, trial, extras, items)
-}
-
-/// Makes the calls of a trial.
-///
-/// # Errors
-///
-/// What was refused, the error of a write, or that the results differ.
-fn measure<'a, Rt: Print + Runtime, C: Clock>(
-    rt: &'a Rt,
-    alloc: Global,
-    clock: &'a C,
-    parallel: &'a Rayon<C>,
-    learning: &'a Rayon<C>,
-    trial: Trial,
-    extras: Extras<'a>,
-    items: Vec<u64>,
-) -> Result<()> {
     let bench = Bench {
         rt,
         alloc,
-        clock,
-        parallel,
-        learning,
+        clock: &clock,
+        parallel: &learning.without_policy()?,
+        learning: &learning,
         trial,
-        extras,
     };
-    match trial.once {
-        Some(way) => bench.print_checksum(way, items.as_slice()),
-        None => bench.run_rounds(items),
-    }
+    bench.run()
 }
 
 impl<Rt: Print + Runtime, C: Clock> Bench<'_, Rt, C> {
-    fn print_checksum(&self, way: Way, items: &[u64]) -> Result<()> {
-        let checksum = self.call(way, items)?.checksum();
+    // Makes what the calls of the trial take, and makes them.
+    fn run(&self) -> Result<()> {
+        let (alloc, case) = (self.alloc, self.trial.case);
+        let items = items_of(alloc, case, self.trial.len)?;
+        let bytes = bytes_of(alloc, case.call, items.as_slice())?;
+        let messages = messages_of(alloc, bytes.as_slice())?;
+        let digests: Vec<Digest> = messages.iter().map(digest_of).collect(alloc)?;
+        let extras = Extras {
+            bytes: bytes.as_slice(),
+            messages: messages.as_slice(),
+            digests: digests.as_slice(),
+        };
+        match self.trial.once {
+            Some(way) => self.print_checksum(way, items.as_slice(), extras),
+            None => self.run_rounds(items, extras),
+        }
+    }
+
+    fn print_checksum(&self, way: Way, items: &[u64], extras: Extras<'_>) -> Result<()> {
+        let checksum = self.call(way, items, extras)?.checksum();
         println!(self.rt; "{checksum}")?;
         Ok(())
     }
 
     // Runs the rounds, every other one backward, and prints what was read of them. The first item
     // is another one in each, so that no round's result serves for the next.
-    fn run_rounds(&self, items: Vec<u64>) -> Result<()> {
+    fn run_rounds(&self, items: Vec<u64>, extras: Extras<'_>) -> Result<()> {
         let mut items = items;
-        self.warm_up(items.as_slice())?;
+        self.warm_up(items.as_slice(), extras)?;
         let mut readings = Vec::new(self.alloc);
         let mut kept = Vec::new(self.alloc);
         for number in 0..rounds_of(self.trial.len) {
@@ -122,7 +91,7 @@ impl<Rt: Print + Runtime, C: Clock> Bench<'_, Rt, C> {
                 *first = number;
             }
             let is_back = number % 2 == 1;
-            self.run_round(is_back, items.as_slice(), &mut readings, &mut kept)?;
+            self.run_round(is_back, items.as_slice(), extras, &mut readings, &mut kept)?;
         }
         drop(kept);
         report(self.rt, self.alloc, readings.as_slice())
@@ -130,13 +99,13 @@ impl<Rt: Print + Runtime, C: Clock> Bench<'_, Rt, C> {
 
     // Calls the strategy that has a policy, until the policy has settled: 50,000 times, or for
     // three seconds.
-    fn warm_up(&self, items: &[u64]) -> Result<()> {
+    fn warm_up(&self, items: &[u64], extras: Extras<'_>) -> Result<()> {
         let start = self.clock.now();
         for _ in 0..WARM_UP {
             if self.clock.now().saturating_sub(start) > WARM_UP_TIME {
                 return Ok(());
             }
-            let _ = self.call(Way::Policy, items)?;
+            let _ = self.call(Way::Policy, items, extras)?;
         }
         Ok(())
     }
@@ -147,6 +116,7 @@ impl<Rt: Print + Runtime, C: Clock> Bench<'_, Rt, C> {
         &self,
         is_back: bool,
         items: &[u64],
+        extras: Extras<'_>,
         readings: &mut Vec<(Way, u64)>,
         kept: &mut Vec<Answer>,
     ) -> Result<()> {
@@ -159,7 +129,7 @@ impl<Rt: Print + Runtime, C: Clock> Bench<'_, Rt, C> {
             };
             let (way, _, _) = WAYS[place];
             if self.trial.includes(way) {
-                let (time, checksum) = self.time_call(way, items, kept)?;
+                let (time, checksum) = self.time_call(way, items, extras, kept)?;
                 let known = *expected.get_or_insert(checksum);
                 ensure!(known == checksum, "the answers differ");
                 readings.push((way, time))?;
@@ -174,12 +144,18 @@ impl<Rt: Print + Runtime, C: Clock> Bench<'_, Rt, C> {
     // as it leaves them itself, and not as another way left them. Where the memory is to be fresh
     // the results of both calls are kept, so that no later call gets their memory. A list that a
     // call takes is made before the clock is read.
-    fn time_call(&self, way: Way, items: &[u64], kept: &mut Vec<Answer>) -> Result<(u64, u64)> {
-        let before = self.call(way, items)?;
+    fn time_call(
+        &self,
+        way: Way,
+        items: &[u64],
+        extras: Extras<'_>,
+        kept: &mut Vec<Answer>,
+    ) -> Result<(u64, u64)> {
+        let before = self.call(way, items, extras)?;
         self.keep(kept, before)?;
         let input = Items::of(self.alloc, self.trial.form, items)?;
         let start = self.clock.now();
-        let answer = self.call_on(way, input);
+        let answer = self.call_on(way, input, extras);
         let end = self.clock.now();
         let answer = answer?;
         let checksum = answer.checksum();
@@ -194,56 +170,40 @@ impl<Rt: Print + Runtime, C: Clock> Bench<'_, Rt, C> {
         Ok(())
     }
 
-    fn call(&self, way: Way, items: &[u64]) -> Result<Answer, Fault> {
+    fn call(&self, way: Way, items: &[u64], extras: Extras<'_>) -> Result<Answer, Fault> {
         let input = Items::of(self.alloc, self.trial.form, items)?;
-        self.call_on(way, input)
+        self.call_on(way, input, extras)
     }
 
     // The case's result in a way.
     #[inline(never)]
-    fn call_on(&self, way: Way, items: Items<'_>) -> Result<Answer, Fault> {
+    fn call_on(&self, way: Way, items: Items<'_>, extras: Extras<'_>) -> Result<Answer, Fault> {
         match self.trial.case.cost {
-            Cost::Light => self.call_of::<Light>(way, items),
-            Cost::Heavy => self.call_of::<Heavy>(way, items),
-            Cost::Rising => self.call_of::<Rising>(way, items),
+            Cost::Light => self.call_of::<Light>(way, items, extras),
+            Cost::Heavy => self.call_of::<Heavy>(way, items, extras),
+            Cost::Rising => self.call_of::<Rising>(way, items, extras),
         }
     }
 
     // The same by closures of one cost.
-    fn call_of<W: Work>(&self, way: Way, items: Items<'_>) -> Result<Answer, Fault> {
-        let (rt, alloc, case) = (self.rt, self.alloc, self.trial.case);
-        match way {
-            Way::Loop => self.call_loop::<W>(items),
-            Way::Sequential => self.call_strategy::<W, Sequential>(&Sequential, items),
-            Way::Rayon => self.call_strategy::<W, Rayon<C>>(self.parallel, items),
-            Way::Policy => self.call_strategy::<W, Rayon<C>>(self.learning, items),
-            Way::Kit => by_kit::<W, Rt>(rt, alloc, case, items.as_slice()),
-        }
-    }
-
-    fn call_loop<W: Work>(&self, items: Items<'_>) -> Result<Answer, Fault> {
-        let (alloc, extras, Case { call, cost }) = (self.alloc, self.extras, self.trial.case);
-        match call {
-            Call::Over(over) => loop_over::<W>(alloc, over, items.as_slice()),
-            Call::With(with) => loop_with::<W>(alloc, with, cost, items.as_slice(), extras),
-            Call::Each => Ok(loop_each::<W>(items.into_owned(alloc)?)),
-        }
-    }
-
-    fn call_strategy<W: Work, S: Strategy>(
+    fn call_of<W: Work>(
         &self,
-        strategy: &S,
+        way: Way,
         items: Items<'_>,
+        extras: Extras<'_>,
     ) -> Result<Answer, Fault> {
-        let (rt, alloc, extras) = (self.rt, self.alloc, self.extras);
-        let Case { call, cost } = self.trial.case;
-        match call {
-            Call::Over(over) => call_over::<W, Rt, S>(rt, alloc, strategy, over, items),
-            Call::With(with) => {
-                let items = items.as_slice();
-                call_with::<W, Rt, S>(rt, alloc, strategy, with, cost, items, extras)
-            }
-            Call::Each => { call_each::<W, Rt, S>(rt, alloc, strategy, items.into_owned(alloc)?) }
+        let given = Given {
+            rt: self.rt,
+            alloc: self.alloc,
+            case: self.trial.case,
+            extras,
+        };
+        match way {
+            Way::Loop => by_loop::<W>(self.alloc, self.trial.case, items, extras),
+            Way::Sequential => given.by_strategy::<W, Sequential>(&Sequential, items),
+            Way::Rayon => given.by_strategy::<W, Rayon<C>>(self.parallel, items),
+            Way::Policy => given.by_strategy::<W, Rayon<C>>(self.learning, items),
+            Way::Kit => by_kit::<W, Rt>(self.rt, self.alloc, self.trial.case, items.as_slice()),
         }
     }
 }
