@@ -60,38 +60,42 @@ pub enum Cost {
 }
 
 /// Every case by the name by which the command line asks for it.
-pub const CASES: [(&str, Call, Cost); 25] = [
-    ("map-light", Call::Over(Over::Map), Cost::Light),
-    ("map-heavy", Call::Over(Over::Map), Cost::Heavy),
-    ("map-rising", Call::Over(Over::Map), Cost::Rising),
-    ("fold-light", Call::Over(Over::Fold), Cost::Light),
-    ("fold-heavy", Call::Over(Over::Fold), Cost::Heavy),
-    ("fold-rising", Call::Over(Over::Fold), Cost::Rising),
-    ("try-map-light", Call::Over(Over::TryMap), Cost::Light),
-    ("try-map-early", Call::Over(Over::TryMap), Cost::Heavy),
-    ("fold-init", Call::Over(Over::FoldInit), Cost::Light),
-    ("partition", Call::Over(Over::Partition), Cost::Light),
-    ("partition-heavy", Call::Over(Over::Partition), Cost::Heavy),
-    ("sort", Call::With(With::Sort), Cost::Light),
-    ("each-light", Call::Each, Cost::Light),
-    ("each-heavy", Call::Each, Cost::Heavy),
-    ("tiles-rows-light", Call::With(With::TilesRows), Cost::Light),
-    ("tiles-rows-heavy", Call::With(With::TilesRows), Cost::Heavy),
-    ("tiles-cut-light", Call::With(With::TilesCut), Cost::Light),
-    ("tiles-cut-heavy", Call::With(With::TilesCut), Cost::Heavy),
-    ("tiles-uneven", Call::With(With::TilesRows), Cost::Rising),
-    ("merkle-light", Call::With(With::Tree), Cost::Light),
-    ("merkle-heavy", Call::With(With::Tree), Cost::Heavy),
-    ("merkle-blocks-light", Call::With(With::Blocks), Cost::Light),
-    ("merkle-blocks-heavy", Call::With(With::Blocks), Cost::Heavy),
-    ("rows-above", Call::With(With::RowsAbove), Cost::Light),
-    ("digests", Call::With(With::Digests), Cost::Light),
-];
+///
+/// A function that went over a constant would be proved with all of its rows.
+pub fn cases() -> [(&'static str, Call, Cost); 25] {
+    [
+        ("map-light", Call::Over(Over::Map), Cost::Light),
+        ("map-heavy", Call::Over(Over::Map), Cost::Heavy),
+        ("map-rising", Call::Over(Over::Map), Cost::Rising),
+        ("fold-light", Call::Over(Over::Fold), Cost::Light),
+        ("fold-heavy", Call::Over(Over::Fold), Cost::Heavy),
+        ("fold-rising", Call::Over(Over::Fold), Cost::Rising),
+        ("try-map-light", Call::Over(Over::TryMap), Cost::Light),
+        ("try-map-early", Call::Over(Over::TryMap), Cost::Heavy),
+        ("fold-init", Call::Over(Over::FoldInit), Cost::Light),
+        ("partition", Call::Over(Over::Partition), Cost::Light),
+        ("partition-heavy", Call::Over(Over::Partition), Cost::Heavy),
+        ("sort", Call::With(With::Sort), Cost::Light),
+        ("each-light", Call::Each, Cost::Light),
+        ("each-heavy", Call::Each, Cost::Heavy),
+        ("tiles-rows-light", Call::With(With::TilesRows), Cost::Light),
+        ("tiles-rows-heavy", Call::With(With::TilesRows), Cost::Heavy),
+        ("tiles-cut-light", Call::With(With::TilesCut), Cost::Light),
+        ("tiles-cut-heavy", Call::With(With::TilesCut), Cost::Heavy),
+        ("tiles-uneven", Call::With(With::TilesRows), Cost::Rising),
+        ("merkle-light", Call::With(With::Tree), Cost::Light),
+        ("merkle-heavy", Call::With(With::Tree), Cost::Heavy),
+        ("merkle-blocks-light", Call::With(With::Blocks), Cost::Light),
+        ("merkle-blocks-heavy", Call::With(With::Blocks), Cost::Heavy),
+        ("rows-above", Call::With(With::RowsAbove), Cost::Light),
+        ("digests", Call::With(With::Digests), Cost::Light),
+    ]
+}
 
 impl Case {
     /// The case of that name, if there is one.
     pub fn named(name: &str) -> Option<Case> {
-        for (known, call, cost) in CASES {
+        for (known, call, cost) in cases() {
             if known == name {
                 return Some(Case { call, cost });
             }

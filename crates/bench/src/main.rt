@@ -21,7 +21,7 @@ mod times;
 mod ways;
 mod work;
 
-use crate::case::CASES;
+use crate::case::cases;
 use crate::host::Host;
 use crate::jobs::race_jobs;
 use crate::policies::race_choices;
@@ -68,11 +68,10 @@ fn run(rt: &impl Host) -> Result<bool> {
 ///
 /// The error of a write.
 fn names(rt: &impl Print) -> Result<()> {
-    for (name, _, _) in CASES {
+    for (name, _, _) in cases() {
         rt.println(name)?;
     }
-    rt.println("once")?;
-    for (name, _) in COMMANDS {
+    for name in COMMANDS {
         rt.println(name)?;
     }
     Ok(())

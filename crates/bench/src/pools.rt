@@ -114,10 +114,12 @@ fn bring_bursts<R: Clock + Wait, P: Bring>(
     place: usize,
     jobs: usize,
 ) -> Result<(), Fault> {
-    for start in (place.saturating_mul(BURST)..jobs).step_by(BRINGERS * BURST) {
-        let end = jobs.min(start.saturating_add(BURST));
-        pool.bring(rt, board, start..end)?;
-        thread::sleep(rt, Duration::from_millis(PAUSE));
+    for burst in 0..jobs / BURST + 1 {
+        if burst % BRINGERS == place {
+            let start = burst.saturating_mul(BURST);
+            pool.bring(rt, board, start..jobs.min(start.saturating_add(BURST)))?;
+            thread::sleep(rt, Duration::from_millis(PAUSE));
+        }
     }
     Ok(())
 }

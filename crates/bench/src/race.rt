@@ -7,7 +7,7 @@ use crate::kit::by_kit;
 use crate::loops::by_loop;
 use crate::request::Trial;
 use crate::times::{Decimal, Times, rounds_of};
-use crate::ways::{Answer, Form, Items, WAYS, Way};
+use crate::ways::{Answer, Form, Items, Way, ways};
 use crate::work::{Heavy, Light, Rising, Work, items_of};
 use anyhow::{Context, Result, ensure};
 use commonware_parallel::{Clock, Fault, MonotonicClock, Rayon, Runtime, Sequential};
@@ -19,6 +19,17 @@ const WARM_UP: usize = 50_000;
 
 /// After how many nanoseconds no more such calls are made.
 const WARM_UP_TIME: u64 = 3_000_000_000;
+
+// The order of the ways in a round, which is turned round in every other one, so that no way always
+// comes after the same other one.
+fn order_of(is_back: bool) -> [Way; 5] {
+    let [(_, first), (_, second), (_, third), (_, fourth), (_, fifth)] = ways();
+    if is_back {
+        [fifth, fourth, third, second, first]
+    } else {
+        [first, second, third, fourth, fifth]
+    }
+}
 
 /// What the calls of a trial are made with.
 #[derive(Drop)]
@@ -110,8 +121,7 @@ impl<Rt: Print + Runtime, C: Clock> Bench<'_, Rt, C> {
         Ok(())
     }
 
-    // One call of each way, whose results have to be one, so that no way always comes after the
-    // same other one.
+    // One call of each way, whose results have to be one.
     fn run_round(
         &self,
         is_back: bool,
@@ -121,13 +131,7 @@ impl<Rt: Print + Runtime, C: Clock> Bench<'_, Rt, C> {
         kept: &mut Vec<Answer>,
     ) -> Result<()> {
         let mut expected = None;
-        for place in 0..WAYS.len() {
-            let place = if is_back {
-                WAYS.len() - 1 - place
-            } else {
-                place
-            };
-            let (way, _, _) = WAYS[place];
+        for way in order_of(is_back) {
             if self.trial.includes(way) {
                 let (time, checksum) = self.time_call(way, items, extras, kept)?;
                 let known = *expected.get_or_insert(checksum);
@@ -211,7 +215,7 @@ impl<Rt: Print + Runtime, C: Clock> Bench<'_, Rt, C> {
 // Prints a line for each way: its times in microseconds, and how many times the loop's they are.
 fn report(rt: &impl Print, alloc: Global, readings: &[(Way, u64)]) -> Result<()> {
     let base = Times::of(times_of(alloc, readings, Way::Loop)?)?;
-    for (way, _, label) in WAYS {
+    for (label, way) in ways() {
         let times = times_of(alloc, readings, way)?;
         if !times.is_empty() {
             report_way(rt, label, Times::of(times)?, base)?;

@@ -31,6 +31,9 @@ impl Trial {
     }
 }
 
+/// The words, beside the cases' names, that the command line may begin with.
+pub const COMMANDS: [&str; 5] = ["once", "policy", "jobs", "soak", "pools"];
+
 /// What is measured beside the cases, or soaked.
 #[derive(Clone, Copy)]
 pub enum Command {
@@ -44,13 +47,18 @@ pub enum Command {
     Pools,
 }
 
-/// The commands by the words that name them; each takes two numbers.
-pub const COMMANDS: [(&str, Command); 4] = [
-    ("policy", Command::Policy),
-    ("jobs", Command::Jobs),
-    ("soak", Command::Soak),
-    ("pools", Command::Pools),
-];
+impl Command {
+    // The command that a word of the command line names.
+    fn named(word: &str) -> Option<Command> {
+        match word {
+            "policy" => Some(Command::Policy),
+            "jobs" => Some(Command::Jobs),
+            "soak" => Some(Command::Soak),
+            "pools" => Some(Command::Pools),
+            _ => None,
+        }
+    }
+}
 
 /// What the words ask for.
 #[derive(Clone, Copy)]
@@ -64,8 +72,8 @@ pub enum Request {
 }
 
 /// What the words after the program's name ask for: nothing for the names; a command and two
-/// numbers; or `CASE LEN THREADS`, with `iter`, `counted`, `vec` or `fresh` after it, where the case
-/// goes by a source. With `once WAY` before a case, `WAY` being `loop`, `sequential`, `rayon`,
+/// numbers; or `CASE LEN THREADS`, with `iter`, `counted`, `vec` or `fresh` after it, where the
+/// case goes by a source. With `once WAY` before a case, `WAY` being `loop`, `sequential`, `rayon`,
 /// `policy` or `kit-rayon`, that way alone is called, once. Any other words ask for nothing.
 pub fn parse_request(words: &[String]) -> Option<Request> {
     match words {
@@ -73,7 +81,7 @@ pub fn parse_request(words: &[String]) -> Option<Request> {
         [once, way, rest @ ..] if once.as_str() == "once" => {
             parse_trial(rest, Some(Way::named(way.as_str())?))
         }
-        [name, first, second] => match command_named(name.as_str()) {
+        [name, first, second] => match Command::named(name.as_str()) {
             Some(command) => {
                 let (first, second) = (first.parse().ok()?, second.parse().ok()?);
                 Some(Request::Run(command, first, second))
@@ -82,15 +90,6 @@ pub fn parse_request(words: &[String]) -> Option<Request> {
         },
         _ => parse_trial(words, None),
     }
-}
-
-fn command_named(name: &str) -> Option<Command> {
-    for (known, command) in COMMANDS {
-        if known == name {
-            return Some(command);
-        }
-    }
-    None
 }
 
 // A case with its length, its threads and its form.

@@ -63,7 +63,7 @@ pub struct Driven {
 }
 
 /// Makes that many plans one after the other, the first one's numbers from a seed, empties each,
-/// and prints how many units were stolen and put down.
+/// and prints how often units were stolen and put down.
 ///
 /// # Errors
 ///

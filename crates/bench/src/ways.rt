@@ -16,25 +16,28 @@ pub enum Way {
     Kit,
 }
 
-/// The ways with the words that name them and what their lines begin with, in the order of every
-/// other round and of the lines.
-pub const WAYS: [(Way, &str, &str); 5] = [
-    (Way::Loop, "loop", "loop"),
-    (Way::Sequential, "sequential", "Sequential"),
-    (Way::Rayon, "rayon", "Rayon"),
-    (Way::Policy, "policy", "Rayon with its policy"),
-    (Way::Kit, "kit-rayon", "kit-rayon"),
-];
+/// The ways with what their lines begin with, in the order of every other round and of the lines.
+pub fn ways() -> [(&'static str, Way); 5] {
+    [
+        ("loop", Way::Loop),
+        ("Sequential", Way::Sequential),
+        ("Rayon", Way::Rayon),
+        ("Rayon with its policy", Way::Policy),
+        ("kit-rayon", Way::Kit),
+    ]
+}
 
 impl Way {
     /// The way that a word of the command line names.
     pub fn named(word: &str) -> Option<Way> {
-        for (way, known, _) in WAYS {
-            if known == word {
-                return Some(way);
-            }
+        match word {
+            "loop" => Some(Way::Loop),
+            "sequential" => Some(Way::Sequential),
+            "rayon" => Some(Way::Rayon),
+            "policy" => Some(Way::Policy),
+            "kit-rayon" => Some(Way::Kit),
+            _ => None,
         }
-        None
     }
 }
 
