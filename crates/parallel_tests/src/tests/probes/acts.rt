@@ -4,11 +4,23 @@ use crate::tests::probes::given::{Given, leaves, make_over_few};
 use crate::tests::probes::sides::{Side, make_side, root};
 use crate::tests::probes::visits::Visitor;
 use crate::tests::roots::Rooted;
+use crate::tests::strategies::SITE;
 use commonware_parallel::{Fault, On, Site, Strategy, Trouble};
+use std::alloc::Global;
 use std::num::NonZeroUsize;
 use std::process::Abort;
 use std::sync::Wait;
 use std::thread::{Threads, yield_now};
+
+/// What the probes' calls have in common, through a strategy.
+pub fn on<'a, Rt, S>(rt: &'a Rt, alloc: Global, strategy: &'a S) -> On<'a, Rt, S, Site> {
+    On {
+        rt,
+        alloc,
+        strategy,
+        site: SITE,
+    }
+}
 
 /// A call, or a rest.
 #[derive(Clone, Copy, Debug)]

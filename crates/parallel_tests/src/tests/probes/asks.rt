@@ -5,7 +5,7 @@ ghost use Rattle.std.specs.Prelude.{◌≡◌, ⊤};
 use crate::tests::probes::callers::{CALLERS, Caller, call};
 use crate::tests::probes::calls::{CALLS, Called, MULTIPLIER, make, may_fail};
 use crate::tests::probes::given::{Given, SOURCES, is_made, leaves, make_over};
-use crate::tests::probes::logs::{Event, Line, Log, Who};
+use crate::tests::probes::logs::{self, INNER, Line, Log, OUTER, RAN, asked_at};
 use crate::tests::probes::noting::Noting;
 use crate::tests::probes::sides::{
     BATCHES, Batched, SIDES, Side, call_of_side, make_side, root, run_batch,
@@ -25,17 +25,15 @@ use std::thread::Threads;
 // The place of each call.
 const PLACE: Site = Site { column: 7, ..SITE };
 
-const BEGUN: Line = (Who::Outer, Event::Begun);
+const BEGUN: Line = (OUTER, logs::BEGUN, None);
 
-const TOLD: Line = (Who::Outer, Event::Told);
+const TOLD: Line = (OUTER, logs::TOLD, None);
 
-const DROPPED: Line = (Who::Outer, Event::Dropped);
-
-const RAN: Line = (Who::Body, Event::Ran);
+const DROPPED: Line = (OUTER, logs::DROPPED, None);
 
 // The question about a call.
 fn asked(call: Call) -> Line {
-    (Who::Outer, Event::Asked(7, call))
+    asked_at(OUTER, 7, call)
 }
 
 fn on<'a, Rt>(rt: &'a Rt, alloc: Global, strategy: &'a Noting) -> On<'a, Rt, Noting, Site> {
@@ -105,7 +103,7 @@ fn a_list_call_that_fails_tells_nothing(rt: HostRuntime) {
 
 // The body of a run: what it is that ran, or the error of one that fails.
 fn runs(log: &Log, fails: bool) -> Result<u32, u32> {
-    log.write(Who::Body, Event::Ran);
+    log.write(RAN);
     if fails { Err(7) } else { Ok(7) }
 }
 
@@ -141,14 +139,14 @@ fn a_run_asks_once_and_tells_once(rt: HostRuntime) {
 
 // A question to the strategy of a batch's parts.
 fn asked_inside(call: Call) -> Line {
-    (Who::Inner, Event::Asked(7, call))
+    asked_at(INNER, 7, call)
 }
 
-const BEGUN_INSIDE: Line = (Who::Inner, Event::Begun);
+const BEGUN_INSIDE: Line = (INNER, logs::BEGUN, None);
 
-const TOLD_INSIDE: Line = (Who::Inner, Event::Told);
+const TOLD_INSIDE: Line = (INNER, logs::TOLD, None);
 
-const DROPPED_INSIDE: Line = (Who::Inner, Event::Dropped);
+const DROPPED_INSIDE: Line = (INNER, logs::DROPPED, None);
 
 // Stops the test where a call that isn't over a list asks otherwise: about a batch and about tiles
 // once, and their own strategy about the map of their four parts.
@@ -290,7 +288,7 @@ impl<S: Drop> Job<S, u32> for NotedJob {
     ghost may_answer = { λ _ _ answer. answer ≡ 7 };
 
     fn run_on(self, _strategy: S) -> u32 {
-        self.log.write(Who::Body, Event::Ran);
+        self.log.write(RAN);
         7
     }
 }
@@ -310,7 +308,7 @@ fn a_job_is_asked_about_once_and_its_measure_begins_and_ends_aside(rt: HostRunti
         asked(Call::spawn(5)),
         BEGUN,
         RAN,
-        (Who::Outer, Event::Ended),
+        (OUTER, logs::ENDED, None),
     ];
     noting.log().has(&rt, "job", &lines);
 }

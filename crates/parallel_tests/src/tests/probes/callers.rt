@@ -87,12 +87,13 @@ fn over_numbers<Rt: Threads + Wait + Sync, S: Strategy>(
         Caller::SplitByCheck => {
             split_by_check(rt, alloc, strategy, site, numbers, is_small).is_ok()
         }
+        Caller::VerifyAll => verify_all(rt, alloc, strategy, site, numbers, is_small).is_ok(),
         _ => leave_out_repeats(rt, alloc, strategy, site, numbers).is_ok(),
     }
 }
 
-// Those that change numbers in place.
-fn in_place<Rt: Threads + Wait + Sync, S: Strategy>(
+// Those over wide numbers, in place or with a sum that passes.
+fn over_wide_numbers<Rt: Threads + Wait + Sync, S: Strategy>(
     rt: &Rt,
     alloc: Global,
     strategy: &S,
@@ -101,39 +102,13 @@ fn in_place<Rt: Threads + Wait + Sync, S: Strategy>(
 ) -> bool {
     let mut numbers = [3u64, 1, 4, 1, 5, 9, 2, 6];
     match caller {
-        Caller::SquareInPlace => {
-            square_in_place(rt, alloc, strategy, site, &mut numbers).is_ok()
-        }
-        _ => double_each(rt, alloc, strategy, site, &mut numbers).is_ok(),
+        Caller::SquareInPlace => square_in_place(rt, alloc, strategy, site, &mut numbers).is_ok(),
+        Caller::DoubleEach => double_each(rt, alloc, strategy, site, &mut numbers).is_ok(),
+        _ => sum_within(rt, alloc, strategy, site, &numbers, 9).is_ok(),
     }
 }
 
-// Those whose items may fail; all but the digests pass.
-fn fallible<Rt: Threads + Wait + Sync, S: Strategy>(
-    rt: &Rt,
-    alloc: Global,
-    strategy: &S,
-    site: Site,
-    caller: Caller,
-) -> bool {
-    match caller {
-        Caller::VerifyAll => {
-            verify_all(rt, alloc, strategy, site, NUMBERS.as_slice(), is_small).is_ok()
-        }
-        Caller::VerifyDigests => {
-            let messages: [&[u8]; 8] = [b""; 8];
-            let digests = [[0u8; 32]; 8];
-            let checked = verify_digests(rt, alloc, strategy, site, &messages, &digests);
-            matches!(checked, Err(Trouble::Closure(0)))
-        }
-        _ => {
-            let numbers = [3u64, 1, 4, 1, 5, 9, 2, 6];
-            sum_within(rt, alloc, strategy, site, &numbers, 9).is_ok()
-        }
-    }
-}
-
-// Those over texts.
+// Those over texts; all pass but the digests, of which the first is wrong.
 fn over_texts<Rt: Threads + Wait + Sync, S: Strategy>(
     rt: &Rt,
     alloc: Global,
@@ -146,6 +121,11 @@ fn over_texts<Rt: Threads + Wait + Sync, S: Strategy>(
         Caller::LongestWord => {
             let words = ["a", "bc", "d", "e", "fgh", "i", "j", "k"];
             longest_word(rt, alloc, strategy, site, &words).is_ok()
+        }
+        Caller::VerifyDigests => {
+            let digests = [[0u8; 32]; 8];
+            let checked = verify_digests(rt, alloc, strategy, site, &leaves, &digests);
+            matches!(checked, Err(Trouble::Closure(0)))
         }
         Caller::Commitment => commitment(rt, alloc, strategy, site, &leaves).is_ok(),
         _ => Tree::build(rt, alloc, strategy, site, &leaves).is_ok(),
@@ -161,13 +141,10 @@ pub fn call<Rt: Threads + Wait + Sync, S: Strategy>(
     caller: Caller,
 ) -> bool {
     match caller {
-        Caller::SquareInPlace | Caller::DoubleEach => {
-            in_place(rt, alloc, strategy, site, caller)
+        Caller::SquareInPlace | Caller::DoubleEach | Caller::SumWithin => {
+            over_wide_numbers(rt, alloc, strategy, site, caller)
         }
-        Caller::VerifyAll | Caller::SumWithin | Caller::VerifyDigests => {
-            fallible(rt, alloc, strategy, site, caller)
-        }
-        Caller::LongestWord | Caller::Commitment | Caller::Build => {
+        Caller::LongestWord | Caller::VerifyDigests | Caller::Commitment | Caller::Build => {
             over_texts(rt, alloc, strategy, site, caller)
         }
         _ => over_numbers(rt, alloc, strategy, site, caller),

@@ -195,11 +195,10 @@ pub fn make<Rt: Threads + Wait + Sync, S: Strategy, M, I: Source<M>>(
 {
     match called {
         Called::Map | Called::MultipliedMap => map(on, called, source, visited),
-        Called::TryMap => try_map(on, source, visited),
         Called::MapInit | Called::MultipliedMapInit => map_init(on, called, source, visited),
         Called::Fold => fold(on, source, visited),
         Called::FoldInit => fold_init(on, source, visited),
-        Called::TryFold => try_fold(on, source, visited),
+        Called::TryMap | Called::TryFold => make_fallible(on, called, source, visited),
         Called::Partition => partition(on, source, visited),
     }
 }

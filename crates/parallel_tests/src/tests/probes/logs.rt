@@ -8,36 +8,34 @@ use std::sync::atomic::{AtomicBool, Ordering};
 use std::sync::{Mutex, Wait};
 use std::thread::yield_now;
 
-/// What a strategy meets.
-#[derive(Clone, Copy, Debug, PartialEq, Eq)]
-pub enum Event {
-    /// It is asked about a call at a column.
-    Asked(u32, Call),
-    /// A run for which it chose begins.
-    Begun,
-    /// Closures run.
-    Ran,
-    /// It is told that the run has succeeded.
-    Told,
-    /// The measure of a run is told so.
-    Ended,
-    /// The measure is dropped.
-    Dropped,
+/// A line of a log: who meets what, and of a question its column and its call.
+pub type Line = (&'static str, &'static str, Option<(u32, Call)>);
+
+/// The strategy.
+pub const OUTER: &str = "the strategy";
+
+/// The strategy of the parts of a batch or of tiles.
+pub const INNER: &str = "the strategy of the parts";
+
+/// It is asked about a call at a column.
+pub fn asked_at(who: &'static str, column: u32, call: Call) -> Line {
+    (who, "asked", Some((column, call)))
 }
 
-/// Who meets it.
-#[derive(Clone, Copy, Debug, PartialEq, Eq)]
-pub enum Who {
-    /// The strategy.
-    Outer,
-    /// The strategy of the parts of a batch or of tiles.
-    Inner,
-    /// A closure.
-    Body,
-}
+/// A run for which it chose begins.
+pub const BEGUN: &str = "begun";
 
-/// A line of a log.
-pub type Line = (Who, Event);
+/// It is told that the run has succeeded.
+pub const TOLD: &str = "told";
+
+/// The measure of a run is told so.
+pub const ENDED: &str = "ended";
+
+/// The measure is dropped.
+pub const DROPPED: &str = "dropped";
+
+/// Closures run.
+pub const RAN: Line = ("closures", "ran", None);
 
 /// All that was met, in order.
 #[derive(Debug, Drop)]
@@ -57,11 +55,10 @@ impl Log {
     }
 
     /// Writes a line. Where closures run one after the other they are one line.
-    pub fn write(&self, who: Who, event: Event) {
+    pub fn write(&self, line: Line) {
         for _ in 0..10_000_000u32 {
             if let Some(mut lines) = self.lines.try_lock() {
-                let line = (who, event);
-                if event != Event::Ran || lines.last() != Some(&line) {
+                if line != RAN || lines.last() != Some(&line) {
                     let _ = lines.push(line);
                 }
                 return;

@@ -1,12 +1,13 @@
 //! What becomes of a list once an item has failed: right of an error that is known nothing is
 //! called, and an error is known before what is left of its segment is let go.
+use crate::tests::probes::acts::on;
 use crate::tests::probes::calls::Called;
 use crate::tests::probes::given::{FEW, Given, SOURCES, make_over, make_over_few};
 use crate::tests::probes::noting::Noting;
 use crate::tests::probes::visits::Visitor;
 use crate::tests::same::row;
 use crate::tests::steps::{add_counts, no_count};
-use crate::tests::strategies::{SITE, pool};
+use crate::tests::strategies::pool;
 use commonware_parallel::mocks::{Explorer, Rule};
 use commonware_parallel::{Fault, On, Site, Source, Strategy, Trouble};
 use std::alloc::Global;
@@ -39,12 +40,7 @@ fn ends_at_its_error<Rt: Threads + Wait + Abort + Sync, S: Strategy>(
 fn right_of_a_known_error_nothing_is_called(rt: HostRuntime) {
     let alloc = rt.alloc();
     let one = Noting::new(&rt, alloc, 1);
-    let on = On {
-        rt: &rt,
-        alloc,
-        strategy: &one,
-        site: SITE,
-    };
+    let on = on(&rt, alloc, &one);
     for called in FALLIBLE {
         for given in SOURCES {
             for len in 1..12usize {
@@ -60,12 +56,7 @@ fn ends_serially<Rt: Threads + Wait + Abort + Sync, S: Strategy>(
     alloc: Global,
     strategy: &S,
 ) {
-    let on = On {
-        rt,
-        alloc,
-        strategy,
-        site: SITE,
-    };
+    let on = on(rt, alloc, strategy);
     for called in FALLIBLE {
         for given in FEW {
             for at in 0..5usize {
@@ -251,12 +242,7 @@ fn other_calls<Rt: Threads + Wait + Abort + Sync, S: Strategy>(
 fn an_error_is_known_before_what_is_left_of_its_segment_is_let_go(rt: HostRuntime) {
     let alloc = rt.alloc();
     let two = Noting::new(&rt, alloc, 2);
-    let on = On {
-        rt: &rt,
-        alloc,
-        strategy: &two,
-        site: SITE,
-    };
+    let on = on(&rt, alloc, &two);
     for called in FALLIBLE {
         for is_iterator in [false, true] {
             let found = other_calls(&on, called, is_iterator);

@@ -2,6 +2,7 @@
 //! those of lists, sorts, joins, batches, tiles, trees and jobs.
 ghost use Rattle.std.specs.Prelude.{◌≡◌, ⊤};
 
+use crate::tests::probes::acts::on;
 use crate::tests::probes::calls::{CALLS, Called};
 use crate::tests::probes::given::{FEW, Given, SOURCES, is_made, leaves, make_over, make_over_few};
 use crate::tests::probes::meetings::Meeting;
@@ -29,15 +30,6 @@ const TURNS: u32 = 1000;
 pub fn unasked<Rt: Threads + Abort>(rt: &Rt, alloc: Global, threads: usize) -> Rayon<Squares> {
     let asked = fresh(rt, alloc, threads);
     asked.pool.without_policy().expect(rt, "memory for a pool")
-}
-
-fn on<'a, Rt, S>(rt: &'a Rt, alloc: Global, strategy: &'a S) -> On<'a, Rt, S, Site> {
-    On {
-        rt,
-        alloc,
-        strategy,
-        site: SITE,
-    }
 }
 
 // Stops the test where the closures of a list call didn't meet, or where more met than there are

@@ -1,16 +1,17 @@
 //! List calls over more items than a block for all of them is to be had for: a fold needs none, and
 //! a map is refused before it calls anything.
 use crate::tests::no_memory::all_places;
+use crate::tests::probes::acts::on;
 use crate::tests::probes::calls::{CALLS, Called, MULTIPLIER, make};
 use crate::tests::probes::given::leaves;
-use crate::tests::probes::logs::{Event, Who};
+use crate::tests::probes::logs::{BEGUN, DROPPED, OUTER, asked_at};
 use crate::tests::probes::noting::Noting;
 use crate::tests::probes::sides::root;
 use crate::tests::probes::visits::{Times, Visitor};
 use crate::tests::roots::Rooted;
 use crate::tests::same::row;
 use crate::tests::steps::nothing;
-use crate::tests::strategies::{SITE, pool};
+use crate::tests::strategies::pool;
 use commonware_parallel::mocks::{Explorer, Rule};
 use commonware_parallel::{Call, Chooser, Fault, Indices, On, Site, Source, Strategy, Trouble};
 use std::alloc::Global;
@@ -23,15 +24,6 @@ const LEN: usize = 262_144;
 
 // The outcome of such a call, and how often its closures were called.
 type Outcome = (Result<(), Trouble<u32>>, (usize, usize));
-
-fn on<'a, Rt, S>(rt: &'a Rt, alloc: Global, strategy: &'a S) -> On<'a, Rt, S, Site> {
-    On {
-        rt,
-        alloc,
-        strategy,
-        site: SITE,
-    }
-}
 
 fn outcome<Rt: Threads + Wait + Sync, S: Strategy, M, I: Source<M>>(
     on: &On<'_, Rt, S, Site>,
@@ -168,9 +160,9 @@ fn tree<Rt: Threads + Wait + Abort + Sync>(
     row(rt, rooted, found, (Err(Fault::Memory), 0));
     let call = Call::body_with_multiplier(LEN, multiplier);
     let lines = [
-        (Who::Outer, Event::Asked(1, call)),
-        (Who::Outer, Event::Begun),
-        (Who::Outer, Event::Dropped),
+        asked_at(OUTER, 1, call),
+        (OUTER, BEGUN, None),
+        (OUTER, DROPPED, None),
     ];
     noting.log().has(rt, rooted, &lines);
 }

@@ -3,7 +3,7 @@ ghost use Rattle.std.specs.Prelude.{◌≡◌, false, true};
 ghost use Rattle.std.specs.Int.NonZero.{non_zero_usize_get};
 ghost use Rattle.commonware_parallel.specs.Calls.{last_pick};
 
-use crate::tests::probes::logs::{Event, Log, Who};
+use crate::tests::probes::logs::{BEGUN, DROPPED, ENDED, INNER, Log, OUTER, TOLD, asked_at};
 use crate::tests::strategies::number;
 use commonware_parallel::{Call, Chooser, Fault, Kind, Meter, Pick, Place};
 use std::alloc::Global;
@@ -17,7 +17,7 @@ use std::sync::{Arc, Wait};
 pub struct Noting {
     threads: NonZeroUsize,
     log: Arc<Log, Global>,
-    who: Who,
+    who: &'static str,
 }
 
 impl Noting {
@@ -25,7 +25,7 @@ impl Noting {
         Noting {
             threads: number(rt, threads),
             log: Arc::new(alloc, Log::new(alloc)).expect(rt, "memory for a log"),
-            who: Who::Outer,
+            who: OUTER,
         }
     }
 
@@ -44,26 +44,26 @@ impl Noting {
 #[derive(Debug)]
 pub struct Noted {
     log: Option<Arc<Log, Global>>,
-    who: Who,
+    who: &'static str,
     is_job: bool,
 }
 
 // Writes a line.
-fn write(log: &Option<Arc<Log, Global>>, who: Who, event: Event) {
+fn write(log: &Option<Arc<Log, Global>>, who: &'static str, met: &'static str) {
     if let Some(log) = log {
-        log.write(who, event);
+        log.write((who, met, None));
     }
 }
 
 impl Noted {
     // The run has ended in such a way.
-    fn close(self, event: Event) {
+    fn close(self, met: &'static str) {
         let Noted {
             log,
             who,
             is_job: _,
         } = self;
-        write(&log, who, event);
+        write(&log, who, met);
     }
 }
 
@@ -74,7 +74,7 @@ impl Drop for Noted {
             who,
             is_job: _,
         } = self;
-        write(&log, who, Event::Dropped);
+        write(&log, who, DROPPED);
     }
 }
 
@@ -83,13 +83,13 @@ impl Meter for Noted {
     fn begin(&mut self) {
         if let Some(log) = &self.log {
             if !self.is_job || log.await_hand_off() {
-                log.write(self.who, Event::Begun);
+                log.write((self.who, BEGUN, None));
             }
         }
     }
 
     fn end<Rt: Wait>(self, _rt: &Rt) {
-        self.close(Event::Ended);
+        self.close(ENDED);
     }
 }
 
@@ -129,7 +129,7 @@ impl Chooser for Noting {
         Ok(Noting {
             threads: self.threads,
             log,
-            who: Who::Inner,
+            who: INNER,
         })
     }
 
@@ -140,8 +140,8 @@ impl Chooser for Noting {
         site: P,
         call: Call,
     ) -> Result<(Pick, Noted), Fault> {
-        self.log
-            .write(self.who, Event::Asked(site.site().column, call));
+        let column = site.site().column;
+        self.log.write(asked_at(self.who, column, call));
         let measure = Noted {
             log: Arc::try_clone(&self.log).ok(),
             who: self.who,
@@ -151,6 +151,6 @@ impl Chooser for Noting {
     }
 
     fn tell<Rt: Wait>(&self, _rt: &Rt, measure: Noted) {
-        measure.close(Event::Told);
+        measure.close(TOLD);
     }
 }

@@ -6,7 +6,7 @@
 //! that a sample recorded twice shows.
 ghost use Rattle.std.specs.Prelude.{⊤};
 
-use crate::tests::probes::acts::{Act, does};
+use crate::tests::probes::acts::{Act, does, on};
 use crate::tests::probes::calls::{CALLS, Called, MULTIPLIER};
 use crate::tests::probes::given::{FEW, Given};
 use crate::tests::probes::logs::Log;
@@ -17,7 +17,7 @@ use crate::tests::same::{returns, row};
 use crate::tests::steps::{give_one, give_two};
 use crate::tests::strategies::{SITE, number};
 use commonware_parallel::policy::{Key, RunExecution, SpawnSample};
-use commonware_parallel::{Clock, Job, On, Policy, Rayon, Strategy, Trouble};
+use commonware_parallel::{Clock, Job, Policy, Rayon, Strategy, Trouble};
 use futures::executor::block_on;
 use std::alloc::{AllocGlobal, Global};
 use std::fmt::Debug;
@@ -91,12 +91,7 @@ impl Asked {
         called: Act,
         visited: Visitor<'_>,
     ) -> Result<(), Trouble<u32>> {
-        let on = On {
-            rt,
-            alloc,
-            strategy: &self.pool,
-            site: SITE,
-        };
+        let on = on(rt, alloc, &self.pool);
         does(&on, called, visited)
     }
 

@@ -1,13 +1,14 @@
 //! How often each list call cuts a list: once less often than it has segments, of which there are
 //! at most twice as many as threads; and how often it calls its closures.
+use crate::tests::probes::acts::on;
 use crate::tests::probes::calls::{CALLS, Called, make};
 use crate::tests::probes::noting::Noting;
 use crate::tests::probes::sides::{FILLINGS, Filling, Side, make_side};
 use crate::tests::probes::visits::{Times, Visitor};
 use crate::tests::same::row;
-use crate::tests::strategies::{SITE, pool};
+use crate::tests::strategies::pool;
 use commonware_parallel::mocks::{Explorer, Rule};
-use commonware_parallel::{Fault, Indices, On, Producer, Site, Strategy, Trouble};
+use commonware_parallel::{Fault, Indices, On, Producer, Strategy};
 use std::alloc::Global;
 use std::process::Abort;
 use std::sync::Wait;
@@ -56,17 +57,6 @@ fn states_of(called: Called, segments: usize) -> usize {
     }
 }
 
-// A list call over a list, with its cuts and its closures counted.
-fn make_cut<Rt: Threads + Wait + Sync, S: Strategy, P: Producer>(
-    on: &On<'_, Rt, S, Site>,
-    called: Called,
-    list: P,
-    times: &AtomicUsize,
-    closures: &Times,
-) -> Result<(), Trouble<u32>> {
-    make(on, called, Cut { list, times }, Visitor::Counts(closures))
-}
-
 // Stops the test where a list call cuts a list of a thousand items more or less often than that,
 // where it doesn't call its closure once for each, or begins more or fewer states than there are
 // segments.
@@ -76,20 +66,18 @@ fn cuts<Rt: Threads + Wait + Abort + Sync, S: Strategy>(
     strategy: &S,
     wanted: usize,
 ) {
-    let on = On {
-        rt,
-        alloc,
-        strategy,
-        site: SITE,
-    };
+    let on = on(rt, alloc, strategy);
     for called in CALLS {
         let times = AtomicUsize::new(0);
         let closures = Times::new();
-        let list = Indices {
-            start: 3,
-            end: 1003,
+        let list = Cut {
+            list: Indices {
+                start: 3,
+                end: 1003,
+            },
+            times: &times,
         };
-        let made = make_cut(&on, called, list, &times, &closures);
+        let made = make(&on, called, list, Visitor::Counts(&closures));
         let found = (made, times.load(Ordering::SeqCst), closures.counted());
         let states = states_of(called, wanted.saturating_add(1));
         row(
@@ -121,12 +109,7 @@ fn tiles_begin_a_state_for_each_worker_and_fill_each_row_once(rt: HostRuntime) {
     let alloc = rt.alloc();
     for threads in 1..5usize {
         let noting = Noting::new(&rt, alloc, threads);
-        let on = On {
-            rt: &rt,
-            alloc,
-            strategy: &noting,
-            site: SITE,
-        };
+        let on = on(&rt, alloc, &noting);
         for filling in FILLINGS {
             let closures = Times::new();
             let made = make_side(&on, Side::Fill(filling), Visitor::Counts(&closures));

@@ -1,6 +1,6 @@
 //! How many threads each call starts: at most one fewer than its strategy has, and none where it
 //! goes serially.
-use crate::tests::probes::acts::{Act, does};
+use crate::tests::probes::acts::{Act, does, on};
 use crate::tests::probes::calls::CALLS;
 use crate::tests::probes::given::FEW;
 use crate::tests::probes::meets::unasked;
@@ -9,7 +9,6 @@ use crate::tests::probes::sides::SIDES;
 use crate::tests::probes::visits::Visitor;
 use crate::tests::roots::ROOTED;
 use crate::tests::same::row;
-use crate::tests::strategies::SITE;
 use commonware_parallel::mocks::{Explorer, Rule};
 use commonware_parallel::{On, Site, Strategy};
 use std::alloc::{AllocGlobal, Global};
@@ -64,12 +63,7 @@ fn all_start<Rt, S: Strategy>(rt: &Rt, alloc: Global, strategy: &S, most: usize)
 where
     Rt: Threads + Wait + Files + AllocGlobal + Abort + Sync,
 {
-    let on = On {
-        rt,
-        alloc,
-        strategy,
-        site: SITE,
-    };
+    let on = on(rt, alloc, strategy);
     for called in CALLS {
         for given in FEW {
             starts(&on, Act::List(called, given, 100), most);

@@ -1,5 +1,5 @@
 //! What a probe has the closures of a call do.
-use crate::tests::probes::logs::{Event, Log, Who};
+use crate::tests::probes::logs::{Log, RAN};
 use crate::tests::probes::meetings::Meeting;
 use std::sync::atomic::{AtomicUsize, Ordering};
 
@@ -64,11 +64,11 @@ impl Visitor<'_> {
                 Ok(())
             }
             Visitor::Writes(log) => {
-                log.write(Who::Body, Event::Ran);
+                log.write(RAN);
                 Ok(())
             }
             Visitor::Fails(log) => {
-                log.write(Who::Body, Event::Ran);
+                log.write(RAN);
                 Err(7)
             }
             Visitor::FailsAt(calls, at) => {
