@@ -1,8 +1,8 @@
 //! Calls whose closures fail at many items, many times over: the first failing item's error is
 //! returned each time, and each item and each result is let go once.
 use crate::tests::same::{returns, row};
+use crate::tests::steps::{add_counts, no_count};
 use crate::tests::strategies::{SITE, fresh, pool};
-use crate::tests::tried::{try_count, try_map};
 use commonware_parallel::mocks::explore;
 use commonware_parallel::{Fault, Strategy, Trouble};
 use std::alloc::Global;
@@ -246,6 +246,35 @@ fn slice_left<Rt: Threads + Wait + Abort + Sync, S: Strategy>(
     map_left(rt, counts, len, mapped, len);
 }
 
+// The fallible map of counted items, as a list or as they come.
+fn try_map<'a, Rt: Threads + Wait + Sync, S: Strategy>(
+    rt: &Rt,
+    alloc: Global,
+    strategy: &S,
+    items: Vec<Counted<'a>>,
+    is_list: bool,
+) -> Result<Vec<Counted<'a>>, Trouble<usize>> {
+    if is_list {
+        return strategy.try_map_collect_vec(rt, alloc, SITE, items, again);
+    }
+    strategy.try_map_collect_vec(rt, alloc, SITE, items.into_iter(), again)
+}
+
+// The fallible fold that counts them, over a list or as they come.
+fn try_count<Rt: Threads + Wait + Sync, S: Strategy>(
+    rt: &Rt,
+    alloc: Global,
+    strategy: &S,
+    items: Vec<Counted<'_>>,
+    is_list: bool,
+) -> Result<usize, Trouble<usize>> {
+    if is_list {
+        return strategy.try_fold(rt, alloc, SITE, items, no_count, count_again, add_counts);
+    }
+    let items = items.into_iter();
+    strategy.try_fold(rt, alloc, SITE, items, no_count, count_again, add_counts)
+}
+
 // Maps and folds that many counted items of a vector, or of an iterator.
 fn items_left<Rt: Threads + Wait + Abort + Sync, S: Strategy>(
     rt: &Rt,
@@ -255,9 +284,20 @@ fn items_left<Rt: Threads + Wait + Abort + Sync, S: Strategy>(
     (len, is_list): (usize, bool),
 ) {
     let items = counted_items(alloc, counts, len).expect(rt, "memory");
-    map_left(rt, counts, len, try_map(rt, alloc, strategy, items, is_list), 0);
+    map_left(
+        rt,
+        counts,
+        len,
+        try_map(rt, alloc, strategy, items, is_list),
+        0,
+    );
     let items = counted_items(alloc, counts, len).expect(rt, "memory");
-    fold_left(rt, counts, len, try_count(rt, alloc, strategy, items, is_list));
+    fold_left(
+        rt,
+        counts,
+        len,
+        try_count(rt, alloc, strategy, items, is_list),
+    );
 }
 
 // All of them, of which the item at a place fails.

@@ -1,12 +1,14 @@
 //! The calls whose growths are refused, each with whether its result is the right one. Their items
 //! and values are counted.
-use crate::tests::errors::{Counted, Counts, again, count_again, counted_items, greater};
-use crate::tests::steps::{Gives, add_counts, no_count, zero};
+use crate::tests::errors::{Counted, Counts, again, counted_items, greater};
+use crate::tests::probes::calls::{Called, make};
+use crate::tests::probes::visits::Visitor;
+use crate::tests::steps::Gives;
 use crate::tests::strategies::SITE;
 use commonware_parallel::merkle::root;
 use commonware_parallel::mocks::{ExploreError, explore};
 use commonware_parallel::rayon::ThreadPoolBuildError;
-use commonware_parallel::{Batches, Chooser, Fault, Grid, Site, Strategy, Tiles, Trouble};
+use commonware_parallel::{Batches, Chooser, Fault, Grid, On, Site, Strategy, Tiles, Trouble};
 use std::alloc::Global;
 use std::cmp::Ordering;
 use std::num::NonZeroUsize;
@@ -77,148 +79,58 @@ fn another(item: Counted<'_>) -> Counted<'_> {
     item.at(item.place)
 }
 
-fn another_by_state<'a>(_state: &mut u32, item: Counted<'a>) -> Counted<'a> {
-    item.at(item.place)
-}
-
-fn count_by_state(count: usize, _state: &mut u32, item: Counted<'_>) -> usize {
-    count.wrapping_add(usize::from(item.place < usize::MAX))
-}
-
-// The items as keys, and a further value for each but the last.
-fn keyed(item: Counted<'_>) -> (Counted<'_>, Option<Counted<'_>>) {
-    let value = if item.place < 8 {
-        Some(item.at(item.place))
-    } else {
-        None
-    };
-    (item, value)
-}
-
-/// The fallible map of such items, as a list or as they come.
-pub fn try_map<'a, Rt: Threads + Wait + Sync, S: Strategy>(
-    rt: &Rt,
-    alloc: Global,
-    strategy: &S,
-    items: Vec<Counted<'a>>,
-    is_list: bool,
-) -> Result<Vec<Counted<'a>>, Trouble<usize>> {
-    if is_list {
-        return strategy.try_map_collect_vec(rt, alloc, SITE, items, again);
-    }
-    strategy.try_map_collect_vec(rt, alloc, SITE, items.into_iter(), again)
-}
-
-/// The fallible fold that counts them, over a list or as they come.
-pub fn try_count<Rt: Threads + Wait + Sync, S: Strategy>(
-    rt: &Rt,
-    alloc: Global,
-    strategy: &S,
-    items: Vec<Counted<'_>>,
-    is_list: bool,
-) -> Result<usize, Trouble<usize>> {
-    if is_list {
-        return strategy.try_fold(rt, alloc, SITE, items, no_count, count_again, add_counts);
-    }
-    let items = items.into_iter();
-    strategy.try_fold(rt, alloc, SITE, items, no_count, count_again, add_counts)
-}
-
-// The maps that don't fail.
-fn map<'a, Rt: Threads + Wait + Sync, S: Strategy>(
-    rt: &Rt,
-    alloc: Global,
-    strategy: &S,
-    tried: Tried,
-    items: Vec<Counted<'a>>,
-) -> Result<Vec<Counted<'a>>, Fault> {
+// The list call that is tried.
+fn called_by(tried: Tried) -> Called {
     match tried {
-        Tried::MultipliedMap => {
-            strategy.map_collect_vec_with_multiplier(rt, alloc, SITE, items, 3, another)
-        }
-        Tried::MapWithState => {
-            strategy.map_init_collect_vec(rt, alloc, SITE, items, zero, another_by_state)
-        }
-        _ => strategy.map_init_collect_vec_with_multiplier(
-            rt,
-            alloc,
-            SITE,
-            items,
-            3,
-            zero,
-            another_by_state,
-        ),
+        Tried::Map | Tried::MapOfIterator => Called::TryMap,
+        Tried::MultipliedMap => Called::MultipliedMap,
+        Tried::MapWithState => Called::MapInit,
+        Tried::MultipliedMapWithState => Called::MultipliedMapInit,
+        Tried::Fold | Tried::FoldOfIterator => Called::TryFold,
+        Tried::FoldWithState => Called::FoldInit,
+        _ => Called::Partition,
     }
 }
 
-// Whether a map of the items, as a list or as they come, has a result for each.
-fn is_map<Rt: Threads + Wait + Sync, S: Strategy>(
+// Whether a list call over the items, as a list or as they come, succeeds. A map keeps them.
+fn is_made<Rt: Threads + Wait + Sync, S: Strategy>(
     rt: &Rt,
     alloc: Global,
     strategy: &S,
     tried: Tried,
     items: Vec<Counted<'_>>,
 ) -> Result<bool, Trouble<usize>> {
-    let len = items.len();
-    let values = match tried {
-        Tried::Map => try_map(rt, alloc, strategy, items, true)?,
-        Tried::MapOfIterator => try_map(rt, alloc, strategy, items, false)?,
-        _ => map(rt, alloc, strategy, tried, items)?,
+    let on = On {
+        rt,
+        alloc,
+        strategy,
+        site: SITE,
     };
-    Ok(are_all(&values, len))
+    let called = called_by(tried);
+    let outcome = if matches!(tried, Tried::MapOfIterator | Tried::FoldOfIterator) {
+        make(&on, called, items.into_iter(), Visitor::Passes)
+    } else {
+        make(&on, called, items, Visitor::Passes)
+    };
+    match outcome {
+        Ok(()) => Ok(true),
+        Err(Trouble::Fault(fault)) => Err(Trouble::Fault(fault)),
+        Err(Trouble::Closure(_)) => Ok(false),
+    }
 }
 
-// How many results a partition of the items has, as keys and values.
-fn parted<Rt: Threads + Wait + Sync, S: Strategy>(
+// Whether the root of the items is of the last one's place, which is the greatest.
+fn is_root<Rt: Threads + Wait + Sync, S: Strategy>(
     rt: &Rt,
     alloc: Global,
     strategy: &S,
     items: Vec<Counted<'_>>,
-) -> Result<usize, Fault> {
-    let (values, keys) = strategy.map_partition_collect_vec(rt, alloc, SITE, items, keyed)?;
-    Ok(values.len().wrapping_add(keys.len()))
-}
-
-// One more than the place of the root of the items, which is the greatest of theirs.
-fn rooted<Rt: Threads + Wait + Sync, S: Strategy>(
-    rt: &Rt,
-    alloc: Global,
-    strategy: &S,
-    items: Vec<Counted<'_>>,
-) -> Result<usize, Fault> {
+) -> Result<bool, Trouble<usize>> {
+    let len = items.len();
     match root(rt, alloc, strategy, SITE, items, greater)? {
-        Some(node) => Ok(node.place.saturating_add(1)),
-        None => Ok(0),
+        Some(node) => Ok(node.place.saturating_add(1) == len),
+        None => Ok(len == 0),
     }
-}
-
-// Whether a fold counts the items, a partition has none in its place, or the root is of the last
-// one's place.
-fn is_fold<Rt: Threads + Wait + Sync, S: Strategy>(
-    rt: &Rt,
-    alloc: Global,
-    strategy: &S,
-    tried: Tried,
-    items: Vec<Counted<'_>>,
-) -> Result<bool, Trouble<usize>> {
-    let len = items.len();
-    let count = match tried {
-        Tried::Fold => try_count(rt, alloc, strategy, items, true)?,
-        Tried::FoldOfIterator => try_count(rt, alloc, strategy, items, false)?,
-        Tried::FoldWithState => strategy.fold_init(
-            rt,
-            alloc,
-            SITE,
-            items,
-            zero,
-            no_count,
-            count_by_state,
-            add_counts,
-        )?,
-        Tried::Partition => parted(rt, alloc, strategy, items)?,
-        _ => rooted(rt, alloc, strategy, items)?,
-    };
-    Ok(count == len)
 }
 
 // From the greatest number down.
@@ -383,11 +295,7 @@ pub fn outcome<Rt: Threads + Wait + Abort + Copy + Send + Sync + 'static, S: Str
     items: Vec<Counted<'_>>,
 ) -> Result<bool, Trouble<usize>> {
     match tried {
-        Tried::Map
-        | Tried::MapOfIterator
-        | Tried::MultipliedMap
-        | Tried::MapWithState
-        | Tried::MultipliedMapWithState => is_map(rt, alloc, strategy, tried, items),
+        Tried::Root => is_root(rt, alloc, strategy, items),
         Tried::Sort => is_sort(rt, alloc, strategy, true),
         Tried::UnstableSort => is_sort(rt, alloc, strategy, false),
         Tried::Batch => is_batch(rt, alloc, strategy, counts, (items.len(), false)),
@@ -396,6 +304,6 @@ pub fn outcome<Rt: Threads + Wait + Abort + Copy + Send + Sync + 'static, S: Str
         Tried::MergedTiles => are_tiles(rt, alloc, strategy, counts, (items.len(), true)),
         Tried::Spawn => is_spawned(rt, alloc, strategy),
         Tried::Explore => is_search(rt, alloc),
-        _ => is_fold(rt, alloc, strategy, tried, items),
+        _ => is_made(rt, alloc, strategy, tried, items),
     }
 }

@@ -62,8 +62,18 @@ fn three_come<Rt: Threads + Wait + Abort + Sync, S: Strategy>(
 ) {
     let three = [(0, 7), (1, 8), (2, 9)];
     for kind in ["map", "map with a state", "fallible map"] {
-        lists(rt, kind, mapped(rt, alloc, strategy, kind, of_lists()), &three);
-        lists(rt, kind, mapped(rt, alloc, strategy, kind, of_range()), &three);
+        lists(
+            rt,
+            kind,
+            mapped(rt, alloc, strategy, kind, of_lists()),
+            &three,
+        );
+        lists(
+            rt,
+            kind,
+            mapped(rt, alloc, strategy, kind, of_range()),
+            &three,
+        );
         let counted = Counted { iter: of_range() };
         lists(rt, kind, mapped(rt, alloc, strategy, kind, counted), &three);
     }
