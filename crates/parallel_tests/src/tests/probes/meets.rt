@@ -239,16 +239,17 @@ impl<S: Drop> Job<S, u32> for Attends {
 
 // Stops the test where jobs, each handed off after the one before, don't meet their caller.
 fn jobs_meet_their_caller<Rt: Threads + Wait + Abort + Copy + Send + 'static, S: Strategy>(
-    on: &On<'_, Rt, S, Site>,
+    rt: &Rt,
+    alloc: Global,
+    strategy: &S,
 ) {
-    let (rt, alloc) = (on.rt, on.alloc);
     for jobs in [1usize, 2, 3] {
         let all = jobs.wrapping_add(1);
         let meeting = Meeting::of(all, 0);
         let meeting = Arc::new(alloc, meeting).expect(rt, "memory for a meeting");
         for job in 0..jobs {
             let meeting = Arc::try_clone(&meeting).expect(rt, "a handle");
-            let spawned = on.strategy.spawn(rt, alloc, SITE, 1, Attends { meeting });
+            let spawned = strategy.spawn(rt, alloc, SITE, 1, Attends { meeting });
             row(rt, ("job", job), spawned.is_ok(), true);
         }
         meeting.attend();
@@ -274,7 +275,7 @@ fn all_meet<Rt: Threads + Wait + Abort + Copy + Send + Sync + 'static, S: Strate
     for rooted in ROOTED {
         pairs_meet(&on, rooted);
     }
-    jobs_meet_their_caller(&on);
+    jobs_meet_their_caller(rt, alloc, strategy);
 }
 
 #[test]
