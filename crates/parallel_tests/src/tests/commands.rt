@@ -57,8 +57,8 @@ fn text_of(rt: &impl Abort, written: Vec<u8>) -> String {
     String::from_utf8(written).expect(rt, "a text")
 }
 
-// Runs the words of the line, which have to leave this status and these texts.
-fn leaves<R: Threads + Wait + Abort + Sync>(
+/// Runs the words of the line, which have to leave this status and these texts.
+pub fn leaves<R: Threads + Wait + Abort + Sync>(
     rt: &R,
     alloc: Global,
     line: &str,
@@ -190,8 +190,8 @@ fn the_widest_commands_succeed(rt: HostRuntime) {
     row(&rt, 3, lengths, 65_536);
 }
 
-// The line of that many items after these words, each the greatest number.
-fn widest(alloc: Global, words: &str, items: usize) -> Result<String, AllocError> {
+/// The line of that many items after these words, each the greatest number.
+pub fn widest(alloc: Global, words: &str, items: usize) -> Result<String, AllocError> {
     let mut line = String::from_str(alloc, words)?;
     for _ in 0..items {
         line.push_str(" 1000000")?;

@@ -1,5 +1,6 @@
 //! How many threads each call starts: at most one fewer than its strategy has, and none where it
-//! goes serially.
+//! goes serially; and that the program's searches start some.
+use crate::tests::commands::{leaves, widest};
 use crate::tests::probes::acts::{Act, does, on};
 use crate::tests::probes::calls::CALLS;
 use crate::tests::probes::given::FEW;
@@ -95,4 +96,30 @@ fn a_serial_call_starts_no_thread(rt: HostRuntime) {
     let four = unasked(&rt, alloc, 4);
     let serial = Explorer::by_rule(&four, Rule::Serial).expect(&rt, "memory for a handle");
     all_start(&rt, alloc, &serial, 0);
+}
+
+// How many threads a command that prints this starts, as few as in the best of many tries.
+fn least_by_command<Rt: Threads + Wait + Files + AllocGlobal + Abort + Sync>(
+    rt: &Rt,
+    alloc: Global,
+    line: &str,
+    printed: &str,
+) -> u64 {
+    let mut least = u64::MAX;
+    for _ in 0..20u32 {
+        let before = last_number(rt);
+        leaves(rt, alloc, line, (0, printed, ""));
+        least = least.min(last_number(rt).wrapping_sub(before));
+    }
+    least
+}
+
+#[test]
+fn the_programs_searches_start_threads(rt: HostRuntime) {
+    let alloc = rt.alloc();
+    let least = least_by_command(&rt, alloc, "explore sum", "4950\n");
+    row(&rt, "explore sum", least > 0, true);
+    let line = widest(alloc, "root", 1_000).expect(&rt, "memory");
+    let least = least_by_command(&rt, alloc, &line, "890209\n");
+    row(&rt, "root", least > 0, true);
 }
