@@ -1,7 +1,7 @@
 //! Callers as they are met: the bytes of a matrix that are above a threshold, counted by row, and
 //! messages that are checked against their digests.
 use crate::calls::SITE;
-use crate::case::{Call, With};
+use crate::case::Case;
 use commonware_parallel::{Fault, Runtime, Strategy, Trouble};
 use sha2::{Digest as _, Sha256};
 use std::alloc::{AllocError, Global};
@@ -21,7 +21,7 @@ const MESSAGE: usize = 64;
 /// What a caller takes.
 #[derive(Clone, Copy)]
 pub struct Extras<'a> {
-    /// The cells of a matrix, or the messages one after the other.
+    /// The cells of a matrix.
     pub bytes: &'a [u8],
     pub messages: &'a [&'a [u8]],
     /// The digest of each message.
@@ -34,14 +34,14 @@ pub struct Extras<'a> {
 /// # Errors
 ///
 /// `AllocError` if an allocation fails.
-pub fn bytes_of(alloc: Global, call: Call, numbers: &[u64]) -> Result<Vec<u8>, AllocError> {
-    match call {
-        Call::With(With::RowsAbove) => {
+pub fn bytes_of(alloc: Global, case: Case, numbers: &[u64]) -> Result<Vec<u8>, AllocError> {
+    match case {
+        Case::RowsAbove => {
             let cells = numbers.len() / ROWS * ROWS;
             let high = |number: &u64| (*number >> 56) as u8;
             numbers.iter().take(cells).map(high).collect(alloc)
         }
-        Call::With(With::Digests) => message_bytes(alloc, numbers),
+        Case::Digests => message_bytes(alloc, numbers),
         _ => Ok(Vec::new(alloc)),
     }
 }
@@ -56,13 +56,31 @@ fn message_bytes(alloc: Global, numbers: &[u64]) -> Result<Vec<u8>, AllocError> 
     Ok(bytes)
 }
 
-/// The messages that lie one after the other.
+/// The messages of the case `digests`.
 ///
 /// # Errors
 ///
 /// `AllocError` if an allocation fails.
-pub fn messages_of(alloc: Global, bytes: &[u8]) -> Result<Vec<&[u8]>, AllocError> {
+pub fn messages_of<'a>(
+    alloc: Global,
+    case: Case,
+    bytes: &'a [u8],
+) -> Result<Vec<&'a [u8]>, AllocError> {
+    let bytes = if matches!(case, Case::Digests) {
+        bytes
+    } else {
+        &[]
+    };
     bytes.chunks(MESSAGE).collect(alloc)
+}
+
+/// The digests of messages.
+///
+/// # Errors
+///
+/// `AllocError` if an allocation fails.
+pub fn digests_of(alloc: Global, messages: &[&[u8]]) -> Result<Vec<Digest>, AllocError> {
+    messages.iter().map(digest_of).collect(alloc)
 }
 
 /// A message's digest by SHA-256.
@@ -93,7 +111,8 @@ pub fn bytes_above<Rt: Runtime, S: Strategy>(
     Ok(total)
 }
 
-/// How many messages have their digest, up to the first one that hasn't, through a strategy.
+/// How many messages have their digest, up to the first one that hasn't, through a
+/// strategy.
 ///
 /// # Errors
 ///
@@ -103,14 +122,18 @@ pub fn first_mismatch<Rt: Runtime, S: Strategy>(
     alloc: Global,
     strategy: &S,
     extras: Extras<'_>,
-) -> Result<u64, Fault> {
-    let (messages, digests) = (extras.messages, extras.digests);
+) -> Result<usize, Fault> {
+    let Extras {
+        messages,
+        digests,
+        ..
+    } = extras;
     if messages.len() != digests.len() {
         return Ok(0);
     }
     match verifier::verify_digests(rt, alloc, strategy, SITE, messages, digests) {
-        Ok(passed) => Ok(passed.len() as u64),
-        Err(Trouble::Closure(index)) => Ok(index as u64),
+        Ok(passed) => Ok(passed.len()),
+        Err(Trouble::Closure(index)) => Ok(index),
         Err(Trouble::Fault(fault)) => Err(fault),
     }
 }

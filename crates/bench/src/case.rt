@@ -1,49 +1,33 @@
 //! The cases that are timed, and their names.
-/// What a case calls with its items or its cells, and what its closures cost.
+/// What a call does with its items or its cells.
 #[derive(Clone, Copy)]
-pub struct Case {
-    pub call: Call,
-    /// Not read where the call's closures have one cost.
-    pub cost: Cost,
-}
-
-/// What is called, by what it takes.
-#[derive(Clone, Copy)]
-pub enum Call {
-    /// The items by any source.
-    Over(Over),
-    /// The items as they lie, or what is made of them.
-    With(With),
-    /// A list of its own, each item of which it changes where it lies.
-    Each,
-}
-
-/// What is called with a source.
-#[derive(Clone, Copy)]
-pub enum Over {
-    Map,
-    Fold,
-    /// A fold with a state at hand.
+pub enum Case {
+    /// A map by a closure of that cost.
+    Map(Cost),
+    /// A fold by a step of that cost.
+    Fold(Cost),
+    /// A light fold with a state at hand.
     FoldInit,
-    /// A map by a closure that may fail. A light one never does, and a heavy one early in the list.
-    TryMap,
-    /// A map whose results are values for every other item, and keys for the rest.
-    Partition,
-}
-
-/// What is called with items as they lie.
-#[derive(Clone, Copy)]
-pub enum With {
+    /// A light map by a closure that may fail and never does.
+    TryMapLight,
+    /// A heavy map by a closure that fails early in the list.
+    TryMapEarly,
+    /// A light map whose results are values for every other item, and keys for the rest.
+    PartitionLight,
+    /// The same by a heavy closure.
+    PartitionHeavy,
     /// A sort of a copy.
     Sort,
-    /// A sum over the items as the cells of a grid, whose rows are many and are kept whole.
-    TilesRows,
-    /// The same where they are few and are cut.
-    TilesCut,
-    /// The root of a tree over the items as its leaves.
-    Tree,
+    /// A list of its own that is changed where it lies, by a function of that cost.
+    Each(Cost),
+    /// A sum over the items as the cells of a grid.
+    Tiles(Rows, Cost),
+    /// The root of a tree over the items as its leaves, of light or of heavy nodes.
+    TreeLight,
+    TreeHeavy,
     /// The same root by blocks of leaves.
-    Blocks,
+    BlocksLight,
+    BlocksHeavy,
     /// The bytes of a matrix above a threshold, counted by row.
     RowsAbove,
     /// Messages that are checked against their digests.
@@ -59,47 +43,79 @@ pub enum Cost {
     Rising,
 }
 
-/// Every case by the name by which the command line asks for it.
-///
-/// A function that went over a constant would be proved with all of its rows.
-pub fn cases() -> [(&'static str, Call, Cost); 25] {
-    [
-        ("map-light", Call::Over(Over::Map), Cost::Light),
-        ("map-heavy", Call::Over(Over::Map), Cost::Heavy),
-        ("map-rising", Call::Over(Over::Map), Cost::Rising),
-        ("fold-light", Call::Over(Over::Fold), Cost::Light),
-        ("fold-heavy", Call::Over(Over::Fold), Cost::Heavy),
-        ("fold-rising", Call::Over(Over::Fold), Cost::Rising),
-        ("try-map-light", Call::Over(Over::TryMap), Cost::Light),
-        ("try-map-early", Call::Over(Over::TryMap), Cost::Heavy),
-        ("fold-init", Call::Over(Over::FoldInit), Cost::Light),
-        ("partition", Call::Over(Over::Partition), Cost::Light),
-        ("partition-heavy", Call::Over(Over::Partition), Cost::Heavy),
-        ("sort", Call::With(With::Sort), Cost::Light),
-        ("each-light", Call::Each, Cost::Light),
-        ("each-heavy", Call::Each, Cost::Heavy),
-        ("tiles-rows-light", Call::With(With::TilesRows), Cost::Light),
-        ("tiles-rows-heavy", Call::With(With::TilesRows), Cost::Heavy),
-        ("tiles-cut-light", Call::With(With::TilesCut), Cost::Light),
-        ("tiles-cut-heavy", Call::With(With::TilesCut), Cost::Heavy),
-        ("tiles-uneven", Call::With(With::TilesRows), Cost::Rising),
-        ("merkle-light", Call::With(With::Tree), Cost::Light),
-        ("merkle-heavy", Call::With(With::Tree), Cost::Heavy),
-        ("merkle-blocks-light", Call::With(With::Blocks), Cost::Light),
-        ("merkle-blocks-heavy", Call::With(With::Blocks), Cost::Heavy),
-        ("rows-above", Call::With(With::RowsAbove), Cost::Light),
-        ("digests", Call::With(With::Digests), Cost::Light),
-    ]
+/// The rows of a grid: many that are kept whole, or few that are cut.
+#[derive(Clone, Copy)]
+pub enum Rows {
+    Whole,
+    Cut,
 }
+
+/// Every case with the name by which the command line asks for it.
+pub const CASES: [(&str, Case); 25] = [
+    ("map-light", Case::Map(Cost::Light)),
+    ("map-heavy", Case::Map(Cost::Heavy)),
+    ("map-rising", Case::Map(Cost::Rising)),
+    ("fold-light", Case::Fold(Cost::Light)),
+    ("fold-heavy", Case::Fold(Cost::Heavy)),
+    ("fold-rising", Case::Fold(Cost::Rising)),
+    ("try-map-light", Case::TryMapLight),
+    ("try-map-early", Case::TryMapEarly),
+    ("fold-init", Case::FoldInit),
+    ("partition", Case::PartitionLight),
+    ("partition-heavy", Case::PartitionHeavy),
+    ("sort", Case::Sort),
+    ("each-light", Case::Each(Cost::Light)),
+    ("each-heavy", Case::Each(Cost::Heavy)),
+    ("tiles-rows-light", Case::Tiles(Rows::Whole, Cost::Light)),
+    ("tiles-rows-heavy", Case::Tiles(Rows::Whole, Cost::Heavy)),
+    ("tiles-cut-light", Case::Tiles(Rows::Cut, Cost::Light)),
+    ("tiles-cut-heavy", Case::Tiles(Rows::Cut, Cost::Heavy)),
+    ("tiles-uneven", Case::Tiles(Rows::Whole, Cost::Rising)),
+    ("merkle-light", Case::TreeLight),
+    ("merkle-heavy", Case::TreeHeavy),
+    ("merkle-blocks-light", Case::BlocksLight),
+    ("merkle-blocks-heavy", Case::BlocksHeavy),
+    ("rows-above", Case::RowsAbove),
+    ("digests", Case::Digests),
+];
 
 impl Case {
     /// The case of that name, if there is one.
     pub fn named(name: &str) -> Option<Case> {
-        for (known, call, cost) in cases() {
+        for (known, case) in CASES {
             if known == name {
-                return Some(Case { call, cost });
+                return Some(case);
             }
         }
         None
+    }
+
+    /// Whether item i is the number i, and not one of a shuffled list.
+    pub fn is_rising(self) -> bool {
+        matches!(self, Case::Map(Cost::Rising) | Case::Fold(Cost::Rising))
+    }
+
+    /// Whether the case takes its items from any source.
+    pub fn takes_source(self) -> bool {
+        matches!(
+            self,
+            Case::Map(_)
+                | Case::Fold(_)
+                | Case::FoldInit
+                | Case::TryMapLight
+                | Case::TryMapEarly
+                | Case::PartitionLight
+                | Case::PartitionHeavy
+        )
+    }
+
+    /// Whether the case changes a list of its own where it lies, which each call takes.
+    pub fn is_in_place(self) -> bool {
+        matches!(self, Case::Each(_))
+    }
+
+    /// Whether the kit's `rayon` has the call.
+    pub fn suits_kit(self) -> bool {
+        matches!(self, Case::Map(_) | Case::Fold(_) | Case::Sort)
     }
 }

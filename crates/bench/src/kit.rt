@@ -1,10 +1,10 @@
 //! The same cases through the kit's `rayon`, as its callers write them.
-use crate::case::{Call, Case, Cost, Over, With};
+use crate::case::{Case, Cost};
 use crate::ways::Answer;
-use crate::work::{Work, add, ascending, zero};
+use crate::work::{add, ascending, heavy, light, rising, zero};
 use commonware_parallel::Fault;
 use rayon::prelude::*;
-use std::alloc::Global;
+use std::alloc::{AllocError, Global};
 use std::thread::Threads;
 
 /// The case's result, and 0 for a case that it has no call for.
@@ -14,33 +14,48 @@ use std::thread::Threads;
 /// # Errors
 ///
 /// What was refused.
-pub fn by_kit<W: Work, Rt: Threads + Sync>(
+pub fn by_kit<Rt: Threads + Sync>(
     rt: &Rt,
     alloc: Global,
     case: Case,
     items: &[u64],
 ) -> Result<Answer, Fault> {
-    match case.call {
-        Call::Over(Over::Map) => {
-            let answers = items
-                .par_iter()
-                .copied()
-                .map(|item| W::of(item))
-                .collect(rt, alloc)?;
-            Ok(Answer::Numbers(answers))
-        }
-        Call::Over(Over::Fold) => {
-            let items = items.par_iter().copied();
-            Ok(Answer::Number(match case.cost {
-                Cost::Light => items.reduce(rt, zero, add),
-                _ => items.map(|item| W::of(item)).reduce(rt, zero, add),
-            }))
-        }
-        Call::With(With::Sort) => {
-            let mut sorted: Vec<u64> = items.iter().copied().collect(alloc)?;
-            par_sort_by(rt, alloc, sorted.as_mut_slice(), ascending)?;
-            Ok(Answer::Numbers(sorted))
-        }
+    match case {
+        Case::Map(cost) => Ok(Answer::Numbers(mapped(rt, alloc, cost, items)?)),
+        Case::Fold(cost) => Ok(Answer::Number(folded(rt, cost, items))),
+        Case::Sort => Ok(Answer::Numbers(sorted(rt, alloc, items)?)),
         _ => Ok(Answer::Number(0)),
     }
+}
+
+fn mapped<Rt: Threads + Sync>(
+    rt: &Rt,
+    alloc: Global,
+    cost: Cost,
+    items: &[u64],
+) -> Result<Vec<u64>, AllocError> {
+    match cost {
+        Cost::Light => items.par_iter().copied().map(light).collect(rt, alloc),
+        Cost::Heavy => items.par_iter().copied().map(heavy).collect(rt, alloc),
+        Cost::Rising => items.par_iter().copied().map(rising).collect(rt, alloc),
+    }
+}
+
+fn folded<Rt: Threads + Sync>(rt: &Rt, cost: Cost, items: &[u64]) -> u64 {
+    let items = items.par_iter().copied();
+    match cost {
+        Cost::Light => items.reduce(rt, zero, add),
+        Cost::Heavy => items.map(heavy).reduce(rt, zero, add),
+        Cost::Rising => items.map(rising).reduce(rt, zero, add),
+    }
+}
+
+fn sorted<Rt: Threads + Sync>(
+    rt: &Rt,
+    alloc: Global,
+    items: &[u64],
+) -> Result<Vec<u64>, AllocError> {
+    let mut sorted: Vec<u64> = items.iter().copied().collect(alloc)?;
+    par_sort_by(rt, alloc, sorted.as_mut_slice(), ascending)?;
+    Ok(sorted)
 }

@@ -1,10 +1,13 @@
 //! The plain loops that the calls stand for. A loop that gathers as many results as there are items
 //! is a chain, which is its faster form.
 use crate::callers::{Extras, ROWS, THRESHOLD, digest_of};
-use crate::case::{Call, Case, Cost, Over, With};
+use crate::case::{Case, Cost};
 use crate::tiles::Tiling;
-use crate::ways::{Answer, Items};
-use crate::work::{Light, Work, ascending};
+use crate::ways::Answer;
+use crate::work::{
+    add, add_heavy, add_rising, ascending, combined, combined_heavily, heavy, light,
+    parted_heavily, parted_lightly, rising, try_heavy, try_light,
+};
 use commonware_parallel::Fault;
 use std::alloc::{AllocError, Global};
 
@@ -13,76 +16,66 @@ use std::alloc::{AllocError, Global};
 /// # Errors
 ///
 /// What was refused.
-pub fn by_loop<W: Work>(
+pub fn by_loop(
     alloc: Global,
     case: Case,
-    items: Items<'_>,
-    extras: Extras<'_>,
-) -> Result<Answer, Fault> {
-    match case.call {
-        Call::Over(over) => loop_over::<W>(alloc, over, items.as_slice()),
-        Call::With(with) => loop_with::<W>(alloc, with, case.cost, items.as_slice(), extras),
-        Call::Each => Ok(loop_each::<W>(items.into_owned(alloc)?)),
-    }
-}
-
-fn loop_over<W: Work>(alloc: Global, over: Over, items: &[u64]) -> Result<Answer, Fault> {
-    match over {
-        Over::Map => {
-            let answers = items
-                .iter()
-                .copied()
-                .map(|item| W::of(item))
-                .collect(alloc)?;
-            Ok(Answer::Numbers(answers))
-        }
-        Over::Fold => Ok(Answer::Number(folded::<W>(items))),
-        Over::FoldInit => Ok(Answer::Number(folded::<Light>(items))),
-        Over::TryMap => tried::<W>(alloc, items),
-        Over::Partition => parted::<W>(alloc, items),
-    }
-}
-
-fn loop_with<W: Work>(
-    alloc: Global,
-    with: With,
-    cost: Cost,
     items: &[u64],
     extras: Extras<'_>,
 ) -> Result<Answer, Fault> {
-    let number = match with {
-        With::Sort => return sorted(alloc, items),
-        With::TilesRows | With::TilesCut => Tiling::of(with, cost, items.len()).sum(items),
-        With::Tree | With::Blocks => root::<W>(alloc, items)?,
-        With::RowsAbove => bytes_above(extras.bytes),
-        With::Digests => first_mismatch(extras),
-    };
-    Ok(Answer::Number(number))
+    match case {
+        Case::Map(cost) => Ok(Answer::Numbers(mapped(alloc, cost, items)?)),
+        Case::Fold(Cost::Heavy) => Ok(Answer::Number(folded(items, add_heavy))),
+        Case::Fold(Cost::Rising) => Ok(Answer::Number(folded(items, add_rising))),
+        Case::Fold(Cost::Light) | Case::FoldInit => Ok(Answer::Number(folded(items, add))),
+        Case::TryMapLight => tried(alloc, items, try_light),
+        Case::TryMapEarly => tried(alloc, items, try_heavy),
+        Case::PartitionLight => parted(alloc, items, parted_lightly),
+        Case::PartitionHeavy => parted(alloc, items, parted_heavily),
+        Case::Sort => Ok(Answer::Numbers(sorted(alloc, items)?)),
+        Case::Tiles(rows, cost) => {
+            let tiling = Tiling::of(rows, cost, items.len());
+            Ok(Answer::Number(tiling.sum(items)))
+        }
+        Case::TreeLight | Case::BlocksLight => Ok(Answer::Number(root(alloc, items, combined)?)),
+        Case::TreeHeavy | Case::BlocksHeavy => {
+            Ok(Answer::Number(root(alloc, items, combined_heavily)?))
+        }
+        Case::RowsAbove => Ok(Answer::Number(bytes_above(extras.bytes))),
+        Case::Digests => Ok(Answer::Number(first_mismatch(extras) as u64)),
+        Case::Each(_) => Ok(Answer::Number(0)),
+    }
 }
 
-// A list, after each item was changed where it lies.
-fn loop_each<W: Work>(items: Vec<u64>) -> Answer {
-    let mut items = items;
-    for item in items.iter_mut() {
-        *item = W::of(*item);
+fn mapped(alloc: Global, cost: Cost, items: &[u64]) -> Result<Vec<u64>, AllocError> {
+    match cost {
+        Cost::Light => items.iter().copied().map(light).collect(alloc),
+        Cost::Heavy => items.iter().copied().map(heavy).collect(alloc),
+        Cost::Rising => items.iter().copied().map(rising).collect(alloc),
     }
-    Answer::Numbers(items)
 }
 
 /// The items folded from 0.
-pub fn folded<W: Work>(items: &[u64]) -> u64 {
+pub fn folded<F: Fn(u64, u64) -> u64 + Drop>(items: &[u64], step: F) -> u64
+    requires { F.IsAlwaysCallable step }
+{
     let mut total = 0u64;
     for item in items {
-        total = W::add(total, *item);
+        total = step(total, *item);
     }
     total
 }
 
 // The results, or the first item's error.
-fn tried<W: Work>(alloc: Global, items: &[u64]) -> Result<Answer, Fault> {
+fn tried<F: Fn(u64) -> Result<u64, u64> + Drop>(
+    alloc: Global,
+    items: &[u64],
+    op: F,
+) -> Result<Answer, Fault>
+    requires { F.IsAlwaysCallable op }
+{
     let mut answers = Vec::with_capacity(alloc, items.len())?;
     for item in items {
-        match W::try_of(*item) {
+        match op(*item) {
             Ok(answer) => answers.push(answer)?,
             Err(failing) => return Ok(Answer::Number(failing)),
         }
@@ -91,11 +84,17 @@ fn tried<W: Work>(alloc: Global, items: &[u64]) -> Result<Answer, Fault> {
 }
 
 // The values and the keys, each in order.
-fn parted<W: Work>(alloc: Global, items: &[u64]) -> Result<Answer, Fault> {
+fn parted<F: Fn(u64) -> (u64, Option<u64>) + Drop>(
+    alloc: Global,
+    items: &[u64],
+    op: F,
+) -> Result<Answer, Fault>
+    requires { F.IsAlwaysCallable op }
+{
     let mut values = Vec::new(alloc);
     let mut keys = Vec::new(alloc);
     for item in items {
-        match W::part(*item) {
+        match op(*item) {
             (_, Some(value)) => values.push(value)?,
             (key, None) => keys.push(key)?,
         }
@@ -103,29 +102,37 @@ fn parted<W: Work>(alloc: Global, items: &[u64]) -> Result<Answer, Fault> {
     Ok(Answer::Parts(values, keys))
 }
 
-fn sorted(alloc: Global, items: &[u64]) -> Result<Answer, Fault> {
+fn sorted(alloc: Global, items: &[u64]) -> Result<Vec<u64>, AllocError> {
     let mut sorted: Vec<u64> = items.iter().copied().collect(alloc)?;
     sorted.sort_by(ascending)?;
-    Ok(Answer::Numbers(sorted))
+    Ok(sorted)
 }
 
 // The root by loops over the levels in one buffer, and 0 where there is none.
-fn root<W: Work>(alloc: Global, items: &[u64]) -> Result<u64, AllocError> {
+fn root<F: Fn(u64, u64) -> u64 + Drop>(
+    alloc: Global,
+    items: &[u64],
+    combine: F,
+) -> Result<u64, AllocError>
+    requires { F.IsAlwaysCallable combine }
+{
     let mut nodes: Vec<u64> = items.iter().copied().collect(alloc)?;
     let mut len = nodes.len();
     for _level in 0..usize::BITS {
         if len > 1 {
-            len = next_level::<W>(nodes.as_mut_slice(), len);
+            len = next_level(nodes.as_mut_slice(), len, &combine);
         }
     }
     Ok(nodes.first().copied().unwrap_or(0))
 }
 
 // Writes the level above the first `len` nodes over their front, and returns how many it has.
-fn next_level<W: Work>(nodes: &mut [u64], len: usize) -> usize {
+fn next_level<F: Fn(u64, u64) -> u64>(nodes: &mut [u64], len: usize, combine: &F) -> usize
+    requires { F.IsAlwaysCallable combine.now }
+{
     let pairs = nodes.len().min(len) / 2;
     for pair in 0..pairs {
-        nodes[pair] = W::combine(nodes[2 * pair], nodes[2 * pair + 1]);
+        nodes[pair] = combine(nodes[2 * pair], nodes[2 * pair + 1]);
     }
     with_odd(nodes, len)
 }
@@ -153,8 +160,8 @@ fn bytes_above(matrix: &[u8]) -> u64 {
 }
 
 // How many messages have their digest, up to the first one that hasn't.
-fn first_mismatch(extras: Extras<'_>) -> u64 {
-    let mut passed = 0u64;
+fn first_mismatch(extras: Extras<'_>) -> usize {
+    let mut passed = 0usize;
     for (message, digest) in extras.messages.iter().zip(extras.digests.iter()) {
         if digest_of(message) != *digest {
             return passed;

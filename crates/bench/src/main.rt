@@ -7,7 +7,7 @@ mod callers;
 mod calls;
 mod case;
 mod counted_job;
-mod host;
+mod in_place;
 mod jobs;
 mod kit;
 mod loops;
@@ -21,45 +21,51 @@ mod times;
 mod ways;
 mod work;
 
-use crate::case::cases;
-use crate::host::Host;
+use crate::case::CASES;
 use crate::jobs::race_jobs;
 use crate::policies::race_choices;
 use crate::pools::soak_pools;
 use crate::race::race;
-use crate::request::{COMMANDS, Command, Request, parse_request};
+use crate::request::{COMMANDS, Request, parse_request};
 use crate::soak::soak;
 use anyhow::Result;
 use std::process::ExitCode;
 use std::{env, io};
 
 fn main(rt: HostRuntime) -> io::Result<ExitCode> {
-    match run(&rt) {
-        Ok(true) => Ok(ExitCode::SUCCESS),
-        Ok(false) => {
+    let outcome = match requested(&rt) {
+        Ok(Some(Request::Names)) => names(&rt),
+        Ok(Some(Request::Time(trial))) => race(&rt, trial),
+        Ok(Some(Request::Policy(pair))) => race_choices(&rt, pair),
+        Ok(Some(Request::Jobs(pair))) => race_jobs(&rt, pair),
+        Ok(Some(Request::Soak(pair))) => soak(&rt, pair),
+        Ok(Some(Request::Pools(pair))) => soak_pools(&rt, pair),
+        Ok(None) => {
             eprintln!(rt; "bench: bad arguments")?;
-            Ok(ExitCode::from(2))
+            return Ok(ExitCode::from(2));
         }
-        Err(error) => {
-            eprintln!(rt; "bench: {error}")?;
-            Ok(ExitCode::FAILURE)
-        }
+        Err(error) => Err(error),
+    };
+    if let Err(error) = outcome {
+        eprintln!(rt; "bench: {error}")?;
+        return Ok(ExitCode::FAILURE);
     }
+    Ok(ExitCode::SUCCESS)
 }
 
-// Does what the command line asks for, and returns whether it asks for anything.
-fn run(rt: &impl Host) -> Result<bool> {
-    let words = env::args(rt)?.skip(1).collect::<Vec<String>>(rt.alloc())?;
-    match parse_request(words.as_slice()) {
-        Some(Request::Names) => names(rt)?,
-        Some(Request::Time(trial)) => race(rt, trial)?,
-        Some(Request::Run(Command::Policy, len, threads)) => race_choices(rt, len, threads)?,
-        Some(Request::Run(Command::Jobs, jobs, workers)) => race_jobs(rt, jobs, workers)?,
-        Some(Request::Run(Command::Soak, plans, seed)) => soak(rt, plans, seed)?,
-        Some(Request::Run(Command::Pools, jobs, pools)) => soak_pools(rt, jobs, pools)?,
-        None => return Ok(false),
-    }
-    Ok(true)
+/// What the command line asks for, if it is text and asks for anything.
+///
+/// # Errors
+///
+/// `AllocError` if an allocation fails, or the error of reading the words.
+fn requested(rt: &(impl std::rt::Env + AllocGlobal)) -> Result<Option<Request>> {
+    let words = match env::args(rt) {
+        Ok(words) => words,
+        Err(error) if error.kind() == io::ErrorKind::InvalidData => return Ok(None),
+        Err(error) => return Err(error.into()),
+    };
+    let words = words.skip(1).collect::<Vec<String>>(rt.alloc())?;
+    Ok(parse_request(words.as_slice()))
 }
 
 /// Prints the cases' names and the commands', one a line.
@@ -68,7 +74,7 @@ fn run(rt: &impl Host) -> Result<bool> {
 ///
 /// The error of a write.
 fn names(rt: &impl Print) -> Result<()> {
-    for (name, _, _) in cases() {
+    for (name, _) in CASES {
         rt.println(name)?;
     }
     for name in COMMANDS {

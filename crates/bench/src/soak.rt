@@ -1,10 +1,10 @@
 //! Random plans of shares, each emptied by threads that claim, steal and refill.
-ghost use Rattle.std.specs.Prelude.{◌≡◌, ◌*◌, ◌≤◌, IfOk, IsFalse, map};
+ghost use Rattle.std.specs.Prelude.{◌≡◌, ◌*◌, ◌≤◌, IfOk, IsFalse, None, map};
 ghost use Rattle.std.specs.Int.NonZero.{non_zero_usize_get};
-ghost use Rattle.parallel_shares.specs.Seats.{AreSeatsOf, IsSeatOf, index_of};
+ghost use Rattle.parallel_shares.specs.Seats.{AreSeatsOf, IsSeatOf, index_of, transit_of};
 ghost use Rattle.bench.specs.Driven.{seat_of};
 
-use crate::host::Host;
+use crate::request::Pair;
 use crate::work::mixed_once;
 use anyhow::{Result, ensure};
 use parallel_fault::Fault;
@@ -13,7 +13,6 @@ use std::alloc::{AllocError, Global};
 use std::num::NonZeroUsize;
 use std::ops::Range;
 use std::sync::Wait;
-use std::sync::atomic::{AtomicU64, Ordering};
 use std::thread::{self, Threads};
 
 /// The most rows of a plan.
@@ -27,6 +26,46 @@ const MOST_SEATS: usize = 16;
 
 /// The greatest cost of a tile.
 const MOST_COST: usize = 64;
+
+/// How often a step came to what.
+#[derive(Clone, Copy, Default)]
+pub struct Counts {
+    steps: u64,
+    /// Claims that gained cells.
+    claimed: u64,
+    /// Claims that met another word.
+    lost: u64,
+    /// Steals that took units.
+    taken: u64,
+    /// Steals that met another word.
+    missed: u64,
+    /// Steals for which no split paid.
+    nothing: u64,
+}
+
+impl Counts {
+    fn add(&mut self, other: Counts) {
+        self.steps = self.steps.wrapping_add(other.steps);
+        self.claimed = self.claimed.wrapping_add(other.claimed);
+        self.lost = self.lost.wrapping_add(other.lost);
+        self.taken = self.taken.wrapping_add(other.taken);
+        self.missed = self.missed.wrapping_add(other.missed);
+        self.nothing = self.nothing.wrapping_add(other.nothing);
+    }
+
+    // Counts what a try to claim, or to steal, came to.
+    fn count(&mut self, tried: &Tried, is_steal: bool) {
+        self.steps = self.steps.wrapping_add(1);
+        match tried {
+            Tried::Claimed(_) => self.claimed = self.claimed.wrapping_add(1),
+            Tried::Lost if is_steal => self.missed = self.missed.wrapping_add(1),
+            Tried::Lost => self.lost = self.lost.wrapping_add(1),
+            Tried::Taken => self.taken = self.taken.wrapping_add(1),
+            Tried::Nothing if is_steal => self.nothing = self.nothing.wrapping_add(1),
+            _ => {}
+        }
+    }
+}
 
 /// Numbers that look random.
 #[derive(Clone, Copy)]
@@ -55,37 +94,53 @@ impl Random {
     }
 }
 
-/// What a seat came back with: its claims, unless memory for one was refused.
+/// What a seat came back with: its claims, unless memory for one was refused, and what it counted.
 #[derive(Drop)]
 pub struct Driven {
     seat: Seat,
     claims: Result<Vec<Range<usize>>, AllocError>,
+    counts: Counts,
 }
 
 /// Makes that many plans one after the other, the first one's numbers from a seed, empties each,
-/// and prints how often units were stolen and put down.
+/// and prints what was counted.
 ///
 /// # Errors
 ///
 /// A refusal of memory, and `cells were lost` where the claims of a plan aren't each cell once.
-pub fn soak(rt: &impl Host, plans: usize, seed: usize) -> Result<()> {
-    let mut random = Random { state: seed as u64 };
-    let steals = AtomicU64::new(0);
-    for _ in 0..plans {
-        soak_plan(rt, rt.alloc(), &mut random, &steals)?;
+pub fn soak<Rt: Print + AllocGlobal + Threads + Wait + Sync>(rt: &Rt, trial: Pair) -> Result<()> {
+    let alloc = rt.alloc();
+    let mut random = Random {
+        state: trial.second as u64,
+    };
+    let mut counts = Counts::default();
+    for _ in 0..trial.first {
+        counts.add(soak_plan(rt, alloc, &mut random)?);
     }
-    let steals = steals.load(Ordering::Relaxed);
-    println!(rt; "soak: {plans} plans, {steals} steals")?;
+    report(rt, trial.first, counts)
+}
+
+fn report(rt: &impl Print, plans: usize, counts: Counts) -> Result<()> {
+    let Counts {
+        steps,
+        claimed,
+        lost,
+        taken,
+        missed,
+        nothing,
+    } = counts;
+    println!(rt; "soak: {plans} plans, {steps} steps")?;
+    println!(rt; "claims: {claimed} won, {lost} lost")?;
+    println!(rt; "steals: {taken} taken, {missed} lost, {nothing} nothing")?;
     Ok(())
 }
 
-// Empties one random plan.
+// What was counted in one random plan.
 fn soak_plan<Rt: Threads + Wait + Sync>(
     rt: &Rt,
     alloc: Global,
     random: &mut Random,
-    steals: &AtomicU64,
-) -> Result<()> {
+) -> Result<Counts> {
     let rows = random.up_to(MOST_ROWS).get();
     let len = random.up_to(MOST_CELLS).get();
     let tile_cost = random.up_to(MOST_COST);
@@ -94,10 +149,10 @@ fn soak_plan<Rt: Threads + Wait + Sync>(
     ensure!(rows.checked_mul(len).is_some(), "too many cells");
     let (shares, seats) = Shares::new(alloc, rows, len, tile_cost, workers, whole)?;
     let cells = shares.cells();
-    let (words, claims) = empty(rt, alloc, shares, seats, steals)?;
+    let (words, claims, counts) = empty(rt, alloc, shares, seats)?;
     ensure!(are_empty(words.as_slice()), "words were left");
     ensure!(is_each_once(claims, cells)?, "cells were lost");
-    Ok(())
+    Ok(counts)
 }
 
 // Whether rows are kept whole: where the coin says so, and where a row has less than two tiles.
@@ -107,19 +162,20 @@ fn is_whole(coin: bool, len: usize, tile_cost: NonZeroUsize) -> bool
     coin || len / 2 < tile_cost.get()
 }
 
-// Drives each seat in a thread of its own, and returns the words that are left and all claims.
+// Drives each seat in a thread of its own, and returns the words that are left, all claims, and
+// what was counted.
 fn empty<Rt: Threads + Wait + Sync>(
     rt: &Rt,
     alloc: Global,
     shares: Shares,
     seats: Vec<Seat>,
-    steals: &AtomicU64,
-) -> Result<(Vec<u64>, Vec<Range<usize>>), Fault>
+) -> Result<(Vec<u64>, Vec<Range<usize>>, Counts), Fault>
     requires { AreSeatsOf shares seats.items }
 {
-    let driven = drive_all(rt, alloc, &shares, seats, steals)?;
-    let (seats, claims) = gather(alloc, driven)?;
-    Ok((shares.close(seats), claims))
+    let driven = drive_all(rt, alloc, &shares, seats)?;
+    let (seats, claims, counts) = gather(alloc, driven)?;
+    let words = shares.close(seats);
+    Ok((words, claims, counts))
 }
 
 // What the threads give back, one for each seat.
@@ -128,7 +184,6 @@ fn drive_all<Rt: Threads + Wait + Sync>(
     alloc: Global,
     shares: &Shares,
     seats: Vec<Seat>,
-    steals: &AtomicU64,
 ) -> Result<Vec<Driven>, Fault>
     requires { AreSeatsOf shares.now seats.items }
     ensures { IfOk result (λ driven. AreSeatsOf shares.now (map seat_of driven.items)) }
@@ -140,22 +195,34 @@ fn drive_all<Rt: Threads + Wait + Sync>(
             requires { IsSeatOf shares.now seat }
             ensures { IsSeatOf shares.entry.now (seat_of result)
                 × (index_of (seat_of result) ≡ index_of seat) }
-        {
-            let mut seat = seat;
-            let claims = claim_all(rt, alloc, shares, &mut seat, steals);
-            Driven { seat, claims }
-        },
+        { drive(rt, alloc, shares, seat) },
     )?;
     Ok(driven)
 }
 
-// The claims of a seat's steps, until its own share is empty and no split of another pays.
+// Steps of one seat, until its own share is empty and no split of another pays.
+fn drive<Rt: Wait>(rt: &Rt, alloc: Global, shares: &Shares, seat: Seat) -> Driven
+    requires { IsSeatOf shares.now seat }
+    ensures seat { IsSeatOf shares.now (seat_of result) }
+    ensures index { index_of (seat_of result) ≡ index_of seat }
+{
+    let mut seat = seat;
+    let mut counts = Counts::default();
+    let claims = claim_all(rt, alloc, shares, &mut seat, &mut counts);
+    Driven {
+        seat,
+        claims,
+        counts,
+    }
+}
+
+// The claims of all steps of a seat.
 fn claim_all<Rt: Wait>(
     rt: &Rt,
     alloc: Global,
     shares: &Shares,
     seat: &mut Seat,
-    steals: &AtomicU64,
+    counts: &mut Counts,
 ) -> Result<Vec<Range<usize>>, AllocError>
     requires { IsSeatOf shares.now seat.old }
     ensures seat { IsSeatOf shares.now seat.new }
@@ -163,7 +230,7 @@ fn claim_all<Rt: Wait>(
 {
     let mut claims = Vec::new(alloc);
     for _ in rt.forever() {
-        match step(shares, seat, steals) {
+        match step(shares, seat, counts) {
             Tried::Claimed(cells) => claims.push(cells)?,
             Tried::Nothing => return Ok(claims),
             _ => {}
@@ -172,39 +239,66 @@ fn claim_all<Rt: Wait>(
     unreachable!()
 }
 
-// One try of a seat: to steal where it has seen its own share empty, and else to claim. What it
-// has in transit is put down first.
-fn step(shares: &Shares, seat: &mut Seat, steals: &AtomicU64) -> Tried
+// One try of a seat: to steal where it has seen its own share empty, and else to claim. What it has
+// in transit is put down first.
+fn step(shares: &Shares, seat: &mut Seat, counts: &mut Counts) -> Tried
     requires { IsSeatOf shares.now seat.old }
     ensures seat { IsSeatOf shares.now seat.new }
     ensures index { index_of seat.new ≡ index_of seat.old }
 {
+    settle(shares, seat, counts);
+    if seat.own_empty() {
+        let tried = shares.try_steal(seat);
+        counts.count(&tried, true);
+        return tried;
+    }
+    let tried = shares.try_claim(seat);
+    counts.count(&tried, false);
+    tried
+}
+
+// Puts down what a seat has in transit, if anything.
+fn settle(shares: &Shares, seat: &mut Seat, counts: &mut Counts)
+    requires { IsSeatOf shares.now seat.old }
+    ensures seat { IsSeatOf shares.now seat.new }
+    ensures index { index_of seat.new ≡ index_of seat.old }
+    ensures transit { transit_of seat.new ≡ None }
+{
     if seat.in_transit().is_some() {
         shares.refill(seat);
-        steals.fetch_add(1, Ordering::Relaxed);
-    }
-    if seat.own_empty() {
-        shares.try_steal(seat)
-    } else {
-        shares.try_claim(seat)
+        counts.steps = counts.steps.wrapping_add(1);
     }
 }
 
-// The seats in their order, and all of their claims.
-fn gather(alloc: Global, driven: Vec<Driven>) -> Result<(Vec<Seat>, Vec<Range<usize>>), Fault>
+// The seats in their order, all of their claims, and what they counted.
+fn gather(
+    alloc: Global,
+    driven: Vec<Driven>,
+) -> Result<(Vec<Seat>, Vec<Range<usize>>, Counts), Fault>
     ensures { IfOk result (λ r. r.0.items ≡ map seat_of driven.items) }
 {
     let mut seats = Vec::with_capacity(alloc, driven.len())?;
     let mut claims = Vec::new(alloc);
+    let mut counts = Counts::default();
     for part in driven {
-        let Driven {
-            seat,
-            claims: gained,
-        } = part;
-        claims.append(&mut gained?)?;
+        let seat = add(&mut claims, &mut counts, part)?;
         seats.push(seat)?;
     }
-    Ok((seats, claims))
+    Ok((seats, claims, counts))
+}
+
+// The seat, when its claims and counts stand with those that are there.
+fn add(
+    claims: &mut Vec<Range<usize>>,
+    counts: &mut Counts,
+    driven: Driven,
+) -> Result<Seat, AllocError>
+    ensures { IfOk result (λ seat. seat ≡ seat_of driven) }
+{
+    counts.add(driven.counts);
+    let mut gained = driven.claims?;
+    claims.append(&mut gained)?;
+    Ok(driven.seat)
 }
 
 // Whether no word has units left: each starts where it ends.

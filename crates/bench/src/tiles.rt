@@ -1,8 +1,8 @@
 //! The cells of a grid, added up: each is an item of the list, which is laid out as rows.
 use crate::calls::SITE;
-use crate::case::{Cost, With};
+use crate::case::{Cost, Rows};
 use crate::loops::folded;
-use crate::work::{Light, mixed, zero};
+use crate::work::{add, mixed, zero};
 use commonware_parallel::{Fault, Grid, Runtime, Strategy};
 use std::alloc::Global;
 use std::num::NonZeroUsize;
@@ -35,17 +35,22 @@ pub struct Tiling {
 impl Tiling {
     /// The layout of a list of that many items. Rows that are to be kept whole have a tile cost of
     /// as many cells as they have, so that no number of workers cuts them.
-    pub fn of(with: With, cost: Cost, items: usize) -> Tiling {
-        let is_cut = with == With::TilesCut;
-        let rows = if is_cut { FEW_ROWS } else { MANY_ROWS };
-        let len = items / rows;
-        let tile_cost = if is_cut { CUT_COST } else { len };
+    pub fn of(rows: Rows, cost: Cost, items: usize) -> Tiling {
+        let number = match rows {
+            Rows::Whole => MANY_ROWS,
+            Rows::Cut => FEW_ROWS,
+        };
+        let len = items / number;
+        let tile_cost = match rows {
+            Rows::Whole => len,
+            Rows::Cut => CUT_COST,
+        };
         let tile_cost = NonZeroUsize::new(tile_cost).unwrap_or(NonZeroUsize::MIN);
-        Tiling {
-            grid: Grid { rows, tile_cost },
-            len,
-            cost,
-        }
+        let grid = Grid {
+            rows: number,
+            tile_cost,
+        };
+        Tiling { grid, len, cost }
     }
 
     /// The sum over all cells, row after row.
@@ -66,7 +71,7 @@ impl Tiling {
             return 0;
         };
         match self.cost {
-            Cost::Light => folded::<Light>(cells),
+            Cost::Light => folded(cells, add),
             Cost::Heavy => sum_mixed(cells, CELL_ROUNDS),
             Cost::Rising => sum_mixed(cells, (row / ROWS_A_ROUND) as u64),
         }
@@ -105,7 +110,7 @@ pub fn sum_of_tiles<Rt: Runtime, S: Strategy>(
     let sums = strategy.run_tiles(rt, alloc, SITE, tiling.len, &grids, 1, |tiles| {
         tiles.fill_collect_vec(rt, alloc, zero, fill, row_done)
     })??;
-    Ok(folded::<Light>(sums.as_slice()))
+    Ok(folded(sums.as_slice(), add))
 }
 
 // The sum of a row, of which the next one has none yet.

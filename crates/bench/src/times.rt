@@ -2,12 +2,6 @@
 use anyhow::{Context, Result};
 use std::fmt;
 
-/// An odd number of rounds: 7 for a long list, and up to 1001 for a short one.
-pub fn rounds_of(len: usize) -> u64 {
-    let pairs = 10_000 / len.max(1);
-    pairs.clamp(3, 500) as u64 * 2 + 1
-}
-
 /// The least of several times and one in their middle, in nanoseconds.
 #[derive(Clone, Copy)]
 pub struct Times {

@@ -1,4 +1,4 @@
-//! The ways in which a case is run, what it is given and what it returns.
+//! The ways in which a case is run, and what it returns.
 use std::alloc::{AllocError, Global};
 
 /// A way in which a case is run.
@@ -17,15 +17,13 @@ pub enum Way {
 }
 
 /// The ways with what their lines begin with, in the order of every other round and of the lines.
-pub fn ways() -> [(&'static str, Way); 5] {
-    [
-        ("loop", Way::Loop),
-        ("Sequential", Way::Sequential),
-        ("Rayon", Way::Rayon),
-        ("Rayon with its policy", Way::Policy),
-        ("kit-rayon", Way::Kit),
-    ]
-}
+pub const WAYS: [(&str, Way); 5] = [
+    ("loop", Way::Loop),
+    ("Sequential", Way::Sequential),
+    ("Rayon", Way::Rayon),
+    ("Rayon with its policy", Way::Policy),
+    ("kit-rayon", Way::Kit),
+];
 
 impl Way {
     /// The way that a word of the command line names.
@@ -46,9 +44,6 @@ impl Way {
 pub enum Form {
     /// The slice, each item copied as it comes.
     Slice,
-    /// The same, where every result is kept to the end, so that no call meets memory that was
-    /// freed.
-    Fresh,
     /// An iterator over it, which is no list.
     Iterator,
     /// The same iterator, asked for its number.
@@ -61,17 +56,11 @@ impl Form {
     /// The form that a word of the command line names.
     pub fn named(word: &str) -> Option<Form> {
         match word {
-            "fresh" => Some(Form::Fresh),
             "iter" => Some(Form::Iterator),
             "counted" => Some(Form::Counted),
             "vec" => Some(Form::Owned),
             _ => None,
         }
-    }
-
-    /// Whether it is the slice.
-    pub fn is_slice(self) -> bool {
-        matches!(self, Form::Slice | Form::Fresh)
     }
 }
 
@@ -92,29 +81,19 @@ impl<'a> Items<'a> {
     /// `AllocError` if an allocation fails.
     pub fn of(alloc: Global, form: Form, items: &'a [u64]) -> Result<Self, AllocError> {
         match form {
-            Form::Slice | Form::Fresh => Ok(Items::Slice(items)),
+            Form::Slice => Ok(Items::Slice(items)),
             Form::Iterator => Ok(Items::Iterator(items)),
             Form::Counted => Ok(Items::Counted(items)),
             Form::Owned => Ok(Items::Owned(items.iter().copied().collect(alloc)?)),
         }
     }
 
-    /// The items as a list of its own, which is a copy but where there is one.
-    ///
-    /// # Errors
-    ///
-    /// `AllocError` if an allocation fails.
-    pub fn into_owned(self, alloc: Global) -> Result<Vec<u64>, AllocError> {
-        match self {
-            Items::Owned(items) => Ok(items),
-            other => other.as_slice().iter().copied().collect(alloc),
-        }
-    }
-
     /// The items as they lie.
     pub fn as_slice(&self) -> &[u64] {
         match self {
-            Items::Slice(items) | Items::Iterator(items) | Items::Counted(items) => items,
+            Items::Slice(items) => items,
+            Items::Iterator(items) => items,
+            Items::Counted(items) => items,
             Items::Owned(items) => items.as_slice(),
         }
     }
