@@ -1,4 +1,4 @@
-//! Calls that may fail, on four threads: once the first item has failed, the segments after it
+//! Calls that may fail, on four threads and on nine: once the first item has failed, the segments after it
 //! stop, and most items are never asked.
 use crate::tests::steps::{add_sums, no_sum};
 use crate::tests::strategies::{SITE, pool};
@@ -133,8 +133,10 @@ fn calls_stop<Rt: Threads + Wait + Abort + Sync, S: Strategy>(
 #[test]
 fn what_lies_after_the_first_error_is_mostly_not_asked(rt: HostRuntime) {
     let alloc = rt.alloc();
-    let four = pool(&rt, alloc, 4, 4);
     let calls = Calls::new();
     let items = items(alloc, &calls).expect(&rt, "memory");
-    calls_stop(&rt, alloc, &four, &calls, &items);
+    for threads in [4, 9] {
+        let pool = pool(&rt, alloc, threads, threads);
+        calls_stop(&rt, alloc, &pool, &calls, &items);
+    }
 }

@@ -1,5 +1,5 @@
 //! Kernels by row: the value of each row, however the rows were cut.
-use crate::tests::same::lists;
+use crate::tests::same::{lists, same};
 use crate::tests::steps::add_sums;
 use crate::tests::strategies::{SITE, explorers, number, pool, pools};
 use commonware_parallel::{Fault, Sequential, Strategy};
@@ -100,7 +100,8 @@ fn rows_of_three_columns_by_hand(rt: HostRuntime) {
     lists(&rt, 2, values, &[(0, 0, 0, 0), (1, 0, 0, 0)]);
 }
 
-// How many parts the kernel was called with, of one row of that many columns.
+// How many parts the kernel was called with, of one row of that many columns, each of which is in
+// one part.
 fn parts_of_a_row<Rt: Threads + Wait + Abort + Sync, S: Strategy>(
     rt: &Rt,
     alloc: Global,
@@ -108,11 +109,15 @@ fn parts_of_a_row<Rt: Threads + Wait + Abort + Sync, S: Strategy>(
     len: usize,
     tile_cost: usize,
 ) -> Result<Vec<u64>, Fault> {
-    let called = AtomicU64::new(0);
+    let (called, cells) = (AtomicU64::new(0), AtomicU64::new(0));
     let cost = number(rt, tile_cost);
-    let kernel = |_row: usize, _columns: Range<usize>| called.fetch_add(1, Ordering::SeqCst);
+    let kernel = |_row: usize, columns: Range<usize>| {
+        cells.fetch_add(columns.len() as u64, Ordering::SeqCst);
+        called.fetch_add(1, Ordering::SeqCst)
+    };
     assert!(rt; 1usize.checked_mul(len).is_some());
     let _values = strategy.fold_rows(rt, alloc, SITE, 1, len, cost, kernel, add_sums)?;
+    same(rt, cells.load(Ordering::SeqCst), len as u64);
     let mut calls = Vec::new(alloc);
     calls.push(called.load(Ordering::SeqCst))?;
     Ok(calls)

@@ -1,7 +1,8 @@
 //! The acts of a probe: one call of any kind, through any strategy.
 use crate::tests::probes::calls::{Called, done};
 use crate::tests::probes::given::{Given, leaves, make_over_few};
-use crate::tests::probes::sides::{Side, make_side, root};
+use crate::tests::probes::meets::numbers;
+use crate::tests::probes::sides::{Side, make_side, root, sort};
 use crate::tests::probes::visits::Visitor;
 use crate::tests::roots::Rooted;
 use crate::tests::strategies::SITE;
@@ -35,6 +36,8 @@ pub enum Act {
     Tree(Rooted, usize),
     /// A change of that many items in place, in chunks of one.
     Chunks(usize),
+    /// A sort of that many numbers.
+    Sort(usize),
 }
 
 // Leaves a chunk as it is.
@@ -83,5 +86,9 @@ pub fn does<Rt: Threads + Wait + Abort + Sync, S: Strategy>(
         Act::Side(side) => make_side(on, side, visited),
         Act::Tree(rooted, count) => done(grow(on, rooted, count, visited)),
         Act::Chunks(len) => done(change_chunks(on, len)),
+        Act::Sort(len) => {
+            let mut numbers = numbers(on.rt, on.alloc, len);
+            done(sort(on, true, numbers.as_mut_slice(), visited))
+        }
     }
 }

@@ -83,6 +83,21 @@ fn each_list_call_asks_once_by_its_length_and_tells_once(rt: HostRuntime) {
 }
 
 #[test]
+fn a_call_over_many_items_asks_once(rt: HostRuntime) {
+    let alloc = rt.alloc();
+    let end = 1_100_000usize;
+    for called in [Called::Map, Called::Fold] {
+        let noting = Noting::new(&rt, alloc, 4);
+        let on = on(&rt, alloc, &noting);
+        let indices = Indices { start: 0, end };
+        let made = make(&on, called, indices, Visitor::Passes);
+        row(&rt, called, made, Ok(()));
+        let lines = [asked(call_of(called, end)), BEGUN, TOLD];
+        noting.log().has(&rt, called, &lines);
+    }
+}
+
+#[test]
 fn a_list_call_that_fails_tells_nothing(rt: HostRuntime) {
     let alloc = rt.alloc();
     for called in CALLS {
@@ -148,8 +163,17 @@ const TOLD_INSIDE: Line = (INNER, logs::TOLD, None);
 
 const DROPPED_INSIDE: Line = (INNER, logs::DROPPED, None);
 
+// How many parts a batch or tiles ask their own strategy about: of each of four ranges there are
+// three, but for those of a list that is changed.
+fn parts_of_side(side: Side) -> usize {
+    match side {
+        Side::Batch(Batched::Change) | Side::Fill(_) => 4,
+        _ => 12,
+    }
+}
+
 // Stops the test where a call that isn't over a list asks otherwise: about a batch and about tiles
-// once, and their own strategy about the map of their four parts.
+// once, and their own strategy about the map of their parts.
 fn side_asks<Rt: Threads + Wait + Abort + Sync>(rt: &Rt, alloc: Global, side: Side) {
     let noting = Noting::new(rt, alloc, 4);
     let on = on(rt, alloc, &noting);
@@ -160,7 +184,7 @@ fn side_asks<Rt: Threads + Wait + Abort + Sync>(rt: &Rt, alloc: Global, side: Si
         noting.log().has(rt, side, &[asked, BEGUN, RAN, TOLD]);
         return;
     }
-    let inside = asked_inside(Call::body(4));
+    let inside = asked_inside(Call::body(parts_of_side(side)));
     let lines = [asked, BEGUN, inside, BEGUN_INSIDE, RAN, TOLD_INSIDE, TOLD];
     noting.log().has(rt, side, &lines);
 }
@@ -184,7 +208,7 @@ fn a_batch_whose_map_fails_tells_no_more_than_its_closure_returns(rt: HostRuntim
         let lines = [
             asked(call_of_side(Side::Batch(batched))),
             BEGUN,
-            asked_inside(Call::body(4)),
+            asked_inside(Call::body(12)),
             BEGUN_INSIDE,
             RAN,
             DROPPED_INSIDE,

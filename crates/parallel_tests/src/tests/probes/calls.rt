@@ -154,8 +154,12 @@ fn try_fold<Rt: Threads + Wait + Sync, S: Strategy, M, I: Source<M>>(
 ) -> Result<(), Trouble<u32>>
     requires { I.can source }
 {
+    let identity = || {
+        visited.begin_sum();
+        true
+    };
     let step = |so_far: bool, _: I::Item| after(so_far, visited);
-    tried(on.try_fold(source, yes, step, both))
+    tried(on.try_fold(source, identity, step, both))
 }
 
 fn partition<Rt: Threads + Wait + Sync, S: Strategy, M, I: Source<M>>(

@@ -81,12 +81,14 @@ fn after_an_error_of_a_serial_call_nothing_is_called(rt: HostRuntime) {
     }
 }
 
-// What is known of a list whose first item fails while another segment is under way.
+// What is known of a list of which one of the first items fails while another segment is under way.
 #[derive(Drop)]
 struct Known {
+    // Which item fails.
+    fails: usize,
     // How many other items were handed over.
     calls: AtomicUsize,
-    // Whether what is left of the first item's segment is being let go, and of another one.
+    // Whether what is left of the failing item's segment is being let go, and of another one.
     first: AtomicBool,
     others: AtomicBool,
 }
@@ -105,8 +107,9 @@ fn await_flag(flag: &AtomicBool) {
 }
 
 impl Known {
-    fn new() -> Known {
+    fn new(fails: usize) -> Known {
         Known {
+            fails,
             calls: AtomicUsize::new(0),
             first: AtomicBool::new(false),
             others: AtomicBool::new(false),
@@ -124,10 +127,13 @@ impl Known {
         }
     }
 
-    // The first item fails once another one was handed over, and the others wait until what is left
-    // after it is let go.
+    // The item fails once one after it was handed over, and those wait until what is left after it
+    // is let go.
     fn hand_over(&self, at: usize) -> Result<usize, u32> {
-        if at == 0 {
+        if at < self.fails {
+            return Ok(at);
+        }
+        if at == self.fails {
             self.await_calls(1);
             return Err(7);
         }
@@ -169,7 +175,7 @@ impl Drop for Kept<'_> {
 
 // What is handed over.
 trait Handed {
-    // Its place, or the error of the first one.
+    // Its place, or the error of the one that fails.
     fn hand_over(self) -> Result<usize, u32>;
 }
 
@@ -227,8 +233,9 @@ fn other_calls<Rt: Threads + Wait + Abort + Sync, S: Strategy>(
     on: &On<'_, Rt, S, Site>,
     called: Called,
     is_iterator: bool,
+    fails: usize,
 ) -> (usize, Option<Trouble<u32>>) {
-    let known = Known::new();
+    let known = Known::new(fails);
     let items = four_segments(on.alloc, &known).expect(on.rt, "memory for items");
     let trouble = if is_iterator {
         trouble_of(on, called, items.into_iter())
@@ -244,10 +251,10 @@ fn an_error_is_known_before_what_is_left_of_its_segment_is_let_go(rt: HostRuntim
     let two = Noting::new(&rt, alloc, 2);
     let on = on(&rt, alloc, &two);
     for called in FALLIBLE {
-        for is_iterator in [false, true] {
-            let found = other_calls(&on, called, is_iterator);
+        for (is_iterator, fails) in [(false, 0), (false, 1), (false, 2), (true, 0), (true, 2)] {
+            let found = other_calls(&on, called, is_iterator, fails);
             let wanted = (1, Some(Trouble::Closure(7)));
-            row(&rt, (called, is_iterator), found, wanted);
+            row(&rt, (called, is_iterator, fails), found, wanted);
         }
     }
 }

@@ -7,7 +7,7 @@ use crate::tests::probes::calls::{CALLS, Called};
 use crate::tests::probes::given::{FEW, Given, SOURCES, is_made, leaves, make_over, make_over_few};
 use crate::tests::probes::meetings::Meeting;
 use crate::tests::probes::noting::Noting;
-use crate::tests::probes::records::{Squares, fresh};
+use crate::tests::probes::records::{Squares, planned};
 use crate::tests::probes::sides::{
     BATCHES, FILLINGS, Filling, change, fill, join, root, run_batch, sort,
 };
@@ -22,13 +22,37 @@ use std::num::NonZeroUsize;
 use std::process::Abort;
 use std::sync::{Arc, Wait};
 use std::thread::Threads;
+use uses::spawned_jobs::answer_beside;
+
+// How many items a part of a sort has.
+const PART: usize = 8192;
 
 // For how many turns a meeting goes on, so that one too many may come.
 const TURNS: u32 = 1000;
 
+// The same of that many threads: one of many threads doesn't go on.
+fn turns(threads: usize) -> u32 {
+    if threads > 8 { 0 } else { TURNS }
+}
+
+// A number for few threads, and one for many.
+fn by_threads(threads: usize, few: usize, many: usize) -> usize {
+    if threads > 8 { many } else { few }
+}
+
 /// A pool of that many threads, without a policy.
 pub fn unasked<Rt: Threads + Abort>(rt: &Rt, alloc: Global, threads: usize) -> Rayon<Squares> {
-    let asked = fresh(rt, alloc, threads);
+    planned_for(rt, alloc, threads, threads)
+}
+
+/// The same, planned for that many.
+pub fn planned_for<Rt: Threads + Abort>(
+    rt: &Rt,
+    alloc: Global,
+    threads: usize,
+    number: usize,
+) -> Rayon<Squares> {
+    let asked = planned(rt, alloc, threads, number);
     asked.pool.without_policy().expect(rt, "memory for a pool")
 }
 
@@ -73,6 +97,8 @@ fn as_many_items_of_each_source_meet_as_there_are_threads(rt: HostRuntime) {
         (4, 4, 0),
         (4, 8, TURNS),
         (4, 1000, 0),
+        (2, 100_000, 0),
+        (16, 100, 0),
     ] {
         let own = Noting::new(&rt, alloc, threads);
         items_meet(&on(&rt, alloc, &own), len, turns);
@@ -81,7 +107,8 @@ fn as_many_items_of_each_source_meet_as_there_are_threads(rt: HostRuntime) {
 
 // The lengths: one item for each thread, two, and many.
 fn lengths(threads: usize) -> [usize; 4] {
-    [threads, threads.saturating_mul(2), 100, 1000]
+    let long = by_threads(threads, 1000, 20_000);
+    [threads, threads.saturating_mul(2), 100, long]
 }
 
 // The same over few sources, as many items as there are threads, and a hundred.
@@ -90,7 +117,7 @@ fn few_items_meet<Rt: Threads + Wait + Abort + Sync, S: Strategy>(on: &On<'_, Rt
     for called in CALLS {
         for given in FEW {
             for len in [threads, 100] {
-                let meeting = Meeting::of(threads, TURNS);
+                let meeting = Meeting::of(threads, turns(threads));
                 let made = make_over_few(on, called, given, len, Visitor::Meets(&meeting));
                 met(rt, (called, given, len), made, &meeting);
             }
@@ -113,8 +140,8 @@ pub fn numbers(rt: &impl Abort, alloc: Global, count: usize) -> Vec<u32> {
 fn parts_of_sorts_meet<Rt: Threads + Wait + Abort + Sync, S: Strategy>(on: &On<'_, Rt, S, Site>) {
     let (rt, threads) = (on.rt, on.strategy.thread_number().get());
     for sorted in [true, false] {
-        let mut numbers = numbers(rt, on.alloc, threads.saturating_mul(8192));
-        let meeting = Meeting::of(threads, TURNS);
+        let mut numbers = numbers(rt, on.alloc, threads.saturating_mul(PART));
+        let meeting = Meeting::of(threads, turns(threads));
         let visitor = Visitor::MeetsEarly(&meeting);
         let outcome = sort(on, sorted, numbers.as_mut_slice(), visitor);
         returns(rt, sorted, outcome, ());
@@ -123,22 +150,33 @@ fn parts_of_sorts_meet<Rt: Threads + Wait + Abort + Sync, S: Strategy>(on: &On<'
     }
 }
 
-// The same of a change in place: of items, and of chunks of two.
+// The same of the first round in which parts of a sort are merged: half as many meet, whose
+// comparisons are of numbers of two parts.
+fn merges_of_sorts_meet<Rt: Threads + Wait + Abort + Sync, S: Strategy>(on: &On<'_, Rt, S, Site>) {
+    let (rt, threads) = (on.rt, on.strategy.thread_number().get());
+    let halves = threads / 2;
+    for sorted in [true, false] {
+        let mut numbers = numbers(rt, on.alloc, threads.saturating_mul(PART));
+        let levels = [Meeting::of(halves, 0)];
+        let visitor = Visitor::MeetsByLevel(&levels);
+        let outcome = sort(on, sorted, numbers.as_mut_slice(), visitor);
+        returns(rt, sorted, outcome, ());
+        let found = (levels[0].most() >= halves, numbers.is_sorted());
+        row(rt, (sorted, halves), found, (true, true));
+    }
+}
+
+// The same of a change in place: of items, and of chunks, which are short on few threads.
 fn changes_meet<Rt: Threads + Wait + Abort + Sync, S: Strategy>(on: &On<'_, Rt, S, Site>) {
     let (rt, threads) = (on.rt, on.strategy.thread_number().get());
     for len in lengths(threads) {
-        for is_chunked in [false, true] {
-            let count = if is_chunked {
-                len.saturating_mul(2)
-            } else {
-                len
-            };
-            let mut numbers = numbers(rt, on.alloc, count);
-            let meeting = Meeting::of(threads, TURNS);
+        for size in [1, by_threads(threads, 2, 100)] {
+            let mut numbers = numbers(rt, on.alloc, len.saturating_mul(size));
+            let meeting = Meeting::of(threads, turns(threads));
             let visitor = Visitor::Meets(&meeting);
-            let changed = change(on, is_chunked, numbers.as_mut_slice(), visitor);
+            let changed = change(on, size, numbers.as_mut_slice(), visitor);
             let found = (changed, meeting.most());
-            row(rt, (is_chunked, len), found, (Ok(()), threads));
+            row(rt, (size, len), found, (Ok(()), threads));
         }
     }
 }
@@ -151,16 +189,17 @@ fn sides_of_a_join_meet<Rt: Threads + Wait + Abort + Sync, S: Strategy>(on: &On<
     row(rt, "join", meeting.most(), 2);
 }
 
-// The same of what is prepared of a batch.
+// The same of what is prepared of a batch, which has as many ranges as are planned.
 fn ranges_meet<Rt: Threads + Wait + Abort + Sync, S: Strategy>(on: &On<'_, Rt, S, Site>) {
     let (rt, threads) = (on.rt, on.strategy.thread_number().get());
+    let planned = on.strategy.planning().get();
     for len in lengths(threads) {
         for batched in BATCHES {
-            let meeting = Meeting::of(threads, TURNS);
+            let meeting = Meeting::of(threads, turns(threads));
             let visitor = Visitor::Meets(&meeting);
             let mapped = run_batch(on, batched, len, NonZeroUsize::MIN, visitor);
             let found = (mapped, meeting.most());
-            row(rt, (batched, len), found, (Ok(threads), threads));
+            row(rt, (batched, len), found, (Ok(planned.min(len)), threads));
         }
     }
 }
@@ -172,15 +211,17 @@ fn fills_meet<Rt: Threads + Wait + Abort + Sync, S: Strategy>(
     filling: Filling,
 ) {
     let (rt, threads) = (on.rt, on.strategy.thread_number().get());
-    for rows in [2, threads, threads.saturating_mul(2), 100] {
-        let meeting = Meeting::of(threads.min(rows), TURNS);
+    let many = by_threads(threads, 100, 1000);
+    for rows in [2, threads, threads.saturating_mul(2), many] {
+        let meeting = Meeting::of(threads.min(rows), turns(threads));
         let filled = fill(on, filling, rows, 10, Visitor::Meets(&meeting));
         let found = (filled, meeting.most());
         let wanted = (Ok(rows), threads.min(rows));
         row(rt, (filling, rows, threads), found, wanted);
     }
-    let meeting = Meeting::of(threads, TURNS);
-    let filled = fill(on, filling, 1, 1000, Visitor::Meets(&meeting));
+    let meeting = Meeting::of(threads, turns(threads));
+    let columns = by_threads(threads, 1000, 20_000);
+    let filled = fill(on, filling, 1, columns, Visitor::Meets(&meeting));
     let found = (filled.is_ok(), meeting.most());
     row(rt, (filling, "cut", threads), found, (true, threads));
 }
@@ -191,7 +232,7 @@ fn levels_of(alloc: Global, threads: usize, leaves: usize) -> Result<Vec<Meeting
     let mut nodes = leaves;
     for _ in 0..64u32 {
         if nodes > 1 {
-            levels.push(Meeting::of(threads.min(nodes / 2), TURNS))?;
+            levels.push(Meeting::of(threads.min(nodes / 2), turns(threads)))?;
             nodes = nodes.div_ceil(2);
         }
     }
@@ -290,8 +331,34 @@ fn as_many_closures_of_each_call_meet_as_there_are_threads(rt: HostRuntime) {
         let explorer = Explorer::parallel(&pool).expect(&rt, "memory for a handle");
         all_meet(&rt, alloc, &explorer);
     }
-    // Changes in place, which have threads of their own, on more of them.
+    // Changes in place, which have threads of their own, on other numbers of them, too.
     for threads in 5..9usize {
         changes_meet(&on(&rt, alloc, &unasked(&rt, alloc, threads)));
     }
+}
+
+#[test]
+fn many_threads_meet_and_as_many_where_more_are_planned(rt: HostRuntime) {
+    let alloc = rt.alloc();
+    let sixteen = unasked(&rt, alloc, 16);
+    all_meet(&rt, alloc, &sixteen);
+    merges_of_sorts_meet(&on(&rt, alloc, &sixteen));
+    // More than one thread starts in a row.
+    changes_meet(&on(&rt, alloc, &unasked(&rt, alloc, 70)));
+    let four = planned_for(&rt, alloc, 4, 8);
+    few_items_meet(&on(&rt, alloc, &four));
+    ranges_meet(&on(&rt, alloc, &four));
+}
+
+#[test]
+fn a_caller_goes_on_while_its_job_runs(rt: HostRuntime) {
+    let alloc = rt.alloc();
+    let two = unasked(&rt, alloc, 2);
+    let meeting = Meeting::of(2, 0);
+    let meeting = Arc::new(alloc, meeting).expect(&rt, "memory for a meeting");
+    let shared = Arc::try_clone(&meeting).expect(&rt, "a handle");
+    let job = Attends { meeting: shared };
+    let both = answer_beside(&rt, &two, SITE, 1, job, || meeting.attend());
+    row(&rt, "both", both.is_ok(), true);
+    row(&rt, "both", meeting.most(), 2);
 }

@@ -135,6 +135,20 @@ fn a_call_takes_no_block_for_items_that_it_need_not_gather(rt: HostRuntime) {
     drop(held);
 }
 
+// The memory is taken for one list at a time: those that a call lets go leave some.
+#[test]
+fn a_fold_of_a_vector_takes_no_block(rt: HostRuntime) {
+    let alloc = rt.alloc();
+    for called in [Called::Fold, Called::FoldInit, Called::TryFold] {
+        let four = Noting::new(&rt, alloc, 4);
+        let items = leaves(alloc, LEN).expect(&rt, "memory for items");
+        let held = all_places(alloc).expect(&rt, "places that have an end");
+        let found = outcome(&on(&rt, alloc, &four), called, items);
+        row(&rt, called, found, folded(called, 8));
+        drop(held);
+    }
+}
+
 // Stops the test where a tree of twice as many leaves doesn't go through, or isn't refused before
 // its closure is called, while no block for a level of its leaves is to be had. With 32,768 threads
 // a block has two leaves, and there are as many tops.

@@ -46,6 +46,8 @@ impl Clock for Squares {
 #[derive(Drop)]
 pub struct Asked {
     policy: Policy,
+    // One that is asked and told the same, by hand.
+    twin: Policy,
     readings: Arc<AtomicU64, Global>,
     pub pool: Rayon<Squares>,
 }
@@ -55,8 +57,8 @@ pub fn fresh<Rt: Threads + Abort>(rt: &Rt, alloc: Global, threads: usize) -> Ask
     planned(rt, alloc, threads, threads)
 }
 
-// The same, planned for that many.
-fn planned<Rt: Threads + Abort>(rt: &Rt, alloc: Global, threads: usize, planned: usize) -> Asked {
+/// The same, planned for that many.
+pub fn planned<Rt: Threads + Abort>(rt: &Rt, alloc: Global, threads: usize, planned: usize) -> Asked {
     let readings = Arc::new(alloc, AtomicU64::new(0)).expect(rt, "memory for a clock");
     let clock = Squares {
         readings: Arc::try_clone(&readings).expect(rt, "a handle"),
@@ -66,6 +68,7 @@ fn planned<Rt: Threads + Abort>(rt: &Rt, alloc: Global, threads: usize, planned:
     let own = policy.clone().expect(rt, "a handle");
     Asked {
         policy,
+        twin: Policy::new(alloc).expect(rt, "memory for a policy"),
         readings,
         pool: pool.with_parallelism(number(rt, planned)).with_policy(own),
     }
@@ -74,13 +77,23 @@ fn planned<Rt: Threads + Abort>(rt: &Rt, alloc: Global, threads: usize, planned:
 impl Asked {
     // What the next run of such a call is known to take, so that it goes in parallel, measured.
     fn knows<Rt: Wait + Abort>(&self, rt: &Rt, key: Key) {
-        let first = self.policy.choose_run(rt, key, 4);
-        returns(rt, "first", first, (RunExecution::Parallel, true));
-        let time = 50 * MILLISECOND;
-        let known = self
-            .policy
-            .record_run(rt, key, RunExecution::Parallel, time);
-        returns(rt, "known", known, ());
+        for policy in [&self.policy, &self.twin] {
+            let first = policy.choose_run(rt, key, 4);
+            returns(rt, "first", first, (RunExecution::Parallel, true));
+            let time = 50 * MILLISECOND;
+            let known = policy.record_run(rt, key, RunExecution::Parallel, time);
+            returns(rt, "known", known, ());
+        }
+    }
+
+    // The twin is asked about such a run, and told its time where that is to be measured.
+    fn follows<Rt: Wait + Abort>(&self, rt: &Rt, key: Key, time: u64) {
+        let chosen = self.twin.choose_run(rt, key, 4);
+        let (execution, is_measured) = chosen.expect(rt, "a choice");
+        if is_measured {
+            let told = self.twin.record_run(rt, key, execution, time);
+            returns(rt, "told", told, ());
+        }
     }
 
     // The outcome of such a call through the pool.
@@ -108,11 +121,25 @@ impl Asked {
         of: L,
         key: Key,
     ) {
-        row(rt, of, self.readings(), 2);
-        let entry = self.policy.run_entry(rt, key).expect(rt, "an entry");
+        let entry = self.twin.run_entry(rt, key).expect(rt, "an entry");
         let parallel = entry.estimate(RunExecution::Parallel);
         let serial = entry.estimate(RunExecution::Serial);
         row(rt, of, (parallel, serial), (Some(40_200_000), None));
+        self.has(rt, alloc, of, key, 2);
+    }
+
+    // Stops the test where the policy has another entry than that of the key, which is the twin's,
+    // or where the clock was read more or less often.
+    fn has<L: Debug + Copy + Drop, Rt: Wait + Abort>(
+        &self,
+        rt: &Rt,
+        alloc: Global,
+        of: L,
+        key: Key,
+        readings: u64,
+    ) {
+        row(rt, of, self.readings(), readings);
+        let entry = self.twin.run_entry(rt, key).expect(rt, "an entry");
         let written = format!(in alloc; "{:?}", self.policy).expect(rt, "memory");
         let alone = format!(in alloc; "{{{key:?}: {entry:?}}}, spawns: {{}} ").expect(rt, "memory");
         let begins = "Policy { table: Mutex { data: Table { runs: ";
@@ -145,8 +172,48 @@ fn each_list_call_records_one_time_at_its_key(rt: HostRuntime) {
                 let list = Act::List(called, given, 16);
                 let made = asked.make(&rt, alloc, list, Visitor::Passes);
                 row(&rt, (called, given), made, Ok(()));
+                asked.follows(&rt, key, MILLISECOND);
                 asked.has_one(&rt, alloc, (called, given, turn), key);
             }
+        }
+    }
+}
+
+// Stops the test where the first run of a call, which goes in parallel, or the second one, which
+// goes serially, leaves another entry. The clock is read twice for each: first a millisecond lies
+// between, and then five.
+fn both_ways_record<Rt: Threads + Wait + Abort + Sync>(
+    rt: &Rt,
+    alloc: Global,
+    act: Act,
+    key: Key,
+) {
+    let asked = fresh(rt, alloc, 4);
+    for (readings, time) in [(2, 1), (4, 5)] {
+        let made = asked.make(rt, alloc, act, Visitor::Passes);
+        row(rt, act, made, Ok(()));
+        asked.follows(rt, key, time * MILLISECOND);
+        asked.has(rt, alloc, act, key, readings);
+    }
+    let entry = asked.policy.run_entry(rt, key).expect(rt, "an entry");
+    let serial = entry.estimate(RunExecution::Serial);
+    row(rt, act, serial, Some(5 * MILLISECOND));
+}
+
+#[test]
+fn each_call_records_its_time_both_ways(rt: HostRuntime) {
+    let alloc = rt.alloc();
+    for called in CALLS {
+        for given in FEW {
+            let list = Act::List(called, given, 16);
+            both_ways_record(&rt, alloc, list, key_of(called));
+        }
+    }
+    for side in SIDES {
+        if !matches!(side, Side::Join) {
+            let call = call_of_side(side);
+            let key = Key::new(SITE, call.len, call.work, 4);
+            both_ways_record(&rt, alloc, Act::Side(side), key);
         }
     }
 }
@@ -187,6 +254,7 @@ fn side_records<Rt: Threads + Wait + Abort + Sync>(rt: &Rt, alloc: Global, side:
     for turn in 1..3u32 {
         let made = asked.make(rt, alloc, Act::Side(side), Visitor::Passes);
         row(rt, side, made, Ok(()));
+        asked.follows(rt, key, MILLISECOND);
         asked.has_one(rt, alloc, (side, turn), key);
     }
 }
@@ -206,6 +274,7 @@ fn a_run_records_one_time_at_its_key(rt: HostRuntime) {
     asked.knows(&rt, key);
     let ran = asked.pool.run(&rt, alloc, SITE, 5, give_one, give_two);
     row(&rt, "run", ran, Ok(2));
+    asked.follows(&rt, key, MILLISECOND);
     asked.has_one(&rt, alloc, "run", key);
 }
 

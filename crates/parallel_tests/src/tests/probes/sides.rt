@@ -17,7 +17,8 @@ use std::process::Abort;
 use std::sync::Wait;
 use std::thread::Threads;
 
-/// A sort of the numbers, of which each comparison visits.
+/// A sort of the numbers, of which each comparison visits: a meeting by level, where the two are of
+/// two parts.
 pub fn sort<Rt: Threads + Wait + Sync, S: Strategy>(
     on: &On<'_, Rt, S, Site>,
     is_stable: bool,
@@ -25,7 +26,7 @@ pub fn sort<Rt: Threads + Wait + Sync, S: Strategy>(
     visited: Visitor<'_>,
 ) -> Result<(), Fault> {
     let compare = |left: &u32, right: &u32| -> Ordering {
-        let _ = visited.visit();
+        visited.visit_level(usize::from(*left / 8192 == *right / 8192));
         left.cmp(right)
     };
     if is_stable {
@@ -35,16 +36,16 @@ pub fn sort<Rt: Threads + Wait + Sync, S: Strategy>(
     }
 }
 
-/// A change of numbers in place, one by one or in chunks of two, of which each call visits.
+/// A change of numbers in place, one by one or in chunks of that size, of which each call visits.
 pub fn change<Rt: Threads + Wait + Sync, S: Strategy>(
     on: &On<'_, Rt, S, Site>,
-    is_chunked: bool,
+    size: usize,
     numbers: &mut [u32],
     visited: Visitor<'_>,
 ) -> Result<(), Fault> {
-    if is_chunked {
-        let two = NonZeroUsize::MIN.saturating_add(1);
-        return on.for_each_chunk_mut(numbers, two, |_: usize, _: &mut [u32]| {
+    if size > 1 {
+        let size = NonZeroUsize::MIN.saturating_add(size.wrapping_sub(1));
+        return on.for_each_chunk_mut(numbers, size, |_: usize, _: &mut [u32]| {
             let _ = visited.visit();
         });
     }
@@ -80,16 +81,19 @@ pub const BATCHES: [Batched; 4] = [
     Batched::Change,
 ];
 
-// The lengths of the ranges.
+// The lengths of the ranges, three times each.
 fn lengths_of(alloc: Global, ranges: &[Range<usize>]) -> Result<Vec<usize>, Fault> {
     let mut lengths = Vec::new(alloc);
     for range in ranges {
-        lengths.push(range.end.saturating_sub(range.start))?;
+        let length = range.end.saturating_sub(range.start);
+        lengths.push(length)?;
+        lengths.push(length)?;
+        lengths.push(length)?;
     }
     Ok(lengths)
 }
 
-// The map, each closure of which visits once for each range.
+// The map, each closure of which visits three times for each range: how many ranges there are.
 fn map_ranges<Rt: Threads + Wait + Sync, S: Strategy>(
     rt: &Rt,
     alloc: Global,
@@ -101,12 +105,12 @@ fn map_ranges<Rt: Threads + Wait + Sync, S: Strategy>(
     let map_op = |_: usize| visited.visit();
     if matches!(batched, Batched::Map) {
         return match batches.map_collect_vec(rt, alloc, prepare, map_op) {
-            Ok(results) => Ok(results.len()),
+            Ok(results) => Ok(results.len() / 3),
             Err(fault) => Err(Trouble::Fault(fault)),
         };
     }
     let results = batches.try_map_collect_vec(rt, alloc, prepare, map_op)?;
-    Ok(results.len())
+    Ok(results.len() / 3)
 }
 
 // The outcome of a batch whose closure's own is this.
@@ -143,8 +147,8 @@ fn change_batch<Rt: Threads + Wait + Sync, S: Strategy>(
         .run_batches(rt, alloc, site, len, minimum, 3, run)?
 }
 
-/// A batch of that many indices, in ranges of at least `minimum`, each of which visits once: how
-/// many there are.
+/// A batch of that many indices, in ranges of at least `minimum`, each of which visits: how many
+/// there are.
 pub fn run_batch<Rt: Threads + Wait + Sync, S: Strategy>(
     on: &On<'_, Rt, S, Site>,
     batched: Batched,
@@ -351,7 +355,10 @@ pub fn make_side<Rt: Threads + Wait + Abort + Sync, S: Strategy>(
     let mut numbers = [2u32, 1, 4, 3];
     match side {
         Side::Sort(is_stable) => done(sort(on, is_stable, &mut numbers, visited)),
-        Side::Change(is_chunked) => done(change(on, is_chunked, &mut numbers, visited)),
+        Side::Change(is_chunked) => {
+            let size = usize::from(is_chunked).wrapping_add(1);
+            done(change(on, size, &mut numbers, visited))
+        }
         Side::Join => join(on, visited),
         Side::Batch(batched) => tried(run_batch(on, batched, 16, four, visited)),
         Side::Fill(filling) => done(fill(on, filling, 4, 10, visited)),

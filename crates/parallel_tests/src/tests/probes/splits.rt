@@ -57,13 +57,14 @@ fn states_of(called: Called, segments: usize) -> usize {
     }
 }
 
-// Stops the test where a list call cuts a list of a thousand items more or less often than that,
+// Stops the test where a list call cuts a list of that many items more or less often than that,
 // where it doesn't call its closure once for each, or begins more or fewer states than there are
 // segments.
 fn cuts<Rt: Threads + Wait + Abort + Sync, S: Strategy>(
     rt: &Rt,
     alloc: Global,
     strategy: &S,
+    len: usize,
     wanted: usize,
 ) {
     let on = on(rt, alloc, strategy);
@@ -73,7 +74,7 @@ fn cuts<Rt: Threads + Wait + Abort + Sync, S: Strategy>(
         let list = Cut {
             list: Indices {
                 start: 3,
-                end: 1003,
+                end: len.saturating_add(3),
             },
             times: &times,
         };
@@ -82,9 +83,9 @@ fn cuts<Rt: Threads + Wait + Abort + Sync, S: Strategy>(
         let states = states_of(called, wanted.saturating_add(1));
         row(
             rt,
-            (called, wanted),
+            (called, len, wanted),
             found,
-            (Ok(()), wanted, (1000, states)),
+            (Ok(()), wanted, (len, states)),
         );
     }
 }
@@ -93,13 +94,14 @@ fn cuts<Rt: Threads + Wait + Abort + Sync, S: Strategy>(
 fn each_list_call_cuts_a_list_into_segments_and_begins_a_state_for_each(rt: HostRuntime) {
     let alloc = rt.alloc();
     for (threads, times) in [(1, 1), (2, 3), (3, 3), (4, 7), (7, 7), (8, 15)] {
-        cuts(&rt, alloc, &Noting::new(&rt, alloc, threads), times);
+        cuts(&rt, alloc, &Noting::new(&rt, alloc, threads), 1000, times);
     }
+    cuts(&rt, alloc, &Noting::new(&rt, alloc, 4), 100_000, 7);
     // What goes serially is one segment.
     for (planned, rule) in [(4, Rule::Serial), (1, Rule::Parallel)] {
         let four = pool(&rt, alloc, 4, planned);
         let serial = Explorer::by_rule(&four, rule).expect(&rt, "memory for a handle");
-        cuts(&rt, alloc, &serial, 0);
+        cuts(&rt, alloc, &serial, 1000, 0);
     }
 }
 

@@ -1,10 +1,10 @@
 //! How many threads each call starts: at most one fewer than its strategy has, and none where it
-//! goes serially; and that the program's searches start some.
+//! goes serially; and that the program's searches and its drain start some.
 use crate::tests::commands::{leaves, widest};
 use crate::tests::probes::acts::{Act, does, on};
 use crate::tests::probes::calls::CALLS;
 use crate::tests::probes::given::FEW;
-use crate::tests::probes::meets::unasked;
+use crate::tests::probes::meets::{planned_for, unasked};
 use crate::tests::probes::noting::Noting;
 use crate::tests::probes::sides::SIDES;
 use crate::tests::probes::visits::Visitor;
@@ -78,16 +78,19 @@ where
         starts(&on, Act::Tree(rooted, 128), most.saturating_mul(7));
     }
     starts(&on, Act::Chunks(100_000), most);
+    // Numbers that are one part.
+    starts(&on, Act::Sort(16_383), 0);
 }
 
 #[test]
 fn each_call_starts_at_most_one_thread_fewer_than_there_are(rt: HostRuntime) {
     let alloc = rt.alloc();
-    for threads in 2..5usize {
+    for threads in [2usize, 3, 4, 9] {
         let most = threads.saturating_sub(1);
         all_start(&rt, alloc, &Noting::new(&rt, alloc, threads), most);
         all_start(&rt, alloc, &unasked(&rt, alloc, threads), most);
     }
+    all_start(&rt, alloc, &planned_for(&rt, alloc, 2, 8), 1);
 }
 
 #[test]
@@ -115,10 +118,12 @@ fn least_by_command<Rt: Threads + Wait + Files + AllocGlobal + Abort + Sync>(
 }
 
 #[test]
-fn the_programs_searches_start_threads(rt: HostRuntime) {
+fn the_programs_searches_and_its_drain_start_threads(rt: HostRuntime) {
     let alloc = rt.alloc();
     let least = least_by_command(&rt, alloc, "explore sum", "4950\n");
     row(&rt, "explore sum", least > 0, true);
+    let least = least_by_command(&rt, alloc, "drain 4 2", "0 1 2 3\n");
+    row(&rt, "drain", least > 0, true);
     let line = widest(alloc, "root", 1_000).expect(&rt, "memory");
     let least = least_by_command(&rt, alloc, &line, "890209\n");
     row(&rt, "root", least > 0, true);

@@ -88,6 +88,15 @@ impl Visitor<'_> {
         }
     }
 
+    /// One call of a fallible fold's identity, which counts where its fold has failed already.
+    pub fn begin_sum(self) {
+        if let Visitor::FailsAt(calls, at) = self {
+            if calls.load(Ordering::SeqCst) > at {
+                calls.fetch_add(1, Ordering::SeqCst);
+            }
+        }
+    }
+
     /// One call of a tree's closure, at a level from the leaves' up.
     pub fn visit_level(self, level: usize) {
         match self {
