@@ -25,8 +25,8 @@ fn fills(
     100
 }
 
-// This thread's own deque is filled, and the queue of the third worker, which has a job that doesn't
-// end yet. Of one job for each worker the last is refused, and the second worker sleeps.
+// This thread's own deque is filled, and the queue of the third worker, which has a job that
+// doesn't end yet. Of one job for each worker the last is refused, and the second worker sleeps.
 #[test]
 fn the_jobs_before_a_refused_one_are_called_and_those_alone(rt: HostRuntime) {
     let mut led = leads(&rt, rt.alloc(), 3);

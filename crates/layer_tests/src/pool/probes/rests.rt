@@ -22,8 +22,8 @@ use std::sync::{Arc, Wait};
 use std::thread::{self, Threads, join};
 use std::time::{Clock, CpuClock, Duration};
 
-// For how long a wait goes on, and how much of that whoever waits may work, in nanoseconds: both are
-// of a thread's own time, so that on a busy machine a wait is longer.
+// For how long a wait goes on, and how much of that whoever waits may work, in nanoseconds: both
+// are of a thread's own time, so that on a busy machine a wait is longer.
 const LONG: u128 = 120_000_000;
 
 const SHORT: u128 = 30_000_000;
