@@ -329,7 +329,7 @@ fn a_body_runs_without_the_lock(rt: HostRuntime) {
         Ok(path)
     };
     let asked = handle(&rt, &policy);
-    let now = || {
+    let now = move || {
         let _entry = asked.run_entry(&rt, Key::new(SITE, 1, 1, 2));
         0
     };

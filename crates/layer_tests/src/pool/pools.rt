@@ -1,18 +1,15 @@
 //! Pools that were built: their workers, the jobs that come to them, and their end.
 use crate::pool::tally::{
-    Act, Tally, awaits, built, empty_tally, job, led, let_it_sleep, read, spawn, telling,
+    Act, awaits, built, empty_tally, job, led, let_it_sleep, read, spawn, telling,
 };
 use crate::same::{lists, prints, row, same};
 use parallel_pool::rayon::{
     BroadcastContext, Environment, OwnedJob, Queue, Staff, ThreadPool, ThreadPoolBuilder,
     WorkerThread, Yield,
 };
-use std::alloc::{AllocError, AllocGlobal, Global};
-use std::fs;
+use std::alloc::{AllocError, Global};
 use std::num::NonZeroUsize;
 use std::process::Abort;
-use std::rt::Files;
-use std::sync::atomic::Ordering;
 use std::sync::{Arc, Wait};
 use std::thread::Threads;
 
@@ -176,43 +173,4 @@ fn a_pool_that_is_closed_has_called_each_job_to_its_end(rt: HostRuntime) {
     }
     pool.close(&rt);
     same(&rt, read(&tally.called), 4);
-}
-
-fn first_or_second(index: usize) -> &'static str {
-    if index == 0 { "first" } else { "second" }
-}
-
-// Adds 1 to a tally where the thread that calls it has the name of the worker's index.
-fn tells_its_name<R: Files + AllocGlobal + Abort + Copy + Send + 'static>(
-    rt: &R,
-    alloc: Global,
-    tally: &Arc<Tally>,
-) -> OwnedJob {
-    let theirs = Arc::try_clone(tally).expect(rt, "a handle");
-    let own = *rt;
-    let body = Box::new(alloc, move |index: usize| {
-        let name = fs::read_to_string(&own, "/proc/thread-self/comm");
-        if matches!(name, Ok(name) if name.as_str().trim_end() == first_or_second(index)) {
-            theirs.called.fetch_add(1, Ordering::SeqCst);
-        }
-    });
-    OwnedJob::new(body.expect(rt, "memory"))
-}
-
-#[test]
-fn a_thread_has_the_name_of_its_worker(rt: HostRuntime) {
-    let alloc = rt.alloc();
-    let tally = empty_tally(&rt, alloc);
-    let names = Box::new(alloc, move |index: usize| {
-        String::from_str(alloc, first_or_second(index))
-    })
-    .expect(&rt, "memory");
-    let builder = ThreadPoolBuilder::new().num_threads(2).thread_name(names);
-    let pool = built(&rt, alloc, builder);
-    for _ in 0..2 {
-        let job = tells_its_name(&rt, alloc, &tally);
-        assert!(rt; pool.spawn(&rt, job).is_ok());
-    }
-    pool.close(&rt);
-    same(&rt, read(&tally.called), 2);
 }

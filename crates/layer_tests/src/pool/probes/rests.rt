@@ -6,13 +6,11 @@ use crate::pool::count_latches::give_all;
 use crate::pool::latches::core_latch;
 use crate::pool::probes::brought::{ALL, Led, leads, opens};
 use crate::pool::sleeps::one_sleep;
-use crate::pool::tally::{
-    Act, Tally, awaits, becomes, empty_tally, let_it_sleep, push_by, read, workers,
-};
+use crate::pool::tally::{Act, Tally, awaits, becomes, empty_tally, let_it_sleep, push_by, read};
 use crate::same::{row, same};
 use crossbeam_utils::sync::Parker;
 use parallel_pool::latch::{CoreLatch, CountLatch, LatchSeat, LockLatch};
-use parallel_pool::rayon::{OwnedJob, Queue, ThreadPool, install};
+use parallel_pool::rayon::{Execute, Queue, ThreadPool, ThreadPoolBuilder, install};
 use parallel_pool::sleep::Sleep;
 use std::alloc::Global;
 use std::num::NonZeroUsize;
@@ -83,29 +81,43 @@ fn idle_workers_take_no_time(rt: HostRuntime) {
 }
 
 // A job that waits for a latch and takes no time meanwhile, once it has told a tally.
-fn quiet_job<R: Wait + Abort + Copy + Send + 'static>(
+#[derive(Drop)]
+struct Quiet<R: Wait + Drop> {
+    rt: R,
+    tally: Arc<Tally>,
+    latch: Arc<LockLatch>,
+}
+
+impl<R: Wait + Drop> Execute for Quiet<R> {
+    fn execute(self, _index: usize) {
+        let Quiet { rt, tally, latch } = self;
+        tally.entered.fetch_add(1, Ordering::SeqCst);
+        latch.wait(&rt);
+    }
+}
+
+fn quiet_job<R: Wait + Abort + Copy + Drop>(
     rt: &R,
-    alloc: Global,
     tally: &Arc<Tally>,
     latch: &Arc<LockLatch>,
-) -> OwnedJob {
-    let theirs = Arc::try_clone(tally).expect(rt, "a handle");
-    let opened = Arc::try_clone(latch).expect(rt, "a handle");
-    let own = *rt;
-    let body = Box::new(alloc, move |_index: usize| {
-        theirs.entered.fetch_add(1, Ordering::SeqCst);
-        opened.wait(&own);
-    });
-    OwnedJob::new(body.expect(rt, "memory"))
+) -> Quiet<R> {
+    Quiet {
+        rt: *rt,
+        tally: Arc::try_clone(tally).expect(rt, "a handle"),
+        latch: Arc::try_clone(latch).expect(rt, "a handle"),
+    }
 }
 
 #[test]
 fn idle_workers_take_no_time_while_others_are_at_work(rt: HostRuntime) {
     let tally = empty_tally(&rt, rt.alloc());
     let latch = Arc::new(rt.alloc(), LockLatch::new()).expect(&rt, "memory");
-    let (pool, mut worker) = workers(&rt, rt.alloc(), 4, &tally);
+    let builder = ThreadPoolBuilder::new().num_threads(4).use_current_thread();
+    let built = builder.build_for::<HostRuntime, Quiet<HostRuntime>>(&rt, rt.alloc());
+    let (pool, current) = built.expect(&rt, "a pool");
+    let mut worker = current.expect(&rt, "the current worker");
     for index in [1usize, 2] {
-        let job = quiet_job(&rt, rt.alloc(), &tally, &latch);
+        let job = quiet_job(&rt, &tally, &latch);
         assert!(rt; push_by(&rt, &mut worker, Queue::Broadcast(index), job));
         awaits(&rt, &tally.entered, index as u64, "the worker is at work");
         let_it_sleep(&rt);
