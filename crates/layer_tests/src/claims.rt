@@ -479,6 +479,10 @@ fn a_run_goes_on_in_a_row_and_over_to_the_next(rt: HostRuntime) {
         results.as_slice(),
         [(1, 2, 1), (2, 5, 3), (0, 1, 1), (1, 3, 2)].as_slice(),
     );
+    assert!(rt;
+        results.capacity() < 15,
+        "it has no room for a result of each cell"
+    );
     same(
         &rt,
         (filled, seat.own_empty(), seat.in_transit()),

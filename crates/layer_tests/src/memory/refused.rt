@@ -10,6 +10,7 @@ use crate::bridge::windows::{
     split_counted,
 };
 use crate::claims::{self, count_columns, row_cells_and_calls};
+use crate::pool::tally::read;
 use crate::same::{row, same};
 use parallel_bridge::gate::Gate;
 use parallel_bridge::segments::segments;
@@ -24,6 +25,7 @@ use parallel_shares::{Shares, cut};
 use std::alloc::Global;
 use std::process::Abort;
 use std::sync::Wait;
+use std::sync::atomic::{AtomicU64, Ordering};
 use std::thread::Threads;
 
 // A call that takes memory.
@@ -111,15 +113,16 @@ fn split_off(rt: &impl Abort, alloc: Global) -> bool {
     is_refused || count < LEN
 }
 
-fn place_of(item: Counted<'_>) -> usize {
-    item.place
-}
-
-// Whether a row of threads was.
+// Whether a row of threads was; and then none of them was called.
 fn places<R: Threads + Sync + Abort>(rt: &R, alloc: Global) -> bool {
     let counts = no_counts();
     let items = counted_items(alloc, &counts, LEN);
     let count = items.len();
+    let calls = AtomicU64::new(0);
+    let place_of = |item: Counted<'_>| {
+        calls.fetch_add(1, Ordering::SeqCst);
+        item.place
+    };
     let is_refused = match map_in_row(rt, alloc, items, &place_of) {
         Ok(places) => {
             row(
@@ -131,7 +134,12 @@ fn places<R: Threads + Sync + Abort>(rt: &R, alloc: Global) -> bool {
             false
         }
         Err(fault) => {
-            same(rt, fault, Fault::Memory);
+            row(
+                rt,
+                "calls of a row",
+                (fault, read(&calls)),
+                (Fault::Memory, 0),
+            );
             true
         }
     };
@@ -139,18 +147,24 @@ fn places<R: Threads + Sync + Abort>(rt: &R, alloc: Global) -> bool {
     is_refused || count < LEN
 }
 
-fn index_of(context: BroadcastContext) -> usize {
-    context.index()
-}
-
 fn broadcast<R: Threads + Sync + Abort>(rt: &R, alloc: Global) -> bool {
+    let calls = AtomicU64::new(0);
+    let index_of = |context: BroadcastContext| {
+        calls.fetch_add(1, Ordering::SeqCst);
+        context.index()
+    };
     match ThreadPool::new(number(rt, 3)).broadcast(rt, alloc, &index_of) {
         Ok(indices) => {
             same(rt, indices.as_slice(), [0, 1, 2].as_slice());
             false
         }
         Err(fault) => {
-            same(rt, fault, Fault::Memory);
+            row(
+                rt,
+                "calls of a broadcast",
+                (fault, read(&calls)),
+                (Fault::Memory, 0),
+            );
             true
         }
     }

@@ -318,7 +318,7 @@ fn success_is_recorded_and_errors_are_not(rt: HostRuntime) {
     same(&rt, estimates, Some([Some(1_000), Some(1_000)]));
 }
 
-// A body that asks the same policy would wait forever if the policy's lock were held.
+// A body and a clock that ask the same policy would wait forever if the policy's lock were held.
 #[test]
 fn a_body_runs_without_the_lock(rt: HostRuntime) {
     let policy = fresh(&rt, rt.alloc());
@@ -328,7 +328,12 @@ fn a_body_runs_without_the_lock(rt: HostRuntime) {
         inner.record_run(&rt, key, path, 5)?;
         Ok(path)
     };
-    let answer = policy.try_run(&rt, SITE, 64, 64, 4, &|| 0, body);
+    let asked = handle(&rt, &policy);
+    let now = move || {
+        let _entry = asked.run_entry(&rt, Key::new(SITE, 1, 1, 2));
+        0
+    };
+    let answer = policy.try_run(&rt, SITE, 64, 64, 4, &now, body);
     same(&rt, answer, Ok(P));
     let estimates = estimates_of(&rt, &policy, Key::new(SITE, 1, 1, 2));
     same(&rt, estimates, Some([Some(5), None]));

@@ -3,4 +3,5 @@
 mod brought;
 mod histories;
 mod races;
+mod refusals;
 mod rests;

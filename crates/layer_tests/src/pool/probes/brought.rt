@@ -1,7 +1,9 @@
 //! The ways in which a job comes to a pool, each of any number of workers, of which this thread is
 //! the first.
 use crate::pool::tally::{Act, Tally, added, awaits, empty_tally, let_it_sleep, push_by, told_to};
-use parallel_pool::rayon::{Execute, Queue, Staff, ThreadPool, WorkerThread, Yield};
+use parallel_pool::rayon::{
+    Execute, Queue, Staff, ThreadPool, ThreadPoolBuilder, WorkerThread, Yield,
+};
 use std::alloc::Global;
 use std::collections::VecDeque;
 use std::process::Abort;
@@ -25,20 +27,24 @@ pub(crate) enum Brought {
     ToEach,
     /// One to each worker, by the seat.
     ToEachBySeat,
+    /// From a worker of another pool.
+    Stranger,
 }
 
 /// All of them.
-pub(crate) const ALL: [Brought; 6] = [
+pub(crate) const ALL: [Brought; 7] = [
     Brought::Spawned,
     Brought::Injected,
     Brought::Own,
     Brought::ToOne,
     Brought::ToEach,
     Brought::ToEachBySeat,
+    Brought::Stranger,
 ];
 
-// How many words a job has: a push of one takes as long as a worker takes for some rounds.
-const WORDS: usize = 4096;
+// How many words a job has: a push of one takes as long as a worker takes for some rounds, and a
+// queue grows by blocks of more than 1 MiB.
+const WORDS: usize = 5000;
 
 /// A job of a type of its own, which tells a tally and takes long to move.
 #[derive(Drop)]
@@ -65,12 +71,25 @@ pub(crate) fn long_job(rt: &impl Abort, tally: &Arc<Tally>, act: Act) -> Long {
     }
 }
 
-/// A pool of which this thread is the first worker, and that worker; with its tally.
+/// A pool of which this thread is the first worker, and that worker; with its tally, and a worker
+/// of another pool.
 #[derive(Drop)]
 pub(crate) struct Led {
     pub(crate) pool: ThreadPool<Staff<Long>>,
     pub(crate) worker: WorkerThread<Long>,
     pub(crate) tally: Arc<Tally>,
+    pub(crate) stranger: WorkerThread<Long>,
+}
+
+// The one worker of another pool, which is let go.
+fn stranger<R: Threads + Wait + Abort + Copy + Send + 'static>(
+    rt: &R,
+    alloc: Global,
+) -> WorkerThread<Long> {
+    let builder = ThreadPoolBuilder::new().num_threads(1).label(7);
+    let built = builder.use_current_thread().build_for::<R, Long>(rt, alloc);
+    let (_theirs, current) = built.expect(rt, "a pool");
+    current.expect(rt, "the current worker")
 }
 
 /// Such a pool of that many workers, the others of which are started.
@@ -89,12 +108,19 @@ pub(crate) fn leads<R: Threads + Wait + Abort + Copy + Send + 'static>(
         pool,
         worker,
         tally,
+        stranger: stranger(rt, alloc),
     }
 }
 
 impl Led {
-    // A job for each worker: for one of them that one, and for the others such as only count.
-    fn one_each(&self, rt: &impl Abort, alloc: Global, target: usize, act: Act) -> VecDeque<Long> {
+    /// A job for each worker: for one of them that one, and for the others such as only count.
+    pub(crate) fn one_each(
+        &self,
+        rt: &impl Abort,
+        alloc: Global,
+        target: usize,
+        act: Act,
+    ) -> VecDeque<Long> {
         let mut jobs = VecDeque::new(alloc);
         for worker in 0..self.pool.current_num_threads() {
             let its = if worker == target { act } else { Act::Fills };
@@ -104,8 +130,13 @@ impl Led {
         jobs
     }
 
-    // Brings a job to each worker by the pool, or by the seat.
-    fn brings_each(&mut self, rt: &impl Wait, jobs: VecDeque<Long>, by_pool: bool) -> bool {
+    /// Brings a job to each worker by the pool, or by the seat.
+    pub(crate) fn brings_each(
+        &mut self,
+        rt: &impl Wait,
+        jobs: VecDeque<Long>,
+        by_pool: bool,
+    ) -> bool {
         if by_pool {
             return jobs.len() == self.pool.current_num_threads()
                 && self.pool.spawn_broadcast(rt, jobs).is_ok();
@@ -137,6 +168,7 @@ impl Led {
         match brought {
             Brought::Own => self.pool.spawn_from(rt, &mut self.worker, job).is_ok(),
             Brought::ToOne => push_by(rt, &mut self.worker, Queue::Broadcast(target), job),
+            Brought::Stranger => self.pool.spawn_from(rt, &mut self.stranger, job).is_ok(),
             Brought::Injected => push_by(rt, &mut self.worker, Queue::Injected, job),
             _ => self.pool.spawn(rt, job).is_ok(),
         }
@@ -158,18 +190,19 @@ impl Led {
         tally
     }
 
-    /// This thread calls all jobs that it finds, and the pool is closed.
-    pub(crate) fn ends(self, rt: &impl Wait) {
-        let Led {
-            pool,
-            mut worker,
-            tally: _,
-        } = self;
+    /// This thread calls all jobs that it finds.
+    pub(crate) fn calls_all(&mut self, rt: &impl Wait) {
         for _ in 0..100_000u32 {
-            if pool.yield_now(rt, &mut worker) != Some(Yield::Executed) {
+            if self.pool.yield_now(rt, &mut self.worker) != Some(Yield::Executed) {
                 break;
             }
         }
+    }
+
+    /// The same, and the pool is closed.
+    pub(crate) fn ends(mut self, rt: &impl Wait) {
+        self.calls_all(rt);
+        let Led { pool, .. } = self;
         pool.close(rt);
     }
 }

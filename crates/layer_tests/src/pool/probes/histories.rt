@@ -70,7 +70,7 @@ fn one_is_free<R: Threads + Wait + Abort + Clock + Copy + Send + 'static>(
 
 #[test]
 fn the_one_worker_that_is_free_calls_each_job(rt: HostRuntime) {
-    for (num_threads, free) in [(2, 1), (3, 1), (3, 2), (4, 1), (4, 2), (4, 3)] {
+    for (num_threads, free) in [(2, 1), (3, 1), (3, 2), (4, 1), (4, 2), (4, 3), (7, 1)] {
         one_is_free(&rt, rt.alloc(), num_threads, free);
     }
 }
@@ -144,6 +144,7 @@ fn one_is_at_work<R: Threads + Wait + Abort + Clock + Copy + Send + 'static>(
         pool,
         mut worker,
         tally,
+        stranger: _,
     } = led;
     drop(pool);
     for called in 1..3u64 {

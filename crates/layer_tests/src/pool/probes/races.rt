@@ -77,15 +77,15 @@ fn a_job_that_comes_while_a_worker_goes_to_sleep_is_called(rt: HostRuntime) {
 
 #[test]
 fn each_of_many_sleepers_is_woken_once_its_job_is_there(rt: HostRuntime) {
-    let mut led = leads(&rt, rt.alloc(), 24);
+    let mut led = leads(&rt, rt.alloc(), 40);
     let mut called = 0u64;
-    for _ in 0..5u32 {
+    for target in [1, 39, 32, 31, 16] {
         for brought in [Brought::ToEach, Brought::ToEachBySeat] {
             let_it_sleep(&rt);
-            let came = led.brings(&rt, rt.alloc(), brought, 1, Act::Adds(1));
+            let came = led.brings(&rt, rt.alloc(), brought, target, Act::AddsAt(target));
             called = called.wrapping_add(1);
             let is_called = becomes(&rt, &led.tally.called, called);
-            row(&rt, (brought, called), (came, is_called), (true, true));
+            row(&rt, (brought, target), (came, is_called), (true, true));
         }
     }
     led.ends(&rt);
