@@ -3,5 +3,4 @@
 mod brought;
 mod histories;
 mod races;
-mod refusals;
 mod rests;

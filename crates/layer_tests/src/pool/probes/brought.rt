@@ -42,9 +42,8 @@ pub(crate) const ALL: [Brought; 7] = [
     Brought::Stranger,
 ];
 
-// How many words a job has: a push of one takes as long as a worker takes for some rounds, and a
-// queue grows by blocks of more than 1 MiB.
-const WORDS: usize = 5000;
+// How many words a job has: a push of one takes as long as a worker takes for some rounds.
+const WORDS: usize = 4096;
 
 /// A job of a type of its own, which tells a tally and takes long to move.
 #[derive(Drop)]
@@ -113,14 +112,8 @@ pub(crate) fn leads<R: Threads + Wait + Abort + Copy + Send + 'static>(
 }
 
 impl Led {
-    /// A job for each worker: for one of them that one, and for the others such as only count.
-    pub(crate) fn one_each(
-        &self,
-        rt: &impl Abort,
-        alloc: Global,
-        target: usize,
-        act: Act,
-    ) -> VecDeque<Long> {
+    // A job for each worker: for one of them that one, and for the others such as only count.
+    fn one_each(&self, rt: &impl Abort, alloc: Global, target: usize, act: Act) -> VecDeque<Long> {
         let mut jobs = VecDeque::new(alloc);
         for worker in 0..self.pool.current_num_threads() {
             let its = if worker == target { act } else { Act::Fills };
@@ -130,13 +123,8 @@ impl Led {
         jobs
     }
 
-    /// Brings a job to each worker by the pool, or by the seat.
-    pub(crate) fn brings_each(
-        &mut self,
-        rt: &impl Wait,
-        jobs: VecDeque<Long>,
-        by_pool: bool,
-    ) -> bool {
+    // Brings a job to each worker by the pool, or by the seat.
+    fn brings_each(&mut self, rt: &impl Wait, jobs: VecDeque<Long>, by_pool: bool) -> bool {
         if by_pool {
             return jobs.len() == self.pool.current_num_threads()
                 && self.pool.spawn_broadcast(rt, jobs).is_ok();
@@ -190,19 +178,19 @@ impl Led {
         tally
     }
 
-    /// This thread calls all jobs that it finds.
-    pub(crate) fn calls_all(&mut self, rt: &impl Wait) {
+    /// This thread calls all jobs that it finds, and the pool is closed.
+    pub(crate) fn ends(self, rt: &impl Wait) {
+        let Led {
+            pool,
+            mut worker,
+            tally: _,
+            stranger: _,
+        } = self;
         for _ in 0..100_000u32 {
-            if self.pool.yield_now(rt, &mut self.worker) != Some(Yield::Executed) {
+            if pool.yield_now(rt, &mut worker) != Some(Yield::Executed) {
                 break;
             }
         }
-    }
-
-    /// The same, and the pool is closed.
-    pub(crate) fn ends(mut self, rt: &impl Wait) {
-        self.calls_all(rt);
-        let Led { pool, .. } = self;
         pool.close(rt);
     }
 }

@@ -107,8 +107,9 @@ fn as_many_items_of_each_source_meet_as_there_are_threads(rt: HostRuntime) {
 
 // The lengths: one item for each thread, two, and many.
 fn lengths(threads: usize) -> [usize; 4] {
+    let more = by_threads(threads, 100, threads.saturating_mul(10));
     let long = by_threads(threads, 1000, 20_000);
-    [threads, threads.saturating_mul(2), 100, long]
+    [threads, threads.saturating_mul(2), more, long]
 }
 
 // The same over few sources, as many items as there are threads, and a hundred.

@@ -58,7 +58,12 @@ pub fn fresh<Rt: Threads + Abort>(rt: &Rt, alloc: Global, threads: usize) -> Ask
 }
 
 /// The same, planned for that many.
-pub fn planned<Rt: Threads + Abort>(rt: &Rt, alloc: Global, threads: usize, planned: usize) -> Asked {
+pub fn planned<Rt: Threads + Abort>(
+    rt: &Rt,
+    alloc: Global,
+    threads: usize,
+    planned: usize,
+) -> Asked {
     let readings = Arc::new(alloc, AtomicU64::new(0)).expect(rt, "memory for a clock");
     let clock = Squares {
         readings: Arc::try_clone(&readings).expect(rt, "a handle"),
@@ -182,12 +187,7 @@ fn each_list_call_records_one_time_at_its_key(rt: HostRuntime) {
 // Stops the test where the first run of a call, which goes in parallel, or the second one, which
 // goes serially, leaves another entry. The clock is read twice for each: first a millisecond lies
 // between, and then five.
-fn both_ways_record<Rt: Threads + Wait + Abort + Sync>(
-    rt: &Rt,
-    alloc: Global,
-    act: Act,
-    key: Key,
-) {
+fn both_ways_record<Rt: Threads + Wait + Abort + Sync>(rt: &Rt, alloc: Global, act: Act, key: Key) {
     let asked = fresh(rt, alloc, 4);
     for (readings, time) in [(2, 1), (4, 5)] {
         let made = asked.make(rt, alloc, act, Visitor::Passes);
