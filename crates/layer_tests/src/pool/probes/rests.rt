@@ -4,7 +4,7 @@ ghost use Rattle.parallel_pool.specs.Latch.{IsLatchSeatOf};
 
 use crate::pool::count_latches::give_all;
 use crate::pool::latches::core_latch;
-use crate::pool::probes::brought::{ALL, leads};
+use crate::pool::probes::brought::{ALL, Led, leads, opens};
 use crate::pool::sleeps::one_sleep;
 use crate::pool::tally::{Act, becomes, let_it_sleep, read};
 use crate::same::{row, same};
@@ -139,6 +139,23 @@ fn a_count_latch_waits_quietly(rt: HostRuntime) {
         },
     );
     same(&rt, last, 1);
+}
+
+// The one started worker of the pool has a job that doesn't end yet.
+#[test]
+fn whoever_closes_a_pool_waits_quietly(rt: HostRuntime) {
+    let mut led = leads(&rt, rt.alloc(), 2);
+    let halted = led.halts(&rt, rt.alloc(), 1);
+    let passed = AtomicU64::new(0);
+    let Led { pool, .. } = led;
+    join(
+        &rt,
+        || waits_quietly(&rt, "a close", &passed, || pool.close(&rt)),
+        || {
+            passes(&rt, &passed);
+            opens(&halted);
+        },
+    );
 }
 
 // An idle worker, until it has slept and was woken: how many rounds it was idle for, and how often
