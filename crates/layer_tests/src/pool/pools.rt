@@ -1,15 +1,18 @@
 //! Pools that were built: their workers, the jobs that come to them, and their end.
 use crate::pool::tally::{
-    Act, awaits, built, empty_tally, job, led, let_it_sleep, read, spawn, telling,
+    Act, Tally, awaits, built, empty_tally, job, led, let_it_sleep, read, spawn, telling,
 };
 use crate::same::{lists, prints, row, same};
 use parallel_pool::rayon::{
-    BroadcastContext, Environment, OwnedJob, Queue, Staff, ThreadPool, ThreadPoolBuilder,
+    BroadcastContext, Environment, Execute, OwnedJob, Queue, Staff, ThreadPool, ThreadPoolBuilder,
     WorkerThread, Yield,
 };
-use std::alloc::{AllocError, Global};
+use std::alloc::{AllocError, AllocGlobal, Global};
+use std::fs;
 use std::num::NonZeroUsize;
 use std::process::Abort;
+use std::rt::Files;
+use std::sync::atomic::Ordering;
 use std::sync::{Arc, Wait};
 use std::thread::Threads;
 
@@ -173,4 +176,44 @@ fn a_pool_that_is_closed_has_called_each_job_to_its_end(rt: HostRuntime) {
     }
     pool.close(&rt);
     same(&rt, read(&tally.called), 4);
+}
+
+fn first_or_second(index: usize) -> &'static str {
+    if index == 0 { "first" } else { "second" }
+}
+
+// A job that adds 1 to a tally where the thread that calls it has the name of the worker's index.
+#[derive(Drop)]
+struct Named<R: Files + AllocGlobal + Drop> {
+    rt: R,
+    tally: Arc<Tally>,
+}
+
+impl<R: Files + AllocGlobal + Drop> Execute for Named<R> {
+    fn execute(self, index: usize) {
+        let Named { rt, tally } = self;
+        if let Ok(name) = fs::read_to_string(&rt, "/proc/thread-self/comm") {
+            let its = name.starts_with(first_or_second(index));
+            tally.called.fetch_add(u64::from(its), Ordering::SeqCst);
+        }
+    }
+}
+
+#[test]
+fn a_thread_has_the_name_of_its_worker(rt: HostRuntime) {
+    let alloc = rt.alloc();
+    let tally = empty_tally(&rt, alloc);
+    let names = Box::new(alloc, move |index: usize| {
+        String::from_str(alloc, first_or_second(index))
+    })
+    .expect(&rt, "memory");
+    let builder = ThreadPoolBuilder::new().num_threads(2).thread_name(names);
+    let built = builder.build_for::<HostRuntime, Named<HostRuntime>>(&rt, alloc);
+    let (pool, _none) = built.expect(&rt, "a pool");
+    for _ in 0..2 {
+        let theirs = Arc::try_clone(&tally).expect(&rt, "a handle");
+        assert!(rt; pool.spawn(&rt, Named { rt, tally: theirs }).is_ok());
+    }
+    pool.close(&rt);
+    same(&rt, read(&tally.called), 2);
 }

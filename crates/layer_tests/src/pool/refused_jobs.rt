@@ -6,8 +6,8 @@
 //! push for a worker. If its own boxes are refused it has nothing to ask, and ends.
 use crate::no_memory::all_memory;
 use crate::pool::tally::{
-    Act, Raise, Tally, awaits, becomes, empty_tally, job, jobs, push_by, raises, read, spawn,
-    told_to, try_tally, workers,
+    Act, Raise, Tally, awaits, becomes, empty_tally, job, jobs, let_it_sleep, push_by, raises,
+    read, spawn, told_to, try_tally, workers,
 };
 use crate::same::{row, same};
 use parallel_fault::Fault;
@@ -17,6 +17,7 @@ use std::collections::VecDeque;
 use std::process::Abort;
 use std::sync::atomic::Ordering;
 use std::sync::{Arc, Wait};
+use std::thread::Threads;
 use std::time::Clock;
 
 // The worker of an index gets a job that waits, and does so.
@@ -32,21 +33,40 @@ fn halts<R: Wait + Abort + Clock>(
     awaits(rt, &tally.entered, 1, "the worker waits");
 }
 
-// Spawns jobs, and calls each that is refused. Returns how many were.
+// Spawns jobs, from outside or onto a worker's own deque, and calls each that is refused. Returns
+// how many were.
 fn calls_refused(
     rt: &(impl Wait + Abort),
     pool: &ThreadPool<Staff>,
+    worker: &mut WorkerThread,
+    is_own: bool,
     jobs: VecDeque<OwnedJob>,
     tally: &Tally,
 ) -> u64 {
+    let before = read(&tally.called);
     let mut refused = 0u64;
     for job in jobs {
-        if let Err((fault, job)) = pool.spawn(rt, job) {
+        let came = if is_own {
+            pool.spawn_from(rt, worker, job)
+        } else {
+            pool.spawn(rt, job)
+        };
+        if let Err((fault, job)) = came {
             assert!(rt; matches!(fault, Fault::Memory));
-            row(rt, refused, read(&tally.called), refused);
+            row(
+                rt,
+                refused,
+                read(&tally.called),
+                before.wrapping_add(refused),
+            );
             refused = refused.wrapping_add(1);
             job.call(0);
-            row(rt, refused, read(&tally.called), refused);
+            row(
+                rt,
+                refused,
+                read(&tally.called),
+                before.wrapping_add(refused),
+            );
         }
     }
     refused
@@ -58,15 +78,17 @@ fn a_refused_job_comes_back_and_runs_when_called(rt: HostRuntime) {
     let tally = empty_tally(&rt, alloc);
     let (pool, mut worker) = workers(&rt, alloc, 2, &tally);
     halts(&rt, alloc, &mut worker, 1, &tally);
-    let jobs = jobs(&rt, alloc, &tally, &[Act::Adds(1); 100]);
+    let injected = jobs(&rt, alloc, &tally, &[Act::Adds(1); 100]);
+    let own = jobs(&rt, alloc, &tally, &[Act::Adds(1); 100]);
     let Some(held) = all_memory(alloc) else {
         return;
     };
-    let refused = calls_refused(&rt, &pool, jobs, &tally);
+    let of_injected = calls_refused(&rt, &pool, &mut worker, false, injected, &tally);
+    let of_own = calls_refused(&rt, &pool, &mut worker, true, own, &tally);
     drop(held);
     assert!(rt;
-        0 < refused && refused < 100,
-        "of {refused} jobs of 100 the push was refused"
+        0 < of_injected && of_injected < 100 && 0 < of_own && of_own < 100,
+        "of {of_injected} and {of_own} jobs of 100 the push was refused"
     );
     // (memory is there again)
     spawn(&rt, alloc, &pool, &tally, Act::Adds(1));
@@ -78,7 +100,7 @@ fn a_refused_job_comes_back_and_runs_when_called(rt: HostRuntime) {
         1,
         "a job that was refused isn't waited for",
     );
-    same(&rt, read(&tally.called), 101);
+    same(&rt, read(&tally.called), 201);
 }
 
 // So many jobs are pushed to each queue.
@@ -199,40 +221,70 @@ fn halts_the_third<R: Wait + Abort + Clock>(
     awaits(rt, &tally.filled, 3, "each job is called");
 }
 
-#[test]
-fn jobs_that_were_not_broadcast_come_back_in_order(rt: HostRuntime) {
-    let alloc = rt.alloc();
-    let tally = empty_tally(&rt, alloc);
-    let (pool, mut worker) = workers(&rt, alloc, 4, &tally);
-    halts_the_third(&rt, alloc, &pool, &mut worker, &tally);
-    let mut more = jobs(&rt, alloc, &tally, &[Act::Fills; 100]);
-    let four = jobs(&rt, alloc, &tally, &FOUR);
-    assert!(rt; four.len() == pool.current_num_threads());
+// Brings jobs, one to each worker, by the pool or by a seat.
+fn brings_each(
+    rt: &impl Wait,
+    pool: &ThreadPool<Staff>,
+    worker: &mut WorkerThread,
+    is_by_seat: bool,
+    jobs: VecDeque<OwnedJob>,
+) -> Option<(Fault, VecDeque<OwnedJob>)> {
+    if !is_by_seat {
+        return if jobs.len() == pool.current_num_threads() {
+            pool.spawn_broadcast(rt, jobs).err()
+        } else {
+            None
+        };
+    }
+    let seat = worker.jobs();
+    if jobs.len() <= seat.workers() {
+        seat.push_each(rt, jobs).err()
+    } else {
+        None
+    }
+}
+
+// While no memory is to be had the third of four workers waits, and its queue is full.
+fn third_is_refused<R: Threads + Wait + Abort + Clock + Copy + Send + 'static>(
+    rt: &R,
+    alloc: Global,
+    is_by_seat: bool,
+) {
+    let tally = empty_tally(rt, alloc);
+    let (pool, mut worker) = workers(rt, alloc, 4, &tally);
+    halts_the_third(rt, alloc, &pool, &mut worker, &tally);
+    let mut more = jobs(rt, alloc, &tally, &[Act::Fills; 100]);
+    let four = jobs(rt, alloc, &tally, &FOUR);
     let Some(held) = all_memory(alloc) else {
         return;
     };
-    let came = fills(&rt, &mut worker, Queue::Broadcast(2), &mut more);
-    let pushed = pool.spawn_broadcast(&rt, four);
+    let came = fills(rt, &mut worker, Queue::Broadcast(2), &mut more);
+    let_it_sleep(rt);
+    let refused = brings_each(rt, &pool, &mut worker, is_by_seat, four);
     drop(held);
-    let came = came.expect(&rt, "the third worker's queue is full");
-    let Err((fault, refused)) = pushed else {
-        panic!(rt; "the third job was queued");
-    };
-    same(&rt, fault, Fault::Memory);
-    same(&rt, refused.len(), 2);
-    same(&rt, pool.yield_now(&rt, &mut worker), Some(Yield::Executed));
+    let came = came.expect(rt, "the third worker's queue is full");
+    let (fault, refused) = refused.expect(rt, "the third job is refused");
+    row(rt, is_by_seat, (fault, refused.len()), (Fault::Memory, 2));
+    same(rt, pool.yield_now(rt, &mut worker), Some(Yield::Executed));
     assert!(rt;
-        come_in_order(&rt, refused, &tally),
+        come_in_order(rt, refused, &tally),
         "those before them are called"
     );
     tally.opened.store(1, Ordering::SeqCst);
     drop(pool);
     awaits(
-        &rt,
+        rt,
         &tally.ended,
         1,
         "a job that was refused isn't waited for",
     );
-    row(&rt, "each once", read(&tally.called), of_first(4));
-    same(&rt, read(&tally.filled), came.wrapping_add(3));
+    row(rt, "each once", read(&tally.called), of_first(4));
+    same(rt, read(&tally.filled), came.wrapping_add(3));
+}
+
+#[test]
+fn jobs_that_were_not_broadcast_come_back_in_order(rt: HostRuntime) {
+    for is_by_seat in [false, true] {
+        third_is_refused(&rt, rt.alloc(), is_by_seat);
+    }
 }

@@ -3,11 +3,12 @@
 use crate::tests::same::{row, same};
 use crate::tests::steps::{add_sums, no_sum};
 use crate::tests::strategies::{SITE, pool};
-use commonware_parallel::{Fault, Strategy, Trouble};
+use commonware_parallel::{Fault, Sequential, Strategy, Trouble};
 use linked_list_allocator::LocalHeap;
 use parallel_bridge::window::home::Home;
 use std::alloc::{AllocGlobal, Global};
 use std::fs;
+use std::num::NonZeroUsize;
 use std::process::Abort;
 use std::rt::Files;
 use std::sync::Wait;
@@ -117,4 +118,55 @@ fn calls_that_fail_give_their_blocks_back(rt: HostRuntime) {
         calls_fail(&rt, rt.alloc(), &two, call);
     }
     assert!(rt; !has_grown(&rt, before));
+}
+
+// How many KiB of addresses this process has had at most, by Linux's own count.
+fn addresses<Rt: Files + AllocGlobal + Abort>(rt: &Rt) -> u64 {
+    let status = fs::read_to_string(rt, "/proc/self/status").expect(rt, "the counts");
+    let line = status.lines().find(|line| line.starts_with("VmPeak:"));
+    let count = line.expect(rt, "a count").trim_start_matches("VmPeak:");
+    let count = count.trim_end_matches("kB").trim();
+    count.parse::<u64>().expect(rt, "a number")
+}
+
+fn add_one(_index: usize, number: &mut u64) {
+    *number = number.wrapping_add(1);
+}
+
+fn reverse(_index: usize, chunk: &mut [u64]) {
+    chunk.reverse();
+}
+
+// Changes numbers in place, one by one and in chunks of two.
+fn changes<Rt: Threads + Wait + Abort + Sync, S: Strategy>(
+    rt: &Rt,
+    alloc: Global,
+    strategy: &S,
+    numbers: &mut [u64],
+) {
+    let each = strategy.for_each_mut(rt, alloc, SITE, numbers, add_one);
+    let two = NonZeroUsize::MIN.saturating_add(1);
+    let chunks = strategy.for_each_chunk_mut(rt, alloc, SITE, numbers, two, reverse);
+    row(rt, numbers.len(), (each, chunks), (Ok(()), Ok(())));
+}
+
+// A block for a number of each item, or for two of each chunk, would take 32 MiB.
+fn takes_no_block<Rt, S: Strategy>(rt: &Rt, alloc: Global, strategy: &S)
+where
+    Rt: Threads + Wait + Files + AllocGlobal + Abort + Sync,
+{
+    // (what a thread takes for itself stays for the next one)
+    changes(rt, alloc, strategy, &mut [0; 4]);
+    let numbers: Result<Vec<u64>, _> = (0..1 << 22).collect(alloc);
+    let mut numbers = numbers.expect(rt, "memory");
+    let before = addresses(rt);
+    changes(rt, alloc, strategy, numbers.as_mut_slice());
+    let growth = addresses(rt).saturating_sub(before);
+    row(rt, growth, growth < 16_384, true);
+}
+
+#[test]
+fn a_list_is_changed_in_place_without_a_block(rt: HostRuntime) {
+    takes_no_block(&rt, rt.alloc(), &Sequential);
+    takes_no_block(&rt, rt.alloc(), &pool(&rt, rt.alloc(), 2, 2));
 }
