@@ -32,7 +32,6 @@ mod spawns;
 mod states;
 mod steps;
 mod strategies;
-mod threads;
 mod tiles;
 mod transforms;
 mod trees;

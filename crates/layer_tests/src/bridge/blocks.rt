@@ -1,5 +1,5 @@
 //! That a block gives its memory back: by the count of a heap.
-use crate::same::row;
+use crate::same::{holds, row};
 use linked_list_allocator::LocalHeap;
 use parallel_bridge::window::block::Block;
 
@@ -8,19 +8,19 @@ fn a_dropped_block_gives_its_memory_back(rt: HostRuntime) {
     let heap = LocalHeap::new(rt.alloc(), 65_536).expect(&rt, "memory for a heap");
     let items = Vec::from_slice(&heap, &[1u64, 2, 3]).expect(&rt, "memory");
     let block = Block::from_vec(items);
-    assert!(rt; heap.used() >= 24);
+    holds(&rt, heap.used() >= 24);
     drop(block);
     row(&rt, "as it was", heap.used(), 0);
     let items = Vec::from_slice(&heap, &[1u64, 2, 3]).expect(&rt, "memory");
     let block = Block::from_vec(items).push(4).expect(&rt, "memory");
-    assert!(rt; heap.used() >= 32);
+    holds(&rt, heap.used() >= 32);
     drop(block);
     row(&rt, "with an item more", heap.used(), 0);
     let inner = Vec::from_slice(&heap, &[4u64; 100]).expect(&rt, "memory");
     let block = Block::from_vec(Vec::new(&heap))
         .push(inner)
         .expect(&rt, "memory");
-    assert!(rt; heap.used() >= 800);
+    holds(&rt, heap.used() >= 800);
     drop(block);
     row(&rt, "with an item's own memory", heap.used(), 0);
 }

@@ -6,7 +6,7 @@ ghost use Rattle.parallel_bridge.specs.Gates.{IsGateSeatOf, known, stands_for};
 
 use crate::bridge::number;
 use crate::bridge::windows::{Counted, Counts, all_gone_but, counted_items, no_counts};
-use crate::same::same;
+use crate::same::{holds, same};
 use parallel_bridge::fill::try_map::TryMapWriter;
 use parallel_bridge::fill::writer::write_items;
 use parallel_bridge::gate::{Gate, GateSeat, GateWatch};
@@ -174,7 +174,7 @@ pub(crate) fn stop_counted<R: Threads + Sync + Abort>(
     let parts = DrainProducer::from_vec(items);
     let told = try_map_parallel(rt, alloc, number(rt, threads), parts, &answer);
     let is_told = is_first(rt, told);
-    assert!(rt; all_gone_but(&counts, 0));
+    holds(rt, all_gone_but(&counts, 0));
     !is_told
 }
 
@@ -194,7 +194,7 @@ fn stop_values<R: Threads + Sync + Abort>(
     };
     let told = try_map_parallel(rt, alloc, number(rt, threads), parts, &answer);
     let is_told = is_first(rt, told);
-    assert!(rt; all_gone_but(&counts, 0));
+    holds(rt, all_gone_but(&counts, 0));
     if is_told { Some(counts.made()) } else { None }
 }
 
@@ -202,7 +202,7 @@ fn stop_values<R: Threads + Sync + Abort>(
 fn segments_right_of_a_known_error_stop_early(rt: HostRuntime) {
     // 32 threads make 64 segments of 1000 items each.
     let values = stop_values(&rt, rt.alloc(), 32, 64_000).expect(&rt, "the error is told");
-    assert!(rt; values < 16_000);
+    holds(&rt, values < 16_000);
 }
 
 #[test]

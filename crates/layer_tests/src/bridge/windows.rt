@@ -1,7 +1,7 @@
 //! Owned items that are taken from where they lie, and results that are written where they stay:
 //! each is dropped once, or handed out.
 use crate::bridge::number;
-use crate::same::{row, same};
+use crate::same::{holds, row, same};
 use parallel_bridge::list::map::map_parallel;
 use parallel_bridge::list::try_fold::try_fold_parallel;
 use parallel_bridge::list::try_map::try_map_parallel;
@@ -103,10 +103,10 @@ pub(crate) fn map_counted<R: Threads + Sync + Abort>(
         for place in 0..count {
             same(rt, place_of(answers.get(place)), Some(place));
         }
-        assert!(rt; all_gone_but(&counts, count));
+        holds(rt, all_gone_but(&counts, count));
         is_refused = count < len;
     }
-    assert!(rt; all_gone_but(&counts, 0));
+    holds(rt, all_gone_but(&counts, 0));
     is_refused
 }
 
@@ -139,14 +139,14 @@ pub(crate) fn fold_counted<R: Threads + Sync + Abort>(
     let parts = DrainProducer::from_vec(items);
     match try_fold_parallel(rt, alloc, number(rt, threads), parts, &no_sum, &step, &add) {
         Ok(sum) => {
-            assert!(rt; count <= end);
+            holds(rt, count <= end);
             let twice = count.wrapping_mul(count).wrapping_sub(count);
             same(rt, sum.wrapping_mul(2), twice);
         }
         Err(Trouble::Closure(place)) => same(rt, place, end),
         Err(Trouble::Fault(_fault)) => is_refused = true,
     }
-    assert!(rt; all_gone_but(&counts, 0));
+    holds(rt, all_gone_but(&counts, 0));
     is_refused || count < len
 }
 
@@ -165,9 +165,9 @@ fn drain_counted<R: Abort>(rt: &R, alloc: Global, len: usize, front: usize, back
         let place = count.wrapping_sub(taken).wrapping_sub(1);
         same(rt, place_taken(drain.next_back()), Some(place));
     }
-    assert!(rt; all_gone_but(&counts, drain.len()));
+    holds(rt, all_gone_but(&counts, drain.len()));
     drop(drain);
-    assert!(rt; all_gone_but(&counts, 0));
+    holds(rt, all_gone_but(&counts, 0));
 }
 
 // Splits counted items at an index, and lets the front one go before the back one. It returns
@@ -183,11 +183,11 @@ pub(crate) fn split_counted<R: Abort>(rt: &R, alloc: Global, len: usize, index: 
     {
         same(rt, front.len(), index);
         drop(front);
-        assert!(rt; all_gone_but(&counts, len.wrapping_sub(index)));
+        holds(rt, all_gone_but(&counts, len.wrapping_sub(index)));
         same(rt, back.len(), len.wrapping_sub(index));
         is_refused = len < wanted;
     }
-    assert!(rt; all_gone_but(&counts, 0));
+    holds(rt, all_gone_but(&counts, 0));
     is_refused
 }
 
@@ -254,9 +254,9 @@ pub(crate) fn pair_counted<R: Threads + Sync + Abort>(
         }
         is_refused = count < len;
     }
-    assert!(rt; all_gone_but(&counts, count % 2));
+    holds(rt, all_gone_but(&counts, count % 2));
     drop(odd);
-    assert!(rt; all_gone_but(&counts, 0));
+    holds(rt, all_gone_but(&counts, 0));
     is_refused
 }
 
@@ -333,7 +333,7 @@ fn counted_references_are_given_back(rt: HostRuntime) {
         ).expect(&rt, "memory");
         same(&rt, answers.len(), len);
         drop(answers);
-        assert!(rt; Arc::into_inner(one).is_some());
+        holds(&rt, Arc::into_inner(one).is_some());
     }
 }
 
@@ -354,7 +354,7 @@ fn texts_before_and_after_the_first_failing_one_are_let_go(rt: HostRuntime) {
     };
     match try_map_parallel(&rt, alloc, number(&rt, 4), parts, &answer) {
         Err(Trouble::Closure(text)) => same(&rt, text.as_str(), "text 57"),
-        Err(Trouble::Fault(_fault)) => assert!(rt; false),
-        Ok(_values) => assert!(rt; false),
+        Err(Trouble::Fault(_fault)) => holds(&rt, false),
+        Ok(_values) => holds(&rt, false),
     }
 }

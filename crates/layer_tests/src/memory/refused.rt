@@ -11,7 +11,7 @@ use crate::bridge::windows::{
 };
 use crate::claims::{self, count_columns, row_cells_and_calls};
 use crate::pool::tally::read;
-use crate::same::{row, same};
+use crate::same::{holds, row, same};
 use parallel_bridge::gate::Gate;
 use parallel_bridge::segments::segments;
 use parallel_bridge::window::block::Block;
@@ -82,12 +82,12 @@ fn push(rt: &impl Abort, alloc: Global) -> bool {
     let is_refused = match pushed {
         Ok(block) => {
             same(rt, block.len(), count.wrapping_add(1));
-            assert!(rt; all_gone_but(&counts, block.len()));
+            holds(rt, all_gone_but(&counts, block.len()));
             false
         }
         Err(_) => true,
     };
-    assert!(rt; all_gone_but(&counts, 0));
+    holds(rt, all_gone_but(&counts, 0));
     is_refused || count < LEN
 }
 
@@ -104,12 +104,12 @@ fn split_off(rt: &impl Abort, alloc: Global) -> bool {
                 (front.len(), back.len()),
                 (count / 2, count.wrapping_sub(count / 2)),
             );
-            assert!(rt; all_gone_but(&counts, count));
+            holds(rt, all_gone_but(&counts, count));
             false
         }
         Err(_) => true,
     };
-    assert!(rt; all_gone_but(&counts, 0));
+    holds(rt, all_gone_but(&counts, 0));
     is_refused || count < LEN
 }
 
@@ -143,7 +143,7 @@ fn places<R: Threads + Sync + Abort>(rt: &R, alloc: Global) -> bool {
             true
         }
     };
-    assert!(rt; all_gone_but(&counts, 0));
+    holds(rt, all_gone_but(&counts, 0));
     is_refused || count < LEN
 }
 

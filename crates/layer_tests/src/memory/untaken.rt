@@ -8,7 +8,7 @@ use crate::bridge::number;
 use crate::claims::{self, last_claim, opened, refill_at, steal_at};
 use crate::pool::count_latches::give_all;
 use crate::pool::latches::core_latch;
-use crate::same::row;
+use crate::same::{holds, row};
 use parallel_bridge::gate::{Gate, GateSeat};
 use parallel_bridge::list::fold::fold_iter;
 use parallel_bridge::list::fold_init::fold_init_iter;

@@ -1,6 +1,6 @@
 //! Long histories: an entry chooses as the plain program that reckons from all that happened, and
 //! that program agrees with the worked examples.
-use crate::same::{row, same};
+use crate::same::{holds, row, same};
 use parallel_policy::execution::{RunExecution, SpawnExecution};
 use parallel_policy::history::{RunEvent, SpawnEvent, SpawnSample};
 use parallel_policy::policy::INLINE_BUDGET;
@@ -120,7 +120,7 @@ fn a_long_history_of_runs_answers_as_reckoned(rt: HostRuntime) {
                 .expect(&rt, "memory");
         }
     }
-    assert!(rt; seen[0] > 100 && seen[1] > 100);
+    holds(&rt, seen[0] > 100 && seen[1] > 100);
 }
 
 // 520 choices of a job that now is shorter and now longer than the hand-off.
@@ -140,7 +140,7 @@ fn a_long_history_of_jobs_answers_as_reckoned(rt: HostRuntime) {
             recorded(&rt, &mut entry, &mut history, way, ran);
         }
     }
-    assert!(rt; seen[0] > 100 && seen[1] > 100);
+    holds(&rt, seen[0] > 100 && seen[1] > 100);
 }
 
 // A job that ran so long is recorded, and put in front of the history.

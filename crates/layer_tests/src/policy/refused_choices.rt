@@ -1,7 +1,7 @@
 //! Calls whose memory may be refused at any point: each returns what it always does, or
 //! `Fault::Memory`, and then the table is as it was and no body was called. Run with each
 //! allocation failing in turn.
-use crate::same::{row, same};
+use crate::same::{holds, row, same};
 use parallel_fault::{Fault, Trouble};
 use parallel_policy::choices::decide;
 use parallel_policy::execution::RunExecution;
@@ -29,7 +29,7 @@ fn a_refused_choice_leaves_the_table(rt: HostRuntime) {
             }
             Err(fault) => {
                 same(&rt, fault, Fault::Memory);
-                assert!(rt; table.run_entry(key).is_none());
+                holds(&rt, table.run_entry(key).is_none());
             }
         }
     }

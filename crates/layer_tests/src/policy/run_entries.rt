@@ -1,5 +1,5 @@
 //! Entries of runs, by rows of what happens to a fresh one and what it returns.
-use crate::same::{row, same};
+use crate::same::{holds, row, same};
 use parallel_policy::execution::RunExecution;
 use parallel_policy::run::RunEntry;
 use std::process::Abort;
@@ -238,7 +238,7 @@ fn an_estimate_recovers_by_its_probes(rt: HostRuntime) {
     for _ in 0..600 {
         match entry.choose(4) {
             (RunExecution::Parallel, measured) => {
-                assert!(rt; measured);
+                holds(&rt, measured);
                 probes = probes.saturating_add(1);
                 entry.record(P, 500_000);
             }

@@ -1,5 +1,5 @@
 //! Entries of spawned jobs, by rows of what happens to a fresh one and what it returns.
-use crate::same::{row, same};
+use crate::same::{holds, row, same};
 use parallel_policy::execution::SpawnExecution;
 use parallel_policy::history::SpawnSample;
 use parallel_policy::policy::INLINE_BUDGET;
@@ -171,7 +171,7 @@ fn an_inline_estimate_recovers_by_its_probes(rt: HostRuntime) {
         }
     }
     let inline = entry.estimate(SpawnSample::InlineRun);
-    assert!(rt; matches!(inline, Some(inline) if inline <= 50_000));
+    holds(&rt, matches!(inline, Some(inline) if inline <= 50_000));
     let overhead = entry.estimate(SpawnSample::Overhead);
     same(&rt, overhead, Some(50_000));
     same(&rt, entry.estimate(SpawnSample::Job), Some(2_000));

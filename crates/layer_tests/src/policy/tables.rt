@@ -1,5 +1,5 @@
 //! Tables and policies: which key a result goes by, and what each call of a policy tells its table.
-use crate::same::same;
+use crate::same::{holds, same};
 use parallel_fault::{Fault, Trouble};
 use parallel_policy::execution::{RunExecution, SpawnExecution};
 use parallel_policy::history::SpawnSample;
@@ -114,7 +114,7 @@ fn a_policy_records_the_run_that_it_is_told(rt: HostRuntime) {
             Some([Some(100_000), Some(95_001)]),
         ),
     );
-    assert!(rt; policy.spawn_entry(&rt, key).is_none());
+    holds(&rt, policy.spawn_entry(&rt, key).is_none());
 }
 
 // Tells a policy of a job, of its overhead and of an inline run.
@@ -216,10 +216,11 @@ fn a_run_planned_for_one_asks_no_policy(rt: HostRuntime) {
     let policy = fresh(&rt, rt.alloc());
     for planned in [0, 1] {
         same(&rt, path_of(&rt, &policy, 64, planned), Ok(S));
-        assert!(rt;
+        holds(
+            &rt,
             policy
                 .run_entry(&rt, Key::new(SITE, 64, 64, planned))
-                .is_none()
+                .is_none(),
         );
     }
 }
@@ -312,7 +313,7 @@ fn success_is_recorded_and_errors_are_not(rt: HostRuntime) {
     same(&rt, run_of_ten(&rt, &policy, &ticks, &[]), Ok(7));
     for _ in 0..20 {
         let answer = run_of_ten(&rt, &policy, &ticks, &[P]);
-        assert!(rt; matches!(answer, Ok(7) | Err(Trouble::Closure(57))));
+        holds(&rt, matches!(answer, Ok(7) | Err(Trouble::Closure(57))));
     }
     let estimates = estimates_of(&rt, &policy, key);
     same(&rt, estimates, Some([Some(1_000), Some(1_000)]));

@@ -1,5 +1,5 @@
 //! What is printed, and which traits the plain types have.
-use crate::same::{prints, row, same};
+use crate::same::{holds, prints, row, same};
 use parallel_policy::bucket::len_bucket;
 use parallel_policy::cadence::Cadence;
 use parallel_policy::estimate::Estimate;
@@ -104,7 +104,7 @@ fn lengths_count_by_their_binary_digits(rt: HostRuntime) {
 fn is_copied<T: Clone + PartialEq + Debug + Drop>(rt: &impl Abort, one: &T, other: &T) {
     let copy = one.clone().expect(rt, "a copy");
     same(rt, &copy, one);
-    assert!(rt; one != other);
+    holds(rt, one != other);
 }
 
 #[test]

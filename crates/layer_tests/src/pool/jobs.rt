@@ -2,7 +2,7 @@
 ghost use Rattle.std.specs.Prelude.{◌≡◌, ◌<◌, length, vec_len};
 
 use crate::pool::tally::{Act, becomes, empty_tally, job, read};
-use crate::same::{lists, row, same};
+use crate::same::{holds, lists, row, same};
 use parallel_pool::rayon::{BroadcastContext, JobDeque, JobQueues, JobSeat, Queue, ThreadPool};
 use std::alloc::Global;
 use std::collections::VecDeque;
@@ -55,7 +55,7 @@ fn each_worker_gets_the_job_of_its_own(rt: HostRuntime) {
     let mut jobs = VecDeque::new(rt.alloc());
     jobs.push_back(7).expect(&rt, "memory");
     jobs.push_back(8).expect(&rt, "memory");
-    assert!(rt; seat.push_each(&rt, jobs).is_ok());
+    holds(&rt, seat.push_each(&rt, jobs).is_ok());
     same(&rt, seat.take(&rt, Queue::Broadcast(1)), Some(8));
     same(&rt, seat.take(&rt, Queue::Broadcast(0)), Some(7));
     row(&rt, 1, seat.take(&rt, Queue::Broadcast(0)), None);
@@ -68,7 +68,7 @@ fn an_owned_job_is_called_with_the_index_of_its_worker(rt: HostRuntime) {
     let job = job(&rt, rt.alloc(), &tally, Act::AddsAt(7));
     let (queues, _owned) = JobQueues::new(rt.alloc(), NonZeroUsize::MIN).expect(&rt, "memory");
     let mut seat = queues.seat(rt.alloc()).expect(&rt, "memory");
-    assert!(rt; seat.push(&rt, Queue::Injected, job).is_ok());
+    holds(&rt, seat.push(&rt, Queue::Injected, job).is_ok());
     if let Some(job) = seat.take(&rt, Queue::Injected) {
         job.call(7);
     }

@@ -3,7 +3,7 @@ ghost use Rattle.std.specs.Prelude.{◌≡◌, true};
 ghost use Rattle.parallel_pool.specs.Latch.{IsLatchSeatOf};
 ghost use Rattle.parallel_pool.specs.WorkerLatch.{core_of};
 
-use crate::same::same;
+use crate::same::{holds, row, same};
 use parallel_pool::latch::{CoreLatch, LatchSeat, OnceLatch, SpinLatch};
 use std::alloc::Global;
 use std::num::NonZeroUsize;
@@ -37,26 +37,41 @@ fn once_latch(rt: &impl Abort, alloc: Global, target: usize) -> (OnceLatch, Latc
 #[test]
 fn a_latch_that_is_set_stays_set(rt: HostRuntime) {
     let (latch, mut seat) = core_latch(&rt, rt.alloc());
-    assert!(rt; !latch.probe(&mut seat));
-    assert!(rt; latch.get_sleepy(&mut seat));
-    assert!(rt; latch.fall_asleep(&mut seat));
-    assert!(rt; latch.set(&mut seat), "the worker slept");
-    assert!(rt; !latch.set(&mut seat), "the second time nobody slept");
+    holds(&rt, !latch.probe(&mut seat));
+    holds(&rt, latch.get_sleepy(&mut seat));
+    holds(&rt, latch.fall_asleep(&mut seat));
+    row(&rt, "the worker slept", latch.set(&mut seat), true);
+    row(
+        &rt,
+        "the second time nobody slept",
+        !latch.set(&mut seat),
+        true,
+    );
     latch.wake_up(&mut seat);
-    assert!(rt; latch.probe(&mut seat));
-    assert!(rt; !latch.get_sleepy(&mut seat));
+    holds(&rt, latch.probe(&mut seat));
+    holds(&rt, !latch.get_sleepy(&mut seat));
 }
 
 #[test]
 fn a_woken_worker_may_get_sleepy_again(rt: HostRuntime) {
     let (latch, mut seat) = core_latch(&rt, rt.alloc());
-    assert!(rt; !latch.fall_asleep(&mut seat), "not before it is sleepy");
-    assert!(rt; latch.get_sleepy(&mut seat));
-    assert!(rt; !latch.get_sleepy(&mut seat));
-    assert!(rt; latch.fall_asleep(&mut seat));
+    row(
+        &rt,
+        "not before it is sleepy",
+        !latch.fall_asleep(&mut seat),
+        true,
+    );
+    holds(&rt, latch.get_sleepy(&mut seat));
+    holds(&rt, !latch.get_sleepy(&mut seat));
+    holds(&rt, latch.fall_asleep(&mut seat));
     latch.wake_up(&mut seat);
-    assert!(rt; latch.get_sleepy(&mut seat));
-    assert!(rt; !latch.set(&mut seat), "the worker was only sleepy");
+    holds(&rt, latch.get_sleepy(&mut seat));
+    row(
+        &rt,
+        "the worker was only sleepy",
+        !latch.set(&mut seat),
+        true,
+    );
 }
 
 // Whoever has learnt what the setter has seen, finds the latch set.
@@ -77,27 +92,27 @@ fn what_one_seat_has_seen_another_may_learn(rt: HostRuntime) {
     same(&rt, seats.len(), 3);
     let mut setter = seats.pop().expect(&rt, "a seat");
     let mut prober = seats.pop().expect(&rt, "a seat");
-    assert!(rt; set_and_tell(&latch, &mut setter, &mut prober));
+    holds(&rt, set_and_tell(&latch, &mut setter, &mut prober));
 }
 
 #[test]
 fn a_spin_latch_names_the_worker_that_slept(rt: HostRuntime) {
     let (latch, mut seat) = spin_latch(&rt, rt.alloc(), 7);
-    assert!(rt; latch.as_core_latch().get_sleepy(&mut seat));
-    assert!(rt; latch.as_core_latch().fall_asleep(&mut seat));
-    assert!(rt; !latch.probe(&mut seat));
+    holds(&rt, latch.as_core_latch().get_sleepy(&mut seat));
+    holds(&rt, latch.as_core_latch().fall_asleep(&mut seat));
+    holds(&rt, !latch.probe(&mut seat));
     same(&rt, latch.set(&mut seat), Some(7));
     same(&rt, latch.set(&mut seat), None);
-    assert!(rt; latch.probe(&mut seat));
+    holds(&rt, latch.probe(&mut seat));
 }
 
 #[test]
 fn a_once_latch_names_nobody_who_is_awake(rt: HostRuntime) {
     let (latch, mut seat) = once_latch(&rt, rt.alloc(), 7);
     same(&rt, latch.set(&mut seat), None);
-    assert!(rt; latch.as_core_latch().probe(&mut seat));
+    holds(&rt, latch.as_core_latch().probe(&mut seat));
     let (latch, mut seat) = once_latch(&rt, rt.alloc(), 8);
-    assert!(rt; latch.as_core_latch().get_sleepy(&mut seat));
-    assert!(rt; latch.as_core_latch().fall_asleep(&mut seat));
+    holds(&rt, latch.as_core_latch().get_sleepy(&mut seat));
+    holds(&rt, latch.as_core_latch().fall_asleep(&mut seat));
     same(&rt, latch.set(&mut seat), Some(8));
 }

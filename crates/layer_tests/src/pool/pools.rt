@@ -2,7 +2,7 @@
 use crate::pool::tally::{
     Act, Tally, awaits, built, empty_tally, job, led, let_it_sleep, read, spawn, telling,
 };
-use crate::same::{lists, prints, row, same};
+use crate::same::{holds, lists, prints, row, same};
 use parallel_pool::rayon::{
     BroadcastContext, Environment, Execute, OwnedJob, Queue, Staff, ThreadPool, ThreadPoolBuilder,
     WorkerThread, Yield,
@@ -56,7 +56,7 @@ fn a_worker_of_another_pool_injects_its_job(rt: HostRuntime) {
     let (pool, mut worker) = with_this_thread(&rt, rt.alloc(), 1, 0);
     let yields = yields_of_a_stranger(&rt, &pool, &theirs, &mut stranger, job);
     same(&rt, yields, Some((None, Some(Yield::Idle))));
-    assert!(rt; calls_injected(&rt, &mut worker));
+    holds(&rt, calls_injected(&rt, &mut worker));
     same(&rt, read(&tally.called), 1);
 }
 
@@ -212,7 +212,7 @@ fn a_thread_has_the_name_of_its_worker(rt: HostRuntime) {
     let (pool, _none) = built.expect(&rt, "a pool");
     for _ in 0..2 {
         let theirs = Arc::try_clone(&tally).expect(&rt, "a handle");
-        assert!(rt; pool.spawn(&rt, Named { rt, tally: theirs }).is_ok());
+        holds(&rt, pool.spawn(&rt, Named { rt, tally: theirs }).is_ok());
     }
     pool.close(&rt);
     same(&rt, read(&tally.called), 2);

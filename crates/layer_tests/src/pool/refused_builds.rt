@@ -7,10 +7,14 @@
 //! ends.
 use crate::no_memory::{all_memory, all_places};
 use crate::pool::tally::{Tally, awaits, byte_of, empty_tally, read, told_to, try_tally};
-use crate::same::{row, same};
+use crate::same::{holds, row, same};
 use parallel_pool::rayon::{ThreadPoolBuildError, ThreadPoolBuilder};
-use std::alloc::{AllocError, Global};
+use std::alloc::{AllocError, AllocGlobal, Global};
+use std::process::Abort;
+use std::rt::Files;
 use std::sync::Arc;
+use std::time::{Clock, Duration};
+use std::{fs, thread};
 
 #[test]
 fn a_start_that_is_refused_leaves_no_worker(rt: HostRuntime) {
@@ -21,7 +25,7 @@ fn a_start_that_is_refused_leaves_no_worker(rt: HostRuntime) {
         return;
     };
     let refused = builder.stack_size(usize::MAX).build(&rt, rt.alloc());
-    assert!(rt; refused.is_err(), "no thread has such a stack");
+    row(&rt, "no thread has such a stack", refused.is_err(), true);
     same(&rt, read(&tally.ended), 1);
 }
 
@@ -47,7 +51,7 @@ fn a_name_that_is_refused_is_want_of_memory(rt: HostRuntime) {
         return;
     };
     let refused = builder.build(&rt, rt.alloc());
-    assert!(rt; matches!(refused, Err(ThreadPoolBuildError::Memory)));
+    holds(&rt, matches!(refused, Err(ThreadPoolBuildError::Memory)));
     same(&rt, read(&tally.ended), 1);
 }
 
@@ -78,7 +82,7 @@ fn a_build_works_or_leaves_no_worker(rt: HostRuntime) {
         Err(ThreadPoolBuildError::Memory | ThreadPoolBuildError::Spawn) => {
             row(&rt, "no worker has the handler", read(&tally.ended), 1);
             let begun = started(&tally);
-            assert!(rt; begun < 4, "a worker was refused, and {begun} have begun");
+            row(&rt, begun, begun < 4, true);
             let _told = eprintln!(rt; "a build was refused of which {begun} workers had begun");
         }
     }
@@ -114,6 +118,19 @@ fn builders(alloc: Global, count: usize, tally: &Arc<Tally>) -> Option<Vec<Threa
     Some(all)
 }
 
+// Whether the process has come to have one thread alone, by Linux's own count. A worker that has
+// ended is gone some time later, and its place is free only then.
+fn is_alone<R: Clock + Files + AllocGlobal + Abort>(rt: &R) -> bool {
+    for _ in 0..30_000u32 {
+        let counts = fs::read_to_string(rt, "/proc/self/stat").expect(rt, "the counts");
+        if counts.as_str().split(' ').nth(19) == Some("1") {
+            return true;
+        }
+        thread::sleep(rt, Duration::from_millis(1));
+    }
+    false
+}
+
 #[test]
 fn a_build_that_is_refused_after_its_first_threads_ends_them(rt: HostRuntime) {
     let alloc = rt.alloc();
@@ -132,11 +149,12 @@ fn a_build_that_is_refused_after_its_first_threads_ends_them(rt: HostRuntime) {
         match built {
             Ok((pool, _none)) => pool.close(&rt),
             Err(refusal) => {
-                assert!(rt; matches!(refusal, ThreadPoolBuildError::Spawn));
+                holds(&rt, matches!(refusal, ThreadPoolBuildError::Spawn));
                 row(&rt, threads, ended_by_now, threads);
             }
         }
         row(&rt, threads, started(&tally), wanted);
+        row(&rt, threads, is_alone(&rt), true);
         stacks.pop();
     }
     drop(held);
@@ -175,7 +193,12 @@ fn a_build_that_is_refused_anywhere_leaves_no_worker(rt: HostRuntime) {
     }
     drop(held);
     let _told = eprintln!(rt; "{refused} builds were refused, the last one a thread");
-    assert!(rt; refused > 100, "a build asks for memory in many places");
+    row(
+        &rt,
+        "a build asks for memory in many places",
+        refused > 100,
+        true,
+    );
     same(&rt, (of_threads, read(&tally.begun)), (1, 0));
 }
 

@@ -9,7 +9,7 @@ use crate::pool::tally::{
     Act, Raise, Tally, awaits, becomes, empty_tally, job, jobs, let_it_sleep, push_by, raises,
     read, spawn, told_to, try_tally, workers,
 };
-use crate::same::{row, same};
+use crate::same::{holds, row, same};
 use parallel_fault::Fault;
 use parallel_pool::rayon::{OwnedJob, Queue, Staff, ThreadPool, WorkerThread, Yield};
 use std::alloc::Global;
@@ -29,7 +29,7 @@ fn halts<R: Wait + Abort + Clock>(
     tally: &Arc<Tally>,
 ) {
     let waits = job(rt, alloc, tally, Act::Waits);
-    assert!(rt; push_by(rt, worker, Queue::Broadcast(index), waits));
+    holds(rt, push_by(rt, worker, Queue::Broadcast(index), waits));
     awaits(rt, &tally.entered, 1, "the worker waits");
 }
 
@@ -52,7 +52,7 @@ fn calls_refused(
             pool.spawn(rt, job)
         };
         if let Err((fault, job)) = came {
-            assert!(rt; matches!(fault, Fault::Memory));
+            holds(rt, matches!(fault, Fault::Memory));
             row(
                 rt,
                 refused,
@@ -86,10 +86,8 @@ fn a_refused_job_comes_back_and_runs_when_called(rt: HostRuntime) {
     let of_injected = calls_refused(&rt, &pool, &mut worker, false, injected, &tally);
     let of_own = calls_refused(&rt, &pool, &mut worker, true, own, &tally);
     drop(held);
-    assert!(rt;
-        0 < of_injected && of_injected < 100 && 0 < of_own && of_own < 100,
-        "of {of_injected} and {of_own} jobs of 100 the push was refused"
-    );
+    row(&rt, of_injected, 0 < of_injected && of_injected < 100, true);
+    row(&rt, of_own, 0 < of_own && of_own < 100, true);
     // (memory is there again)
     spawn(&rt, alloc, &pool, &tally, Act::Adds(1));
     tally.opened.store(1, Ordering::SeqCst);
@@ -214,7 +212,7 @@ fn halts_the_third<R: Wait + Abort + Clock>(
 ) {
     for index in [0usize, 1, 3] {
         let job = job(rt, alloc, tally, Act::Fills);
-        assert!(rt; push_by(rt, worker, Queue::Broadcast(index), job));
+        holds(rt, push_by(rt, worker, Queue::Broadcast(index), job));
     }
     halts(rt, alloc, worker, 2, tally);
     same(rt, pool.yield_now(rt, worker), Some(Yield::Executed));
@@ -266,9 +264,11 @@ fn third_is_refused<R: Threads + Wait + Abort + Clock + Copy + Send + 'static>(
     let (fault, refused) = refused.expect(rt, "the third job is refused");
     row(rt, is_by_seat, (fault, refused.len()), (Fault::Memory, 2));
     same(rt, pool.yield_now(rt, &mut worker), Some(Yield::Executed));
-    assert!(rt;
+    row(
+        rt,
+        "those before them are called",
         come_in_order(rt, refused, &tally),
-        "those before them are called"
+        true,
     );
     tally.opened.store(1, Ordering::SeqCst);
     drop(pool);

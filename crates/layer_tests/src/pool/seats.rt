@@ -2,7 +2,7 @@
 use crate::pool::tally::{
     Act, Tally, awaits, broadcasts, empty_tally, jobs, push_by, read, spawn, workers,
 };
-use crate::same::same;
+use crate::same::{holds, same};
 use parallel_pool::rayon::{OwnedJob, Queue, WorkerThread};
 use std::alloc::Global;
 use std::process::Abort;
@@ -39,7 +39,7 @@ fn a_job_that_a_seat_took_is_counted(rt: HostRuntime) {
     let alloc = rt.alloc();
     let tally = empty_tally(&rt, alloc);
     let (pool, mut worker) = workers(&rt, alloc, 2, &tally);
-    assert!(rt; broadcasts(&rt, alloc, &pool, &tally, &TWO));
+    holds(&rt, broadcasts(&rt, alloc, &pool, &tally, &TWO));
     awaits(&rt, &tally.called, 1, "the other worker calls its own");
     let own = own_job(&rt, &mut worker);
     drop(pool);
@@ -54,9 +54,9 @@ fn pushes_takes_and_calls_are_counted_in_any_order(rt: HostRuntime) {
     let tally = empty_tally(&rt, alloc);
     let (pool, mut worker) = workers(&rt, alloc, 2, &tally);
     for round in 1..6u64 {
-        assert!(rt; pushes_each(&rt, alloc, &mut worker, &tally));
+        holds(&rt, pushes_each(&rt, alloc, &mut worker, &tally));
         let own = own_job(&rt, &mut worker);
-        assert!(rt; push_by(&rt, &mut worker, Queue::Broadcast(0), own));
+        holds(&rt, push_by(&rt, &mut worker, Queue::Broadcast(0), own));
         pool.yield_now(&rt, &mut worker);
         awaits(
             &rt,

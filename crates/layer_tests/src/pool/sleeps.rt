@@ -78,7 +78,7 @@ fn workers_sleep_and_are_woken_from_the_lowest(rt: HostRuntime) {
     finds(&rt, &mut state, third);
     same(&rt, state.woken(), [1].as_slice());
     same(&rt, state.counters().word(), 4_295_098_368);
-    assert!(rt; !state.wake(1), "it is awake");
+    row(&rt, "it is awake", !state.wake(1), true);
 }
 
 #[test]

@@ -2,6 +2,7 @@
 //! one function.
 ghost use Rattle.std.specs.Prelude.{◌≡◌};
 
+use crate::same::{holds, row};
 use parallel_pool::rayon::{
     Execute, OwnedJob, Queue, Staff, ThreadPool, ThreadPoolBuilder, WorkerThread,
 };
@@ -26,7 +27,7 @@ pub(crate) fn becomes(rt: &impl Clock, word: &AtomicU64, wanted: u64) -> bool {
 
 /// Stops the test where a word isn't that much in time.
 pub(crate) fn awaits<R: Clock + Abort>(rt: &R, word: &AtomicU64, wanted: u64, what: &str) {
-    assert!(rt; becomes(rt, word, wanted), "{what}");
+    row(rt, what, becomes(rt, word, wanted), true);
 }
 
 /// By then a thread that was started sleeps where it is to wait, also on a machine that is busy: a
@@ -129,7 +130,7 @@ pub(crate) fn built<R: Threads + Wait + Abort + Copy + Send + 'static>(
     builder: ThreadPoolBuilder,
 ) -> ThreadPool<Staff> {
     let (pool, none) = builder.build(rt, alloc).expect(rt, "a pool");
-    assert!(rt; none.is_none(), "no worker was asked for");
+    row(rt, "no worker was asked for", none.is_none(), true);
     pool
 }
 
@@ -270,7 +271,7 @@ pub(crate) fn spawn(
     act: Act,
 ) {
     let came = pool.spawn(rt, job(rt, alloc, tally, act)).is_ok();
-    assert!(rt; came);
+    holds(rt, came);
 }
 
 /// Broadcasts jobs that tell a tally, one to each worker, and returns whether they came.

@@ -1,5 +1,5 @@
 //! Batches: in which ranges their indices go.
-use crate::tests::same::{lists, returns, row, same};
+use crate::tests::same::{holds, lists, returns, row, same};
 use crate::tests::steps::one_more;
 use crate::tests::strategies::{SITE, fresh, number, pool};
 use commonware_parallel::{Batches, Fault, Sequential, Site, Strategy, Trouble};
@@ -18,13 +18,13 @@ fn balanced_ranges_differ_by_one_at_most(rt: HostRuntime) {
     let four = Batches::balanced(alloc, &Sequential, SITE, 10, number(&rt, 4));
     let four = four.expect(&rt, "memory");
     same(&rt, four.ranges(), [0..3, 3..6, 6..8, 8..10].as_slice());
-    assert!(rt; !four.is_whole());
+    holds(&rt, !four.is_whole());
     let one = Batches::balanced(alloc, &Sequential, SITE, 10, number(&rt, 1)).expect(&rt, "memory");
     same(&rt, one.ranges(), [0..10].as_slice());
-    assert!(rt; one.is_whole());
+    holds(&rt, one.is_whole());
     let none = Batches::whole(alloc, &Sequential, SITE, 0).expect(&rt, "memory");
     same(&rt, none.ranges(), [0..0].as_slice());
-    assert!(rt; none.is_whole());
+    holds(&rt, none.is_whole());
 }
 
 #[test]
@@ -127,10 +127,10 @@ fn more_ranges_than_memory_are_refused(rt: HostRuntime) {
     let alloc = rt.alloc();
     let most = NonZeroUsize::MAX;
     let refused = Batches::balanced(alloc, &Sequential, SITE, 7, most);
-    assert!(rt; matches!(refused, Err(Fault::Memory)));
+    holds(&rt, matches!(refused, Err(Fault::Memory)));
     let endless = pool(&rt, alloc, 1, usize::MAX);
     let refused = batch_ranges(&rt, alloc, &endless, SITE, usize::MAX, NonZeroUsize::MIN);
-    assert!(rt; matches!(refused, Err(Fault::Memory)));
+    holds(&rt, matches!(refused, Err(Fault::Memory)));
 }
 
 // The first index of each range.
@@ -257,5 +257,5 @@ fn a_batch_returns_its_closures_error(rt: HostRuntime) {
     returns(&rt, 1, ranges_or_second(&rt, alloc, &Sequential), 1);
     let strategy = pool(&rt, alloc, 1, 4);
     let failed = ranges_or_second(&rt, alloc, &strategy);
-    assert!(rt; matches!(failed, Err(Trouble::Closure(3))));
+    holds(&rt, matches!(failed, Err(Trouble::Closure(3))));
 }

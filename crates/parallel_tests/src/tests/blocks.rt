@@ -1,6 +1,6 @@
 //! That blocks of memory are given back: of a home by the count of a heap, and of calls by the size
 //! of the process.
-use crate::tests::same::{row, same};
+use crate::tests::same::{holds, row, same};
 use crate::tests::steps::{add_sums, no_sum};
 use crate::tests::strategies::{SITE, pool};
 use commonware_parallel::{Fault, Sequential, Strategy, Trouble};
@@ -18,19 +18,19 @@ use std::thread::Threads;
 fn a_home_gives_its_block_back(rt: HostRuntime) {
     let heap = LocalHeap::new(rt.alloc(), 65_536).expect(&rt, "memory for a heap");
     let items = Vec::from_slice(&heap, &[1u64, 2, 3]).expect(&rt, "memory");
-    assert!(rt; heap.used() > 0);
+    holds(&rt, heap.used() > 0);
     let (window, home) = Home::adopt(items);
     home.free(window);
     row(&rt, "adopted", heap.used(), 0);
     let (window, home) = Home::<u64, _>::reserve(&heap, 100).expect(&rt, "memory");
-    assert!(rt; heap.used() >= 800);
+    holds(&rt, heap.used() >= 800);
     home.free(window);
     row(&rt, "reserved", heap.used(), 0);
     let items = Vec::from_slice(&heap, &[1u64, 2, 3]).expect(&rt, "memory");
     let (window, home) = Home::adopt(items);
     let items = window.into_vec(home);
     same(&rt, items.as_slice(), [1, 2, 3].as_slice());
-    assert!(rt; heap.used() > 0);
+    holds(&rt, heap.used() > 0);
     drop(items);
     row(&rt, "handed over", heap.used(), 0);
 }
@@ -117,7 +117,7 @@ fn calls_that_fail_give_their_blocks_back(rt: HostRuntime) {
     for call in 0..CALLS {
         calls_fail(&rt, rt.alloc(), &two, call);
     }
-    assert!(rt; !has_grown(&rt, before));
+    holds(&rt, !has_grown(&rt, before));
 }
 
 // How many KiB of addresses this process has had at most, by Linux's own count.

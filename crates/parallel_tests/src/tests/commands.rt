@@ -1,5 +1,5 @@
 //! The program's command lines, its refusals, and writers that fail.
-use crate::tests::same::{returns, row, same};
+use crate::tests::same::{holds, returns, row, same};
 use crate::tests::strategies::number;
 use parallel_fault::Fault;
 use parallel_shares::Shares;
@@ -170,10 +170,8 @@ fn words_left<R: Threads + Wait + Abort + Sync>(
 ) -> usize {
     let ran = run(rt, alloc, line).expect(rt, "memory");
     row(rt, line, ran.status, 0);
-    assert!(rt;
-        ran.out.starts_with(first) && ran.out.ends_with(last),
-        "{line}"
-    );
+    let is_so = ran.out.starts_with(first) && ran.out.ends_with(last);
+    row(rt, line, is_so, true);
     ran.out.split(' ').count()
 }
 
@@ -379,7 +377,7 @@ fn a_failed_write_is_named_and_is_status_one(rt: HostRuntime) {
     row(&rt, 1, kept.len(), 0);
     let unknown = words_of(alloc, "unknown").expect(&rt, "memory");
     let answered = command(&rt, alloc, &unknown, &mut kept, &mut Closed);
-    assert!(rt; answered.is_err());
+    holds(&rt, answered.is_err());
     row(&rt, 2, kept.len(), 0);
     row(&rt, 3, unwritten(&error, &mut Closed), 1);
     row(&rt, 4, unwritten(&error, &mut kept), 1);
@@ -447,5 +445,8 @@ fn threads_of_a_caller_claim_each_cell_once(rt: HostRuntime) {
     cells.sort_unstable();
     same(&rt, words.as_slice(), [65_537_000].as_slice());
     same(&rt, cells.len(), 3_000);
-    assert!(rt; cells.iter().enumerate().all(|(index, cell)| index == *cell));
+    holds(
+        &rt,
+        cells.iter().enumerate().all(|(index, cell)| index == *cell),
+    );
 }

@@ -1,7 +1,7 @@
 //! What the task of a spawned job sees of its end.
 ghost use Rattle.std.specs.Prelude.{⊤};
 
-use crate::tests::same::same;
+use crate::tests::same::{holds, same};
 use crate::tests::strategies::{SITE, pool};
 use commonware_parallel::{Job, Strategy};
 use futures::task::Poll;
@@ -63,10 +63,10 @@ fn a_poll_before_a_jobs_end_is_pending_and_its_task_is_woken(rt: HostRuntime) {
     };
     let mut spawned = two.spawn(&rt, alloc, SITE, 1, job).expect(&rt, "a job");
     let task = MockTask::new(&rt).expect(&rt, "memory");
-    assert!(rt; is_raised(&begun));
+    holds(&rt, is_raised(&begun));
     for _ in 0..3 {
         same(&rt, task.poll(&mut spawned), Poll::Pending);
-        assert!(rt; !task.is_woken());
+        holds(&rt, !task.is_woken());
     }
     may_end.store(true, Ordering::SeqCst);
     for _ in 0..TURNS {
@@ -75,6 +75,6 @@ fn a_poll_before_a_jobs_end_is_pending_and_its_task_is_woken(rt: HostRuntime) {
         }
         yield_now();
     }
-    assert!(rt; task.is_woken());
+    holds(&rt, task.is_woken());
     same(&rt, task.poll(&mut spawned), Poll::Ready(true));
 }

@@ -5,7 +5,7 @@ use crate::tests::clocks::{Stepping, learning};
 use crate::tests::probes::calls::CALLS;
 use crate::tests::probes::given::{Given, make_over_few};
 use crate::tests::probes::visits::Visitor;
-use crate::tests::same::{returns, row};
+use crate::tests::same::{holds, returns, row};
 use crate::tests::steps::{Gives, as_it_is, ascending, descending, give_one, give_two};
 use crate::tests::strategies::{SITE, number};
 use commonware_parallel::policy::{Key, RunExecution};
@@ -164,9 +164,9 @@ fn what_has_no_policy_leaves_no_entry(rt: HostRuntime) {
     let alloc = rt.alloc();
     let policy = fresh(&rt, alloc);
     let strategy = by_policy(&rt, alloc, &policy, STEP);
-    assert!(rt; strategy.policy().is_some());
+    holds(&rt, strategy.policy().is_some());
     let fixed = strategy.without_policy().expect(&rt, "memory");
-    assert!(rt; fixed.policy().is_none());
+    holds(&rt, fixed.policy().is_none());
     row(&rt, 1, lists_and_sorts(&rt, alloc, &fixed), Ok(()));
     row(&rt, 2, bodies(&rt, alloc, &fixed), Ok(()));
     // Planned for one, a call has nothing to choose either.

@@ -2,7 +2,7 @@
 ghost use Rattle.std.specs.Prelude.{◌<◌};
 ghost use Rattle.parallel_shares.specs.Grid.{Fits};
 
-use crate::tests::same::{lists, returns, row, same, says};
+use crate::tests::same::{holds, lists, returns, row, same, says};
 use crate::tests::states::are_sorted;
 use crate::tests::steps::{
     add, add_sums, cells_counted, count, count_cells, no_count, no_sum, parallel, serial, square,
@@ -320,7 +320,10 @@ fn a_sum_does_not_depend_on_the_shape(rt: HostRuntime) -> Result<(), Fail> {
 fn two_closures_are_told_apart(rt: HostRuntime) {
     returns(&rt, 1, explore_from_zero(&rt, rt.alloc()), Ok(4950));
     let told = explore_from_ten(&rt, rt.alloc());
-    assert!(rt; matches!(told, Err(ExploreError::Differs(Rule::Parallel))));
+    holds(
+        &rt,
+        matches!(told, Err(ExploreError::Differs(Rule::Parallel))),
+    );
 }
 
 #[test]
@@ -331,7 +334,10 @@ fn an_output_that_the_shape_changes_is_told(rt: HostRuntime) {
         calls.fetch_add(1, Ordering::SeqCst);
         explorer.run(&rt, alloc, SITE, 64, serial, parallel).ok()
     });
-    assert!(rt; matches!(told, Err(ExploreError::Differs(Rule::Parallel))));
+    holds(
+        &rt,
+        matches!(told, Err(ExploreError::Differs(Rule::Parallel))),
+    );
     same(&rt, calls.load(Ordering::SeqCst), 2);
 }
 

@@ -1,5 +1,6 @@
 //! Calls that may fail, on four threads and on nine: once the first item has failed, the segments after it
 //! stop, and most items are never asked.
+use crate::tests::same::row;
 use crate::tests::steps::{add_sums, no_sum};
 use crate::tests::strategies::{SITE, pool};
 use commonware_parallel::{Copies, Fault, Strategy, Trouble};
@@ -58,12 +59,9 @@ impl Calls {
     // Stops the test where the first item's error isn't the outcome, or a quarter of the items was
     // asked. Then it begins anew.
     fn were_few<T: Drop>(&self, rt: &impl Abort, of: &str, outcome: Result<T, Trouble<u64>>) {
-        assert!(rt; matches!(outcome, Err(Trouble::Closure(7))), "{of}");
+        row(rt, of, matches!(outcome, Err(Trouble::Closure(7))), true);
         let asked = self.count.load(Ordering::SeqCst);
-        assert!(rt;
-            4 <= asked && asked < LEN as u64 / 4,
-            "{of}: {asked} items were asked"
-        );
+        row(rt, asked, 4 <= asked && asked < LEN as u64 / 4, true);
         self.count.store(0, Ordering::SeqCst);
         self.failed.store(0, Ordering::SeqCst);
     }

@@ -1,5 +1,5 @@
 //! Each call of the layers below a strategy, once by itself.
-use crate::tests::same::{lists, returns, row, same};
+use crate::tests::same::{holds, lists, returns, row, same};
 use crate::tests::steps::{add, give_seven, ten};
 use crate::tests::strategies::{SITE, number, pool};
 use commonware_parallel::bridge::list::fold::{fold_iter, fold_parallel};
@@ -27,12 +27,12 @@ fn a_strategy_hands_its_picks_out(rt: HostRuntime) {
         .choose(&rt, alloc, SITE, call)
         .expect(&rt, "memory");
     same(&rt, pick, Pick::Into(1));
-    assert!(rt; Sequential.starts_workers());
+    holds(&rt, Sequential.starts_workers());
     let strategy = pool(&rt, alloc, 2, 8);
-    assert!(rt; strategy.starts_workers());
-    assert!(rt; Sequential.is_serial());
-    assert!(rt; pool(&rt, alloc, 2, 1).is_serial());
-    assert!(rt; !strategy.is_serial());
+    holds(&rt, strategy.starts_workers());
+    holds(&rt, Sequential.is_serial());
+    holds(&rt, pool(&rt, alloc, 2, 1).is_serial());
+    holds(&rt, !strategy.is_serial());
     for (kind, planned, pick) in [
         (Kind::Batches, 8, Pick::Into(3)),
         (Kind::Batches, 1, Pick::Into(1)),

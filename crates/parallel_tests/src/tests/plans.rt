@@ -1,5 +1,5 @@
 //! Segments of lists, cuts of indices, and grids of tiles.
-use crate::tests::same::{lists, same};
+use crate::tests::same::{holds, lists, same};
 use crate::tests::strategies::number;
 use commonware_parallel::bridge::segments::segments;
 use commonware_parallel::{Fault, Grid, cut};
@@ -54,7 +54,10 @@ fn cuts_put_the_longer_ranges_first(rt: HostRuntime) {
 
 #[test]
 fn more_ranges_than_memory_are_refused(rt: HostRuntime) {
-    assert!(rt; matches!(cut(rt.alloc(), 7, NonZeroUsize::MAX), Err(Fault::Memory)));
+    holds(
+        &rt,
+        matches!(cut(rt.alloc(), 7, NonZeroUsize::MAX), Err(Fault::Memory)),
+    );
 }
 
 #[test]
@@ -75,7 +78,7 @@ fn grids_cost_their_longest_chain(rt: HostRuntime) {
     };
     let path = greatest.critical_path(GREATEST, NonZeroUsize::MIN);
     same(&rt, path, (18_446_744_073_709_551_615, true));
-    assert!(rt; !Grid::fits(&[greatest], GREATEST));
+    holds(&rt, !Grid::fits(&[greatest], GREATEST));
 }
 
 #[test]
@@ -84,8 +87,8 @@ fn grids_fit_where_their_indices_can_be_counted(rt: HostRuntime) {
         rows,
         tile_cost: NonZeroUsize::MIN,
     };
-    assert!(rt; !Grid::fits(&[], 1));
-    assert!(rt; Grid::fits(&[rows(0)], GREATEST));
-    assert!(rt; Grid::fits(&[rows(4_294_967_295)], 4_294_967_297));
-    assert!(rt; !Grid::fits(&[rows(2)], 9_223_372_036_854_775_808));
+    holds(&rt, !Grid::fits(&[], 1));
+    holds(&rt, Grid::fits(&[rows(0)], GREATEST));
+    holds(&rt, Grid::fits(&[rows(4_294_967_295)], 4_294_967_297));
+    holds(&rt, !Grid::fits(&[rows(2)], 9_223_372_036_854_775_808));
 }

@@ -1,5 +1,5 @@
 //! What is printed, and which traits the plain types have.
-use crate::tests::same::{prints, returns, row, says};
+use crate::tests::same::{holds, prints, returns, row, says};
 use crate::tests::strategies::{SITE, number, pool};
 use commonware_parallel::mocks::{ExploreError, Explorer};
 use commonware_parallel::{
@@ -124,17 +124,17 @@ fn values_are_copied_compared_and_hashed(rt: HostRuntime) {
     let fault = Fault::Memory;
     let copied = fault;
     returns(&rt, 1, fault.clone(), copied);
-    assert!(rt; fault != Fault::Worker);
+    holds(&rt, fault != Fault::Worker);
     let trouble: Trouble<u32> = Trouble::Closure(57);
-    assert!(rt; trouble == Trouble::Closure(57));
-    assert!(rt; trouble != Trouble::Closure(58));
+    holds(&rt, trouble == Trouble::Closure(57));
+    holds(&rt, trouble != Trouble::Closure(58));
     let unmeasured = Unmeasured;
     returns(&rt, 2, unmeasured.clone(), unmeasured);
     let serial = Sequential::default().clone().expect(&rt, "a copy");
     prints(&rt, alloc, &serial, "Sequential");
 
     let other_line = Site { line: 2, ..SITE };
-    assert!(rt; SITE != other_line);
+    holds(&rt, SITE != other_line);
     row(&rt, 3, distinct(&rt, alloc, &[SITE, other_line, SITE]), 2);
     let calls = [Call::body(4), Call::body(5), Call::body(4)];
     row(&rt, 4, distinct(&rt, alloc, &calls), 2);

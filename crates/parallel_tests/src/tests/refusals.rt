@@ -6,7 +6,7 @@
 //! (`no_memory`) each call is tried once: that is for runs in which each allocation fails in turn.
 use crate::tests::errors::{Counted, Counts, counted_items};
 use crate::tests::no_memory::all_memory;
-use crate::tests::same::row;
+use crate::tests::same::{holds, row};
 use crate::tests::strategies::{Stopped, number};
 use crate::tests::tried::{ALL, Tried, outcome};
 use commonware_parallel::rayon::ThreadPoolBuildError;
@@ -111,7 +111,7 @@ fn each_call_succeeds_or_is_refused(rt: HostRuntime) {
                     try_all(&rt, alloc, &fixed);
                 }
             }
-            Err(error) => assert!(rt; matches!(error, ThreadPoolBuildError::Memory)),
+            Err(error) => holds(&rt, matches!(error, ThreadPoolBuildError::Memory)),
         }
     }
 }
@@ -150,7 +150,7 @@ fn each_growth_is_refused_in_turn(rt: HostRuntime) {
     drop(room);
     // (what a call lets go stays at hand for later ones, so only the first is surely refused)
     let (roots, is_answered) = refused(&rt, alloc, &Sequential, Tried::Root);
-    assert!(rt; roots > 0 && is_answered, "{roots} roots were refused");
+    row(&rt, roots, roots > 0 && is_answered, true);
     let serial = refuse_all(&rt, alloc, &Sequential);
     let parallel = refuse_all(&rt, alloc, &four);
     drop(held);

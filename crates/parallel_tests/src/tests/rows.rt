@@ -1,5 +1,5 @@
 //! Kernels by row: the value of each row, however the rows were cut.
-use crate::tests::same::{lists, same};
+use crate::tests::same::{holds, lists, same};
 use crate::tests::steps::add_sums;
 use crate::tests::strategies::{SITE, explorers, number, pool, pools};
 use commonware_parallel::{Fault, Sequential, Strategy};
@@ -128,7 +128,7 @@ fn a_row_of_two_tiles_is_cut_and_a_shorter_one_is_not(rt: HostRuntime) {
     let alloc = rt.alloc();
     let four = pool(&rt, alloc, 4, 4);
     let cut = parts_of_a_row(&rt, alloc, &four, 640, 1).expect(&rt, "memory");
-    assert!(rt; cut.iter().all(|calls| *calls > 1));
+    holds(&rt, cut.iter().all(|calls| *calls > 1));
     lists(&rt, 1, parts_of_a_row(&rt, alloc, &four, 15, 8), &[1]);
     lists(
         &rt,

@@ -1,5 +1,5 @@
 //! Runs, and the numbers of a pool.
-use crate::tests::same::{lists, returns, row, same};
+use crate::tests::same::{holds, lists, returns, row, same};
 use crate::tests::steps::{parallel, serial};
 use crate::tests::strategies::{SITE, Stopped, fresh, number, pool};
 use commonware_parallel::rayon::ThreadPoolBuilder;
@@ -92,7 +92,7 @@ fn a_pool_may_read_the_monotonic_clock(rt: HostRuntime) {
     let alloc = rt.alloc();
     let clock = MonotonicClock::new(rt).expect(&rt, "memory");
     let earlier = clock.now();
-    assert!(rt; earlier <= clock.now());
+    holds(&rt, earlier <= clock.now());
     let strategy = Rayon::new(&rt, alloc, number(&rt, 2), clock).expect(&rt, "memory");
     let taken = strategy.run(&rt, alloc, SITE, 64, serial, parallel);
     returns(&rt, 1, taken, "parallel");

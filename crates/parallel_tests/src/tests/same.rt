@@ -1,5 +1,5 @@
-//! How a test compares what it found. A call of these costs a tenth of an `assert_eq!` in its place
-//! to prove.
+//! How a test compares what it found. A call of these costs a tenth of an `assert_eq!` or an
+//! `assert!` in its place to prove.
 use std::alloc::Global;
 use std::fmt::{Debug, Display};
 use std::process::Abort;
@@ -7,6 +7,11 @@ use std::process::Abort;
 /// Stops the test where the two differ, and prints both.
 pub fn same<T: PartialEq + Debug + Drop>(rt: &impl Abort, found: T, wanted: T) {
     assert_eq!(rt; found, wanted);
+}
+
+/// Stops the test where that doesn't hold.
+pub fn holds(rt: &impl Abort, is_so: bool) {
+    assert!(rt; is_so);
 }
 
 /// The same, and says of which row they are, where the two alone don't tell it.

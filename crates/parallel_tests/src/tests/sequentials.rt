@@ -1,5 +1,5 @@
 //! `Sequential`'s own functions: one range, a plan for one worker, a job that is run at once, maps.
-use crate::tests::same::{lists, returns, same};
+use crate::tests::same::{holds, lists, returns, same};
 use crate::tests::steps::{Gives, count, count_cells, no_count, twice, zero};
 use crate::tests::strategies::{SITE, number};
 use commonware_parallel::{Fault, Grid, Sequential, Trouble};
@@ -76,9 +76,9 @@ fn tiles_are_planned_for_one_worker(rt: HostRuntime) {
 #[test]
 fn a_job_is_run_at_once_and_taken_without_a_wait(rt: HostRuntime) {
     let mut spawned = Sequential.spawn((), SITE, 1, Gives(7));
-    assert!(rt; spawned.is_ready());
+    holds(&rt, spawned.is_ready());
     same(&rt, spawned.take_ready(), Some(7));
-    assert!(rt; !spawned.is_ready());
+    holds(&rt, !spawned.is_ready());
     same(&rt, spawned.take_ready(), None);
 }
 

@@ -2,7 +2,7 @@
 ghost use Rattle.std.specs.Prelude.{◌≡◌, IfOk, None};
 ghost use Rattle.parallel_shares.specs.Seats.{AreSeatsOf, IsSeatOf, index_of, transit_of};
 
-use crate::tests::same::same;
+use crate::tests::same::{holds, same};
 use crate::tests::strategies::number;
 use parallel_shares::{Seat, Shares, Tried};
 use std::alloc::{AllocError, Global};
@@ -110,7 +110,7 @@ fn two_threads_empty_a_cut_plan_by_single_tries(rt: HostRuntime) {
     let marks = marks(alloc).expect(&rt, "memory");
     let seats = drive_all(&rt, &shares, seats, marks.as_slice()).expect(&rt, "memory");
     for seat in &seats {
-        assert!(rt; seat.own_empty());
+        holds(&rt, seat.own_empty());
         same(&rt, seat.in_transit(), None);
     }
     let words = shares.close(seats);

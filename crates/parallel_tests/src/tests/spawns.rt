@@ -2,7 +2,7 @@
 ghost use Rattle.std.specs.Prelude.{◌≡◌, ⊤};
 
 use crate::tests::clocks::learning;
-use crate::tests::same::{returns, row, same};
+use crate::tests::same::{holds, returns, row, same};
 use crate::tests::steps::Gives;
 use crate::tests::strategies::{SITE, Stopped, number, pool};
 use commonware_parallel::mocks::{Explorer, Rule, inline, pending};
@@ -122,9 +122,9 @@ fn a_result_is_given_once(rt: HostRuntime) {
     let mut ready = Strategy::spawn(&Sequential, &rt, alloc, SITE, 1, Gives(7)).expect(
         &rt, "memory",
     );
-    assert!(rt; ready.is_ready());
+    holds(&rt, ready.is_ready());
     same(&rt, task.poll(&mut ready), Poll::Ready(7));
-    assert!(rt; !ready.is_ready());
+    holds(&rt, !ready.is_ready());
     row(&rt, 1, task.poll(&mut ready), Poll::Pending);
     let polled = task.enter(|cx| Spawned::poll(&mut ready, cx));
     row(&rt, 2, polled, Poll::Pending);
@@ -147,7 +147,7 @@ fn an_explorer_spawns_by_its_rule(rt: HostRuntime) {
     }
     let single = Explorer::parallel(&pool(&rt, alloc, 1, 4)).expect(&rt, "memory");
     let refused = single.spawn(&rt, alloc, place, 1, Gives(7));
-    assert!(rt; matches!(refused, Err(Fault::HandOff)));
+    holds(&rt, matches!(refused, Err(Fault::HandOff)));
 }
 
 // Whether a job that is handed off gets no worker: it is pending, and was let go.
@@ -169,16 +169,16 @@ fn is_never_run<
 fn a_pool_without_workers_leaves_its_jobs_pending(rt: HostRuntime) {
     let alloc = rt.alloc();
     let idle = pending(&rt, alloc, number(&rt, 2), Stopped).expect(&rt, "memory");
-    assert!(rt; is_never_run(&rt, &idle));
+    holds(&rt, is_never_run(&rt, &idle));
     let fixed = idle.without_policy().expect(&rt, "memory");
-    assert!(rt; is_never_run(&rt, &fixed));
+    holds(&rt, is_never_run(&rt, &fixed));
     let explorer = Explorer::parallel(&idle).expect(&rt, "memory");
-    assert!(rt; is_never_run(&rt, &explorer));
+    holds(&rt, is_never_run(&rt, &explorer));
     // Its other calls go on scoped threads.
     let taken = one_of(&rt, alloc, &fixed, SITE, 2, "serial", "parallel");
     returns(&rt, 1, taken, "parallel");
     let single = pool(&rt, alloc, 1, 1).without_workers();
-    assert!(rt; !is_handed_off(&rt, &single, SITE));
+    holds(&rt, !is_handed_off(&rt, &single, SITE));
 }
 
 // Spawns that many jobs, which return the numbers below, and waits for them in one task: how many
@@ -284,7 +284,7 @@ fn a_pool_of_one_thread_measures_no_job(rt: HostRuntime) {
     let clock = Scripted::new(&rt, alloc, 50_000, 5_000);
     let readings = shared(&rt, &clock.readings);
     let one = inline(&rt, alloc, number(&rt, 4), clock).expect(&rt, "memory");
-    assert!(rt; !is_handed_off(&rt, &one, SITE));
+    holds(&rt, !is_handed_off(&rt, &one, SITE));
     same(&rt, readings.load(Ordering::SeqCst), 0);
 }
 
@@ -348,7 +348,7 @@ fn jobs_or_refusals<
                     same(rt, value, number);
                 }
             }
-            Err(fault) => assert!(rt; matches!(fault, Fault::Memory | Fault::Worker)),
+            Err(fault) => holds(rt, matches!(fault, Fault::Memory | Fault::Worker)),
         }
     }
 }
@@ -366,7 +366,7 @@ fn spawned_jobs_end_or_are_refused(rt: HostRuntime) {
                     }
                 }
             }
-            Err(error) => assert!(rt; matches!(error, ThreadPoolBuildError::Memory)),
+            Err(error) => holds(&rt, matches!(error, ThreadPoolBuildError::Memory)),
         }
     }
 }

@@ -2,13 +2,12 @@
 use crate::tests::same::{lists, returns, same};
 use crate::tests::steps::{ascending, count, descending, give_one, give_two, tenfold, twice, zero};
 use crate::tests::strategies::{SITE, explorers, number, pool, pools};
-use crate::tests::threads::sees;
 use commonware_parallel::{Fault, Sequential, Strategy};
 use std::alloc::Global;
 use std::process::Abort;
 use std::sync::Wait;
 use std::sync::atomic::{AtomicBool, AtomicU32, Ordering};
-use std::thread::Threads;
+use std::thread::{Threads, yield_now};
 use uses::long_lists::LongLists;
 use uses::stateful::{leave_out_repeats, sort_by_first};
 use uses::verifier::split_by_check;
@@ -140,6 +139,18 @@ fn repeats_are_left_out_of_each_segment(rt: HostRuntime) {
     let halves = pool(&rt, alloc, 1, 2);
     let left = leave_out_repeats(&rt, alloc, &halves, SITE, &numbers);
     lists(&rt, 2, left, &[Some(7), None, Some(7), Some(8)]);
+}
+
+// Sets the own flag, and returns whether the other one was seen within ten million turns.
+fn sees(own: &AtomicBool, other: &AtomicBool) -> bool {
+    own.store(true, Ordering::SeqCst);
+    for _ in 0..10_000_000u32 {
+        if other.load(Ordering::SeqCst) {
+            return true;
+        }
+        yield_now();
+    }
+    false
 }
 
 /// Whether each part of a join saw the other one.

@@ -1,5 +1,5 @@
 //! Tiles: which cells are filled, for how many workers, and what is returned for each row.
-use crate::tests::same::{lists, returns, row, same};
+use crate::tests::same::{holds, lists, returns, row, same};
 use crate::tests::steps::no_count;
 use crate::tests::strategies::{SITE, explorers, number, pool, pools};
 use commonware_parallel::shares::machine::{Event, Outcome, Plan, replay};
@@ -417,5 +417,5 @@ fn rows_are_merged_from_left_to_right(rt: HostRuntime) {
     let four = [pool(&rt, alloc, 4, 4)];
     same(&rt, spans_are_known(&rt, alloc, &four), 1);
     let cuts = spans_are_known(&rt, alloc, &explorers(&rt, alloc));
-    assert!(rt; cuts > 0);
+    holds(&rt, cuts > 0);
 }

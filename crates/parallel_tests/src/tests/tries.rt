@@ -1,7 +1,7 @@
 //! Calls whose closures may fail. The first failing item's error is the result, whichever part of
 //! the list ended first.
 use crate::tests::errors::fails_at;
-use crate::tests::same::{row, same};
+use crate::tests::same::{holds, row, same};
 use crate::tests::steps::{add, error_of_five, hundred, seven_or_error, zero};
 use crate::tests::strategies::{SITE, explorers, pool, pools};
 use commonware_parallel::{Copies, Sequential, Strategy, Trouble};
@@ -72,10 +72,13 @@ fn errors_are_its_own<Rt: Threads + Wait + Abort + Sync, S: Strategy>(
 ) {
     for strategy in strategies {
         let failed = map_unsteadily(rt, alloc, strategy, 50);
-        assert!(rt; matches!(failed, Err(Trouble::Closure(call)) if 50 <= call && call < 100));
+        holds(
+            rt,
+            matches!(failed, Err(Trouble::Closure(call)) if 50 <= call && call < 100),
+        );
         let answered = map_unsteadily(rt, alloc, strategy, 100).expect(rt, "memory");
         same(rt, answered.len(), 100);
-        assert!(rt; answered.iter().all(|call| *call < 100));
+        holds(rt, answered.iter().all(|call| *call < 100));
     }
 }
 

@@ -4,7 +4,7 @@
 use crate::tests::clocks::Stepping;
 use crate::tests::entries::{Times, by_policy, times};
 use crate::tests::no_memory::{all_memory, all_places};
-use crate::tests::same::{returns, row};
+use crate::tests::same::{holds, returns, row};
 use crate::tests::steps::{Gives, descending};
 use crate::tests::strategies::SITE;
 use commonware_parallel::policy::{Key, RunExecution, SpawnExecution, SpawnSample};
@@ -165,7 +165,7 @@ fn a_run_that_is_refused_is_not_recorded(rt: HostRuntime) {
         if found == Err(Trouble::Fault(Fault::Memory)) {
             refused = refused.saturating_add(1);
         }
-        assert!(rt; call != Made::Gathered || calls == 0, "{calls} calls");
+        row(&rt, calls, call != Made::Gathered || calls == 0, true);
     }
     row(&rt, "refused", refused, 4);
 }
@@ -215,7 +215,7 @@ fn a_spawn_that_is_refused_is_not_recorded(rt: HostRuntime) {
         drop(room);
         let refused = refused_jobs(&rt, alloc, &strategy);
         drop(held);
-        assert!(rt; refused > 0);
+        holds(&rt, refused > 0);
     }
     row(
         &rt,
@@ -223,6 +223,6 @@ fn a_spawn_that_is_refused_is_not_recorded(rt: HostRuntime) {
         job_times(&rt, &policy, key),
         Some([None, None, None]),
     );
-    assert!(rt; policy.run_entry(&rt, key).is_none());
+    holds(&rt, policy.run_entry(&rt, key).is_none());
     returns(&rt, 3, policy.choose_spawn(&rt, key, 1_000_000), first);
 }

@@ -1,7 +1,7 @@
 //! The ways that explorers take: by the serial and the parallel rule, and by seeds.
 use crate::tests::explorers::{PLACE, picks_last};
 use crate::tests::no_memory::all_places;
-use crate::tests::same::{returns, row, same};
+use crate::tests::same::{holds, returns, row, same};
 use crate::tests::states::parts_see;
 use crate::tests::steps::{add, add_counts, count, no_count, parallel, serial, zero};
 use crate::tests::strategies::{SITE, explorers, pool};
@@ -116,7 +116,7 @@ fn a_search_takes_the_serial_ways_and_then_the_parallel_ones(rt: HostRuntime) {
         let ways = ways_of(&rt, alloc, explorer).expect(&rt, "memory");
         taken.push(ways).is_ok()
     });
-    assert!(rt; is_kept.expect(&rt, "one output"));
+    holds(&rt, is_kept.expect(&rt, "one output"));
     let first = taken.first().copied();
     row(&rt, "serial", first, Some(serial_ways(false)));
     let second = taken.get(1).copied();

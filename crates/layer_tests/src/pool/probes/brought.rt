@@ -1,6 +1,7 @@
 //! The ways in which a job comes to a pool, each of any number of workers, of which this thread is
 //! the first.
 use crate::pool::tally::{Act, Tally, added, awaits, empty_tally, let_it_sleep, push_by, told_to};
+use crate::same::holds;
 use parallel_pool::rayon::{
     Execute, Queue, Staff, ThreadPool, ThreadPoolBuilder, WorkerThread, Yield,
 };
@@ -173,7 +174,10 @@ impl Led {
         let_it_sleep(rt);
         let tally = empty_tally(rt, alloc);
         let waits = long_job(rt, &tally, Act::Waits);
-        assert!(rt; push_by(rt, &mut self.worker, Queue::Broadcast(index), waits));
+        holds(
+            rt,
+            push_by(rt, &mut self.worker, Queue::Broadcast(index), waits),
+        );
         awaits(rt, &tally.entered, 1, "the worker waits");
         tally
     }

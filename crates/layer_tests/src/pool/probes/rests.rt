@@ -8,7 +8,7 @@ use crate::pool::latches::core_latch;
 use crate::pool::probes::brought::{ALL, Led, leads, opens};
 use crate::pool::sleeps::one_sleep;
 use crate::pool::tally::{Act, Tally, awaits, becomes, empty_tally, let_it_sleep, push_by, read};
-use crate::same::{row, same};
+use crate::same::{holds, row};
 use crossbeam_utils::sync::Parker;
 use parallel_pool::latch::{CoreLatch, CountLatch, CountShare, LatchSeat, LockLatch};
 use parallel_pool::rayon::{Execute, Queue, ThreadPool, ThreadPoolBuilder, install};
@@ -123,7 +123,7 @@ fn idle_workers_take_no_time_while_others_are_at_work(rt: HostRuntime) {
     let mut told = 0u64;
     for (index, is_long) in [(1usize, true), (3, false), (2, true), (3, false)] {
         let job = quiet_job(&rt, &tally, if is_long { &latch } else { &open });
-        assert!(rt; push_by(&rt, &mut worker, Queue::Broadcast(index), job));
+        holds(&rt, push_by(&rt, &mut worker, Queue::Broadcast(index), job));
         told = told.wrapping_add(1);
         awaits(&rt, &tally.entered, told, "the worker is at work");
         let_it_sleep(&rt);
