@@ -3,7 +3,7 @@ ghost use Rattle.std.specs.Prelude.{◌≡◌, ◌≢◌, ◌*◌, ◌^◌, ◌<
 ghost use Rattle.std.specs.Int.NonZero.{non_zero_usize_get};
 ghost use Rattle.parallel_shares.specs.Seats.{AreSeatsOf};
 
-use crate::same::{holds, lists, row, same};
+use crate::same::{lists, row, same};
 use parallel_shares::machine::{Event, Outcome, Plan, State, replay, step};
 use parallel_shares::{Seat, Shares, Stretch, Tried, pack, stretches};
 use std::alloc::Global;
@@ -417,7 +417,7 @@ fn a_replay_steals_and_loses_a_stale_claim(rt: HostRuntime) {
     ];
     tells(&rt, outcomes.as_slice(), &told);
     same(&rt, state.words(), [pack(8, 8), pack(6, 6)].as_slice());
-    holds(&rt, plan.workers() == 2);
+    assert!(rt; plan.workers() == 2);
     let wanted = [cells(0, 0..4), cells(0, 6..8)];
     claims_stretches(&rt, alloc, state.claims(0), 8, &wanted);
     claims_stretches(&rt, alloc, state.claims(1), 8, &[cells(0, 4..6)]);
@@ -433,7 +433,7 @@ fn a_small_cut_plan_is_claimed_across_rows(rt: HostRuntime) {
     let (state, outcomes) = replay(alloc, &plan, &events).expect(&rt, "memory");
     tells(&rt, outcomes.as_slice(), &[(0, Outcome::Loaded(8))]);
     same(&rt, state.words(), [pack(8, 8), 524_303].as_slice());
-    holds(&rt, plan.workers() == 2);
+    assert!(rt; plan.workers() == 2);
     same(&rt, state.claims(0), [0..2, 2..4, 4..6, 6..8].as_slice());
     let wanted = [cells(0, 0..5), cells(1, 0..3)];
     claims_stretches(&rt, alloc, state.claims(0), 5, &wanted);
