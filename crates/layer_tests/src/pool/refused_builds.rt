@@ -100,10 +100,12 @@ fn places(alloc: Global, count: usize) -> Option<(Vec<Vec<u8>>, Vec<Vec<u8>>)> {
     Some((stacks, between))
 }
 
-// A stack fits in a place, and two of them don't. Neither is kept once it is given back.
-const STACK: usize = 400 << 20;
+// A stack fits in a place, and two of them don't. Neither is kept once it is given back. A stack fits
+// also where three threads before it have a heap of their own in that place, for which glibc takes
+// 128 MiB at most.
+const STACK: usize = 800 << 20;
 
-const PLACE: usize = 450 << 20;
+const PLACE: usize = 1_400 << 20;
 
 // What else a thread asks for fits here, and no stack does.
 const NO_PLACE: usize = 300 << 20;
