@@ -1,9 +1,8 @@
-//! Consumers, producers and sources at concrete types.
+//! Consumers and producers at concrete types.
 mod blocks;
 mod consumers;
 pub(crate) mod gate_seats;
 mod producers;
-mod sources;
 mod troubles;
 pub(crate) mod windows;
 

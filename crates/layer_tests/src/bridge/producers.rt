@@ -4,7 +4,7 @@ ghost use Rattle.std.specs.Iterator.{at_most};
 
 use crate::same::{row, same};
 use parallel_bridge::list::partition::partition_iter;
-use parallel_bridge::producer::{Copies, DrainProducer, Indices, Producer};
+use parallel_bridge::producer::DrainProducer;
 use parallel_bridge::source::Source;
 
 #[test]
@@ -14,27 +14,6 @@ fn a_drain_gives_its_items_from_both_ends(rt: HostRuntime) {
     same(&rt, (drain.next(), drain.next_back()), (Some(1), Some(3)));
     same(&rt, (drain.len(), drain.size_hint()), (1, (1, Some(1))));
     same(&rt, (drain.next(), drain.next()), (Some(2), None));
-}
-
-#[test]
-fn indices_and_copies_are_split_in_front_and_rest(rt: HostRuntime) {
-    let alloc = rt.alloc();
-    let indices = Indices { start: 3, end: 8 };
-    same(&rt, indices.len(), 5);
-    let (front, rest) = indices.split_at(alloc, 2).expect(&rt, "memory");
-    same(&rt, front, Indices { start: 3, end: 5 });
-    same(&rt, rest, Indices { start: 5, end: 8 });
-    let none = Indices { start: 8, end: 3 };
-    same(&rt, none.len(), 0);
-
-    let numbers = [4u8, 5, 6];
-    let copies = Copies { slice: &numbers };
-    same(&rt, Producer::len(&copies), 3);
-    let (front, rest) = copies.split_at(alloc, 1).expect(&rt, "memory");
-    same(&rt, front.slice, [4].as_slice());
-    same(&rt, rest.slice, [5, 6].as_slice());
-    let last = Producer::into_items(rest).last();
-    same(&rt, last, Some(6));
 }
 
 // The numbers below `left`, from the greatest on, which are said to be `said` at least.

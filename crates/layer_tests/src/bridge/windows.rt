@@ -12,7 +12,6 @@ use parallel_bridge::source::Source;
 use parallel_fault::Trouble;
 use std::alloc::Global;
 use std::process::Abort;
-use std::sync::Arc;
 use std::sync::atomic::{AtomicU64, Ordering};
 use std::thread::Threads;
 
@@ -309,31 +308,6 @@ fn values_of_size_zero_are_mapped_in_order(rt: HostRuntime) {
     row(&rt, 2, ones.len(), 5000);
     for one in &ones {
         same(&rt, *one, 1);
-    }
-}
-
-#[test]
-fn counted_references_are_given_back(rt: HostRuntime) {
-    let alloc = rt.alloc();
-    for len in 0..9usize {
-        let one = Arc::new(alloc, len).expect(&rt, "memory");
-        let mut items = Vec::new(alloc);
-        for _place in 0..len {
-            items
-                .push(Arc::try_clone(&one).expect(&rt, "memory"))
-                .expect(&rt, "memory");
-        }
-        let parts = DrainProducer::from_vec(items);
-        let answers = map_parallel(
-            &rt,
-            alloc,
-            number(&rt, 3),
-            parts,
-            &|item: Arc<usize>| item,
-        ).expect(&rt, "memory");
-        same(&rt, answers.len(), len);
-        drop(answers);
-        holds(&rt, Arc::into_inner(one).is_some());
     }
 }
 

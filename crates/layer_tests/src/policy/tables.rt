@@ -225,35 +225,6 @@ fn a_run_planned_for_one_asks_no_policy(rt: HostRuntime) {
     }
 }
 
-// Whether a policy has an entry for runs of the site at each length and work, planned for that many
-// threads.
-fn has_runs_of(rt: &impl Wait, policy: &Policy, of: [(usize, usize, usize); 4]) -> [bool; 4] {
-    let mut found = [false; 4];
-    for at in 0..4usize {
-        let (len, work, planned) = of[at];
-        let key = Key::new(SITE, len, work, planned);
-        found[at] = policy.run_entry(rt, key).is_some();
-    }
-    found
-}
-
-#[test]
-fn a_fresh_policy_runs_in_parallel_and_then_serially(rt: HostRuntime) {
-    let policy = fresh(&rt, rt.alloc());
-    for path in [P, S, S] {
-        same(&rt, path_of(&rt, &policy, 640, 4), Ok(path));
-    }
-    same(
-        &rt,
-        has_runs_of(
-            &rt,
-            &policy,
-            [(64, 640, 4), (64, 64, 4), (640, 64, 4), (64, 640, 1)],
-        ),
-        [true, false, false, false],
-    );
-}
-
 // The clock stands still but while a body runs: 70000 nanoseconds in parallel, 30000 serially.
 #[test]
 fn a_policy_measures_what_passes_in_the_body(rt: HostRuntime) {

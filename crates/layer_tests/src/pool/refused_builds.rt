@@ -101,8 +101,8 @@ fn places(alloc: Global, count: usize) -> Option<(Vec<Vec<u8>>, Vec<Vec<u8>>)> {
 }
 
 // A stack fits in a place, and two of them don't. Neither is kept once it is given back. A stack fits
-// also where three threads before it have a heap of their own in that place, for which glibc takes
-// 128 MiB at most.
+// also where three threads before it have a heap of their own in that place, for each of which glibc
+// takes 128 MiB at most.
 const STACK: usize = 800 << 20;
 
 const PLACE: usize = 1_400 << 20;

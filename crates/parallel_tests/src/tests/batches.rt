@@ -1,8 +1,7 @@
 //! Batches: in which ranges their indices go.
 use crate::tests::same::{holds, lists, returns, row, same};
-use crate::tests::steps::one_more;
-use crate::tests::strategies::{SITE, fresh, number, pool};
-use commonware_parallel::{Batches, Fault, Sequential, Site, Strategy, Trouble};
+use crate::tests::strategies::{SITE, number, pool};
+use commonware_parallel::{Batches, Fault, Sequential, Strategy, Trouble};
 use std::alloc::Global;
 use std::num::NonZeroUsize;
 use std::ops::Range;
@@ -10,7 +9,7 @@ use std::process::Abort;
 use std::sync::Wait;
 use std::sync::atomic::{AtomicU64, Ordering};
 use std::thread::Threads;
-use uses::batches::{batch_ranges, count_by_ranges};
+use uses::batches::batch_ranges;
 
 #[test]
 fn balanced_ranges_differ_by_one_at_most(rt: HostRuntime) {
@@ -67,62 +66,6 @@ fn a_batch_has_no_range_below_the_minimum(rt: HostRuntime) {
 }
 
 #[test]
-fn a_batch_looks_into_a_list_by_its_ranges(rt: HostRuntime) {
-    let alloc = rt.alloc();
-    let flags = [true, false, true, true, false];
-    let set = count_by_ranges(&rt, alloc, &Sequential, SITE, &flags);
-    returns(&rt, "serial", set, 3);
-    for planned in 1..9usize {
-        let strategy = pool(&rt, alloc, 1, planned);
-        let set = count_by_ranges(&rt, alloc, &strategy, SITE, &flags);
-        returns(&rt, planned, set, 3);
-    }
-}
-
-// How often the closure of a batch is called, and whether the batch is whole.
-fn whole_and_calls<Rt: Wait, S: Strategy>(
-    rt: &Rt,
-    alloc: Global,
-    strategy: &S,
-    len: usize,
-    minimum: NonZeroUsize,
-) -> Result<(bool, u64), Fault> {
-    let calls = AtomicU64::new(0);
-    let is_whole = strategy.run_batches(rt, alloc, SITE, len, minimum, usize::MAX, |batches| {
-        calls.fetch_add(1, Ordering::SeqCst);
-        batches.is_whole()
-    })?;
-    Ok((is_whole, calls.load(Ordering::SeqCst)))
-}
-
-// Lists that are too short for two ranges of 8, and the longest with the greatest minimum.
-fn run_whole_and_once<Rt: Wait + Abort, S: Strategy>(rt: &Rt, alloc: Global, strategies: &[S]) {
-    let eight = number(rt, 8);
-    for (of, strategy) in strategies.iter().enumerate() {
-        for len in [0, 1, 7, 8, 15] {
-            let told = whole_and_calls(rt, alloc, strategy, len, eight);
-            returns(rt, (of, len), told, (true, 1));
-        }
-        let told = whole_and_calls(rt, alloc, strategy, usize::MAX, NonZeroUsize::MAX);
-        returns(rt, (of, usize::MAX), told, (true, 1));
-    }
-}
-
-#[test]
-fn an_input_that_is_not_split_runs_whole_and_once(rt: HostRuntime) {
-    let alloc = rt.alloc();
-    run_whole_and_once(&rt, alloc, &[Sequential]);
-    let one = pool(&rt, alloc, 1, 1);
-    let least = NonZeroUsize::MIN;
-    let told = whole_and_calls(&rt, alloc, &one, usize::MAX, least);
-    returns(&rt, "one", told, (true, 1));
-    let told = whole_and_calls(&rt, alloc, &Sequential, usize::MAX, least);
-    returns(&rt, "serial", told, (true, 1));
-    let four = [one, pool(&rt, alloc, 4, 4), fresh(&rt, alloc, 4)];
-    run_whole_and_once(&rt, alloc, &four);
-}
-
-#[test]
 fn more_ranges_than_memory_are_refused(rt: HostRuntime) {
     let alloc = rt.alloc();
     let most = NonZeroUsize::MAX;
@@ -131,74 +74,6 @@ fn more_ranges_than_memory_are_refused(rt: HostRuntime) {
     let endless = pool(&rt, alloc, 1, usize::MAX);
     let refused = batch_ranges(&rt, alloc, &endless, SITE, usize::MAX, NonZeroUsize::MIN);
     holds(&rt, matches!(refused, Err(Fault::Memory)));
-}
-
-// The first index of each range.
-fn starts_of(alloc: Global, ranges: &[Range<usize>]) -> Result<Vec<usize>, Fault> {
-    let mut starts = Vec::new(alloc);
-    for range in ranges {
-        starts.push(range.start)?;
-    }
-    Ok(starts)
-}
-
-/// One more than the first index of each range of a batch, and by a map that may fail the first
-/// index itself, where each is below the limit.
-pub fn mapped_starts<Rt: Threads + Wait + Sync, S: Strategy>(
-    rt: &Rt,
-    alloc: Global,
-    strategy: &S,
-    minimum: NonZeroUsize,
-    limit: Option<usize>,
-) -> Result<Vec<usize>, Trouble<usize>> {
-    let outcome = strategy.run_batches(
-        rt,
-        alloc,
-        SITE,
-        10,
-        minimum,
-        1,
-        |batches: Batches<'_, S, Site>| {
-            let prepare = |ranges: &[Range<usize>]| starts_of(alloc, ranges);
-            let Some(limit) = limit else {
-                let mapped = batches.map_collect_vec(rt, alloc, prepare, one_more);
-                return mapped.map_err(Trouble::Fault);
-            };
-            let check = |start: usize| { if start < limit { Ok(start) } else { Err(start) } };
-            batches.try_map_collect_vec(rt, alloc, prepare, check)
-        },
-    )?;
-    outcome
-}
-
-#[test]
-fn a_batch_maps_what_is_prepared_of_its_ranges(rt: HostRuntime) {
-    let alloc = rt.alloc();
-    let least = NonZeroUsize::MIN;
-    let mapped = mapped_starts(&rt, alloc, &Sequential, least, None);
-    lists(&rt, 1, mapped, &[1]);
-    for (planned, expected) in [
-        (2, [1, 6].as_slice()),
-        (3, [1, 5, 8].as_slice()),
-        (4, [1, 4, 7, 9].as_slice()),
-    ] {
-        let strategy = pool(&rt, alloc, 2, planned);
-        let mapped = mapped_starts(&rt, alloc, &strategy, least, None);
-        lists(&rt, planned, mapped, expected);
-    }
-}
-
-#[test]
-fn the_first_prepared_item_that_fails_is_the_error(rt: HostRuntime) {
-    let alloc = rt.alloc();
-    let least = NonZeroUsize::MIN;
-    let strategy = pool(&rt, alloc, 2, 4);
-    let mapped = mapped_starts(&rt, alloc, &strategy, least, Some(10));
-    lists(&rt, 10, mapped, &[0, 3, 6, 8]);
-    let failed = mapped_starts(&rt, alloc, &strategy, least, Some(4));
-    row(&rt, 4, failed.err(), Some(Trouble::Closure(6)));
-    let failed = mapped_starts(&rt, alloc, &Sequential, least, Some(0));
-    row(&rt, 0, failed.err(), Some(Trouble::Closure(0)));
 }
 
 // How often each kind of map calls its closure where what it maps is not prepared.

@@ -1,14 +1,10 @@
 //! The program's command lines, its refusals, and writers that fail.
 use crate::tests::same::{holds, returns, row, same};
-use crate::tests::strategies::number;
 use parallel_fault::Fault;
-use parallel_shares::Shares;
-use shapes_command::drain::{drain, gather};
 use shapes_command::{command, out_of_memory, unread, unwritten};
 use std::alloc::{AllocError, Global};
 use std::io;
 use std::io::{ErrorKind, Write};
-use std::num::NonZeroUsize;
 use std::process::Abort;
 use std::sync::Wait;
 use std::thread::Threads;
@@ -428,25 +424,4 @@ fn words_that_could_not_be_read(rt: HostRuntime) {
     returns(&rt, 2, unread(ErrorKind::OutOfMemory, &mut err), 1);
     let said = "shapes: bad arguments\nshapes: out of memory\n";
     same(&rt, text_of(&rt, err).as_str(), said);
-}
-
-// Two threads with a seat each, where threads can be made, claim from one queue of a thousand rows
-// of three cells.
-#[test]
-fn threads_of_a_caller_claim_each_cell_once(rt: HostRuntime) {
-    let alloc = rt.alloc();
-    let two = number(&rt, 2);
-    let (shares, seats) = Shares::new(alloc, 1_000, 3, NonZeroUsize::MIN, two, true).expect(
-        &rt, "memory",
-    );
-    let drained = drain(&rt, alloc, &shares, seats).expect(&rt, "memory");
-    same(&rt, drained.len(), 2);
-    let (words, mut cells) = gather(alloc, shares, drained).expect(&rt, "memory");
-    cells.sort_unstable();
-    same(&rt, words.as_slice(), [65_537_000].as_slice());
-    same(&rt, cells.len(), 3_000);
-    holds(
-        &rt,
-        cells.iter().enumerate().all(|(index, cell)| index == *cell),
-    );
 }

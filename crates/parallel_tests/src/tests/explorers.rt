@@ -3,12 +3,8 @@ ghost use Rattle.std.specs.Prelude.{◌<◌};
 ghost use Rattle.parallel_shares.specs.Grid.{Fits};
 
 use crate::tests::same::{holds, lists, returns, row, same, says};
-use crate::tests::states::are_sorted;
-use crate::tests::steps::{
-    add, add_sums, cells_counted, count, count_cells, no_count, no_sum, parallel, serial, square,
-    ten, zero,
-};
-use crate::tests::strategies::{RULES, SITE, Stopped, explorers, number, pool};
+use crate::tests::steps::{add, add_sums, count, no_sum, parallel, serial, square, ten, zero};
+use crate::tests::strategies::{RULES, SITE, Stopped, number, pool};
 use commonware_parallel::mocks::{
     ExploreError, Explorer, Rule, TASKS, WORKERS, explore, inline, mix, pick, pooled,
 };
@@ -171,42 +167,6 @@ fn a_seed_picks_the_way_of_a_join(rt: HostRuntime) {
         row(&rt, seed, mix(seed, PLACE, 2), hash);
         let picked = picks_last(&rt, alloc, &explorer, Call::join());
         returns(&rt, seed, picked, is_parallel);
-    }
-}
-
-// How many cells tiles of 9 rows of 100 fill.
-fn cells_filled<Rt: Threads + Wait + Sync, S: Strategy>(
-    rt: &Rt,
-    alloc: Global,
-    strategy: &S,
-    grids: &[Grid],
-) -> Result<usize, Fault>
-    requires { Fits grids.now 100 }
-{
-    let counts = strategy.run_tiles(rt, alloc, SITE, 100, grids, 1, |tiles| {
-        tiles.fill_collect_vec(rt, alloc, no_count, count_cells, cells_counted)
-    })??;
-    let mut cells = 0_usize;
-    for count in counts {
-        cells = cells.saturating_add(count);
-    }
-    Ok(cells)
-}
-
-#[test]
-fn tiles_and_sorts_come_out_alike_by_every_rule(rt: HostRuntime) {
-    let alloc = rt.alloc();
-    let grids = [Grid {
-        rows: 9,
-        tile_cost: number(&rt, 3),
-    }];
-    assert!(rt; Grid::fits(&grids, 100));
-    let explorers = explorers(&rt, alloc);
-    for explorer in &explorers {
-        let filled = cells_filled(&rt, alloc, explorer, &grids);
-        returns(&rt, explorer.rule(), filled, 900);
-        let is_sorted = are_sorted(&rt, alloc, explorer);
-        returns(&rt, explorer.rule(), is_sorted, true);
     }
 }
 

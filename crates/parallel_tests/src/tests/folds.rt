@@ -1,7 +1,7 @@
 //! Folds through each strategy. The identity 10 isn't neutral for addition, so that the sum tells
 //! in how many segments a list went: each leaf of its shape adds 20, and a list in one piece adds
 //! 10.
-use crate::tests::same::{returns, row};
+use crate::tests::same::{lists, returns, row};
 use crate::tests::steps::{add, add_counted, add_or_fail, ten, zero};
 use crate::tests::strategies::{SITE, number, pool, pools};
 use commonware_parallel::{Fault, Sequential, Strategy, Trouble};
@@ -9,10 +9,9 @@ use std::alloc::Global;
 use std::process::Abort;
 use std::sync::Wait;
 use std::thread::Threads;
-use uses::folds::{sum_of_entries, sum_of_squares};
-use uses::long_lists::{LongLists, fold_by_length};
+use uses::folds::sum_of_entries;
+use uses::long_lists::{LongLists, fold_by_length, squares_by_length};
 use uses::stateful::plain_fold_init;
-use uses::words::longest_word;
 
 // The folds of the numbers from 1 up to `end` by addition from 10: without a state and with one,
 // and by steps that may fail.
@@ -81,6 +80,8 @@ fn a_strategy_of_ones_own_folds_by_length(rt: HostRuntime) {
         returns(&rt, from, found, [sum; 3]);
         let found = fold_by_length(&rt, alloc, &strategy, SITE, 1..4u32, ten, add, add);
         returns(&rt, from, found, sum);
+        let found = squares_by_length(&rt, alloc, &strategy, SITE, &[3, 0, 1]);
+        lists(&rt, from, found, &[9, 0, 1]);
     }
 }
 
@@ -107,24 +108,15 @@ fn sums_below<Rt: Threads + Wait + Sync, S: Strategy>(
     Ok((plain, stateful))
 }
 
-// What sums and the longest word are through each of the strategies.
+// What the sums are through each of the strategies.
 fn lawful_folds<Rt: Threads + Wait + Abort + Sync, S: Strategy>(
     rt: &Rt,
     alloc: Global,
     strategies: &[S],
 ) {
-    let numbers = [1, 2, 3, 65_535, 65_536];
-    let words = ["pear", "fig", "plum", "apple", "grape", "kiwi"];
     for (of, strategy) in strategies.iter().enumerate() {
-        // 1 + 4 + 9 + (2^16 - 1)^2 + 2^32, without the multiples of 2^32.
-        let sum = sum_of_squares(rt, alloc, strategy, SITE, &numbers);
-        returns(rt, of, sum, 4_294_836_239);
-        returns(rt, of, sum_of_squares(rt, alloc, strategy, SITE, &[]), 0);
         let entries = sum_of_entries(rt, alloc, strategy, SITE, &[10, 20, 30], &[2, 0, 2]);
         returns(rt, of, entries, 70);
-        let longest = longest_word(rt, alloc, strategy, SITE, &words);
-        returns(rt, of, longest, Some("apple"));
-        returns(rt, of, longest_word(rt, alloc, strategy, SITE, &[]), None);
         let sums = sums_below(rt, alloc, strategy, 100);
         returns(rt, of, sums, (4950, 4950));
     }

@@ -1,10 +1,10 @@
-//! A batch that changes a list where it lies: what becomes of its parts, in how many threads, and
-//! of a list whose call is refused.
+//! A batch that changes a list where it lies: what becomes of its parts, and of a list whose call
+//! is refused.
 ghost use Rattle.std.specs.Prelude.{length};
 ghost use Rattle.parallel_shares.specs.Cut.{BalancedCut};
 ghost use Rattle.commonware_parallel.specs.Batches.{ranges_of};
 
-use crate::tests::in_place::{Refusing, mark, runs, zeros};
+use crate::tests::in_place::{Refusing, mark, zeros};
 use crate::tests::same::{returns, row, same};
 use crate::tests::strategies::{SITE, explorers, number, pool, pools};
 use commonware_parallel::{Batches, Fault, Sequential, Site, Strategy};
@@ -45,20 +45,17 @@ fn marked<Rt: Threads + Wait + Abort + Sync, S: Strategy>(
     row(rt, count, numbers.as_slice(), marks);
 }
 
-// Lists of no item, one and some, in one part, some, as many as items and more.
+// Lists of no item and of some, in one part, in some, and in more than there are items.
 fn marks_are_right<Rt: Threads + Wait + Abort + Sync, S: Strategy>(
     rt: &Rt,
     alloc: Global,
     strategies: &[S],
 ) {
     for strategy in strategies {
-        marked(rt, alloc, strategy, 1, &[]);
         marked(rt, alloc, strategy, 3, &[]);
-        marked(rt, alloc, strategy, 1, &[1]);
         marked(rt, alloc, strategy, 5, &[1, 11]);
         marked(rt, alloc, strategy, 1, &[3, 3, 3]);
         marked(rt, alloc, strategy, 3, &[3, 3, 3, 32, 32, 52, 52]);
-        marked(rt, alloc, strategy, 7, &[1, 11, 21, 31, 41, 51, 61]);
     }
 }
 
@@ -110,37 +107,6 @@ fn lent_outputs_are_prepared_once(rt: HostRuntime) {
     ];
     same(&rt, outputs.as_slice(), wanted.as_slice());
     same(&rt, parts.load(Ordering::SeqCst), 4);
-}
-
-// ---- in how many threads
-
-// Of how many runs the numbers of the calls on that many parts are.
-fn runs_of_parts<Rt: Threads + Wait + Abort + Sync, S: Strategy>(
-    rt: &Rt,
-    alloc: Global,
-    strategy: &S,
-    numbers: &mut [u64],
-    count: usize,
-) -> Result<usize, Fault> {
-    let calls = AtomicU64::new(0);
-    let count = number(rt, count);
-    let batches = Batches::balanced(alloc, strategy, SITE, numbers.len(), count)?;
-    batches.for_each_mut(rt, alloc, numbers, |_start: usize, part: &mut [u64]| {
-        part.fill(calls.fetch_add(1, Ordering::SeqCst))
-    })?;
-    Ok(runs(numbers))
-}
-
-// However many parts there are, they are split among no more threads than the pool has.
-#[test]
-fn a_batch_has_no_more_threads_than_the_pool(rt: HostRuntime) {
-    let alloc = rt.alloc();
-    for threads in [1, 2, 3, 4, 8, 70usize] {
-        let strategy = pool(&rt, alloc, threads, threads);
-        let mut numbers = zeros(&rt, alloc, 10_000);
-        let found = runs_of_parts(&rt, alloc, &strategy, numbers.as_mut_slice(), 1000);
-        row(&rt, threads, found.expect(&rt, "memory") <= threads, true);
-    }
 }
 
 // ---- refusals
@@ -196,7 +162,6 @@ fn digests_are<Rt: Threads + Wait + Abort + Sync, S: Strategy>(
 fn digests_are_written_by_ranges(rt: HostRuntime) {
     let alloc = rt.alloc();
     digests_are(&rt, alloc, &Sequential, (Ok(()), &DIGESTS));
-    digests_are(&rt, alloc, &pool(&rt, alloc, 2, 2), (Ok(()), &DIGESTS));
     digests_are(&rt, alloc, &pool(&rt, alloc, 4, 4), (Ok(()), &DIGESTS));
     let refused = (Err(Fault::Memory), &[[9u8; 32]; 3]);
     digests_are(&rt, alloc, &Refusing, refused);

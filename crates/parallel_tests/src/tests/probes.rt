@@ -15,4 +15,5 @@ mod records;
 mod sides;
 mod splits;
 mod starts;
+mod succeeds;
 pub mod visits;

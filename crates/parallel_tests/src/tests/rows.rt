@@ -1,7 +1,7 @@
 //! Kernels by row: the value of each row, however the rows were cut.
 use crate::tests::same::{holds, lists, same};
 use crate::tests::steps::add_sums;
-use crate::tests::strategies::{SITE, explorers, number, pool, pools};
+use crate::tests::strategies::{SITE, number, pool};
 use commonware_parallel::{Fault, Sequential, Strategy};
 use std::alloc::Global;
 use std::ops::Range;
@@ -9,6 +9,7 @@ use std::process::Abort;
 use std::sync::Wait;
 use std::sync::atomic::{AtomicU64, Ordering};
 use std::thread::Threads;
+use uses::tile_rows::above_by_row;
 
 // Columns of a row, from the first one up to the second, and the sum of their cells.
 type Part = (usize, usize, usize, usize);
@@ -31,64 +32,6 @@ fn both_parts(left: Part, right: Part) -> Part {
     (left.0, left.1, right.2, left.3.wrapping_add(right.3))
 }
 
-// What a plain loop has for each row.
-fn plain_rows(rt: &impl Abort, alloc: Global, rows: usize, len: usize) -> Vec<Part> {
-    let mut values = Vec::with_capacity(alloc, rows).expect(rt, "memory");
-    for row in 0..rows {
-        values.push(part_of(row, 0..len)).expect(rt, "memory");
-    }
-    values
-}
-
-fn folded<Rt: Threads + Wait + Abort + Sync, S: Strategy>(
-    rt: &Rt,
-    alloc: Global,
-    strategy: &S,
-    (rows, len, tile_cost): (usize, usize, usize),
-) {
-    assert!(rt; rows.checked_mul(len).is_some());
-    let cost = number(rt, tile_cost);
-    let values = strategy.fold_rows(rt, alloc, SITE, rows, len, cost, part_of, both_parts);
-    let wanted = plain_rows(rt, alloc, rows, len);
-    lists(rt, (rows, len, tile_cost), values, wanted.as_slice());
-}
-
-// No row, rows of no columns, one row, and many: whole, and cut.
-fn rows_are_folded<Rt: Threads + Wait + Abort + Sync, S: Strategy>(
-    rt: &Rt,
-    alloc: Global,
-    strategies: &[S],
-) {
-    for strategy in strategies {
-        for shape in [
-            (0, 0, 1),
-            (0, 7, 1),
-            (0, usize::MAX, 3),
-            (1, 0, 1),
-            (5, 0, 64),
-            (1, 1, 1),
-            (1, 64, 1),
-            (1, 64, 64),
-            (3, 5, 2),
-            (7, 3, 8),
-            (2, 100, 1),
-            (5, 41, 4),
-            (64, 7, 1),
-        ] {
-            folded(rt, alloc, strategy, shape);
-        }
-    }
-}
-
-#[test]
-fn each_row_has_the_value_of_all_its_columns(rt: HostRuntime) {
-    let alloc = rt.alloc();
-    rows_are_folded(&rt, alloc, &[Sequential]);
-    rows_are_folded(&rt, alloc, &pools(&rt, alloc));
-    rows_are_folded(&rt, alloc, &explorers(&rt, alloc));
-    rows_are_folded(&rt, alloc, &[pool(&rt, alloc, 3, 16)]);
-}
-
 #[test]
 fn rows_of_three_columns_by_hand(rt: HostRuntime) {
     let alloc = rt.alloc();
@@ -98,6 +41,9 @@ fn rows_of_three_columns_by_hand(rt: HostRuntime) {
     lists(&rt, 1, values, &[(0, 0, 3, 9), (1, 0, 3, 12)]);
     let values = two.fold_rows(&rt, alloc, SITE, 2, 0, cost, part_of, both_parts);
     lists(&rt, 2, values, &[(0, 0, 0, 0), (1, 0, 0, 0)]);
+    let matrix = [9, 1, 5, 5, 6, 4, 0, 255];
+    let above = above_by_row(&rt, alloc, &two, SITE, &matrix, 2, 4, 4);
+    lists(&rt, 3, above, &[3, 2]);
 }
 
 // How many parts the kernel was called with, of one row of that many columns, each of which is in

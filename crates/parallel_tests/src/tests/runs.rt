@@ -10,11 +10,12 @@ use std::alloc::Global;
 use std::process::Abort;
 use std::sync::Wait;
 use std::thread::available_parallelism;
+use uses::batches::count_by_ranges;
 use uses::long_lists::LongLists;
 use uses::runs::{count_set, one_of};
 
 // Stops the test where a run over that many items doesn't take that body, by the trait's call and
-// by a caller, or where a count by either body isn't 3.
+// by a caller, or where a count by either body or by ranges isn't 3.
 fn takes<Rt: Wait + Abort, S: Strategy>(
     rt: &Rt,
     alloc: Global,
@@ -28,6 +29,8 @@ fn takes<Rt: Wait + Abort, S: Strategy>(
     returns(rt, len, taken, body);
     let flags = [true, false, true, true, false];
     let set = count_set(rt, alloc, strategy, SITE, &flags);
+    returns(rt, len, set, 3);
+    let set = count_by_ranges(rt, alloc, strategy, SITE, &flags);
     returns(rt, len, set, 3);
 }
 

@@ -6,7 +6,6 @@ use crate::tests::same::{holds, returns, row, same};
 use crate::tests::steps::Gives;
 use crate::tests::strategies::{SITE, Stopped, number, pool};
 use commonware_parallel::mocks::{Explorer, Rule, inline, pending};
-use commonware_parallel::rayon::ThreadPoolBuildError;
 use commonware_parallel::{Clock, Fault, Job, Rayon, Sequential, Site, Spawned, Strategy};
 use futures::executor::block_on;
 use futures::future::join_all;
@@ -267,18 +266,6 @@ fn a_policy_weighs_a_job_against_its_hand_off(rt: HostRuntime) {
 }
 
 #[test]
-fn an_inline_run_is_measured_as_one(rt: HostRuntime) {
-    let alloc = rt.alloc();
-    let clock = Scripted::new(&rt, alloc, 50_000, 5_000);
-    let time = shared(&rt, &clock.time);
-    let strategy = learning(&rt, alloc, clock);
-    let first = is_handed_off(&rt, &strategy, SITE);
-    time.store(1_000, Ordering::SeqCst);
-    let then = hand_offs(&rt, &strategy);
-    same(&rt, (first, then), (true, [false; 3]));
-}
-
-#[test]
 fn a_pool_of_one_thread_measures_no_job(rt: HostRuntime) {
     let alloc = rt.alloc();
     let clock = Scripted::new(&rt, alloc, 50_000, 5_000);
@@ -286,31 +273,6 @@ fn a_pool_of_one_thread_measures_no_job(rt: HostRuntime) {
     let one = inline(&rt, alloc, number(&rt, 4), clock).expect(&rt, "memory");
     holds(&rt, !is_handed_off(&rt, &one, SITE));
     same(&rt, readings.load(Ordering::SeqCst), 0);
-}
-
-// How many of that many jobs are handed off.
-fn count_handed_off<
-    Rt: Threads + Wait + RandomSource + AllocGlobal + Abort + Copy + Send + 'static,
->(rt: &Rt, strategy: &Rayon<Scripted>, count: usize) -> usize {
-    let mut aside = 0usize;
-    for _ in 0..count {
-        aside = aside.wrapping_add(usize::from(is_handed_off(rt, strategy, SITE)));
-    }
-    aside
-}
-
-#[test]
-fn a_dear_inline_run_is_tried_once_in_3200_jobs(rt: HostRuntime) {
-    let alloc = rt.alloc();
-    let clock = Scripted::new(&rt, alloc, 50_000, 5_000);
-    let readings = shared(&rt, &clock.readings);
-    let strategy = learning(&rt, alloc, clock);
-    row(&rt, "first", count_handed_off(&rt, &strategy, 1), 1);
-    row(&rt, "second", count_handed_off(&rt, &strategy, 1), 0);
-    row(&rt, "further", count_handed_off(&rt, &strategy, 3199), 3199);
-    // One job of ten was measured, besides the first two.
-    same(&rt, readings.load(Ordering::SeqCst), 3 * (2 + 319));
-    row(&rt, "last", count_handed_off(&rt, &strategy, 1), 0);
 }
 
 // The set flags of two lists, each counted in a job of its own, and of one counted in a job beside
@@ -333,40 +295,4 @@ fn flags_in_jobs<
 fn flags_are_counted_in_jobs(rt: HostRuntime) {
     flags_in_jobs(&rt, &Sequential);
     flags_in_jobs(&rt, &pool(&rt, rt.alloc(), 4, 4));
-}
-
-// Jobs through a strategy, of which each one ends, or is refused memory or its worker.
-fn jobs_or_refusals<
-    Rt: Threads + Wait + RandomSource + AllocGlobal + Abort + Copy + Send + 'static,
-    S: Strategy,
->(rt: &Rt, strategy: &S) {
-    for number in 0..4_u64 {
-        match strategy.spawn(rt, rt.alloc(), SITE, 1, Gives(number)) {
-            Ok(spawned) => {
-                // The wait needs memory of its own.
-                if let Ok(value) = block_on(rt, spawned) {
-                    same(rt, value, number);
-                }
-            }
-            Err(fault) => holds(rt, matches!(fault, Fault::Memory | Fault::Worker)),
-        }
-    }
-}
-
-#[test]
-fn spawned_jobs_end_or_are_refused(rt: HostRuntime) {
-    jobs_or_refusals(&rt, &Sequential);
-    for threads in 1..4_usize {
-        match Rayon::new(&rt, rt.alloc(), number(&rt, threads), Stopped) {
-            Ok(strategy) => {
-                jobs_or_refusals(&rt, &strategy);
-                if let Ok(explorer) = Explorer::parallel(&strategy) {
-                    if threads > 1 {
-                        jobs_or_refusals(&rt, &explorer);
-                    }
-                }
-            }
-            Err(error) => holds(&rt, matches!(error, ThreadPoolBuildError::Memory)),
-        }
-    }
 }

@@ -9,8 +9,7 @@ use std::sync::Wait;
 use std::sync::atomic::{AtomicBool, AtomicU32, Ordering};
 use std::thread::{Threads, yield_now};
 use uses::long_lists::LongLists;
-use uses::stateful::{leave_out_repeats, sort_by_first};
-use uses::verifier::split_by_check;
+use uses::stateful::sort_by_first;
 
 // The number of each of three items in its segment, by a map with a state and by one whose items
 // stand for more work.
@@ -46,10 +45,6 @@ fn states_change_at_the_segments(rt: HostRuntime) {
     lists(&rt, "own", own, &[1, 2, 3]);
 }
 
-fn below_four(number: u32) -> bool {
-    number < 4
-}
-
 // What partitions and a multiplied map return, through any strategy.
 fn partitions_are_known<Rt: Threads + Wait + Abort + Sync, S: Strategy>(
     rt: &Rt,
@@ -60,10 +55,6 @@ fn partitions_are_known<Rt: Threads + Wait + Abort + Sync, S: Strategy>(
     let (values, keys) = parts.expect(rt, "memory");
     same(rt, values.as_slice(), [0, 20, 40].as_slice());
     same(rt, keys.as_slice(), [1, 3, 5].as_slice());
-    let parts = split_by_check(rt, alloc, strategy, SITE, &[5, 1, 9, 2], below_four);
-    let (small, great) = parts.expect(rt, "memory");
-    same(rt, small.as_slice(), [1, 2].as_slice());
-    same(rt, great.as_slice(), [5, 9].as_slice());
     let doubled = strategy.map_collect_vec_with_multiplier(rt, alloc, SITE, 0..3u32, 9, twice);
     lists(rt, "twice", doubled, &[0, 2, 4]);
 }
@@ -130,17 +121,6 @@ fn calls_of_a_serial_strategys_own_return_alike(rt: HostRuntime) {
     same(&rt, Sequential.join(SITE, give_one, give_two), (1, 2));
 }
 
-#[test]
-fn repeats_are_left_out_of_each_segment(rt: HostRuntime) {
-    let alloc = rt.alloc();
-    let numbers = [7, 7, 7, 8];
-    let left = leave_out_repeats(&rt, alloc, &Sequential, SITE, &numbers);
-    lists(&rt, 1, left, &[Some(7), None, None, Some(8)]);
-    let halves = pool(&rt, alloc, 1, 2);
-    let left = leave_out_repeats(&rt, alloc, &halves, SITE, &numbers);
-    lists(&rt, 2, left, &[Some(7), None, Some(7), Some(8)]);
-}
-
 // Sets the own flag, and returns whether the other one was seen within ten million turns.
 fn sees(own: &AtomicBool, other: &AtomicBool) -> bool {
     own.store(true, Ordering::SeqCst);
@@ -195,22 +175,4 @@ fn a_serial_join_runs_its_first_closure_first(rt: HostRuntime) {
     returns(&rt, 1, order_of_join(&rt, alloc, &Sequential), (0, 1));
     let short = LongLists::new(number(&rt, 2), 3);
     returns(&rt, 2, order_of_join(&rt, alloc, &short), (0, 1));
-}
-
-/// Whether a sort of 20,000 numbers leaves each number in its place.
-pub fn are_sorted<Rt: Threads + Wait + Sync, S: Strategy>(
-    rt: &Rt,
-    alloc: Global,
-    strategy: &S,
-) -> Result<bool, Fault> {
-    let mut numbers = Vec::with_capacity(alloc, 20_000)?;
-    for index in 0..20_000u32 {
-        numbers.push(index.wrapping_mul(7919) % 20_000)?;
-    }
-    strategy.sort_by(rt, alloc, SITE, numbers.as_mut_slice(), ascending)?;
-    let mut is_sorted = true;
-    for (place, number) in numbers.iter().enumerate() {
-        is_sorted &= *number as usize == place;
-    }
-    Ok(is_sorted)
 }

@@ -67,10 +67,6 @@ pub fn cells_counted(count: &mut usize, _row: usize) -> usize {
     cells
 }
 
-pub fn one_more(number: usize) -> usize {
-    number.wrapping_add(1)
-}
-
 pub fn give_one() -> u32 {
     1
 }
@@ -120,10 +116,6 @@ pub fn descending(left: &u32, right: &u32) -> Ordering {
 
 pub fn square(number: u64) -> u64 {
     number.wrapping_mul(number)
-}
-
-pub fn as_it_is(number: u32) -> u32 {
-    number
 }
 
 pub fn twice(number: u32) -> u32 {

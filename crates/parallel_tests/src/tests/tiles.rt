@@ -1,5 +1,5 @@
 //! Tiles: which cells are filled, for how many workers, and what is returned for each row.
-use crate::tests::same::{holds, lists, returns, row, same};
+use crate::tests::same::{returns, row, same};
 use crate::tests::steps::no_count;
 use crate::tests::strategies::{SITE, explorers, number, pool, pools};
 use commonware_parallel::shares::machine::{Event, Outcome, Plan, replay};
@@ -10,7 +10,6 @@ use std::process::Abort;
 use std::sync::Wait;
 use std::sync::atomic::{AtomicU64, Ordering};
 use std::thread::Threads;
-use uses::tile_rows::above_by_row;
 
 // What tiles returned: the grid, the workers, whether rows may be cut, and for each result its row
 // and the number of cells that were filled for it.
@@ -285,137 +284,4 @@ fn stale_steals_claims_and_refills_change_nothing(rt: HostRuntime) {
     for (at, outcome) in expected.iter().enumerate() {
         same(&rt, outcomes.get(at.saturating_add(16)), Some(outcome));
     }
-}
-
-// Three rows of 700 cells, of which all but three are 9.
-fn long_matrix() -> [u8; 2100] {
-    let mut long = [9; 2100];
-    long[0] = 4;
-    long[700] = 0;
-    long[1399] = 4;
-    long
-}
-
-const SHORT: [u8; 8] = [9, 1, 5, 5, 6, 4, 0, 255];
-
-// The cells of two matrices that are above a threshold, row by row, through each of the strategies:
-// two short rows, and three that may be cut.
-fn rows_are_counted<Rt: Threads + Wait + Abort + Sync, S: Strategy>(
-    rt: &Rt,
-    alloc: Global,
-    strategies: &[S],
-) {
-    let long = long_matrix();
-    for (of, strategy) in strategies.iter().enumerate() {
-        let few = above_by_row(rt, alloc, strategy, SITE, &SHORT, 2, 4, 4);
-        lists(rt, of, few, &[3, 2]);
-        let many = above_by_row(rt, alloc, strategy, SITE, &long, 3, 700, 4);
-        lists(rt, of, many, &[699, 698, 700]);
-    }
-}
-
-#[test]
-fn a_kernel_counts_each_row(rt: HostRuntime) {
-    let alloc = rt.alloc();
-    rows_are_counted(&rt, alloc, &[Sequential]);
-    rows_are_counted(&rt, alloc, &pools(&rt, alloc));
-    rows_are_counted(&rt, alloc, &explorers(&rt, alloc));
-}
-
-// Columns of a row from the first one up to the second, with how many of their cells are above 4.
-type Span = (usize, usize, usize);
-
-// The span with the next columns of its row after it.
-fn widened(span: Option<Span>, cells: &[u8], columns: Range<usize>) -> Span {
-    let (first, _, so_far) = span.unwrap_or((columns.start, columns.start, 0));
-    let mut above = so_far;
-    for cell in cells {
-        above = above.saturating_add(usize::from(*cell > 4));
-    }
-    (first, columns.end, above)
-}
-
-fn no_span() -> Option<Span> {
-    None
-}
-
-fn finished_span(span: &mut Option<Span>, _row: usize) -> Span {
-    span.take().unwrap_or((0, 0, 0))
-}
-
-// Two neighbouring spans as one; others count no cell.
-fn merged_span(left: Span, right: Span) -> Span {
-    if left.1 != right.0 {
-        return (0, 0, 0);
-    }
-    (left.0, right.1, left.2.saturating_add(right.2))
-}
-
-// Whether rows may be cut, and each row's stretches as one span. Two that were merged in the wrong
-// order, or with others between them, count no cell.
-fn spans_by_row<Rt: Threads + Wait + Abort + Sync, S: Strategy>(
-    rt: &Rt,
-    alloc: Global,
-    strategy: &S,
-    matrix: &[u8],
-    (rows, len): (usize, usize),
-) -> Result<(bool, Vec<Span>), Fault> {
-    let grids = [grid(rt, rows, 64)];
-    assert!(rt; Grid::fits(&grids, len));
-    strategy.run_tiles(rt, alloc, SITE, len, &grids, 1, |tiles| {
-        let cut = tiles.is_cut();
-        let fill = |span: &mut Option<Span>, row: usize, columns: Range<usize>| {
-            let first = row.saturating_mul(len);
-            let place = first.saturating_add(columns.start)..first.saturating_add(columns.end);
-            let cells = matrix.get(place).unwrap_or(&[]);
-            *span = Some(widened(*span, cells, columns));
-        };
-        let spans = tiles.fill_merge_collect_vec(
-            rt,
-            alloc,
-            no_span,
-            fill,
-            finished_span,
-            merged_span,
-        )?;
-        Ok((cut, spans))
-    })?
-}
-
-// The spans of two short rows and of the long matrix as two rows, and none of matrices without
-// cells, through each of the strategies: how often rows might be cut.
-fn spans_are_known<Rt: Threads + Wait + Abort + Sync, S: Strategy>(
-    rt: &Rt,
-    alloc: Global,
-    strategies: &[S],
-) -> usize {
-    let mut cuts = 0usize;
-    let long = long_matrix();
-    for (of, strategy) in strategies.iter().enumerate() {
-        let few = spans_by_row(rt, alloc, strategy, &SHORT, (2, 4)).expect(rt, "memory");
-        row(rt, of, few.1.as_slice(), &[(0, 4, 3), (0, 4, 2)]);
-        let many = spans_by_row(rt, alloc, strategy, &long, (2, 1050)).expect(rt, "memory");
-        row(
-            rt,
-            of,
-            many.1.as_slice(),
-            &[(0, 1050, 1048), (0, 1050, 1049)],
-        );
-        cuts = cuts.wrapping_add(usize::from(many.0));
-        for shape in [(0_usize, 4_usize), (3, 0)] {
-            let none = spans_by_row(rt, alloc, strategy, &[], shape).expect(rt, "memory");
-            row(rt, shape, none.1.len(), 0);
-        }
-    }
-    cuts
-}
-
-#[test]
-fn rows_are_merged_from_left_to_right(rt: HostRuntime) {
-    let alloc = rt.alloc();
-    same(&rt, spans_are_known(&rt, alloc, &[Sequential]), 0);
-    let four = [pool(&rt, alloc, 4, 4)];
-    same(&rt, spans_are_known(&rt, alloc, &four), 1);
-    let cuts = spans_are_known(&rt, alloc, &explorers(&rt, alloc));
-    holds(&rt, cuts > 0);
 }

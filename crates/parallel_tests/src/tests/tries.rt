@@ -10,7 +10,6 @@ use std::process::Abort;
 use std::sync::Wait;
 use std::sync::atomic::{AtomicU32, Ordering};
 use std::thread::Threads;
-use uses::verifier::{sum_within, verify_all, verify_digests};
 
 // Each call returns its own number, and the calls from the one of this number on fail by it.
 fn map_unsteadily<Rt: Threads + Wait + Sync, S: Strategy>(
@@ -26,17 +25,7 @@ fn map_unsteadily<Rt: Threads + Wait + Sync, S: Strategy>(
     })
 }
 
-// An even number, or an odd one as an error.
-fn even(number: u32) -> Result<u32, u32> {
-    if number % 2 == 0 {
-        Ok(number)
-    } else {
-        Err(number)
-    }
-}
-
-// Row: 57 and 99 fail, and 57 is returned; with 25 failing too, 25 is. Of four numbers of which two
-// are odd, the first odd one is.
+// 57 and 99 fail, and 57 is returned; with 25 failing too, 25 is, and 0 where each does.
 fn first_error_wins<Rt: Threads + Wait + Abort + Sync, S: Strategy>(
     rt: &Rt,
     alloc: Global,
@@ -47,11 +36,6 @@ fn first_error_wins<Rt: Threads + Wait + Abort + Sync, S: Strategy>(
             let outcome = fails_at(rt, alloc, strategy, (57, more, 99));
             row(rt, (of, more), outcome.err(), Some(Trouble::Closure(first)));
         }
-        let few = Copies {
-            slice: &[2, 7, 4, 9],
-        };
-        let odd = strategy.try_map_collect_vec(rt, alloc, SITE, few, even);
-        row(rt, (of, "odd"), odd.err(), Some(Trouble::Closure(7)));
     }
 }
 
@@ -60,7 +44,6 @@ fn the_first_error_is_returned(rt: HostRuntime) {
     let alloc = rt.alloc();
     first_error_wins(&rt, alloc, &[Sequential]);
     first_error_wins(&rt, alloc, &pools(&rt, alloc));
-    first_error_wins(&rt, alloc, &explorers(&rt, alloc));
 }
 
 // Where calls from the 50th on fail, the error is one of theirs; where none does, each of a hundred
@@ -182,83 +165,4 @@ fn a_run_returns_the_error_of_its_body(rt: HostRuntime) {
     row(&rt, 2, failing_runs(&rt, alloc, &two), (Ok(7), failed(5)));
     let own = Sequential.try_run(SITE, 4, error_of_five, seven_or_error);
     row(&rt, 3, own, Err(5));
-}
-
-fn below_20(number: u64) -> bool {
-    number < 20
-}
-
-fn below_31(number: u64) -> bool {
-    number < 31
-}
-
-fn is_even(number: u64) -> bool {
-    number % 2 == 0
-}
-
-// What a verifier and a checked sum return of numbers of which the third is over the limit or odd.
-fn find_the_third<Rt: Threads + Wait + Abort + Sync, S: Strategy>(
-    rt: &Rt,
-    alloc: Global,
-    strategies: &[S],
-) {
-    let numbers = [4, 7, 21, 3, 30];
-    for (of, strategy) in strategies.iter().enumerate() {
-        let found = verify_all(rt, alloc, strategy, SITE, &numbers, below_20);
-        row(rt, (of, "below 20"), found, Err(Trouble::Closure(2)));
-        let passed = verify_all(rt, alloc, strategy, SITE, &numbers, below_31);
-        row(rt, (of, "below 31"), passed, Ok(()));
-        let odd = verify_all(rt, alloc, strategy, SITE, &[2, 4, 5, 7], is_even);
-        row(rt, (of, "even"), odd, Err(Trouble::Closure(2)));
-        let over = sum_within(rt, alloc, strategy, SITE, &numbers, 20);
-        row(rt, (of, "within 20"), over, Err(Trouble::Closure(21)));
-        let sum = sum_within(rt, alloc, strategy, SITE, &numbers, 30);
-        row(rt, (of, "within 30"), sum, Ok(65));
-    }
-}
-
-#[test]
-fn a_verifier_finds_the_first_failing_item(rt: HostRuntime) {
-    let alloc = rt.alloc();
-    find_the_third(&rt, alloc, &[Sequential]);
-    find_the_third(&rt, alloc, &pools(&rt, alloc));
-    find_the_third(&rt, alloc, &explorers(&rt, alloc));
-}
-
-// SHA-256 of no bytes, and of "abc".
-const OF_NONE: [u8; 32] = [
-    227, 176, 196, 66, 152, 252, 28, 20, 154, 251, 244, 200, 153, 111, 185, 36, 39, 174, 65, 228,
-    100, 155, 147, 76, 164, 149, 153, 27, 120, 82, 184, 85,
-];
-
-const OF_ABC: [u8; 32] = [
-    186, 120, 22, 191, 143, 1, 207, 234, 65, 65, 64, 222, 93, 174, 34, 35, 176, 3, 97, 163, 150,
-    23, 122, 156, 180, 16, 255, 97, 242, 0, 21, 173,
-];
-
-// Three messages with their digests, and four of which the third is given another's.
-fn find_the_mismatch<Rt: Threads + Wait + Abort + Sync, S: Strategy>(
-    rt: &Rt,
-    alloc: Global,
-    strategies: &[S],
-) {
-    let none: &[u8] = &[];
-    let true_ones = [none, b"abc", none];
-    let changed = [none, b"abc", b"abd", none];
-    for (of, strategy) in strategies.iter().enumerate() {
-        let digests = [OF_NONE, OF_ABC, OF_NONE];
-        let checked = verify_digests(rt, alloc, strategy, SITE, &true_ones, &digests);
-        row(rt, (of, "true"), checked.err(), None);
-        let digests = [OF_NONE, OF_ABC, OF_ABC, OF_ABC];
-        let found = verify_digests(rt, alloc, strategy, SITE, &changed, &digests);
-        row(rt, (of, "changed"), found.err(), Some(Trouble::Closure(2)));
-    }
-}
-
-#[test]
-fn a_verifier_finds_the_first_mismatch(rt: HostRuntime) {
-    let alloc = rt.alloc();
-    find_the_mismatch(&rt, alloc, &[Sequential]);
-    find_the_mismatch(&rt, alloc, &pools(&rt, alloc));
-    find_the_mismatch(&rt, alloc, &explorers(&rt, alloc));
 }

@@ -3,10 +3,10 @@ use crate::tests::explorers::{PLACE, picks_last};
 use crate::tests::no_memory::all_places;
 use crate::tests::same::{holds, returns, row, same};
 use crate::tests::states::parts_see;
-use crate::tests::steps::{add, add_counts, count, no_count, parallel, serial, zero};
-use crate::tests::strategies::{SITE, explorers, pool};
+use crate::tests::steps::{add_counts, count, no_count, parallel, serial, zero};
+use crate::tests::strategies::pool;
 use commonware_parallel::mocks::{Explorer, Rule, TASKS, explore};
-use commonware_parallel::{Call, Counted, Fault, Grid, Strategy, Trouble};
+use commonware_parallel::{Call, Counted, Fault, Grid, Strategy};
 use std::alloc::Global;
 use std::num::NonZeroUsize;
 use std::process::Abort;
@@ -173,72 +173,6 @@ fn a_seed_repeats_its_ways_and_seeds_take_each_of_them(rt: HostRuntime) {
         others: 255,
     };
     same(&rt, seen, wanted);
-}
-
-fn next_or_error(number: u32) -> Result<u32, u32> {
-    Ok(add(number, 1))
-}
-
-fn but_57(number: u32) -> Result<u32, u32> {
-    if number == 57 {
-        Err(number)
-    } else {
-        Ok(number)
-    }
-}
-
-// Twice the number, which stays in the state.
-fn twice(seen: &mut u32, number: u32) -> u32 {
-    *seen = number;
-    add(number, number)
-}
-
-fn third_next(_state: &mut u32, number: u32) -> u32 {
-    add(number, 3)
-}
-
-// Whether each kind of map of the numbers below 100 has its results in their order, and a fallible
-// one returns the number that fails.
-fn maps_in_order<Rt: Threads + Wait + Sync, S: Strategy>(
-    rt: &Rt,
-    alloc: Global,
-    strategy: &S,
-) -> Result<[bool; 4], Trouble<u32>> {
-    let numbers = 0..100u32;
-    let weighted = strategy.map_init_collect_vec_with_multiplier(
-        rt, alloc, SITE, numbers, 4, zero, third_next,
-    )?;
-    let doubled = strategy.map_init_collect_vec(rt, alloc, SITE, 0..100u32, zero, twice)?;
-    let failed = strategy.try_map_collect_vec(rt, alloc, SITE, 0..100u32, but_57);
-    let shifted = strategy.try_map_collect_vec(rt, alloc, SITE, 0..100u32, next_or_error)?;
-    Ok([
-        counts_by(&shifted, 1, 1),
-        failed == Err(Trouble::Closure(57)),
-        counts_by(&doubled, 0, 2),
-        counts_by(&weighted, 3, 1),
-    ])
-}
-
-// Whether a list of a hundred numbers goes on from the first by equal steps.
-fn counts_by(list: &[u32], first: u32, step: u32) -> bool {
-    let mut wanted = first;
-    for number in list {
-        if *number != wanted {
-            return false;
-        }
-        wanted = add(wanted, step);
-    }
-    list.len() == 100
-}
-
-#[test]
-fn each_map_keeps_its_order_by_each_rule(rt: HostRuntime) {
-    let alloc = rt.alloc();
-    let explorers = explorers(&rt, alloc);
-    for explorer in &explorers {
-        let mapped = maps_in_order(&rt, alloc, explorer);
-        returns(&rt, explorer.rule(), mapped, [true; 4]);
-    }
 }
 
 // The sum of the numbers below 1,000,000, which are 8 MB as a list: by an iterator that says how

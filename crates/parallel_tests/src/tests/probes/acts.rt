@@ -5,6 +5,7 @@ use crate::tests::probes::meets::numbers;
 use crate::tests::probes::sides::{Side, make_side, root, sort};
 use crate::tests::probes::visits::Visitor;
 use crate::tests::roots::Rooted;
+use crate::tests::steps::{give_one, give_two};
 use crate::tests::strategies::SITE;
 use commonware_parallel::{Fault, On, Site, Strategy, Trouble};
 use std::alloc::Global;
@@ -38,6 +39,8 @@ pub enum Act {
     Chunks(usize),
     /// A sort of that many numbers.
     Sort(usize),
+    /// A run over five items.
+    Run,
 }
 
 // Leaves a chunk as it is.
@@ -90,5 +93,9 @@ pub fn does<Rt: Threads + Wait + Abort + Sync, S: Strategy>(
             let mut numbers = numbers(on.rt, on.alloc, len);
             done(sort(on, true, numbers.as_mut_slice(), visited))
         }
+        Act::Run => done(
+            on.strategy
+                .run(on.rt, on.alloc, on.site, 5, give_one, give_two),
+        ),
     }
 }

@@ -355,7 +355,6 @@ fn caller_has<Rt: Wait + Abort>(rt: &Rt, noting: &Noting, caller: Caller) {
         Caller::SquaresAndSum => {
             log.has(rt, caller, &[eight, BEGUN, TOLD, eight, BEGUN, TOLD]);
         }
-        Caller::VerifyDigests => log.has(rt, caller, &[eight, BEGUN, DROPPED]),
         Caller::Commitment | Caller::Build => {
             let four = asked(Call::body(4));
             let two = asked(Call::body(2));

@@ -1,5 +1,5 @@
 //! The callers that others may read, through any strategy, each over eight items.
-use commonware_parallel::{Site, Strategy, Trouble};
+use commonware_parallel::{Site, Strategy};
 use std::alloc::Global;
 use std::sync::Wait;
 use std::thread::Threads;
@@ -108,7 +108,13 @@ fn over_wide_numbers<Rt: Threads + Wait + Sync, S: Strategy>(
     }
 }
 
-// Those over texts; all pass but the digests, of which the first is wrong.
+// SHA-256 of no bytes.
+const OF_NONE: [u8; 32] = [
+    227, 176, 196, 66, 152, 252, 28, 20, 154, 251, 244, 200, 153, 111, 185, 36, 39, 174, 65, 228,
+    100, 155, 147, 76, 164, 149, 153, 27, 120, 82, 184, 85,
+];
+
+// Those over texts, which are empty but for the words.
 fn over_texts<Rt: Threads + Wait + Sync, S: Strategy>(
     rt: &Rt,
     alloc: Global,
@@ -123,9 +129,8 @@ fn over_texts<Rt: Threads + Wait + Sync, S: Strategy>(
             longest_word(rt, alloc, strategy, site, &words).is_ok()
         }
         Caller::VerifyDigests => {
-            let digests = [[0u8; 32]; 8];
-            let checked = verify_digests(rt, alloc, strategy, site, &leaves, &digests);
-            matches!(checked, Err(Trouble::Closure(0)))
+            let digests = [OF_NONE; 8];
+            verify_digests(rt, alloc, strategy, site, &leaves, &digests).is_ok()
         }
         Caller::Commitment => commitment(rt, alloc, strategy, site, &leaves).is_ok(),
         _ => Tree::build(rt, alloc, strategy, site, &leaves).is_ok(),

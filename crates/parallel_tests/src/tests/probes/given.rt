@@ -94,7 +94,7 @@ fn over_enumerated<Rt: Threads + Wait + Sync, S: Strategy, P: Producer>(
     over_list(on, called, Enumerated::new(list), visited)
 }
 
-// The same over the chunks of two of a list, alone or zipped.
+// The same over the chunks of two of a list, alone or zipped with a list that is far longer.
 fn over_chunks<Rt: Threads + Wait + Sync, S: Strategy>(
     on: &On<'_, Rt, S, Site>,
     called: Called,
@@ -109,9 +109,12 @@ fn over_chunks<Rt: Threads + Wait + Sync, S: Strategy>(
     }
     let indices = Indices {
         start: 3,
-        end: (slice.len() / 2).saturating_add(3),
+        end: 1 << 36,
     };
-    over_zipped(on, called, chunks, indices, visited)
+    if slice.len() % 4 == 0 {
+        return over_zipped(on, called, chunks, indices, visited);
+    }
+    over_zipped(on, called, indices, chunks, visited)
 }
 
 // The call over lists that are cut as they are, and a source of a user's own.

@@ -84,7 +84,10 @@ fn after_an_error_of_a_serial_call_nothing_is_called(rt: HostRuntime) {
 // What is known of a list of which one of the first items fails while another segment is under way.
 #[derive(Drop)]
 struct Known {
-    // Which item fails.
+    // On how many threads.
+    threads: usize,
+    // How many items each segment has, and which of the first one's fails.
+    segment: usize,
     fails: usize,
     // How many other items were handed over.
     calls: AtomicUsize,
@@ -92,9 +95,6 @@ struct Known {
     first: AtomicBool,
     others: AtomicBool,
 }
-
-// How many items each of its segments has.
-const SEGMENT: usize = 4;
 
 // Waits for the flag, for some seconds at most.
 fn await_flag(flag: &AtomicBool) {
@@ -107,8 +107,10 @@ fn await_flag(flag: &AtomicBool) {
 }
 
 impl Known {
-    fn new(fails: usize) -> Known {
+    fn new(threads: usize, segment: usize, fails: usize) -> Known {
         Known {
+            threads,
+            segment,
             fails,
             calls: AtomicUsize::new(0),
             first: AtomicBool::new(false),
@@ -144,9 +146,9 @@ impl Known {
 
     // An item is let go that wasn't handed over. Before this ends others have time to be.
     fn let_go(&self, at: usize) {
-        if at < SEGMENT {
+        if at < self.segment {
             self.first.store(true, Ordering::SeqCst);
-            self.await_calls(4);
+            self.await_calls(self.threads.saturating_add(2));
         } else {
             self.others.store(true, Ordering::SeqCst);
         }
@@ -199,10 +201,12 @@ fn count_over<T: Handed>(count: usize, item: T) -> Result<usize, u32> {
     }
 }
 
-// The items of such a list.
-fn four_segments<'a>(alloc: Global, known: &'a Known) -> Result<Vec<Kept<'a>>, Fault> {
-    let mut items = Vec::with_capacity(alloc, SEGMENT * 4)?;
-    for at in 0..SEGMENT * 4 {
+// The items of such a list: two threads have four segments of them, and nine have sixteen.
+fn segments<'a>(alloc: Global, known: &'a Known) -> Result<Vec<Kept<'a>>, Fault> {
+    let segments = if known.threads > 2 { 16 } else { 4 };
+    let len = known.segment.saturating_mul(segments);
+    let mut items = Vec::with_capacity(alloc, len)?;
+    for at in 0..len {
         items.push(Kept {
             at,
             known,
@@ -233,10 +237,10 @@ fn other_calls<Rt: Threads + Wait + Abort + Sync, S: Strategy>(
     on: &On<'_, Rt, S, Site>,
     called: Called,
     is_iterator: bool,
-    fails: usize,
+    (segment, fails): (usize, usize),
 ) -> (usize, Option<Trouble<u32>>) {
-    let known = Known::new(fails);
-    let items = four_segments(on.alloc, &known).expect(on.rt, "memory for items");
+    let known = Known::new(on.strategy.thread_number().get(), segment, fails);
+    let items = segments(on.alloc, &known).expect(on.rt, "memory for items");
     let trouble = if is_iterator {
         trouble_of(on, called, items.into_iter())
     } else {
@@ -245,16 +249,27 @@ fn other_calls<Rt: Threads + Wait + Abort + Sync, S: Strategy>(
     (known.calls.load(Ordering::SeqCst), trouble)
 }
 
+// At most one other item of each further thread is handed over.
 #[test]
 fn an_error_is_known_before_what_is_left_of_its_segment_is_let_go(rt: HostRuntime) {
     let alloc = rt.alloc();
-    let two = Noting::new(&rt, alloc, 2);
-    let on = on(&rt, alloc, &two);
-    for called in FALLIBLE {
-        for (is_iterator, fails) in [(false, 0), (false, 1), (false, 2), (true, 0), (true, 2)] {
-            let found = other_calls(&on, called, is_iterator, fails);
-            let wanted = (1, Some(Trouble::Closure(7)));
-            row(&rt, (called, is_iterator, fails), found, wanted);
-        }
+    for (called, threads, is_iterator, segment, fails) in [
+        (Called::TryMap, 2, false, 4, 0),
+        (Called::TryMap, 2, false, 4, 1),
+        (Called::TryMap, 2, false, 4, 2),
+        (Called::TryMap, 9, true, 4, 0),
+        (Called::TryMap, 9, false, 10_000, 2),
+        (Called::TryFold, 2, false, 4, 0),
+        (Called::TryFold, 2, false, 4, 1),
+        (Called::TryFold, 2, false, 4, 2),
+        (Called::TryFold, 9, true, 4, 0),
+        (Called::TryFold, 9, false, 10_000, 2),
+    ] {
+        let noting = Noting::new(&rt, alloc, threads);
+        let on = on(&rt, alloc, &noting);
+        let (calls, trouble) = other_calls(&on, called, is_iterator, (segment, fails));
+        let found = (0 < calls && calls < threads, trouble);
+        let wanted = (true, Some(Trouble::Closure(7)));
+        row(&rt, (called, threads, segment, fails, calls), found, wanted);
     }
 }

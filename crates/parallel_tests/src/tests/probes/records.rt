@@ -2,8 +2,8 @@
 //! between two readings of the clock recorded once.
 //!
 //! The clock's readings are the squares of whole milliseconds, so that the time between two of them
-//! tells which two they were. Each entry has a time already, which a sample moves by a fifth, so
-//! that a sample recorded twice shows.
+//! tells which two they were. Each call is made until a further time has moved its entry by a fifth,
+//! so that one recorded twice shows.
 ghost use Rattle.std.specs.Prelude.{⊤};
 
 use crate::tests::probes::acts::{Act, does, on};
@@ -14,7 +14,6 @@ use crate::tests::probes::sides::{SIDES, Side, call_of_side};
 use crate::tests::probes::visits::Visitor;
 use crate::tests::roots::Rooted;
 use crate::tests::same::{returns, row};
-use crate::tests::steps::{give_one, give_two};
 use crate::tests::strategies::{SITE, number};
 use commonware_parallel::policy::{Key, RunExecution, SpawnSample};
 use commonware_parallel::{Clock, Job, Policy, Rayon, Strategy, Trouble};
@@ -80,25 +79,19 @@ pub fn planned<Rt: Threads + Abort>(
 }
 
 impl Asked {
-    // What the next run of such a call is known to take, so that it goes in parallel, measured.
-    fn knows<Rt: Wait + Abort>(&self, rt: &Rt, key: Key) {
-        for policy in [&self.policy, &self.twin] {
-            let first = policy.choose_run(rt, key, 4);
-            returns(rt, "first", first, (RunExecution::Parallel, true));
-            let time = 50 * MILLISECOND;
-            let known = policy.record_run(rt, key, RunExecution::Parallel, time);
-            returns(rt, "known", known, ());
-        }
-    }
-
-    // The twin is asked about such a run, and told its time where that is to be measured.
-    fn follows<Rt: Wait + Abort>(&self, rt: &Rt, key: Key, time: u64) {
+    // The twin is asked about such a run, and told the time between the clock's next two readings
+    // where that is to be measured: how often the clock has been read then.
+    fn follows<Rt: Wait + Abort>(&self, rt: &Rt, key: Key, readings: u64) -> u64 {
         let chosen = self.twin.choose_run(rt, key, 4);
         let (execution, is_measured) = chosen.expect(rt, "a choice");
-        if is_measured {
-            let told = self.twin.record_run(rt, key, execution, time);
-            returns(rt, "told", told, ());
+        if !is_measured {
+            return readings;
         }
+        let milliseconds = readings.wrapping_mul(2).wrapping_add(1);
+        let time = milliseconds.wrapping_mul(MILLISECOND);
+        let told = self.twin.record_run(rt, key, execution, time);
+        returns(rt, "told", told, ());
+        readings.wrapping_add(2)
     }
 
     // The outcome of such a call through the pool.
@@ -117,39 +110,12 @@ impl Asked {
         self.readings.load(Ordering::SeqCst)
     }
 
-    // Stops the test where the policy has another entry than that of the key, or where a run in
-    // parallel of one millisecond, between the clock's first two readings, wasn't recorded once.
-    fn has_one<L: Debug + Copy + Drop, Rt: Wait + Abort>(
-        &self,
-        rt: &Rt,
-        alloc: Global,
-        of: L,
-        key: Key,
-    ) {
-        let entry = self.twin.run_entry(rt, key).expect(rt, "an entry");
-        let parallel = entry.estimate(RunExecution::Parallel);
-        let serial = entry.estimate(RunExecution::Serial);
-        row(rt, of, (parallel, serial), (Some(40_200_000), None));
-        self.has(rt, alloc, of, key, 2);
-    }
-
-    // Stops the test where the policy has another entry than that of the key, which is the twin's,
-    // or where the clock was read more or less often.
-    fn has<L: Debug + Copy + Drop, Rt: Wait + Abort>(
-        &self,
-        rt: &Rt,
-        alloc: Global,
-        of: L,
-        key: Key,
-        readings: u64,
-    ) {
-        row(rt, of, self.readings(), readings);
-        let entry = self.twin.run_entry(rt, key).expect(rt, "an entry");
+    // Stops the test where the policy has other entries than these, which are of runs.
+    fn has_runs<L: Debug + Drop>(&self, rt: &impl Abort, alloc: Global, of: L, runs: &str) {
         let written = format!(in alloc; "{:?}", self.policy).expect(rt, "memory");
-        let alone = format!(in alloc; "{{{key:?}: {entry:?}}}, spawns: {{}} ").expect(rt, "memory");
-        let begins = "Policy { table: Mutex { data: Table { runs: ";
-        let ends = "}, poisoned: false, .. } }";
-        let whole = format!(in alloc; "{begins}{alone}{ends}").expect(rt, "memory");
+        let begins = "Policy { table: Mutex { data: Table { runs: {";
+        let ends = "}, spawns: {} }, poisoned: false, .. } }";
+        let whole = format!(in alloc; "{begins}{runs}{ends}").expect(rt, "memory");
         row(rt, of, written.as_str(), whole.as_str());
     }
 }
@@ -164,58 +130,84 @@ fn key_of(called: Called) -> Key {
     }
 }
 
+// Stops the test where a call that is made over and over leaves another entry than that of the key,
+// which is the twin's, or where it reads the clock more or less often. It goes in parallel, then
+// serially, and then in parallel again, of which the last but one is measured.
+fn records<Rt: Threads + Wait + Abort + Sync>(rt: &Rt, alloc: Global, act: Act, key: Key) {
+    let asked = fresh(rt, alloc, 4);
+    let mut readings = 0u64;
+    for turn in 0..13u32 {
+        let made = asked.make(rt, alloc, act, Visitor::Passes);
+        row(rt, (act, turn), made, Ok(()));
+        readings = asked.follows(rt, key, readings);
+        row(rt, (act, turn), asked.readings(), readings);
+        let entry = asked.twin.run_entry(rt, key).expect(rt, "an entry");
+        let alone = format!(in alloc; "{key:?}: {entry:?}").expect(rt, "memory");
+        asked.has_runs(rt, alloc, (act, turn), alone.as_str());
+    }
+    row(rt, act, readings, 6);
+}
+
 #[test]
 fn each_list_call_records_one_time_at_its_key(rt: HostRuntime) {
-    let alloc = rt.alloc();
-    for called in CALLS {
-        for given in FEW {
-            let asked = fresh(&rt, alloc, 4);
-            let key = key_of(called);
-            asked.knows(&rt, key);
-            // The second call isn't measured, and reads no clock.
-            for turn in 1..3u32 {
-                let list = Act::List(called, given, 16);
-                let made = asked.make(&rt, alloc, list, Visitor::Passes);
-                row(&rt, (called, given), made, Ok(()));
-                asked.follows(&rt, key, MILLISECOND);
-                asked.has_one(&rt, alloc, (called, given, turn), key);
-            }
-        }
-    }
-}
-
-// Stops the test where the first run of a call, which goes in parallel, or the second one, which
-// goes serially, leaves another entry. The clock is read twice for each: first a millisecond lies
-// between, and then five.
-fn both_ways_record<Rt: Threads + Wait + Abort + Sync>(rt: &Rt, alloc: Global, act: Act, key: Key) {
-    let asked = fresh(rt, alloc, 4);
-    for (readings, time) in [(2, 1), (4, 5)] {
-        let made = asked.make(rt, alloc, act, Visitor::Passes);
-        row(rt, act, made, Ok(()));
-        asked.follows(rt, key, time * MILLISECOND);
-        asked.has(rt, alloc, act, key, readings);
-    }
-    let entry = asked.policy.run_entry(rt, key).expect(rt, "an entry");
-    let serial = entry.estimate(RunExecution::Serial);
-    row(rt, act, serial, Some(5 * MILLISECOND));
-}
-
-#[test]
-fn each_call_records_its_time_both_ways(rt: HostRuntime) {
-    let alloc = rt.alloc();
     for called in CALLS {
         for given in FEW {
             let list = Act::List(called, given, 16);
-            both_ways_record(&rt, alloc, list, key_of(called));
+            records(&rt, rt.alloc(), list, key_of(called));
         }
     }
+}
+
+#[test]
+fn each_other_call_records_one_time_at_its_key(rt: HostRuntime) {
+    let alloc = rt.alloc();
     for side in SIDES {
         if !matches!(side, Side::Join) {
             let call = call_of_side(side);
             let key = Key::new(SITE, call.len, call.work, 4);
-            both_ways_record(&rt, alloc, Act::Side(side), key);
+            records(&rt, alloc, Act::Side(side), key);
         }
     }
+    records(&rt, alloc, Act::Run, Key::new(SITE, 5, 5, 4));
+}
+
+// Stops the test where a call through such a strategy isn't made, leaves an entry or reads the
+// clock.
+fn leaves_nothing<Rt: Threads + Wait + Abort + Sync>(
+    rt: &Rt,
+    alloc: Global,
+    asked: &Asked,
+    strategy: &Rayon<Squares>,
+) {
+    let on = on(rt, alloc, strategy);
+    for called in CALLS {
+        let list = Act::List(called, Given::Slice, 16);
+        row(rt, called, does(&on, list, Visitor::Passes), Ok(()));
+    }
+    for side in SIDES {
+        let made = does(&on, Act::Side(side), Visitor::Passes);
+        row(rt, side, made, Ok(()));
+    }
+    row(rt, "run", does(&on, Act::Run, Visitor::Passes), Ok(()));
+    row(rt, "readings", asked.readings(), 0);
+    asked.has_runs(rt, alloc, "none", "");
+}
+
+#[test]
+fn what_has_no_policy_leaves_no_entry(rt: HostRuntime) {
+    let alloc = rt.alloc();
+    let asked = fresh(&rt, alloc, 4);
+    let fixed = asked.pool.without_policy().expect(&rt, "memory");
+    leaves_nothing(&rt, alloc, &asked, &fixed);
+    // Planned for one, a call has nothing to choose either, and a join never has.
+    let one = fresh(&rt, alloc, 4);
+    let pool = one.pool.clone().expect(&rt, "memory");
+    let pool = pool.with_parallelism(number(&rt, 1));
+    leaves_nothing(&rt, alloc, &one, &pool);
+    let join = fresh(&rt, alloc, 4);
+    let made = join.make(&rt, alloc, Act::Side(Side::Join), Visitor::Passes);
+    row(&rt, "join", (made, join.readings()), (Ok(()), 0));
+    join.has_runs(&rt, alloc, "join", "");
 }
 
 #[test]
@@ -223,59 +215,17 @@ fn a_list_call_that_fails_records_nothing(rt: HostRuntime) {
     let alloc = rt.alloc();
     for called in [Called::TryMap, Called::TryFold] {
         let asked = fresh(&rt, alloc, 4);
-        let key = key_of(called);
-        asked.knows(&rt, key);
         let log = Log::new(alloc);
-        let failing = Visitor::Fails(&log);
         let list = Act::List(called, Given::Slice, 16);
-        let made = asked.make(&rt, alloc, list, failing);
+        let made = asked.make(&rt, alloc, list, Visitor::Fails(&log));
         row(&rt, called, made, Err(Trouble::Closure(7)));
         // It was to be measured, and the clock was read before it.
-        let entry = asked.policy.run_entry(&rt, key).expect(&rt, "an entry");
-        let parallel = entry.estimate(RunExecution::Parallel);
-        let found = (asked.readings(), parallel);
-        row(&rt, called, found, (1, Some(50 * MILLISECOND)));
+        let entry = asked.policy.run_entry(&rt, key_of(called));
+        let parallel = entry
+            .expect(&rt, "an entry")
+            .estimate(RunExecution::Parallel);
+        row(&rt, called, (asked.readings(), parallel), (1, None));
     }
-}
-
-// Stops the test where a call that isn't over a list leaves another entry, or the second such call,
-// which isn't measured, reads the clock. A join leaves none.
-fn side_records<Rt: Threads + Wait + Abort + Sync>(rt: &Rt, alloc: Global, side: Side) {
-    let asked = fresh(rt, alloc, 4);
-    let call = call_of_side(side);
-    let key = Key::new(SITE, call.len, call.work, 4);
-    if matches!(side, Side::Join) {
-        let made = asked.make(rt, alloc, Act::Side(side), Visitor::Passes);
-        row(rt, side, (made, asked.readings()), (Ok(()), 0));
-        row(rt, side, asked.policy.run_entry(rt, key).is_none(), true);
-        return;
-    }
-    asked.knows(rt, key);
-    for turn in 1..3u32 {
-        let made = asked.make(rt, alloc, Act::Side(side), Visitor::Passes);
-        row(rt, side, made, Ok(()));
-        asked.follows(rt, key, MILLISECOND);
-        asked.has_one(rt, alloc, (side, turn), key);
-    }
-}
-
-#[test]
-fn each_other_call_records_one_time_at_its_key(rt: HostRuntime) {
-    for side in SIDES {
-        side_records(&rt, rt.alloc(), side);
-    }
-}
-
-#[test]
-fn a_run_records_one_time_at_its_key(rt: HostRuntime) {
-    let alloc = rt.alloc();
-    let asked = fresh(&rt, alloc, 4);
-    let key = Key::new(SITE, 5, 5, 4);
-    asked.knows(&rt, key);
-    let ran = asked.pool.run(&rt, alloc, SITE, 5, give_one, give_two);
-    row(&rt, "run", ran, Ok(2));
-    asked.follows(&rt, key, MILLISECOND);
-    asked.has_one(&rt, alloc, "run", key);
 }
 
 // Stops the test where a tree records otherwise than of calls of these lengths and works.
@@ -287,21 +237,20 @@ fn tree_records<Rt: Threads + Wait + Abort + Sync>(
     calls: &[(usize, usize)],
 ) {
     let asked = fresh(rt, alloc, 4);
-    for (len, work) in calls {
-        asked.knows(rt, Key::new(SITE, *len, *work, 4));
-    }
     let found = asked.make(rt, alloc, Act::Tree(rooted, count), Visitor::Passes);
     row(rt, (rooted, count), found, Ok(()));
     let twice = (calls.len() as u64).wrapping_mul(2);
     row(rt, (rooted, count), asked.readings(), twice);
     // Between the readings of each call were 1, 5, 9 milliseconds, and so on.
-    let mut time = 40_200_000u64;
+    let mut milliseconds = 1u64;
     for (len, work) in calls {
         let entry = asked.policy.run_entry(rt, Key::new(SITE, *len, *work, 4));
-        let entry = entry.expect(rt, "an entry");
-        let parallel = entry.estimate(RunExecution::Parallel);
+        let parallel = entry
+            .expect(rt, "an entry")
+            .estimate(RunExecution::Parallel);
+        let time = milliseconds.wrapping_mul(MILLISECOND);
         row(rt, (rooted, *len), parallel, Some(time));
-        time = time.wrapping_add(800_000);
+        milliseconds = milliseconds.wrapping_add(4);
     }
 }
 

@@ -8,7 +8,7 @@ use crate::tests::probes::visits::{Times, Visitor};
 use crate::tests::same::row;
 use crate::tests::strategies::pool;
 use commonware_parallel::mocks::{Explorer, Rule};
-use commonware_parallel::{Fault, Indices, On, Producer, Strategy};
+use commonware_parallel::{Fault, Indices, Producer, Strategy};
 use std::alloc::Global;
 use std::process::Abort;
 use std::sync::Wait;
