@@ -258,7 +258,8 @@ impl Shares {
         ensures seat { IsSeatOf self.now seat.new }
         ensures same { IsSameSeat seat.old seat.new }
         ensures emptied { has_emptied seat.new ≡ has_emptied seat.old }
-        ensures met { MeetsFront word (known seat.old) result (known seat.new) }
+        ensures met { MeetsFront (own_share self.now seat.old) word
+            (known seat.old) result (known seat.new) }
     {
         let place = self.own_place(seat);
         self.table

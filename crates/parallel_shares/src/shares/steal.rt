@@ -141,7 +141,7 @@ impl Shares {
         ensures seat { IsSeatOf self.now seat.new }
         ensures index { index_of seat.new ≡ index_of seat.old }
         ensures emptied { has_emptied seat.new ≡ has_emptied seat.old }
-        ensures met { MeetsBack victim.word seat.old result seat.new }
+        ensures met { MeetsBack victim seat.old result seat.new }
     {
         let (units, next) = back(victim.word);
         let place = self.place(victim.share);
