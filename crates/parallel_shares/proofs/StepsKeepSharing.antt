@@ -3,7 +3,7 @@ use Rattle.parallel_shares.proofs.Common.{◌≡◌, ℕ, false, cond, ◌+◌, 
 use Rattle.parallel_shares.proofs.Common.{eq-eqb, ne_eqb, length-set, get_or-set_other, mul-le, Range, some, none, get_elem?, State, Me, step, Act, keeps, Valid, stepped, carried_after, Allows}
 use Rattle.parallel_shares.proofs.Common.{at_set, exchanged, View, start_of, end_of, packed, IsEmptyWord, IsWithin, Sizes, shares_of, share_of, IsSound, claim_stop, claim_cells, middle_of, Pays}
 use Rattle.parallel_shares.proofs.Common.{inside, in_word, in_range, in_ranges, total, times, SomeSplitPays, in_view, Empties, Idle, IsSharingOf, looked_own, took_front, missed, looked, took_back}
-use Rattle.parallel_shares.proofs.Common.{back_half, put_down, LooksOwn, TakesFront, LooksAt, TakesBack, PutsDown, Exchanges, place_of, Spaced}
+use Rattle.parallel_shares.proofs.Common.{back_half, put_down, LooksOwn, TakesFront, LooksAt, TakesBack, PutsDown, Exchanges, place_of, share_at, Spaced}
 use prog.Atomic.{either}
 use Rattle.parallel_shares.proofs.Words.{start_of_packed, end_of_packed, within_packed, cut_front, cut_back, claim_front, two_halves}
 use Rattle.parallel_shares.proofs.Counts.{inside_below, inside_nothing, inside_cells, inside_no_cells}
@@ -49,13 +49,14 @@ each_view P views id w old here i x h = elim (at_set views id i w x h) as (λ _.
   | inr other ↦ old i x other.1
 ]
 
--- the view of a seat whose exchange took units
-abbrev took : View → List (Range ℕ) → List (Range ℕ) → ℕ → View
-took v claims transit word =
+-- the view of a seat whose exchange at a share took units
+abbrev took : View → List (Range ℕ) → List (Range ℕ) → ℕ → ℕ → View
+took v claims transit share word =
     record v {
       claims = claims;
       transit = transit;
       met = word;
+      met_at = share;
       exchanges = v.exchanges + 1;
       changes = v.changes + 1;
     }
@@ -158,7 +159,7 @@ module _ (sizes : Sizes) (sound : IsSound sizes) where
       + in_view sizes c v)
       → ((c : ℕ) → sizes.cells ≤ c → in_ranges c claims ≡ in_ranges c v.claims)
       → ¬ (v.owns ≡ []) → (transit ≡ []) ⊎ SomeSplitPays sizes
-      → IsSharingOf sizes (written s share left id (took v claims transit word))
+      → IsSharingOf sizes (written s share left id (took v claims transit share word))
   takes_units s k id v e share word left claims transit exists found some_left inner pays count past
       has carry =
       let there : share < length s.words = omega (arith, k.shares) in
@@ -170,7 +171,7 @@ module _ (sizes : Sizes) (sound : IsSound sizes) where
             (ap (λ j. get_or s.words j 0) is ∙ found) empty))
         | inr apart ↦ rw (get_or-set_other s.words share i left 0 apart) empty
       ] in
-      sharing_after s k id v (took v claims transit word) e (set s.words share left)
+      sharing_after s k id v (took v claims transit share word) e (set s.words share left)
       (length-set s.words share left)
       (each_set (IsWithin sizes.units) s.words share left 0 k.within inner)
       (λ c h. omega (
@@ -189,28 +190,43 @@ module _ (sizes : Sizes) (sound : IsSound sizes) where
       (λ same. absurd (omega (arith, same)))
 
   -- an exchange that finds the word that was loaded, or another and takes nothing
-  exchanges : (slots id share index old new : ℕ) (me : Me (Unit {0}) View) (hit : View)
+  exchanges : (slots id share index old new : ℕ) (me : Me (Unit {0}) View) (hit : ℕ → View)
       → me.0.owns ≡ index ∷ []
       → ((s : Table) → IsSharingOf sizes s → get_elem? s.views id ≡ some me.0
-      → get_or s.words share 0 ≡ old → IsSharingOf sizes (written s share new id hit))
+      → get_or s.words share 0 ≡ old → IsSharingOf sizes (written s share new id (hit share)))
       → Allows (Spaced (IsSharingOf sizes)) slots id me (place_of share)
-      (λ n. either (n == old) new n) (Exchanges me old hit)
+      (λ n. either (n == old) new n)
+      (Exchanges (step slots (place_of share) old new none) me (hit (share_at (place_of share))))
   exchanges slots id share index old new me hit owns keeps_rule =
-      allows_spaced (IsSharingOf sizes) slots id me share (λ n. either (n == old) new n)
-      (Exchanges me old hit) (λ s k h e b.
+      let tried = step slots (place_of share) old new none in
+      let tells = Exchanges tried me (hit (share_at (place_of share))) in
+      let there = sym (share_at_place share) in
+      allows_spaced (IsSharingOf sizes) slots id me share (λ n. either (n == old) new n) tells
+      (λ s k h e b.
       let word = get_or s.words share 0 in
       exchanged word old new
       (λ m. (w : View) × (a : Act (Unit {0})) × Valid s.homes me.1 a
       × IsSharingOf sizes (stepped s share m id me.1 w a)
-      × Exchanges me old hit word (w, carried_after me.1 a))
-      (λ is. (hit, keeps, tt, keeps_rule s k e is, (λ _. refl, λ no. absurd (no is), refl)))
-      (λ miss. (
-        missed me.0 word,
+      × tells word (w, carried_after me.1 a))
+      (λ is. (
+        hit share,
         keeps,
         tt,
-        words_stay s k id me.0 (missed me.0 word) e share refl refl refl refl
+        keeps_rule s k e is,
+        (λ _. ap hit there, λ no. absurd (no is), refl, ap place_of there),
+      ))
+      (λ miss. (
+        missed me.0 share word,
+        keeps,
+        tt,
+        words_stay s k id me.0 (missed me.0 share word) e share refl refl refl refl
             (not_empty me.0.owns index owns) (k.each id me.0 e).0,
-        (λ no. absurd (miss no), λ _. refl, refl),
+        (
+          λ no. absurd (miss no),
+          λ _. ap (λ i. missed me.0 i word) there,
+          refl,
+          ap place_of there,
+        ),
       )))
 
   -- ---- a load
@@ -252,6 +268,7 @@ module _ (sizes : Sizes) (sound : IsSound sizes) where
           subst (λ (z : Sizes). IsWithin z.units word) (sym plan) (k.within share),
           ap (λ i. looked_own me.0 i word) (sym (share_at_place share)),
           refl,
+          ap place_of (sym (share_at_place share)),
         ),
       ))
 
@@ -287,7 +304,7 @@ module _ (sizes : Sizes) (sound : IsSound sizes) where
 
     takes : (s : Table) → IsSharingOf sizes s → (id : ℕ) → get_elem? s.views id ≡ some v
         → get_or s.words share 0 ≡ word → IsSharingOf sizes
-        (written s share next id (took_front v word))
+        (written s share next id (took_front v share word))
     takes s k id e found =
         takes_units s k id v e share word next (v.claims ++ claim_cells v.plan word ∷ []) v.transit
         exists found some_left
@@ -309,7 +326,7 @@ module _ (sizes : Sizes) (sound : IsSound sizes) where
       → Allows (Spaced (IsSharingOf sizes)) slots id me (place_of share)
       (λ n. either (n == old) new n) (TakesFront (step slots (place_of share) old new none) me)
   takes_front slots id share index old new me plan owns exists inner some_left is =
-      exchanges slots id share index old new me (took_front me.0 old) owns
+      exchanges slots id share index old new me (λ i. took_front me.0 i old) owns
       (λ s k e found. rw is (takes share index old me.0 plan owns exists inner some_left s k id e
       found))
 
@@ -334,6 +351,7 @@ module _ (sizes : Sizes) (sound : IsSound sizes) where
           subst (λ (z : Sizes). Pays z word → SomeSplitPays z) (sym plan) (k.splits share),
           ap (λ i. looked me.0 i word) (sym (share_at_place share)),
           refl,
+          ap place_of (sym (share_at_place share)),
         ),
       ))
 
@@ -357,7 +375,7 @@ module _ (sizes : Sizes) (sound : IsSound sizes) where
 
     steals : (s : Table) → IsSharingOf sizes s → (id : ℕ) → get_elem? s.views id ≡ some v
         → get_or s.words share 0 ≡ word → IsSharingOf sizes
-        (written s share left id (took_back v word))
+        (written s share left id (took_back v share word))
     steals s k id e found =
         takes_units s k id v e share word left v.claims (back_half word ∷ []) exists found not_none
         (within_packed sizes.units (start_of word) middle sound.units_fit (omega (arith, halves.0))
@@ -379,7 +397,7 @@ module _ (sizes : Sizes) (sound : IsSound sizes) where
       → Allows (Spaced (IsSharingOf sizes)) slots id me (place_of share)
       (λ n. either (n == old) new n) (TakesBack (step slots (place_of share) old new none) me)
   takes_back slots id share index old new me owns bare exists inner pays is =
-      exchanges slots id share index old new me (took_back me.0 old) owns
+      exchanges slots id share index old new me (λ i. took_back me.0 i old) owns
       (λ s k e found. rw is (steals share index old me.0 owns bare exists inner pays s k id e
       found))
 
@@ -461,5 +479,9 @@ module _ (sizes : Sizes) (sound : IsSound sizes) where
         tt,
         rw (at, is) (fills index units me.0 owns empties carries cut some_units inner exists s k id
             e),
-        (ap (λ i. put_down me.0 i new) (sym (share_at_place share)), refl),
+        (
+          ap (λ i. put_down me.0 i new) (sym (share_at_place share)),
+          refl,
+          ap place_of (sym (share_at_place share)),
+        ),
       ))

@@ -106,11 +106,11 @@ abbrev pub LoadsGrow : Seat → Seat → Type 0
 LoadsGrow before after =
     (share : ℕ) → loads_at (known before) share ≤ loads_at (known after) share
 
--- an exchange met the word that was loaded and claimed its front, or it met another word and
--- claimed nothing
-abbrev pub MeetsFront : ℕ → View → ℕ → View → Type 0
-MeetsFront word before found after = (found ≡ word → after ≡ took_front before word)
-    × (found ≢ word → after ≡ missed before found)
+-- an exchange at a share met the word that was loaded and claimed its front, or it met another word
+-- and claimed nothing
+abbrev pub MeetsFront : ℕ → ℕ → View → ℕ → View → Type 0
+MeetsFront share word before found after = (found ≡ word → after ≡ took_front before share word)
+    × (found ≢ word → after ≡ missed before share found)
 
 -- that many exchanges more were tried, and that many steps more changed a word
 abbrev pub CountsSteps : ℕ → ℕ → Seat → Seat → Type 0
@@ -124,15 +124,17 @@ AreSomeCells sizes cells = (cells.start < cells.end) × (cells.end ≤ sizes.cel
 
 -- what a try to claim tells, of the word that it loaded: its front was claimed by an exchange that
 -- met it; or it was not empty and an exchange met another word; or it was empty, and no exchange
--- was tried
+-- was tried. The exchange was at the share that the seat claims from.
 abbrev pub TriesClaim : Sizes → ℕ → Seat → Tried → Seat → Type 0
 TriesClaim sizes word before (Claimed cells) after =
-    (¬ IsEmptyWord word) × ((known after).met ≡ word) × (cells ≡ claim_cells sizes word)
+    (¬ IsEmptyWord word) × ((known after).met_at ≡ share_of sizes (index_of before))
+    × ((known after).met ≡ word) × (cells ≡ claim_cells sizes word)
     × AreSomeCells sizes cells
     × (claims_of after ≡ claims_of before ++ cells ∷ []) × CountsSteps 1 1 before after
     × (has_emptied after ≡ has_emptied before)
 TriesClaim sizes word before Lost after =
-    (¬ IsEmptyWord word) × ((known after).met ≢ word)
+    (¬ IsEmptyWord word) × ((known after).met_at ≡ share_of sizes (index_of before))
+    × ((known after).met ≢ word)
     × (claims_of after ≡ claims_of before) × CountsSteps 1 0 before after
     × (has_emptied after ≡ has_emptied before)
 TriesClaim sizes word before Empty after =

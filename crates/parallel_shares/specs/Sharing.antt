@@ -12,7 +12,7 @@ use Rattle.parallel_shares.specs.Machine.{opening_words}
 use Rattle.parallel_shares.specs.Answers.{claim_cells, middle_of, Pays}
 use Rattle.parallel_shares.specs.Holders.{inside, in_word, in_ranges}
 use Rattle.parallel_shares.specs.Totals.{total, times}
-use Rattle.parallel_shares.specs.Spaced.{share_at}
+use Rattle.parallel_shares.specs.Spaced.{place_of, share_at}
 
 -- ---- what a seat knows
 
@@ -28,6 +28,7 @@ fresh_view sizes numbers =
       loads = replicate (shares_of sizes) 0;
       since = [];
       met = 0;
+      met_at = 0;
       exchanges = 0;
       changes = 0;
       plan = sizes;
@@ -108,19 +109,21 @@ looked_own view share word =
       empties = cond (eqb (start_of word) (end_of word)) view.owns view.empties;
     }
 
--- the seat after its exchange found the word that it had loaded, and claimed the front
-abbrev pub took_front : View → ℕ → View
-took_front view word =
+-- the seat after its exchange at a share found the word that it had loaded, and claimed the front
+abbrev pub took_front : View → ℕ → ℕ → View
+took_front view share word =
     record view {
       claims = view.claims ++ claim_cells view.plan word ∷ [];
       met = word;
+      met_at = share;
       exchanges = view.exchanges + 1;
       changes = view.changes + 1;
     }
 
--- the seat after its exchange found another word
-abbrev pub missed : View → ℕ → View
-missed view word = record view { met = word; exchanges = view.exchanges + 1 }
+-- the seat after its exchange at a share found another word
+abbrev pub missed : View → ℕ → ℕ → View
+missed view share word =
+    record view { met = word; met_at = share; exchanges = view.exchanges + 1 }
 
 -- the seat after a load of another share
 abbrev pub looked : View → ℕ → ℕ → View
@@ -135,13 +138,14 @@ looked view share word =
 abbrev pub back_half : ℕ → Range ℕ
 back_half word = record { start = middle_of word; end = end_of word }
 
--- the seat after its exchange found the word that it had loaded, and took the back half into
--- transit
-abbrev pub took_back : View → ℕ → View
-took_back view word =
+-- the seat after its exchange at a share found the word that it had loaded, and took the back half
+-- into transit
+abbrev pub took_back : View → ℕ → ℕ → View
+took_back view share word =
     record view {
       transit = back_half word ∷ [];
       met = word;
+      met_at = share;
       exchanges = view.exchanges + 1;
       changes = view.changes + 1;
     }
@@ -156,23 +160,28 @@ put_down view share word =
       changes = view.changes + 1;
     }
 
+-- a step is at the place of a share's word, and not beside it
+abbrev pub IsOnWord : Step (Unit {0}) → Type 0
+IsOnWord step = step.word ≡ place_of (share_at step.word)
+
 -- a load of the seat's own share tells a range of units
 abbrev pub LooksOwn : Step (Unit {0}) → Me (Unit {0}) View → ℕ → Me (Unit {0}) View → Type 0
 LooksOwn step before word after =
     IsWithin before.0.plan.units word × (after.0 ≡ looked_own before.0 (share_at step.word) word)
-    × (after.1 ≡ before.1)
+    × (after.1 ≡ before.1) × IsOnWord step
 
 -- an exchange of a loaded word leaves its seat with one view where it finds that word, and takes
 -- nothing where it finds another
-abbrev pub Exchanges : Me (Unit {0}) View → ℕ → View → ℕ → Me (Unit {0}) View → Type 0
-Exchanges before loaded took word after =
-    (word ≡ loaded → after.0 ≡ took) × (word ≢ loaded → after.0 ≡ missed before.0 word)
-    × (after.1 ≡ before.1)
+abbrev pub Exchanges : Step (Unit {0}) → Me (Unit {0}) View → View → ℕ → Me (Unit {0}) View → Type 0
+Exchanges step before took word after =
+    (word ≡ step.first → after.0 ≡ took)
+    × (word ≢ step.first → after.0 ≡ missed before.0 (share_at step.word) word)
+    × (after.1 ≡ before.1) × IsOnWord step
 
 -- an exchange claims the front of the word that was loaded
 abbrev pub TakesFront : Step (Unit {0}) → Me (Unit {0}) View → ℕ → Me (Unit {0}) View → Type 0
 TakesFront step before word after =
-    Exchanges before step.first (took_front before.0 step.first) word after
+    Exchanges step before (took_front before.0 (share_at step.word) step.first) word after
 
 -- a load of another share tells a range of units, whose split pays only where some opening word's
 -- does
@@ -180,16 +189,17 @@ abbrev pub LooksAt : Step (Unit {0}) → Me (Unit {0}) View → ℕ → Me (Unit
 LooksAt step before word after =
     IsWithin before.0.plan.units word × (Pays before.0.plan word → SomeSplitPays before.0.plan)
     × (after.0 ≡ looked before.0 (share_at step.word) word) × (after.1 ≡ before.1)
+    × IsOnWord step
 
 -- an exchange takes the back half of the word that was loaded
 abbrev pub TakesBack : Step (Unit {0}) → Me (Unit {0}) View → ℕ → Me (Unit {0}) View → Type 0
 TakesBack step before word after =
-    Exchanges before step.first (took_back before.0 step.first) word after
+    Exchanges step before (took_back before.0 (share_at step.word) step.first) word after
 
 -- a store puts what is in transit down in the seat's own share
 abbrev pub PutsDown : Step (Unit {0}) → Me (Unit {0}) View → ℕ → Me (Unit {0}) View → Type 0
 PutsDown step before word after = (after.0 ≡ put_down before.0 (share_at step.word) word)
-    × (after.1 ≡ before.1)
+    × (after.1 ≡ before.1) × IsOnWord step
 
 -- ---- how seats are dealt and gathered
 
@@ -223,6 +233,7 @@ spent =
       loads = [];
       since = [];
       met = 0;
+      met_at = 0;
       exchanges = 0;
       changes = 0;
       plan =

@@ -68,28 +68,30 @@ OnlyLooks before after =
     (after ≡ record before { words = after.words; loads = after.loads; since = after.since })
     × (length after.words ≡ length before.words) × (length after.loads ≡ length before.loads)
 
--- an exchange met the word that was loaded and took its back half, or it met another word and took
--- nothing
-abbrev pub MeetsBack : ℕ → Seat → ℕ → Seat → Type 0
-MeetsBack word before found after =
-    (found ≡ word → (known after ≡ took_back (known before) word)
-    × (transit_of after ≡ Some (back_half word)))
-    × (found ≢ word → (known after ≡ missed (known before) found)
+-- an exchange at the victim met the word that was loaded and took its back half, or it met another
+-- word and took nothing
+abbrev pub MeetsBack : Victim → Seat → ℕ → Seat → Type 0
+MeetsBack victim before found after =
+    (found ≡ victim.word → (known after ≡ took_back (known before) victim.share victim.word)
+    × (transit_of after ≡ Some (back_half victim.word)))
+    × (found ≢ victim.word → (known after ≡ missed (known before) victim.share found)
     × (transit_of after ≡ transit_of before))
 
 -- what a try to steal tells of the words that it loaded: the victim's back half was taken by an
--- exchange that met its word; or an exchange met another word there; or no split pays, and no
--- exchange was tried
+-- exchange at the victim that met its word; or an exchange at the victim met another word; or no
+-- split pays, and no exchange was tried
 abbrev pub TriesSteal : Sizes → Seat → Tried → Seat → Type 0
 TriesSteal sizes before Taken after =
     (victim : ℕ) × IsVictim sizes (share_of sizes (index_of before)) (shares_of sizes)
     (known after) victim
+    × ((known after).met_at ≡ victim)
     × ((known after).met ≡ loaded_at (known after) victim)
     × (transit_of after ≡ Some (back_half (loaded_at (known after) victim)))
     × CountsSteps 1 1 before after
 TriesSteal sizes before Lost after =
     (victim : ℕ) × IsVictim sizes (share_of sizes (index_of before)) (shares_of sizes)
     (known after) victim
+    × ((known after).met_at ≡ victim)
     × ((known after).met ≢ loaded_at (known after) victim) × (transit_of after ≡ None)
     × CountsSteps 1 0 before after
 TriesSteal sizes before Nothing after =
@@ -118,13 +120,16 @@ pub record FoundNothing (shares : Shares) (first seat : Seat) : Type 0 where
   pub emptied : has_emptied seat ≡ true
   pub transit : transit_of seat ≡ None
 
--- what a claim gained: the front of some word that was not empty; or nothing, where there was
--- nothing to be found
+-- what a claim gained: the front of the word that the seat loaded last at its own share, which was
+-- not empty and which its last exchange met there; or nothing, where there was nothing to be found
 abbrev pub GainsClaim : Shares → Seat → Option (Range ℕ) → Seat → Type 0
 GainsClaim shares before (Some cells) after =
     (claims_of after ≡ claims_of before ++ cells ∷ []) × AreSomeCells (plan_of shares) cells
-    × ((word : ℕ) × (¬ IsEmptyWord word) × IsWithin (plan_of shares).units word
-    × (cells ≡ claim_cells (plan_of shares) word))
+    × (¬ IsEmptyWord (own_word shares after))
+    × IsWithin (plan_of shares).units (own_word shares after)
+    × (cells ≡ claim_cells (plan_of shares) (own_word shares after))
+    × ((known after).met_at ≡ own_share shares after)
+    × ((known after).met ≡ own_word shares after)
 GainsClaim shares before None after =
     (claims_of after ≡ claims_of before) × FoundNothing shares before after
 

@@ -158,13 +158,14 @@ impl Shares {
     }
 
     /// Tries once to claim the front of the share that the seat claims from: one load of its word,
-    /// and at most one exchange.
+    /// and at most one exchange there.
     ///
     /// `TriesClaim` says what the result tells of the word that was loaded. `Claimed` has the cells
     /// that the seat's claims gained, and the exchange met the word that was loaded. `Lost` comes
-    /// only where it met another word. `Empty` comes only where the loaded word was empty, and the
-    /// seat's `own_empty` holds from then on. No other share is loaded (`OthersStay`), so none was
-    /// loaded since the seat's own (`since`). No memory is taken, and nothing is waited for.
+    /// only where the exchange met another word (`met`) at that share (`met_at`). `Empty` comes
+    /// only where the loaded word was empty, and the seat's `own_empty` holds from then on. No
+    /// other share is loaded (`OthersStay`), so none was loaded since the seat's own (`since`). No
+    /// memory is taken, and nothing is waited for.
     #[inline(always)]
     pub fn try_claim(&self, seat: &mut Seat) -> Tried
         requires { IsSeatOf self.now seat.old }
@@ -258,7 +259,8 @@ impl Shares {
         ensures seat { IsSeatOf self.now seat.new }
         ensures same { IsSameSeat seat.old seat.new }
         ensures emptied { has_emptied seat.new ≡ has_emptied seat.old }
-        ensures met { MeetsFront word (known seat.old) result (known seat.new) }
+        ensures met { MeetsFront (own_share self.now seat.old) word
+            (known seat.old) result (known seat.new) }
     {
         let place = self.own_place(seat);
         self.table

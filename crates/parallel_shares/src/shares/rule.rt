@@ -23,6 +23,8 @@ pub struct View {
     pub since: LinkedList<usize>,
     /// The word that the last exchange found.
     pub met: u64,
+    /// The share at whose word the last exchange was tried.
+    pub met_at: usize,
     /// The number of exchanges that were tried.
     pub exchanges: u64,
     /// The number of steps that changed a word.
@@ -44,7 +46,7 @@ impl TableRule<(), View, Plan> for Partition {
     ghost first = { λ sizes. undealt sizes 0 };
 }
 
-/// A load of the seat's own share. No other one was loaded since.
+/// A load of the word of the seat's own share. No other one was loaded since.
 pub struct LookOwn;
 
 impl Play<(), View> for LookOwn {
@@ -62,7 +64,7 @@ impl Play<(), View> for TakeFront {
     ghost then = { TakesFront };
 }
 
-/// A load of another seat's share.
+/// A load of the word of another seat's share.
 pub struct LookAt;
 
 impl Play<(), View> for LookAt {

@@ -31,10 +31,11 @@ impl Shares {
     ///
     /// The exchange is on the loaded word with the most cells of those whose split pays, the last
     /// of equals; `TriesSteal` says so. After `Taken` its back half is `in_transit`, and a front is
-    /// left that isn't empty. `Lost` comes only where the exchange met another word. `Nothing`
-    /// comes only where no loaded word's split pays: so always in a plan of whole rows, which has
-    /// no other share, and in one in which no opening word's split pays. The seat has seen its own
-    /// word empty, and has nothing in transit. No memory is taken, and nothing is waited for.
+    /// left that isn't empty. `Lost` comes only where the exchange met another word (`met`) at that
+    /// share (`met_at`). `Nothing` comes only where no loaded word's split pays: so always in a
+    /// plan of whole rows, which has no other share, and in one in which no opening word's split
+    /// pays. The seat has seen its own word empty, and has nothing in transit. No memory is taken,
+    /// and nothing is waited for.
     #[cold]
     #[inline(never)]
     pub fn try_steal(&self, seat: &mut Seat) -> Tried
@@ -90,7 +91,7 @@ impl Shares {
         seat.own_empty = false;
     }
 
-    // Loads each other share's word, and returns the victim.
+    // Loads each other share's word once, and returns the victim.
     fn find_victim(&self, seat: &mut Seat) -> Option<Victim>
         requires { IsSeatOf self.now seat.old }
         ensures seat { IsSeatOf self.now seat.new }
@@ -141,7 +142,7 @@ impl Shares {
         ensures seat { IsSeatOf self.now seat.new }
         ensures index { index_of seat.new ≡ index_of seat.old }
         ensures emptied { has_emptied seat.new ≡ has_emptied seat.old }
-        ensures met { MeetsBack victim.word seat.old result seat.new }
+        ensures met { MeetsBack victim seat.old result seat.new }
     {
         let (units, next) = back(victim.word);
         let place = self.place(victim.share);

@@ -1,5 +1,5 @@
 -- Each turn passes over the seat's own share, or loads another one and keeps the better.
-use Rattle.parallel_shares.proofs.{rules, ◌≡◌, ◌≢◌, ◌+◌, ◌<◌, ◌∙◌, length, sym, arith, shares_of, share_of, known, passes_own, better, no_better}
+use Rattle.parallel_shares.proofs.{rules, ◌≡◌, ◌≢◌, ◌<◌, ◌∙◌, length, sym, arith, shares_of, share_of, known, passes_own, better, no_better}
 use Rattle.parallel_shares.proofs.shares.Shares.find_victim.Goals as goal
 use Rattle.parallel_shares.proofs.shares.Shares.find_victim.Goals.{then-share-own+then-is_better, then-share-own+else-is_better, else-share-own}
 

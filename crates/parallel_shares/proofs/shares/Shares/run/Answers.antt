@@ -1,5 +1,5 @@
 -- Each claim is filled after those before it, and at the end the open stretch gets its result.
-use Rattle.parallel_shares.proofs.{◌++◌, ◌∷◌, [], refl, sym, ap, ◌∙◌, append-nil, append_assoc, arith, All-nil, All-cons, All-append, plan_of, claims_of, IsFront, all_cells, cells_push, way_begins}
+use Rattle.parallel_shares.proofs.{◌++◌, ◌∷◌, [], refl, sym, ap, ◌∙◌, append-nil, append_assoc, arith, All-nil, All-cons, All-append, plan_of, claims_of, own_word, IsFront, all_cells, cells_push, way_begins}
 use Rattle.parallel_shares.proofs.{way_ends, grows_from, found_since}
 use Rattle.parallel_shares.proofs.shares.Shares.run.Goals as goal
 
@@ -41,6 +41,7 @@ loop-preserved g c =
     let claim = c.in-Some-claim.claim in
     let answer = c.in-Some-claim.ensures.answer in
     let front = IsFront (plan_of c.args.self.now) in
+    let word = own_word c.args.self.now c.claim.new.seat in
     record {
       goes_on = (tt, tt);
       seat = c.claim.ensures.seat;
@@ -52,7 +53,7 @@ loop-preserved g c =
         answer.0 ∙ ap (λ xs. xs ++ claim ∷ []) i.chain.1
             ∙ append_assoc (claims_of c.args.seat.now) gained (claim ∷ []),
         All-append front gained (claim ∷ []) i.chain.2
-            (All-cons front claim [] answer.2 (All-nil front)),
+            (All-cons front claim [] (word, answer.2, answer.3, answer.4) (All-nil front)),
         rw (cells_push gained claim) (c.in_ok-opened.ensures.chain c.args.state.now
             (all_cells gained) i.chain.3),
       );
