@@ -1,6 +1,6 @@
 -- The names of std, of the crates below and of `specs/` that proofs here cite, passed on from one
 -- place. Declares nothing.
-pub use Rattle.commonware_parallel.specs.Answers.{UnlessFaulty}
+pub use Rattle.commonware_parallel.specs.Answers.{UnlessFaulty, flat_outcome}
 pub use Rattle.commonware_parallel.specs.Batches.{IsBatch, OnSomeBatch, place_of, ranges_of, strategy_of}
 pub use Rattle.commonware_parallel.specs.Calls.{AtSomePath, HasPick, IsInnerOf, batches_call, body_call, multiplied_call, nth_path, tiles_call}
 pub use Rattle.commonware_parallel.specs.Chains.{Chains, WholeRows, more_chains, no_chain}

@@ -1,7 +1,8 @@
 -- What follows from a fact of an outcome.
-use Rattle.commonware_parallel.proofs.Common.{◌≡◌, Result, Ok, Err, MatchResult, Memory, Trouble, Closure, UnlessRefused, UnlessFaulty, subst, sym}
+use Rattle.commonware_parallel.proofs.Common.{◌≡◌, Result, Ok, Err, IfOk, MatchResult, Memory, Trouble, Closure, UnlessRefused, UnlessFaulty, flat_outcome, subst, sym}
 use Rattle.parallel_fault.specs.declared.fault.Fault.{Fault}
 use Rattle.parallel_fault.specs.declared.fault.Trouble.TheVariants.{Fault as OfFault}
+use Rattle.parallel_fault.specs.Trouble.{IsMemoryOnErr, IsMemoryOnFault}
 
 -- what follows from a fact of an outcome, where more may be refused
 pub unless_faulty : {R E : Type 0} (result : Result R (Trouble E)) (P Q : Result R E → Type 0)
@@ -19,3 +20,32 @@ pub closure_told : {R E : Type 0} (out : Result R E) (result : Result R (Trouble
     → UnlessRefused result P
 closure_told (Ok r) result P same h = subst (λ x. UnlessRefused x P) (sym same) h
 closure_told (Err e) result P same h = subst (λ x. UnlessRefused x P) (sym same) h
+
+-- what holds of an outcome's result, where the closure's own error is a refusal
+pub flat_answer : {R : Type 0} (out : Result R (Trouble Fault)) (P : Result R Fault → Type 0)
+    → UnlessRefused out P → IfOk (flat_outcome out) (λ r. P (Ok r))
+flat_answer (Ok r) P h = h
+flat_answer (Err (Closure e)) P h = tt
+flat_answer (Err (OfFault x)) P h = tt
+
+-- a refusal of a call whose closure is refused memory alone is one of memory
+pub flat_memory : {R : Type 0} (out : Result R (Trouble Fault)) (P : Result R Fault → Type 0)
+    → ((fault : Fault) → P (Err fault) → fault ≡ Memory) → UnlessRefused out P
+    → IsMemoryOnErr (flat_outcome out)
+flat_memory (Ok r) P f h = tt
+flat_memory (Err (Closure e)) P f h = f e h
+flat_memory (Err (OfFault x)) P f h = h
+
+-- what follows of an outcome's result
+pub told_answer : {R E : Type 0} (result : Result R (Trouble E)) (P : Result R E → Type 0)
+    (Q : R → Type 0) → ((r : R) → P (Ok r) → Q r) → UnlessRefused result P → IfOk result Q
+told_answer (Ok r) P Q f h = f r h
+told_answer (Err (Closure e)) P Q f h = tt
+told_answer (Err (OfFault x)) P Q f h = tt
+
+-- a refusal of a call whose closure has an error of its own is one of memory
+pub told_memory : {R E : Type 0} (result : Result R (Trouble E)) (P : Result R E → Type 0)
+    → UnlessRefused result P → IsMemoryOnFault result
+told_memory (Ok r) P h = tt
+told_memory (Err (Closure e)) P h = tt
+told_memory (Err (OfFault x)) P h = h

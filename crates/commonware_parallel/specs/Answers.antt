@@ -31,3 +31,9 @@ abbrev pub UnlessFaulty : {R E : Type 0} → Result R (Trouble E) → (Result R 
 UnlessFaulty (Ok r) allowed refused = allowed (Ok r)
 UnlessFaulty (Err (Closure e)) allowed refused = allowed (Err e)
 UnlessFaulty (Err (OfFault f)) allowed refused = refused f
+
+-- the outcome of a call whose closure's own error is a refusal: either refusal is the error
+abbrev pub flat_outcome : {R : Type 0} → Result R (Trouble Fault) → Result R Fault
+flat_outcome (Ok r) = Ok r
+flat_outcome (Err (Closure fault)) = Err fault
+flat_outcome (Err (OfFault fault)) = Err fault

@@ -12,8 +12,9 @@ ghost use Rattle.parallel_shares.specs.Cut.{BalancedCut, CutsFrom, range_length}
 mod prepared;
 
 use crate::call::Call;
-use crate::chosen::{begin_path, end_run, threads_by};
+use crate::chosen::{begin_path, threads_by};
 use crate::in_place::each_part;
+use crate::running::end_run;
 use crate::strategy::Strategy;
 use parallel_fault::{Fault, Trouble};
 use parallel_policy::Place;
@@ -190,7 +191,7 @@ impl<'scope, S: Strategy, P: Place> Batches<'scope, S, P> {
     /// let batch = |batches: Batches<'_, S, P>| {
     ///     batches.for_each_mut(rt, alloc, list, |from: usize, part: &mut [u64]| fill(from, part))
     /// };
-    /// strategy.run_batches(rt, alloc, SITE, len, minimum, 1, batch)??;
+    /// flat(strategy.try_run_batches(rt, alloc, SITE, len, minimum, 1, batch))?;
     /// ```
     ///
     /// # Errors

@@ -6,6 +6,7 @@ ghost use Rattle.commonware_parallel.specs.Calls.{HasPick, IsInnerOf};
 
 use crate::call::{Call, Kind, Pick};
 use crate::meter::Meter;
+use crate::running::Running;
 use parallel_fault::Fault;
 use parallel_policy::{Place, Site};
 use std::alloc::Global;
@@ -104,8 +105,9 @@ pub trait Chooser: Clone + Send + Sync + Debug + 'static {
     /// Is told that a run for which it chose has returned. Of one that failed, or was refused,
     /// nothing is told. A job ends away from its strategy, so its measure alone is told of its end.
     ///
-    /// Nothing is claimed of what is learnt. Where it isn't written the measure is ended.
-    fn tell<Rt: Wait>(&self, rt: &Rt, measure: Self::Measure) {
-        measure.end(rt);
+    /// Nothing is claimed of what is learnt. Where it isn't written the measure is ended, and where it
+    /// is it has to end the run, or take its measure: a `Running` can't be dropped.
+    fn tell<Rt: Wait>(&self, rt: &Rt, running: Running<Self::Measure>) {
+        running.ended(rt);
     }
 }

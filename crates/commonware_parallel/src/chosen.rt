@@ -1,76 +1,19 @@
-//! Picks by the kind of a call, and runs from their beginning to their end.
+//! Picks by the kind of a call, and runs that begin by them.
 //!
 //! A strategy picks for every kind of call. Which picks a call has goes by its kind: so one that
 //! goes by a path is given a path here, and any other a number of parts.
-ghost use Rattle.std.specs.Prelude.{◌<◌, ◌≡◌, ◌≢◌, ◌≤◌, Err, IfErr, IfOk, MatchResult, Ok, false, true};
+ghost use Rattle.std.specs.Prelude.{◌<◌, ◌≡◌, ◌≢◌, ◌≤◌, IfErr, IfOk, false, true};
 ghost use Rattle.commonware_parallel.specs.Words.{By, Into, IsMemoryOnErr, Spawn, goes_by_path};
 
 use crate::call::Call;
 use crate::chooser::Chooser;
-use crate::meter::Meter;
+use crate::running::Running;
 use parallel_bridge::Path;
-use parallel_fault::{Fault, Trouble};
+use parallel_fault::Fault;
 use parallel_policy::Place;
 use std::alloc::Global;
 use std::num::NonZeroUsize;
 use std::sync::Wait;
-
-/// A run that has begun, with what it is measured by.
-///
-/// It can't be dropped: who begins a run has to say that it has ended, and how. A function that
-/// leaves this out on one of its ways doesn't compile.
-pub(crate) struct Running<M> {
-    measure: M,
-}
-
-impl<M: Meter> Running<M> {
-    /// The run begins.
-    pub(crate) fn begun(measure: M) -> Running<M> {
-        let mut measure = measure;
-        measure.begin();
-        Running { measure }
-    }
-
-    /// The run has ended away from its strategy, and its measure tells so by itself.
-    pub(crate) fn ended<Rt: Wait>(self, rt: &Rt) {
-        let Running { measure } = self;
-        measure.end(rt);
-    }
-}
-
-/// The run has ended. Its strategy is told where it has succeeded: of an error nothing is told.
-pub(crate) fn end_run<S: Chooser, Rt: Wait>(
-    strategy: &S,
-    rt: &Rt,
-    running: Running<S::Measure>,
-    has_answered: bool,
-) {
-    let Running { measure } = running;
-    if has_answered {
-        strategy.tell(rt, measure);
-    }
-}
-
-/// The run has ended with the outcome of a body that may fail, whose error is the closure's.
-///
-/// # Errors
-///
-/// `Trouble::Closure` with the body's error.
-pub(crate) fn end_with<S: Chooser, Rt: Wait, R, E>(
-    strategy: &S,
-    rt: &Rt,
-    running: Running<S::Measure>,
-    outcome: Result<R, E>,
-) -> Result<R, Trouble<E>>
-    ensures { MatchResult outcome (λ answer. result ≡ Ok answer)
-        (λ error. result ≡ Err (Trouble.Closure error)) }
-{
-    end_run(strategy, rt, running, outcome.is_ok());
-    match outcome {
-        Ok(answer) => Ok(answer),
-        Err(error) => Err(Trouble::Closure(error)),
-    }
-}
 
 /// A path that the strategy takes for the call, with a measure of the run to come.
 ///

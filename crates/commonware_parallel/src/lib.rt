@@ -17,7 +17,9 @@ pub mod merkle;
 mod meter;
 pub mod mocks;
 mod on;
+mod outcome;
 mod rayon_strategy;
+mod running;
 mod runtime;
 mod sequential;
 mod spawned;
@@ -27,8 +29,9 @@ mod tiles;
 pub use batches::Batches;
 pub use call::{Call, Kind, Pick};
 pub use chooser::Chooser;
-pub use meter::{Measured, Meter, Unmeasured};
+pub use meter::{Learns, Measured, Meter, Unmeasured};
 pub use on::On;
+pub use outcome::flat;
 pub use parallel_bridge as bridge;
 pub use parallel_bridge::{
     Chunks, Copies, Counted, Enumerated, ExactSize, Indices, Pairs, Parts, Path, Producer, Source,
@@ -41,6 +44,7 @@ pub use parallel_pool::{ThreadPool, latch, rayon, sleep};
 pub use parallel_shares as shares;
 pub use parallel_shares::{Grid, cut};
 pub use rayon_strategy::Rayon;
+pub use running::Running;
 pub use runtime::Runtime;
 pub use sequential::Sequential;
 pub use spawned::{Closure, Job, Spawned};

@@ -17,6 +17,10 @@ pub trait Meter: Drop {
     fn end<Rt: Wait>(self, rt: &Rt);
 }
 
+/// A measure from which its strategy learns: one that is taken out of a run that has ended
+/// (`Running::into_measure`). Any other is ended with its run.
+pub trait Learns: Meter {}
+
 /// Measures nothing: the meter of a strategy that no policy chooses for.
 #[derive(Clone, Copy, Debug, PartialEq, Eq)]
 pub struct Unmeasured;
@@ -102,6 +106,8 @@ impl<C> Measured<C> {
         }
     }
 }
+
+impl<C: Clock> Learns for Measured<C> {}
 
 impl<C: Clock> Meter for Measured<C> {
     fn begin(&mut self) {

@@ -11,6 +11,7 @@ mod machine;
 use crate::call::{Call, Kind, Pick};
 use crate::chooser::Chooser;
 use crate::meter::{Measured, Sample, Told};
+use crate::running::Running;
 use parallel_fault::Fault;
 use parallel_policy::policy::INLINE_BUDGET;
 use parallel_policy::{Clock, Key, Place, Policy, RunExecution, Site, SpawnExecution, ask, tell};
@@ -307,7 +308,8 @@ impl<C: Clock> Chooser for Rayon<C> {
     }
 
     // Tells the policy how long a run took that it wanted measured.
-    fn tell<Rt: Wait>(&self, rt: &Rt, measure: Measured<C>) {
+    fn tell<Rt: Wait>(&self, rt: &Rt, running: Running<Measured<C>>) {
+        let measure = running.into_measure();
         let Some(policy) = &self.policy else { return };
         if let Sample::Run(key, ticket) = measure.sample {
             let clock = &self.clock;

@@ -11,15 +11,15 @@ ghost use Rattle.commonware_parallel.specs.Words.{AcceptsChunksMut, AcceptsEach,
 use crate::batches::Batches;
 use crate::call::Call;
 use crate::chooser::Chooser;
-use crate::chosen::{
-    Running, begin_path, choose_parts, choose_path, end_run, end_with, threads_by,
-};
+use crate::chosen::{begin_path, choose_parts, choose_path, threads_by};
 use crate::in_place::{each_chunk, each_item};
 use crate::list::{
     body_over, fold_by, fold_init_by, fold_init_iter, fold_iter, map_by, map_init_by,
     map_init_iter, map_iter, multiplied_body_over, partition_by, partition_iter,
     try_fold_as_it_comes, try_fold_by, try_map_by, try_map_iter,
 };
+use crate::outcome::flat;
+use crate::running::{Running, end_run, end_with};
 use crate::spawned::{Job, Spawned, begin};
 use crate::tiles::{Tiles, fold_tiles, serial_cost};
 use parallel_bridge::list::sort::sort_parallel;
@@ -62,7 +62,8 @@ use std::thread::{self, Threads};
 /// types.
 pub trait Strategy: Chooser {
     /// A result of one of two bodies, by the path that the strategy takes. `len` is the number of
-    /// items that the bodies stand for, by which a policy tells calls apart.
+    /// items that the bodies stand for, by which a policy tells calls apart. A run that returns is
+    /// told as a success, whatever it returns: bodies that may fail go by `try_run`.
     ///
     /// ```text
     /// let sum = strategy.run(rt, alloc, SITE, it.len(), || in_one(it), || in_halves(it))?;
@@ -818,11 +819,12 @@ pub trait Strategy: Chooser {
     /// There are at most as many ranges as the strategy is planned for. The work, by which a policy
     /// tells calls apart, is `len * multiplier`, which stops at the greatest `usize`. The batch
     /// goes through the strategy's `inner` and has the call's place. The closure has to accept each
-    /// batch that is one, and no other.
+    /// batch that is one, and no other. Whatever it returns, an `Err` too, its run is told as a
+    /// success: a closure that may fail goes by `try_run_batches`.
     ///
     /// ```text
-    /// let ranges = strategy.run_batches(rt, alloc, SITE, len, minimum, 1, |batches| {
-    ///     batches.ranges().to_vec(alloc)
+    /// let count = strategy.run_batches(rt, alloc, SITE, len, minimum, 1, |batches| {
+    ///     count_ranges(flags, batches.ranges())
     /// })?;
     /// ```
     ///
@@ -856,7 +858,8 @@ pub trait Strategy: Chooser {
         Ok(answer)
     }
 
-    /// As `run_batches`, with a closure that may fail by an error of its own.
+    /// As `run_batches`, with a closure that may fail by an error of its own. A policy is told
+    /// nothing of a batch that fails.
     ///
     /// ```text
     /// let sums = strategy.try_run_batches(rt, alloc, SITE, len, minimum, 1, |batches| {
@@ -901,12 +904,14 @@ pub trait Strategy: Chooser {
     /// policy tells calls apart, is the least cost for one worker times `multiplier`, which stops
     /// at the greatest `usize`. The tiles go through the strategy's `inner` and have the call's
     /// place. There has to be a grid, and the cells of each have to be countable (`Grid::fits`).
-    /// The closure has to accept all tiles of the grids, and no other.
+    /// The closure has to accept all tiles of the grids, and no other. Whatever it returns, an `Err`
+    /// too, its run is told as a success: a kernel that may fail, as one that fills the tiles, goes
+    /// by `try_run_tiles`.
     ///
     /// ```text
-    /// let kernel = |tiles: Tiles<'_, S, P>| count_rows(rt, alloc, tiles, matrix);
+    /// let planned = |tiles: Tiles<'_, S, P>| (tiles.workers(), tiles.is_cut());
     /// let grids = [Grid { rows, tile_cost }];
-    /// let counts = strategy.run_tiles(rt, alloc, SITE, len, &grids, 1, kernel)?;
+    /// let (workers, is_cut) = strategy.run_tiles(rt, alloc, SITE, len, &grids, 1, planned)?;
     /// ```
     ///
     /// # Errors
@@ -939,6 +944,47 @@ pub trait Strategy: Chooser {
         let answer = run(tiles);
         end_run(self, rt, running, true);
         Ok(answer)
+    }
+
+    /// As `run_tiles`, with a closure that may fail by an error of its own. A policy is told nothing
+    /// of a kernel that fails.
+    ///
+    /// ```text
+    /// let kernel = |tiles: Tiles<'_, S, P>| count_rows(rt, alloc, tiles, matrix);
+    /// let grids = [Grid { rows, tile_cost }];
+    /// let counts = flat(strategy.try_run_tiles(rt, alloc, SITE, len, &grids, 1, kernel))?;
+    /// ```
+    ///
+    /// # Errors
+    ///
+    /// `Trouble::Closure` with the closure's error. `Trouble::Fault` with `Fault::Memory` alone.
+    final fn try_run_tiles<Rt: Wait, P: Place, R, E, F>(
+        &self,
+        rt: &Rt,
+        alloc: Global,
+        site: P,
+        len: usize,
+        grids: &[Grid],
+        multiplier: usize,
+        run: F,
+    ) -> Result<R, Trouble<E>>
+    where
+        F: FnOnce(Tiles<'_, Self, P>) -> Result<R, E> + Drop,
+        requires fits { Fits grids.now len }
+        requires accepts { (tiles : Tiles Self P) (workers : ℕ)
+            → IsTiling grids.now len workers tiles → F.pre run tiles }
+        ensures { UnlessRefused result (λ out. OnSomeTiles Self.takes Self.refuses Self.plans
+            Self.threads Self.starts P.site_of self.now site grids.now len multiplier
+            (λ tiles. F.post run tiles out)) }
+    {
+        let inner = self.inner()?;
+        let cost = serial_cost(grids, len);
+        let call = Call::tiles(self.planning(), len, cost, multiplier);
+        let (workers, measure) = choose_parts(self, rt, alloc, site, call)?;
+        let tiles = Tiles::for_workers(&inner, site, grids, len, workers);
+        let running = Running::begun(measure);
+        let outcome = run(tiles);
+        end_with(self, rt, running, outcome)
     }
 
     /// A value for each row, of a kernel over parts of rows: `kernel` is called with a row and
@@ -1003,9 +1049,8 @@ pub trait Strategy: Chooser {
                 (rows_of tiles.entry) (columns_of tiles.entry) values.items) }
             ensures fault { IsMemoryOnErr result }
         { fold_tiles(tiles, rt, alloc, &kernel, &merge) };
-        let folded = self.run_tiles(rt, alloc, site, len, &grids, 1, run)?;
-        let values = folded?;
-        Ok(values)
+        let folded = self.try_run_tiles(rt, alloc, site, len, &grids, 1, run);
+        flat(folded)
     }
 }
 

@@ -8,7 +8,7 @@ ghost use Rattle.commonware_parallel.specs.Batches.{ranges_of};
 ghost use Rattle.uses.specs.Batches.{CoversOnce, digests_of};
 
 use crate::runs::count_in_one;
-use commonware_parallel::{Batches, Fault, Place, Strategy};
+use commonware_parallel::{Batches, Fault, Place, Strategy, flat};
 use sha2::{Digest as _, Sha256};
 use std::alloc::Global;
 use std::num::NonZeroUsize;
@@ -36,10 +36,14 @@ pub fn batch_ranges<Rt: Wait, P: Place, S: Strategy>(
         → All (λ range. non_zero_usize_get minimum ≤ range_length range) ranges.items) }
     ensures fault { IsMemoryOnErr result }
 {
-    let ranges = strategy.run_batches(rt, alloc, site, len, minimum, 1, |batches| {
-        batches.ranges().to_vec(alloc)
-    })?;
-    Ok(ranges?)
+    let list = |batches: Batches<'_, S, P>| -> Result<Vec<Range<usize>>, Fault>
+        ensures ranges { IfOk result (λ ranges. ranges.items ≡ ranges_of batches.entry) }
+        ensures fault { IsMemoryOnErr result }
+    {
+        let ranges = batches.ranges().to_vec(alloc)?;
+        Ok(ranges)
+    };
+    flat(strategy.try_run_batches(rt, alloc, site, len, minimum, 1, list))
 }
 
 /// How many of the flags are set, counted range by range. The closure is asked for balanced ranges

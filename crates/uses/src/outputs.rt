@@ -10,7 +10,7 @@ ghost use Rattle.parallel_fault.specs.Trouble.{IsMemoryOnErr};
 ghost use Rattle.parallel_shares.specs.Cut.{BalancedCut, CutsFrom};
 ghost use Rattle.commonware_parallel.specs.Batches.{ranges_of};
 
-use commonware_parallel::{Batches, Fault, Place, Strategy};
+use commonware_parallel::{Batches, Fault, Place, Strategy, flat};
 use std::alloc::Global;
 use std::num::NonZeroUsize;
 use std::ops::Range;
@@ -49,7 +49,7 @@ pub fn square_in_place<Rt: Threads + Wait + Sync, P: Place, S: Strategy>(
         };
         batches.map_collect_vec(rt, alloc, prepare, |part: &mut [u64]| square_each(part))
     };
-    strategy.run_batches(rt, alloc, site, len, NonZeroUsize::MIN, 1, run)?
+    flat(strategy.try_run_batches(rt, alloc, site, len, NonZeroUsize::MIN, 1, run))
 }
 
 // The parts of a list, which the ranges cut.

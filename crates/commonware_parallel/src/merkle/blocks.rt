@@ -5,9 +5,10 @@ ghost use Rattle.commonware_parallel.specs.Merkle.{MerkleRoot};
 ghost use Rattle.commonware_parallel.specs.MerkleBlocks.{AreTops, IsBlockSize};
 
 use crate::call::Call;
-use crate::chosen::{begin_path, end_run, threads_by};
+use crate::chosen::{begin_path, threads_by};
 use crate::merkle::descent::{block_size, descend};
 use crate::merkle::{plain_root, root};
+use crate::running::end_run;
 use crate::strategy::Strategy;
 use parallel_fault::Fault;
 use parallel_policy::Place;

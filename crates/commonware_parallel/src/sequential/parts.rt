@@ -99,4 +99,24 @@ impl Sequential {
     {
         run(Tiles::for_workers(self, site, grids, len, 1))
     }
+
+    /// As `run_tiles`, with a closure that may fail by an error of its own. Takes no memory.
+    ///
+    /// # Errors
+    ///
+    /// The closure's error.
+    pub fn try_run_tiles<
+        P: Place,
+        R,
+        E,
+        F: FnOnce(Tiles<'_, Sequential, P>) -> Result<R, E> + Drop,
+    >(&self, site: P, len: usize, grids: &[Grid], multiplier: usize, run: F) -> Result<R, E>
+        requires fits { Fits grids.now len }
+        requires accepts { (tiles : Tiles Sequential P)
+            → IsSerialTiling self.now site grids.now len tiles → F.pre run tiles }
+        ensures { (tiles : Tiles Sequential P) × IsSerialTiling self.now site grids.now len tiles
+            × F.post run tiles result }
+    {
+        self.run_tiles(site, len, grids, multiplier, run)
+    }
 }

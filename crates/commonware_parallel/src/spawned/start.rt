@@ -3,8 +3,8 @@ ghost use Rattle.std.specs.Prelude.{IfErr, IfOk, true};
 ghost use Rattle.parallel_bridge.specs.declared.path.Path.TheVariants.{Parallel, Serial};
 ghost use Rattle.commonware_parallel.specs.Spawned.{BeginsAs, FailsToBegin, gives_answer};
 
-use crate::chosen::Running;
 use crate::meter::Meter;
+use crate::running::Running;
 use crate::spawned::ending::Ending;
 use crate::spawned::job::{Job, Kept};
 use crate::spawned::{Spawned, Stage};

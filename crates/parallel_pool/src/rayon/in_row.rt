@@ -1,6 +1,6 @@
 //! Calls that run at the same time, in threads that one thread, the caller's, starts one after
 //! another.
-ghost use Rattle.std.specs.Prelude.{◌≡◌, [], ◌++◌, ◌+◌, ◌^◌, ◌<◌, ℕ, filter_map, length, map, vec_len, IfOk, OnOk};
+ghost use Rattle.std.specs.Prelude.{◌≡◌, [], ◌++◌, ◌+◌, ◌^◌, ◌<◌, ◌≤◌, ℕ, filter_map, length, map, vec_capacity, vec_len, IfOk};
 ghost use Rattle.std.specs.List.{cons_option};
 ghost use Rattle.std.specs.Fork.{AcceptsAt, AcceptsEach, AcceptsJobs, ChangesAt, ChangesEach, GivesJobs};
 ghost use Rattle.std.specs.Thread.{IsSync, IsSend};
@@ -28,7 +28,7 @@ pub(crate) struct Place<X: Drop, T: Drop> {
 /// Each call but one has a thread of its own, where one can be made; the others run on the caller's
 /// thread. Up to 64 threads are started by the caller's one after another; more items go in halves
 /// down to 64 of them, so the caller's stack grows with no more. All memory is taken before any
-/// thread is started.
+/// call: what gathers the results can't be refused, as it requires room for them (`answers_of`).
 ///
 /// # Errors
 ///
@@ -47,8 +47,7 @@ pub fn map_in_row<R: Threads + Sync, X: Send + Drop, T: Send + Drop, F: Fn(X) ->
     let answers = Vec::with_capacity(alloc, items.len())?;
     let mut places = waiting(alloc, items)?;
     answer_all(rt, op, places.as_mut_slice());
-    let answers = answers_of(places, answers)?;
-    Ok(answers)
+    Ok(answers_of(places, answers))
 }
 
 // A place for each item.
@@ -65,29 +64,29 @@ fn waiting<X: Drop, T: Drop>(alloc: Global, items: Vec<X>) -> Result<Vec<Place<X
     Ok(places)
 }
 
-// The results in the places, after those of the list, which has room for them.
-fn answers_of<X: Drop, T: Drop>(
-    places: Vec<Place<X, T>>,
-    mut answers: Vec<T>,
-) -> Result<Vec<T>, AllocError>
-    requires { answers.items ≡ [] }
-    ensures { IfOk result (λ answers. answers.items ≡ filter_map answer_of places.items) }
+// The results in the places, in a list that has room for them: of calls that were made nothing is
+// refused.
+fn answers_of<X: Drop, T: Drop>(places: Vec<Place<X, T>>, mut answers: Vec<T>) -> Vec<T>
+    requires empty { answers.items ≡ [] }
+    requires room { vec_len answers + length places.items ≤ vec_capacity answers }
+    ensures { result.items ≡ filter_map answer_of places.items }
 {
     for place in places {
-        add_answer(&mut answers, place)?;
+        add_answer(&mut answers, place);
     }
-    Ok(answers)
+    answers
 }
 
-fn add_answer<X: Drop, T: Drop>(answers: &mut Vec<T>, place: Place<X, T>) -> Result<(), AllocError>
-    ensures { OnOk result
-        (answers.new.items ≡ answers.old.items ++ cons_option (answer_of place) []) }
+fn add_answer<X: Drop, T: Drop>(answers: &mut Vec<T>, place: Place<X, T>)
+    requires { vec_len answers.old < vec_capacity answers.old }
+    ensures items { answers.new.items ≡ answers.old.items ++ cons_option (answer_of place) [] }
+    ensures len { vec_len answers.new ≤ vec_len answers.old + 1 }
+    ensures capacity { vec_capacity answers.new ≡ vec_capacity answers.old }
 {
     let Place { item: _, answer } = place;
     if let Some(answer) = answer {
-        answers.push(answer)?;
+        answers.push_reserved(answer);
     }
-    Ok(())
 }
 
 // The items that wait in the places get their results there, all at the same time.

@@ -122,6 +122,7 @@ const ANSWERED: &str = "\
     fold parallel 010 01 2 003: 66\n\
     threads 0 0 7 4: 4\n\
     threads 0 - 7 4: 7\n\
+    threads 0 x 7 4: 7\n\
     threads 70000 - - 4: 65535\n\
     threads 0 - - -: 1\n\
     threads 0 0 7 -: 1\n\

@@ -15,9 +15,11 @@ use crate::tests::roots::Rooted;
 use crate::tests::same::row;
 use crate::tests::steps::error_of_five;
 use crate::tests::strategies::{SITE, number};
-use commonware_parallel::{Call, Indices, Job, Kind, On, Site, Strategy, Trouble};
+use commonware_parallel::{Call, Fault, Grid, Indices, Job, Kind, On, Site, Strategy, Trouble};
 use futures::executor::block_on;
 use std::alloc::Global;
+use std::num::NonZeroUsize;
+use std::ops::Range;
 use std::process::Abort;
 use std::sync::{Arc, Wait};
 use std::thread::Threads;
@@ -215,6 +217,36 @@ fn a_batch_whose_map_fails_tells_no_more_than_its_closure_returns(rt: HostRuntim
             end,
         ];
         noting.log().has(&rt, batched, &lines);
+    }
+}
+
+// No value for a part of a row.
+fn none_of(_row: usize, _columns: Range<usize>) -> u64 {
+    0
+}
+
+#[test]
+fn a_kernel_that_fails_or_is_refused_tells_nothing(rt: HostRuntime) {
+    let (alloc, one) = (rt.alloc(), NonZeroUsize::MIN);
+    let refused = Noting::new(&rt, alloc, 4);
+    let add = u64::wrapping_add;
+    let folded = refused.fold_rows(&rt, alloc, PLACE, 1 << 60, 0, one, none_of, add);
+    row(&rt, "fold_rows", folded.err(), Some(Fault::Memory));
+    let failed = Noting::new(&rt, alloc, 4);
+    let grids = [Grid {
+        rows: 4,
+        tile_cost: one,
+    }];
+    let tried = failed.try_run_tiles(&rt, alloc, PLACE, 10, &grids, 1, |_| Err::<(), u32>(7));
+    row(&rt, "try_run_tiles", tried, Err(Trouble::Closure(7)));
+    for (noting, len, work) in [(refused, 0, 1 << 60), (failed, 10, 44)] {
+        let call = Call {
+            kind: Kind::Tiles,
+            len,
+            work,
+            max_parts: 4,
+        };
+        noting.log().has(&rt, work, &[asked(call), BEGUN, DROPPED]);
     }
 }
 

@@ -5,7 +5,7 @@ ghost use Rattle.commonware_parallel.specs.Calls.{last_pick};
 
 use crate::tests::probes::logs::{BEGUN, DROPPED, ENDED, INNER, Log, OUTER, TOLD, asked_at};
 use crate::tests::strategies::number;
-use commonware_parallel::{Call, Chooser, Fault, Kind, Meter, Pick, Place};
+use commonware_parallel::{Call, Chooser, Fault, Kind, Learns, Meter, Pick, Place, Running};
 use std::alloc::Global;
 use std::num::NonZeroUsize;
 use std::process::Abort;
@@ -77,6 +77,8 @@ impl Drop for Noted {
         write(&log, who, DROPPED);
     }
 }
+
+impl Learns for Noted {}
 
 impl Meter for Noted {
     // A job begins aside: it waits until its caller has it.
@@ -150,7 +152,7 @@ impl Chooser for Noting {
         Ok((call.last(), measure))
     }
 
-    fn tell<Rt: Wait>(&self, _rt: &Rt, measure: Noted) {
-        measure.close(TOLD);
+    fn tell<Rt: Wait>(&self, _rt: &Rt, running: Running<Noted>) {
+        running.into_measure().close(TOLD);
     }
 }

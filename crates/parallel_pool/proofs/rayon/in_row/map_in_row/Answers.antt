@@ -10,18 +10,18 @@ answer_all-requires-after_bounds g c κs within =
 
 pub returns-clause-len : goal.returns-clause-len
 returns-clause-len g c =
-    let all = answered g.F.Fn c.args.op.now c.args.items.items c.in_ok-answers-2.answers.items
+    let all = answered g.F.Fn c.args.op.now c.args.items.items c.answers_of.result.items
     c.as_mut_slice.result.now c.in_ok-places.places.items c.answer_all.new.places
     c.in_ok-places.places.len (c.as_mut_slice.ensures.value ∙ c.in_ok-places.ensures)
     (search rules) c.as_mut_slice.ensures.len c.answer_all.ensures
-    c.in_ok-answers-2.ensures in
-    omega (arith, all.0, c.in_ok-answers-2.answers.ok.0, c.args.items.ok.0)
+    c.answers_of.ensures in
+    omega (arith, all.0, c.answers_of.result.ok.0, c.args.items.ok.0)
 
 pub returns-clause-each : goal.returns-clause-each
 returns-clause-each g c i d l =
-    let all = answered g.F.Fn c.args.op.now c.args.items.items c.in_ok-answers-2.answers.items
+    let all = answered g.F.Fn c.args.op.now c.args.items.items c.answers_of.result.items
     c.as_mut_slice.result.now c.in_ok-places.places.items c.answer_all.new.places
     c.in_ok-places.places.len (c.as_mut_slice.ensures.value ∙ c.in_ok-places.ensures)
     (search rules) c.as_mut_slice.ensures.len c.answer_all.ensures
-    c.in_ok-answers-2.ensures in
+    c.answers_of.ensures in
     (refl, all.1 i d l)
