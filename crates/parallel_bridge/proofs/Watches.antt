@@ -1,6 +1,6 @@
 -- How two halves of a part end together, and what the seats of their watches then say, joined.
-use Rattle.parallel_bridge.proofs.Common.{◌≡◌, ℕ, ◌+◌, ◌-◌, ◌/◌, ◌≤◌, ◌<◌, List, [], ◌++◌, All, Contains, IfOk, Result, Ok, Err, refl, sym, subst, ◌∙◌, arith, All-append, All-weaker, All-contains}
-use Rattle.parallel_bridge.proofs.Common.{Trouble, Closure, PutTogether, UnlessRefused, Halt, Failed, Stopped, GateSeat, GateView, GateWatch, greatest, gathered, newcomer, IsGateSeatOf, All-nil, front_half, back_half, known, stands_for}
+use Rattle.parallel_bridge.proofs.Common.{◌≡◌, ℕ, ◌+◌, ◌-◌, ◌/◌, ◌≤◌, ◌<◌, List, [], ◌++◌, All, Contains, IfOk, Result, Ok, Err, refl, sym, subst, ◌∙◌, arith, ◌⊎◌, inl, inr, All-append, All-weaker, All-contains, Contains-append_left, Contains-append_right}
+use Rattle.parallel_bridge.proofs.Common.{Trouble, Closure, OfFault, PutTogether, UnlessRefused, Halt, Failed, Stopped, GateSeat, GateView, GateWatch, greatest, gathered, newcomer, IsGateSeatOf, All-nil, front_half, back_half, known, stands_for}
 use Rattle.parallel_bridge.proofs.Common.{IsFull, OneAfterAnother, View, written, IsUnhalted, NotStopped, halting}
 use Rattle.parallel_bridge.specs.Endings.{EndTogether, Ending, IsUnstopped, SeatEnds, ToldAfter, WatchEnds, WatchesJoin, ending, ending_of, failing, refusing, stopping, well}
 use Rattle.parallel_bridge.specs.Fills.{Filled}
@@ -16,19 +16,24 @@ silent P told none = subst (All P) (sym none) (All-nil P)
 module _ (start half count seats : ℕ) (within : half ≤ count) (positive : 0 < half)
     (v w : GateView) where
   -- two that ended well
-  both_told : (z : Ending) → v.told ≡ [] → w.told ≡ [] → IsUnstopped z
+  both_told : (z : Ending) → v.told ≡ [] → w.told ≡ [] → (z ≡ well) ⊎ (z ≡ refusing)
       → ToldAfter start count (gathered v w) z
-  both_told well left right is = λ i. left i ++ right i
-  both_told failing left right is = tt
-  both_told stopping left right is = absurd is
-  both_told refusing left right is =
-      silent (λ told. start < told) (v.told ++ w.told) (λ i. left i ++ right i)
+  both_told z left right (inl is) = rw is (λ i. left i ++ right i)
+  both_told z left right (inr is) =
+      rw is (silent (λ told. start < told) (v.told ++ w.told) (λ i. left i ++ right i))
 
   told_together : (x y z : Ending) → ToldAfter start half v x
       → ToldAfter (start + half) (count - half) w y → All (λ told. start + half ≤ told) w.told
       → EndTogether x y z → ToldAfter start count (gathered v w) z
   told_together well well z left right beyond is = both_told z left right is
-  told_together well failing z left right beyond is = rw is tt
+  told_together well failing z left (at, near, far, has, least) beyond is =
+      let all = silent (λ told. at ≤ told) v.told left in rw is (
+        at,
+        omega arith,
+        omega arith,
+        Contains-append_right v.told w.told at has,
+        All-append (λ told. at ≤ told) v.told w.told all least,
+      )
   told_together well stopping z left (at, near, less, far) beyond is =
       let all = silent (λ told. at ≤ told) v.told left in
       rw is (at, omega arith, omega arith, All-append (λ told. at ≤ told) v.told w.told all far)
@@ -36,7 +41,15 @@ module _ (start half count seats : ℕ) (within : half ≤ count) (positive : 0 
       v.told w.told (silent (λ told. start < told) v.told left)
       (All-weaker (λ told. start + half < told) (λ told. start < told) (λ told h. omega arith)
       w.told right))
-  told_together failing y z left right beyond is = rw is tt
+  told_together failing y z (at, near, far, has, least) right beyond is =
+      let all = All-weaker (λ told. start + half ≤ told) (λ told. at ≤ told) (λ told h. omega arith)
+      w.told beyond in rw is (
+        at,
+        omega arith,
+        omega arith,
+        Contains-append_left v.told w.told at has,
+        All-append (λ told. at ≤ told) v.told w.told least all,
+      )
   told_together stopping y z (at, near, less, none) right beyond is =
       let all = All-weaker (λ told. start + half ≤ told) (λ told. at ≤ told) (λ told h. omega arith)
       w.told beyond in
@@ -119,7 +132,7 @@ not_stopped (Err (Closure Stopped)) h = h
 not_stopped done h = tt
 
 module _ {R E : Type 0} (node : R → R → Result R (Halt E) → Type 0)
-    (unstopped : (a b : R) → node a b (Err Stopped) → ⊥) where
+    (never : (a b : R) (e : Halt E) → node a b (Err e) → ⊥) where
   left_trouble : (t : Trouble (Halt E)) (y : Ending)
       → EndTogether (ending_of {R = R} (Err t)) y (ending_of {R = R} (Err t))
   left_trouble (Closure (Failed e)) y = refl
@@ -131,9 +144,10 @@ module _ {R E : Type 0} (node : R → R → Result R (Halt E) → Type 0)
   right_trouble t = refl
 
   two_values : (a b : R) (c : Result R (Trouble (Halt E))) → UnlessRefused c (λ out. node a b out)
-      → IsUnstopped (ending_of c)
-  two_values a b (Err (Closure Stopped)) n = unstopped a b n
-  two_values a b c n = tt
+      → EndTogether well well (ending_of c)
+  two_values a b (Ok r) n = inl refl
+  two_values a b (Err (Closure e)) n = absurd (never a b e n)
+  two_values a b (Err (OfFault f)) n = inr refl
 
   -- outcomes that are put together end together
   pub ends_together : (a b c : Result R (Trouble (Halt E))) → PutTogether node a b c
@@ -161,7 +175,7 @@ pub windows_together : {T E : Type 0} (a b c : View T)
 windows_together a b c x y z is =
     subst (λ (e : Ending × Ending × Ending). EndTogether e.0 e.1 e.2)
     (λ i. (written_ends a x i, written_ends b y i, written_ends c z i))
-    (ends_together OneAfterAnother (λ p q none. none) (written a x) (written b y) (written c z) is)
+    (ends_together OneAfterAnother (λ p q e none. none) (written a x) (written b y) (written c z) is)
 
 unhalted_full : {E : Type 0} (Full : Type 0) (done : Result (Unit {0}) (Trouble (Halt E)))
     (result : Result (Unit {0}) (Trouble E)) → IsUnhalted done result → IfOk done (λ _. Full)

@@ -1,5 +1,5 @@
 -- How a part of a list ended, whatever its values and its errors are, and what a watch says of it.
-use Rattle.std.specs.Prelude.{◌≡◌, ℕ, ◌+◌, ◌<◌, ◌≤◌, ◌⊎◌, List, [], ◌∷◌, ◌++◌, length, All, Result, Ok, Err}
+use Rattle.std.specs.Prelude.{◌≡◌, ℕ, ◌+◌, ◌<◌, ◌≤◌, ◌⊎◌, List, [], ◌∷◌, ◌++◌, length, All, Contains, Result, Ok, Err}
 use Rattle.parallel_fault.specs.declared.fault.Trouble.{Trouble}
 use Rattle.parallel_fault.specs.declared.fault.Trouble.TheVariants.{Closure}
 use Rattle.parallel_fault.specs.declared.fault.Trouble.TheVariants.{Fault as OfFault}
@@ -39,9 +39,9 @@ IsUnstopped stopping = ⊥
 IsUnstopped refusing = Unit {0}
 
 -- how two neighbours end together: the left one's trouble stands, after a left one that ended well
--- the right one's, and two that ended well aren't stopped together
+-- the right one's, and two that ended well do so together, unless they are refused
 abbrev pub EndTogether : Ending → Ending → Ending → Type 0
-EndTogether well well z = IsUnstopped z
+EndTogether well well z = (z ≡ well) ⊎ (z ≡ refusing)
 EndTogether well failing z = z ≡ failing
 EndTogether well stopping z = z ≡ stopping
 EndTogether well refusing z = z ≡ refusing
@@ -60,6 +60,14 @@ abbrev pub Goes : {W : Type 0} → (W → ℕ → W → Ending → Type 0) → W
 Goes {W = W} ends old new how =
     (first : W) (count : ℕ) → ends first count old well → ends first count new how
 
+-- What watched two halves, by how these ended, became what watched them both, of which they say how
+-- both end together; and it was told where what puts them together failed.
+abbrev pub JoinsTo : {W : Type 0} → (W → ℕ → W → Ending → Type 0) → (W → W → W → Type 0) → W → W → W
+    → Ending → Ending → Ending → Type 0
+JoinsTo {W = W} ends joins left right last x y z = (both : W) × (between : Ending)
+    × joins left right both × EndTogether x y between
+    × ((first : W) (count : ℕ) → ends first count both between → ends first count last z)
+
 -- it has looked once more
 abbrev pub LooksOnce : {W : Type 0} → (W → ℕ → W → Type 0) → W → W → Type 0
 LooksOnce {W = W} looked old new =
@@ -70,21 +78,27 @@ abbrev pub LooksMore : {W : Type 0} → (W → ℕ → W → Type 0) → ℕ →
 LooksMore {W = W} looked more old new =
     (first : W) (count : ℕ) → looked first count old → looked first (count + more) new
 
--- it has looked once for each item of a list that may come: up to its last item, or in front of one
--- after which no item makes a difference
+-- it has looked once for each item of a list that may come: up to its last item, or in front of the
+-- next one, after which no item makes a difference
 abbrev pub LooksAlong : {W S X : Type 0} → (W → ℕ → W → Type 0) → W → W → (S → List X → Type 0)
     → S → (List X → Type 0) → Type 0
 LooksAlong {X = X} looked old new gives items settled = (front rest : List X)
     × gives items (front ++ rest) × LooksMore looked (length front) old new
-    × ((rest ≡ []) ⊎ ((x : X) × ((more : List X) → settled (front ++ x ∷ more))))
+    × ((rest ≡ []) ⊎ ((x : X) × (others : List X) × (rest ≡ x ∷ others)
+    × ((more : List X) → settled (front ++ x ∷ more))))
 
 -- ---- of a watch of a gate
 
--- what the joined seats of a part have told at its end: nothing where it ended well; and a refusal
--- isn't told
+-- a segment of the part told its start, and nobody in the part a lesser one
+abbrev pub ToldWithin : ℕ → ℕ → GateView → Type 0
+ToldWithin start count v = (at : ℕ) × (start ≤ at) × (at ≤ start + count) × Contains v.told at
+    × All (λ told. at ≤ told) v.told
+
+-- what the joined seats of a part have told at its end: nothing where it ended well, a segment's
+-- start where one failed; and a refusal isn't told
 abbrev pub ToldAfter : ℕ → ℕ → GateView → Ending → Type 0
 ToldAfter start count v well = v.told ≡ []
-ToldAfter start count v failing = Unit {0}
+ToldAfter start count v failing = ToldWithin start count v
 ToldAfter start count v stopping = StoppedWithin start count v
 ToldAfter start count v refusing = All (λ told. start < told) v.told
 

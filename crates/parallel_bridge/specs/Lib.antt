@@ -18,6 +18,7 @@ pub mod Gates
 pub mod Halting
 pub mod Endings
 pub mod WatchLaws
+pub mod Watched
 pub mod Zips
 pub mod ExactSizes
 pub mod Serials

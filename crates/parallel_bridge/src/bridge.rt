@@ -1,7 +1,7 @@
 //! Lists handed to a consumer, split along their shape.
 ghost use Rattle.std.specs.Prelude.{◌≡◌, ◌*◌, ◌<◌, ◌≤◌, ◌⊎◌, List, Result, length};
 ghost use Rattle.std.specs.Int.NonZero.{non_zero_usize_get};
-ghost use Rattle.parallel_bridge.specs.Endings.{ending_of};
+ghost use Rattle.parallel_bridge.specs.Endings.{IsUnderway, JoinsTo, ending_of, well};
 ghost use Rattle.parallel_bridge.specs.Halting.{halting, unstopped};
 ghost use Rattle.parallel_bridge.specs.Outcomes.{PutTogether};
 ghost use Rattle.parallel_bridge.specs.Shapes.{cutdepth, Shape, leaf_lengths};
@@ -17,6 +17,7 @@ use crate::segment::Segment;
 use crate::segments::depth_of;
 use crate::troubles::{put_together, unhalt};
 use crate::watch::{Unwatched, Watch};
+use crate::watched::Watched;
 use parallel_fault::Trouble;
 use std::alloc::Global;
 use std::marker::PhantomData;
@@ -118,12 +119,14 @@ impl<X: Send + Drop, S: Segment<X>, C: Consumer<X> + Send, G: Watch + Send> Task
         × G.ends s.watch (S.count s.parts) d.2 (ending_of d.0) };
 
     ghost meet = { λ seam a b. ((p q : C.Result) → C.Reducer.can_reduce seam p q)
-        × ((whole : S) × S.meets whole a.1 b.1) × G.meets a.2 b.2 };
+        × ((whole : S) × S.meets whole a.1 b.1) × G.meets a.2 b.2
+        × ((both : G) → G.joins a.2 b.2 both → ending_of a.0 ≡ well → ending_of b.0 ≡ well
+        → IsUnderway G.ends both) };
 
     ghost together = { λ seam a b c. PutTogether
         (λ p. unstopped (C.Reducer.reduce_gives seam p)) a.0 b.0 c.0
         × ((whole : S) → S.meets whole a.1 b.1 → S.leaves whole c.1)
-        × G.joins a.2 b.2 c.2 };
+        × JoinsTo G.ends G.joins a.2 b.2 c.2 (ending_of a.0) (ending_of b.0) (ending_of c.0) };
 
     fn is_leaf(&self, depth: usize) -> bool {
         depth == 0 || self.parts.len() < 2
@@ -159,22 +162,27 @@ impl<X: Send + Drop, S: Segment<X>, C: Consumer<X> + Send, G: Watch + Send> Task
     }
 
     fn run(self, alloc: Global) -> Self::Done {
-        let items = self.parts.into_items();
-        let mut watch = self.watch;
-        let stopped = watch.stopped();
-        if stopped {
-            return (Err(Trouble::Closure(Halt::Stopped)), items.rest(), watch);
-        }
+        let items = Watched::new(self.parts.into_items(), self.watch);
+        let leave = match items.look() {
+            Ok(leave) => leave,
+            Err(held) => {
+                let (rest, watch) = held.rest();
+                return (Err(Trouble::Closure(Halt::Stopped)), rest, watch);
+            }
+        };
         let folder = match self.consumer.into_folder(alloc) {
             Ok(folder) => folder,
-            Err(fault) => return (Err(Trouble::Fault(fault)), items.rest(), watch),
+            Err(fault) => {
+                let (rest, watch) = leave.unused().rest();
+                return (Err(Trouble::Fault(fault)), rest, watch);
+            }
         };
-        let (answer, rest) = feed_items(alloc, items, folder, &mut watch);
-        (answer, rest, watch)
+        feed_items(alloc, leave, folder)
     }
 
     fn join(seam: C::Reducer, left: Self::Done, right: Self::Done) -> Self::Done {
-        let answer = put_together(left.0, right.0, seam);
-        (answer, S::join(left.1, right.1), left.2.join(right.2))
+        let rest = S::join(left.1, right.1);
+        let (answer, watch) = put_together((left.0, left.2), (right.0, right.2), seam);
+        (answer, rest, watch)
     }
 }

@@ -16,6 +16,7 @@ use crate::parts::Parts;
 use crate::segment::Segment;
 use crate::troubles::unhalt;
 use crate::watch::{Unwatched, Watch};
+use crate::watched::Watched;
 use crate::window::part::Window;
 use parallel_fault::Trouble;
 use std::alloc::Global;
@@ -172,11 +173,10 @@ where
 
     fn run(self, _alloc: Global) -> Self::Done {
         let mut room = self.room;
-        let mut watch = self.watch;
         // (asked for the proof: its clause is the one that says how many items come)
         let _len = self.parts.len();
-        let items = self.parts.into_items();
-        let (done, rest) = write_items(self.writer, items, &mut room, &mut watch);
+        let items = Watched::new(self.parts.into_items(), self.watch);
+        let (done, rest, watch) = write_items(self.writer, items, &mut room);
         match done {
             Ok(()) => (room, Ok(()), rest, watch),
             Err(halt) => (room, Err(Trouble::Closure(halt)), rest, watch),

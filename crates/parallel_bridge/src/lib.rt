@@ -25,6 +25,7 @@ pub mod source;
 pub mod splitter;
 mod troubles;
 pub mod watch;
+pub mod watched;
 pub mod window;
 pub mod zipped;
 
@@ -60,6 +61,7 @@ pub use segment::{ProducerSegment, Segment, WindowSegment};
 pub use source::{ByCount, ByIter, ByPairs, ByParts, ByVec, Source};
 pub use splitter::{LengthSplitter, Splitter};
 pub use watch::{Unwatched, Watch};
+pub use watched::{Coming, Leave, Watched};
 pub use window::block::Block;
 pub use window::home::Home;
 pub use window::part::Window;

@@ -2,40 +2,53 @@
 //! and the whole's without what stands for none of its errors.
 ghost use Rattle.std.specs.Prelude.{◌≡◌, IfOk, Ok};
 ghost use Rattle.parallel_fault.specs.Trouble.{IsMemoryOnErr};
+ghost use Rattle.parallel_bridge.specs.Endings.{IsUnderway, JoinsTo, ending_of, well};
 ghost use Rattle.parallel_bridge.specs.Halting.{IsUnhalted, NotStopped, unstopped};
 ghost use Rattle.parallel_bridge.specs.Outcomes.{PutTogether, UnlessRefused};
 
 use crate::halt::Halt;
 use crate::plumbing::Reducer;
+use crate::watch::Watch;
 use parallel_fault::{Fault, Trouble};
 use std::convert::Infallible;
 
-/// The results of two neighbouring parts put together.
+/// The results of two neighbouring parts put together, and their watches joined. The watch of both
+/// is told where the reducer fails.
 ///
 /// # Errors
 ///
 /// The left one's trouble, or else the right one's, or else the reducer's.
-pub(crate) fn put_together<R: Drop, E: Drop, G: Reducer<R, E>>(
-    first: Result<R, Trouble<Halt<E>>>,
-    second: Result<R, Trouble<Halt<E>>>,
-    reducer: G,
-) -> Result<R, Trouble<Halt<E>>>
-    requires { (a b : R) → G.can_reduce reducer a b }
-    ensures { PutTogether (λ a. unstopped (G.reduce_gives reducer a)) first second result }
+pub(crate) fn put_together<R: Drop, E: Drop, T: Reducer<R, E>, G: Watch>(
+    first: (Result<R, Trouble<Halt<E>>>, G),
+    second: (Result<R, Trouble<Halt<E>>>, G),
+    reducer: T,
+) -> (Result<R, Trouble<Halt<E>>>, G)
+    requires can { (a b : R) → T.can_reduce reducer a b }
+    requires meet { G.meets first.1 second.1 }
+    requires underway { (both : G) → G.joins first.1 second.1 both → ending_of first.0 ≡ well
+        → ending_of second.0 ≡ well → IsUnderway G.ends both }
+    ensures outcome { PutTogether (λ a. unstopped (T.reduce_gives reducer a)) first.0 second.0
+        result.0 }
+    ensures watch { JoinsTo G.ends G.joins first.1 second.1 result.1 (ending_of first.0)
+        (ending_of second.0) (ending_of result.0) }
 {
-    let left = match first {
+    let mut watch = first.1.join(second.1);
+    let left = match first.0 {
         Ok(left) => left,
-        Err(trouble) => return Err(trouble),
+        Err(trouble) => return (Err(trouble), watch),
     };
-    let right = match second {
+    let right = match second.0 {
         Ok(right) => right,
-        Err(trouble) => return Err(trouble),
+        Err(trouble) => return (Err(trouble), watch),
     };
     let answer = reducer.reduce(left, right);
     match answer {
-        Ok(value) => Ok(value),
-        Err(Trouble::Closure(error)) => Err(Trouble::Closure(Halt::Failed(error))),
-        Err(Trouble::Fault(fault)) => Err(Trouble::Fault(fault)),
+        Ok(value) => (Ok(value), watch),
+        Err(Trouble::Closure(error)) => {
+            watch.failed();
+            (Err(Trouble::Closure(Halt::Failed(error))), watch)
+        }
+        Err(Trouble::Fault(fault)) => (Err(Trouble::Fault(fault)), watch),
     }
 }
 

@@ -4,10 +4,12 @@ ghost use Rattle.parallel_bridge.specs.Fills.{Answered, IsFull, IsRoom, SamePlac
 ghost use Rattle.parallel_bridge.specs.Endings.{Goes, IsUnderway, ending};
 ghost use Rattle.parallel_bridge.specs.Halting.{halting};
 ghost use Rattle.parallel_bridge.specs.Sources.{GivesSome};
+ghost use Rattle.parallel_bridge.specs.Watched.{items_of, watch_of};
 
 use crate::cursor::Cursor;
 use crate::halt::Halt;
 use crate::watch::Watch;
+use crate::watched::Watched;
 use crate::window::part::Window;
 
 /// Gives the results for the items of a segment one by one, with a state that goes from item to item
@@ -52,48 +54,57 @@ pub trait Writer<Item: Drop>: Sized + Drop {
 
 /// Writes the results for the items that come, in their order, up to the first item that fails,
 /// whose error it returns, or to the look that stops it. There is a place for each item. It looks
-/// before the first item and after each, and tells the watch of its own error at once. The items
-/// after an error or a stop are dropped. It takes no memory.
+/// before each item and after the last, and the watch was told of an error before the items after
+/// it are dropped. It takes no memory.
 pub fn write_items<X: Drop, L, C: Cursor<X, L>, W: Writer<X>, G: Watch>(
     writer: &W,
-    items: C,
+    items: Watched<C, G>,
     room: &mut Window<W::Answer>,
-    watch: &mut G,
-) -> (Result<(), Halt<W::Error>>, L)
-    requires items { C.ready items }
+) -> (Result<(), Halt<W::Error>>, L, G)
+    requires items { C.ready (items_of items) }
     requires ready { W.ready writer.now }
-    requires takes { (x : X) → C.may items x → W.takes writer.now x }
+    requires takes { (x : X) → C.may (items_of items) x → W.takes writer.now x }
     requires room { IsRoom room.old }
-    requires enough { (xs : List X) → C.gives items xs → length xs ≡ room.old.room }
-    requires watch { IsUnderway G.ends watch.old }
+    requires enough { (xs : List X) → C.gives (items_of items) xs → length xs ≡ room.old.room }
+    requires watch { IsUnderway G.ends (watch_of items) }
     ensures place { SamePlaces room.old room.new }
     ensures full { IfOk result.0 (λ _. IsFull room.new) }
-    ensures gives { GivesSome C.gives items (λ xs. halting
+    ensures gives { GivesSome C.gives (items_of items) (λ xs. halting
         (Answered (W.so_far writer.now) (W.fails writer.now)) xs (kept result.0 room.new.items)) }
-    ensures leaves { C.leaves items result.1 }
-    ensures goes { Goes G.ends watch.old watch.new (ending result.0) }
-    ensures looks { IfOk result.0 (λ _. G.looked watch.old (room.old.room + 1) watch.new) }
+    ensures leaves { C.leaves (items_of items) result.1 }
+    ensures goes { Goes G.ends (watch_of items) result.2 (ending result.0) }
+    ensures looks { IfOk result.0 (λ _. G.looked (watch_of items) (room.old.room + 1) result.2) }
 {
     let mut items = items;
     let mut state = writer.begin();
     while room.len() < room.room() {
-        if watch.stopped() {
-            return (Err(Halt::Stopped), items.rest());
-        }
-        let Some(item) = items.next() else {
-            return (Ok(()), items.end());
+        let leave = match items.look() {
+            Ok(leave) => leave,
+            Err(held) => {
+                let (rest, watch) = held.rest();
+                return (Err(Halt::Stopped), rest, watch);
+            }
         };
-        match writer.answer(&mut state, item) {
+        let coming = match leave.next() {
+            Ok(coming) => coming,
+            Err(held) => {
+                let (rest, watch) = held.end();
+                return (Ok(()), rest, watch);
+            }
+        };
+        let (answer, others) = coming.answer(writer, &mut state);
+        items = others;
+        match answer {
             Ok(answer) => room.put(answer),
             Err(error) => {
-                watch.failed();
-                return (Err(Halt::Failed(error)), items.rest());
+                let (rest, watch) = items.rest();
+                return (Err(Halt::Failed(error)), rest, watch);
             }
         }
     }
-    let rest = items.rest();
+    let (rest, mut watch) = items.rest();
     if watch.stopped() {
-        return (Err(Halt::Stopped), rest);
+        return (Err(Halt::Stopped), rest, watch);
     }
-    (Ok(()), rest)
+    (Ok(()), rest, watch)
 }

@@ -1,9 +1,8 @@
 -- The outcomes of the halves go along the shape, of two errors the left one stands, and their
 -- watches are joined.
-use Rattle.parallel_bridge.proofs.{◌≡◌, ◌-◌, ◌/◌, arith, refl, subst, driven_node, halting, unstopped}
+use Rattle.parallel_bridge.proofs.{◌≡◌, ◌-◌, ◌/◌, arith, inl, refl, subst, sym, driven_node, halting, unstopped}
 use Rattle.parallel_bridge.proofs.Feeds.{halting_weaker, unstopped_weaker}
-use Rattle.parallel_bridge.proofs.Watches.{ends_together}
-use Rattle.parallel_bridge.specs.Endings.{ending_of}
+use Rattle.parallel_bridge.specs.Endings.{EndTogether, Ending, ending_of, well}
 use Rattle.parallel_bridge.proofs.bridge.HandingTask.split.Goals as goal
 
 pub returns-clause-meet : goal.returns-clause-meet
@@ -11,12 +10,19 @@ returns-clause-meet g c depth a b left right =
     let S = g.S.Segment in let parts = c.in-Ok-split_at.ensures in
     let counted = c.len-len.ensures.counted in let watches = c.halve-left_watch.result in
     let back : S.count c.in-Ok-split_at.halves.1 ≡ c.len-len.result - c.len-len.result / 2 =
-    omega (arith, parts.counts.1, counted) in (
+    omega (arith, parts.counts.1, counted) in
+    let first = subst (λ n. g.G.Watch.ends watches.0 n a.2 (ending_of a.0)) parts.counts.0 left.2 in
+    let second = subst (λ n. g.G.Watch.ends watches.1 n b.2 (ending_of b.0)) back right.2 in (
       c.in-Ok.ensures.reducer,
       (c.args.self.parts, parts.rests a.1 b.1 left.1 right.1),
-      c.halve-left_watch.ensures.meet (ending_of a.0) (ending_of b.0) a.2 b.2
-          (subst (λ n. g.G.Watch.ends watches.0 n a.2 (ending_of a.0)) parts.counts.0 left.2)
-          (subst (λ n. g.G.Watch.ends watches.1 n b.2 (ending_of b.0)) back right.2),
+      c.halve-left_watch.ensures.meet (ending_of a.0) (ending_of b.0) a.2 b.2 first second,
+      λ both joins is_left is_right. (
+        c.args.self.watch,
+        c.len-len.result,
+        c.halve-left_watch.ensures.joined (ending_of a.0) (ending_of b.0) well a.2 b.2 both first
+            second joins (subst (λ (e : Ending × Ending). EndTogether e.0 e.1 well)
+            (λ i. (sym is_left i, sym is_right i)) (inl refl)),
+      ),
     )
 
 pub returns-clause-node : goal.returns-clause-node
@@ -25,7 +31,7 @@ returns-clause-node g c depth a b all above left right together =
     let parts = c.in-Ok-split_at.ensures in let halves = c.in-Ok.ensures in
     let l = c.in-Ok.consumers.0 in let r = c.in-Ok.consumers.1 in
     let reduce = g.C.Reducer.Reducer.reduce_gives c.in-Ok.consumers.2 in
-    let half = c.len-len.result / 2 in let counted = c.len-len.ensures.counted in
+    let joins = together.2 in let half = c.len-len.result / 2 in let counted = c.len-len.ensures.counted in
     let watches = c.halve-left_watch.result in
     let back : S.count c.in-Ok-split_at.halves.1 ≡ c.len-len.result - half =
     omega (arith, parts.counts.1, counted) in (
@@ -48,10 +54,9 @@ returns-clause-node g c depth a b all above left right together =
           a.0 b.0 all.0 left.0 right.0 together.0,
       together.1 self.parts (parts.rests a.1 b.1 left.1 right.1),
       subst (λ n. g.G.Watch.ends self.watch n all.2 (ending_of all.0)) counted
-          (c.halve-left_watch.ensures.joined (ending_of a.0) (ending_of b.0) (ending_of all.0)
-          a.2 b.2 all.2
+          (joins.4 self.watch c.len-len.result
+          (c.halve-left_watch.ensures.joined (ending_of a.0) (ending_of b.0) joins.1 a.2 b.2 joins.0
           (subst (λ n. g.G.Watch.ends watches.0 n a.2 (ending_of a.0)) parts.counts.0 left.2)
-          (subst (λ n. g.G.Watch.ends watches.1 n b.2 (ending_of b.0)) back right.2) together.2
-          (ends_together (λ p. unstopped (reduce p)) (λ p q none. none) a.0 b.0 all.0
-          together.0)),
+          (subst (λ n. g.G.Watch.ends watches.1 n b.2 (ending_of b.0)) back right.2) joins.2
+          joins.3)),
     )
