@@ -26,7 +26,7 @@ returns-clause-folds g c =
     (λ values run.
     let tiles = run.6 in
     let gave : FoldsRows kernel merge (rows_of tiles) (columns_of tiles) values.items =
-    run.10.1.folds in
+    run.10.1.0 in
     subst (λ n. FoldsRows kernel merge n c.args.len values.items)
     (only_grid _ c.args.len run.2 tiles run.7)
     (subst (λ n. FoldsRows kernel merge (rows_of tiles) n values.items) run.7.columns gave))
@@ -55,4 +55,4 @@ returns-clause-asked g c =
 pub returns-clause-fault : goal.returns-clause-fault
 returns-clause-fault g c =
     flat_memory c.try_run_tiles-folded.result c.flat.result _ c.flat.ensures
-    c.try_run_tiles-folded.ensures (λ fault run. run.10.1.fault)
+    c.try_run_tiles-folded.ensures (λ fault run. run.10.1.1)
