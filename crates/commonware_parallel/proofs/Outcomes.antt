@@ -21,27 +21,12 @@ pub closure_told : {R E : Type 0} (out : Result R E) (result : Result R (Trouble
 closure_told (Ok r) result P same h = subst (λ x. UnlessRefused x P) (sym same) h
 closure_told (Err e) result P same h = subst (λ x. UnlessRefused x P) (sym same) h
 
--- what holds of an outcome's result, where the closure's own error is a refusal
-pub flat_answer : {R : Type 0} (out : Result R (Trouble Fault)) (P : Result R Fault → Type 0)
-    → UnlessRefused out P → IfOk (flat_outcome out) (λ r. P (Ok r))
-flat_answer (Ok r) P h = h
-flat_answer (Err (Closure e)) P h = tt
-flat_answer (Err (OfFault x)) P h = tt
-
--- a refusal of a call whose closure is refused memory alone is one of memory
-pub flat_memory : {R : Type 0} (out : Result R (Trouble Fault)) (P : Result R Fault → Type 0)
-    → ((fault : Fault) → P (Err fault) → fault ≡ Memory) → UnlessRefused out P
-    → IsMemoryOnErr (flat_outcome out)
-flat_memory (Ok r) P f h = tt
-flat_memory (Err (Closure e)) P f h = f e h
-flat_memory (Err (OfFault x)) P f h = h
-
 -- what follows of an outcome's result
 pub told_answer : {R E : Type 0} (result : Result R (Trouble E)) (P : Result R E → Type 0)
-    (Q : R → Type 0) → ((r : R) → P (Ok r) → Q r) → UnlessRefused result P → IfOk result Q
-told_answer (Ok r) P Q f h = f r h
-told_answer (Err (Closure e)) P Q f h = tt
-told_answer (Err (OfFault x)) P Q f h = tt
+    (Q : R → Type 0) → UnlessRefused result P → ((r : R) → P (Ok r) → Q r) → IfOk result Q
+told_answer (Ok r) P Q h f = f r h
+told_answer (Err (Closure e)) P Q h f = tt
+told_answer (Err (OfFault x)) P Q h f = tt
 
 -- a refusal of a call whose closure has an error of its own is one of memory
 pub told_memory : {R E : Type 0} (result : Result R (Trouble E)) (P : Result R E → Type 0)
@@ -49,3 +34,27 @@ pub told_memory : {R E : Type 0} (result : Result R (Trouble E)) (P : Result R E
 told_memory (Ok r) P h = tt
 told_memory (Err (Closure e)) P h = tt
 told_memory (Err (OfFault x)) P h = h
+
+-- the same of an outcome whose closure's own error is a refusal, of memory too
+module _ {R : Type 0} (P : Result R Fault → Type 0) where
+  of_flat : (out : Result R (Trouble Fault)) (Q : R → Type 0) → UnlessRefused out P
+      → ((r : R) → P (Ok r) → Q r) → IfOk (flat_outcome out) Q
+  of_flat (Ok r) Q h f = f r h
+  of_flat (Err (Closure e)) Q h f = tt
+  of_flat (Err (OfFault x)) Q h f = tt
+
+  memory_of_flat : (out : Result R (Trouble Fault)) → UnlessRefused out P
+      → ((fault : Fault) → P (Err fault) → fault ≡ Memory) → IsMemoryOnErr (flat_outcome out)
+  memory_of_flat (Ok r) h f = tt
+  memory_of_flat (Err (Closure e)) h f = f e h
+  memory_of_flat (Err (OfFault x)) h f = h
+
+pub flat_answer : {R : Type 0} (out : Result R (Trouble Fault)) (result : Result R Fault)
+    (P : Result R Fault → Type 0) (Q : R → Type 0) → result ≡ flat_outcome out
+    → UnlessRefused out P → ((r : R) → P (Ok r) → Q r) → IfOk result Q
+flat_answer out result P Q same h f = subst (λ r. IfOk r Q) (sym same) (of_flat P out Q h f)
+
+pub flat_memory : {R : Type 0} (out : Result R (Trouble Fault)) (result : Result R Fault)
+    (P : Result R Fault → Type 0) → result ≡ flat_outcome out → UnlessRefused out P
+    → ((fault : Fault) → P (Err fault) → fault ≡ Memory) → IsMemoryOnErr result
+flat_memory out result P same h f = subst IsMemoryOnErr (sym same) (memory_of_flat P out h f)

@@ -1,6 +1,5 @@
 -- A balanced cut has each index once.
-use Rattle.std.proofs.Common.{◌≡◌, ◌≤◌, max, length, subst, sym, IfOk}
-use Rattle.std.proofs.lemmas.Result.{IfOk-weaker}
+use Rattle.std.proofs.Common.{subst, sym}
 use Rattle.parallel_shares.proofs.Cuts.{BalancedCut-indices}
 use Rattle.commonware_parallel.proofs.Outcomes.{flat_answer, flat_memory}
 use Rattle.commonware_parallel.specs.Batches.{ranges_of}
@@ -9,8 +8,11 @@ use Rattle.uses.proofs.batches.batch_ranges.Goals as goal
 
 pub returns-clause-each_once : goal.returns-clause-each_once
 returns-clause-each_once g c =
-    subst (λ r. IfOk r (λ ranges. CoversOnce c.args.len ranges.items)) (sym c.flat.ensures)
-    (IfOk-weaker _ _ _
-    (λ ranges w. subst (CoversOnce c.args.len) (sym w.8)
-    (BalancedCut-indices c.args.len (ranges_of w.4) w.5.0))
-    (flat_answer c.try_run_batches.result _ c.try_run_batches.ensures))
+    flat_answer c.try_run_batches.result c.flat.result _ _ c.flat.ensures c.try_run_batches.ensures
+    (λ ranges run. subst (CoversOnce c.args.len) (sym run.8.1.0)
+    (BalancedCut-indices c.args.len (ranges_of run.4) run.5.0))
+
+pub returns-clause-fault : goal.returns-clause-fault
+returns-clause-fault g c =
+    flat_memory c.try_run_batches.result c.flat.result _ c.flat.ensures c.try_run_batches.ensures
+    (λ fault run. run.8.1.1)
