@@ -15,6 +15,7 @@ use parallel_bridge::list::try_map::try_map_parallel;
 use parallel_bridge::parts::ProducerParts;
 use parallel_bridge::producer::{Copies, DrainProducer, Indices};
 use parallel_bridge::segment::{ProducerSegment, Segment};
+use parallel_bridge::watched::Watched;
 use parallel_bridge::window::home::Home;
 use parallel_fault::Trouble;
 use std::alloc::Global;
@@ -104,7 +105,7 @@ fn a_segment_right_of_a_known_error_calls_nothing(rt: HostRuntime) {
     };
     let numbers = [7u8; 10];
     let (mut room, home) = Home::reserve(alloc, numbers.len()).expect(&rt, "memory");
-    let mut watch = GateWatch {
+    let watch = GateWatch {
         gate: &gate,
         seat,
         start: 50,
@@ -113,7 +114,8 @@ fn a_segment_right_of_a_known_error_calls_nothing(rt: HostRuntime) {
         parts: Copies { slice: &numbers },
     };
     let writer = TryMapWriter { map_op: &answer };
-    let (done, ()) = write_items(&writer, segment.into_items(), &mut room, &mut watch);
+    let items = Watched::new(segment.into_items(), watch);
+    let (done, (), _) = write_items(&writer, items, &mut room);
     home.free(room);
     same(&rt, done, Err(Halt::Stopped));
     same(&rt, calls.load(Ordering::SeqCst), 0);

@@ -1,5 +1,6 @@
 -- the watch of a seat that has told nothing, and as many items as there is room for
-use Rattle.std.proofs.Common.{rules, length, ap, ◌∙◌}
+use Rattle.std.proofs.Common.{rules, length, ap, subst, sym, ◌∙◌}
+use Rattle.std.specs.Iterator.{Drains}
 use Rattle.parallel_bridge.specs.Endings.{IsUnderway, WatchEnds}
 use Rattle.parallel_bridge.specs.Gates.{MayWatch}
 use Rattle.parallel_bridge.specs.WatchLaws.{watch_begins}
@@ -11,7 +12,8 @@ underway watch may = (watch, 0, watch_begins watch 0 may)
 
 pub write_items-done-requires-clause-enough : goal.write_items-done-requires-clause-enough
 write_items-done-requires-clause-enough g c xs k =
-    ap length (c.into_items.ensures.gives xs k) ∙ (search rules)
+    ap length (c.into_items.ensures.gives xs
+    (subst (λ i. Drains _ i.iter xs) c.new-items.ensures.items k)) ∙ (search rules)
 
 pub write_items-done-requires-clause-watch : goal.write_items-done-requires-clause-watch
 write_items-done-requires-clause-watch g c =
@@ -20,4 +22,4 @@ write_items-done-requires-clause-watch g c =
       seat = c.expect-seat.result;
       start = 50;
     } in
-    underway watch (search rules)
+    subst (IsUnderway WatchEnds) (sym c.new-items.ensures.watch) (underway watch (search rules))
