@@ -9,7 +9,7 @@ use std::alloc::Global;
 use std::process::Abort;
 use std::sync::Wait;
 use std::thread::Threads;
-use uses::folds::sum_of_entries;
+use uses::folds::{plain_fold, sum_of_entries};
 use uses::long_lists::{LongLists, fold_by_length, squares_by_length};
 use uses::stateful::plain_fold_init;
 
@@ -92,7 +92,7 @@ fn sums_below<Rt: Threads + Wait + Sync, S: Strategy>(
     strategy: &S,
     count: u32,
 ) -> Result<(u32, u32), Fault> {
-    let plain = strategy.fold(rt, alloc, SITE, 0..count, zero, add, add)?;
+    let plain = plain_fold(rt, alloc, strategy, SITE, 0..count, zero, add, add)?;
     let numbers = 0..count;
     let stateful = plain_fold_init(
         rt,

@@ -1,5 +1,5 @@
 //! Kernels by row: the value of each row, however the rows were cut.
-use crate::tests::same::{holds, lists, same};
+use crate::tests::same::{holds, lists, returns, same};
 use crate::tests::steps::add_sums;
 use crate::tests::strategies::{SITE, number, pool};
 use commonware_parallel::{Fault, Sequential, Strategy};
@@ -9,7 +9,8 @@ use std::process::Abort;
 use std::sync::Wait;
 use std::sync::atomic::{AtomicU64, Ordering};
 use std::thread::Threads;
-use uses::tile_rows::above_by_row;
+use uses::joins::count_parities;
+use uses::tile_rows::{above_by_row, workers_on_whole_rows};
 
 // Columns of a row, from the first one up to the second, and the sum of their cells.
 type Part = (usize, usize, usize, usize);
@@ -44,6 +45,10 @@ fn rows_of_three_columns_by_hand(rt: HostRuntime) {
     let matrix = [9, 1, 5, 5, 6, 4, 0, 255];
     let above = above_by_row(&rt, alloc, &two, SITE, &matrix, 2, 4, 4);
     lists(&rt, 3, above, &[3, 2]);
+    let workers = workers_on_whole_rows(&rt, alloc, &two, SITE, 2, 4);
+    returns(&rt, 4, workers, 2);
+    let counts = count_parities(&rt, alloc, &two, SITE, &[1, 2, 3]);
+    returns(&rt, 5, counts, (1, 2));
 }
 
 // How many parts the kernel was called with, of one row of that many columns, each of which is in
