@@ -16,6 +16,10 @@ fn a_dropped_block_gives_its_memory_back(rt: HostRuntime) {
     holds(&rt, heap.used() >= 32);
     drop(block);
     row(&rt, "with an item more", heap.used(), 0);
+    let block = Block::from_vec(Vec::<u64, _>::with_capacity(&heap, 100).expect(&rt, "memory"));
+    holds(&rt, heap.used() >= 800);
+    drop(block);
+    row(&rt, "with places and no item", heap.used(), 0);
     let inner = Vec::from_slice(&heap, &[4u64; 100]).expect(&rt, "memory");
     let block = Block::from_vec(Vec::new(&heap))
         .push(inner)

@@ -4,7 +4,7 @@ use crate::tests::same::{returns, row};
 use crate::tests::steps::{add_counts, no_count};
 use crate::tests::strategies::{SITE, fresh, pool};
 use commonware_parallel::mocks::explore;
-use commonware_parallel::{Fault, Strategy, Trouble};
+use commonware_parallel::{Fault, Pairs, Strategy, Trouble};
 use std::alloc::Global;
 use std::process::Abort;
 use std::sync::Wait;
@@ -300,6 +300,26 @@ fn items_left<Rt: Threads + Wait + Abort + Sync, S: Strategy>(
     );
 }
 
+// A further value for the first of two items, or its place where it is the one that fails.
+fn again_of_two<'a>(pair: (Counted<'a>, Counted<'a>)) -> Result<Counted<'a>, usize> {
+    again_of(&pair.0)
+}
+
+// Maps that many pairs of counted items: nothing is left of them, whether one fails or not.
+fn pairs_left<Rt: Threads + Wait + Abort + Sync, S: Strategy>(
+    rt: &Rt,
+    alloc: Global,
+    strategy: &S,
+    counts: &Counts,
+    len: usize,
+) {
+    let items = counted_items(alloc, counts, len.saturating_mul(2)).expect(rt, "memory");
+    let (pairs, _none) = Pairs::new(items);
+    let mapped = strategy.try_map_collect_vec(rt, alloc, SITE, pairs, again_of_two);
+    drop(mapped);
+    row(rt, ("pairs", len, counts.fails), counts.left(), 0);
+}
+
 // All of them, of which the item at a place fails.
 fn all_left<Rt: Threads + Wait + Abort + Sync, S: Strategy>(
     rt: &Rt,
@@ -312,6 +332,7 @@ fn all_left<Rt: Threads + Wait + Abort + Sync, S: Strategy>(
     slice_left(rt, alloc, strategy, &counts, len);
     items_left(rt, alloc, strategy, &counts, (len, true));
     items_left(rt, alloc, strategy, &counts, (len, false));
+    pairs_left(rt, alloc, strategy, &counts, len);
 }
 
 #[test]

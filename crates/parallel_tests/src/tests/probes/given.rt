@@ -94,7 +94,8 @@ fn over_enumerated<Rt: Threads + Wait + Sync, S: Strategy, P: Producer>(
     over_list(on, called, Enumerated::new(list), visited)
 }
 
-// The same over the chunks of two of a list, alone or zipped with a list that is far longer.
+// The same over the chunks of two of a list, alone or zipped with a list that is far longer, itself
+// one of pairs or not.
 fn over_chunks<Rt: Threads + Wait + Sync, S: Strategy>(
     on: &On<'_, Rt, S, Site>,
     called: Called,
@@ -111,10 +112,12 @@ fn over_chunks<Rt: Threads + Wait + Sync, S: Strategy>(
         start: 3,
         end: 1 << 36,
     };
-    if slice.len() % 4 == 0 {
-        return over_zipped(on, called, chunks, indices, visited);
+    match slice.len() % 8 {
+        0 => over_zipped(on, called, chunks, indices, visited),
+        2 => over_zipped(on, called, indices, chunks, visited),
+        4 => over_zipped(on, called, Enumerated::new(indices), chunks, visited),
+        _ => over_zipped(on, called, Zipped::new(indices, indices), chunks, visited),
     }
-    over_zipped(on, called, indices, chunks, visited)
 }
 
 // The call over lists that are cut as they are, and a source of a user's own.
