@@ -4,6 +4,7 @@ pub use Rattle.atomic_table.proofs.Lists.{at_longer, at_set, set_else, set_here}
 pub use Rattle.parallel_bridge.specs.Chunks.{chunks_of, pieces_of}
 pub use Rattle.parallel_bridge.specs.Fills.{Answered, IsFull, OneAfterAnother, SamePlaces, kept, written}
 pub use Rattle.parallel_bridge.specs.Folds.{FoldLaws, IsPlainFold}
+pub use Rattle.parallel_bridge.specs.Fulls.{OnResults, OnValue}
 pub use Rattle.parallel_bridge.specs.GateRule.{FitsGate, IsGateOf, KeepsGate, WasTold, back_half, front_half, gathered, greatest, looking, newcomer, one_less, telling}
 pub use Rattle.parallel_bridge.specs.Gates.{IsAtMost, IsGateSeatOf, IsWatching, MayTell, SameWatch, ToldByOne, known, seats_of, stands_for}
 pub use Rattle.parallel_bridge.specs.Halting.{IsUnhalted, NotStopped, halting, unstopped}

@@ -12,6 +12,7 @@ pub mod Laws
 pub mod Outcomes
 pub mod TryShapes
 pub mod FoldersAppend
+pub mod Fulls
 pub mod Statefuls
 pub mod TryBracketings
 pub mod Drivers
@@ -43,6 +44,7 @@ pub use CollectChains.*
 pub use Drivers.*
 pub use FirstFailing.*
 pub use FoldersAppend.*
+pub use Fulls.*
 pub use Fronts.*
 pub use GateEnds.*
 pub use GateSteps.*

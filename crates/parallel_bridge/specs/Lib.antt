@@ -4,6 +4,7 @@ pub mod Folds
 pub mod Outcomes
 pub mod States
 pub mod Tries
+pub mod Fulls
 pub mod Parts
 pub mod Onto
 pub mod Pairs

@@ -1,5 +1,5 @@
 //! What a list is handed to: the traits, with the laws by which one bridge drives them all.
-ghost use Rattle.std.specs.Prelude.{◌≡◌, ◌++◌, ◌∷◌, ◌-◌, ◌≤◌, [], false, ℕ, List, Result, IfOk, IsTrue};
+ghost use Rattle.std.specs.Prelude.{◌≡◌, ◌++◌, ◌∷◌, ◌-◌, ◌≤◌, [], false, ℕ, Bool, List, Result, IfOk, IsTrue};
 ghost use Rattle.std.specs.Iterator.{Drains, HoldsAlong, IsFinite};
 ghost use Rattle.std.specs.List.{All};
 ghost use Rattle.parallel_fault.specs.Trouble.{IsMemoryOnErr};
@@ -36,6 +36,8 @@ pub trait Folder<Item: Drop, R, E>: Sized + Drop {
     ghost takes: { Self → Item → Type 0 };
     /// What it may return after it took these items more.
     ghost gives: { Self → List Item → Result R E → Type 0 };
+    /// Whether a folder of this type may come to be full.
+    ghost may_fill: { Bool };
 
     /// The folder with one item taken.
     ///
@@ -63,8 +65,9 @@ pub trait Folder<Item: Drop, R, E>: Sized + Drop {
 
     /// Whether further items make no difference, since an error or a `None` was met.
     fn full(&self) -> bool
-        ensures { IsTrue result → (xs ys : List Item) (out : Result R E) → gives self.now xs out
-            → gives self.now ys out };
+        ensures fills { IsTrue result → IsTrue may_fill }
+        ensures rests { IsTrue result → (xs ys : List Item) (out : Result R E)
+            → gives self.now xs out → gives self.now ys out };
 
     /// The folder with the items of an iterator taken, in order, up to its end.
     final fn consume_iter<I: Iterator<Item = Item>>(

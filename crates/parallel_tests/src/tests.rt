@@ -33,7 +33,6 @@ mod strategies;
 mod tiles;
 mod transforms;
 mod trees;
-mod tried;
 mod tries;
 mod unrecorded;
 mod ways;

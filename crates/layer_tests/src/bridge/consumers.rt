@@ -3,9 +3,11 @@ use crate::bridge::number;
 use crate::same::{lists, row, same};
 use parallel_bridge::bridge::bridge;
 use parallel_bridge::consumer::collect::CollectConsumer;
+use parallel_bridge::consumer::fold::FoldFolder;
+use parallel_bridge::consumer::fold_init::FoldInitFolder;
 use parallel_bridge::consumer::list_vec::{ListVecConsumer, ListVecFolder};
-use parallel_bridge::consumer::map::MapConsumer;
-use parallel_bridge::consumer::map_init::MapInitConsumer;
+use parallel_bridge::consumer::map::{MapConsumer, MapFolder};
+use parallel_bridge::consumer::map_init::{MapInitConsumer, MapWithFolder};
 use parallel_bridge::consumer::try_fold::TryFoldFolder;
 use parallel_bridge::consumer::try_reduce::TryReduceFolder;
 use parallel_bridge::consumer::while_some::{WhileSomeConsumer, WhileSomeFolder};
@@ -18,6 +20,7 @@ use std::alloc::Global;
 use std::convert::Infallible;
 use std::num::NonZeroUsize;
 use std::process::Abort;
+use std::sync::atomic::{AtomicU64, Ordering};
 use std::thread::Threads;
 
 // What stands in each segment before its first `None`, for one thread.
@@ -69,6 +72,15 @@ fn fullness<X: Drop, R, E, F: Folder<X, R, E>>(
     let between = folder.full();
     let folder = folder.consume(alloc, bad)?;
     Ok([before, between, folder.full()])
+}
+
+// A folder of numbers up to the first `None`, which was met or not.
+fn options(alloc: Global, full: bool) -> WhileSomeFolder<ListVecFolder<u32>> {
+    let vec = Vec::new(alloc);
+    WhileSomeFolder {
+        base: ListVecFolder { vec },
+        full,
+    }
 }
 
 // A number below 5, or the number as an error.
@@ -159,11 +171,7 @@ fn a_splitter_by_length_leaves_no_part_too_short(rt: HostRuntime) {
 #[test]
 fn a_folder_of_options_is_full_after_none(rt: HostRuntime) {
     let alloc = rt.alloc();
-    let base = ListVecFolder {
-        vec: Vec::new(alloc),
-    };
-    let folder = WhileSomeFolder { base, full: false };
-    let full = fullness::<Option<u32>, _, u32, _>(alloc, folder, Some(4), None);
+    let full = fullness::<Option<u32>, _, u32, _>(alloc, options(alloc, false), Some(4), None);
     same(&rt, full, Ok([false, false, true]));
 }
 
@@ -189,4 +197,97 @@ fn a_folder_of_a_fallible_fold_is_full_after_an_error(rt: HostRuntime) {
     };
     let full = fullness(rt.alloc(), folder, 4, 5);
     same(&rt, full, Ok([false, false, true]));
+}
+
+// The number, where it is below 5.
+fn small(item: u32) -> Option<u32> {
+    if item < 5 { Some(item) } else { None }
+}
+
+fn small_with(_state: &mut u8, item: u32) -> Option<u32> {
+    small(item)
+}
+
+fn last_small(_before: Option<u32>, item: u32) -> Option<u32> {
+    small(item)
+}
+
+fn last_small_with(_before: Option<u32>, _state: &mut u8, item: u32) -> Option<u32> {
+    small(item)
+}
+
+#[test]
+fn a_folder_of_a_map_is_full_where_its_base_is(rt: HostRuntime) {
+    let alloc = rt.alloc();
+    let base = options(alloc, false);
+    let folder = MapFolder {
+        base,
+        map_op: &small,
+    };
+    let full = fullness::<u32, _, u32, _>(alloc, folder, 4, 5);
+    row(&rt, "map", full, Ok([false, false, true]));
+    let base = options(alloc, false);
+    let folder = MapWithFolder {
+        base,
+        item: 0,
+        map_op: &small_with,
+    };
+    let full = fullness::<u32, _, u32, _>(alloc, folder, 4, 5);
+    row(&rt, "map with a state", full, Ok([false, false, true]));
+}
+
+#[test]
+fn a_folder_of_a_fold_is_full_where_its_base_is(rt: HostRuntime) {
+    let alloc = rt.alloc();
+    for is_full in [false, true] {
+        let base = options(alloc, is_full);
+        let folder = FoldFolder {
+            base,
+            item: None,
+            fold_op: &last_small,
+        };
+        let full = fullness::<u32, _, u32, _>(alloc, folder, 4, 5);
+        row(
+            &rt,
+            ("fold", is_full),
+            full,
+            Ok([is_full, is_full, is_full]),
+        );
+        let base = options(alloc, is_full);
+        let folder = FoldInitFolder {
+            base,
+            state: 0,
+            item: None,
+            fold_op: &last_small_with,
+        };
+        let full = fullness::<u32, _, u32, _>(alloc, folder, 4, 5);
+        row(
+            &rt,
+            ("fold with a state", is_full),
+            full,
+            Ok([is_full, is_full, is_full]),
+        );
+    }
+}
+
+#[test]
+fn a_map_before_a_full_folder_maps_no_more(rt: HostRuntime) {
+    let alloc = rt.alloc();
+    let calls = AtomicU64::new(0);
+    let map_op = |item: u32| {
+        calls.fetch_add(1, Ordering::Relaxed);
+        small(item)
+    };
+    let items = vec![in alloc; 1u32, 5, 2, 3, 4, 6, 1].expect(&rt, "memory");
+    let consumer = MapConsumer {
+        base: WhileSomeConsumer {
+            base: ListVecConsumer,
+        },
+        map_op: &map_op,
+    };
+    let parts = DrainProducer::from_vec(items);
+    let kept = bridge(&rt, alloc, number(&rt, 1), parts, consumer).expect(&rt, "memory");
+    // (for one thread the list is halved once)
+    row(&rt, "segments", kept.len(), 2);
+    row(&rt, "calls", calls.load(Ordering::Relaxed), 5);
 }

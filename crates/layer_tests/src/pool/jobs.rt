@@ -101,7 +101,7 @@ fn the_calls_of_a_broadcast_see_each_other(rt: HostRuntime) {
         rt.alloc(),
         &|_context| {
             begun.fetch_add(1, Ordering::SeqCst);
-            becomes(&rt, &begun, 3)
+            becomes(&begun, 3)
         },
     );
     lists(&rt, "seen", seen, &[true, true, true]);

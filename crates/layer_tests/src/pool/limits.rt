@@ -1,4 +1,4 @@
-//! Threads that sleep, which have to be woken within a limit of time.
+//! Threads that sleep, which have to be woken within a limit of turns.
 ghost use Rattle.std.specs.Prelude.{◌≡◌};
 ghost use Rattle.parallel_pool.specs.Latch.{IsLatchSeatOf};
 
@@ -16,7 +16,6 @@ use std::process::Abort;
 use std::sync::atomic::{AtomicU64, Ordering};
 use std::sync::{Arc, Wait};
 use std::thread::{self, Threads};
-use std::time::Clock;
 
 // A word that is zero.
 fn word(rt: &impl Abort, alloc: Global) -> Arc<AtomicU64> {
@@ -121,8 +120,8 @@ fn idles<R: Wait>(
     }
 }
 
-// Whether a worker of its own thread stays awake, for ten seconds at most.
-fn stays_awake<R: Threads + Wait + Abort + Clock + Copy + Send + 'static>(
+// Whether a worker of its own thread stays awake, and ends in time.
+fn stays_awake<R: Threads + Wait + Abort + Copy + Send + 'static>(
     rt: &R,
     alloc: Global,
     comes: Comes,
@@ -138,7 +137,7 @@ fn stays_awake<R: Threads + Wait + Abort + Clock + Copy + Send + 'static>(
         }
     })
     .expect(rt, "memory");
-    let is_awake = becomes(rt, &awake, 1);
+    let is_awake = becomes(&awake, 1);
     if is_awake {
         worker.join(rt);
     }

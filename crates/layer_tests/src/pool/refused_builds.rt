@@ -13,7 +13,6 @@ use std::alloc::{AllocError, AllocGlobal, Global};
 use std::process::Abort;
 use std::rt::Files;
 use std::sync::Arc;
-use std::time::{Clock, Duration};
 use std::{fs, thread};
 
 #[test]
@@ -122,13 +121,13 @@ fn builders(alloc: Global, count: usize, tally: &Arc<Tally>) -> Option<Vec<Threa
 
 // Whether the process has come to have one thread alone, by Linux's own count. A worker that has
 // ended is gone some time later, and its place is free only then.
-fn is_alone<R: Clock + Files + AllocGlobal + Abort>(rt: &R) -> bool {
-    for _ in 0..30_000u32 {
+fn is_alone<R: Files + AllocGlobal + Abort>(rt: &R) -> bool {
+    for _ in 0..300_000u32 {
         let counts = fs::read_to_string(rt, "/proc/self/stat").expect(rt, "the counts");
         if counts.as_str().split(' ').nth(19) == Some("1") {
             return true;
         }
-        thread::sleep(rt, Duration::from_millis(1));
+        thread::yield_now();
     }
     false
 }

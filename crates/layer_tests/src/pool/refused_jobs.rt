@@ -21,7 +21,7 @@ use std::thread::Threads;
 use std::time::Clock;
 
 // The worker of an index gets a job that waits, and does so.
-fn halts<R: Wait + Abort + Clock>(
+fn halts<R: Wait + Abort>(
     rt: &R,
     alloc: Global,
     worker: &mut WorkerThread,
@@ -167,9 +167,9 @@ fn of_first(count: usize) -> u64 {
 }
 
 // Calls the jobs that came back, and returns whether they are the last of the four, in order.
-fn come_in_order(rt: &impl Clock, refused: VecDeque<OwnedJob>, tally: &Tally) -> bool {
+fn come_in_order(refused: VecDeque<OwnedJob>, tally: &Tally) -> bool {
     let mut first = 4usize.saturating_sub(refused.len());
-    if !becomes(rt, &tally.called, of_first(first)) {
+    if !becomes(&tally.called, of_first(first)) {
         return false;
     }
     for job in refused {
@@ -203,7 +203,7 @@ fn fills(
 
 // Each of four workers but the third has a job that fills its queue, the third one that waits; the
 // first worker calls its own.
-fn halts_the_third<R: Wait + Abort + Clock>(
+fn halts_the_third<R: Wait + Abort>(
     rt: &R,
     alloc: Global,
     pool: &ThreadPool<Staff>,
@@ -267,7 +267,7 @@ fn third_is_refused<R: Threads + Wait + Abort + Clock + Copy + Send + 'static>(
     row(
         rt,
         "those before them are called",
-        come_in_order(rt, refused, &tally),
+        come_in_order(refused, &tally),
         true,
     );
     tally.opened.store(1, Ordering::SeqCst);

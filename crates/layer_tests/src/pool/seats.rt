@@ -1,34 +1,55 @@
-//! A job that is taken by a worker's own seat of its pool's queues: it is counted.
-use crate::pool::tally::{Act, awaits, broadcasts, empty_tally, read, workers};
-use crate::same::{holds, same};
-use parallel_pool::rayon::{OwnedJob, Queue, WorkerThread};
+//! Jobs that are taken by a worker's own seat of its pool's queues: they are counted.
+use crate::pool::probes::brought::{Brought, Led, leads, opens};
+use crate::pool::tally::{Act, awaits, read};
+use crate::same::{row, same};
+use parallel_pool::rayon::{Execute, Queue};
+use std::alloc::Global;
 use std::process::Abort;
 use std::sync::Wait;
+use std::thread::Threads;
+use std::time::Clock;
 
-// A job for each of two workers.
-const TWO: [Act; 2] = [Act::Adds(1), Act::Adds(1)];
-
-// Takes by a worker's seat the job that was broadcast to it.
-fn own_job(rt: &(impl Wait + Abort), worker: &mut WorkerThread) -> OwnedJob {
+// Stops the test where the workers don't end of a pool that was let go, once a job that came in some
+// way was taken by the first worker's seat. The other one had a job that didn't end meanwhile.
+fn takes<R: Threads + Wait + Abort + Clock + Copy + Send + 'static>(
+    rt: &R,
+    alloc: Global,
+    brought: Brought,
+    queue: Queue,
+) {
+    let mut led = leads(rt, alloc, 2);
+    let halted = led.halts(rt, alloc, 1);
+    let came = led.brings(rt, alloc, brought, 0, Act::Adds(1));
+    let Led {
+        pool,
+        mut worker,
+        tally,
+        stranger: _,
+    } = led;
     let seat = worker.jobs();
-    let own = if seat.has(Queue::Broadcast(0)) {
-        seat.take(rt, Queue::Broadcast(0))
+    let taken = if seat.has(queue) {
+        seat.take(rt, queue)
     } else {
         None
     };
-    own.expect(rt, "the job for this worker")
+    drop(pool);
+    opens(&halted);
+    awaits(rt, &tally.ended, 1, "the other worker has ended");
+    row(rt, (brought, came), taken.is_some(), true);
+    taken.expect(rt, "a job").execute(0);
+    same(rt, read(&tally.called), 1);
 }
 
 #[test]
 fn a_job_that_a_seat_took_is_counted(rt: HostRuntime) {
-    let alloc = rt.alloc();
-    let tally = empty_tally(&rt, alloc);
-    let (pool, mut worker) = workers(&rt, alloc, 2, &tally);
-    holds(&rt, broadcasts(&rt, alloc, &pool, &tally, &TWO));
-    awaits(&rt, &tally.called, 1, "the other worker calls its own");
-    let own = own_job(&rt, &mut worker);
-    drop(pool);
-    awaits(&rt, &tally.ended, 1, "the other worker has ended");
-    own.call(0);
-    same(&rt, read(&tally.called), 2);
+    for (brought, queue) in [
+        (Brought::Spawned, Queue::Injected),
+        (Brought::Injected, Queue::Injected),
+        (Brought::Stranger, Queue::Injected),
+        (Brought::Own, Queue::Deque(0)),
+        (Brought::ToOne, Queue::Broadcast(0)),
+        (Brought::ToEach, Queue::Broadcast(0)),
+    ] {
+        takes(&rt, rt.alloc(), brought, queue);
+    }
 }

@@ -14,20 +14,24 @@ use std::sync::{Arc, Wait};
 use std::thread::{self, Threads};
 use std::time::{Clock, Duration};
 
-/// Waits until a word is that much, for ten seconds at most, and returns whether it is.
-pub(crate) fn becomes(rt: &impl Clock, word: &AtomicU64, wanted: u64) -> bool {
-    for _ in 0..10_000 {
+/// How many turns a test waits for another thread at most, each of which lets the others go on: so
+/// that a busy machine takes longer, and no test fails by that.
+pub(crate) const TURNS: u32 = 10_000_000;
+
+/// Waits until a word is that much, for so many turns at most, and returns whether it is.
+pub(crate) fn becomes(word: &AtomicU64, wanted: u64) -> bool {
+    for _ in 0..TURNS {
         if read(word) == wanted {
             return true;
         }
-        thread::sleep(rt, Duration::from_millis(1));
+        thread::yield_now();
     }
     false
 }
 
 /// Stops the test where a word isn't that much in time.
-pub(crate) fn awaits<R: Clock + Abort>(rt: &R, word: &AtomicU64, wanted: u64, what: &str) {
-    row(rt, what, becomes(rt, word, wanted), true);
+pub(crate) fn awaits(rt: &impl Abort, word: &AtomicU64, wanted: u64, what: &str) {
+    row(rt, what, becomes(word, wanted), true);
 }
 
 /// By then a thread that was started sleeps where it is to wait, also on a machine that is busy: a
@@ -272,18 +276,6 @@ pub(crate) fn spawn(
 ) {
     let came = pool.spawn(rt, job(rt, alloc, tally, act)).is_ok();
     holds(rt, came);
-}
-
-/// Broadcasts jobs that tell a tally, one to each worker, and returns whether they came.
-pub(crate) fn broadcasts(
-    rt: &(impl Wait + Abort),
-    alloc: Global,
-    pool: &ThreadPool<Staff>,
-    tally: &Arc<Tally>,
-    acts: &[Act],
-) -> bool {
-    let jobs = jobs(rt, alloc, tally, acts);
-    jobs.len() == pool.current_num_threads() && pool.spawn_broadcast(rt, jobs).is_ok()
 }
 
 /// A job of a type of its own, which adds that much.

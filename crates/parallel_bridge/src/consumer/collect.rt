@@ -1,5 +1,5 @@
 //! The list of the items.
-ghost use Rattle.std.specs.Prelude.{◌≡◌, ◌++◌, IfOk, List, Result};
+ghost use Rattle.std.specs.Prelude.{◌≡◌, ◌++◌, IfOk, List, Result, false};
 ghost use Rattle.parallel_bridge.specs.Tries.{OnlyOk};
 
 use crate::plumbing::{Consumer, Folder, Reducer};
@@ -41,6 +41,8 @@ impl<T: Drop, E> Folder<T, Vec<T>, E> for CollectResult<T> {
     ghost takes = { λ _ _. Unit {0} };
 
     ghost gives = { λ s xs out. OnlyOk (λ ys. ys.items ≡ s.items.items ++ xs) out };
+
+    ghost may_fill = { false };
 
     fn consume(self, _alloc: Global, item: T) -> Result<Self, Fault> {
         let items = self.items.push(item)?;

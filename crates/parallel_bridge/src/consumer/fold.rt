@@ -1,5 +1,6 @@
 //! The value that the items of a segment are folded to.
-ghost use Rattle.std.specs.Prelude.{◌∷◌, ◌++◌, [], List, Result};
+ghost use Rattle.std.specs.Prelude.{List, Result};
+ghost use Rattle.parallel_bridge.specs.Fulls.{OnValue};
 ghost use Rattle.parallel_bridge.specs.Lists.{Chain, FoldSegment};
 
 use crate::plumbing::{Consumer, Folder};
@@ -34,8 +35,10 @@ impl<'c, X: Drop, U: Drop, R, E, C: Folder<U, R, E>, F: Fn(U, X) -> U> Folder<X,
 
     ghost takes = { λ s x. (value : U) → F.pre s.fold_op.now value x };
 
-    ghost gives = { λ s xs out. (b : U) × Chain (λ a x b. F.post s.fold_op.now a x b) s.item xs b
-        × C.gives s.base (b ∷ []) out };
+    ghost gives = { λ s xs out. OnValue C.may_fill
+        (Chain (λ a x b. F.post s.fold_op.now a x b) s.item) (C.gives s.base) xs out };
+
+    ghost may_fill = { C.may_fill };
 
     fn consume(self, _alloc: Global, item: X) -> Result<Self, Fault> {
         let item = (self.fold_op)(self.item, item);
@@ -48,7 +51,7 @@ impl<'c, X: Drop, U: Drop, R, E, C: Folder<U, R, E>, F: Fn(U, X) -> U> Folder<X,
     }
 
     fn full(&self) -> bool {
-        false
+        self.base.full()
     }
 }
 
@@ -75,9 +78,9 @@ impl<
 
     ghost fits = { λ s n. C.fits s.base n };
 
-    ghost leaf_gives = { λ s xs out. (b : U)
-        × FoldSegment (I.post s.identity.now) (λ a x b. F.post s.fold_op.now a x b) xs b
-        × C.leaf_gives s.base (b ∷ []) out };
+    ghost leaf_gives = { λ s xs out. OnValue C.Folder.may_fill
+        (FoldSegment (I.post s.identity.now) (λ a x b. F.post s.fold_op.now a x b))
+        (C.leaf_gives s.base) xs out };
 
     ghost node_gives = { λ s a b out. C.node_gives s.base a b out };
 

@@ -1,6 +1,7 @@
 //! The value that the items of a segment are folded to with a state at hand.
-ghost use Rattle.std.specs.Prelude.{◌∷◌, [], Result};
+ghost use Rattle.std.specs.Prelude.{Result};
 ghost use Rattle.std.specs.Borrow.{MutBor};
+ghost use Rattle.parallel_bridge.specs.Fulls.{OnValue};
 ghost use Rattle.parallel_bridge.specs.States.{FoldInitSegment, FoldStep, StateChain};
 
 use crate::plumbing::{Consumer, Folder};
@@ -44,9 +45,11 @@ impl<'c, X: Drop, S: Drop, U: Drop, R, E, C: Folder<U, R, E>, F: Fn(U, &mut S, X
 
     ghost takes = { λ s x. (value : U) (state : MutBor S) → F.pre s.fold_op.now value state x };
 
-    ghost gives = { λ s xs out. (b : U)
-        × StateChain (FoldStep (λ a p x b q. F.post s.fold_op.now a p x b q)) s.state s.item xs b
-        × C.gives s.base (b ∷ []) out };
+    ghost gives = { λ s xs out. OnValue C.may_fill
+        (StateChain (FoldStep (λ a p x b q. F.post s.fold_op.now a p x b q)) s.state s.item)
+        (C.gives s.base) xs out };
+
+    ghost may_fill = { C.may_fill };
 
     fn consume(self, _alloc: Global, item: X) -> Result<Self, Fault> {
         let mut state = self.state;
@@ -65,7 +68,7 @@ impl<'c, X: Drop, S: Drop, U: Drop, R, E, C: Folder<U, R, E>, F: Fn(U, &mut S, X
     }
 
     fn full(&self) -> bool {
-        false
+        self.base.full()
     }
 }
 
@@ -94,10 +97,10 @@ impl<
 
     ghost fits = { λ s n. C.fits s.base n };
 
-    ghost leaf_gives = { λ s xs out. (b : U)
-        × FoldInitSegment (N.post s.init.now) (I.post s.identity.now)
-        (FoldStep (λ a p x b q. F.post s.fold_op.now a p x b q)) xs b
-        × C.leaf_gives s.base (b ∷ []) out };
+    ghost leaf_gives = { λ s xs out. OnValue C.Folder.may_fill
+        (FoldInitSegment (N.post s.init.now) (I.post s.identity.now)
+        (FoldStep (λ a p x b q. F.post s.fold_op.now a p x b q)))
+        (C.leaf_gives s.base) xs out };
 
     ghost node_gives = { λ s a b out. C.node_gives s.base a b out };
 

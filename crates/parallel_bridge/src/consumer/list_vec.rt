@@ -1,5 +1,5 @@
 //! A list of lists, one for each segment.
-ghost use Rattle.std.specs.Prelude.{◌≡◌, ◌++◌, IfOk, List, Result};
+ghost use Rattle.std.specs.Prelude.{◌≡◌, ◌++◌, IfOk, List, Result, false};
 ghost use Rattle.parallel_bridge.specs.Tries.{OnlyOk};
 ghost use Rattle.parallel_bridge.specs.Outcomes.{IsListed};
 
@@ -46,6 +46,8 @@ impl<T: Drop, E> Folder<T, LinkedList<Vec<T>>, E> for ListVecFolder<T> {
     ghost takes = { λ _ _. Unit {0} };
 
     ghost gives = { λ s xs out. OnlyOk (λ all. IsListed (s.vec.items ++ xs) all) out };
+
+    ghost may_fill = { false };
 
     fn consume(mut self, _alloc: Global, item: T) -> Result<Self, Fault> {
         self.vec.push(item)?;

@@ -1,5 +1,6 @@
 //! The results of a closure.
-ghost use Rattle.std.specs.Prelude.{◌++◌, [], List, Result};
+ghost use Rattle.std.specs.Prelude.{List, Result};
+ghost use Rattle.parallel_bridge.specs.Fulls.{OnResults};
 ghost use Rattle.parallel_bridge.specs.Lists.{MapOf};
 
 use crate::plumbing::{Consumer, Folder};
@@ -30,8 +31,10 @@ impl<'f, X: Drop, T: Drop, R, E, C: Folder<T, R, E>, F: Fn(X) -> T> Folder<X, R,
 
     ghost takes = { λ s x. F.pre s.map_op.now x };
 
-    ghost gives = { λ s xs out. (ys : List T) × MapOf (F.post s.map_op.now) xs ys
-        × C.gives s.base ys out };
+    ghost gives = { λ s xs out. OnResults C.may_fill (MapOf (F.post s.map_op.now))
+        (C.gives s.base) xs out };
+
+    ghost may_fill = { C.may_fill };
 
     fn consume(self, alloc: Global, item: X) -> Result<Self, Fault> {
         let answer = (self.map_op)(item);
@@ -44,7 +47,7 @@ impl<'f, X: Drop, T: Drop, R, E, C: Folder<T, R, E>, F: Fn(X) -> T> Folder<X, R,
     }
 
     fn full(&self) -> bool {
-        false
+        self.base.full()
     }
 }
 
@@ -64,8 +67,8 @@ impl<'f, X: Drop, T: Drop, C: Consumer<T>, F: Fn(X) -> T + Sync> Consumer<X>
 
     ghost fits = { λ s n. C.fits s.base n };
 
-    ghost leaf_gives = { λ s xs out. (ys : List T) × MapOf (F.post s.map_op.now) xs ys
-        × C.leaf_gives s.base ys out };
+    ghost leaf_gives = { λ s xs out. OnResults C.Folder.may_fill (MapOf (F.post s.map_op.now))
+        (C.leaf_gives s.base) xs out };
 
     ghost node_gives = { λ s a b out. C.node_gives s.base a b out };
 

@@ -1,6 +1,7 @@
 //! The results of a closure with a state at hand.
 ghost use Rattle.std.specs.Prelude.{IfOk, List, Result};
 ghost use Rattle.std.specs.Borrow.{MutBor};
+ghost use Rattle.parallel_bridge.specs.Fulls.{OnResults};
 ghost use Rattle.parallel_bridge.specs.States.{MapStep, StateSegment, StatesFrom};
 
 use crate::plumbing::{Consumer, Folder};
@@ -36,9 +37,11 @@ impl<'f, X: Drop, S: Drop, T: Drop, R, E, C: Folder<T, R, E>, F: Fn(&mut S, X) -
 
     ghost takes = { λ s x. (p : MutBor S) → F.pre s.map_op.now p x };
 
-    ghost gives = { λ s xs out. (ys : List T)
-        × StatesFrom (MapStep (λ p x y q. F.post s.map_op.now p x y q)) s.item xs ys
-        × C.gives s.base ys out };
+    ghost gives = { λ s xs out. OnResults C.may_fill
+        (StatesFrom (MapStep (λ p x y q. F.post s.map_op.now p x y q)) s.item)
+        (C.gives s.base) xs out };
+
+    ghost may_fill = { C.may_fill };
 
     fn consume(self, alloc: Global, item: X) -> Result<Self, Fault> {
         let mut state = self.item;
@@ -56,7 +59,7 @@ impl<'f, X: Drop, S: Drop, T: Drop, R, E, C: Folder<T, R, E>, F: Fn(&mut S, X) -
     }
 
     fn full(&self) -> bool {
-        false
+        self.base.full()
     }
 }
 
@@ -84,9 +87,9 @@ impl<
 
     ghost fits = { λ s n. C.fits s.base n };
 
-    ghost leaf_gives = { λ s xs out. (ys : List T)
-        × StateSegment (N.post s.init.now) (MapStep (λ p x y q. F.post s.map_op.now p x y q)) xs ys
-        × C.leaf_gives s.base ys out };
+    ghost leaf_gives = { λ s xs out. OnResults C.Folder.may_fill
+        (StateSegment (N.post s.init.now) (MapStep (λ p x y q. F.post s.map_op.now p x y q)))
+        (C.leaf_gives s.base) xs out };
 
     ghost node_gives = { λ s a b out. C.node_gives s.base a b out };
 

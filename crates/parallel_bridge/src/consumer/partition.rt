@@ -1,5 +1,5 @@
 //! The values and the keys of a partition.
-ghost use Rattle.std.specs.Prelude.{◌≡◌, ◌++◌, ◌∷◌, [], IfOk, List, Option, Result};
+ghost use Rattle.std.specs.Prelude.{◌≡◌, ◌++◌, ◌∷◌, [], IfOk, List, Option, Result, false};
 ghost use Rattle.parallel_fault.specs.Trouble.{IsMemoryOnErr};
 ghost use Rattle.parallel_bridge.specs.Onto.{PartitionOnto};
 ghost use Rattle.parallel_bridge.specs.Parts.{PartitionOf, keys_in, values_in};
@@ -69,6 +69,8 @@ impl<'f, X: Drop, U: Drop, K: Drop, F: Fn(X) -> (K, Option<U>)> Folder<
     ghost gives = { λ s xs out. OnlyOk
         (λ r. PartitionOnto (F.post s.map_op.now) s.values.items s.keys.items xs
         (values_in r.items) (keys_in r.items)) out };
+
+    ghost may_fill = { false };
 
     // (as a call of its own it would move the folder through memory for each item)
     #[inline(always)]

@@ -1,5 +1,5 @@
 //! The items of a segment reduced, and then the results.
-ghost use Rattle.std.specs.Prelude.{◌++◌, [], List, Result};
+ghost use Rattle.std.specs.Prelude.{◌++◌, [], List, Result, false};
 ghost use Rattle.parallel_bridge.specs.Lists.{Chain, FoldSegment};
 ghost use Rattle.parallel_bridge.specs.Tries.{OnlyOk};
 
@@ -44,6 +44,8 @@ impl<'r, T: Drop, G: Fn(T, T) -> T> Folder<T, T, Infallible> for ReduceFolder<'r
 
     ghost gives = { λ s xs out. OnlyOk
         (λ r. Chain (λ a x b. G.post s.reduce_op.now a x b) s.item xs r) out };
+
+    ghost may_fill = { false };
 
     fn consume(self, _alloc: Global, item: T) -> Result<Self, Fault> {
         let item = (self.reduce_op)(self.item, item);

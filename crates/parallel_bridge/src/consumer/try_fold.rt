@@ -1,5 +1,5 @@
 //! The value that the items of a segment are folded to by a step that may fail.
-ghost use Rattle.std.specs.Prelude.{◌∷◌, ◌++◌, [], Err, List, Ok, Result};
+ghost use Rattle.std.specs.Prelude.{◌∷◌, ◌++◌, [], Err, List, Ok, Result, true};
 ghost use Rattle.parallel_bridge.specs.Onto.{TryContinues};
 ghost use Rattle.parallel_bridge.specs.Tries.{TryFoldSegment};
 
@@ -47,6 +47,8 @@ impl<
     ghost gives = { λ s xs out. (v : Result T E)
         × TryContinues (λ a x o. F.post s.fold_op.now a x o) s.control xs v
         × C.gives s.base (v ∷ []) out };
+
+    ghost may_fill = { true };
 
     fn consume(self, _alloc: Global, item: X) -> Result<Self, Fault> {
         let control = try_fold_step(self.control, item, self.fold_op);

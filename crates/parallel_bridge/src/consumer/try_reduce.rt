@@ -1,5 +1,5 @@
 //! The outcomes of a segment reduced, up to the first error, and then the results.
-ghost use Rattle.std.specs.Prelude.{Err, Ok, Result};
+ghost use Rattle.std.specs.Prelude.{Err, Ok, Result, true};
 ghost use Rattle.parallel_bridge.specs.Onto.{ReducesTo, TryContinues};
 ghost use Rattle.parallel_bridge.specs.Tries.{OnlyOk, TryFoldSegment};
 
@@ -45,6 +45,8 @@ impl<'r, T: Drop, E: Drop, G: Fn(T, T) -> T> Folder<Result<T, E>, T, E>
 
     ghost gives = { λ s xs out. TryContinues
         (ReducesTo (λ a b c. G.post s.reduce_op.now a b c)) s.control xs out };
+
+    ghost may_fill = { true };
 
     fn consume(self, _alloc: Global, item: Result<T, E>) -> Result<Self, Fault> {
         let TryReduceFolder { control, reduce_op } = self;

@@ -1,4 +1,5 @@
 //! The values before the first `None`.
+ghost use Rattle.std.specs.Prelude.{true};
 ghost use Rattle.parallel_bridge.specs.Tries.{before_none, unless_full};
 
 use crate::plumbing::{Consumer, Folder};
@@ -27,6 +28,8 @@ impl<T: Drop, R, E, C: Folder<T, R, E>> Folder<Option<T>, R, E> for WhileSomeFol
     ghost takes = { λ _ _. Unit {0} };
 
     ghost gives = { λ s xs out. C.gives s.base (unless_full s.full xs) out };
+
+    ghost may_fill = { true };
 
     fn consume(self, alloc: Global, item: Option<T>) -> Result<Self, Fault> {
         if self.full {

@@ -1,4 +1,5 @@
 //! The program's command lines, its refusals, and writers that fail.
+use crate::tests::no_memory::all_memory;
 use crate::tests::same::{holds, returns, row, same};
 use parallel_fault::Fault;
 use shapes_command::{command, out_of_memory, unread, unwritten};
@@ -321,6 +322,41 @@ fn a_search_tells_the_sum_or_the_difference(rt: HostRuntime) {
     leaves(&rt, rt.alloc(), "explore sum", (0, "4950\n", ""));
     let told = "shapes: the Parallel run must return the serial run's output\n";
     leaves(&rt, rt.alloc(), "explore bodies", (1, "", told));
+}
+
+// Whether a search for a body that differs is refused memory: it says so, or the difference.
+fn is_refused<R: Threads + Wait + Abort + Sync>(
+    rt: &R,
+    alloc: Global,
+    words: &[String],
+    err: &mut Vec<u8>,
+) -> bool {
+    err.clear();
+    let mut out = Vec::new(alloc);
+    returns(rt, 1, command(rt, alloc, words, &mut out, err), 1);
+    err.as_slice() == b"shapes: out of memory\n".as_slice()
+}
+
+// A search takes memory, which nothing else shows of one for a body. Run with `rt try --test
+// --fail-alloc 40`, by which one of the searches is refused, and nothing after them. Elsewhere each
+// is refused where no memory is left.
+#[test]
+fn a_search_for_bodies_is_refused_memory(rt: HostRuntime) {
+    let alloc = rt.alloc();
+    let words = words_of(alloc, "explore bodies").expect(&rt, "memory");
+    let mut err = Vec::with_capacity(alloc, 128).expect(&rt, "memory");
+    for _ in 0..100u32 {
+        let _ = is_refused(&rt, alloc, &words, &mut err);
+    }
+    for _ in 0..60u32 {
+        let later = Vec::<u64>::with_capacity(alloc, 1);
+        row(&rt, "later", later.is_ok(), true);
+    }
+    if let Some(held) = all_memory(alloc) {
+        let refused = is_refused(&rt, alloc, &words, &mut err);
+        drop(held);
+        row(&rt, "held", refused, true);
+    }
 }
 
 // A writer that takes one byte at a time.

@@ -5,7 +5,7 @@ use crate::tests::clocks::{Stepping, learning};
 use crate::tests::same::{returns, row};
 use crate::tests::strategies::{SITE, number};
 use commonware_parallel::policy::{Key, RunExecution};
-use commonware_parallel::{Fault, Policy, Rayon, Site, Strategy};
+use commonware_parallel::{Clock, Fault, Policy, Rayon, Site, Strategy};
 use std::alloc::Global;
 use std::num::NonZeroUsize;
 use std::process::Abort;
@@ -110,4 +110,41 @@ fn a_batch_that_is_too_short_to_be_cut_has_no_entry(rt: HostRuntime) {
     returns(&rt, 16, ranges(&rt, alloc, &strategy, 16, eight), 1);
     let both = Some((Some(100_000), Some(100_000)));
     row(&rt, 16, times(&rt, &policy, SITE, 16, 16), both);
+}
+
+#[test]
+fn a_run_is_kept_by_its_length_and_its_work(rt: HostRuntime) {
+    let alloc = rt.alloc();
+    let policy = fresh(&rt, alloc);
+    let clock = Stepping::new(&rt, alloc, STEP);
+    let now = || clock.now();
+    let ran = policy.try_run(
+        &rt,
+        SITE,
+        16,
+        80,
+        4,
+        &now,
+        |path| -> Result<RunExecution, u32> { Ok(path) },
+    );
+    returns(&rt, "ran", ran, RunExecution::Parallel);
+    for (len, work, kept) in [
+        (16, 80, ONCE),
+        (80, 16, None),
+        (16, 16, None),
+        (80, 80, None),
+    ] {
+        row(&rt, (len, work), times(&rt, &policy, SITE, len, work), kept);
+    }
+}
+
+#[test]
+fn each_time_is_kept_as_it_is(rt: HostRuntime) {
+    let alloc = rt.alloc();
+    for step in [0, 1, 999_999_999, 1_000_000_001, 3_600_000_000_000] {
+        let policy = fresh(&rt, alloc);
+        let strategy = by_policy(&rt, alloc, &policy, step);
+        let once = Some((Some(step), None));
+        takes(&rt, alloc, &strategy, &policy, (1, "parallel", once));
+    }
 }

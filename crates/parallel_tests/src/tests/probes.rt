@@ -1,18 +1,19 @@
 //! Probes: what each call does, whatever its source and its strategy. Each is a small function over
 //! both, and a table runs it for all of them.
-mod acts;
+pub mod acts;
 mod asks;
 mod callers;
 pub mod calls;
 pub mod given;
 mod logs;
+mod longs;
 mod looks;
 mod meetings;
 mod meets;
 mod memory;
 mod noting;
 mod records;
-mod sides;
+pub mod sides;
 mod splits;
 mod starts;
 mod succeeds;

@@ -43,7 +43,7 @@ fn is_called<R: Wait + Abort + Clock>(
         }
         let before = read(&led.tally.called);
         let came = led.brings(rt, alloc, brought, target, Act::AddsAt(target));
-        let is_called = becomes(rt, &led.tally.called, before.wrapping_add(1));
+        let is_called = becomes(&led.tally.called, before.wrapping_add(1));
         let at = (led.pool.current_num_threads(), brought, target, is_asleep);
         row(rt, at, (came, is_called), (true, true));
     }
@@ -151,7 +151,7 @@ fn one_is_at_work<R: Threads + Wait + Abort + Clock + Copy + Send + 'static>(
         let_it_sleep(rt);
         let job = long_job(rt, &tally, Act::AddsAt(2));
         let came = push_by(rt, &mut worker, queue, job);
-        let is_called = becomes(rt, &tally.called, called);
+        let is_called = becomes(&tally.called, called);
         row(rt, (queue, called), (came, is_called), (true, true));
     }
     opens(&halted);

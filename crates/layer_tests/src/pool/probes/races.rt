@@ -59,7 +59,7 @@ fn comes_meanwhile<R: Threads + Wait + Abort + Clock + Copy + Send + 'static>(
         if matches!(looks, Some(looks) if looks < SOON) {
             soon = soon.wrapping_add(1);
         }
-        let is_called = looks.is_some() || becomes(rt, &led.tally.called, round);
+        let is_called = looks.is_some() || becomes(&led.tally.called, round);
         row(rt, (brought, round), (came, is_called), (true, true));
         looks_on(rt, &mut led, round % 48);
     }
@@ -84,7 +84,7 @@ fn each_of_many_sleepers_is_woken_once_its_job_is_there(rt: HostRuntime) {
             let_it_sleep(&rt);
             let came = led.brings(&rt, rt.alloc(), brought, target, Act::AddsAt(target));
             called = called.wrapping_add(1);
-            let is_called = becomes(&rt, &led.tally.called, called);
+            let is_called = becomes(&led.tally.called, called);
             row(&rt, (brought, target), (came, is_called), (true, true));
         }
     }

@@ -7,11 +7,13 @@ use crate::pool::count_latches::give_all;
 use crate::pool::latches::core_latch;
 use crate::pool::probes::brought::{ALL, Led, leads, opens};
 use crate::pool::sleeps::one_sleep;
-use crate::pool::tally::{Act, Tally, awaits, becomes, empty_tally, let_it_sleep, push_by, read};
+use crate::pool::tally::{
+    Act, TURNS, Tally, added, awaits, becomes, built, empty_tally, let_it_sleep, push_by, read,
+};
 use crate::same::{holds, row};
 use crossbeam_utils::sync::Parker;
 use parallel_pool::latch::{CoreLatch, CountLatch, CountShare, LatchSeat, LockLatch};
-use parallel_pool::rayon::{Execute, Queue, ThreadPool, ThreadPoolBuilder, install};
+use parallel_pool::rayon::{Execute, Queue, Staff, ThreadPool, ThreadPoolBuilder, install};
 use parallel_pool::sleep::Sleep;
 use std::alloc::Global;
 use std::num::NonZeroUsize;
@@ -19,7 +21,7 @@ use std::process::Abort;
 use std::sync::atomic::{AtomicU64, Ordering};
 use std::sync::{Arc, Wait};
 use std::thread::{self, Threads, join};
-use std::time::{Clock, CpuClock, Duration};
+use std::time::{Clock, CpuClock};
 
 // For how long a wait goes on, and how much of that whoever waits may work, in nanoseconds: both
 // are of a thread's own time, so that on a busy machine a wait is longer.
@@ -73,7 +75,7 @@ fn idle_workers_take_no_time(rt: HostRuntime) {
     for brought in ALL {
         let wanted = read(&led.tally.called).wrapping_add(1);
         let came = led.brings(&rt, rt.alloc(), brought, 1, Act::Adds(1));
-        let is_called = becomes(&rt, &led.tally.called, wanted);
+        let is_called = becomes(&led.tally.called, wanted);
         row(&rt, brought, (came, is_called), (true, true));
         let_it_sleep(&rt);
         nobody_works(&rt, "after a job");
@@ -218,21 +220,59 @@ fn a_count_latch_waits_quietly(rt: HostRuntime) {
     }
 }
 
+// Closes a pool, which is to wait until what a tally tells that waits is opened.
+fn closes_late<R: Threads + Wait + CpuClock + Abort + Sync, T: Drop + Send>(
+    rt: &R,
+    at: &str,
+    pool: ThreadPool<Staff<T>>,
+    halted: &Tally,
+) {
+    let passed = AtomicU64::new(0);
+    join(
+        rt,
+        || waits_quietly(rt, at, &passed, || pool.close(rt)),
+        || {
+            passes(rt, &passed);
+            opens(halted);
+        },
+    );
+}
+
 // The one started worker of the pool has a job that doesn't end yet.
 #[test]
 fn whoever_closes_a_pool_waits_quietly(rt: HostRuntime) {
     let mut led = leads(&rt, rt.alloc(), 2);
     let halted = led.halts(&rt, rt.alloc(), 1);
-    let passed = AtomicU64::new(0);
     let Led { pool, .. } = led;
-    join(
-        &rt,
-        || waits_quietly(&rt, "a close", &passed, || pool.close(&rt)),
-        || {
-            passes(&rt, &passed);
-            opens(&halted);
-        },
-    );
+    closes_late(&rt, "a close", pool, &halted);
+}
+
+// A builder of that many workers, of which one tells a tally that it waits as it starts.
+fn one_starts_late(
+    rt: &impl Abort,
+    alloc: Global,
+    num_threads: usize,
+    late: usize,
+    tally: &Arc<Tally>,
+) -> ThreadPoolBuilder {
+    let theirs = Arc::try_clone(tally).expect(rt, "a handle");
+    let handler = Box::new(alloc, move |index: usize| {
+        if index == late {
+            added(Act::Waits, &theirs, index);
+        }
+    });
+    let builder = ThreadPoolBuilder::new().num_threads(num_threads);
+    builder.start_handler(handler.expect(rt, "memory"))
+}
+
+#[test]
+fn whoever_closes_a_pool_waits_for_each_worker(rt: HostRuntime) {
+    for (num_threads, late) in [(1, 0), (2, 1), (4, 3), (4, 0)] {
+        let tally = empty_tally(&rt, rt.alloc());
+        let builder = one_starts_late(&rt, rt.alloc(), num_threads, late, &tally);
+        let pool = built(&rt, rt.alloc(), builder);
+        closes_late(&rt, "a late start", pool, &tally);
+    }
 }
 
 // An idle worker, until it has slept and was woken: how many rounds it was idle for, and how often
@@ -295,12 +335,7 @@ fn sleeps_on<R: Wait + Clock + CpuClock + Abort>(
     waker: Waker,
     back: &AtomicU64,
 ) {
-    for _ in 0..10_000 {
-        if sleep.counters(rt).sleeping() == 1 {
-            break;
-        }
-        thread::sleep(rt, Duration::from_millis(1));
-    }
+    row(rt, waker, are_asleep(rt, sleep, 1), true);
     for stray in 0..3u32 {
         let_it_sleep(rt);
         let found = (sleep.counters(rt).sleeping(), read(back));
@@ -388,19 +423,19 @@ fn falls_asleep<R: Threads + Wait + Abort + Copy + Send + 'static>(
     .expect(rt, "memory");
 }
 
-// Waits until so many workers sleep, for ten seconds at most, and returns whether they do.
-fn are_asleep(rt: &(impl Wait + Clock), sleep: &Sleep, count: u16) -> bool {
-    for _ in 0..10_000 {
+// Waits until so many workers sleep, for so many turns at most, and returns whether they do.
+fn are_asleep(rt: &impl Wait, sleep: &Sleep, count: u16) -> bool {
+    for _ in 0..TURNS {
         if sleep.counters(rt).sleeping() == count {
             return true;
         }
-        thread::sleep(rt, Duration::from_millis(1));
+        thread::yield_now();
     }
     false
 }
 
 // Three workers that sleep, each in a thread of its own, with the count of those that are back.
-fn three_asleep<R: Threads + Wait + Abort + Clock + Copy + Send + 'static>(
+fn three_asleep<R: Threads + Wait + Abort + Copy + Send + 'static>(
     rt: &R,
     alloc: Global,
 ) -> (Arc<Sleep>, Arc<AtomicU64>) {
@@ -423,7 +458,7 @@ fn a_job_wakes_one_of_three_sleepers(rt: HostRuntime) {
         let (sleep, back) = three_asleep(&rt, rt.alloc());
         let (latch, _seat) = core_latch(&rt, rt.alloc());
         wakes(&rt, &sleep, &latch, waker);
-        let is_back = becomes(&rt, &back, 1);
+        let is_back = becomes(&back, 1);
         let_it_sleep(&rt);
         let found = (is_back, sleep.counters(&rt).sleeping(), read(&back));
         row(&rt, waker, found, (true, 2, 1));

@@ -1,15 +1,14 @@
 //! The acts of a probe: one call of any kind, through any strategy.
-use crate::tests::probes::calls::{Called, done};
-use crate::tests::probes::given::{Given, leaves, make_over_few};
+use crate::tests::probes::calls::{CALLS, Called, done, tried};
+use crate::tests::probes::given::{FEW, Given, leaves, make_over_few};
 use crate::tests::probes::meets::numbers;
-use crate::tests::probes::sides::{Side, make_side, root, sort};
+use crate::tests::probes::sides::{SIDES, Side, change, make_side, root, sort};
 use crate::tests::probes::visits::Visitor;
-use crate::tests::roots::Rooted;
-use crate::tests::steps::{give_one, give_two};
+use crate::tests::roots::{ROOTED, Rooted};
+use crate::tests::steps::{give_one, give_two, seven_or_error};
 use crate::tests::strategies::SITE;
 use commonware_parallel::{Fault, On, Site, Strategy, Trouble};
 use std::alloc::Global;
-use std::num::NonZeroUsize;
 use std::process::Abort;
 use std::sync::Wait;
 use std::thread::{Threads, yield_now};
@@ -35,24 +34,31 @@ pub enum Act {
     Side(Side),
     /// A tree of that many leaves.
     Tree(Rooted, usize),
-    /// A change of that many items in place, in chunks of one.
+    /// A change of that many items in place, in chunks of two.
     Chunks(usize),
     /// A sort of that many numbers.
     Sort(usize),
     /// A run over five items.
     Run,
+    /// A run over five items that may fail.
+    TryRun,
 }
 
-// Leaves a chunk as it is.
-fn leave(_from: usize, _chunk: &mut [usize]) {}
-
-// The change in chunks.
-fn change_chunks<Rt: Threads + Wait + Sync, S: Strategy>(
-    on: &On<'_, Rt, S, Site>,
-    len: usize,
-) -> Result<(), Fault> {
-    let mut items = leaves(on.alloc, len)?;
-    on.for_each_chunk_mut(&mut items, NonZeroUsize::MIN, leave)
+/// The calls, each once, over that many items where they are over any.
+pub fn acts(alloc: Global, len: usize) -> Result<Vec<Act>, Fault> {
+    let mut acts = Vec::from_slice(alloc, &[Act::Run, Act::TryRun, Act::Chunks(len)])?;
+    for called in CALLS {
+        for given in FEW {
+            acts.push(Act::List(called, given, len))?;
+        }
+    }
+    for side in SIDES {
+        acts.push(Act::Side(side))?;
+    }
+    for rooted in ROOTED {
+        acts.push(Act::Tree(rooted, len))?;
+    }
+    Ok(acts)
 }
 
 // The tree, of which only the outcome is told.
@@ -88,7 +94,10 @@ pub fn does<Rt: Threads + Wait + Abort + Sync, S: Strategy>(
         Act::List(called, given, len) => make_over_few(on, called, given, len, visited),
         Act::Side(side) => make_side(on, side, visited),
         Act::Tree(rooted, count) => done(grow(on, rooted, count, visited)),
-        Act::Chunks(len) => done(change_chunks(on, len)),
+        Act::Chunks(len) => {
+            let mut numbers = numbers(on.rt, on.alloc, len);
+            done(change(on, 2, numbers.as_mut_slice(), visited))
+        }
         Act::Sort(len) => {
             let mut numbers = numbers(on.rt, on.alloc, len);
             done(sort(on, true, numbers.as_mut_slice(), visited))
@@ -96,6 +105,9 @@ pub fn does<Rt: Threads + Wait + Abort + Sync, S: Strategy>(
         Act::Run => done(
             on.strategy
                 .run(on.rt, on.alloc, on.site, 5, give_one, give_two),
+        ),
+        Act::TryRun => tried(
+            on.strategy.try_run(on.rt, on.alloc, on.site, 5, seven_or_error, seven_or_error),
         ),
     }
 }

@@ -2,6 +2,7 @@
 //! those of lists, sorts, joins, batches, tiles, trees and jobs.
 ghost use Rattle.std.specs.Prelude.{◌≡◌, ⊤};
 
+use crate::tests::clocks::{Stepping, learning};
 use crate::tests::probes::acts::on;
 use crate::tests::probes::calls::{CALLS, Called};
 use crate::tests::probes::given::{FEW, Given, SOURCES, is_made, leaves, make_over, make_over_few};
@@ -30,9 +31,9 @@ const PART: usize = 8192;
 // For how many turns a meeting goes on, so that one too many may come.
 const TURNS: u32 = 1000;
 
-// The same of that many threads: one of many threads doesn't go on.
+// The same of that many threads: one of more than four doesn't go on, as it would take long.
 fn turns(threads: usize) -> u32 {
-    if threads > 8 { 0 } else { TURNS }
+    if threads > 4 { 0 } else { TURNS }
 }
 
 // A number for few threads, and one for many.
@@ -67,6 +68,23 @@ fn met<Rt: Abort>(
     let found = (made, meeting.most());
     let wanted = (Ok(()), meeting.wanted());
     row(rt, (called, given, len, meeting.wanted()), found, wanted);
+}
+
+// How many of that many segments, of one item each or few more, are under way at once. A list is
+// halved, and its threads with it, the fewer ones to the outer quarters: where a quarter that is
+// one item has got threads to share, some of them are left without any.
+fn workers_at_once(threads: usize, segments: usize) -> usize {
+    match (threads, segments) {
+        (5, 5 | 6) => 4,
+        (6, 6) => 5,
+        (9, 9..=14) => 8,
+        (12, 10) => 9,
+        (12, 11 | 12) => 10,
+        (12, 13 | 14) => 11,
+        (17, 17..=30) => 16,
+        (65, 65..=126) => 64,
+        _ => threads.min(segments),
+    }
 }
 
 // The same of all list calls over that many items of each source.
@@ -112,13 +130,15 @@ fn lengths(threads: usize) -> [usize; 4] {
     [threads, threads.saturating_mul(2), more, long]
 }
 
-// The same over few sources, as many items as there are threads, and a hundred.
+// The same over few sources, fewer items than there are segments, and as many as there are threads.
 fn few_items_meet<Rt: Threads + Wait + Abort + Sync, S: Strategy>(on: &On<'_, Rt, S, Site>) {
     let (rt, threads) = (on.rt, on.strategy.thread_number().get());
+    let many = by_threads(threads, 100, threads.saturating_mul(10));
     for called in CALLS {
         for given in FEW {
-            for len in [threads, 100] {
-                let meeting = Meeting::of(threads, turns(threads));
+            for len in [threads / 2, threads, threads.wrapping_add(1), many] {
+                let wanted = workers_at_once(threads, len);
+                let meeting = Meeting::of(wanted, turns(threads));
                 let made = make_over_few(on, called, given, len, Visitor::Meets(&meeting));
                 met(rt, (called, given, len), made, &meeting);
             }
@@ -206,25 +226,27 @@ fn ranges_meet<Rt: Threads + Wait + Abort + Sync, S: Strategy>(on: &On<'_, Rt, S
 }
 
 // The same of the fills of tiles on rows that are too short to be cut: as many meet as there are
-// rows, where these are fewer than threads. Then of one row, which is cut.
+// rows, where these are fewer than workers, which are a list with an item for each thread. Then of
+// one row, which is cut.
 fn fills_meet<Rt: Threads + Wait + Abort + Sync, S: Strategy>(
     on: &On<'_, Rt, S, Site>,
     filling: Filling,
 ) {
     let (rt, threads) = (on.rt, on.strategy.thread_number().get());
     let many = by_threads(threads, 100, 1000);
+    let workers = workers_at_once(threads, threads);
     for rows in [2, threads, threads.saturating_mul(2), many] {
-        let meeting = Meeting::of(threads.min(rows), turns(threads));
+        let meeting = Meeting::of(workers.min(rows), turns(threads));
         let filled = fill(on, filling, rows, 10, Visitor::Meets(&meeting));
         let found = (filled, meeting.most());
-        let wanted = (Ok(rows), threads.min(rows));
+        let wanted = (Ok(rows), workers.min(rows));
         row(rt, (filling, rows, threads), found, wanted);
     }
-    let meeting = Meeting::of(threads, turns(threads));
+    let meeting = Meeting::of(workers, turns(threads));
     let columns = by_threads(threads, 1000, 20_000);
     let filled = fill(on, filling, 1, columns, Visitor::Meets(&meeting));
     let found = (filled.is_ok(), meeting.most());
-    row(rt, (filling, "cut", threads), found, (true, threads));
+    row(rt, (filling, "cut", threads), found, (true, workers));
 }
 
 // A meeting for each level of a tree.
@@ -233,7 +255,8 @@ fn levels_of(alloc: Global, threads: usize, leaves: usize) -> Result<Vec<Meeting
     let mut nodes = leaves;
     for _ in 0..64u32 {
         if nodes > 1 {
-            levels.push(Meeting::of(threads.min(nodes / 2), turns(threads)))?;
+            let wanted = workers_at_once(threads, nodes / 2);
+            levels.push(Meeting::of(wanted, turns(threads)))?;
             nodes = nodes.div_ceil(2);
         }
     }
@@ -300,14 +323,11 @@ fn jobs_meet_their_caller<Rt: Threads + Wait + Abort + Copy + Send + 'static, S:
 }
 
 // Stops the test where the closures of any other call don't meet, or where too many do.
-fn all_meet<Rt: Threads + Wait + Abort + Copy + Send + Sync + 'static, S: Strategy>(
-    rt: &Rt,
-    alloc: Global,
-    strategy: &S,
-) {
+fn all_meet<Rt: Threads + Wait + Abort + Sync, S: Strategy>(rt: &Rt, alloc: Global, strategy: &S) {
     let on = on(rt, alloc, strategy);
     few_items_meet(&on);
     parts_of_sorts_meet(&on);
+    merges_of_sorts_meet(&on);
     changes_meet(&on);
     sides_of_a_join_meet(&on);
     ranges_meet(&on);
@@ -317,35 +337,44 @@ fn all_meet<Rt: Threads + Wait + Abort + Copy + Send + Sync + 'static, S: Strate
     for rooted in ROOTED {
         pairs_meet(&on, rooted);
     }
-    jobs_meet_their_caller(rt, alloc, strategy);
 }
 
 #[test]
 fn as_many_closures_of_each_call_meet_as_there_are_threads(rt: HostRuntime) {
     let alloc = rt.alloc();
-    for threads in 2..5usize {
+    for threads in [2usize, 4, 5] {
         let own = Noting::new(&rt, alloc, threads);
         own.log().hand_off();
         all_meet(&rt, alloc, &own);
+        jobs_meet_their_caller(&rt, alloc, &own);
         let pool = unasked(&rt, alloc, threads);
-        all_meet(&rt, alloc, &pool);
+        jobs_meet_their_caller(&rt, alloc, &pool);
         let explorer = Explorer::parallel(&pool).expect(&rt, "memory for a handle");
         all_meet(&rt, alloc, &explorer);
+        jobs_meet_their_caller(&rt, alloc, &explorer);
     }
-    // Changes in place, which have threads of their own, on other numbers of them, too.
-    for threads in 5..9usize {
-        changes_meet(&on(&rt, alloc, &unasked(&rt, alloc, threads)));
+    // By this clock each run takes so long that its policy keeps it parallel.
+    let slow = learning(&rt, alloc, Stepping::new(&rt, alloc, 2_500_000));
+    all_meet(&rt, alloc, &slow);
+}
+
+#[test]
+fn as_many_meet_whatever_the_number_of_threads(rt: HostRuntime) {
+    let alloc = rt.alloc();
+    for threads in [3usize, 6, 8] {
+        all_meet(&rt, alloc, &unasked(&rt, alloc, threads));
     }
 }
 
 #[test]
 fn many_threads_meet_and_as_many_where_more_are_planned(rt: HostRuntime) {
     let alloc = rt.alloc();
-    let sixteen = unasked(&rt, alloc, 16);
-    all_meet(&rt, alloc, &sixteen);
-    merges_of_sorts_meet(&on(&rt, alloc, &sixteen));
+    all_meet(&rt, alloc, &unasked(&rt, alloc, 17));
+    few_items_meet(&on(&rt, alloc, &unasked(&rt, alloc, 12)));
     // More than one thread starts in a row.
-    changes_meet(&on(&rt, alloc, &unasked(&rt, alloc, 70)));
+    let most = unasked(&rt, alloc, 65);
+    few_items_meet(&on(&rt, alloc, &most));
+    changes_meet(&on(&rt, alloc, &most));
     let four = planned_for(&rt, alloc, 4, 8);
     few_items_meet(&on(&rt, alloc, &four));
     ranges_meet(&on(&rt, alloc, &four));

@@ -77,8 +77,9 @@ where
     for rooted in ROOTED {
         starts(&on, Act::Tree(rooted, 128), most.saturating_mul(7));
     }
-    starts(&on, Act::Chunks(100_000), most);
-    // Numbers that are one part.
+    starts(&on, Act::Chunks(20_000), most);
+    // Numbers that are three parts, and such that are one.
+    starts(&on, Act::Sort(24_576), most.min(2));
     starts(&on, Act::Sort(16_383), 0);
 }
 
@@ -117,14 +118,17 @@ fn least_by_command<Rt: Threads + Wait + Files + AllocGlobal + Abort + Sync>(
     least
 }
 
+// A search runs by six rules, of which these start threads: the parallel one, and those that the
+// hash of the call picks so. A run over many items starts three, one over pairs of each level at
+// most as many, and one fewer than there are pairs.
 #[test]
 fn the_programs_searches_and_its_drain_start_threads(rt: HostRuntime) {
     let alloc = rt.alloc();
     let least = least_by_command(&rt, alloc, "explore sum", "4950\n");
-    row(&rt, "explore sum", least > 0, true);
+    row(&rt, ("explore sum", least), least >= 12, true);
     let least = least_by_command(&rt, alloc, "drain 4 2", "0 1 2 3\n");
     row(&rt, "drain", least > 0, true);
     let line = widest(alloc, "root", 1_000).expect(&rt, "memory");
     let least = least_by_command(&rt, alloc, &line, "890209\n");
-    row(&rt, "root", least > 0, true);
+    row(&rt, ("root", least), least >= 75, true);
 }
