@@ -1,6 +1,7 @@
 //! That blocks of memory are given back: of a home by the count of a heap; of calls by the size of
 //! the process. Where allocations are checked, as by `rt try`, small blocks stay with the process
-//! once they are let go, and those of 320 MiB don't.
+//! once they are let go, and those of 320 MiB don't. Beside a block that goes, a thread's own store
+//! of 64 MiB may come: the process is smaller by less then, and by 150 MB still.
 use crate::tests::clocks::{Stepping, learning};
 use crate::tests::entries::by_policy;
 use crate::tests::no_memory::all_places;
@@ -74,7 +75,7 @@ fn roomy(rt: &impl Abort, alloc: Global, len: usize) -> Vec<usize> {
 // Stops the test where the process hasn't as many addresses less as such a vector takes.
 fn is_given_back<Rt: Files + AllocGlobal + Abort, L: Debug + Drop>(rt: &Rt, of: L, before: u64) {
     let given = before.saturating_sub(kibibytes(rt, "VmSize:"));
-    row(rt, (of, given), given > 300_000, true);
+    row(rt, (of, given), given > 150_000, true);
 }
 
 // What the calls have in common, through a strategy.

@@ -95,11 +95,11 @@ pub fn does<Rt: Threads + Wait + Abort + Sync, S: Strategy>(
         Act::Side(side) => make_side(on, side, visited),
         Act::Tree(rooted, count) => done(grow(on, rooted, count, visited)),
         Act::Chunks(len) => {
-            let mut numbers = numbers(on.rt, on.alloc, len);
+            let mut numbers = numbers(on.alloc, len)?;
             done(change(on, 2, numbers.as_mut_slice(), visited))
         }
         Act::Sort(len) => {
-            let mut numbers = numbers(on.rt, on.alloc, len);
+            let mut numbers = numbers(on.alloc, len)?;
             done(sort(on, true, numbers.as_mut_slice(), visited))
         }
         Act::Run => done(

@@ -147,21 +147,21 @@ fn few_items_meet<Rt: Threads + Wait + Abort + Sync, S: Strategy>(on: &On<'_, Rt
 }
 
 /// That many numbers, none of which is in its place.
-pub fn numbers(rt: &impl Abort, alloc: Global, count: usize) -> Vec<u32> {
-    let mut numbers = Vec::with_capacity(alloc, count).expect(rt, "memory for numbers");
+pub fn numbers(alloc: Global, count: usize) -> Result<Vec<u32>, Fault> {
+    let mut numbers = Vec::with_capacity(alloc, count)?;
     let mut place = 0u32;
     for _ in 0..count {
-        numbers.push(place ^ 1).expect(rt, "memory for numbers");
+        numbers.push(place ^ 1)?;
         place = place.wrapping_add(1);
     }
-    numbers
+    Ok(numbers)
 }
 
 // The same of each sort: of a list that has just as many parts as there are threads.
 fn parts_of_sorts_meet<Rt: Threads + Wait + Abort + Sync, S: Strategy>(on: &On<'_, Rt, S, Site>) {
     let (rt, threads) = (on.rt, on.strategy.thread_number().get());
     for sorted in [true, false] {
-        let mut numbers = numbers(rt, on.alloc, threads.saturating_mul(PART));
+        let mut numbers = numbers(on.alloc, threads.saturating_mul(PART)).expect(rt, "memory");
         let meeting = Meeting::of(threads, turns(threads));
         let visitor = Visitor::MeetsEarly(&meeting);
         let outcome = sort(on, sorted, numbers.as_mut_slice(), visitor);
@@ -177,7 +177,7 @@ fn merges_of_sorts_meet<Rt: Threads + Wait + Abort + Sync, S: Strategy>(on: &On<
     let (rt, threads) = (on.rt, on.strategy.thread_number().get());
     let halves = threads / 2;
     for sorted in [true, false] {
-        let mut numbers = numbers(rt, on.alloc, threads.saturating_mul(PART));
+        let mut numbers = numbers(on.alloc, threads.saturating_mul(PART)).expect(rt, "memory");
         let levels = [Meeting::of(halves, 0)];
         let visitor = Visitor::MeetsByLevel(&levels);
         let outcome = sort(on, sorted, numbers.as_mut_slice(), visitor);
@@ -192,7 +192,7 @@ fn changes_meet<Rt: Threads + Wait + Abort + Sync, S: Strategy>(on: &On<'_, Rt, 
     let (rt, threads) = (on.rt, on.strategy.thread_number().get());
     for len in lengths(threads) {
         for size in [1, by_threads(threads, 2, 100)] {
-            let mut numbers = numbers(rt, on.alloc, len.saturating_mul(size));
+            let mut numbers = numbers(on.alloc, len.saturating_mul(size)).expect(rt, "memory");
             let meeting = Meeting::of(threads, turns(threads));
             let visitor = Visitor::Meets(&meeting);
             let changed = change(on, size, numbers.as_mut_slice(), visitor);
