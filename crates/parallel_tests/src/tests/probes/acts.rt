@@ -2,13 +2,16 @@
 use crate::tests::probes::calls::{CALLS, Called, done, tried};
 use crate::tests::probes::given::{FEW, Given, leaves, make_over_few};
 use crate::tests::probes::meets::numbers;
-use crate::tests::probes::sides::{SIDES, Side, change, make_side, root, sort};
+use crate::tests::probes::sides::{
+    Batched, Filling, SIDES, Side, change, fill, make_side, root, run_batch, sort,
+};
 use crate::tests::probes::visits::Visitor;
 use crate::tests::roots::{ROOTED, Rooted};
 use crate::tests::steps::{give_one, give_two, seven_or_error};
 use crate::tests::strategies::SITE;
 use commonware_parallel::{Fault, On, Site, Strategy, Trouble};
 use std::alloc::Global;
+use std::num::NonZeroUsize;
 use std::process::Abort;
 use std::sync::Wait;
 use std::thread::{Threads, yield_now};
@@ -36,8 +39,12 @@ pub enum Act {
     Tree(Rooted, usize),
     /// A change of that many items in place, in chunks of two.
     Chunks(usize),
-    /// A sort of that many numbers.
-    Sort(usize),
+    /// A sort of that many numbers, which keeps the order of those that tie or needn't.
+    Sort(bool, usize),
+    /// A batch of that many indices, in as many ranges as are planned.
+    Batch(Batched, usize),
+    /// The fill of tiles on that many rows of ten columns.
+    Fill(Filling, usize),
     /// A run over five items.
     Run,
     /// A run over five items that may fail.
@@ -98,10 +105,14 @@ pub fn does<Rt: Threads + Wait + Abort + Sync, S: Strategy>(
             let mut numbers = numbers(on.alloc, len)?;
             done(change(on, 2, numbers.as_mut_slice(), visited))
         }
-        Act::Sort(len) => {
+        Act::Sort(is_stable, len) => {
             let mut numbers = numbers(on.alloc, len)?;
-            done(sort(on, true, numbers.as_mut_slice(), visited))
+            done(sort(on, is_stable, numbers.as_mut_slice(), visited))
         }
+        Act::Batch(batched, len) => {
+            tried(run_batch(on, batched, len, NonZeroUsize::MIN, visited))
+        }
+        Act::Fill(filling, rows) => done(fill(on, filling, rows, 10, visited)),
         Act::Run => done(
             on.strategy
                 .run(on.rt, on.alloc, on.site, 5, give_one, give_two),

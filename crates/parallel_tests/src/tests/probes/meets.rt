@@ -25,8 +25,8 @@ use std::sync::{Arc, Wait};
 use std::thread::Threads;
 use uses::spawned_jobs::answer_beside;
 
-// How many items a part of a sort has.
-const PART: usize = 8192;
+/// How many items a part of a sort has.
+pub const PART: usize = 8192;
 
 // For how many turns a meeting goes on, so that one too many may come.
 const TURNS: u32 = 1000;

@@ -6,6 +6,7 @@ use crate::tests::probes::calls::CALLS;
 use crate::tests::probes::given::FEW;
 use crate::tests::probes::meets::{planned_for, unasked};
 use crate::tests::probes::noting::Noting;
+use crate::tests::probes::own_part::last_number;
 use crate::tests::probes::sides::SIDES;
 use crate::tests::probes::visits::Visitor;
 use crate::tests::roots::ROOTED;
@@ -13,18 +14,10 @@ use crate::tests::same::row;
 use commonware_parallel::mocks::{Explorer, Rule};
 use commonware_parallel::{On, Site, Strategy};
 use std::alloc::{AllocGlobal, Global};
-use std::fs;
 use std::process::Abort;
 use std::rt::Files;
 use std::sync::Wait;
 use std::thread::Threads;
-
-// The number that was given last to a process or a thread, by Linux's own count.
-fn last_number<Rt: Files + AllocGlobal + Abort>(rt: &Rt) -> u64 {
-    let counts = fs::read_to_string(rt, "/proc/loadavg").expect(rt, "the counts");
-    let (_others, last) = counts.trim().rsplit_once(' ').expect(rt, "a number");
-    last.parse::<u64>().expect(rt, "a number")
-}
 
 // How many threads are started meanwhile, as few as in the best of many tries, as others start
 // threads too. The greatest number is where it never succeeds.
@@ -79,8 +72,8 @@ where
     }
     starts(&on, Act::Chunks(20_000), most);
     // Numbers that are three parts, and such that are one.
-    starts(&on, Act::Sort(24_576), most.min(2));
-    starts(&on, Act::Sort(16_383), 0);
+    starts(&on, Act::Sort(true, 24_576), most.min(2));
+    starts(&on, Act::Sort(true, 16_383), 0);
 }
 
 #[test]

@@ -1,6 +1,7 @@
 //! What a probe has the closures of a call do.
 use crate::tests::probes::logs::{Log, RAN};
 use crate::tests::probes::meetings::Meeting;
+use crate::tests::probes::own_part::OwnPart;
 use std::sync::atomic::{AtomicUsize, Ordering};
 
 /// How often closures are called: those for items, and those that begin a state.
@@ -44,6 +45,8 @@ pub enum Visitor<'a> {
     FailsAt(&'a AtomicUsize, usize),
     /// Counts its calls, and the states.
     Counts(&'a Times),
+    /// Looks how many threads were started before the caller's own part.
+    Sees(HostRuntime, &'a OwnPart),
 }
 
 impl Visitor<'_> {
@@ -61,6 +64,10 @@ impl Visitor<'_> {
             }
             Visitor::MeetsEarly(meeting) => {
                 meeting.attend_early();
+                Ok(())
+            }
+            Visitor::Sees(rt, own) => {
+                own.see(&rt);
                 Ok(())
             }
             Visitor::Writes(log) => {
