@@ -3,7 +3,7 @@ ghost use Rattle.std.specs.Prelude.{◌≡◌, ◌≢◌, ◌*◌, ◌^◌, ◌<
 ghost use Rattle.std.specs.Int.NonZero.{non_zero_usize_get};
 ghost use Rattle.parallel_shares.specs.Seats.{AreSeatsOf};
 
-use crate::same::{lists, row, same};
+use crate::checks::{lists, row};
 use parallel_shares::machine::{Event, Outcome, Plan, State, replay, step};
 use parallel_shares::{Seat, Shares, Stretch, Tried, pack, stretches};
 use std::alloc::Global;
@@ -11,6 +11,7 @@ use std::num::NonZeroUsize;
 use std::ops::Range;
 use std::process::Abort;
 use std::sync::Wait;
+use test_support::same;
 
 pub(crate) fn number(rt: &impl Abort, value: usize) -> NonZeroUsize
     ensures { non_zero_usize_get result ≡ value }
@@ -185,14 +186,14 @@ fn closes(rt: &impl Abort, shares: Shares, seats: Vec<Seat>, wanted: &[u64])
     requires { AreSeatsOf shares seats.items }
 {
     let words = shares.close(seats);
-    same(rt, words.as_slice(), wanted);
+    same!(rt, words.as_slice(), wanted);
 }
 
 #[test]
 fn one_seat_claims_a_whole_queue(rt: HostRuntime) {
     let (shares, mut seats) = opened(&rt, rt.alloc(), 65_536, 3, 1, 4, true);
-    same(&rt, (shares.unit(), shares.cells()), (6, 196_608));
-    same(
+    same!(&rt, (shares.unit(), shares.cells()), (6, 196_608));
+    same!(
         &rt,
         (shares.workers(), shares.seats(), seats.len()),
         (4, 4, 4),
@@ -210,7 +211,7 @@ fn the_last_claim_of_the_greatest_queue_is_its_last_row(rt: HostRuntime) {
     let len = 281_470_681_808_895;
     let (shares, mut seats) = opened(&rt, rt.alloc(), 65_537, len, 1, 1, true);
     let sizes = (shares.unit(), shares.cells());
-    same(&rt, sizes, (562_941_363_617_790, usize::MAX));
+    same!(&rt, sizes, (562_941_363_617_790, usize::MAX));
     let last = 18_446_462_603_027_742_720..18_446_744_073_709_551_615;
     play(&rt, &shares, &mut seats, &[Step::Empties(0, last)]);
     closes(&rt, shares, seats, &[pack(32_769, 32_769)]);
@@ -227,7 +228,7 @@ fn untouched_shares_have_the_words_of_the_opening(rt: HostRuntime) {
 // A plan's state has these words at first.
 fn opens_with(rt: &impl Abort, alloc: Global, plan: &Plan, words: &[u64]) {
     let state = State::new(alloc, plan).expect(rt, "memory");
-    same(rt, state.words(), words);
+    same!(rt, state.words(), words);
 }
 
 #[test]
@@ -240,7 +241,7 @@ fn the_machine_opens_with_the_same_words(rt: HostRuntime) {
 
 // One step returns so.
 fn takes(rt: &impl Abort, plan: &Plan, state: &mut State, event: Event, wanted: Outcome) {
-    same(rt, step(plan, state, event), Ok(wanted));
+    same!(rt, step(plan, state, event), Ok(wanted));
 }
 
 // Two plans of as many words and seats, the second over twice as many cells.
@@ -255,22 +256,22 @@ fn a_state_of_another_plan_is_left_as_it_was(rt: HostRuntime) {
     takes(&rt, &plan, &mut state, claim, Outcome::Refused);
     takes(&rt, &plan, &mut state, load, Outcome::Loaded(3));
     takes(&rt, &other, &mut state, claim, Outcome::Refused);
-    same(&rt, state.words(), [3].as_slice());
+    same!(&rt, state.words(), [3].as_slice());
     takes(&rt, &plan, &mut state, claim, Outcome::Claimed(0..2));
 }
 
 #[test]
 fn the_greatest_cut_plan_opens_with_two_halves(rt: HostRuntime) {
     let (shares, seats) = opened(&rt, rt.alloc(), 1, usize::MAX, 1, 2, false);
-    same(&rt, shares.unit(), 281_479_271_743_489);
+    same!(&rt, shares.unit(), 281_479_271_743_489);
     closes(&rt, shares, seats, &[32_768, 2_147_549_183]);
 }
 
 #[test]
 fn the_last_unit_of_a_cut_plan_has_the_cells_that_are_left(rt: HostRuntime) {
-    same(&rt, pack(3, 9), 196_617);
+    same!(&rt, pack(3, 9), 196_617);
     let plan = planned(&rt, 1, 100_001, 10, 2, false);
-    same(
+    same!(
         &rt,
         (plan.unit(), plan.workers(), plan.claim(), plan.units()),
         (2, 2, 5, 50_001),
@@ -304,7 +305,7 @@ fn a_thief_takes_the_last_of_equals(rt: HostRuntime) {
 #[test]
 fn a_thief_takes_the_most_cells_and_not_the_most_units(rt: HostRuntime) {
     let (shares, mut seats) = opened(&rt, rt.alloc(), 1, 65_537, 2, 3, false);
-    same(&rt, shares.unit(), 2);
+    same!(&rt, shares.unit(), 2);
     let steps = [
         Step::Empties(0, 21_844..21_846),
         Step::Steals(0, Tried::Taken, Some(16_384..21_846)),
@@ -312,7 +313,7 @@ fn a_thief_takes_the_most_cells_and_not_the_most_units(rt: HostRuntime) {
     ];
     play(&rt, &shares, &mut seats, &steps);
     let words = shares.close(seats);
-    same(&rt, words.get(1), Some(&715_866_112));
+    same!(&rt, words.get(1), Some(&715_866_112));
 }
 
 #[test]
@@ -416,7 +417,7 @@ fn a_replay_steals_and_loses_a_stale_claim(rt: HostRuntime) {
         (17, Outcome::Loaded(262_150)),
     ];
     tells(&rt, outcomes.as_slice(), &told);
-    same(&rt, state.words(), [pack(8, 8), pack(6, 6)].as_slice());
+    same!(&rt, state.words(), [pack(8, 8), pack(6, 6)].as_slice());
     assert!(rt; plan.workers() == 2);
     let wanted = [cells(0, 0..4), cells(0, 6..8)];
     claims_stretches(&rt, alloc, state.claims(0), 8, &wanted);
@@ -432,9 +433,9 @@ fn a_small_cut_plan_is_claimed_across_rows(rt: HostRuntime) {
     ];
     let (state, outcomes) = replay(alloc, &plan, &events).expect(&rt, "memory");
     tells(&rt, outcomes.as_slice(), &[(0, Outcome::Loaded(8))]);
-    same(&rt, state.words(), [pack(8, 8), 524_303].as_slice());
+    same!(&rt, state.words(), [pack(8, 8), 524_303].as_slice());
     assert!(rt; plan.workers() == 2);
-    same(&rt, state.claims(0), [0..2, 2..4, 4..6, 6..8].as_slice());
+    same!(&rt, state.claims(0), [0..2, 2..4, 4..6, 6..8].as_slice());
     let wanted = [cells(0, 0..5), cells(1, 0..3)];
     claims_stretches(&rt, alloc, state.claims(0), 5, &wanted);
 }
@@ -474,7 +475,7 @@ fn a_run_goes_on_in_a_row_and_over_to_the_next(rt: HostRuntime) {
             &row_cells_and_calls,
         )
         .expect(&rt, "memory");
-    same(
+    same!(
         &rt,
         results.as_slice(),
         [(1, 2, 1), (2, 5, 3), (0, 1, 1), (1, 3, 2)].as_slice(),
@@ -485,7 +486,7 @@ fn a_run_goes_on_in_a_row_and_over_to_the_next(rt: HostRuntime) {
         results.capacity() < 15,
         true,
     );
-    same(
+    same!(
         &rt,
         (filled, seat.own_empty(), seat.in_transit()),
         ((0, 0), true, None),

@@ -1,6 +1,6 @@
 //! Consumers, their folders and a splitter at concrete types.
 use crate::bridge::number;
-use crate::same::{lists, row, same};
+use crate::checks::{lists, row};
 use parallel_bridge::bridge::bridge;
 use parallel_bridge::consumer::collect::CollectConsumer;
 use parallel_bridge::consumer::fold::FoldFolder;
@@ -22,6 +22,7 @@ use std::num::NonZeroUsize;
 use std::process::Abort;
 use std::sync::atomic::{AtomicU64, Ordering};
 use std::thread::Threads;
+use test_support::same;
 
 // What stands in each segment before its first `None`, for one thread.
 fn kept<Rt: Threads + Sync + Abort, T: Send + Drop>(
@@ -48,7 +49,7 @@ fn each_segment_keeps_what_stands_before_its_first_none(rt: HostRuntime) {
     let items = vec![in alloc; Some(1u8), None, Some(3), Some(4), Some(5), None, Some(7)].expect(
         &rt, "memory",
     );
-    same(
+    same!(
         &rt,
         kept(&rt, alloc, items).as_slice(),
         [1, 4, 5].as_slice(),
@@ -172,7 +173,7 @@ fn a_splitter_by_length_leaves_no_part_too_short(rt: HostRuntime) {
 fn a_folder_of_options_is_full_after_none(rt: HostRuntime) {
     let alloc = rt.alloc();
     let full = fullness::<Option<u32>, _, u32, _>(alloc, options(alloc, false), Some(4), None);
-    same(&rt, full, Ok([false, false, true]));
+    same!(&rt, full, Ok([false, false, true]));
 }
 
 #[test]
@@ -182,7 +183,7 @@ fn a_folder_of_a_fallible_reduction_is_full_after_an_error(rt: HostRuntime) {
         reduce_op: &add,
     };
     let full = fullness(rt.alloc(), folder, Ok(4), Err(5));
-    same(&rt, full, Ok([false, false, true]));
+    same!(&rt, full, Ok([false, false, true]));
 }
 
 #[test]
@@ -196,7 +197,7 @@ fn a_folder_of_a_fallible_fold_is_full_after_an_error(rt: HostRuntime) {
         fold_op: &add_checked,
     };
     let full = fullness(rt.alloc(), folder, 4, 5);
-    same(&rt, full, Ok([false, false, true]));
+    same!(&rt, full, Ok([false, false, true]));
 }
 
 // The number, where it is below 5.

@@ -6,7 +6,6 @@ ghost use Rattle.parallel_bridge.specs.Gates.{IsGateSeatOf, known, stands_for};
 
 use crate::bridge::number;
 use crate::bridge::windows::{Counted, Counts, all_gone_but, counted_items, no_counts};
-use crate::same::{holds, same};
 use parallel_bridge::gate::{Gate, GateSeat, GateWatch};
 use parallel_bridge::list::try_map::try_map_parallel;
 use parallel_bridge::parts::ProducerParts;
@@ -20,6 +19,7 @@ use std::process::Abort;
 use std::sync::atomic::{AtomicU64, Ordering};
 use std::thread;
 use std::thread::Threads;
+use test_support::{holds, same};
 
 // The last seat of a list.
 fn take_one(gate: &Gate, seats: &mut Vec<GateSeat>) -> Option<GateSeat>
@@ -81,9 +81,9 @@ fn the_least_start_that_was_told_stops_greater_ones(rt: HostRuntime) {
     let mut second = take_one(&gate, &mut seats).expect(&rt, "a seat");
     let mut third = take_one(&gate, &mut seats).expect(&rt, "a seat");
     let ten = after_ten(&gate, &mut first, &mut second, &mut third);
-    same(&rt, ten, [true, false, false]);
+    same!(&rt, ten, [true, false, false]);
     let three = after_three(&gate, &mut first, &mut second, &mut third);
-    same(&rt, three, [true, true]);
+    same!(&rt, three, [true, true]);
 }
 
 #[test]
@@ -104,7 +104,7 @@ fn a_segment_right_of_a_known_error_calls_nothing(rt: HostRuntime) {
         parts: Copies { slice: &numbers },
     };
     let items = Watched::new(segment.into_items(), watch);
-    holds(&rt, items.look().is_err());
+    holds!(&rt, items.look().is_err());
 }
 
 // Waits for an error that another segment makes, but not for ever.
@@ -121,11 +121,11 @@ fn await_error(failed: &AtomicU64) {
 fn is_first<'a>(rt: &impl Abort, answer: Result<Vec<Counted<'a>>, Trouble<usize>>) -> bool {
     match answer {
         Ok(values) => {
-            same(rt, values.len(), 0);
+            same!(rt, values.len(), 0);
             false
         }
         Err(Trouble::Closure(place)) => {
-            same(rt, place, 0);
+            same!(rt, place, 0);
             true
         }
         Err(Trouble::Fault(_fault)) => false,
@@ -162,7 +162,7 @@ pub(crate) fn stop_counted<R: Threads + Sync + Abort>(
     let parts = DrainProducer::from_vec(items);
     let told = try_map_parallel(rt, alloc, number(rt, threads), parts, &answer);
     let is_told = is_first(rt, told);
-    holds(rt, all_gone_but(&counts, 0));
+    holds!(rt, all_gone_but(&counts, 0));
     !is_told
 }
 
@@ -182,7 +182,7 @@ fn stop_values<R: Threads + Sync + Abort>(
     };
     let told = try_map_parallel(rt, alloc, number(rt, threads), parts, &answer);
     let is_told = is_first(rt, told);
-    holds(rt, all_gone_but(&counts, 0));
+    holds!(rt, all_gone_but(&counts, 0));
     if is_told { Some(counts.made()) } else { None }
 }
 
@@ -190,7 +190,7 @@ fn stop_values<R: Threads + Sync + Abort>(
 fn segments_right_of_a_known_error_stop_early(rt: HostRuntime) {
     // 32 threads make 64 segments of 1000 items each.
     let values = stop_values(&rt, rt.alloc(), 32, 64_000).expect(&rt, "the error is told");
-    holds(&rt, values < 16_000);
+    holds!(&rt, values < 16_000);
 }
 
 #[test]

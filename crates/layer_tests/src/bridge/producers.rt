@@ -2,18 +2,19 @@
 ghost use Rattle.std.specs.Prelude.{◌+◌};
 ghost use Rattle.std.specs.Iterator.{at_most};
 
-use crate::same::{row, same};
+use crate::checks::row;
 use parallel_bridge::list::partition::partition_iter;
 use parallel_bridge::producer::DrainProducer;
 use parallel_bridge::source::Source;
+use test_support::same;
 
 #[test]
 fn a_drain_gives_its_items_from_both_ends(rt: HostRuntime) {
     let items = vec![in rt.alloc(); 1u8, 2, 3].expect(&rt, "memory");
     let mut drain = DrainProducer::from_vec(items).drain();
-    same(&rt, (drain.next(), drain.next_back()), (Some(1), Some(3)));
-    same(&rt, (drain.len(), drain.size_hint()), (1, (1, Some(1))));
-    same(&rt, (drain.next(), drain.next()), (Some(2), None));
+    same!(&rt, (drain.next(), drain.next_back()), (Some(1), Some(3)));
+    same!(&rt, (drain.len(), drain.size_hint()), (1, (1, Some(1))));
+    same!(&rt, (drain.next(), drain.next()), (Some(2), None));
 }
 
 // The numbers below `left`, from the greatest on, which are said to be `said` at least.

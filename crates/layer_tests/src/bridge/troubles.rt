@@ -4,7 +4,7 @@ ghost use Rattle.std.specs.Prelude.{◌≡◌, ◌-◌, ◌<◌, ◌≤◌};
 ghost use Rattle.std.specs.List.{range_with_len};
 
 use crate::bridge::number;
-use crate::same::row;
+use crate::checks::row;
 use parallel_bridge::bridge::bridge;
 use parallel_bridge::consumer::try_fold::TryFoldConsumer;
 use parallel_bridge::consumer::try_reduce::TryReduceConsumer;

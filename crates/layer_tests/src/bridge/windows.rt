@@ -1,7 +1,7 @@
 //! Owned items that are taken from where they lie, and results that are written where they stay:
 //! each is dropped once, or handed out.
 use crate::bridge::number;
-use crate::same::{holds, row, same};
+use crate::checks::row;
 use parallel_bridge::list::map::map_parallel;
 use parallel_bridge::list::try_fold::try_fold_parallel;
 use parallel_bridge::list::try_map::try_map_parallel;
@@ -14,6 +14,7 @@ use std::alloc::Global;
 use std::process::Abort;
 use std::sync::atomic::{AtomicU64, Ordering};
 use std::thread::Threads;
+use test_support::{holds, same};
 
 // Counts those that were made and those that were let go.
 #[derive(Drop)]
@@ -98,14 +99,14 @@ pub(crate) fn map_counted<R: Threads + Sync + Abort>(
     let answer = |item: Counted<'_>| Counted::new(&counts, item.place);
     let parts = DrainProducer::from_vec(items);
     if let Ok(answers) = map_parallel(rt, alloc, number(rt, threads), parts, &answer) {
-        same(rt, answers.len(), count);
+        same!(rt, answers.len(), count);
         for place in 0..count {
-            same(rt, place_of(answers.get(place)), Some(place));
+            same!(rt, place_of(answers.get(place)), Some(place));
         }
-        holds(rt, all_gone_but(&counts, count));
+        holds!(rt, all_gone_but(&counts, count));
         is_refused = count < len;
     }
-    holds(rt, all_gone_but(&counts, 0));
+    holds!(rt, all_gone_but(&counts, 0));
     is_refused
 }
 
@@ -138,14 +139,14 @@ pub(crate) fn fold_counted<R: Threads + Sync + Abort>(
     let parts = DrainProducer::from_vec(items);
     match try_fold_parallel(rt, alloc, number(rt, threads), parts, &no_sum, &step, &add) {
         Ok(sum) => {
-            holds(rt, count <= end);
+            holds!(rt, count <= end);
             let twice = count.wrapping_mul(count).wrapping_sub(count);
-            same(rt, sum.wrapping_mul(2), twice);
+            same!(rt, sum.wrapping_mul(2), twice);
         }
-        Err(Trouble::Closure(place)) => same(rt, place, end),
+        Err(Trouble::Closure(place)) => same!(rt, place, end),
         Err(Trouble::Fault(_fault)) => is_refused = true,
     }
-    holds(rt, all_gone_but(&counts, 0));
+    holds!(rt, all_gone_but(&counts, 0));
     is_refused || count < len
 }
 
@@ -157,16 +158,16 @@ fn drain_counted<R: Abort>(rt: &R, alloc: Global, len: usize, front: usize, back
     let count = items.len();
     let mut drain = DrainProducer::from_vec(items).drain();
     for place in 0..front.min(count) {
-        same(rt, place_taken(drain.next()), Some(place));
+        same!(rt, place_taken(drain.next()), Some(place));
     }
     let left = drain.len();
     for taken in 0..back.min(left) {
         let place = count.wrapping_sub(taken).wrapping_sub(1);
-        same(rt, place_taken(drain.next_back()), Some(place));
+        same!(rt, place_taken(drain.next_back()), Some(place));
     }
-    holds(rt, all_gone_but(&counts, drain.len()));
+    holds!(rt, all_gone_but(&counts, drain.len()));
     drop(drain);
-    holds(rt, all_gone_but(&counts, 0));
+    holds!(rt, all_gone_but(&counts, 0));
 }
 
 // Splits counted items at an index, and lets the front one go before the back one. It returns
@@ -180,13 +181,13 @@ pub(crate) fn split_counted<R: Abort>(rt: &R, alloc: Global, len: usize, index: 
     if index <= len
         && let Ok((front, back)) = parts.split_at(alloc, index)
     {
-        same(rt, front.len(), index);
+        same!(rt, front.len(), index);
         drop(front);
-        holds(rt, all_gone_but(&counts, len.wrapping_sub(index)));
-        same(rt, back.len(), len.wrapping_sub(index));
+        holds!(rt, all_gone_but(&counts, len.wrapping_sub(index)));
+        same!(rt, back.len(), len.wrapping_sub(index));
         is_refused = len < wanted;
     }
-    holds(rt, all_gone_but(&counts, 0));
+    holds!(rt, all_gone_but(&counts, 0));
     is_refused
 }
 
@@ -242,20 +243,20 @@ pub(crate) fn pair_counted<R: Threads + Sync + Abort>(
     } else {
         None
     };
-    same(rt, place_of(odd.as_ref()), last);
+    same!(rt, place_of(odd.as_ref()), last);
     let places = |pair: (Counted<'_>, Counted<'_>)| (pair.0.place, pair.1.place);
     if let Ok(answers) = map_parallel(rt, alloc, number(rt, threads), pairs, &places) {
-        same(rt, answers.len(), count / 2);
+        same!(rt, answers.len(), count / 2);
         for place in 0..count / 2 {
             let front = place.wrapping_mul(2);
             let expected = Some((front, front.wrapping_add(1)));
-            same(rt, answers.get(place).copied(), expected);
+            same!(rt, answers.get(place).copied(), expected);
         }
         is_refused = count < len;
     }
-    holds(rt, all_gone_but(&counts, count % 2));
+    holds!(rt, all_gone_but(&counts, count % 2));
     drop(odd);
-    holds(rt, all_gone_but(&counts, 0));
+    holds!(rt, all_gone_but(&counts, 0));
     is_refused
 }
 
@@ -274,14 +275,14 @@ fn pairs_come_serially_too_and_say_how_many_are_left(rt: HostRuntime) {
     let alloc = rt.alloc();
     let items = vec![in alloc; 1u8, 2, 3, 4, 5].expect(&rt, "memory");
     let (pairs, odd) = Pairs::new(items);
-    same(&rt, odd, Some(5));
+    same!(&rt, odd, Some(5));
     let mut drain = Source::into_items(pairs);
-    same(&rt, drain.size_hint(), (2, Some(2)));
-    same(&rt, drain.next(), Some((1, 2)));
-    same(&rt, drain.size_hint(), (1, Some(1)));
-    same(&rt, drain.next(), Some((3, 4)));
-    same(&rt, drain.next(), None);
-    same(&rt, drain.next(), None);
+    same!(&rt, drain.size_hint(), (2, Some(2)));
+    same!(&rt, drain.next(), Some((1, 2)));
+    same!(&rt, drain.size_hint(), (1, Some(1)));
+    same!(&rt, drain.next(), Some((3, 4)));
+    same!(&rt, drain.next(), None);
+    same!(&rt, drain.next(), None);
 }
 
 fn let_go(_place: usize) {}
@@ -307,7 +308,7 @@ fn values_of_size_zero_are_mapped_in_order(rt: HostRuntime) {
     );
     row(&rt, 2, ones.len(), 5000);
     for one in &ones {
-        same(&rt, *one, 1);
+        same!(&rt, *one, 1);
     }
 }
 
@@ -327,8 +328,8 @@ fn texts_before_and_after_the_first_failing_one_are_let_go(rt: HostRuntime) {
         Ok(text)
     };
     match try_map_parallel(&rt, alloc, number(&rt, 4), parts, &answer) {
-        Err(Trouble::Closure(text)) => same(&rt, text.as_str(), "text 57"),
-        Err(Trouble::Fault(_fault)) => holds(&rt, false),
-        Ok(_values) => holds(&rt, false),
+        Err(Trouble::Closure(text)) => same!(&rt, text.as_str(), "text 57"),
+        Err(Trouble::Fault(_fault)) => holds!(&rt, false),
+        Ok(_values) => holds!(&rt, false),
     }
 }

@@ -9,9 +9,9 @@ use crate::bridge::windows::{
     Counted, all_gone_but, counted_items, fold_counted, map_counted, no_counts, pair_counted,
     split_counted,
 };
+use crate::checks::row;
 use crate::claims::{self, count_columns, row_cells_and_calls};
 use crate::pool::tally::read;
-use crate::same::{holds, row, same};
 use parallel_bridge::gate::Gate;
 use parallel_bridge::segments::segments;
 use parallel_bridge::window::block::Block;
@@ -27,6 +27,7 @@ use std::process::Abort;
 use std::sync::Wait;
 use std::sync::atomic::{AtomicU64, Ordering};
 use std::thread::Threads;
+use test_support::{holds, same};
 
 // A call that takes memory.
 #[derive(Clone, Copy, Debug, PartialEq, Eq)]
@@ -81,13 +82,13 @@ fn push(rt: &impl Abort, alloc: Global) -> bool {
     let pushed = Block::from_vec(items).push(Counted::new(&counts, count));
     let is_refused = match pushed {
         Ok(block) => {
-            same(rt, block.len(), count.wrapping_add(1));
-            holds(rt, all_gone_but(&counts, block.len()));
+            same!(rt, block.len(), count.wrapping_add(1));
+            holds!(rt, all_gone_but(&counts, block.len()));
             false
         }
         Err(_) => true,
     };
-    holds(rt, all_gone_but(&counts, 0));
+    holds!(rt, all_gone_but(&counts, 0));
     is_refused || count < LEN
 }
 
@@ -99,17 +100,17 @@ fn split_off(rt: &impl Abort, alloc: Global) -> bool {
     let cut = Block::from_vec(items).split_off(count / 2);
     let is_refused = match cut {
         Ok((front, back)) => {
-            same(
+            same!(
                 rt,
                 (front.len(), back.len()),
                 (count / 2, count.wrapping_sub(count / 2)),
             );
-            holds(rt, all_gone_but(&counts, count));
+            holds!(rt, all_gone_but(&counts, count));
             false
         }
         Err(_) => true,
     };
-    holds(rt, all_gone_but(&counts, 0));
+    holds!(rt, all_gone_but(&counts, 0));
     is_refused || count < LEN
 }
 
@@ -143,7 +144,7 @@ fn places<R: Threads + Sync + Abort>(rt: &R, alloc: Global) -> bool {
             true
         }
     };
-    holds(rt, all_gone_but(&counts, 0));
+    holds!(rt, all_gone_but(&counts, 0));
     is_refused || count < LEN
 }
 
@@ -155,7 +156,7 @@ fn broadcast<R: Threads + Sync + Abort>(rt: &R, alloc: Global) -> bool {
     };
     match ThreadPool::new(number(rt, 3)).broadcast(rt, alloc, &index_of) {
         Ok(indices) => {
-            same(rt, indices.as_slice(), [0, 1, 2].as_slice());
+            same!(rt, indices.as_slice(), [0, 1, 2].as_slice());
             false
         }
         Err(fault) => {
@@ -174,11 +175,11 @@ fn broadcast<R: Threads + Sync + Abort>(rt: &R, alloc: Global) -> bool {
 fn queues(rt: &impl Abort, alloc: Global) -> bool {
     match JobQueues::<u32>::new(alloc, number(rt, 3)) {
         Ok((queues, owned)) => {
-            same(rt, owned.len(), 3);
+            same!(rt, owned.len(), 3);
             queues.seat(alloc).is_err()
         }
         Err(fault) => {
-            same(rt, fault, Fault::Memory);
+            same!(rt, fault, Fault::Memory);
             true
         }
     }
@@ -234,11 +235,11 @@ fn run<R: Wait + Abort>(rt: &R, alloc: Global) -> bool {
     match run {
         Ok(results) => {
             let wanted = [(1, 2, 1), (2, 5, 3), (0, 1, 1), (1, 3, 2)];
-            same(rt, results.as_slice(), wanted.as_slice());
+            same!(rt, results.as_slice(), wanted.as_slice());
             false
         }
         Err(fault) => {
-            same(rt, fault, Fault::Memory);
+            same!(rt, fault, Fault::Memory);
             true
         }
     }

@@ -5,10 +5,10 @@ ghost use Rattle.parallel_shares.specs.Seats.{AreSeatsOf};
 ghost use Rattle.parallel_bridge.specs.Gates.{IsGateSeatOf, seats_of, stands_for};
 
 use crate::bridge::number;
+use crate::checks::row;
 use crate::claims::{self, last_claim, opened, refill_at, steal_at};
 use crate::pool::count_latches::give_all;
 use crate::pool::latches::core_latch;
-use crate::same::{holds, row};
 use parallel_bridge::gate::{Gate, GateSeat};
 use parallel_bridge::list::fold::fold_iter;
 use parallel_bridge::list::fold_init::fold_init_iter;
@@ -21,6 +21,7 @@ use std::num::NonZeroUsize;
 use std::process::Abort;
 use std::rt::Files;
 use std::sync::Wait;
+use test_support::holds;
 
 // One of the counts of pages.
 fn count_at(rt: &impl Abort, counts: &str, place: usize) -> usize {

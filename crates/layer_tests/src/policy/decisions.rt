@@ -5,7 +5,6 @@ ghost use Rattle.parallel_policy.specs.Tables.{HoldsRunAt, HasOtherRuns};
 ghost use Rattle.parallel_policy.specs.declared.execution.RunExecution.{RunExecution};
 ghost use Rattle.parallel_policy.specs.declared.history.RunEvent.{RunEvent};
 
-use crate::same::same;
 use parallel_fault::Trouble;
 use parallel_policy::choices::decide;
 use parallel_policy::execution::RunExecution;
@@ -14,6 +13,7 @@ use parallel_policy::site::Site;
 use parallel_policy::table::Table;
 use std::sync::Wait;
 use std::sync::atomic::{AtomicU64, Ordering};
+use test_support::same;
 
 const SITE: Site = Site {
     file: "tests",
@@ -79,9 +79,9 @@ fn a_decided_run_records_what_it_took(rt: HostRuntime) {
     let first = path_of(&rt, &mut table, key, &mut now);
     let second = path_of(&rt, &mut table, key, &mut now);
     let third = path_of(&rt, &mut table, key, &mut now);
-    same(&rt, [first, second, third], [Ok(P), Ok(S), Ok(S)]);
+    same!(&rt, [first, second, third], [Ok(P), Ok(S), Ok(S)]);
     let estimates = estimates_of(&table, key);
-    same(&rt, estimates, Some([Some(100_000), Some(100_000)]));
+    same!(&rt, estimates, Some([Some(100_000), Some(100_000)]));
 }
 
 #[test]
@@ -92,14 +92,14 @@ fn a_clock_that_goes_back_gives_no_time(rt: HostRuntime) {
     let mut now = || ticks.fetch_sub(100_000, Ordering::SeqCst);
     let first = path_of(&rt, &mut table, key, &mut now);
     let second = path_of(&rt, &mut table, key, &mut now);
-    same(&rt, [first, second], [Ok(P), Ok(S)]);
-    same(&rt, estimates_of(&table, key), Some([Some(0), Some(0)]));
+    same!(&rt, [first, second], [Ok(P), Ok(S)]);
+    same!(&rt, estimates_of(&table, key), Some([Some(0), Some(0)]));
 }
 
 #[test]
 fn a_body_that_reads_the_clock_reads_it_between(rt: HostRuntime) {
     let mut table = Table::new(rt.alloc());
     let key = Key::new(SITE, 64, 64, 4);
-    same(&rt, first_of(&rt, &mut table, key), Ok(P));
-    same(&rt, estimates_of(&table, key), Some([Some(300), None]));
+    same!(&rt, first_of(&rt, &mut table, key), Ok(P));
+    same!(&rt, estimates_of(&table, key), Some([Some(300), None]));
 }

@@ -1,6 +1,6 @@
 //! Long histories: an entry chooses as the plain program that reckons from all that happened, and
 //! that program agrees with the worked examples.
-use crate::same::{holds, row, same};
+use crate::checks::row;
 use parallel_policy::execution::{RunExecution, SpawnExecution};
 use parallel_policy::history::{RunEvent, SpawnEvent, SpawnSample};
 use parallel_policy::policy::INLINE_BUDGET;
@@ -10,6 +10,7 @@ use parallel_policy::replay::{
 use parallel_policy::run::RunEntry;
 use parallel_policy::spawn::SpawnEntry;
 use std::process::Abort;
+use test_support::{holds, same};
 
 const P: RunExecution = RunExecution::Parallel;
 
@@ -47,8 +48,8 @@ fn the_plain_program_answers_the_worked_runs(rt: HostRuntime) {
         RunEvent::Sampled(S, 20_000),
         RunEvent::Sampled(S, 3_000_000),
     ];
-    same(&rt, replay_run_estimate(S, &history), Some(2_404_000));
-    same(&rt, replay_run_estimate(P, &history), None);
+    same!(&rt, replay_run_estimate(S, &history), Some(2_404_000));
+    same!(&rt, replay_run_estimate(P, &history), None);
 }
 
 // What the plain program chooses of jobs that happened, from the last one on.
@@ -92,7 +93,7 @@ fn the_plain_program_answers_the_worked_jobs(rt: HostRuntime) {
     chooses_job(&rt, &history, OFFLOAD, true);
     let history = [inline_of(500_000), inline_of(2_000)];
     let estimate = replay_spawn_estimate(SpawnSample::InlineRun, &history);
-    same(&rt, estimate, Some(101_600));
+    same!(&rt, estimate, Some(101_600));
 }
 
 // 520 choices whose samples make now the one and now the other path the faster one.
@@ -120,7 +121,7 @@ fn a_long_history_of_runs_answers_as_reckoned(rt: HostRuntime) {
                 .expect(&rt, "memory");
         }
     }
-    holds(&rt, seen[0] > 100 && seen[1] > 100);
+    holds!(&rt, seen[0] > 100 && seen[1] > 100);
 }
 
 // 520 choices of a job that now is shorter and now longer than the hand-off.
@@ -140,7 +141,7 @@ fn a_long_history_of_jobs_answers_as_reckoned(rt: HostRuntime) {
             recorded(&rt, &mut entry, &mut history, way, ran);
         }
     }
-    holds(&rt, seen[0] > 100 && seen[1] > 100);
+    holds!(&rt, seen[0] > 100 && seen[1] > 100);
 }
 
 // A job that ran so long is recorded, and put in front of the history.

@@ -1,8 +1,9 @@
 //! Entries of runs, by rows of what happens to a fresh one and what it returns.
-use crate::same::{holds, row, same};
+use crate::checks::row;
 use parallel_policy::execution::RunExecution;
 use parallel_policy::run::RunEntry;
 use std::process::Abort;
+use test_support::{holds, same};
 
 // One step of a row.
 #[derive(Clone, Copy)]
@@ -137,12 +138,12 @@ fn big_work_runs_in_parallel_ten_thousand_times(rt: HostRuntime) {
     entry.record(P, 25_000_000);
     for _ in 0..10_000 {
         let (execution, measured) = entry.choose(12);
-        same(&rt, execution, P);
+        same!(&rt, execution, P);
         if measured {
             entry.record(P, 25_000_000);
         }
     }
-    same(&rt, entry.estimate(S), None);
+    same!(&rt, entry.estimate(S), None);
 }
 
 #[test]
@@ -238,7 +239,7 @@ fn an_estimate_recovers_by_its_probes(rt: HostRuntime) {
     for _ in 0..600 {
         match entry.choose(4) {
             (RunExecution::Parallel, measured) => {
-                holds(&rt, measured);
+                holds!(&rt, measured);
                 probes = probes.saturating_add(1);
                 entry.record(P, 500_000);
             }
@@ -246,7 +247,7 @@ fn an_estimate_recovers_by_its_probes(rt: HostRuntime) {
             (RunExecution::Serial, false) => {}
         }
     }
-    same(&rt, probes, 5);
-    same(&rt, entry.estimate(P), Some(991_520));
-    same(&rt, entry.choose(4), (P, false));
+    same!(&rt, probes, 5);
+    same!(&rt, entry.estimate(P), Some(991_520));
+    same!(&rt, entry.choose(4), (P, false));
 }

@@ -1,10 +1,11 @@
 //! Entries of spawned jobs, by rows of what happens to a fresh one and what it returns.
-use crate::same::{holds, row, same};
+use crate::checks::row;
 use parallel_policy::execution::SpawnExecution;
 use parallel_policy::history::SpawnSample;
 use parallel_policy::policy::INLINE_BUDGET;
 use parallel_policy::spawn::SpawnEntry;
 use std::process::Abort;
+use test_support::{holds, same};
 
 // One step of a row.
 #[derive(Clone, Copy)]
@@ -171,8 +172,8 @@ fn an_inline_estimate_recovers_by_its_probes(rt: HostRuntime) {
         }
     }
     let inline = entry.estimate(SpawnSample::InlineRun);
-    holds(&rt, matches!(inline, Some(inline) if inline <= 50_000));
+    holds!(&rt, matches!(inline, Some(inline) if inline <= 50_000));
     let overhead = entry.estimate(SpawnSample::Overhead);
-    same(&rt, overhead, Some(50_000));
-    same(&rt, entry.estimate(SpawnSample::Job), Some(2_000));
+    same!(&rt, overhead, Some(50_000));
+    same!(&rt, entry.estimate(SpawnSample::Job), Some(2_000));
 }

@@ -1,5 +1,4 @@
 //! Tables and policies: which key a result goes by, and what each call of a policy tells its table.
-use crate::same::{holds, same};
 use parallel_fault::{Fault, Trouble};
 use parallel_policy::execution::{RunExecution, SpawnExecution};
 use parallel_policy::history::SpawnSample;
@@ -11,6 +10,7 @@ use std::alloc::Global;
 use std::process::Abort;
 use std::sync::Wait;
 use std::sync::atomic::{AtomicU64, Ordering};
+use test_support::{holds, same};
 
 const SITE: Site = Site {
     file: "tests",
@@ -72,9 +72,9 @@ fn a_table_keeps_an_entry_for_each_key(rt: HostRuntime) {
         Ok((P, true)),
         Ok((S, false)),
     ];
-    same(&rt, choices, (wanted, [Ok(()), Ok(()), Ok(())]));
+    same!(&rt, choices, (wanted, [Ok(()), Ok(()), Ok(())]));
     let serial = (serial_of(&table, near), serial_of(&table, far));
-    same(&rt, serial, (Some(95_000), None));
+    same!(&rt, serial, (Some(95_000), None));
 }
 
 // What a policy's samples of a key's runs in parallel and of its serial ones say.
@@ -106,7 +106,7 @@ fn a_policy_records_the_run_that_it_is_told(rt: HostRuntime) {
     let choices = choices_of_runs(&rt, &policy, &shared, key);
     let wanted = [Ok((P, true)), Ok((S, true)), Ok((S, false))];
     let estimates = estimates_of(&rt, &policy, key);
-    same(
+    same!(
         &rt,
         (choices, estimates),
         (
@@ -114,7 +114,7 @@ fn a_policy_records_the_run_that_it_is_told(rt: HostRuntime) {
             Some([Some(100_000), Some(95_001)]),
         ),
     );
-    holds(&rt, policy.spawn_entry(&rt, key).is_none());
+    holds!(&rt, policy.spawn_entry(&rt, key).is_none());
 }
 
 // Tells a policy of a job, of its overhead and of an inline run.
@@ -140,7 +140,7 @@ fn a_policy_records_the_job_that_it_is_told(rt: HostRuntime) {
     let told = told_of_a_job(&rt, &policy, key);
     let estimates = estimates_of_jobs(&rt, &policy, key);
     let wanted = [Some(25_003), Some(10_002), Some(8_001)];
-    same(
+    same!(
         &rt,
         (told, estimates),
         ([Ok(()), Ok(()), Ok(())], Some(wanted)),
@@ -149,7 +149,7 @@ fn a_policy_records_the_job_that_it_is_told(rt: HostRuntime) {
 
 #[test]
 fn a_job_may_keep_its_caller_a_millisecond(rt: HostRuntime) {
-    same(&rt, INLINE_BUDGET, 1_000_000);
+    same!(&rt, INLINE_BUDGET, 1_000_000);
 }
 
 // The choices of two handles of a policy for a key, and at the end for another key.
@@ -185,12 +185,12 @@ fn records_of_jobs_feed_their_choices(rt: HostRuntime) {
         Ok((inline, false)),
         Ok((offload, true)),
     ];
-    same(&rt, choices, (wanted, [Ok(()), Ok(()), Ok(())]));
+    same!(&rt, choices, (wanted, [Ok(()), Ok(()), Ok(())]));
     let entries = (
         policy.spawn_entry(&rt, other).is_some(),
         policy.run_entry(&rt, key).is_some(),
     );
-    same(&rt, entries, (true, false));
+    same!(&rt, entries, (true, false));
 }
 
 // The path of a run over 64 items of so much work, by a clock that stands still.
@@ -215,8 +215,8 @@ fn path_of<Rt: Wait>(
 fn a_run_planned_for_one_asks_no_policy(rt: HostRuntime) {
     let policy = fresh(&rt, rt.alloc());
     for planned in [0, 1] {
-        same(&rt, path_of(&rt, &policy, 64, planned), Ok(S));
-        holds(
+        same!(&rt, path_of(&rt, &policy, 64, planned), Ok(S));
+        holds!(
             &rt,
             policy
                 .run_entry(&rt, Key::new(SITE, 64, 64, planned))
@@ -241,10 +241,10 @@ fn a_policy_measures_what_passes_in_the_body(rt: HostRuntime) {
     };
     for path in [P, S] {
         let answer = policy.try_run(&rt, SITE, 64, 64, 4, &now, body);
-        same(&rt, answer, Ok(path));
+        same!(&rt, answer, Ok(path));
     }
     let estimates = estimates_of(&rt, &policy, Key::new(SITE, 64, 64, 4));
-    same(&rt, estimates, Some([Some(70_000), Some(30_000)]));
+    same!(&rt, estimates, Some([Some(70_000), Some(30_000)]));
 }
 
 // One run over ten items, by a clock that goes on by 1000 at each reading. It returns 7, or fails
@@ -279,15 +279,15 @@ fn success_is_recorded_and_errors_are_not(rt: HostRuntime) {
     let key = Key::new(SITE, 10, 10, 4);
     let ticks = AtomicU64::new(0);
     let failed = run_of_ten(&rt, &policy, &ticks, &[P, S]);
-    same(&rt, failed, Err(Trouble::Closure(57)));
-    same(&rt, estimates_of(&rt, &policy, key), Some([None, None]));
-    same(&rt, run_of_ten(&rt, &policy, &ticks, &[]), Ok(7));
+    same!(&rt, failed, Err(Trouble::Closure(57)));
+    same!(&rt, estimates_of(&rt, &policy, key), Some([None, None]));
+    same!(&rt, run_of_ten(&rt, &policy, &ticks, &[]), Ok(7));
     for _ in 0..20 {
         let answer = run_of_ten(&rt, &policy, &ticks, &[P]);
-        holds(&rt, matches!(answer, Ok(7) | Err(Trouble::Closure(57))));
+        holds!(&rt, matches!(answer, Ok(7) | Err(Trouble::Closure(57))));
     }
     let estimates = estimates_of(&rt, &policy, key);
-    same(&rt, estimates, Some([Some(1_000), Some(1_000)]));
+    same!(&rt, estimates, Some([Some(1_000), Some(1_000)]));
 }
 
 // A body and a clock that ask the same policy would wait forever if the policy's lock were held.
@@ -306,7 +306,7 @@ fn a_body_runs_without_the_lock(rt: HostRuntime) {
         0
     };
     let answer = policy.try_run(&rt, SITE, 64, 64, 4, &now, body);
-    same(&rt, answer, Ok(P));
+    same!(&rt, answer, Ok(P));
     let estimates = estimates_of(&rt, &policy, Key::new(SITE, 1, 1, 2));
-    same(&rt, estimates, Some([Some(5), None]));
+    same!(&rt, estimates, Some([Some(5), None]));
 }

@@ -1,5 +1,5 @@
 //! What is printed, and which traits the plain types have.
-use crate::same::{holds, prints, row, same};
+use crate::checks::{prints, row};
 use parallel_policy::bucket::len_bucket;
 use parallel_policy::cadence::Cadence;
 use parallel_policy::estimate::Estimate;
@@ -13,6 +13,7 @@ use std::alloc::Global;
 use std::collections::HashSet;
 use std::fmt::Debug;
 use std::process::Abort;
+use test_support::{holds, same};
 
 const SITE: Site = Site {
     file: "tests",
@@ -75,13 +76,13 @@ fn keys_are_told_apart_by_each_part(rt: HostRuntime) {
         ("tests", 3, 5, 64, 64, 5),
         ("tests", 3, 5, 127, 100, 4),
     ];
-    same(&rt, distinct(&rt, rt.alloc(), &keys), 7);
+    same!(&rt, distinct(&rt, rt.alloc(), &keys), 7);
     let keys = [
         ("tests", 3, 5, 1, 1, 4),
         ("tests", 3, 5, 2, 2, 4),
         ("tests", 3, 5, 3, 3, 4),
     ];
-    same(&rt, distinct(&rt, rt.alloc(), &keys), 2);
+    same!(&rt, distinct(&rt, rt.alloc(), &keys), 2);
 }
 
 #[test]
@@ -103,8 +104,8 @@ fn lengths_count_by_their_binary_digits(rt: HostRuntime) {
 // A value's clone is the value, and another one isn't.
 fn is_copied<T: Clone + PartialEq + Debug + Drop>(rt: &impl Abort, one: &T, other: &T) {
     let copy = one.clone().expect(rt, "a copy");
-    same(rt, &copy, one);
-    holds(rt, one != other);
+    same!(rt, &copy, one);
+    holds!(rt, one != other);
 }
 
 #[test]
@@ -116,11 +117,11 @@ fn executions_and_entries_are_copied_and_compared(rt: HostRuntime) {
     let mut estimate = before;
     estimate.record(5);
     is_copied(&rt, &before, &estimate);
-    same(&rt, [before.get(), estimate.get()], [None, Some(5)]);
+    same!(&rt, [before.get(), estimate.get()], [None, Some(5)]);
     let before = Cadence::default();
     let mut cadence = before;
     cadence.saturate();
     is_copied(&rt, &before, &cadence);
-    same(&rt, cadence.arbitrate(1, 2, 10, 10, true), (2, true));
-    same(&rt, before, cadence);
+    same!(&rt, cadence.arbitrate(1, 2, 10, 10, true), (2, true));
+    same!(&rt, before, cadence);
 }

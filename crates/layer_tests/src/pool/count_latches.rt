@@ -2,10 +2,10 @@
 ghost use Rattle.std.specs.Prelude.{◌≡◌, All, IfOk, IfSome, false, true};
 ghost use Rattle.parallel_pool.specs.CountLatch.{IsShareOf, share_count, unspent};
 
-use crate::same::same;
 use parallel_pool::latch::{CountLatch, CountShare};
 use std::alloc::Global;
 use std::num::NonZeroUsize;
+use test_support::same;
 
 // The last share of a list.
 fn take_one(latch: &CountLatch, shares: &mut Vec<CountShare>) -> Option<CountShare>
@@ -73,8 +73,8 @@ fn the_third_of_three_shares_is_the_last(rt: HostRuntime) {
     let mut first = take_one(&latch, &mut shares).expect(&rt, "a share");
     let mut second = take_one(&latch, &mut shares).expect(&rt, "a share");
     let mut third = take_one(&latch, &mut shares).expect(&rt, "a share");
-    same(&rt, give_one(&latch, &mut shares), None);
+    same!(&rt, give_one(&latch, &mut shares), None);
     let given = give_three(&latch, &mut first, &mut second, &mut third);
-    same(&rt, given, (false, false, true));
+    same!(&rt, given, (false, false, true));
     let _seen = latch.wait(&rt);
 }

@@ -1,5 +1,5 @@
 //! For how many threads a pool is planned.
-use crate::same::row;
+use crate::checks::row;
 use parallel_pool::rayon::planned_threads;
 use std::num::NonZeroUsize;
 

@@ -1,14 +1,15 @@
 //! Queues of numbered jobs: which job comes next, and a refused push.
 ghost use Rattle.std.specs.Prelude.{◌≡◌, ◌<◌, length, vec_len};
 
+use crate::checks::{lists, row};
 use crate::pool::tally::{Act, becomes, empty_tally, job, read};
-use crate::same::{holds, lists, row, same};
 use parallel_pool::rayon::{BroadcastContext, JobDeque, JobQueues, JobSeat, Queue, ThreadPool};
 use std::alloc::Global;
 use std::collections::VecDeque;
 use std::num::NonZeroUsize;
 use std::process::Abort;
 use std::sync::atomic::{AtomicU64, Ordering};
+use test_support::{holds, same};
 
 // The queues of two workers, the seat of one thread and the first worker's deque.
 fn two_workers(rt: &impl Abort, alloc: Global) -> (JobSeat<u32>, JobDeque<u32>)
@@ -26,12 +27,12 @@ fn two_workers(rt: &impl Abort, alloc: Global) -> (JobSeat<u32>, JobDeque<u32>)
 fn an_own_deque_gives_the_last_job_first_and_all_others_the_first(rt: HostRuntime) {
     let (mut seat, mut own) = two_workers(&rt, rt.alloc());
     for job in 1..5 {
-        same(&rt, own.push(job), Ok(()));
+        same!(&rt, own.push(job), Ok(()));
     }
-    same(&rt, own.pop(), Some(4));
-    same(&rt, seat.take(&rt, Queue::Deque(0)), Some(1));
-    same(&rt, own.pop(), Some(3));
-    same(&rt, own.pop(), Some(2));
+    same!(&rt, own.pop(), Some(4));
+    same!(&rt, seat.take(&rt, Queue::Deque(0)), Some(1));
+    same!(&rt, own.pop(), Some(3));
+    same!(&rt, own.pop(), Some(2));
     row(&rt, 1, own.pop(), None);
     row(&rt, 2, seat.take(&rt, Queue::Deque(1)), None);
 }
@@ -43,9 +44,9 @@ fn each_queue_has_jobs_of_its_own(rt: HostRuntime) {
     row(&rt, 2, seat.push(&rt, Queue::Injected, 2), Ok(()));
     row(&rt, 3, seat.push(&rt, Queue::Broadcast(1), 3), Ok(()));
     row(&rt, 4, seat.take(&rt, Queue::Broadcast(0)), None);
-    same(&rt, seat.take(&rt, Queue::Injected), Some(1));
-    same(&rt, seat.take(&rt, Queue::Broadcast(1)), Some(3));
-    same(&rt, seat.take(&rt, Queue::Injected), Some(2));
+    same!(&rt, seat.take(&rt, Queue::Injected), Some(1));
+    same!(&rt, seat.take(&rt, Queue::Broadcast(1)), Some(3));
+    same!(&rt, seat.take(&rt, Queue::Injected), Some(2));
     row(&rt, 5, seat.take(&rt, Queue::Injected), None);
 }
 
@@ -56,8 +57,8 @@ fn each_worker_gets_the_job_of_its_own(rt: HostRuntime) {
     jobs.push_back(7).expect(&rt, "memory");
     jobs.push_back(8).expect(&rt, "memory");
     assert!(rt; seat.push_each(&rt, jobs).is_ok());
-    same(&rt, seat.take(&rt, Queue::Broadcast(1)), Some(8));
-    same(&rt, seat.take(&rt, Queue::Broadcast(0)), Some(7));
+    same!(&rt, seat.take(&rt, Queue::Broadcast(1)), Some(8));
+    same!(&rt, seat.take(&rt, Queue::Broadcast(0)), Some(7));
     row(&rt, 1, seat.take(&rt, Queue::Broadcast(0)), None);
     row(&rt, 2, seat.take(&rt, Queue::Injected), None);
 }
@@ -68,11 +69,11 @@ fn an_owned_job_is_called_with_the_index_of_its_worker(rt: HostRuntime) {
     let job = job(&rt, rt.alloc(), &tally, Act::AddsAt(7));
     let (queues, _owned) = JobQueues::new(rt.alloc(), NonZeroUsize::MIN).expect(&rt, "memory");
     let mut seat = queues.seat(rt.alloc()).expect(&rt, "memory");
-    holds(&rt, seat.push(&rt, Queue::Injected, job).is_ok());
+    holds!(&rt, seat.push(&rt, Queue::Injected, job).is_ok());
     if let Some(job) = seat.take(&rt, Queue::Injected) {
         job.call(7);
     }
-    same(&rt, read(&tally.called), 1);
+    same!(&rt, read(&tally.called), 1);
 }
 
 fn ten_times_the_index(context: BroadcastContext) -> u64 {

@@ -2,10 +2,10 @@
 ghost use Rattle.std.specs.Prelude.{◌≡◌};
 ghost use Rattle.parallel_pool.specs.Latch.{IsLatchSeatOf};
 
+use crate::checks::row;
 use crate::pool::latches::core_latch;
 use crate::pool::sleeps::one_sleep;
 use crate::pool::tally::{awaits, becomes, built, let_it_sleep};
-use crate::same::{holds, row};
 use crossbeam_utils::sync::Parker;
 use parallel_pool::latch::{CoreLatch, LatchSeat, LockLatch};
 use parallel_pool::rayon::ThreadPoolBuilder;
@@ -16,6 +16,7 @@ use std::process::Abort;
 use std::sync::atomic::{AtomicU64, Ordering};
 use std::sync::{Arc, Wait};
 use std::thread::{self, Threads};
+use test_support::holds;
 
 // A word that is zero.
 fn word(rt: &impl Abort, alloc: Global) -> Arc<AtomicU64> {
@@ -146,12 +147,12 @@ fn stays_awake<R: Threads + Wait + Abort + Copy + Send + 'static>(
 
 #[test]
 fn a_worker_asks_for_jobs_before_it_sleeps(rt: HostRuntime) {
-    holds(&rt, stays_awake(&rt, rt.alloc(), Comes::Always));
+    holds!(&rt, stays_awake(&rt, rt.alloc(), Comes::Always));
 }
 
 #[test]
 fn a_job_after_its_announcement_keeps_a_worker_awake(rt: HostRuntime) {
-    holds(&rt, stays_awake(&rt, rt.alloc(), Comes::OnceAnnounced));
+    holds!(&rt, stays_awake(&rt, rt.alloc(), Comes::OnceAnnounced));
 }
 
 #[test]

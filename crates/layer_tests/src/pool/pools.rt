@@ -1,8 +1,8 @@
 //! Pools that were built: their workers, the jobs that come to them, and their end.
+use crate::checks::{lists, prints, row};
 use crate::pool::tally::{
     Act, Tally, awaits, built, empty_tally, job, led, let_it_sleep, read, spawn, telling,
 };
-use crate::same::{holds, lists, prints, row, same};
 use parallel_pool::rayon::{
     BroadcastContext, Environment, Execute, OwnedJob, Queue, Staff, ThreadPool, ThreadPoolBuilder,
     WorkerThread, Yield,
@@ -15,6 +15,7 @@ use std::rt::Files;
 use std::sync::atomic::Ordering;
 use std::sync::{Arc, Wait};
 use std::thread::Threads;
+use test_support::{holds, same};
 
 // A pool of which this thread is the first worker, and none other is started; and that worker.
 fn with_this_thread<R: Threads + Wait + Abort + Copy + Send + 'static>(
@@ -55,9 +56,9 @@ fn a_worker_of_another_pool_injects_its_job(rt: HostRuntime) {
     let (theirs, mut stranger) = with_this_thread(&rt, rt.alloc(), 1, 7);
     let (pool, mut worker) = with_this_thread(&rt, rt.alloc(), 1, 0);
     let yields = yields_of_a_stranger(&rt, &pool, &theirs, &mut stranger, job);
-    same(&rt, yields, Some((None, Some(Yield::Idle))));
-    holds(&rt, calls_injected(&rt, &mut worker));
-    same(&rt, read(&tally.called), 1);
+    same!(&rt, yields, Some((None, Some(Yield::Idle))));
+    holds!(&rt, calls_injected(&rt, &mut worker));
+    same!(&rt, read(&tally.called), 1);
 }
 
 #[test]
@@ -65,15 +66,15 @@ fn a_worker_is_known_by_its_label(rt: HostRuntime) {
     let (pool, worker) = with_this_thread(&rt, rt.alloc(), 3, 9);
     let other = built(&rt, rt.alloc(), ThreadPoolBuilder::new());
     let counts = (pool.current_num_threads(), other.current_num_threads());
-    same(&rt, counts, (3, 1));
+    same!(&rt, counts, (3, 1));
     let indices = (
         pool.current_thread_index(&worker),
         other.current_thread_index(&worker),
     );
-    same(&rt, indices, (Some(0), None));
-    same(&rt, (worker.index(), worker.label()), (0, 9));
+    same!(&rt, indices, (Some(0), None));
+    same!(&rt, (worker.index(), worker.label()), (0, 9));
     let context = worker.context();
-    same(&rt, (context.index(), context.num_threads()), (0, 3));
+    same!(&rt, (context.index(), context.num_threads()), (0, 3));
 }
 
 #[test]
@@ -120,7 +121,7 @@ fn a_pool_of_unstarted_workers_installs_and_broadcasts(rt: HostRuntime) {
     let tally = empty_tally(&rt, rt.alloc());
     let builder = ThreadPoolBuilder::new().num_threads(2).unstarted_workers();
     let pool = built(&rt, rt.alloc(), builder);
-    same(&rt, pool.install(&rt, five), 5);
+    same!(&rt, pool.install(&rt, five), 5);
     let answers = pool.broadcast(&rt, rt.alloc(), &index_of);
     lists(&rt, "indices", answers, &[0, 1]);
     spawn(&rt, rt.alloc(), &pool, &tally, Act::Adds(1));
@@ -147,7 +148,7 @@ fn the_environment_says_the_number_that_is_not_set(rt: HostRuntime) {
         unstarted_workers: false }";
     prints(&rt, rt.alloc(), &builder, wanted);
     let pool = built(&rt, rt.alloc(), builder.unstarted_workers());
-    same(&rt, pool.current_num_threads(), 3);
+    same!(&rt, pool.current_num_threads(), 3);
 }
 
 #[test]
@@ -159,7 +160,7 @@ fn a_thousand_jobs_are_called_once_each_and_the_workers_end(rt: HostRuntime) {
     }
     drop(pool);
     awaits(&rt, &tally.ended, 1, "each worker has ended");
-    same(
+    same!(
         &rt,
         (read(&tally.called), read(&tally.begun)),
         (1000, 16_843_009),
@@ -175,7 +176,7 @@ fn a_pool_that_is_closed_has_called_each_job_to_its_end(rt: HostRuntime) {
         spawn(&rt, rt.alloc(), &pool, &tally, Act::AddsLate);
     }
     pool.close(&rt);
-    same(&rt, read(&tally.called), 4);
+    same!(&rt, read(&tally.called), 4);
 }
 
 fn first_or_second(index: usize) -> &'static str {
@@ -212,8 +213,8 @@ fn a_thread_has_the_name_of_its_worker(rt: HostRuntime) {
     let (pool, _none) = built.expect(&rt, "a pool");
     for _ in 0..2 {
         let theirs = Arc::try_clone(&tally).expect(&rt, "a handle");
-        holds(&rt, pool.spawn(&rt, Named { rt, tally: theirs }).is_ok());
+        holds!(&rt, pool.spawn(&rt, Named { rt, tally: theirs }).is_ok());
     }
     pool.close(&rt);
-    same(&rt, read(&tally.called), 2);
+    same!(&rt, read(&tally.called), 2);
 }

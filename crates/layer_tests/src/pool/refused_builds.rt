@@ -5,15 +5,16 @@
 //! refused there too. The others are to be run with each allocation failing in turn, and with each
 //! start of a thread failing in turn. A test whose own boxes are refused has nothing to ask, and
 //! ends.
-use crate::no_memory::{all_memory, all_places};
+use crate::checks::row;
 use crate::pool::tally::{Tally, awaits, byte_of, empty_tally, read, told_to, try_tally};
-use crate::same::{holds, row, same};
 use parallel_pool::rayon::{ThreadPoolBuildError, ThreadPoolBuilder};
 use std::alloc::{AllocError, AllocGlobal, Global};
 use std::process::Abort;
 use std::rt::Files;
 use std::sync::Arc;
 use std::{fs, thread};
+use test_support::no_memory::{all_memory, all_places};
+use test_support::{holds, same};
 
 #[test]
 fn a_start_that_is_refused_leaves_no_worker(rt: HostRuntime) {
@@ -25,7 +26,7 @@ fn a_start_that_is_refused_leaves_no_worker(rt: HostRuntime) {
     };
     let refused = builder.stack_size(usize::MAX).build(&rt, rt.alloc());
     row(&rt, "no thread has such a stack", refused.is_err(), true);
-    same(&rt, read(&tally.ended), 1);
+    same!(&rt, read(&tally.ended), 1);
 }
 
 // The same, and the third worker's name is refused.
@@ -50,8 +51,8 @@ fn a_name_that_is_refused_is_want_of_memory(rt: HostRuntime) {
         return;
     };
     let refused = builder.build(&rt, rt.alloc());
-    holds(&rt, matches!(refused, Err(ThreadPoolBuildError::Memory)));
-    same(&rt, read(&tally.ended), 1);
+    holds!(&rt, matches!(refused, Err(ThreadPoolBuildError::Memory)));
+    same!(&rt, read(&tally.ended), 1);
 }
 
 // How many workers have started, of at most 255 of each index.
@@ -75,7 +76,7 @@ fn a_build_works_or_leaves_no_worker(rt: HostRuntime) {
     match builder.build(&rt, rt.alloc()) {
         Ok((pool, _none)) => {
             pool.close(&rt);
-            same(&rt, read(&tally.begun), 16_843_009);
+            same!(&rt, read(&tally.begun), 16_843_009);
             awaits(&rt, &tally.ended, 1, "the workers have ended");
         }
         Err(ThreadPoolBuildError::Memory | ThreadPoolBuildError::Spawn) => {
@@ -150,7 +151,7 @@ fn a_build_that_is_refused_after_its_first_threads_ends_them(rt: HostRuntime) {
         match built {
             Ok((pool, _none)) => pool.close(&rt),
             Err(refusal) => {
-                holds(&rt, matches!(refusal, ThreadPoolBuildError::Spawn));
+                holds!(&rt, matches!(refusal, ThreadPoolBuildError::Spawn));
                 row(&rt, threads, ended_by_now, threads);
             }
         }
@@ -159,7 +160,7 @@ fn a_build_that_is_refused_after_its_first_threads_ends_them(rt: HostRuntime) {
         stacks.pop();
     }
     drop(held);
-    same(&rt, started(&tally), 10);
+    same!(&rt, started(&tally), 10);
     awaits(
         &rt,
         &tally.ended,
@@ -200,7 +201,7 @@ fn a_build_that_is_refused_anywhere_leaves_no_worker(rt: HostRuntime) {
         refused > 100,
         true,
     );
-    same(&rt, (of_threads, read(&tally.begun)), (1, 0));
+    same!(&rt, (of_threads, read(&tally.begun)), (1, 0));
 }
 
 // The room that a build is given, of which each build that was refused gives 64 bytes more.

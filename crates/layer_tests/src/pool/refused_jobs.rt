@@ -4,12 +4,11 @@
 //! allocations are checked (`no_memory`): there they end. That of the many jobs is to be run with
 //! the 1000th allocation failing, which is of a push to the injected jobs, and the 3000th, of a
 //! push for a worker. If its own boxes are refused it has nothing to ask, and ends.
-use crate::no_memory::all_memory;
+use crate::checks::row;
 use crate::pool::tally::{
     Act, Raise, Tally, awaits, becomes, empty_tally, job, jobs, let_it_sleep, push_by, raises,
     read, spawn, told_to, try_tally, workers,
 };
-use crate::same::{holds, row, same};
 use parallel_fault::Fault;
 use parallel_pool::rayon::{OwnedJob, Queue, Staff, ThreadPool, WorkerThread, Yield};
 use std::alloc::Global;
@@ -19,6 +18,8 @@ use std::sync::atomic::Ordering;
 use std::sync::{Arc, Wait};
 use std::thread::Threads;
 use std::time::Clock;
+use test_support::no_memory::all_memory;
+use test_support::{holds, same};
 
 // The worker of an index gets a job that waits, and does so.
 fn halts<R: Wait + Abort>(
@@ -29,7 +30,7 @@ fn halts<R: Wait + Abort>(
     tally: &Arc<Tally>,
 ) {
     let waits = job(rt, alloc, tally, Act::Waits);
-    holds(rt, push_by(rt, worker, Queue::Broadcast(index), waits));
+    holds!(rt, push_by(rt, worker, Queue::Broadcast(index), waits));
     awaits(rt, &tally.entered, 1, "the worker waits");
 }
 
@@ -52,7 +53,7 @@ fn calls_refused(
             pool.spawn(rt, job)
         };
         if let Err((fault, job)) = came {
-            holds(rt, matches!(fault, Fault::Memory));
+            holds!(rt, matches!(fault, Fault::Memory));
             row(
                 rt,
                 refused,
@@ -98,7 +99,7 @@ fn a_refused_job_comes_back_and_runs_when_called(rt: HostRuntime) {
         1,
         "a job that was refused isn't waited for",
     );
-    same(&rt, read(&tally.called), 201);
+    same!(&rt, read(&tally.called), 201);
 }
 
 // So many jobs are pushed to each queue.
@@ -143,7 +144,7 @@ fn many_jobs_are_called_but_those_that_are_refused(rt: HostRuntime) {
         1,
         "a job that was refused isn't waited for",
     );
-    same(&rt, read(&tally.called), injected.wrapping_add(broadcast));
+    same!(&rt, read(&tally.called), injected.wrapping_add(broadcast));
     let _told = eprintln!(rt; "of {MANY} jobs to each queue {injected} and {broadcast} came");
 }
 
@@ -212,10 +213,10 @@ fn halts_the_third<R: Wait + Abort>(
 ) {
     for index in [0usize, 1, 3] {
         let job = job(rt, alloc, tally, Act::Fills);
-        holds(rt, push_by(rt, worker, Queue::Broadcast(index), job));
+        holds!(rt, push_by(rt, worker, Queue::Broadcast(index), job));
     }
     halts(rt, alloc, worker, 2, tally);
-    same(rt, pool.yield_now(rt, worker), Some(Yield::Executed));
+    same!(rt, pool.yield_now(rt, worker), Some(Yield::Executed));
     awaits(rt, &tally.filled, 3, "each job is called");
 }
 
@@ -263,7 +264,7 @@ fn third_is_refused<R: Threads + Wait + Abort + Clock + Copy + Send + 'static>(
     let came = came.expect(rt, "the third worker's queue is full");
     let (fault, refused) = refused.expect(rt, "the third job is refused");
     row(rt, is_by_seat, (fault, refused.len()), (Fault::Memory, 2));
-    same(rt, pool.yield_now(rt, &mut worker), Some(Yield::Executed));
+    same!(rt, pool.yield_now(rt, &mut worker), Some(Yield::Executed));
     row(
         rt,
         "those before them are called",
@@ -279,7 +280,7 @@ fn third_is_refused<R: Threads + Wait + Abort + Clock + Copy + Send + 'static>(
         "a job that was refused isn't waited for",
     );
     row(rt, "each once", read(&tally.called), of_first(4));
-    same(rt, read(&tally.filled), came.wrapping_add(3));
+    same!(rt, read(&tally.filled), came.wrapping_add(3));
 }
 
 #[test]

@@ -1,13 +1,14 @@
 //! Jobs that are taken by a worker's own seat of its pool's queues: they are counted.
+use crate::checks::row;
 use crate::pool::probes::brought::{Brought, Led, leads, opens};
 use crate::pool::tally::{Act, awaits, read};
-use crate::same::{row, same};
 use parallel_pool::rayon::{Execute, Queue};
 use std::alloc::Global;
 use std::process::Abort;
 use std::sync::Wait;
 use std::thread::Threads;
 use std::time::Clock;
+use test_support::same;
 
 // Stops the test where the workers don't end of a pool that was let go, once a job that came in some
 // way was taken by the first worker's seat. The other one had a job that didn't end meanwhile.
@@ -37,7 +38,7 @@ fn takes<R: Threads + Wait + Abort + Clock + Copy + Send + 'static>(
     awaits(rt, &tally.ended, 1, "the other worker has ended");
     row(rt, (brought, came), taken.is_some(), true);
     taken.expect(rt, "a job").execute(0);
-    same(rt, read(&tally.called), 1);
+    same!(rt, read(&tally.called), 1);
 }
 
 #[test]

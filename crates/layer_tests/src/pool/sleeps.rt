@@ -1,17 +1,18 @@
 //! The state of the workers' sleep.
-use crate::same::{row, same};
+use crate::checks::row;
 use crossbeam_utils::sync::Parker;
 use parallel_pool::sleep::{Block, Counters, Due, IdleState, Sleep, SleepState, Standing};
 use std::alloc::Global;
 use std::num::NonZeroUsize;
 use std::process::Abort;
+use test_support::same;
 
 #[test]
 fn a_word_of_three_counts(rt: HostRuntime) {
     let counters = Counters::new(1, 2, 3);
-    same(&rt, counters.word(), 12_885_032_961);
+    same!(&rt, counters.word(), 12_885_032_961);
     let counts = (counters.sleeping(), counters.inactive(), counters.events());
-    same(&rt, counts, (1, 2, 3));
+    same!(&rt, counts, (1, 2, 3));
 }
 
 // The sleep of one worker, and its parker.
@@ -44,7 +45,7 @@ fn finds(rt: &impl Abort, state: &mut SleepState, idle: IdleState) {
 fn workers_sleep_and_are_woken_from_the_lowest(rt: HostRuntime) {
     let four = NonZeroUsize::MIN.saturating_add(3);
     let mut state = SleepState::new(rt.alloc(), four, 0).expect(&rt, "memory");
-    same(&rt, state.workers(), 4);
+    same!(&rt, state.workers(), 4);
     let mut first = looks(&rt, &mut state, 0);
     let mut second = looks(&rt, &mut state, 1);
     let mut third = looks(&rt, &mut state, 2);
@@ -63,21 +64,21 @@ fn workers_sleep_and_are_woken_from_the_lowest(rt: HostRuntime) {
         blocks(&rt, &mut state, &mut second, false),
         Block::Blocked,
     );
-    same(&rt, state.counters().word(), 196_610);
+    same!(&rt, state.counters().word(), 196_610);
     state.new_jobs(2, true);
     // (one worker looks for work already)
-    same(&rt, state.woken(), [0].as_slice());
-    same(&rt, state.counters().word(), 4_295_163_905);
+    same!(&rt, state.woken(), [0].as_slice());
+    same!(&rt, state.counters().word(), 4_295_163_905);
     row(
         &rt,
         6,
         blocks(&rt, &mut state, &mut third, false),
         Block::Changed,
     );
-    same(&rt, (third.rounds(), third.recorded()), (32, None));
+    same!(&rt, (third.rounds(), third.recorded()), (32, None));
     finds(&rt, &mut state, third);
-    same(&rt, state.woken(), [1].as_slice());
-    same(&rt, state.counters().word(), 4_295_098_368);
+    same!(&rt, state.woken(), [1].as_slice());
+    same!(&rt, state.counters().word(), 4_295_098_368);
     row(&rt, "it is awake", !state.wake(1), true);
 }
 
@@ -88,7 +89,7 @@ fn the_count_of_events_wraps(rt: HostRuntime) {
     );
     let mut idle = IdleState::new(0);
     row(&rt, 1, state.announce_sleepy(&mut idle), 0);
-    same(&rt, idle.recorded(), Some(0));
+    same!(&rt, idle.recorded(), Some(0));
     row(&rt, 2, state.counters().events(), 0);
 }
 
@@ -98,38 +99,38 @@ fn a_job_keeps_a_worker_awake(rt: HostRuntime) {
     let mut idle = looks(&rt, &mut state, 0);
     idle.next_round();
     row(&rt, 1, state.announce_sleepy(&mut idle), 0);
-    same(
+    same!(
         &rt,
         blocks(&rt, &mut state, &mut idle, true),
         Block::Injected,
     );
     row(&rt, 2, idle.rounds(), 0);
-    same(&rt, (state.is_blocked(0), state.wake(0)), (false, false));
+    same!(&rt, (state.is_blocked(0), state.wake(0)), (false, false));
 }
 
 #[test]
 fn one_worker_is_woken_by_its_index(rt: HostRuntime) {
     let mut state = SleepState::new(rt.alloc(), NonZeroUsize::MIN, 0).expect(&rt, "memory");
     let mut idle = looks(&rt, &mut state, 0);
-    same(&rt, state.announce_sleepy(&mut idle), 0);
-    same(
+    same!(&rt, state.announce_sleepy(&mut idle), 0);
+    same!(
         &rt,
         blocks(&rt, &mut state, &mut idle, false),
         Block::Blocked,
     );
     // (there is no worker 1)
-    same(
+    same!(
         &rt,
         [state.wake(0), state.wake(0), state.wake(1)],
         [true, false, false],
     );
-    same(&rt, state.counters().word(), 65_536);
+    same!(&rt, state.counters().word(), 65_536);
 }
 
 #[test]
 fn an_idle_worker_yields_then_announces_itself_then_sleeps(rt: HostRuntime) {
     let mut idle = IdleState::new(3);
-    same(&rt, idle.worker_index(), 3);
+    same!(&rt, idle.worker_index(), 3);
     for _ in 0..31 {
         idle.next_round();
     }
@@ -140,7 +141,7 @@ fn an_idle_worker_yields_then_announces_itself_then_sleeps(rt: HostRuntime) {
     idle.next_round();
     row(&rt, 3, idle.due(), Due::Sleep);
     idle.next_round();
-    same(&rt, (idle.rounds(), idle.recorded()), (33, Some(4)));
+    same!(&rt, (idle.rounds(), idle.recorded()), (33, Some(4)));
     idle.wake_partly();
     row(&rt, 4, idle.due(), Due::Announce);
     idle.wake_fully();

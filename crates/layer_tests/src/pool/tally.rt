@@ -2,7 +2,7 @@
 //! one function.
 ghost use Rattle.std.specs.Prelude.{◌≡◌};
 
-use crate::same::{holds, row};
+use crate::checks::row;
 use parallel_pool::rayon::{
     Execute, OwnedJob, Queue, Staff, ThreadPool, ThreadPoolBuilder, WorkerThread,
 };
@@ -13,6 +13,7 @@ use std::sync::atomic::{AtomicU64, Ordering};
 use std::sync::{Arc, Wait};
 use std::thread::{self, Threads};
 use std::time::{Clock, Duration};
+use test_support::holds;
 
 /// How many turns a test waits for another thread at most, each of which lets the others go on: so
 /// that a busy machine takes longer, and no test fails by that.
@@ -275,7 +276,7 @@ pub(crate) fn spawn(
     act: Act,
 ) {
     let came = pool.spawn(rt, job(rt, alloc, tally, act)).is_ok();
-    holds(rt, came);
+    holds!(rt, came);
 }
 
 /// A job of a type of its own, which adds that much.

@@ -1,7 +1,6 @@
 //! The ways in which a job comes to a pool, each of any number of workers, of which this thread is
 //! the first.
 use crate::pool::tally::{Act, Tally, added, awaits, empty_tally, let_it_sleep, push_by, told_to};
-use crate::same::holds;
 use parallel_pool::rayon::{
     Execute, Queue, Staff, ThreadPool, ThreadPoolBuilder, WorkerThread, Yield,
 };
@@ -12,6 +11,7 @@ use std::sync::atomic::Ordering;
 use std::sync::{Arc, Wait};
 use std::thread::Threads;
 use std::time::Clock;
+use test_support::holds;
 
 /// How a job comes.
 #[derive(Clone, Copy, Debug, PartialEq, Eq)]
@@ -174,7 +174,7 @@ impl Led {
         let_it_sleep(rt);
         let tally = empty_tally(rt, alloc);
         let waits = long_job(rt, &tally, Act::Waits);
-        holds(
+        holds!(
             rt,
             push_by(rt, &mut self.worker, Queue::Broadcast(index), waits),
         );

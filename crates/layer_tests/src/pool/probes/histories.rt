@@ -1,14 +1,15 @@
 //! Who calls a job that comes, and in which order jobs are called: no job waits while a worker
 //! sleeps.
+use crate::checks::row;
 use crate::pool::probes::brought::{ALL, Brought, Led, leads, long_job, opens};
 use crate::pool::tally::{Act, Tally, awaits, becomes, let_it_sleep, push_by, read};
-use crate::same::{row, same};
 use parallel_pool::rayon::{Queue, Yield};
 use std::alloc::Global;
 use std::process::Abort;
 use std::sync::{Arc, Wait};
 use std::thread::Threads;
 use std::time::Clock;
+use test_support::same;
 
 // All started workers but one have a job that doesn't end yet.
 fn halts_all_but<R: Wait + Abort + Clock>(
@@ -122,11 +123,11 @@ fn a_worker_calls_its_own_last_job_first(rt: HostRuntime) {
     let (mut led, halted) = brings_six(&rt, rt.alloc(), 0);
     for _ in 0..6 {
         let yielded = led.pool.yield_now(&rt, &mut led.worker);
-        same(&rt, yielded, Some(Yield::Executed));
+        same!(&rt, yielded, Some(Yield::Executed));
     }
-    same(&rt, read(&led.tally.called), 431_256);
+    same!(&rt, read(&led.tally.called), 431_256);
     let yielded = led.pool.yield_now(&rt, &mut led.worker);
-    same(&rt, yielded, Some(Yield::Idle));
+    same!(&rt, yielded, Some(Yield::Idle));
     opens(&halted);
     led.ends(&rt);
 }

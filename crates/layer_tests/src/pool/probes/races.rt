@@ -1,7 +1,7 @@
 //! Jobs that come while a worker goes to sleep: each is called.
+use crate::checks::row;
 use crate::pool::probes::brought::{ALL, Brought, Led, leads};
 use crate::pool::tally::{Act, becomes, let_it_sleep, read};
-use crate::same::row;
 use std::alloc::Global;
 use std::process::Abort;
 use std::sync::Wait;

@@ -3,6 +3,7 @@ ghost use Rattle.std.specs.Prelude.{◌≡◌, All};
 ghost use Rattle.parallel_pool.specs.CountLatch.{IsShareOf, unspent};
 ghost use Rattle.parallel_pool.specs.Latch.{IsLatchSeatOf};
 
+use crate::checks::row;
 use crate::pool::count_latches::give_all;
 use crate::pool::latches::core_latch;
 use crate::pool::probes::brought::{ALL, Led, leads, opens};
@@ -10,7 +11,6 @@ use crate::pool::sleeps::one_sleep;
 use crate::pool::tally::{
     Act, TURNS, Tally, added, awaits, becomes, built, empty_tally, let_it_sleep, push_by, read,
 };
-use crate::same::{holds, row};
 use crossbeam_utils::sync::Parker;
 use parallel_pool::latch::{CoreLatch, CountLatch, CountShare, LatchSeat, LockLatch};
 use parallel_pool::rayon::{Execute, Queue, Staff, ThreadPool, ThreadPoolBuilder, install};
@@ -22,6 +22,7 @@ use std::sync::atomic::{AtomicU64, Ordering};
 use std::sync::{Arc, Wait};
 use std::thread::{self, Threads, join};
 use std::time::{Clock, CpuClock};
+use test_support::holds;
 
 // For how long a wait goes on, and how much of that whoever waits may work, in nanoseconds: both
 // are of a thread's own time, so that on a busy machine a wait is longer.
@@ -125,7 +126,7 @@ fn idle_workers_take_no_time_while_others_are_at_work(rt: HostRuntime) {
     let mut told = 0u64;
     for (index, is_long) in [(1usize, true), (3, false), (2, true), (3, false)] {
         let job = quiet_job(&rt, &tally, if is_long { &latch } else { &open });
-        holds(&rt, push_by(&rt, &mut worker, Queue::Broadcast(index), job));
+        holds!(&rt, push_by(&rt, &mut worker, Queue::Broadcast(index), job));
         told = told.wrapping_add(1);
         awaits(&rt, &tally.entered, told, "the worker is at work");
         let_it_sleep(&rt);

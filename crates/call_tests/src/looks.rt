@@ -1,0 +1,275 @@
+//! What becomes of a list once an item has failed: right of an error that is known nothing is
+//! called, and an error is known before what is left of its segment is let go.
+use crate::checks::row;
+use commonware_parallel::mocks::{Explorer, Rule};
+use commonware_parallel::{Fault, On, Site, Source, Strategy, Trouble};
+use std::alloc::Global;
+use std::process::Abort;
+use std::sync::Wait;
+use std::sync::atomic::{AtomicBool, AtomicUsize, Ordering};
+use std::thread::{Threads, yield_now};
+use test_calls::calls::Called;
+use test_calls::every_call::on;
+use test_calls::noting::Noting;
+use test_calls::sources::{FEW, Given, SOURCES, make_over, make_over_few};
+use test_calls::steps::{add_counts, no_count};
+use test_calls::strategies::pool;
+use test_calls::visits::Visitor;
+
+// The calls that may fail.
+const FALLIBLE: [Called; 2] = [Called::TryMap, Called::TryFold];
+
+// Stops the test where a list call that fails at an item calls anything after it. One thread goes
+// over both segments of the list, of which the second one begins at half of its length.
+fn ends_at_its_error<Rt: Threads + Wait + Abort + Sync, S: Strategy>(
+    on: &On<'_, Rt, S, Site>,
+    called: Called,
+    given: Given,
+    len: usize,
+) {
+    for at in 0..len {
+        let calls = AtomicUsize::new(0);
+        let made = make_over(on, called, given, len, Visitor::FailsAt(&calls, at));
+        let found = (made, calls.load(Ordering::SeqCst));
+        let wanted = (Err(Trouble::Closure(7)), at.saturating_add(1));
+        row(on.rt, (called, given, len, at), found, wanted);
+    }
+}
+
+#[test]
+fn right_of_a_known_error_nothing_is_called(rt: HostRuntime) {
+    let alloc = rt.alloc();
+    let one = Noting::new(alloc, 1).expect(&rt, "memory for a log");
+    let on = on(&rt, alloc, &one);
+    for called in FALLIBLE {
+        for given in SOURCES {
+            for len in 1..12usize {
+                ends_at_its_error(&on, called, given, len);
+            }
+        }
+    }
+}
+
+// The same of calls that go serially.
+fn ends_serially<Rt: Threads + Wait + Abort + Sync, S: Strategy>(
+    rt: &Rt,
+    alloc: Global,
+    strategy: &S,
+) {
+    let on = on(rt, alloc, strategy);
+    for called in FALLIBLE {
+        for given in FEW {
+            for at in 0..5usize {
+                let calls = AtomicUsize::new(0);
+                let failing = Visitor::FailsAt(&calls, at);
+                let made = make_over_few(&on, called, given, 5, failing);
+                let found = (made, calls.load(Ordering::SeqCst));
+                let wanted = (Err(Trouble::Closure(7)), at.saturating_add(1));
+                row(rt, (called, given, at), found, wanted);
+            }
+        }
+    }
+}
+
+#[test]
+fn after_an_error_of_a_serial_call_nothing_is_called(rt: HostRuntime) {
+    let alloc = rt.alloc();
+    for (planned, rule) in [(4, Rule::Serial), (1, Rule::Parallel)] {
+        let four = pool(&rt, alloc, 4, planned).expect(&rt, "memory for a pool");
+        let explorer = Explorer::by_rule(&four, rule).expect(&rt, "memory for a handle");
+        ends_serially(&rt, alloc, &explorer);
+    }
+}
+
+// What is known of a list of which one of the first items fails while another segment is under way.
+#[derive(Drop)]
+struct Known {
+    // On how many threads.
+    threads: usize,
+    // How many items each segment has, and which of the first one's fails.
+    segment: usize,
+    fails: usize,
+    // How many other items were handed over.
+    calls: AtomicUsize,
+    // Whether what is left of the failing item's segment is being let go, and of another one.
+    first: AtomicBool,
+    others: AtomicBool,
+}
+
+// Waits for the flag, for some seconds at most.
+fn await_flag(flag: &AtomicBool) {
+    for _ in 0..10_000_000u32 {
+        if flag.load(Ordering::SeqCst) {
+            return;
+        }
+        yield_now();
+    }
+}
+
+impl Known {
+    fn new(threads: usize, segment: usize, fails: usize) -> Known {
+        Known {
+            threads,
+            segment,
+            fails,
+            calls: AtomicUsize::new(0),
+            first: AtomicBool::new(false),
+            others: AtomicBool::new(false),
+        }
+    }
+
+    // Waits until that many other items were handed over, or one of them is let go, for some
+    // seconds at most.
+    fn await_calls(&self, calls: usize) {
+        for _ in 0..10_000_000u32 {
+            if self.calls.load(Ordering::SeqCst) >= calls || self.others.load(Ordering::SeqCst) {
+                return;
+            }
+            yield_now();
+        }
+    }
+
+    // The item fails once one after it was handed over, and those wait until what is left after it
+    // is let go.
+    fn hand_over(&self, at: usize) -> Result<usize, u32> {
+        if at < self.fails {
+            return Ok(at);
+        }
+        if at == self.fails {
+            self.await_calls(1);
+            return Err(7);
+        }
+        self.calls.fetch_add(1, Ordering::SeqCst);
+        await_flag(&self.first);
+        Ok(at)
+    }
+
+    // An item is let go that wasn't handed over. Before this ends others have time to be.
+    fn let_go(&self, at: usize) {
+        if at < self.segment {
+            self.first.store(true, Ordering::SeqCst);
+            self.await_calls(self.threads.saturating_add(2));
+        } else {
+            self.others.store(true, Ordering::SeqCst);
+        }
+    }
+}
+
+// An item of such a list.
+struct Kept<'a> {
+    at: usize,
+    known: &'a Known,
+    is_handed_over: bool,
+}
+
+impl Drop for Kept<'_> {
+    fn drop(self) {
+        let Self {
+            at,
+            known,
+            is_handed_over,
+        } = self;
+        if !is_handed_over {
+            known.let_go(at);
+        }
+    }
+}
+
+// What is handed over.
+trait Handed {
+    // Its place, or the error of the one that fails.
+    fn hand_over(self) -> Result<usize, u32>;
+}
+
+impl Handed for Kept<'_> {
+    fn hand_over(self) -> Result<usize, u32> {
+        let mut item = self;
+        item.is_handed_over = true;
+        item.known.hand_over(item.at)
+    }
+}
+
+fn hand_over<T: Handed>(item: T) -> Result<usize, u32> {
+    item.hand_over()
+}
+
+// One more, or that error.
+fn count_over<T: Handed>(count: usize, item: T) -> Result<usize, u32> {
+    match item.hand_over() {
+        Ok(_) => Ok(count.wrapping_add(1)),
+        Err(error) => Err(error),
+    }
+}
+
+// The items of such a list: two threads have four segments of them, and nine have sixteen.
+fn segments<'a>(alloc: Global, known: &'a Known) -> Result<Vec<Kept<'a>>, Fault> {
+    let segments = if known.threads > 2 { 16 } else { 4 };
+    let len = known.segment.saturating_mul(segments);
+    let mut items = Vec::with_capacity(alloc, len)?;
+    for at in 0..len {
+        items.push(Kept {
+            at,
+            known,
+            is_handed_over: false,
+        })?;
+    }
+    Ok(items)
+}
+
+// The trouble of such a call over a list of such items.
+fn trouble_of<Rt: Threads + Wait + Sync, S: Strategy, M, I: Source<M>>(
+    on: &On<'_, Rt, S, Site>,
+    called: Called,
+    source: I,
+) -> Option<Trouble<u32>>
+where
+    I::Item: Handed,
+    requires { I.can source }
+{
+    match called {
+        Called::TryMap => on.try_map(source, hand_over).err(),
+        _ => on.try_fold(source, no_count, count_over, add_counts).err(),
+    }
+}
+
+// How many other items were handed over, of a list or an iterator, and the call's trouble.
+fn other_calls<Rt: Threads + Wait + Abort + Sync, S: Strategy>(
+    on: &On<'_, Rt, S, Site>,
+    called: Called,
+    is_iterator: bool,
+    (segment, fails): (usize, usize),
+) -> (usize, Option<Trouble<u32>>) {
+    let known = Known::new(on.strategy.thread_number().get(), segment, fails);
+    let items = segments(on.alloc, &known).expect(on.rt, "memory for items");
+    let trouble = if is_iterator {
+        trouble_of(on, called, items.into_iter())
+    } else {
+        trouble_of(on, called, items)
+    };
+    (known.calls.load(Ordering::SeqCst), trouble)
+}
+
+// At most one other item of each further thread is handed over.
+#[test]
+fn an_error_is_known_before_what_is_left_of_its_segment_is_let_go(rt: HostRuntime) {
+    let alloc = rt.alloc();
+    for (called, threads, is_iterator, segment, fails) in [
+        (Called::TryMap, 2, false, 4, 0),
+        (Called::TryMap, 2, false, 4, 1),
+        (Called::TryMap, 2, false, 4, 2),
+        (Called::TryMap, 9, true, 4, 0),
+        (Called::TryMap, 9, false, 10_000, 2),
+        (Called::TryFold, 2, false, 4, 0),
+        (Called::TryFold, 2, false, 4, 1),
+        (Called::TryFold, 2, false, 4, 2),
+        (Called::TryFold, 9, true, 4, 0),
+        (Called::TryFold, 9, false, 10_000, 2),
+    ] {
+        let noting = Noting::new(alloc, threads).expect(&rt, "memory for a log");
+        let on = on(&rt, alloc, &noting);
+        let (calls, trouble) = other_calls(&on, called, is_iterator, (segment, fails));
+        let found = (0 < calls && calls < threads, trouble);
+        let wanted = (true, Some(Trouble::Closure(7)));
+        row(&rt, (called, threads, segment, fails, calls), found, wanted);
+    }
+}

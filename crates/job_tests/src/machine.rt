@@ -1,0 +1,106 @@
+//! Packed words, and the pure machine of shares on whole plans.
+use crate::checks::{number, row};
+use commonware_parallel::Fault;
+use commonware_parallel::shares::machine::{Event, Outcome, Plan, State, replay, step};
+use commonware_parallel::shares::{pack, unpack};
+use std::alloc::Global;
+use std::process::Abort;
+use test_support::same;
+
+// Two seats that load before either claims: the second one's claim is lost.
+const EVENTS: [Event; 13] = [
+    Event::Load { seat: 0, share: 0 },
+    Event::Load { seat: 1, share: 0 },
+    Event::Claim { seat: 0 },
+    Event::Claim { seat: 1 },
+    Event::Claim { seat: 1 },
+    Event::Load { seat: 1, share: 0 },
+    Event::Claim { seat: 1 },
+    Event::Load { seat: 0, share: 0 },
+    Event::Claim { seat: 0 },
+    Event::Load { seat: 1, share: 0 },
+    Event::Claim { seat: 1 },
+    Event::Steal { seat: 0 },
+    Event::Load { seat: 2, share: 0 },
+];
+
+#[test]
+fn words_pack_a_range(rt: HostRuntime) {
+    same!(&rt, pack(3, 9), 196_617);
+    same!(&rt, unpack(196_617), (3, 9));
+    same!(&rt, unpack(0), (0, 0));
+    same!(&rt, unpack(4_294_967_295), (65_535, 65_535));
+}
+
+#[test]
+fn a_stale_claim_is_lost(rt: HostRuntime) {
+    let plan = Plan::new(3, 2, number(&rt, 1), number(&rt, 2), true);
+    same!(&rt, (plan.workers(), plan.unit(), plan.claim()), (2, 2, 1));
+    same!(&rt, (plan.cells(), plan.units()), (6, 3));
+    let (state, outcomes) = replay(rt.alloc(), &plan, &EVENTS).expect(&rt, "memory");
+    let expected = [
+        Outcome::Loaded(3),
+        Outcome::Loaded(3),
+        Outcome::Claimed(0..2),
+        Outcome::Lost,
+        Outcome::Refused,
+        Outcome::Loaded(65_539),
+        Outcome::Claimed(2..4),
+        Outcome::Loaded(131_075),
+        Outcome::Claimed(4..6),
+        Outcome::Loaded(196_611),
+        Outcome::Empty,
+        Outcome::Refused,
+        Outcome::Refused,
+    ];
+    same!(&rt, outcomes.as_slice(), expected.as_slice());
+    same!(&rt, state.words(), [196_611].as_slice());
+    same!(&rt, state.claims(0), [0..2, 4..6].as_slice());
+    same!(&rt, state.claims(1), [2..4].as_slice());
+    same!(&rt, state.in_transit(1), None);
+}
+
+#[test]
+fn a_unit_has_several_rows_where_there_are_many(rt: HostRuntime) {
+    let plan = Plan::new(65_536, 3, number(&rt, 1), number(&rt, 4), true);
+    same!(
+        &rt,
+        (plan.unit(), plan.workers(), plan.units()),
+        (6, 4, 32_768),
+    );
+    let state = State::new(rt.alloc(), &plan).expect(&rt, "memory");
+    same!(&rt, state.words(), [32_768].as_slice());
+}
+
+// A replay, and one claim by steps, return what they always do, or want of memory. Run with each
+// allocation failing in turn.
+fn replay_or_refusal(rt: &impl Abort, alloc: Global) {
+    let plan = Plan::new(3, 2, number(rt, 1), number(rt, 2), true);
+    match replay(alloc, &plan, &EVENTS) {
+        Ok((state, outcomes)) => {
+            same!(rt, state.words(), [196_611].as_slice());
+            same!(rt, outcomes.len(), EVENTS.len());
+        }
+        Err(fault) => row(rt, 1, fault, Fault::Memory),
+    }
+    let Ok(mut state) = State::new(alloc, &plan) else {
+        return;
+    };
+    let loaded = step(&plan, &mut state, Event::Load { seat: 0, share: 0 });
+    same!(rt, loaded, Ok(Outcome::Loaded(3)));
+    match step(&plan, &mut state, Event::Claim { seat: 0 }) {
+        Ok(outcome) => {
+            same!(rt, outcome, Outcome::Claimed(0..2));
+            same!(rt, state.words(), [65_539].as_slice());
+        }
+        Err(fault) => {
+            row(rt, 2, fault, Fault::Memory);
+            same!(rt, state.words(), [3].as_slice());
+        }
+    }
+}
+
+#[test]
+fn a_refused_growth_leaves_the_machine_as_it_was(rt: HostRuntime) {
+    replay_or_refusal(&rt, rt.alloc());
+}

@@ -1,0 +1,61 @@
+//! What a policy learns, through the calls of a pool.
+use crate::checks::{number, returns};
+use commonware_parallel::{Rayon, Strategy};
+use std::alloc::Global;
+use std::process::Abort;
+use std::sync::Wait;
+use std::thread::Threads;
+use test_calls::clocks::{Stepping, learning};
+use test_calls::strategies::SITE;
+use uses::runs::one_of;
+
+// Stops the test where runs over 64 items don't take these bodies, one after the other.
+fn takes<Rt: Wait + Abort, S: Strategy>(
+    rt: &Rt,
+    alloc: Global,
+    strategy: &S,
+    bodies: &[&'static str],
+) {
+    for (turn, body) in bodies.iter().enumerate() {
+        let taken = one_of(rt, alloc, strategy, SITE, 64, "serial", "parallel");
+        returns(rt, turn, taken, *body);
+    }
+}
+
+// A pool that learns by a clock which goes on by so much at each reading.
+fn by_steps<Rt: Threads + Abort>(rt: &Rt, alloc: Global, step: u64) -> Rayon<Stepping> {
+    learning(
+        rt,
+        alloc,
+        Stepping::new(alloc, step).expect(rt, "memory for a clock"),
+    )
+    .expect(rt, "memory for a pool")
+}
+
+#[test]
+fn a_short_parallel_run_is_followed_by_serial_ones(rt: HostRuntime) {
+    let alloc = rt.alloc();
+    // A clock that goes back counts as no time, and a run of the whole budget stays parallel.
+    for (step, bodies) in [
+        (100_000, ["parallel", "serial", "serial"].as_slice()),
+        (u64::MAX - 99_999, ["parallel", "serial"].as_slice()),
+        (2_500_000, ["parallel", "parallel"].as_slice()),
+    ] {
+        takes(&rt, alloc, &by_steps(&rt, alloc, step), bodies);
+    }
+}
+
+#[test]
+fn a_clone_has_the_same_policy(rt: HostRuntime) {
+    let alloc = rt.alloc();
+    let strategy = by_steps(&rt, alloc, 100_000);
+    let clone = strategy.clone().expect(&rt, "memory");
+    takes(&rt, alloc, &strategy, &["parallel"]);
+    takes(&rt, alloc, &clone, &["serial"]);
+    let fixed = strategy.without_policy().expect(&rt, "memory");
+    takes(&rt, alloc, &fixed, &["parallel"]);
+    let planned = strategy.with_parallelism(number(&rt, 8));
+    takes(&rt, alloc, &planned, &["parallel", "serial"]);
+    let two = planned.with_parallelism(number(&rt, 2));
+    takes(&rt, alloc, &two, &["parallel", "serial"]);
+}

@@ -1,5 +1,0 @@
-//! The tests that cross crates.
-#![tactic(auto)]
-
-#[cfg(test)]
-mod tests;
