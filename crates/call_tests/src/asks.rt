@@ -65,7 +65,7 @@ fn list_asks<Rt: Threads + Wait + Abort + Sync>(
     called: Called,
     given: Given,
 ) {
-    let noting = Noting::new(alloc, 4).expect(rt, "memory for a log");
+    let noting = Noting::new(alloc, 4).expect(rt, "a log");
     let on = on(rt, alloc, &noting);
     let made = make_over(&on, called, given, 16, Visitor::Writes(noting.log()));
     row(rt, (called, given), made, Ok(()));
@@ -90,7 +90,7 @@ fn a_call_over_many_items_asks_once(rt: HostRuntime) {
     let alloc = rt.alloc();
     let end = 1_100_000usize;
     for called in [Called::Map, Called::Fold] {
-        let noting = Noting::new(alloc, 4).expect(&rt, "memory for a log");
+        let noting = Noting::new(alloc, 4).expect(&rt, "a log");
         let on = on(&rt, alloc, &noting);
         let indices = Indices { start: 0, end };
         let made = make(&on, called, indices, Visitor::Passes);
@@ -104,7 +104,7 @@ fn a_call_over_many_items_asks_once(rt: HostRuntime) {
 fn a_list_call_that_fails_tells_nothing(rt: HostRuntime) {
     let alloc = rt.alloc();
     for called in CALLS {
-        let noting = Noting::new(alloc, 4).expect(&rt, "memory for a log");
+        let noting = Noting::new(alloc, 4).expect(&rt, "a log");
         let on = on(&rt, alloc, &noting);
         let indices = Indices { start: 0, end: 16 };
         let made = make(&on, called, indices, Visitor::Fails(noting.log()));
@@ -127,7 +127,7 @@ fn runs(log: &Log, fails: bool) -> Result<u32, u32> {
 
 // Stops the test where a run that may fail, or can't, isn't asked about once.
 fn run_asks<Rt: Threads + Wait + Abort + Sync>(rt: &Rt, alloc: Global, fails: bool) {
-    let noting = Noting::new(alloc, 4).expect(rt, "memory for a log");
+    let noting = Noting::new(alloc, 4).expect(rt, "a log");
     let log = noting.log();
     let tried = noting.try_run(rt, alloc, PLACE, 16, error_of_five, || runs(log, fails));
     let (outcome, end) = if fails {
@@ -149,7 +149,7 @@ fn a_run_asks_once_and_tells_once(rt: HostRuntime) {
     let alloc = rt.alloc();
     run_asks(&rt, alloc, false);
     run_asks(&rt, alloc, true);
-    let noting = Noting::new(alloc, 4).expect(&rt, "memory for a log");
+    let noting = Noting::new(alloc, 4).expect(&rt, "a log");
     let log = noting.log();
     let ran = noting.run(&rt, alloc, PLACE, 16, error_of_five, || runs(log, true));
     row(&rt, "run", ran, Ok(Err(7)));
@@ -184,7 +184,7 @@ fn parts_of_side(side: Side) -> usize {
 // Stops the test where a call that isn't over a list asks otherwise: about a batch and about tiles
 // once, and their own strategy about the map of their parts.
 fn side_asks<Rt: Threads + Wait + Abort + Sync>(rt: &Rt, alloc: Global, side: Side) {
-    let noting = Noting::new(alloc, 4).expect(rt, "memory for a log");
+    let noting = Noting::new(alloc, 4).expect(rt, "a log");
     let on = on(rt, alloc, &noting);
     let made = make_side(&on, side, Visitor::Writes(noting.log()));
     row(rt, side, made, Ok(()));
@@ -209,7 +209,7 @@ fn each_other_call_asks_once_and_tells_once(rt: HostRuntime) {
 fn a_batch_whose_map_fails_tells_no_more_than_its_closure_returns(rt: HostRuntime) {
     let alloc = rt.alloc();
     for (batched, end) in [(Batched::TryMap, TOLD), (Batched::TryBatch, DROPPED)] {
-        let noting = Noting::new(alloc, 4).expect(&rt, "memory for a log");
+        let noting = Noting::new(alloc, 4).expect(&rt, "a log");
         let on = on(&rt, alloc, &noting);
         let failing = Visitor::Fails(noting.log());
         let mapped = run_batch(&on, batched, 16, number(&rt, 4), failing);
@@ -235,11 +235,11 @@ fn none_of(_row: usize, _columns: Range<usize>) -> u64 {
 #[test]
 fn a_kernel_that_fails_or_is_refused_tells_nothing(rt: HostRuntime) {
     let (alloc, one) = (rt.alloc(), NonZeroUsize::MIN);
-    let refused = Noting::new(alloc, 4).expect(&rt, "memory for a log");
+    let refused = Noting::new(alloc, 4).expect(&rt, "a log");
     let add = u64::wrapping_add;
     let folded = refused.fold_rows(&rt, alloc, PLACE, 1 << 60, 0, one, none_of, add);
     row(&rt, "fold_rows", folded.err(), Some(Fault::Memory));
-    let failed = Noting::new(alloc, 4).expect(&rt, "memory for a log");
+    let failed = Noting::new(alloc, 4).expect(&rt, "a log");
     let grids = [Grid {
         rows: 4,
         tile_cost: one,
@@ -261,7 +261,7 @@ fn a_kernel_that_fails_or_is_refused_tells_nothing(rt: HostRuntime) {
 fn a_whole_batch_asks_once_and_its_map_asks_nobody(rt: HostRuntime) {
     let alloc = rt.alloc();
     for batched in BATCHES {
-        let noting = Noting::new(alloc, 4).expect(&rt, "memory for a log");
+        let noting = Noting::new(alloc, 4).expect(&rt, "a log");
         let on = on(&rt, alloc, &noting);
         let mapped = run_batch(
             &on,
@@ -293,7 +293,7 @@ fn tree_asks<Rt: Threads + Wait + Abort + Sync>(
     (count, levels): (usize, usize),
     calls: &[(usize, usize)],
 ) {
-    let noting = Noting::new(alloc, 4).expect(rt, "memory for a log");
+    let noting = Noting::new(alloc, 4).expect(rt, "a log");
     let on = on(rt, alloc, &noting);
     let leaves = leaves(alloc, count).expect(rt, "memory for leaves");
     let found = root(&on, rooted, leaves, Visitor::Writes(noting.log()));
@@ -362,7 +362,7 @@ impl<S: Drop> Job<S, u32> for NotedJob {
 #[test]
 fn a_job_is_asked_about_once_and_its_measure_begins_and_ends_aside(rt: HostRuntime) {
     let alloc = rt.alloc();
-    let noting = Noting::new(alloc, 4).expect(&rt, "memory for a log");
+    let noting = Noting::new(alloc, 4).expect(&rt, "a log");
     let job = NotedJob {
         log: noting.handle().expect(&rt, "a handle"),
     };
@@ -414,7 +414,7 @@ fn caller_has<Rt: Wait + Abort>(rt: &Rt, noting: &Noting, caller: Caller) {
 fn a_caller_asks_at_its_place(rt: HostRuntime) {
     let alloc = rt.alloc();
     for caller in CALLERS {
-        let noting = Noting::new(alloc, 4).expect(&rt, "memory for a log");
+        let noting = Noting::new(alloc, 4).expect(&rt, "a log");
         let is_right = call(&rt, alloc, &noting, PLACE, caller);
         row(&rt, caller, is_right, true);
         caller_has(&rt, &noting, caller);

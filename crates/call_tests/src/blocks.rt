@@ -149,11 +149,7 @@ fn calls_give_back<Rt: Threads + Wait + Files + AllocGlobal + Abort + Sync, S: S
 fn a_call_gives_the_blocks_of_its_items_and_results_back(rt: HostRuntime) {
     let alloc = rt.alloc();
     calls_give_back(&rt, alloc, &Sequential);
-    calls_give_back(
-        &rt,
-        alloc,
-        &pool(&rt, alloc, 2, 2).expect(&rt, "memory for a pool"),
-    );
+    calls_give_back(&rt, alloc, &pool(&rt, alloc, 2, 2).expect(&rt, "a pool"));
 }
 
 // A map of a vector that is refused memory for its results.
@@ -175,7 +171,7 @@ fn refused<Rt: Threads + Wait + Files + AllocGlobal + Abort + Sync, S: Strategy>
 #[test]
 fn a_call_that_is_refused_gives_the_block_of_its_items_back(rt: HostRuntime) {
     let alloc = rt.alloc();
-    let two = pool(&rt, alloc, 2, 2).expect(&rt, "memory for a pool");
+    let two = pool(&rt, alloc, 2, 2).expect(&rt, "a pool");
     refused(&rt, alloc, &two, Called::Map);
     refused(&rt, alloc, &two, Called::TryMap);
     refused(&rt, alloc, &Sequential, Called::MapInit);
@@ -211,11 +207,7 @@ where
             let told = explore(rt, alloc, |explorer| explorer.planning().get());
             returns(rt, "a search", told, 8);
         }
-        Made::Job => wait_for_job(
-            rt,
-            alloc,
-            &pool(rt, alloc, 4, 4).expect(rt, "memory for a pool"),
-        ),
+        Made::Job => wait_for_job(rt, alloc, &pool(rt, alloc, 4, 4).expect(rt, "a pool")),
         Made::MeasuredJob => {
             let policy = Policy::new(alloc).expect(rt, "memory");
             wait_for_job(rt, alloc, &by_policy(rt, alloc, &policy, 1000));
@@ -265,9 +257,9 @@ fn what_is_made_and_let_go_leaves_no_block(rt: HostRuntime) {
 #[test]
 fn a_measured_job_lets_its_clock_go(rt: HostRuntime) {
     let alloc = rt.alloc();
-    let clock = Stepping::new(alloc, 1000).expect(&rt, "memory for a clock");
+    let clock = Stepping::new(alloc, 1000).expect(&rt, "a clock");
     let mut reading = Arc::try_clone(&clock.reading).expect(&rt, "a handle");
-    let strategy = learning(&rt, alloc, clock).expect(&rt, "memory for a pool");
+    let strategy = learning(&rt, alloc, clock).expect(&rt, "a pool");
     wait_for_job(&rt, alloc, &strategy);
     drop(strategy);
     holds!(&rt, Arc::get_mut(&mut reading).is_some());
@@ -315,6 +307,6 @@ fn a_list_is_changed_in_place_without_a_block(rt: HostRuntime) {
     takes_no_block(
         &rt,
         rt.alloc(),
-        &pool(&rt, rt.alloc(), 2, 2).expect(&rt, "memory for a pool"),
+        &pool(&rt, rt.alloc(), 2, 2).expect(&rt, "a pool"),
     );
 }

@@ -42,12 +42,9 @@ pub fn by_policy<Rt: Threads + Abort>(
     policy: &Policy,
     step: u64,
 ) -> Rayon<Stepping> {
-    let strategy = learning(
-        rt,
-        alloc,
-        Stepping::new(alloc, step).expect(rt, "memory for a clock"),
-    )
-    .expect(rt, "memory for a pool");
+    let strategy = learning(rt, alloc, Stepping::new(alloc, step).expect(rt, "a clock")).expect(
+        rt, "a pool",
+    );
     strategy.with_policy(policy.clone().expect(rt, "a handle"))
 }
 
@@ -80,9 +77,9 @@ fn strategies_over_one_policy_learn_from_each_other(rt: HostRuntime) {
     let other = learning(
         &rt,
         alloc,
-        Stepping::new(alloc, 100_000).expect(&rt, "memory for a clock"),
+        Stepping::new(alloc, 100_000).expect(&rt, "a clock"),
     )
-    .expect(&rt, "memory for a pool");
+    .expect(&rt, "a pool");
     let own = other.policy().expect(&rt, "a policy");
     row(&rt, 4, times(&rt, own, SITE, 16, 16), None);
     takes(&rt, alloc, &other, own, (5, "parallel", ONCE));
@@ -126,7 +123,7 @@ fn a_batch_that_is_too_short_to_be_cut_has_no_entry(rt: HostRuntime) {
 fn a_run_is_kept_by_its_length_and_its_work(rt: HostRuntime) {
     let alloc = rt.alloc();
     let policy = fresh(&rt, alloc);
-    let clock = Stepping::new(alloc, STEP).expect(&rt, "memory for a clock");
+    let clock = Stepping::new(alloc, STEP).expect(&rt, "a clock");
     let now = || clock.now();
     let ran = policy.try_run(
         &rt,

@@ -24,7 +24,7 @@ const OF_SOURCE: usize = 100_001;
 #[test]
 fn two_closures_of_each_long_list_call_meet(rt: HostRuntime) {
     let alloc = rt.alloc();
-    let two = pool(&rt, alloc, 2, 2).expect(&rt, "memory for a pool");
+    let two = pool(&rt, alloc, 2, 2).expect(&rt, "a pool");
     let indices = Indices {
         start: 0,
         end: LONG,
@@ -70,17 +70,13 @@ fn places_meet<Rt: Threads + Wait + Abort + Sync, S: Strategy>(on: &On<'_, Rt, S
 #[test]
 fn two_closures_of_each_long_sort_and_change_meet(rt: HostRuntime) {
     let alloc = rt.alloc();
-    places_meet(&on(
-        &rt,
-        alloc,
-        &pool(&rt, alloc, 2, 2).expect(&rt, "memory for a pool"),
-    ));
+    places_meet(&on(&rt, alloc, &pool(&rt, alloc, 2, 2).expect(&rt, "a pool")));
 }
 
 #[test]
 fn two_closures_of_a_batch_of_many_ranges_meet(rt: HostRuntime) {
     let alloc = rt.alloc();
-    let many = pool(&rt, alloc, 2, 100).expect(&rt, "memory for a pool");
+    let many = pool(&rt, alloc, 2, 100).expect(&rt, "a pool");
     for batched in BATCHES {
         for len in [100, OF_SOURCE] {
             let meeting = Meeting::of(2, 0);

@@ -39,7 +39,7 @@ fn ends_at_its_error<Rt: Threads + Wait + Abort + Sync, S: Strategy>(
 #[test]
 fn right_of_a_known_error_nothing_is_called(rt: HostRuntime) {
     let alloc = rt.alloc();
-    let one = Noting::new(alloc, 1).expect(&rt, "memory for a log");
+    let one = Noting::new(alloc, 1).expect(&rt, "a log");
     let on = on(&rt, alloc, &one);
     for called in FALLIBLE {
         for given in SOURCES {
@@ -75,7 +75,7 @@ fn ends_serially<Rt: Threads + Wait + Abort + Sync, S: Strategy>(
 fn after_an_error_of_a_serial_call_nothing_is_called(rt: HostRuntime) {
     let alloc = rt.alloc();
     for (planned, rule) in [(4, Rule::Serial), (1, Rule::Parallel)] {
-        let four = pool(&rt, alloc, 4, planned).expect(&rt, "memory for a pool");
+        let four = pool(&rt, alloc, 4, planned).expect(&rt, "a pool");
         let explorer = Explorer::by_rule(&four, rule).expect(&rt, "memory for a handle");
         ends_serially(&rt, alloc, &explorer);
     }
@@ -265,7 +265,7 @@ fn an_error_is_known_before_what_is_left_of_its_segment_is_let_go(rt: HostRuntim
         (Called::TryFold, 9, true, 4, 0),
         (Called::TryFold, 9, false, 10_000, 2),
     ] {
-        let noting = Noting::new(alloc, threads).expect(&rt, "memory for a log");
+        let noting = Noting::new(alloc, threads).expect(&rt, "a log");
         let on = on(&rt, alloc, &noting);
         let (calls, trouble) = other_calls(&on, called, is_iterator, (segment, fails));
         let found = (0 < calls && calls < threads, trouble);

@@ -98,7 +98,7 @@ fn as_many_items_of_each_source_meet_as_there_are_threads(rt: HostRuntime) {
         (2, 100_000, 0),
         (16, 100, 0),
     ] {
-        let own = Noting::new(alloc, threads).expect(&rt, "memory for a log");
+        let own = Noting::new(alloc, threads).expect(&rt, "a log");
         items_meet(&on(&rt, alloc, &own), len, turns);
     }
 }
@@ -312,11 +312,11 @@ fn all_meet<Rt: Threads + Wait + Abort + Sync, S: Strategy>(rt: &Rt, alloc: Glob
 fn as_many_closures_of_each_call_meet_as_there_are_threads(rt: HostRuntime) {
     let alloc = rt.alloc();
     for threads in [2usize, 4, 5] {
-        let own = Noting::new(alloc, threads).expect(&rt, "memory for a log");
+        let own = Noting::new(alloc, threads).expect(&rt, "a log");
         own.log().hand_off();
         all_meet(&rt, alloc, &own);
         jobs_meet_their_caller(&rt, alloc, &own);
-        let pool = pool(&rt, alloc, threads, threads).expect(&rt, "memory for a pool");
+        let pool = pool(&rt, alloc, threads, threads).expect(&rt, "a pool");
         jobs_meet_their_caller(&rt, alloc, &pool);
         let explorer = Explorer::parallel(&pool).expect(&rt, "memory for a handle");
         all_meet(&rt, alloc, &explorer);
@@ -326,9 +326,9 @@ fn as_many_closures_of_each_call_meet_as_there_are_threads(rt: HostRuntime) {
     let slow = learning(
         &rt,
         alloc,
-        Stepping::new(alloc, 2_500_000).expect(&rt, "memory for a clock"),
+        Stepping::new(alloc, 2_500_000).expect(&rt, "a clock"),
     )
-    .expect(&rt, "memory for a pool");
+    .expect(&rt, "a pool");
     all_meet(&rt, alloc, &slow);
 }
 
@@ -339,7 +339,7 @@ fn as_many_meet_whatever_the_number_of_threads(rt: HostRuntime) {
         all_meet(
             &rt,
             alloc,
-            &pool(&rt, alloc, threads, threads).expect(&rt, "memory for a pool"),
+            &pool(&rt, alloc, threads, threads).expect(&rt, "a pool"),
         );
     }
 }
@@ -347,21 +347,13 @@ fn as_many_meet_whatever_the_number_of_threads(rt: HostRuntime) {
 #[test]
 fn many_threads_meet_and_as_many_where_more_are_planned(rt: HostRuntime) {
     let alloc = rt.alloc();
-    all_meet(
-        &rt,
-        alloc,
-        &pool(&rt, alloc, 17, 17).expect(&rt, "memory for a pool"),
-    );
-    few_items_meet(&on(
-        &rt,
-        alloc,
-        &pool(&rt, alloc, 12, 12).expect(&rt, "memory for a pool"),
-    ));
+    all_meet(&rt, alloc, &pool(&rt, alloc, 17, 17).expect(&rt, "a pool"));
+    few_items_meet(&on(&rt, alloc, &pool(&rt, alloc, 12, 12).expect(&rt, "a pool")));
     // More than one thread starts in a row.
-    let most = pool(&rt, alloc, 65, 65).expect(&rt, "memory for a pool");
+    let most = pool(&rt, alloc, 65, 65).expect(&rt, "a pool");
     few_items_meet(&on(&rt, alloc, &most));
     changes_meet(&on(&rt, alloc, &most));
-    let four = pool(&rt, alloc, 4, 8).expect(&rt, "memory for a pool");
+    let four = pool(&rt, alloc, 4, 8).expect(&rt, "a pool");
     few_items_meet(&on(&rt, alloc, &four));
     ranges_meet(&on(&rt, alloc, &four));
 }
@@ -369,7 +361,7 @@ fn many_threads_meet_and_as_many_where_more_are_planned(rt: HostRuntime) {
 #[test]
 fn a_caller_goes_on_while_its_job_runs(rt: HostRuntime) {
     let alloc = rt.alloc();
-    let two = pool(&rt, alloc, 2, 2).expect(&rt, "memory for a pool");
+    let two = pool(&rt, alloc, 2, 2).expect(&rt, "a pool");
     let meeting = Meeting::of(2, 0);
     let meeting = Arc::new(alloc, meeting).expect(&rt, "memory for a meeting");
     let shared = Arc::try_clone(&meeting).expect(&rt, "a handle");

@@ -63,11 +63,11 @@ pub fn planned<Rt: Threads + Abort>(
     threads: usize,
     planned: usize,
 ) -> Asked {
-    let readings = Arc::new(alloc, AtomicU64::new(0)).expect(rt, "memory for a clock");
+    let readings = Arc::new(alloc, AtomicU64::new(0)).expect(rt, "a clock");
     let clock = Squares {
         readings: Arc::try_clone(&readings).expect(rt, "a handle"),
     };
-    let pool = Rayon::new(rt, alloc, number(rt, threads), clock).expect(rt, "memory for a pool");
+    let pool = Rayon::new(rt, alloc, number(rt, threads), clock).expect(rt, "a pool");
     let policy = Policy::new(alloc).expect(rt, "memory for a policy");
     let own = policy.clone().expect(rt, "a handle");
     Asked {

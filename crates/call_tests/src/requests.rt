@@ -127,8 +127,8 @@ fn serial_calls_gather_nothing<Rt: Threads + Wait + Abort + Sync, S: Strategy>(
 #[test]
 fn a_call_takes_no_block_for_items_that_it_need_not_gather(rt: HostRuntime) {
     let alloc = rt.alloc();
-    let four = Noting::new(alloc, 4).expect(&rt, "memory for a log");
-    let one = pool(&rt, alloc, 4, 1).expect(&rt, "memory for a pool");
+    let four = Noting::new(alloc, 4).expect(&rt, "a log");
+    let one = pool(&rt, alloc, 4, 1).expect(&rt, "a pool");
     let serial = Explorer::by_rule(&one, Rule::Parallel).expect(&rt, "memory for a handle");
     let held = all_places(alloc).expect(&rt, "places that have an end");
     cut_lists_take_no_block(&rt, alloc, &four);
@@ -141,7 +141,7 @@ fn a_call_takes_no_block_for_items_that_it_need_not_gather(rt: HostRuntime) {
 fn a_fold_of_a_vector_takes_no_block(rt: HostRuntime) {
     let alloc = rt.alloc();
     for called in [Called::Fold, Called::FoldInit, Called::TryFold] {
-        let four = Noting::new(alloc, 4).expect(&rt, "memory for a log");
+        let four = Noting::new(alloc, 4).expect(&rt, "a log");
         let items = leaves(alloc, LEN).expect(&rt, "memory for items");
         let held = all_places(alloc).expect(&rt, "places that have an end");
         let found = outcome(&on(&rt, alloc, &four), called, items);
@@ -191,7 +191,7 @@ fn a_tree_by_blocks_takes_memory_for_their_tops_alone(rt: HostRuntime) {
         (Rooted::ByBlocks, 32_768),
         (Rooted::ByLevels, 4),
     ] {
-        let noting = Noting::new(alloc, threads).expect(&rt, "memory for a log");
+        let noting = Noting::new(alloc, threads).expect(&rt, "a log");
         let leaves = leaves(alloc, LEN * 2).expect(&rt, "memory for leaves");
         let held = all_places(alloc).expect(&rt, "places that have an end");
         tree(&rt, alloc, rooted, &noting, leaves);

@@ -97,7 +97,7 @@ fn each_list_call_cuts_a_list_into_segments_and_begins_a_state_for_each(rt: Host
         cuts(
             &rt,
             alloc,
-            &Noting::new(alloc, threads).expect(&rt, "memory for a log"),
+            &Noting::new(alloc, threads).expect(&rt, "a log"),
             1000,
             times,
         );
@@ -105,13 +105,13 @@ fn each_list_call_cuts_a_list_into_segments_and_begins_a_state_for_each(rt: Host
     cuts(
         &rt,
         alloc,
-        &Noting::new(alloc, 4).expect(&rt, "memory for a log"),
+        &Noting::new(alloc, 4).expect(&rt, "a log"),
         100_000,
         7,
     );
     // What goes serially is one segment.
     for (planned, rule) in [(4, Rule::Serial), (1, Rule::Parallel)] {
-        let four = pool(&rt, alloc, 4, planned).expect(&rt, "memory for a pool");
+        let four = pool(&rt, alloc, 4, planned).expect(&rt, "a pool");
         let serial = Explorer::by_rule(&four, rule).expect(&rt, "memory for a handle");
         cuts(&rt, alloc, &serial, 1000, 0);
     }
@@ -122,7 +122,7 @@ fn each_list_call_cuts_a_list_into_segments_and_begins_a_state_for_each(rt: Host
 fn tiles_begin_a_state_for_each_worker_and_fill_each_row_once(rt: HostRuntime) {
     let alloc = rt.alloc();
     for threads in 1..5usize {
-        let noting = Noting::new(alloc, threads).expect(&rt, "memory for a log");
+        let noting = Noting::new(alloc, threads).expect(&rt, "a log");
         let on = on(&rt, alloc, &noting);
         for filling in FILLINGS {
             let closures = Times::new();

@@ -83,28 +83,23 @@ fn each_call_starts_at_most_one_thread_fewer_than_there_are(rt: HostRuntime) {
         all_start(
             &rt,
             alloc,
-            &Noting::new(alloc, threads).expect(&rt, "memory for a log"),
+            &Noting::new(alloc, threads).expect(&rt, "a log"),
             most,
         );
         all_start(
             &rt,
             alloc,
-            &pool(&rt, alloc, threads, threads).expect(&rt, "memory for a pool"),
+            &pool(&rt, alloc, threads, threads).expect(&rt, "a pool"),
             most,
         );
     }
-    all_start(
-        &rt,
-        alloc,
-        &pool(&rt, alloc, 2, 8).expect(&rt, "memory for a pool"),
-        1,
-    );
+    all_start(&rt, alloc, &pool(&rt, alloc, 2, 8).expect(&rt, "a pool"), 1);
 }
 
 #[test]
 fn a_serial_call_starts_no_thread(rt: HostRuntime) {
     let alloc = rt.alloc();
-    let four = pool(&rt, alloc, 4, 4).expect(&rt, "memory for a pool");
+    let four = pool(&rt, alloc, 4, 4).expect(&rt, "a pool");
     let serial = Explorer::by_rule(&four, Rule::Serial).expect(&rt, "memory for a handle");
     all_start(&rt, alloc, &serial, 0);
 }

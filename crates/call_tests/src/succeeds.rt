@@ -63,20 +63,12 @@ fn all_succeed<Rt: Threads + Wait + Abort + Sync, S: Strategy>(
 fn each_call_succeeds_through_each_strategy(rt: HostRuntime) {
     let alloc = rt.alloc();
     all_succeed(&rt, alloc, &[Sequential]);
-    all_succeed(
-        &rt,
-        alloc,
-        &pools(&rt, alloc).expect(&rt, "memory for pools"),
-    );
+    all_succeed(&rt, alloc, &pools(&rt, alloc).expect(&rt, "pools"));
     let planned_for_more = [
-        pool(&rt, alloc, 1, 2).expect(&rt, "memory for a pool"),
-        pool(&rt, alloc, 3, 16).expect(&rt, "memory for a pool"),
+        pool(&rt, alloc, 1, 2).expect(&rt, "a pool"),
+        pool(&rt, alloc, 3, 16).expect(&rt, "a pool"),
     ];
     all_succeed(&rt, alloc, &planned_for_more);
-    all_succeed(
-        &rt,
-        alloc,
-        &explorers(&rt, alloc).expect(&rt, "memory for explorers"),
-    );
+    all_succeed(&rt, alloc, &explorers(&rt, alloc).expect(&rt, "explorers"));
     all_succeed(&rt, alloc, &[LongLists::new(number(&rt, 4), 3)]);
 }

@@ -77,15 +77,11 @@ where
 fn a_caller_starts_all_threads_before_its_own_part(rt: HostRuntime) {
     let alloc = rt.alloc();
     for threads in [2usize, 3, 4, 8] {
-        all_start_first(
-            &rt,
-            rt,
-            &Noting::new(alloc, threads).expect(&rt, "memory for a log"),
-        );
+        all_start_first(&rt, rt, &Noting::new(alloc, threads).expect(&rt, "a log"));
     }
-    let sixteen = pool(&rt, alloc, 16, 16).expect(&rt, "memory for a pool");
+    let sixteen = pool(&rt, alloc, 16, 16).expect(&rt, "a pool");
     let explorer = Explorer::parallel(&sixteen).expect(&rt, "memory for a handle");
     all_start_first(&rt, rt, &explorer);
-    let most = pool(&rt, alloc, 64, 64).expect(&rt, "memory for a pool");
+    let most = pool(&rt, alloc, 64, 64).expect(&rt, "a pool");
     all_start_first(&rt, rt, &most);
 }

@@ -55,7 +55,7 @@ fn shared(rt: &impl Abort, flag: &Arc<AtomicBool, Global>) -> Arc<AtomicBool, Gl
 #[test]
 fn a_poll_before_a_jobs_end_is_pending_and_its_task_is_woken(rt: HostRuntime) {
     let alloc = rt.alloc();
-    let two = pool(&rt, alloc, 2, 2).expect(&rt, "memory for a pool");
+    let two = pool(&rt, alloc, 2, 2).expect(&rt, "a pool");
     let (begun, may_end) = (flag(&rt, alloc), flag(&rt, alloc));
     let job = Waits {
         begun: shared(&rt, &begun),

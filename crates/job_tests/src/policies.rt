@@ -24,12 +24,7 @@ fn takes<Rt: Wait + Abort, S: Strategy>(
 
 // A pool that learns by a clock which goes on by so much at each reading.
 fn by_steps<Rt: Threads + Abort>(rt: &Rt, alloc: Global, step: u64) -> Rayon<Stepping> {
-    learning(
-        rt,
-        alloc,
-        Stepping::new(alloc, step).expect(rt, "memory for a clock"),
-    )
-    .expect(rt, "memory for a pool")
+    learning(rt, alloc, Stepping::new(alloc, step).expect(rt, "a clock")).expect(rt, "a pool")
 }
 
 #[test]

@@ -71,7 +71,7 @@ fn values_print_their_parts(rt: HostRuntime) {
     prints(
         &rt,
         alloc,
-        &pool(&rt, alloc, 2, 3).expect(&rt, "memory for a pool"),
+        &pool(&rt, alloc, 2, 3).expect(&rt, "a pool"),
         text,
     );
     let long = LongLists::new(number(&rt, 2), 64);
@@ -94,10 +94,9 @@ fn what_a_strategy_hands_out_prints_its_parts(rt: HostRuntime) {
          site: Site { file: \"tests\", line: 1, column: 1 }, grid: 0, rows: 2, len: 5, \
          tile_cost: 1, workers: 1, whole: true }";
     Sequential.run_tiles(SITE, 5, &grids, 1, |tiles| prints(&rt, alloc, &tiles, text));
-    let explorer = Explorer::seeded(
-        &pool(&rt, alloc, 2, 3).expect(&rt, "memory for a pool"),
-        7,
-    ).expect(&rt, "memory");
+    let explorer = Explorer::seeded(&pool(&rt, alloc, 2, 3).expect(&rt, "a pool"), 7).expect(
+        &rt, "memory",
+    );
     let text = "Explorer { pool: ThreadPool { num_threads: 2 }, parallelism: 3, \
          starts_workers: true, rule: Seeded(7) }";
     prints(&rt, alloc, &explorer, text);

@@ -51,7 +51,7 @@ fn a_run_takes_the_body_of_its_strategy(rt: HostRuntime) {
         takes(
             &rt,
             alloc,
-            &pool(&rt, alloc, threads, planned).expect(&rt, "memory for a pool"),
+            &pool(&rt, alloc, threads, planned).expect(&rt, "a pool"),
             64,
             body,
         );
@@ -70,14 +70,14 @@ fn numbers_of<S: Strategy>(strategy: &S) -> (usize, usize) {
 #[test]
 fn the_planning_number_chooses(rt: HostRuntime) {
     let alloc = rt.alloc();
-    let three = fresh(&rt, alloc, 3).expect(&rt, "memory for a pool");
+    let three = fresh(&rt, alloc, 3).expect(&rt, "a pool");
     row(&rt, 1, numbers_of(&three), (3, 3));
     let fixed = three.with_parallelism(number(&rt, 5)).without_policy();
     row(&rt, 2, numbers_of(&fixed.expect(&rt, "memory")), (5, 3));
     row(
         &rt,
         3,
-        numbers_of(&pool(&rt, alloc, 1, 4).expect(&rt, "memory for a pool")),
+        numbers_of(&pool(&rt, alloc, 1, 4).expect(&rt, "a pool")),
         (4, 1),
     );
 }
@@ -96,7 +96,7 @@ fn a_strategy_has_the_number_of_a_pool_that_was_built(rt: HostRuntime) {
 
 #[test]
 fn a_pool_has_65535_threads_at_most(rt: HostRuntime) {
-    let most = fresh(&rt, rt.alloc(), usize::MAX).expect(&rt, "memory for a pool");
+    let most = fresh(&rt, rt.alloc(), usize::MAX).expect(&rt, "a pool");
     row(&rt, 1, numbers_of(&most), (65_535, 65_535));
     let planned = most.with_parallelism(number(&rt, usize::MAX));
     row(&rt, 2, numbers_of(&planned), (usize::MAX, 65_535));

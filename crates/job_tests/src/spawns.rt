@@ -107,7 +107,7 @@ fn a_job_runs_at_once_or_on_a_worker(rt: HostRuntime) {
     row(&rt, "serial", is_handed_off(&rt, &Sequential, SITE), false);
     // It goes by the pool's threads, whatever the strategy is planned for.
     for (threads, planned, is_aside) in [(1, 1, false), (4, 4, true), (4, 1, true), (1, 4, false)] {
-        let strategy = pool(&rt, alloc, threads, planned).expect(&rt, "memory for a pool");
+        let strategy = pool(&rt, alloc, threads, planned).expect(&rt, "a pool");
         let found = is_handed_off(&rt, &strategy, SITE);
         row(&rt, (threads, planned), found, is_aside);
     }
@@ -141,14 +141,13 @@ fn an_explorer_spawns_by_its_rule(rt: HostRuntime) {
         (4, 8, Rule::Seeded(3), true),
         (2, 1, Rule::Parallel, true),
     ] {
-        let strategy = pool(&rt, alloc, threads, planned).expect(&rt, "memory for a pool");
+        let strategy = pool(&rt, alloc, threads, planned).expect(&rt, "a pool");
         let explorer = Explorer::by_rule(&strategy, rule).expect(&rt, "memory");
         row(&rt, rule, is_handed_off(&rt, &explorer, place), is_aside);
     }
-    let single = Explorer::parallel(&pool(&rt, alloc, 1, 4).expect(
-        &rt,
-        "memory for a pool",
-    )).expect(&rt, "memory");
+    let single = Explorer::parallel(&pool(&rt, alloc, 1, 4).expect(&rt, "a pool")).expect(
+        &rt, "memory",
+    );
     let refused = single.spawn(&rt, alloc, place, 1, Gives(7));
     holds!(&rt, matches!(refused, Err(Fault::HandOff)));
 }
@@ -181,7 +180,7 @@ fn a_pool_without_workers_leaves_its_jobs_pending(rt: HostRuntime) {
     let taken = one_of(&rt, alloc, &fixed, SITE, 2, "serial", "parallel");
     returns(&rt, 1, taken, "parallel");
     let single = pool(&rt, alloc, 1, 1)
-        .expect(&rt, "memory for a pool")
+        .expect(&rt, "a pool")
         .without_workers();
     holds!(&rt, !is_handed_off(&rt, &single, SITE));
 }
@@ -209,7 +208,7 @@ fn jobs_in_one_task<
 
 #[test]
 fn a_thousand_jobs_are_awaited_in_one_task(rt: HostRuntime) {
-    let strategy = pool(&rt, rt.alloc(), 4, 4).expect(&rt, "memory for a pool");
+    let strategy = pool(&rt, rt.alloc(), 4, 4).expect(&rt, "a pool");
     same!(&rt, jobs_in_one_task(&rt, &strategy, 1000), (1000, 499_500));
 }
 
@@ -230,7 +229,7 @@ fn second_of_two<
 
 #[test]
 fn a_job_that_nobody_waits_for_runs_all_the_same(rt: HostRuntime) {
-    let strategy = pool(&rt, rt.alloc(), 4, 4).expect(&rt, "memory for a pool");
+    let strategy = pool(&rt, rt.alloc(), 4, 4).expect(&rt, "a pool");
     let word = word(&rt, rt.alloc(), 0);
     same!(&rt, second_of_two(&rt, &strategy, &word), 2);
     for _ in 0..TURNS {
@@ -264,7 +263,7 @@ fn a_policy_weighs_a_job_against_its_hand_off(rt: HostRuntime) {
         (50_000, 5_000, [false, true, true]),
     ] {
         let clock = Scripted::new(&rt, rt.alloc(), time, overhead);
-        let strategy = learning(&rt, rt.alloc(), clock).expect(&rt, "memory for a pool");
+        let strategy = learning(&rt, rt.alloc(), clock).expect(&rt, "a pool");
         let first = is_handed_off(&rt, &strategy, SITE);
         row(&rt, (time, overhead), first, true);
         row(&rt, (time, overhead), hand_offs(&rt, &strategy), then);
@@ -300,8 +299,5 @@ fn flags_in_jobs<
 #[test]
 fn flags_are_counted_in_jobs(rt: HostRuntime) {
     flags_in_jobs(&rt, &Sequential);
-    flags_in_jobs(
-        &rt,
-        &pool(&rt, rt.alloc(), 4, 4).expect(&rt, "memory for a pool"),
-    );
+    flags_in_jobs(&rt, &pool(&rt, rt.alloc(), 4, 4).expect(&rt, "a pool"));
 }

@@ -30,7 +30,7 @@ fn balanced_ranges_differ_by_one_at_most(rt: HostRuntime) {
 #[test]
 fn a_batch_has_as_many_ranges_as_are_planned(rt: HostRuntime) {
     let alloc = rt.alloc();
-    let four = pool(&rt, alloc, 1, 4).expect(&rt, "memory for a pool");
+    let four = pool(&rt, alloc, 1, 4).expect(&rt, "a pool");
     for (len, minimum, wanted) in [
         (16, 1, [0..4, 4..8, 8..12, 12..16].as_slice()),
         (16, 5, [0..6, 6..11, 11..16].as_slice()),
@@ -47,7 +47,7 @@ fn a_batch_has_as_many_ranges_as_are_planned(rt: HostRuntime) {
 
 #[test]
 fn a_batch_has_no_range_below_the_minimum(rt: HostRuntime) {
-    let eight = pool(&rt, rt.alloc(), 1, 8).expect(&rt, "memory for a pool");
+    let eight = pool(&rt, rt.alloc(), 1, 8).expect(&rt, "a pool");
     for (len, minimum, count) in [
         (2, 1, 2),
         (7, 1, 7),
@@ -72,7 +72,7 @@ fn more_ranges_than_memory_are_refused(rt: HostRuntime) {
     let most = NonZeroUsize::MAX;
     let refused = Batches::balanced(alloc, &Sequential, SITE, 7, most);
     holds!(&rt, matches!(refused, Err(Fault::Memory)));
-    let endless = pool(&rt, alloc, 1, usize::MAX).expect(&rt, "memory for a pool");
+    let endless = pool(&rt, alloc, 1, usize::MAX).expect(&rt, "a pool");
     let refused = batch_ranges(&rt, alloc, &endless, SITE, usize::MAX, NonZeroUsize::MIN);
     holds!(&rt, matches!(refused, Err(Fault::Memory)));
 }
@@ -100,7 +100,7 @@ fn unprepared(_ranges: &[Range<usize>]) -> Result<Vec<u32>, Fault> {
 
 #[test]
 fn what_is_not_prepared_is_not_mapped(rt: HostRuntime) {
-    let strategy = pool(&rt, rt.alloc(), 2, 4).expect(&rt, "memory for a pool");
+    let strategy = pool(&rt, rt.alloc(), 2, 4).expect(&rt, "a pool");
     same!(&rt, mapped_unprepared(&rt, rt.alloc(), &strategy), 0);
 }
 
@@ -131,7 +131,7 @@ fn ranges_or_second<Rt: Wait, S: Strategy>(
 fn a_batch_returns_its_closures_error(rt: HostRuntime) {
     let alloc = rt.alloc();
     returns(&rt, 1, ranges_or_second(&rt, alloc, &Sequential), 1);
-    let strategy = pool(&rt, alloc, 1, 4).expect(&rt, "memory for a pool");
+    let strategy = pool(&rt, alloc, 1, 4).expect(&rt, "a pool");
     let failed = ranges_or_second(&rt, alloc, &strategy);
     holds!(&rt, matches!(failed, Err(Trouble::Closure(3))));
 }

@@ -58,14 +58,14 @@ fn other_errors<Rt: Threads + Wait + Sync, S: Strategy>(
 // None in a thousand runs through a pool of four without a policy and one with one. (A test that
 // makes more of them might not end in its time where the machine does much else.)
 fn first_is_returned<Rt: Threads + Wait + Abort + Sync>(rt: &Rt, alloc: Global, failing: Failing) {
-    let fixed = pool(rt, alloc, 4, 4).expect(rt, "memory for a pool");
+    let fixed = pool(rt, alloc, 4, 4).expect(rt, "a pool");
     row(
         rt,
         failing,
         other_errors(rt, alloc, &fixed, failing, 1000),
         0,
     );
-    let learning = fresh(rt, alloc, 4).expect(rt, "memory for a pool");
+    let learning = fresh(rt, alloc, 4).expect(rt, "a pool");
     row(
         rt,
         failing,
@@ -247,7 +247,7 @@ fn all_left<Rt: Threads + Wait + Abort + Sync, S: Strategy>(
 fn each_item_and_each_result_is_let_go_once(rt: HostRuntime) {
     let alloc = rt.alloc();
     for threads in [2usize, 3, 8] {
-        let strategy = pool(&rt, alloc, threads, threads).expect(&rt, "memory for a pool");
+        let strategy = pool(&rt, alloc, threads, threads).expect(&rt, "a pool");
         for len in [0usize, 1, 2, 100] {
             for fails in [0, len / 2, 99, 100] {
                 all_left(&rt, alloc, &strategy, len, fails);

@@ -37,7 +37,7 @@ const FURTHER: Site = Site { column: 2, ..PLACE };
 
 // An explorer over a pool of four threads, planned for eight.
 fn by_seed(rt: &(impl Threads + Abort), alloc: Global, seed: u64) -> Explorer {
-    let strategy = pool(rt, alloc, WORKERS, TASKS).expect(rt, "memory for a pool");
+    let strategy = pool(rt, alloc, WORKERS, TASKS).expect(rt, "a pool");
     Explorer::seeded(&strategy, seed).expect(rt, "memory for a handle")
 }
 
@@ -207,10 +207,9 @@ fn sum_from_ten<Rt: Threads + Wait + Sync, S: Strategy>(
 #[test]
 fn the_parallel_rule_folds_and_maps_along_the_shape(rt: HostRuntime) {
     let alloc = rt.alloc();
-    let explorer = Explorer::parallel(&pool(&rt, alloc, 2, 3).expect(
-        &rt,
-        "memory for a pool",
-    )).expect(&rt, "memory");
+    let explorer = Explorer::parallel(&pool(&rt, alloc, 2, 3).expect(&rt, "a pool")).expect(
+        &rt, "memory",
+    );
     returns(&rt, 1, sum_from_ten(&rt, alloc, &explorer, &[1, 2, 3]), 66);
     returns(&rt, 2, sum_from_ten(&rt, alloc, &explorer, &[]), 20);
     let states = explorer.map_init_collect_vec(&rt, alloc, SITE, 0..3u32, zero, count);

@@ -50,7 +50,7 @@ fn a_fold_in_one_piece_takes_one_identity(rt: HostRuntime) {
     let alloc = rt.alloc();
     fold_to(&rt, alloc, &Sequential, "serial", (16, 10));
     for threads in [2usize, 4] {
-        let one = pool(&rt, alloc, threads, 1).expect(&rt, "memory for a pool");
+        let one = pool(&rt, alloc, threads, 1).expect(&rt, "a pool");
         fold_to(&rt, alloc, &one, "planned for one", (16, 10));
     }
     let own = Sequential.fold(SITE, 1..4u32, ten, add, add);
@@ -66,7 +66,7 @@ fn a_fold_along_the_shape_takes_two_identities_a_leaf(rt: HostRuntime) {
     let alloc = rt.alloc();
     // Two threads cut three items into leaves of one, and one thread into leaves of one and two.
     for (threads, planned, sums) in [(2, 3, (66, 20)), (1, 2, (46, 20))] {
-        let strategy = pool(&rt, alloc, threads, planned).expect(&rt, "memory for a pool");
+        let strategy = pool(&rt, alloc, threads, planned).expect(&rt, "a pool");
         fold_to(&rt, alloc, &strategy, "along the shape", sums);
     }
 }
@@ -126,9 +126,5 @@ fn lawful_folds<Rt: Threads + Wait + Abort + Sync, S: Strategy>(
 fn lawful_folds_are_the_same_everywhere(rt: HostRuntime) {
     let alloc = rt.alloc();
     lawful_folds(&rt, alloc, &[Sequential]);
-    lawful_folds(
-        &rt,
-        alloc,
-        &pools(&rt, alloc).expect(&rt, "memory for pools"),
-    );
+    lawful_folds(&rt, alloc, &pools(&rt, alloc).expect(&rt, "pools"));
 }

@@ -29,14 +29,12 @@ fn a_strategy_hands_its_picks_out(rt: HostRuntime) {
         .expect(&rt, "memory");
     same!(&rt, pick, Pick::Into(1));
     holds!(&rt, Sequential.starts_workers());
-    let strategy = pool(&rt, alloc, 2, 8).expect(&rt, "memory for a pool");
+    let strategy = pool(&rt, alloc, 2, 8).expect(&rt, "a pool");
     holds!(&rt, strategy.starts_workers());
     holds!(&rt, Sequential.is_serial());
     holds!(
         &rt,
-        pool(&rt, alloc, 2, 1)
-            .expect(&rt, "memory for a pool")
-            .is_serial()
+        pool(&rt, alloc, 2, 1).expect(&rt, "a pool").is_serial()
     );
     holds!(&rt, !strategy.is_serial());
     for (kind, planned, pick) in [
@@ -46,7 +44,7 @@ fn a_strategy_hands_its_picks_out(rt: HostRuntime) {
         (Kind::Spawn, 1, Pick::By(Path::Parallel)),
         (Kind::Join, 1, Pick::By(Path::Parallel)),
     ] {
-        let strategy = pool(&rt, alloc, 2, planned).expect(&rt, "memory for a pool");
+        let strategy = pool(&rt, alloc, 2, planned).expect(&rt, "a pool");
         let (chosen, _) = strategy
             .choose(&rt, alloc, SITE, Call { kind, ..call })
             .expect(&rt, "memory");

@@ -33,13 +33,13 @@ fn a_batch_changes_the_parts_of_a_list_that_is_lent(rt: HostRuntime) {
     squares_in_place(
         &rt,
         alloc,
-        &pool(&rt, alloc, 2, 3).expect(&rt, "memory for a pool"),
+        &pool(&rt, alloc, 2, 3).expect(&rt, "a pool"),
         &[4, 3, 3],
     );
     squares_in_place(
         &rt,
         alloc,
-        &pool(&rt, alloc, 4, 4).expect(&rt, "memory for a pool"),
+        &pool(&rt, alloc, 4, 4).expect(&rt, "a pool"),
         &[3, 3, 2, 2],
     );
 }

@@ -67,14 +67,12 @@ fn each_part_of_a_lent_list_is_changed(rt: HostRuntime) {
     marks_are_right(
         &rt,
         alloc,
-        pools(&rt, alloc).expect(&rt, "memory for pools").as_slice(),
+        pools(&rt, alloc).expect(&rt, "pools").as_slice(),
     );
     marks_are_right(
         &rt,
         alloc,
-        explorers(&rt, alloc)
-            .expect(&rt, "memory for explorers")
-            .as_slice(),
+        explorers(&rt, alloc).expect(&rt, "explorers").as_slice(),
     );
 }
 
@@ -114,7 +112,7 @@ fn lent_outputs_are_prepared_once(rt: HostRuntime) {
     let added = add_outputs(
         &rt,
         alloc,
-        &pool(&rt, alloc, 4, 4).expect(&rt, "memory for a pool"),
+        &pool(&rt, alloc, 4, 4).expect(&rt, "a pool"),
         &mut outputs,
         &parts,
     );
@@ -182,7 +180,7 @@ fn digests_are_written_by_ranges(rt: HostRuntime) {
     digests_are(
         &rt,
         alloc,
-        &pool(&rt, alloc, 4, 4).expect(&rt, "memory for a pool"),
+        &pool(&rt, alloc, 4, 4).expect(&rt, "a pool"),
         (Ok(()), &DIGESTS),
     );
     let refused = (Err(Fault::Memory), &[[9u8; 32]; 3]);

@@ -43,11 +43,7 @@ fn lists_are_mapped<Rt: Threads + Wait + Abort + Sync, S: Strategy>(
 fn lists_of_each_kind_are_mapped(rt: HostRuntime) {
     let alloc = rt.alloc();
     lists_are_mapped(&rt, alloc, &[Sequential]);
-    lists_are_mapped(
-        &rt,
-        alloc,
-        &pools(&rt, alloc).expect(&rt, "memory for pools"),
-    );
+    lists_are_mapped(&rt, alloc, &pools(&rt, alloc).expect(&rt, "pools"));
 }
 
 // Maps each item to 0 or 1, by a word that all calls share.
@@ -86,14 +82,6 @@ fn an_unsteady_closure_maps_each_item_once(rt: HostRuntime) {
     let serial = map_unsteadily(&rt, alloc, &Sequential, 5);
     lists(&rt, "serial", serial, &[0, 1, 0, 1, 0]);
     each_is_mapped(&rt, alloc, &[Sequential]);
-    each_is_mapped(
-        &rt,
-        alloc,
-        &pools(&rt, alloc).expect(&rt, "memory for pools"),
-    );
-    each_is_mapped(
-        &rt,
-        alloc,
-        &explorers(&rt, alloc).expect(&rt, "memory for explorers"),
-    );
+    each_is_mapped(&rt, alloc, &pools(&rt, alloc).expect(&rt, "pools"));
+    each_is_mapped(&rt, alloc, &explorers(&rt, alloc).expect(&rt, "explorers"));
 }

@@ -85,20 +85,20 @@ fn are_plain<Rt: Threads + Wait + Abort + Sync, S: Strategy>(
 #[test]
 fn roots_are_the_plain_programs(rt: HostRuntime) {
     let alloc = rt.alloc();
-    let explorers = explorers(&rt, alloc).expect(&rt, "memory for explorers");
+    let explorers = explorers(&rt, alloc).expect(&rt, "explorers");
     for rooted in ROOTED {
         are_plain(&rt, alloc, &Sequential, rooted);
         for threads in 1..9usize {
             are_plain(
                 &rt,
                 alloc,
-                &pool(&rt, alloc, threads, threads).expect(&rt, "memory for a pool"),
+                &pool(&rt, alloc, threads, threads).expect(&rt, "a pool"),
                 rooted,
             );
             are_plain(
                 &rt,
                 alloc,
-                &fresh(&rt, alloc, threads).expect(&rt, "memory for a pool"),
+                &fresh(&rt, alloc, threads).expect(&rt, "a pool"),
                 rooted,
             );
         }
@@ -136,7 +136,7 @@ fn each_node_is_let_go_once(rt: HostRuntime) {
                 nodes_left(
                     &rt,
                     alloc,
-                    &pool(&rt, alloc, threads, threads).expect(&rt, "memory for a pool"),
+                    &pool(&rt, alloc, threads, threads).expect(&rt, "a pool"),
                     rooted,
                     len,
                 );

@@ -37,7 +37,7 @@ fn both_parts(left: Part, right: Part) -> Part {
 #[test]
 fn rows_of_three_columns_by_hand(rt: HostRuntime) {
     let alloc = rt.alloc();
-    let two = pool(&rt, alloc, 2, 2).expect(&rt, "memory for a pool");
+    let two = pool(&rt, alloc, 2, 2).expect(&rt, "a pool");
     let cost = number(&rt, 1);
     let values = two.fold_rows(&rt, alloc, SITE, 2, 3, cost, part_of, both_parts);
     lists(&rt, 1, values, &[(0, 0, 3, 9), (1, 0, 3, 12)]);
@@ -78,7 +78,7 @@ fn parts_of_a_row<Rt: Threads + Wait + Abort + Sync, S: Strategy>(
 #[test]
 fn a_row_of_two_tiles_is_cut_and_a_shorter_one_is_not(rt: HostRuntime) {
     let alloc = rt.alloc();
-    let four = pool(&rt, alloc, 4, 4).expect(&rt, "memory for a pool");
+    let four = pool(&rt, alloc, 4, 4).expect(&rt, "a pool");
     let cut = parts_of_a_row(&rt, alloc, &four, 640, 1).expect(&rt, "memory");
     holds!(&rt, cut.iter().all(|calls| *calls > 1));
     lists(&rt, 1, parts_of_a_row(&rt, alloc, &four, 15, 8), &[1]);

@@ -39,7 +39,7 @@ fn states_change_at_the_segments(rt: HostRuntime) {
         // One thread cuts three items into leaves of one and two.
         (1, 2, [1, 1, 2]),
     ] {
-        let strategy = pool(&rt, alloc, threads, planned).expect(&rt, "memory for a pool");
+        let strategy = pool(&rt, alloc, threads, planned).expect(&rt, "a pool");
         counts_are(&rt, alloc, &strategy, expected);
     }
     let own = Sequential.map_init_collect_vec(alloc, SITE, 0..3u32, zero, count);
@@ -94,21 +94,13 @@ fn known_through<Rt: Threads + Wait + Abort + Sync, S: Strategy>(
 fn partitions_sorts_and_joins_are_the_same_everywhere(rt: HostRuntime) {
     let alloc = rt.alloc();
     known_through(&rt, alloc, &[Sequential]);
-    known_through(
-        &rt,
-        alloc,
-        &pools(&rt, alloc).expect(&rt, "memory for pools"),
-    );
+    known_through(&rt, alloc, &pools(&rt, alloc).expect(&rt, "pools"));
     let planned_for_more = [
-        pool(&rt, alloc, 1, 2).expect(&rt, "memory for a pool"),
-        pool(&rt, alloc, 2, 3).expect(&rt, "memory for a pool"),
+        pool(&rt, alloc, 1, 2).expect(&rt, "a pool"),
+        pool(&rt, alloc, 2, 3).expect(&rt, "a pool"),
     ];
     known_through(&rt, alloc, &planned_for_more);
-    known_through(
-        &rt,
-        alloc,
-        &explorers(&rt, alloc).expect(&rt, "memory for explorers"),
-    );
+    known_through(&rt, alloc, &explorers(&rt, alloc).expect(&rt, "explorers"));
 }
 
 fn passed(number: u32) -> Result<u32, u32> {
@@ -165,7 +157,7 @@ pub fn parts_see<Rt: Threads + Wait + Sync, S: Strategy>(
 fn joins_are_parallel_whatever_a_pool_is_planned_for(rt: HostRuntime) {
     let alloc = rt.alloc();
     for planned in [1, 2] {
-        let two = pool(&rt, alloc, 2, planned).expect(&rt, "memory for a pool");
+        let two = pool(&rt, alloc, 2, planned).expect(&rt, "a pool");
         returns(&rt, planned, parts_see(&rt, alloc, &two), (true, true));
     }
 }

@@ -130,7 +130,7 @@ fn a_serial_plan_fills_each_row_whole(rt: HostRuntime) {
 fn two_workers_take_whole_rows_and_eight_cut_them(rt: HostRuntime) {
     let alloc = rt.alloc();
     for (threads, planned, is_cut) in [(2, 2, false), (1, 8, true), (2, 8, true), (4, 8, true)] {
-        let strategy = pool(&rt, alloc, threads, planned).expect(&rt, "memory for a pool");
+        let strategy = pool(&rt, alloc, threads, planned).expect(&rt, "a pool");
         let plan = covers(&rt, alloc, &strategy, (4, 64, 1));
         row(&rt, (threads, planned), plan, (0, planned, is_cut));
     }
@@ -161,14 +161,10 @@ fn all_cover<Rt: Threads + Wait + Abort + Sync, S: Strategy>(
 fn each_cell_is_filled_once(rt: HostRuntime) {
     let alloc = rt.alloc();
     all_cover(&rt, alloc, &[Sequential]);
-    all_cover(
-        &rt,
-        alloc,
-        &pools(&rt, alloc).expect(&rt, "memory for pools"),
-    );
+    all_cover(&rt, alloc, &pools(&rt, alloc).expect(&rt, "pools"));
     let planned_for_more = [
-        pool(&rt, alloc, 3, 8).expect(&rt, "memory for a pool"),
-        pool(&rt, alloc, 3, 16).expect(&rt, "memory for a pool"),
+        pool(&rt, alloc, 3, 8).expect(&rt, "a pool"),
+        pool(&rt, alloc, 3, 16).expect(&rt, "a pool"),
     ];
     all_cover(&rt, alloc, &planned_for_more);
 }
@@ -218,16 +214,8 @@ fn nothing_comes<Rt: Threads + Wait + Abort + Sync, S: Strategy>(
 fn a_grid_without_cells_has_no_results(rt: HostRuntime) {
     let alloc = rt.alloc();
     nothing_comes(&rt, alloc, &[Sequential]);
-    nothing_comes(
-        &rt,
-        alloc,
-        &pools(&rt, alloc).expect(&rt, "memory for pools"),
-    );
-    nothing_comes(
-        &rt,
-        alloc,
-        &explorers(&rt, alloc).expect(&rt, "memory for explorers"),
-    );
+    nothing_comes(&rt, alloc, &pools(&rt, alloc).expect(&rt, "pools"));
+    nothing_comes(&rt, alloc, &explorers(&rt, alloc).expect(&rt, "explorers"));
 }
 
 fn load(seat: usize, share: usize) -> Event {

@@ -112,7 +112,7 @@ fn is_known<Rt: Threads + Wait + Sync, S: Strategy>(
 fn roots_are_those_of_another_program(rt: HostRuntime) {
     let alloc = rt.alloc();
     let leaves = all_leaves();
-    let four = pool(&rt, alloc, 4, 4).expect(&rt, "memory for a pool");
+    let four = pool(&rt, alloc, 4, 4).expect(&rt, "a pool");
     for count in [0usize, 1, 2, 3, 4, 5, 7, 8, 9] {
         let first = leaves.get(..count).expect(&rt, "as many leaves");
         returns(&rt, count, is_known(&rt, alloc, &Sequential, first), true);

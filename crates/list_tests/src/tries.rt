@@ -44,11 +44,7 @@ fn first_error_wins<Rt: Threads + Wait + Abort + Sync, S: Strategy>(
 fn the_first_error_is_returned(rt: HostRuntime) {
     let alloc = rt.alloc();
     first_error_wins(&rt, alloc, &[Sequential]);
-    first_error_wins(
-        &rt,
-        alloc,
-        &pools(&rt, alloc).expect(&rt, "memory for pools"),
-    );
+    first_error_wins(&rt, alloc, &pools(&rt, alloc).expect(&rt, "pools"));
 }
 
 // Where calls from the 50th on fail, the error is one of theirs; where none does, each of a hundred
@@ -76,16 +72,8 @@ fn an_unsteady_closure_fails_by_an_error_of_its_own(rt: HostRuntime) {
     let serial = map_unsteadily(&rt, alloc, &Sequential, 50);
     same!(&rt, serial, Err(Trouble::Closure(50)));
     errors_are_its_own(&rt, alloc, &[Sequential]);
-    errors_are_its_own(
-        &rt,
-        alloc,
-        &pools(&rt, alloc).expect(&rt, "memory for pools"),
-    );
-    errors_are_its_own(
-        &rt,
-        alloc,
-        &explorers(&rt, alloc).expect(&rt, "memory for explorers"),
-    );
+    errors_are_its_own(&rt, alloc, &pools(&rt, alloc).expect(&rt, "pools"));
+    errors_are_its_own(&rt, alloc, &explorers(&rt, alloc).expect(&rt, "explorers"));
 }
 
 #[test]
@@ -143,10 +131,10 @@ fn a_fold_stops_at_its_first_error(rt: HostRuntime) {
         in_one,
     );
     let in_one = [failed(2), failed(6), failed(7)];
-    let one = pool(&rt, alloc, 2, 1).expect(&rt, "memory for a pool");
+    let one = pool(&rt, alloc, 2, 1).expect(&rt, "a pool");
     row(&rt, "one", failing_folds(&rt, alloc, &one), in_one);
     // Each segment begins anew, so that in two of them no sum passes 10.
-    let two = pool(&rt, alloc, 2, 2).expect(&rt, "memory for a pool");
+    let two = pool(&rt, alloc, 2, 2).expect(&rt, "a pool");
     let in_two = [failed(2), Ok(12), Ok(13)];
     row(&rt, "two", failing_folds(&rt, alloc, &two), in_two);
     let own = Sequential.try_fold(SITE, 6..8u32, zero, add_to_ten, add);
@@ -168,7 +156,7 @@ fn failing_runs<Rt: Wait, S: Strategy>(
 #[test]
 fn a_run_returns_the_error_of_its_body(rt: HostRuntime) {
     let alloc = rt.alloc();
-    let two = pool(&rt, alloc, 2, 2).expect(&rt, "memory for a pool");
+    let two = pool(&rt, alloc, 2, 2).expect(&rt, "a pool");
     row(
         &rt,
         1,

@@ -101,7 +101,7 @@ fn the_parallel_rule_takes_the_most_parallel_ways(rt: HostRuntime) {
         (4, 8, parallel_ways(8)),
         (2, 1, serial_ways(true)),
     ] {
-        let strategy = pool(&rt, alloc, threads, planned).expect(&rt, "memory for a pool");
+        let strategy = pool(&rt, alloc, threads, planned).expect(&rt, "a pool");
         let explorer = Explorer::parallel(&strategy).expect(&rt, "memory");
         let of = (threads, planned);
         returns(&rt, of, ways_of(&rt, alloc, &explorer), wanted);
@@ -155,7 +155,7 @@ fn add_seen(seen: &mut Seen, ways: Ways) {
 #[test]
 fn a_seed_repeats_its_ways_and_seeds_take_each_of_them(rt: HostRuntime) {
     let alloc = rt.alloc();
-    let strategy = pool(&rt, alloc, 2, 8).expect(&rt, "memory for a pool");
+    let strategy = pool(&rt, alloc, 2, 8).expect(&rt, "a pool");
     let mut seen = Seen {
         ranges: 0,
         workers: 0,
@@ -209,7 +209,7 @@ fn sum_gathered<Rt: Threads + Wait + Sync, S: Strategy>(
 #[test]
 fn a_counted_iterator_is_gathered_where_it_goes_parallel_alone(rt: HostRuntime) {
     let alloc = rt.alloc();
-    let pool = pool(&rt, alloc, 2, 2).expect(&rt, "memory for a pool");
+    let pool = pool(&rt, alloc, 2, 2).expect(&rt, "a pool");
     let serial = Explorer::by_rule(&pool, Rule::Serial).expect(&rt, "memory");
     let parallel = Explorer::by_rule(&pool, Rule::Parallel).expect(&rt, "memory");
     for explorer in [&serial, &parallel] {
