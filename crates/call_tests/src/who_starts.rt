@@ -4,6 +4,7 @@
 use crate::checks::row;
 use commonware_parallel::mocks::Explorer;
 use commonware_parallel::{On, Site, Strategy};
+use parallel_pool::rayon::map_in_row;
 use std::process::Abort;
 use std::sync::Wait;
 use std::thread::Threads;
@@ -13,7 +14,7 @@ use test_calls::noting::Noting;
 use test_calls::other_calls::{BATCHES, FILLINGS, PART, Side};
 use test_calls::own_part::OwnPart;
 use test_calls::roots::ROOTED;
-use test_calls::sources::FEW;
+use test_calls::sources::{FEW, leaves};
 use test_calls::strategies::pool;
 use test_calls::visits::Visitor;
 use test_support::processes::last_number;
@@ -84,4 +85,28 @@ fn a_caller_starts_all_threads_before_its_own_part(rt: HostRuntime) {
     all_start_first(&rt, rt, &explorer);
     let most = pool(&rt, alloc, 64, 64).expect(&rt, "a pool");
     all_start_first(&rt, rt, &most);
+}
+
+// The same of calls side by side, the last of which is the caller's own.
+fn row_starts_first<Rt: Threads + Abort + Sync>(rt: &Rt, host: HostRuntime, calls: usize) {
+    let wanted = (calls as u64).saturating_sub(1);
+    for _ in 0..10u32 {
+        let own = OwnPart::of(&host);
+        let before = last_number(&host);
+        let items = leaves(host.alloc(), calls).expect(rt, "items");
+        let visit = |item: usize| {
+            own.see(&host);
+            item
+        };
+        let made = map_in_row(rt, host.alloc(), items, &visit);
+        let found = (made.is_ok(), own.started_since(before).min(wanted));
+        row(rt, ("calls", calls), found, (true, wanted));
+    }
+}
+
+#[test]
+fn a_caller_starts_all_threads_of_calls_in_a_row(rt: HostRuntime) {
+    for calls in [2usize, 3, 8, 64] {
+        row_starts_first(&rt, rt, calls);
+    }
 }
