@@ -3,7 +3,7 @@ ghost use Rattle.std.specs.Prelude.{◌≡◌, ◌≢◌, ◌*◌, ◌^◌, ◌<
 ghost use Rattle.std.specs.Int.NonZero.{non_zero_usize_get};
 ghost use Rattle.parallel_shares.specs.Seats.{AreSeatsOf};
 
-use crate::checks::{lists, row};
+use crate::checks::{lists, number, row};
 use parallel_shares::machine::{Event, Outcome, Plan, State, replay, step};
 use parallel_shares::{Seat, Shares, Stretch, Tried, pack, stretches};
 use std::alloc::Global;
@@ -12,12 +12,6 @@ use std::ops::Range;
 use std::process::Abort;
 use std::sync::Wait;
 use test_support::same;
-
-pub(crate) fn number(rt: &impl Abort, value: usize) -> NonZeroUsize
-    ensures { non_zero_usize_get result ≡ value }
-{
-    NonZeroUsize::new(value).expect(rt, "a number above 0")
-}
 
 // One try of the seat at a place to claim.
 pub(crate) fn claim_at(

@@ -1,6 +1,5 @@
 //! Consumers, their folders and a splitter at concrete types.
-use crate::bridge::number;
-use crate::checks::{lists, row};
+use crate::checks::{lists, number, row};
 use parallel_bridge::bridge::bridge;
 use parallel_bridge::consumer::collect::CollectConsumer;
 use parallel_bridge::consumer::fold::FoldFolder;

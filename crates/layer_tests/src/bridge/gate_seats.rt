@@ -4,8 +4,8 @@ ghost use Rattle.std.specs.Prelude.{◌≡◌, ◌<◌, All, IfSome};
 ghost use Rattle.parallel_bridge.specs.GateRule.{newcomer};
 ghost use Rattle.parallel_bridge.specs.Gates.{IsGateSeatOf, known, stands_for};
 
-use crate::bridge::number;
 use crate::bridge::windows::{Counted, Counts, all_gone_but, counted_items, no_counts};
+use crate::checks::number;
 use parallel_bridge::gate::{Gate, GateSeat, GateWatch};
 use parallel_bridge::list::try_map::try_map_parallel;
 use parallel_bridge::parts::ProducerParts;

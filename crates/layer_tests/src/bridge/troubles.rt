@@ -3,8 +3,7 @@
 ghost use Rattle.std.specs.Prelude.{◌≡◌, ◌-◌, ◌<◌, ◌≤◌};
 ghost use Rattle.std.specs.List.{range_with_len};
 
-use crate::bridge::number;
-use crate::checks::row;
+use crate::checks::{number, row};
 use parallel_bridge::bridge::bridge;
 use parallel_bridge::consumer::try_fold::TryFoldConsumer;
 use parallel_bridge::consumer::try_reduce::TryReduceConsumer;

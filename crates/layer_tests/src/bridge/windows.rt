@@ -1,7 +1,6 @@
 //! Owned items that are taken from where they lie, and results that are written where they stay:
 //! each is dropped once, or handed out.
-use crate::bridge::number;
-use crate::checks::row;
+use crate::checks::{number, row};
 use parallel_bridge::list::map::map_parallel;
 use parallel_bridge::list::try_fold::try_fold_parallel;
 use parallel_bridge::list::try_map::try_map_parallel;

@@ -4,13 +4,12 @@
 //! Each call is tried twice, of which at most one may be refused: that is for runs in which some
 //! allocation fails.
 use crate::bridge::gate_seats::stop_counted;
-use crate::bridge::number;
 use crate::bridge::windows::{
     Counted, all_gone_but, counted_items, fold_counted, map_counted, no_counts, pair_counted,
     split_counted,
 };
-use crate::checks::row;
-use crate::claims::{self, count_columns, row_cells_and_calls};
+use crate::checks::{number, row};
+use crate::claims::{count_columns, row_cells_and_calls};
 use crate::pool::tally::read;
 use parallel_bridge::gate::Gate;
 use parallel_bridge::segments::segments;
@@ -215,7 +214,7 @@ fn gates(rt: &impl Abort, alloc: Global) -> bool {
 
 // Whether the shares of three rows of five cells were, or a run over all of them.
 fn run<R: Wait + Abort>(rt: &R, alloc: Global) -> bool {
-    let two = claims::number(rt, 2);
+    let two = number(rt, 2);
     let Ok((shares, mut seats)) = Shares::new(alloc, 3, 5, two, two, false) else {
         return true;
     };

@@ -4,9 +4,8 @@ ghost use Rattle.std.specs.Prelude.{◌≡◌};
 ghost use Rattle.parallel_shares.specs.Seats.{AreSeatsOf};
 ghost use Rattle.parallel_bridge.specs.Gates.{IsGateSeatOf, seats_of, stands_for};
 
-use crate::bridge::number;
-use crate::checks::row;
-use crate::claims::{self, last_claim, opened, refill_at, steal_at};
+use crate::checks::{number, row};
+use crate::claims::{last_claim, opened, refill_at, steal_at};
 use crate::pool::count_latches::give_all;
 use crate::pool::latches::core_latch;
 use parallel_bridge::gate::{Gate, GateSeat};
@@ -84,7 +83,7 @@ fn shares<R: Wait + Abort>(rt: &R, alloc: Global, used: Used) {
 
 // A gate whose one seat stands for two.
 fn gate(rt: &impl Abort, alloc: Global, used: Used) {
-    let (gate, seat) = Gate::open(alloc, claims::number(rt, 2)).expect(rt, "memory");
+    let (gate, seat) = Gate::open(alloc, number(rt, 2)).expect(rt, "memory");
     let mut seats = Vec::with_capacity(alloc, 1).expect(rt, "memory");
     if used == Used::InFull {
         use_gate(gate, seat);
