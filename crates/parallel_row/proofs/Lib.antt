@@ -1,0 +1,6 @@
+mod Common
+pub mod Parts
+pub mod Chunks
+pub use Common.*
+pub use Parts.*
+pub use Chunks.*

@@ -1,0 +1,9 @@
+//! One list, many threads: its parts are changed at the same time, each where it lies, in threads
+//! that one thread, the caller's, starts one after another.
+#![tactic(auto)]
+
+pub mod cuts;
+pub mod row;
+
+pub use cuts::{Along, Cuts, Even};
+pub use row::{parts_in_row, parts_in_turn};
