@@ -1,9 +1,8 @@
 -- Parts of a list that is cut, or changed at one of them.
 use Rattle.parallel_row.proofs.Common.{◌≡◌, ◌≢◌, ℕ, zero, suc, ◌+◌, ◌-◌, ◌<◌, ◌≤◌, ◌∙◌, min, inl, inr, List, [], ◌∷◌, ◌++◌, length, get_or, take, drop, refl, sym, ap, subst, arith}
-use Rattle.parallel_row.proofs.Common.{length-append, take_all, drop-append-add, drop-append-le, take-append-le, cases_lt, length-drop, Range, AcceptsCut, ChangesCut, Rises, part_of_cut, place_in}
+use Rattle.parallel_row.proofs.Common.{length-append, take_all, drop-append-add, drop-append-le, take-append-le, cases_lt, length-drop, Range, AcceptsCut, ChangesCut, AcceptsAt, ChangesAt, Rises, part_of_cut, place_in}
 use Rattle.std.specs.Borrow.{MutBor}
 use denote.Param.Members.{Shared}
-use Rattle.std.specs.Fork.{AcceptsAt, ChangesAt}
 
 -- the same call, seen elsewhere
 pub seen_elsewhere : {X : Type 0} (R : ℕ → X → X → Type 0) {i j : ℕ} {x x' y y' : X} → i ≡ j

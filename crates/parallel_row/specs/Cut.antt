@@ -1,9 +1,21 @@
--- A list that is cut into parts, each of which is changed where it lies.
-use Rattle.std.specs.Prelude.{◌≡◌, ℕ, zero, suc, ◌+◌, ◌-◌, ◌<◌, ◌≤◌, List, [], ◌∷◌, length, drop, take}
+-- What is changed where it lies: the items of a list, and its parts where it is cut.
+use Rattle.std.specs.Prelude.{◌≡◌, ℕ, zero, suc, ◌+◌, ◌-◌, ◌<◌, ◌≤◌, List, [], ◌∷◌, length, drop, slice_index_or, take}
 use Rattle.std.specs.Borrow.{MutBor}
 use denote.Param.Members.{Shared}
 use Rattle.std.specs.Fork.{AcceptsAt, ChangesAt}
 use Rattle.std.specs.declared.ops.Range.{Range}
+
+module _ {F X : Type 0}
+    (g : Shared F (ℕ × (MutBor X × Unit {0})) (Unit {0} × (MutBor X × Unit {0}))) (f : F) where
+  -- f may be called with each item and its index, where the first one has that index
+  abbrev pub AcceptsFrom : ℕ → List X → Type 0
+  AcceptsFrom from xs =
+      (k : ℕ) (d : X) → k < length xs → AcceptsAt g f (from + k) (slice_index_or xs k d)
+
+  -- each item is what a call of f left there
+  abbrev pub ChangesFrom : ℕ → List X → List X → Type 0
+  ChangesFrom from xs ys = (k : ℕ) (d : X) → k < length xs
+      → ChangesAt g f (from + k) (slice_index_or xs k d) (slice_index_or ys k d)
 
 -- the later of two places is not before the earlier one
 abbrev pub Rises : (ℕ → ℕ) → Type 0

@@ -1,6 +1,5 @@
 -- The items are what stands before the part, the part and what is past it.
-use Rattle.std.specs.Fork.{ChangesAt}
-use Rattle.parallel_row.proofs.{◌≡◌, ◌++◌, rules, sym, ap, ◌∙◌, part_of_cut, cut_here, cut_elsewhere, seen_elsewhere}
+use Rattle.parallel_row.proofs.{◌≡◌, ◌++◌, rules, sym, ap, ◌∙◌, part_of_cut, cut_here, cut_elsewhere, seen_elsewhere, ChangesAt}
 use Rattle.parallel_row.proofs.row.at_part.Goals as goal
 
 pub returns-clause-here : goal.returns-clause-here

@@ -1,6 +1,5 @@
 -- One more part has changed.
-use Rattle.std.specs.Fork.{ChangesAt}
-use Rattle.parallel_row.proofs.{◌≡◌, ◌∙◌, inl, inr, arith, refl, subst, sym, cases_lt, part_of_cut, seen_elsewhere}
+use Rattle.parallel_row.proofs.{◌≡◌, ◌∙◌, inl, inr, arith, refl, subst, sym, cases_lt, part_of_cut, seen_elsewhere, ChangesAt}
 use Rattle.parallel_row.proofs.row.in_turn.Goals as goal
 
 pub loop-number-preserved : goal.loop-number-preserved

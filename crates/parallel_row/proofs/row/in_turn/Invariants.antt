@@ -1,6 +1,5 @@
 -- the parts from the turn's on are as they were, those before it changed
-use Rattle.std.specs.Fork.{ChangesAt}
-use Rattle.parallel_row.proofs.{◌≡◌, ℕ, ◌<◌, ◌≤◌, length, part_of_cut}
+use Rattle.parallel_row.proofs.{◌≡◌, ℕ, ◌<◌, ◌≤◌, length, part_of_cut, ChangesAt}
 use Rattle.parallel_row.proofs.row.in_turn.Given as goal
 
 abbrev pub invariant-loop-number : goal.invariant-loop-number

@@ -1,9 +1,9 @@
 -- Each chunk is one of std's.
-use Rattle.commonware_parallel.proofs.{◌≡◌, ◌<◌, arith, div_ceil, length, rules, AcceptsAt, ChangesAt, chunks_accepted, chunks_from_parts, even_places, even_rises, parts_from_chunks}
-use Rattle.commonware_parallel.proofs.in_place.each_chunk_in_turn.Goals as goal
+use Rattle.parallel_row.proofs.{◌≡◌, ◌<◌, arith, div_ceil, length, rules, AcceptsAt, ChangesAt, chunks_accepted, chunks_from_parts, even_places, even_rises, parts_from_chunks}
+use Rattle.parallel_row.proofs.items.each_chunk_in_turn.Goals as goal
 
-pub in_turn-requires-after_bounds : goal.in_turn-requires-after_bounds
-in_turn-requires-after_bounds g c κs bounds =
+pub parts_in_turn-requires-after_bounds : goal.parts_in_turn-requires-after_bounds
+parts_in_turn-requires-after_bounds g c κs bounds =
     let xs = c.args.items.now in
     let size = c.get-size.result in
     let some : 0 < size = search rules in
@@ -21,4 +21,4 @@ returns g c =
     let size = c.get-size.result in
     let counted : c.div_ceil.result ≡ div_ceil (length xs) size = search rules in
     chunks_from_parts size _ xs (search rules) counted (ChangesAt g.F.Fn c.args.op.now)
-    c.in_turn.new.items _ c.get-size.ensures.value c.in_turn.ensures.0 c.in_turn.ensures.1
+    c.parts_in_turn.new.items _ c.get-size.ensures.value c.parts_in_turn.ensures.0 c.parts_in_turn.ensures.1

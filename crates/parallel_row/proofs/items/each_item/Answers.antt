@@ -1,9 +1,9 @@
 -- Each item is in a part.
-use Rattle.commonware_parallel.proofs.{◌≡◌, ◌+◌, ◌*◌, ◌/◌, ◌%◌, ◌<◌, ◌^◌, ◌∙◌, min, get_or, get_or_default, length, ap, arith, refl, rules, div_ceil, div-add-mod', mod_below, ChangesAt, even_begins, even_counts, even_part, even_places, even_rises, item_of_chunk, length_of_chunk, seen_elsewhere}
-use Rattle.commonware_parallel.proofs.in_place.each_item.Goals as goal
+use Rattle.parallel_row.proofs.{◌≡◌, ◌+◌, ◌*◌, ◌/◌, ◌%◌, ◌<◌, ◌^◌, ◌∙◌, min, get_or, get_or_default, length, ap, arith, refl, rules, div_ceil, div-add-mod', mod_below, ChangesAt, even_begins, even_counts, even_part, even_places, even_rises, item_of_chunk, length_of_chunk, seen_elsewhere}
+use Rattle.parallel_row.proofs.items.each_item.Goals as goal
 
-pub in_parts-requires-after_bounds : goal.in_parts-requires-after_bounds
-in_parts-requires-after_bounds g c κs bounds =
+pub parts_in_row-requires-after_bounds : goal.parts_in_row-requires-after_bounds
+parts_in_row-requires-after_bounds g c κs bounds =
     let xs = c.args.items.now in
     let size = c.max-size.result in
     let some : 0 < size = omega (arith, c.max-size.ensures) in
@@ -31,7 +31,7 @@ in_parts-requires-after_bounds g c κs bounds =
 pub returns : goal.returns
 returns g c i d l =
     let xs = c.args.items.now in
-    let ys = c.in_parts.new.items in
+    let ys = c.parts_in_row.new.items in
     let size = c.max-size.result in
     let some : 0 < size = omega (arith, c.max-size.ensures) in
     let counted : c.div_ceil-count.result ≡ div_ceil (length xs) size = search rules in
@@ -40,10 +40,10 @@ returns g c i d l =
     let inside : k < size = mod_below i size some in
     let is : n * size + k ≡ i = div-add-mod' i size in
     let begins : n * size < length xs = omega (arith, is, l) in
-    let at = c.in_parts.ensures.1 n (omega arith)
+    let at = c.parts_in_row.ensures.1 n (omega arith)
     (even_counts size (length xs) _ n some counted begins) in
     let old = at.argument_is ∙ even_part size (length xs) n begins xs refl in
-    let new = at.left ∙ even_part size (length xs) n begins ys c.in_parts.ensures.0 in
+    let new = at.left ∙ even_part size (length xs) n begins ys c.parts_in_row.ensures.0 in
     let within : k < length at.argument.now =
     omega (arith, is, l, inside, ap length old, length_of_chunk xs size n) in (
       refl,
