@@ -148,7 +148,8 @@ item_of_chunk xs size n k d inside =
 -- how many items a chunk has
 pub length_of_chunk : {X : Type 0} (xs : List X) (size n : ℕ)
     → length (slice_chunk xs size n) ≡ min size (length xs - n * size)
-length_of_chunk xs size n = omega (arith, length-take size (drop (n * size) xs), length-drop (n * size) xs)
+length_of_chunk xs size n =
+    omega (arith, length-take size (drop (n * size) xs), length-drop (n * size) xs)
 
 -- a list of which one item more has changed
 pub one_more_changed : {X : Type 0} (R : ℕ → X → X → Type 0) (xs ys : List X) (k : ℕ) (e y : X)

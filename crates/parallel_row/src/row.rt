@@ -68,7 +68,7 @@ fn in_groups<Rt: Threads + Sync, T: Send, C: Cuts, F: Fn(usize, &mut [T]) + Sync
         in_row(rt, op, cuts, begin, end, threads, items);
         return;
     }
-    groups_from(
+    by_groups(
         rt,
         op,
         cuts,
@@ -82,7 +82,7 @@ fn in_groups<Rt: Threads + Sync, T: Send, C: Cuts, F: Fn(usize, &mut [T]) + Sync
 
 // The same, where each new thread has `grain` of them to share.
 #[cycle(groups)]
-fn groups_from<Rt: Threads + Sync, T: Send, C: Cuts, F: Fn(usize, &mut [T]) + Sync>(
+fn by_groups<Rt: Threads + Sync, T: Send, C: Cuts, F: Fn(usize, &mut [T]) + Sync>(
     rt: &Rt,
     op: &F,
     cuts: &C,
@@ -148,7 +148,7 @@ fn group_beside<Rt: Threads + Sync, T: Send, C: Cuts, F: Fn(usize, &mut [T]) + S
             × AcceptsCut F.Fn op.now (C.place cuts.now) middle end rest.now }
         ensures { ChangesCut F.Fn op.entry.now (C.place cuts.entry.now) middle end
             rest.entry.now rest.exit.now }
-    { groups_from(rt, op, cuts, middle, end, grain, others, rest) };
+    { by_groups(rt, op, cuts, middle, end, grain, others, rest) };
     join_mut(rt, &mut one, &mut more);
 }
 

@@ -13,10 +13,10 @@ use std::thread::Threads;
 // A part of fewer items isn't worth a thread.
 const PART: usize = 8192;
 
-/// Sorts the items by an order: parts of at least 8192 items side by side where there are threads to
-/// share, then parts of twice as many, and so on, each by std's sort, and at last the whole on the
-/// caller's thread; items that tie keep their order. The caller's thread is one of the threads, so
-/// that at most `threads - 1` others run at a time.
+/// Sorts the items by an order: parts of at least 8192 items side by side where there are threads
+/// to share, then parts of twice as many, and so on, each by std's sort, and at last the whole on
+/// the caller's thread; items that tie keep their order. The caller's thread is one of the threads,
+/// so that at most `threads - 1` others run at a time.
 ///
 /// # Errors
 ///
@@ -92,6 +92,7 @@ fn sort_parts<Rt: Threads + Sync, T: Send, C: FnMut(&T, &T) -> Ordering + Copy +
     parts_in_row(rt, len / size, &Even { size, len }, count, items, &sort);
 }
 
+// One of them.
 fn sort_part<T, C: FnMut(&T, &T) -> Ordering + Copy>(alloc: Global, part: &mut [T], compare: C)
     requires { C.IsAlwaysCallable compare }
     ensures permutation { IsPermutation part.old part.new }

@@ -21,4 +21,5 @@ returns g c =
     let size = c.get-size.result in
     let counted : c.div_ceil.result ≡ div_ceil (length xs) size = search rules in
     chunks_from_parts size _ xs (search rules) counted (ChangesAt g.F.Fn c.args.op.now)
-    c.parts_in_turn.new.items _ c.get-size.ensures.value c.parts_in_turn.ensures.0 c.parts_in_turn.ensures.1
+    c.parts_in_turn.new.items _ c.get-size.ensures.value c.parts_in_turn.ensures.0
+    c.parts_in_turn.ensures.1

@@ -5,8 +5,8 @@ use Rattle.parallel_row.proofs.row.+groups.Given as goal
 abbrev pub decreases-in_groups : goal.decreases-in_groups
 decreases-in_groups g l = 16 * l.threads
 
-abbrev pub decreases-groups_from : goal.decreases-groups_from
-decreases-groups_from g l = 16 * min l.threads l.grain + 3 * l.threads + 3
+abbrev pub decreases-by_groups : goal.decreases-by_groups
+decreases-by_groups g l = 16 * min l.threads l.grain + 3 * l.threads + 3
 
 abbrev pub decreases-group_beside : goal.decreases-group_beside
 decreases-group_beside g l = 16 * l.grain + 3 * (l.grain + l.others) + 2
