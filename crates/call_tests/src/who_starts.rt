@@ -64,7 +64,7 @@ where
         let leaves = threads.saturating_mul(37);
         starts_first(&on, host, Act::Tree(rooted, leaves), others);
     }
-    // (of 64 parts of a sort, each thread that is started gets two)
+    // (a sort of 63 parts is long enough)
     let parts = threads.min(63);
     for is_stable in [true, false] {
         let act = Act::Sort(is_stable, parts.saturating_mul(PART));

@@ -71,5 +71,4 @@ pub use Rattle.std.proofs.lemmas.List.{drop-drop, drop_all}
 pub use Rattle.std.proofs.lemmas.Grind.{div_ceil_times}
 pub use Rattle.std.specs.Int.{div_ceil}
 pub use Rattle.std.proofs.lemmas.Result.{IfOk-weaker}
-pub use Rattle.commonware_parallel.specs.InPlace.{Rises, part_of_cut, place_in}
 pub use Rattle.parallel_shares.specs.Cut.{CutsFrom}

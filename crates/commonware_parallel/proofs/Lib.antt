@@ -18,10 +18,8 @@ pub mod RowMerges
 pub mod OneGrid
 pub mod RowFolds
 pub mod RowLaws
-pub mod Chunked
 pub mod CutParts
 pub use Batched.*
-pub use Chunked.*
 pub use Common.*
 pub use CutParts.*
 pub use FilledRows.*

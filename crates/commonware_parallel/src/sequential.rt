@@ -18,7 +18,6 @@ mod parts;
 
 use crate::call::{Call, Pick};
 use crate::chooser::Chooser;
-use crate::in_place::{each_chunk_in_turn, each_item_in_turn};
 use crate::meter::Unmeasured;
 use crate::spawned::{Job, Spawned, Stage};
 use parallel_bridge::list::fold::fold_iter;
@@ -30,6 +29,7 @@ use parallel_bridge::list::try_fold::try_fold_iter;
 use parallel_bridge::list::try_map::try_map_iter;
 use parallel_fault::{Fault, Trouble};
 use parallel_policy::Place;
+use parallel_row::{each_chunk_in_turn, each_item_in_turn};
 use std::alloc::Global;
 use std::cmp::Ordering;
 use std::num::NonZeroUsize;

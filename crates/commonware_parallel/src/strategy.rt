@@ -12,7 +12,6 @@ use crate::batches::Batches;
 use crate::call::Call;
 use crate::chooser::Chooser;
 use crate::chosen::{begin_path, choose_parts, choose_path, threads_by};
-use crate::in_place::{each_chunk, each_item};
 use crate::list::{
     body_over, fold_by, fold_init_by, fold_init_iter, fold_iter, map_by, map_init_by,
     map_init_iter, map_iter, multiplied_body_over, partition_by, partition_iter,
@@ -26,6 +25,7 @@ use parallel_bridge::list::sort::sort_parallel;
 use parallel_bridge::{Path, Source};
 use parallel_fault::{Fault, Trouble};
 use parallel_policy::Place;
+use parallel_row::{each_chunk, each_item};
 use parallel_shares::Grid;
 use std::alloc::Global;
 use std::cmp::Ordering;

@@ -1,5 +1,5 @@
 -- Facts on what a folder gives over one that may be full.
-use Rattle.parallel_bridge.proofs.Common.{◌≡◌, Bool, IsTrue, List, [], ◌∷◌, ◌++◌, refl, ap, inl, inr, false≢true, OnResults, OnValue}
+use Rattle.parallel_bridge.proofs.Common.{Bool, IsTrue, List, [], ◌∷◌, ◌++◌, refl, ap, inl, inr, false≢true, OnResults, OnValue}
 use Rattle.std.specs.Prelude.{false, true}
 
 -- where all items came to results

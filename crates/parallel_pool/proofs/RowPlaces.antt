@@ -1,82 +1,14 @@
 -- Places in which items wait for their calls, and the results that come to be there.
-use Rattle.parallel_pool.proofs.Common.{◌≡◌, ℕ, zero, suc, ◌+◌, ◌-◌, ◌<◌, ◌≤◌, List, [], ◌∷◌, ◌++◌, map, length, get_or, set, take, take_all, Option, Some, None, refl, sym, ap, subst, ◌∙◌, arith, length-append, inl, inr}
-use Rattle.std.proofs.lemmas.List.{get_or_append_left, get_or-append-add, length-map, take-append-le}
+use Rattle.parallel_pool.proofs.Common.{◌≡◌, ℕ, zero, suc, ◌+◌, ◌-◌, ◌<◌, List, [], ◌∷◌, ◌++◌, map, length, get_or, take, take_all, Option, Some, None, refl, sym, ap, subst, ◌∙◌, arith}
+use Rattle.std.proofs.lemmas.List.{length-map, take-append-le}
 use Rattle.std.proofs.Common.{drop}
 use Rattle.std.proofs.lemmas.List.Elements.{filter_map-append}
-use Rattle.std.proofs.lemmas.Bool.{cases_lt}
 use denote.Param.Members.{Shared}
 use Rattle.std.specs.List.{cons_option, filter_map}
 use Rattle.std.specs.Fn.{FnReturns}
 use Rattle.std.specs.Fork.{GivesJob, AcceptsJobs}
 use Rattle.parallel_pool.specs.declared.rayon.in_row.Place.{Place}
 use Rattle.parallel_pool.specs.InRow.{AcceptsPlace, AcceptsPlaces, AnswersPlaces, answer_of, waits}
-
--- ---- a row of places is cut in two
-
-module _ {X : Type 0} (P : ℕ → X → Type 0) (from next : ℕ) (all front back : List X)
-    (cut : all ≡ front ++ back) (begins : next ≡ from + length front)
-    (each : (k : ℕ) (d : X) → k < length all → P (from + k) (get_or all k d)) where
-  pub each_in_front : (k : ℕ) (d : X) → k < length front → P (from + k) (get_or front k d)
-  each_in_front k d h =
-      subst (P (from + k)) (ap (λ xs. get_or xs k d) cut ∙ get_or_append_left front back d k h)
-      (each k d (omega (arith, h, ap length cut, length-append front back)))
-
-  pub each_in_back : (k : ℕ) (d : X) → k < length back → P (next + k) (get_or back k d)
-  each_in_back k d h =
-      let m = length front + k in
-      subst (λ i. P i (get_or back k d)) {x = from + m} (omega (arith, begins))
-      (subst (P (from + m)) (ap (λ xs. get_or xs m d) cut ∙ get_or-append-add front back k d)
-      (each m d (omega (arith, h, ap length cut, length-append front back))))
-
-module _ {X : Type 0} (R : ℕ → X → X → Type 0) (from next : ℕ)
-    (all front back front' back' : List X)
-    (cut : all ≡ front ++ back) (begins : next ≡ from + length front)
-    (same : length front' ≡ length front) where
-  pub both_changed : ((k : ℕ) (d : X) → k < length front
-      → R (from + k) (get_or front k d) (get_or front' k d))
-      → ((k : ℕ) (d : X) → k < length back → R (next + k) (get_or back k d) (get_or back' k d))
-      → (k : ℕ) (d : X) → k < length all
-      → R (from + k) (get_or all k d) (get_or (front' ++ back') k d)
-  both_changed a b k d h =
-      elim (cases_lt k (length front))
-      as (λ _. R (from + k) (get_or all k d) (get_or (front' ++ back') k d)) [
-        | inl l ↦
-            subst (λ x. R (from + k) x (get_or (front' ++ back') k d))
-            (sym (ap (λ xs. get_or xs k d) cut ∙ get_or_append_left front back d k l))
-            (subst (R (from + k) (get_or front k d))
-            (sym (get_or_append_left front' back' d k (omega (arith, l, same)))) (a k d l))
-        | inr m ↦
-            let j = k - length front in
-            let is : length front + j ≡ k = omega (arith, m) in
-            let is' : length front' + j ≡ k = omega (arith, m, same) in
-            let at : next + j ≡ from + k = omega (arith, begins, is) in
-            let old : get_or back j d ≡ get_or all k d =
-            sym (get_or-append-add front back j d)
-            ∙ (ap (λ i. get_or (front ++ back) i d) is
-            ∙ sym (ap (λ xs. get_or xs k d) cut)) in
-            let new : get_or back' j d ≡ get_or (front' ++ back') k d =
-            sym (get_or-append-add front' back' j d)
-            ∙ ap (λ i. get_or (front' ++ back') i d) is' in
-            subst (λ i. R i (get_or all k d) (get_or (front' ++ back') k d)) at
-            (subst (λ x. R (next + j) x (get_or (front' ++ back') k d)) old
-            (subst (R (next + j) (get_or back j d)) new
-            (b j d (omega (arith, h, m, ap length cut, length-append front back)))))
-      ]
-
--- the same call, seen elsewhere
-pub carried : {X : Type 0} (R : ℕ → X → X → Type 0) {i j : ℕ} {x x' y y' : X} → i ≡ j → x ≡ x'
-    → y ≡ y' → R i x y → R j x' y'
-carried R {i} {j} {x} {x'} {y} {y'} a b c r =
-    subst (λ k. R k x' y') a (subst (λ u. R i u y') b (subst (R i x) c r))
-
--- the one place of a row
-pub one_changed : {X : Type 0} (R : ℕ → X → X → Type 0) (from : ℕ) (xs : List X) (e y : X)
-    → length xs ≡ 1 → R from (get_or xs 0 e) y
-    → (k : ℕ) (d : X) → k < length xs → R (from + k) (get_or xs k d) (get_or (set xs 0 y) k d)
-one_changed R from [] e y one r k d h = absurd (omega (arith, h))
-one_changed R from (z ∷ []) e y one r zero d h = subst (λ i. R i z y) {x = from} (omega arith) r
-one_changed R from (z ∷ []) e y one r (suc k) d h = absurd (omega (arith, h))
-one_changed R from (z ∷ w ∷ zs) e y one r k d h = absurd (omega (arith, one))
 
 -- ---- the results in the places
 

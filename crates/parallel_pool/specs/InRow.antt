@@ -1,8 +1,6 @@
 -- What is said of the places in which items wait for their calls.
-use Rattle.std.specs.Prelude.{◌≡◌, ℕ, ◌+◌, ◌<◌, List, length, slice_index_or, Option, Some, None}
-use denote.Ref.{MutBor}
+use Rattle.std.specs.Prelude.{◌≡◌, ℕ, ◌<◌, List, length, slice_index_or, Option, Some, None}
 use denote.Param.Members.{Shared}
-use Rattle.std.specs.Fork.{AcceptsAt, ChangesAt}
 use Rattle.std.specs.Fn.{FnReturns}
 use Rattle.parallel_pool.specs.declared.rayon.in_row.Place.{Place}
 
@@ -33,15 +31,3 @@ module _ {F X T : Type 0} (g : Shared F (X × Unit {0}) T) (f : F) where
   pub record AnswersPlaces (olds news : List (Place X T)) : Type 0 where
     pub each : (i : ℕ) (p : Place X T) → i < length olds
         → AnswersPlace (slice_index_or olds i p) (slice_index_or news i p)
-
-module _ {F X : Type 0}
-    (g : Shared F (ℕ × (MutBor X × Unit {0})) (Unit {0} × (MutBor X × Unit {0}))) (f : F) where
-  -- f may be called at each place, where the first has that index
-  abbrev pub AcceptsFrom : ℕ → List X → Type 0
-  AcceptsFrom from xs = (k : ℕ) (d : X) → k < length xs
-      → AcceptsAt g f (from + k) (slice_index_or xs k d)
-
-  -- each element is what a call of f left at that place, where the first has that index
-  pub record ChangesFrom (from : ℕ) (xs ys : List X) : Type 0 where
-    pub each : (k : ℕ) (d : X) → k < length xs
-        → ChangesAt g f (from + k) (slice_index_or xs k d) (slice_index_or ys k d)

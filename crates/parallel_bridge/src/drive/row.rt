@@ -10,11 +10,9 @@ ghost use Rattle.std.specs.Thread.{IsSync, IsSend};
 ghost use Rattle.parallel_bridge.specs.Loads.{AreReady, CameTo};
 
 use crate::drive::{Task, drive_both, drive_plain};
+use parallel_row::ROW;
 use std::alloc::{AllocError, Global};
 use std::thread::{Threads, join};
-
-// One thread starts fewer than that many others in a row, since each takes some of its stack.
-const ROW: usize = 64;
 
 // Where loads are halved until there are that many in a row, no more are in hand at a time.
 const PLACES: usize = 8;

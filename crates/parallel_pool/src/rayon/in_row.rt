@@ -1,19 +1,16 @@
 //! Calls that run at the same time, in threads that one thread, the caller's, starts one after
 //! another.
-ghost use Rattle.std.specs.Prelude.{◌≡◌, [], ◌++◌, ◌+◌, ◌^◌, ◌<◌, ◌≤◌, ℕ, filter_map, length, map, vec_capacity, vec_len, IfOk};
+ghost use Rattle.std.specs.Prelude.{◌≡◌, [], ◌++◌, ◌+◌, ◌<◌, ◌≤◌, filter_map, length, map, vec_capacity, vec_len, IfOk};
 ghost use Rattle.std.specs.List.{cons_option};
-ghost use Rattle.std.specs.Fork.{AcceptsAt, AcceptsEach, AcceptsJobs, ChangesAt, ChangesEach, GivesJobs};
-ghost use Rattle.std.specs.Thread.{IsSync, IsSend};
+ghost use Rattle.std.specs.Fork.{AcceptsJobs, GivesJobs};
 ghost use Rattle.parallel_fault.specs.Trouble.{IsMemoryOnErr};
-ghost use Rattle.parallel_pool.specs.InRow.{AcceptsFrom, AcceptsPlace, AcceptsPlaces, AnswersPlace, AnswersPlaces, ChangesFrom, answer_of, waits};
+ghost use Rattle.parallel_pool.specs.InRow.{AcceptsPlace, AcceptsPlaces, AnswersPlace, AnswersPlaces, answer_of, waits};
 
 use parallel_fault::Fault;
+use parallel_row::each_item;
 use std::alloc::{AllocError, Global};
-use std::thread;
-use std::thread::{Threads, join_mut};
-
-// The most places that go by threads started in a row, each of which takes a place on the stack.
-const ROW: usize = 64;
+use std::num::NonZeroUsize;
+use std::thread::Threads;
 
 /// An item that waits for its call, and what the call has returned.
 #[derive(Drop)]
@@ -26,9 +23,9 @@ pub(crate) struct Place<X: Drop, T: Drop> {
 /// the items.
 ///
 /// Each call but one has a thread of its own, where one can be made; the others run on the caller's
-/// thread. Up to 64 threads are started by the caller's one after another; more items go in halves
-/// down to 64 of them, so the caller's stack grows with no more. All memory is taken before any
-/// call: what gathers the results can't be refused, as it requires room for them (`answers_of`).
+/// thread. The threads are started as `parts_in_row` says, up to 63 by the caller's one after
+/// another. All memory is taken before any call: what gathers the results can't be refused, as it
+/// requires room for them (`answers_of`).
 ///
 /// # Errors
 ///
@@ -98,91 +95,17 @@ fn answer_all<R: Threads + Sync, X: Send + Drop, T: Send + Drop, F: Fn(X) -> T +
     requires { AcceptsPlaces F.Fn op.now places.old }
     ensures { AnswersPlaces F.Fn op.now places.old places.new }
 {
-    for_each_in_row(
+    // (one for each place; no more are used than there are)
+    let threads = NonZeroUsize::MIN.saturating_add(places.len());
+    each_item(
         rt,
+        threads,
         places,
         &|_index: usize, place: &mut Place<X, T>|
             requires { AcceptsPlace F.Fn op.now place.now }
             ensures { AnswersPlace F.Fn op.entry.now place.entry.now place.exit.now }
         { answer(op, place) },
     );
-}
-
-// Calls f(i, &mut places[i]) at each place, as `thread::for_each_mut` does with a thread for each:
-// rows of `ROW` places, in each of which one thread starts all others, and halves of the rows where
-// there are several.
-fn for_each_in_row<R: Threads + Sync, T: Send, F: Fn(usize, &mut T) + Sync>(
-    rt: &R,
-    places: &mut [T],
-    f: &F,
-)
-    requires { AcceptsEach F.Fn f.now places.old }
-    ensures { ChangesEach F.Fn f.now places.old places.new }
-{
-    let row = move |start: usize, row: &mut [T]|
-        requires { (start + length row.now < 2 ^ 64) × AcceptsFrom F.Fn f.now start row.now }
-        ensures { ChangesFrom F.Fn f.entry.now start row.entry.now row.exit.now }
-    { row_from(rt, f, start, row) };
-    thread::for_each_chunk_mut(rt, places, ROW, &row);
-}
-
-// The places from that index on: the first in a thread of its own, and the others beside it.
-#[cycle(row)]
-fn row_from<R: Threads + Sync, T: Send, F: Fn(usize, &mut T) + Sync>(
-    rt: &R,
-    f: &F,
-    from: usize,
-    places: &mut [T],
-)
-    requires room { from + length places.old < 2 ^ 64 }
-    requires accepts { AcceptsFrom F.Fn f.now from places.old }
-    ensures { ChangesFrom F.Fn f.now from places.old places.new }
-{
-    if places.is_empty() {
-        return;
-    }
-    if places.len() == 1 {
-        at_one(f, from, &mut places[0]);
-        return;
-    }
-    let (first, rest) = places.split_at_mut(1);
-    beside(rt, f, from, first, from + 1, rest);
-}
-
-#[cycle(row)]
-fn beside<R: Threads + Sync, T: Send, F: Fn(usize, &mut T) + Sync>(
-    rt: &R,
-    f: &F,
-    from: usize,
-    first: &mut [T],
-    next: usize,
-    rest: &mut [T],
-)
-    requires first { (0 < length first.old) × (from + length first.old < 2 ^ 64)
-        × AcceptsFrom F.Fn f.now from first.old }
-    requires rest { (0 < length rest.old) × (next + length rest.old < 2 ^ 64)
-        × AcceptsFrom F.Fn f.now next rest.old }
-    ensures first { ChangesFrom F.Fn f.now from first.old first.new }
-    ensures rest { ChangesFrom F.Fn f.now next rest.old rest.new }
-{
-    let mut one = ||
-        requires { IsSync R.row × IsSync F.row × IsSend T.row × (0 < length first.now)
-            × (from + length first.now < 2 ^ 64) × AcceptsFrom F.Fn f.now from first.now }
-        ensures { ChangesFrom F.Fn f.entry.now from first.entry.now first.exit.now }
-    { row_from(rt, f, from, first) };
-    let mut others = ||
-        requires { IsSync R.row × IsSync F.row × IsSend T.row × (0 < length rest.now)
-            × (next + length rest.now < 2 ^ 64) × AcceptsFrom F.Fn f.now next rest.now }
-        ensures { ChangesFrom F.Fn f.entry.now next rest.entry.now rest.exit.now }
-    { row_from(rt, f, next, rest) };
-    join_mut(rt, &mut one, &mut others);
-}
-
-fn at_one<T, F: Fn(usize, &mut T)>(f: &F, index: usize, place: &mut T)
-    requires { AcceptsAt F.Fn f.now index place.old }
-    ensures { ChangesAt F.Fn f.now index place.old place.new }
-{
-    f(index, place);
 }
 
 // The item that waits in the place, if one does, gets its result there.

@@ -1,10 +1,12 @@
 -- The ranges' places rise, and a part lies where its range does.
-use Rattle.commonware_parallel.proofs.{ℕ, ◌<◌, Range, get_or, length, arith, subst, sym, rules, AcceptsAt, ChangesAt, part_of_range, place_in, place_in-first, place_in-last, place_in-rises, place_in-start, seen_elsewhere}
+use Rattle.commonware_parallel.proofs.{ℕ, ◌<◌, Range, get_or, length, arith, subst, sym, rules, AcceptsAt, ChangesAt, part_of_range, place_in-first, place_in-last, place_in-rises, place_in-start}
+use Rattle.parallel_row.proofs.Parts.{seen_elsewhere}
+use Rattle.parallel_row.specs.Cut.{place_in}
 use Rattle.std.specs.Prelude.{slice_range}
 use Rattle.commonware_parallel.proofs.in_place.each_part.Goals as goal
 
-pub in_parts-requires-after_bounds : goal.in_parts-requires-after_bounds
-in_parts-requires-after_bounds g c κs bounds =
+pub parts_in_row-requires-after_bounds : goal.parts_in_row-requires-after_bounds
+parts_in_row-requires-after_bounds g c κs bounds =
     let rs = c.args.ranges.now in
     let xs = c.args.items.now in
     let cuts = c.requires.cut in (
@@ -26,10 +28,10 @@ returns g c =
     let xs = c.args.items.now in
     let len = length xs in
     let cuts = c.requires.cut in
-    let changed = c.in_parts.ensures in (
+    let changed = c.parts_in_row.ensures in (
       changed.0,
       λ n d high. seen_elsewhere (ChangesAt g.F.Fn c.args.op.now)
           (place_in-start 0 len rs cuts n d high) (part_of_range len rs cuts n d high xs)
-          (part_of_range len rs cuts n d high c.in_parts.new.items)
+          (part_of_range len rs cuts n d high c.parts_in_row.new.items)
           (changed.1 n (omega arith) (search rules)),
     )

@@ -1,5 +1,5 @@
 -- One turn is one result more, and there are as many items as places.
-use Rattle.parallel_bridge.proofs.{rules, ◌≡◌, ◌+◌, ◌++◌, ◌∙◌, ◌∷◌, [], IfErr, IfOk, List, ap, append_assoc, append-nil, arith, length, length-append, none_left, one_answered, subst, sym}
+use Rattle.parallel_bridge.proofs.{rules, ◌≡◌, ◌+◌, ◌++◌, ◌∙◌, ◌∷◌, [], IfOk, List, ap, append_assoc, length, length-append, one_answered, subst, sym}
 use Rattle.parallel_bridge.specs.Endings.{well}
 use Rattle.parallel_bridge.specs.Watched.{items_of, watch_of}
 use Rattle.parallel_bridge.proofs.fill.writer.write_items.Goals as goal

@@ -1,0 +1,7 @@
+mod Common
+pub mod Parts
+pub mod Chunks
+pub mod Wholes
+pub use Common.*
+pub use Parts.*
+pub use Chunks.*
