@@ -6,10 +6,12 @@ use commonware_parallel::{Call, Fault, Grid, Kind, Site, Strategy, Trouble};
 use std::num::NonZeroUsize;
 use std::ops::Range;
 use test_calls::acts::{Act, does};
+use test_calls::calls::Called;
 use test_calls::logs::{self, INNER, Line, OUTER, RAN, asked_at};
 use test_calls::noting::Noting;
 use test_calls::others::Batched;
 use test_calls::roots::Rooted;
+use test_calls::sources::Given;
 use test_calls::strategies::SITE;
 use test_calls::visits::Visitor;
 use test_calls::ways::{Row, Way};
@@ -43,33 +45,29 @@ pub fn noting(rt: &impl Test) -> Noting {
 
 // A row through it.
 fn row_of(act: Act, len: usize) -> Row {
-    Row {
-        way: Way::Noting(4),
-        act,
-        len,
-    }
+    Row::of(Way::Noting(4), act, len)
 }
 
-// Stops the test where a call over that many items is asked about or told otherwise than once, and
+// Stops the test where a call over sixteen items is asked about or told otherwise than once, and
 // the strategy of a batch's or of tiles' parts about their map. Of each range of a batch there are
 // three parts, but for those of a list that is changed.
-fn asks(rt: &impl Test, act: Act, len: usize, fails: bool) {
+fn asks(rt: &impl Test, act: Act, fails: bool) {
     let noting = noting(rt);
-    let log = noting.log();
+    let (log, of) = (noting.log(), row_of(act, 16));
     let visitor = if fails {
         Visitor::Fails(log)
     } else {
         Visitor::Writes(log)
     };
-    let made = does(rt, &noting, act, len, visitor);
+    let made = does(rt, &noting, act, 16, visitor);
     let fails = fails && act.may_fail();
     let outcome = if fails {
         Err(Trouble::Closure(7))
     } else {
         Ok(())
     };
-    row(rt, row_of(act, len), made, outcome);
-    let begun = [asked(act.question(len, 4)), BEGUN];
+    row(rt, of, made, outcome);
+    let begun = [asked(act.question(16, 4)), BEGUN];
     // A batch whose map fails has succeeded where its closure can't fail.
     let told = if fails && !matches!(act, Act::Batch(Batched::TryMap, _)) {
         DROPPED
@@ -80,7 +78,7 @@ fn asks(rt: &impl Test, act: Act, len: usize, fails: bool) {
         Act::Batch(Batched::Change, _) | Act::Fill(..) => 4,
         Act::Batch(..) => 12,
         _ => {
-            has(rt, log, row_of(act, len), &[begun[0], begun[1], RAN, told]);
+            has(rt, log, of, &[begun[0], begun[1], RAN, told]);
             return;
         }
     };
@@ -94,7 +92,7 @@ fn asks(rt: &impl Test, act: Act, len: usize, fails: bool) {
         inside,
         told,
     ];
-    has(rt, log, row_of(act, len), &lines);
+    has(rt, log, of, &lines);
 }
 
 // Of a tree each level is asked about.
@@ -102,7 +100,7 @@ fn asks(rt: &impl Test, act: Act, len: usize, fails: bool) {
 fn each_call_asks_once_and_tells_once(rt: HostRuntime) {
     for act in all_acts(&rt) {
         if !matches!(act, Act::Tree(_)) {
-            asks(&rt, act, 16, false);
+            asks(&rt, act, false);
         }
     }
 }
@@ -111,18 +109,22 @@ fn each_call_asks_once_and_tells_once(rt: HostRuntime) {
 fn a_call_that_fails_tells_nothing(rt: HostRuntime) {
     for act in all_acts(&rt) {
         if !matches!(act, Act::Tree(_)) {
-            asks(&rt, act, 16, true);
+            asks(&rt, act, true);
         }
     }
 }
 
-// But for tiles and batches, whose parts are asked about by their number.
+// Over the list that takes no memory, as each call asks by the same code, and many items take long.
 #[test]
 fn a_call_over_many_items_asks_once(rt: HostRuntime) {
-    for act in all_acts(&rt) {
-        if !matches!(act, Act::Tree(_) | Act::Batch(..) | Act::Fill(..)) {
-            asks(&rt, act, 1_100_000, false);
-        }
+    let len = 1_100_000usize;
+    for called in [Called::Map, Called::Fold] {
+        let act = Act::List(called, Given::OwnProducer);
+        let noting = noting(&rt);
+        let made = does(&rt, &noting, act, len, Visitor::Passes);
+        row(&rt, row_of(act, len), made, Ok(()));
+        let lines = [asked(act.question(len, 4)), BEGUN, TOLD];
+        has(&rt, noting.log(), row_of(act, len), &lines);
     }
 }
 

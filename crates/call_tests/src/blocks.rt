@@ -4,14 +4,16 @@
 use crate::checks::{Test, all_acts, equal, held, row, through};
 use commonware_parallel::mocks::explore;
 use commonware_parallel::rayon::ThreadPoolBuilder;
-use commonware_parallel::{Chooser, Clock, Rayon, Strategy, Trouble};
+use commonware_parallel::{Chooser, Clock, Fault, Rayon, Strategy, Trouble};
 use futures::executor::block_on;
 use linked_list_allocator::LocalHeap;
 use parallel_bridge::window::home::Home;
 use std::fs;
 use std::sync::Arc;
 use test_calls::acts::Act;
+use test_calls::calls::Called;
 use test_calls::clocks::{Stepping, learning};
+use test_calls::sources::Given;
 use test_calls::steps::Gives;
 use test_calls::strategies::{SITE, pool};
 use test_calls::visits::{Times, Visitor};
@@ -49,80 +51,88 @@ fn kibibytes(rt: &impl Test, name: &str) -> u64 {
     count.parse::<u64>().expect(rt, "a number")
 }
 
-// How a call ends.
-#[derive(Clone, Copy, Debug)]
-enum End {
-    Well,
-    Fails,
-    Refused,
-}
-
-// Makes a call that ends so, some times.
-fn make(rt: &impl Test, through: &Through, of: Row, (end, turns): (End, u32)) {
+// Makes a call some times, each closure of which does that. It fails where it says so.
+fn make(rt: &impl Test, through: &Through, of: Row, turns: u32, fails: usize, kind: Block) {
     for _ in 0..turns {
         let times = Times::new();
-        match end {
-            End::Well => {
-                let made = through.does(rt, of.act, of.len, Visitor::Passes);
-                row(rt, of, made, Ok(()));
-            }
-            End::Fails => {
-                let made = through.does(rt, of.act, of.len, Visitor::FailsAt(&times, 0));
-                row(rt, of, made, Err(Trouble::Closure(7)));
-            }
-            // (which calls are refused is told in `requests`)
-            End::Refused => {
-                let _ = through.does(rt, of.act, of.len, Visitor::Starves(&times));
-            }
-        }
+        let visited = match kind {
+            Block::Small => Visitor::FailsAt(&times, fails),
+            Block::Large => Visitor::Roams(&times, fails, false),
+            Block::Starved => Visitor::Roams(&times, fails, true),
+        };
+        let wanted = match kind {
+            Block::Starved => Err(Trouble::Fault(Fault::Memory)),
+            _ if of.act.may_fail() && fails < of.len => Err(Trouble::Closure(7)),
+            _ => Ok(()),
+        };
+        row(rt, of, through.does(rt, of.act, of.len, visited), wanted);
     }
 }
 
-// By how many KiB the process grows while a call is made so often, in the best of some tries: each
-// try grows where a block is kept, and else one, in which no thread has got a store of its own.
-fn growth(
-    rt: &impl Test,
-    through: &Through,
-    of: Row,
-    (end, turns): (End, u32),
-    (name, enough): (&str, u64),
-) -> u64 {
+// What the owned items of a call lie in: a small block; a large one; or one while no other is to be
+// had, so that a map is refused its results.
+#[derive(Clone, Copy)]
+enum Block {
+    Small,
+    Large,
+    Starved,
+}
+
+// Stops the test where the process grows by a block for each call, in each of some tries: in one of
+// them no thread has got a store of its own. A small one is seen in a thousand calls by the memory,
+// and a large one at once by the addresses.
+fn gives_back(rt: &impl Test, through: &Through, of: Row, fails: usize, kind: Block) {
+    let (name, enough, turns) = match kind {
+        Block::Small => ("RssAnon:", 24, 1000),
+        _ => ("VmSize:", 150_000, 1),
+    };
     let mut least = u64::MAX;
     for _ in 0..12u32 {
         let before = kibibytes(rt, name);
-        make(rt, through, of, (end, turns));
+        make(rt, through, of, turns, fails, kind);
         least = least.min(kibibytes(rt, name).saturating_sub(before));
         if least < enough {
-            return least;
+            return;
         }
     }
-    least
+    row(rt, of, (fails, least), (fails, 0));
 }
 
-// Whether a row has such an end: what fails nowhere ends well.
-fn has_end(act: Act, end: End) -> bool {
-    !matches!(end, End::Fails) || act.may_fail()
+// Whether a call owns its items.
+fn owns(act: Act) -> bool {
+    matches!(
+        act,
+        Act::List(_, Given::Vector | Given::Iterator | Given::Pairs)
+    )
 }
 
-// Stops the test where a call through a strategy keeps blocks of such a size, however it ends.
-fn gives_back(rt: &impl Test, way: Way, (len, turns): (usize, u32), measure: (&str, u64)) {
-    let through = through(rt, way);
-    for act in all_acts(rt) {
-        for end in [End::Well, End::Fails, End::Refused] {
-            if has_end(act, end) {
-                let of = Row { way, act, len };
-                let grown = growth(rt, &through, of, (end, turns), measure);
-                row(rt, of, (grown, grown < measure.1), (grown, true));
-            }
-        }
-    }
-}
-
-// One block for each call would be eight MiB at least, and is seen by its addresses.
+// Each call over owned items, which ends well or fails; and a map whose results would take as much
+// as such a block, which fails at once.
 #[test]
 fn a_call_gives_the_blocks_of_its_items_and_results_back(rt: HostRuntime) {
     for way in [Way::Sequential, Way::Pool(2, 2)] {
-        gives_back(&rt, way, (262_144, 4), ("VmSize:", 4_096));
+        let through = through(&rt, way);
+        for act in all_acts(&rt) {
+            if owns(act) {
+                let of = Row { way, act, len: 16 };
+                gives_back(&rt, &through, of, 3, Block::Large);
+                gives_back(&rt, &through, of, usize::MAX, Block::Large);
+            }
+        }
+        let act = Act::List(Called::TryMap, Given::OwnProducer);
+        let len = 40usize << 20;
+        gives_back(&rt, &through, Row { way, act, len }, 0, Block::Large);
+        let len = 262_144usize;
+        for called in [Called::Map, Called::TryMap, Called::MapInit] {
+            let act = Act::List(called, Given::Vector);
+            gives_back(
+                &rt,
+                &through,
+                Row { way, act, len },
+                usize::MAX,
+                Block::Starved,
+            );
+        }
     }
 }
 
@@ -180,7 +190,7 @@ fn growth_by(rt: &impl Test, made: Made, many: u32) -> u64 {
     kibibytes(rt, "RssAnon:").saturating_sub(before)
 }
 
-// One block more for each would be two MiB at least, and 64 KiB of a call.
+// One block more for each would be two MiB at least, and 32 KiB of a call.
 #[test]
 fn what_is_made_and_let_go_leaves_no_block(rt: HostRuntime) {
     if growth_by(&rt, Made::Block, 40_000) >= 1_024 {
@@ -202,7 +212,14 @@ fn what_is_made_and_let_go_leaves_no_block(rt: HostRuntime) {
         );
     }
     for way in [Way::Sequential, Way::Learning(2, 0)] {
-        gives_back(&rt, way, (40, 2000), ("RssAnon:", 64));
+        let through = through(&rt, way);
+        for act in all_acts(&rt) {
+            let of = Row { way, act, len: 40 };
+            gives_back(&rt, &through, of, 0, Block::Small);
+            if act.may_fail() {
+                gives_back(&rt, &through, of, usize::MAX, Block::Small);
+            }
+        }
     }
 }
 
@@ -216,7 +233,7 @@ fn a_measured_job_lets_its_clock_go(rt: HostRuntime) {
     holds!(&rt, Arc::get_mut(&mut reading).is_some());
 }
 
-// A block for a number of each item, or for two of each chunk, would take 32 MiB, beside the 16 of
+// A block for a number of each item, or for two of each chunk, would take 8 MiB, beside the 4 of
 // the numbers.
 #[test]
 fn a_list_is_changed_in_place_without_a_block(rt: HostRuntime) {
@@ -224,16 +241,12 @@ fn a_list_is_changed_in_place_without_a_block(rt: HostRuntime) {
         let through = through(&rt, way);
         for act in [Act::Change(1), Act::Change(2)] {
             // (what a thread takes for itself stays for the next one)
-            make(&rt, &through, Row { way, act, len: 4 }, (End::Well, 1));
-            let of = Row {
-                way,
-                act,
-                len: 1 << 22,
-            };
+            make(&rt, &through, Row { way, act, len: 4 }, 1, 0, Block::Small);
+            let of = Row::of(way, act, 1 << 20);
             let before = kibibytes(&rt, "VmPeak:");
-            make(&rt, &through, of, (End::Well, 1));
+            make(&rt, &through, of, 1, 0, Block::Small);
             let growth = kibibytes(&rt, "VmPeak:").saturating_sub(before);
-            row(&rt, of, (growth, growth < 24_576), (growth, true));
+            row(&rt, of, (growth, growth < 6_144), (growth, true));
         }
     }
 }

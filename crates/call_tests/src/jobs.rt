@@ -93,11 +93,7 @@ fn a_job_is_asked_about_once_and_its_measure_begins_and_ends_aside(rt: HostRunti
         block_on(&rt, spawned).expect(&rt, "a queue"),
         7,
     );
-    let of = Row {
-        way: Way::Noting(4),
-        act: Act::Rest,
-        len: 5,
-    };
+    let of = Row::of(Way::Noting(4), Act::Rest, 5);
     let lines = [
         asked(Call::spawn(5)),
         (OUTER, logs::BEGUN, None),

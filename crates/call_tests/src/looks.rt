@@ -2,15 +2,14 @@
 //! called, and an error is known before what is left of its segment is let go.
 use crate::checks::{Test, all_acts, equal, row, through};
 use commonware_parallel::mocks::Rule;
-use commonware_parallel::{Fault, On, Runtime, Source, Trouble};
+use commonware_parallel::{Fault, Runtime, Source, Trouble};
 use std::alloc::Global;
 use std::sync::atomic::{AtomicBool, AtomicUsize, Ordering};
 use std::thread::yield_now;
 use test_calls::acts::Act;
-use test_calls::calls::{Called, Here};
+use test_calls::calls::{Called, Here, here};
 use test_calls::noting::Noting;
 use test_calls::steps::{add_counts, no_count};
-use test_calls::strategies::SITE;
 use test_calls::visits::{Times, Visitor};
 use test_calls::ways::{Row, Through, Way};
 
@@ -212,12 +211,7 @@ fn other_calls(
 ) -> (usize, Option<Trouble<u32>>) {
     let alloc = rt.alloc();
     let strategy = &Noting::new(alloc, threads).expect(rt, "a log");
-    let on = On {
-        rt,
-        alloc,
-        strategy,
-        site: SITE,
-    };
+    let on = here(rt, strategy);
     let known = Known::new(threads, segment, fails);
     let items = segments(alloc, &known).expect(rt, "memory for items");
     let trouble = if is_iterator {

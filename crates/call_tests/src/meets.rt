@@ -4,13 +4,14 @@ use commonware_parallel::mocks::Rule;
 use test_calls::acts::Act;
 use test_calls::meetings::Meeting;
 use test_calls::others::{Filling, PART};
+use test_calls::sources::Given;
 use test_calls::visits::Visitor;
 use test_calls::ways::{Row, Through, Way, threads_between};
 
-// For how many turns a meeting goes on, so that one too many may come. One of more than four threads
-// doesn't go on, as it would take long.
+// For how many turns a meeting goes on, so that one too many may come. One of more than four
+// threads doesn't go on, as it would take long.
 fn turns(threads: usize) -> u32 {
-    if threads > 4 { 0 } else { 1000 }
+    if threads > 4 { 0 } else { 20 }
 }
 
 // The greatest power of two that isn't above the number, which isn't 0. A list of about as many
@@ -42,6 +43,7 @@ fn items(act: Act, parts: usize) -> usize {
     match act {
         Act::Sort(_) => parts.saturating_mul(PART),
         Act::Change(2) => parts.saturating_mul(2),
+        Act::Tree(_) => parts.saturating_mul(16).wrapping_add(5),
         _ => parts,
     }
 }
@@ -104,94 +106,126 @@ fn merges_meet(rt: &impl Test, through: &Through, of: Row, threads: usize) {
     row(rt, of, (made, met), (Ok(()), met.max(threads / 2)));
 }
 
-// The same of a call through a strategy, whatever it is over.
-fn call_meets(rt: &impl Test, through: &Through, (way, threads): (Way, usize), act: Act) {
-    let twice = threads.saturating_mul(2);
-    let many = threads.saturating_mul(10);
-    for parts in [threads / 2, threads, threads.wrapping_add(1), twice, many] {
-        let len = items(act, parts);
-        let of = Row { way, act, len };
-        match act {
-            // One of its bodies runs.
-            Act::Run(_) => {}
-            // A batch of one range is whole, and not shared.
-            Act::Batch(..) if parts < 2 => {}
-            // (of 64 parts of a sort and more, each thread that is started gets two)
-            Act::Sort(_) if threads > 63 => {}
-            Act::Sort(_) if parts == threads => {
-                meet(rt, through, of, (threads, threads));
-                merges_meet(rt, through, of, threads);
-            }
-            // Those of more parts take long, and of fewer fewer threads.
-            Act::Sort(_) => {}
-            Act::Tree(_) => {
-                let len = parts.saturating_mul(16).wrapping_add(5);
-                pairs_meet(rt, through, Row { way, act, len }, threads);
-            }
-            _ => meet(rt, through, of, bounds(act, threads, parts)),
+// The same of a call over so many parts.
+fn call_meets(rt: &impl Test, through: &Through, of: Row, (threads, parts): (usize, usize)) {
+    let of = Row {
+        len: items(of.act, parts),
+        ..of
+    };
+    match of.act {
+        // One of its bodies runs.
+        Act::Run(_) => {}
+        // A batch of one range is whole, and not shared.
+        Act::Batch(..) if parts < 2 => {}
+        Act::Sort(_) if parts == threads && threads < 64 => {
+            meet(rt, through, of, (threads, threads));
+            merges_meet(rt, through, of, threads);
         }
+        // More parts than threads take long, and of 64 each thread that is started gets two.
+        Act::Sort(_) => {}
+        Act::Tree(_) => pairs_meet(rt, through, of, threads),
+        act => meet(rt, through, of, bounds(act, threads, parts)),
+    }
+}
+
+// The same of each call, over all sources or one's own alone, as the others take long; and of tiles
+// on one row, which is cut.
+fn all_meet(rt: &impl Test, (way, threads): (Way, usize), is_whole: bool, parts: &[usize]) {
+    let through = through(rt, way);
+    for act in all_acts(rt) {
+        if is_whole || act.is_over_own() {
+            for share in parts {
+                call_meets(rt, &through, Row::of(way, act, 0), (threads, *share));
+            }
+        }
+    }
+    for filling in FILLINGS {
+        let act = Act::Fill(filling, 20_000);
+        let bounds = (power_within(threads), threads);
+        meet(rt, &through, Row::of(way, act, 1), bounds);
     }
 }
 
 const FILLINGS: [Filling; 3] = [Filling::Stretches, Filling::Rows, Filling::Kernel];
 
-// The same of each call, and of tiles on one row, which is cut.
-fn all_meet(rt: &impl Test, way: Way, threads: usize) {
-    let through = through(rt, way);
-    for act in all_acts(rt) {
-        call_meets(rt, &through, (way, threads), act);
-    }
-    for filling in FILLINGS {
-        let act = Act::Fill(filling, 20_000);
-        let bounds = (power_within(threads), threads);
-        meet(rt, &through, Row { way, act, len: 1 }, bounds);
+// Over eight items by one's own producer, and by each source.
+#[test]
+fn as_many_closures_of_each_call_meet_as_there_are_threads(rt: HostRuntime) {
+    all_meet(&rt, (Way::Noting(4), 4), true, &[8]);
+    all_meet(&rt, (Way::Noting(4), 4), false, &[2, 4, 5]);
+}
+
+// By this clock each run takes so long that its policy keeps it parallel.
+#[test]
+fn as_many_meet_whatever_the_strategy(rt: HostRuntime) {
+    for way in [
+        Way::Explorer(Rule::Parallel, 4, 4),
+        Way::Learning(4, 2_500_000),
+        Way::Pool(4, 8),
+    ] {
+        all_meet(&rt, (way, 4), false, &[4, 40]);
     }
 }
 
-#[test]
-fn as_many_closures_of_each_call_meet_as_there_are_threads(rt: HostRuntime) {
-    // By this clock each run takes so long that its policy keeps it parallel.
-    for way in [
-        Way::Noting(4),
-        Way::Explorer(Rule::Parallel, 4, 4),
-        Way::Learning(4, 2_500_000),
-    ] {
-        all_meet(&rt, way, 4);
+// The same by each of these numbers of threads, of as many parts and of ten times as many.
+fn numbers_meet(rt: &impl Test, least: usize, most: usize) {
+    for threads in threads_between(least, most) {
+        let parts = [*threads, threads.saturating_mul(10)];
+        all_meet(rt, (Way::Pool(*threads, *threads), *threads), false, &parts);
     }
 }
 
 #[test]
 fn as_many_meet_whatever_the_number_of_threads(rt: HostRuntime) {
-    for threads in threads_between(2, 9) {
-        all_meet(&rt, Way::Pool(*threads, *threads), *threads);
-    }
+    numbers_meet(&rt, 2, 6);
+}
+
+#[test]
+fn as_many_meet_of_more_threads(rt: HostRuntime) {
+    numbers_meet(&rt, 7, 12);
 }
 
 #[test]
 fn many_threads_meet_and_as_many_where_more_are_planned(rt: HostRuntime) {
-    for threads in threads_between(10, 65) {
-        all_meet(&rt, Way::Pool(*threads, *threads), *threads);
-    }
-    all_meet(&rt, Way::Pool(4, 8), 4);
+    numbers_meet(&rt, 17, 65);
 }
 
-// How many items a long list has.
-const LONG: usize = 1_000_001;
+// How many items a long call is over: a million, but of those that take long for each.
+fn many_of(act: Act) -> usize {
+    match act {
+        Act::List(_, Given::OwnProducer) => 1_000_001,
+        Act::List(..) => 100_001,
+        _ => 300_001,
+    }
+}
 
-#[test]
-fn two_closures_of_each_long_call_meet(rt: HostRuntime) {
+// Two threads share it, and a batch has a hundred ranges.
+fn long_calls_meet(rt: &impl Test, is_list: bool, is_own: bool) {
     let way = Way::Pool(2, 100);
-    let through = through(&rt, way);
-    for act in all_acts(&rt) {
-        let len = LONG;
-        match act {
-            Act::Run(_) => {}
-            Act::Tree(_) => pairs_meet(&rt, &through, Row { way, act, len }, 2),
-            _ => meet(&rt, &through, Row { way, act, len }, (2, 2)),
+    let through = through(rt, way);
+    for act in all_acts(rt) {
+        if matches!(act, Act::List(..)) == is_list && act.is_over_own() == is_own {
+            let of = Row::of(way, act, many_of(act));
+            match act {
+                Act::Run(_) => {}
+                Act::Tree(_) => pairs_meet(rt, &through, of, 2),
+                _ => meet(rt, &through, of, (2, 2)),
+            }
         }
     }
-    for filling in FILLINGS {
-        let act = Act::Fill(filling, LONG);
-        meet(&rt, &through, Row { way, act, len: 1 }, (2, 2));
-    }
+}
+
+#[test]
+fn two_closures_of_each_long_list_call_meet(rt: HostRuntime) {
+    long_calls_meet(&rt, true, true);
+}
+
+#[test]
+fn two_closures_over_each_long_source_meet(rt: HostRuntime) {
+    long_calls_meet(&rt, true, false);
+}
+
+#[test]
+fn two_closures_of_each_other_long_call_meet(rt: HostRuntime) {
+    long_calls_meet(&rt, false, true);
 }

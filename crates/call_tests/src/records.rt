@@ -51,11 +51,7 @@ fn planned(rt: &impl Test, planned: usize) -> Asked {
 
 // A row of a pool by that clock.
 fn row_of(act: Act, len: usize) -> Row {
-    Row {
-        way: Way::Learning(4, 1),
-        act,
-        len,
-    }
+    Row::of(Way::Learning(4, 1), act, len)
 }
 
 // The key of a call, planned for four.

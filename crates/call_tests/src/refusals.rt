@@ -72,11 +72,7 @@ fn each_call_succeeds_or_is_refused(rt: HostRuntime) {
         }
     }
     for _ in 0..2u32 {
-        let of = Row {
-            way: Way::Sequential,
-            act: Act::Rest,
-            len: 0,
-        };
+        let of = Row::of(Way::Sequential, Act::Rest, 0);
         refused = refused.saturating_add(u64::from(is_refused(&rt, of, search(&rt))));
     }
     equal(&rt, "refused, but for one", refused.saturating_sub(1), 0);
@@ -131,11 +127,7 @@ fn each_growth_is_refused_in_turn(rt: HostRuntime) {
     let mut total = 0u64;
     for (way, through) in standing.iter() {
         for act in acts.iter().chain(&[Act::Job, Act::Rest]) {
-            let of = Row {
-                way: *way,
-                act: *act,
-                len: 30,
-            };
+            let of = Row::of(*way, *act, 30);
             total = total.saturating_add(refusals(&rt, through, of));
         }
     }

@@ -4,15 +4,15 @@ use crate::asks::{BEGUN, DROPPED, asked};
 use crate::checks::{Test, all_acts, equal, has, row, through};
 use crate::splits::closures;
 use commonware_parallel::mocks::{Explorer, Rule};
-use commonware_parallel::{Call, Fault, On, Trouble};
+use commonware_parallel::{Call, Fault, Trouble};
 use test_calls::acts::{Act, does};
-use test_calls::calls::{Called, Outcome};
+use test_calls::calls::{CALLS, Called, Outcome, here};
 use test_calls::noting::Noting;
 use test_calls::roots::Rooted;
 use test_calls::sources::Given;
-use test_calls::strategies::{SITE, pool};
+use test_calls::strategies::pool;
 use test_calls::visits::{Times, Visitor};
-use test_calls::ways::{Row, Way};
+use test_calls::ways::{Row, Through, Way};
 use test_support::no_memory::all_places;
 
 /// How many items each call has: their results take 2 MiB at least.
@@ -39,42 +39,90 @@ pub enum Fate {
 /// with values that take no place, needs none.
 pub fn fate_of(act: Act, path: Path) -> Fate {
     match (act, path) {
-        (Act::List(_, Given::Iterator | Given::OwnSource), Path::Parallel | Path::Serial) =>
-            Fate::RefusedUnasked,
+        (Act::List(_, Given::Iterator | Given::OwnSource), Path::Parallel | Path::Serial) => {
+            Fate::RefusedUnasked
+        }
         (Act::List(_, Given::Counted), Path::Parallel) => Fate::Refused,
         (Act::List(Called::Fold | Called::FoldInit | Called::TryFold, _), _) => Fate::Succeeds,
         (Act::List(Called::Partition, _), _) => Fate::Succeeds,
+        // Its parts are too short for such a block.
+        (Act::Sort(_), Path::Parallel) => Fate::Succeeds,
         (Act::List(..) | Act::Sort(true) | Act::Fill(..), _) => Fate::Refused,
         (Act::Tree(Rooted::ByLevels), _) => Fate::Refused,
         _ => Fate::Succeeds,
     }
 }
 
+/// The calls whose items take no memory, which are made while all large blocks are held.
+pub fn bare_acts(rt: &impl Test) -> Vec<Act> {
+    let mut acts = all_acts(rt);
+    acts.retain(|act| act.is_bare());
+    acts
+}
+
+/// The others, for each of which the blocks are taken anew, which takes long: so of the list calls
+/// a map and a fold that may fail alone.
+pub fn laden_acts(rt: &impl Test) -> Vec<Act> {
+    let mut acts = all_acts(rt);
+    acts.retain(|act| match act {
+        Act::List(Called::TryFold, _) | Act::List(Called::TryMap, Given::Vector) => !act.is_bare(),
+        Act::List(..) => false,
+        _ => !act.is_bare(),
+    });
+    acts
+}
+
 // Stops the test where a call takes a block that it needs not, or calls a closure before the block
 // that it needs is there. How often a sort compares nobody has counted.
-fn takes(rt: &impl Test, way: Way, path: Path, planned: usize) {
+fn takes(
+    rt: &impl Test,
+    through: &Through,
+    of: Row,
+    path: Path,
+    (planned, starves): (usize, bool),
+) {
+    let times = Times::new();
+    let visited = if starves {
+        Visitor::Starves(&times)
+    } else {
+        Visitor::Counts(&times)
+    };
+    let made = through.does(rt, of.act, LEN, visited);
+    let (outcome, calls) = match fate_of(of.act, path) {
+        Fate::Succeeds => (Ok(()), closures(of.act, LEN, planned)),
+        _ => (Err(Trouble::Fault(Fault::Memory)), Some(0)),
+    };
+    let calls = match of.act {
+        Act::Sort(_) => times.items(),
+        _ => calls.unwrap_or(0),
+    };
+    row(rt, of, (made, times.items()), (outcome, calls));
+}
+
+// The same of each call.
+fn all_take(rt: &impl Test, way: Way, path: Path, planned: usize) {
     let through = through(rt, way);
-    for act in all_acts(rt) {
-        let times = Times::new();
-        let made = through.does(rt, act, LEN, Visitor::Starves(&times));
-        let wanted = match fate_of(act, path) {
-            Fate::Succeeds => (Ok(()), closures(act, LEN, planned)),
-            _ => (Err(Trouble::Fault(Fault::Memory)), Some(0)),
-        };
-        let calls = match act {
-            Act::Sort(_) => times.items(),
-            _ => wanted.1.unwrap_or(0),
-        };
+    let bare = bare_acts(rt);
+    let held = all_places(rt.alloc()).expect(rt, "places that have an end");
+    for act in bare.iter() {
+        let of = Row::of(way, *act, LEN);
+        takes(rt, &through, of, path, (planned, false));
+    }
+    drop(held);
+    for act in laden_acts(rt) {
         let of = Row { way, act, len: LEN };
-        row(rt, of, (made, times.items()), (wanted.0, calls));
+        takes(rt, &through, of, path, (planned, true));
     }
 }
 
 #[test]
 fn a_call_takes_no_block_for_items_that_it_need_not_gather(rt: HostRuntime) {
-    takes(&rt, Way::Noting(4), Path::Parallel, 4);
-    takes(&rt, Way::Sequential, Path::Unasked, 1);
-    takes(&rt, Way::Explorer(Rule::Parallel, 4, 1), Path::Unasked, 1);
+    all_take(&rt, Way::Noting(4), Path::Parallel, 4);
+}
+
+#[test]
+fn a_serial_call_takes_no_block_for_items(rt: HostRuntime) {
+    all_take(&rt, Way::Explorer(Rule::Parallel, 4, 1), Path::Unasked, 1);
 }
 
 // Results of items that take no place: by a map, by one that may fail and by one with a state.
@@ -93,12 +141,7 @@ fn a_serial_map_gathers_nothing(rt: HostRuntime) {
     let alloc = rt.alloc();
     let one = pool(&rt, alloc, 4, 1).expect(&rt, "a pool");
     let strategy = &Explorer::by_rule(&one, Rule::Parallel).expect(&rt, "memory for a handle");
-    let on = On {
-        rt: &rt,
-        alloc,
-        strategy,
-        site: SITE,
-    };
+    let on = here(&rt, strategy);
     let held = all_places(alloc).expect(&rt, "places that have an end");
     equal(&rt, "map", on.map(0..LEN, forget).is_ok(), true);
     equal(
@@ -112,31 +155,6 @@ fn a_serial_map_gathers_nothing(rt: HostRuntime) {
     drop(held);
 }
 
-// Of a call that is refused its strategy has been told nothing. With 32,768 threads a block of the
-// tree has two leaves, and there are as many tops.
-#[test]
-fn a_call_that_is_refused_tells_nothing(rt: HostRuntime) {
-    let many = [(Act::Tree(Rooted::ByBlocks), 32_768, 2)];
-    for (act, threads, multiplier) in many {
-        is_untold(
-            &rt,
-            act,
-            threads,
-            Call::body_with_multiplier(LEN / 2, multiplier),
-        );
-    }
-    for act in all_acts(&rt) {
-        // A stretch of tiles has two strategies, of which each is told.
-        if fate_of(act, Path::Parallel) == Fate::Refused && !matches!(act, Act::Fill(..)) {
-            let asked = match act {
-                Act::Tree(_) => Call::body(LEN / 2),
-                _ => act.question(LEN, 4),
-            };
-            is_untold(&rt, act, 4, asked);
-        }
-    }
-}
-
 // Stops the test where a call that is refused is asked about or told otherwise.
 fn is_untold(rt: &impl Test, act: Act, threads: usize, call: Call) {
     let noting = Noting::new(rt.alloc(), threads).expect(rt, "a log");
@@ -146,4 +164,18 @@ fn is_untold(rt: &impl Test, act: Act, threads: usize, call: Call) {
     let made: Outcome = does(rt, &noting, act, LEN, Visitor::Starves(&times));
     row(rt, of, made, Err(Trouble::Fault(Fault::Memory)));
     has(rt, noting.log(), of, &[asked(call), BEGUN, DROPPED]);
+}
+
+// With 32,768 threads a block of the tree has two leaves, and there are as many tops.
+#[test]
+fn a_call_that_is_refused_tells_nothing(rt: HostRuntime) {
+    let blocks = Call::body_with_multiplier(LEN / 2, 2);
+    is_untold(&rt, Act::Tree(Rooted::ByBlocks), 32_768, blocks);
+    is_untold(&rt, Act::Tree(Rooted::ByLevels), 4, Call::body(LEN / 2));
+    for called in CALLS {
+        let act = Act::List(called, Given::OwnProducer);
+        if fate_of(act, Path::Parallel) == Fate::Refused {
+            is_untold(&rt, act, 4, act.question(LEN, 4));
+        }
+    }
 }

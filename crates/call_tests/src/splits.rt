@@ -49,6 +49,10 @@ fn states(act: Act, segments: usize, workers: usize) -> usize {
 fn cuts(rt: &impl Test, way: Way, (threads, segments): (usize, usize), len: usize) {
     let through = through(rt, way);
     for act in all_acts(rt) {
+        // Only one of one's own tells its cuts. (By four threads the states over others are counted.)
+        if !act.is_over_own() && (threads != 4 || len > 1000 || !act.is_over_few()) {
+            continue;
+        }
         let of = Row { way, act, len };
         let times = Times::new();
         let made = through.does(rt, act, len, Visitor::Counts(&times));
@@ -58,8 +62,8 @@ fn cuts(rt: &impl Test, way: Way, (threads, segments): (usize, usize), len: usiz
         };
         let states = states(act, segments, threads);
         let calls = closures(act, len, threads).unwrap_or(times.items());
-        let found = (made, times.items(), times.states(), times.cuts());
-        row(rt, of, found, (Ok(()), calls, states, cut));
+        let found = (made, times.counted());
+        row(rt, of, found, (Ok(()), [calls, states, cut]));
     }
 }
 

@@ -4,18 +4,22 @@ use crate::checks::{Test, all_acts, equal, number, row, through};
 use commonware_parallel::{Sequential, Strategy};
 use test_calls::strategies::{SITE, explorers, pools};
 use test_calls::visits::Visitor;
-use test_calls::ways::{Row, ways};
+use test_calls::ways::{Row, Way, ways};
 use uses::long_lists::LongLists;
 
-// Over no item, one, some and many.
+// Over each source by a few strategies, and by the others over one's own and few lengths: what a
+// call returns is a clause.
 #[test]
 fn each_call_succeeds_through_each_strategy(rt: HostRuntime) {
     for way in ways(rt.alloc()).expect(&rt, "memory for a table") {
         let through = through(&rt, way);
+        let is_whole = matches!(way, Way::Sequential | Way::Noting(_) | Way::Pool(4, _));
         for act in all_acts(&rt) {
-            for len in [0, 1, 7, 1000] {
-                let made = through.does(&rt, act, len, Visitor::Passes);
-                row(&rt, Row { way, act, len }, made, Ok(()));
+            for len in [0, 1, 7, 100] {
+                if is_whole || act.is_over_own() && (len == 0 || len == 7) {
+                    let made = through.does(&rt, act, len, Visitor::Passes);
+                    row(&rt, Row::of(way, act, len), made, Ok(()));
+                }
             }
         }
     }

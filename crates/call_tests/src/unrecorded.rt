@@ -1,9 +1,9 @@
 //! What a policy keeps of a call that is refused, through a pool: that it was asked, where it was,
 //! and no time. The clock goes on by a second at each reading, so that a time of such a call would be
 //! seen in the estimates.
-use crate::checks::{Test, all_acts, equal, held, row};
+use crate::checks::{Test, equal, held, row};
 use crate::entries::{Times, by_policy, times};
-use crate::requests::{Fate, LEN, Path, fate_of};
+use crate::requests::{Fate, LEN, Path, bare_acts, fate_of, laden_acts};
 use commonware_parallel::policy::{Key, RunExecution, SpawnExecution, SpawnSample};
 use commonware_parallel::{Fault, Policy, Rayon, Strategy, Trouble};
 use test_calls::acts::{Act, does};
@@ -12,7 +12,7 @@ use test_calls::steps::Gives;
 use test_calls::strategies::SITE;
 use test_calls::visits::{self, Visitor};
 use test_calls::ways::{Row, Way};
-use test_support::no_memory::all_memory;
+use test_support::no_memory::{all_memory, all_places};
 
 const SECOND: u64 = 1_000_000_000;
 
@@ -37,13 +37,18 @@ fn after_nine_choices(rt: &impl Test, key: Key) -> Policy {
 
 // Stops the test where a call that is refused is recorded, or is counted as a choice where it is
 // refused unasked.
-fn is_unrecorded(rt: &impl Test, act: Act, fate: Fate) {
+fn is_unrecorded(rt: &impl Test, act: Act, starves: bool) {
     let call = act.question(LEN, 4);
     let key = Key::new(SITE, call.len, call.work, 4);
     let policy = after_nine_choices(rt, key);
     let strategy = by_policy(rt, &policy, SECOND);
     let calls = visits::Times::new();
-    let made = does(rt, &strategy, act, LEN, Visitor::Starves(&calls));
+    let visited = if starves {
+        Visitor::Starves(&calls)
+    } else {
+        Visitor::Counts(&calls)
+    };
+    let made = does(rt, &strategy, act, LEN, visited);
     let way = Way::Learning(4, SECOND);
     let of = Row { way, act, len: LEN };
     let known = times(rt, &policy, SITE, call.len, call.work);
@@ -53,17 +58,29 @@ fn is_unrecorded(rt: &impl Test, act: Act, fate: Fate) {
         (made, known),
         (Err(Trouble::Fault(Fault::Memory)), KNOWN),
     );
-    let next = policy.choose_run(rt, key, 4);
-    row(rt, of, next, Ok((SERIAL, fate == Fate::RefusedUnasked)));
+    let is_next = fate_of(act, Path::Serial) == Fate::RefusedUnasked;
+    row(rt, of, policy.choose_run(rt, key, 4), Ok((SERIAL, is_next)));
 }
 
-// Of a tree each level has an entry, and a worker of tiles is one of its rows' own.
+// Whether such a call is refused. (Of a tree each level has an entry, and tiles are asked about by
+// their work.)
+fn is_refused(act: Act) -> bool {
+    fate_of(act, Path::Serial) != Fate::Succeeds && !matches!(act, Act::Tree(_) | Act::Fill(..))
+}
+
 #[test]
 fn a_run_that_is_refused_is_not_recorded(rt: HostRuntime) {
-    for act in all_acts(&rt) {
-        let fate = fate_of(act, Path::Serial);
-        if fate != Fate::Succeeds && !matches!(act, Act::Tree(_) | Act::Fill(..)) {
-            is_unrecorded(&rt, act, fate);
+    let bare = bare_acts(&rt);
+    let all = all_places(rt.alloc()).expect(&rt, "places that have an end");
+    for act in bare.iter() {
+        if is_refused(*act) {
+            is_unrecorded(&rt, *act, false);
+        }
+    }
+    drop(all);
+    for act in laden_acts(&rt) {
+        if is_refused(act) {
+            is_unrecorded(&rt, act, true);
         }
     }
 }

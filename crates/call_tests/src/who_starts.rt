@@ -29,7 +29,7 @@ fn wanted_of(act: Act, threads: usize) -> (usize, usize) {
 // Stops the test where the caller of that has begun its own part before so many threads were
 // started, in one of some tries.
 fn starts_first(rt: &impl Test, host: HostRuntime, through: &Through, of: Row, wanted: u64) {
-    let tries = if wanted > 15 { 3 } else { 10 };
+    let tries = if wanted > 3 { 2 } else { 5 };
     for _ in 0..tries {
         let own = OwnPart::of(&host);
         let before = last_number(rt);
@@ -39,22 +39,31 @@ fn starts_first(rt: &impl Test, host: HostRuntime, through: &Through, of: Row, w
     }
 }
 
-// The same of each call, by that many threads.
+// The same of each call, by that many threads: no call's start depends on its source.
 fn all_start_first(rt: &impl Test, host: HostRuntime, way: Way, threads: usize) {
     let through = through(rt, way);
     for act in all_acts(rt) {
         let (len, others) = wanted_of(act, threads);
-        starts_first(rt, host, &through, Row { way, act, len }, others as u64);
+        if act.is_over_own() && others > 0 {
+            starts_first(rt, host, &through, Row { way, act, len }, others as u64);
+        }
     }
 }
 
-// One more thread than 64 starts in two rows.
 #[test]
 fn a_caller_starts_all_threads_before_its_own_part(rt: HostRuntime) {
-    for threads in threads_between(2, 64) {
+    for threads in threads_between(2, 7) {
         all_start_first(&rt, rt, Way::Pool(*threads, *threads), *threads);
     }
     all_start_first(&rt, rt, Way::Noting(4), 4);
+}
+
+// One more than 64 starts in two rows.
+#[test]
+fn a_caller_starts_many_threads_before_its_own_part(rt: HostRuntime) {
+    for threads in threads_between(8, 17) {
+        all_start_first(&rt, rt, Way::Pool(*threads, *threads), *threads);
+    }
     all_start_first(&rt, rt, Way::Explorer(Rule::Parallel, 16, 16), 16);
     all_start_first(&rt, rt, Way::Pool(64, 64), 64);
 }

@@ -1,12 +1,12 @@
 //! The one list of calls that each probe goes over.
-use crate::calls::{CALLS, Called, Here, MULTIPLIER, Outcome};
+use crate::calls::{CALLS, Called, MULTIPLIER, Outcome, here};
 use crate::others::{Batched, Filling, change, fill, join, root, run, run_batch, sort};
 use crate::roots::Rooted;
 use crate::sources::{FEW, Given, OTHERS, make_over};
 use crate::steps::Gives;
 use crate::strategies::SITE;
 use crate::visits::Visitor;
-use commonware_parallel::{Call, Fault, Kind, On, Runtime, Strategy, Trouble};
+use commonware_parallel::{Call, Fault, Kind, Runtime, Strategy, Trouble};
 use std::alloc::{AllocGlobal, Global};
 use std::thread::yield_now;
 
@@ -59,8 +59,8 @@ const ASIDE: [Act; 16] = [
     Act::Run(true),
 ];
 
-/// All calls: each list call over those few sources, the fallible map and fold over each source, and
-/// the others.
+/// All calls: each list call over those few sources, the fallible map and fold over each source,
+/// and the others.
 pub fn acts(alloc: Global) -> Result<Vec<Act>, Fault> {
     let mut acts = Vec::from_slice(alloc, &ASIDE)?;
     for called in CALLS {
@@ -84,6 +84,38 @@ impl Act {
                 | Act::Batch(Batched::TryMap | Batched::TryBatch, _)
                 | Act::Run(true)
         )
+    }
+
+    /// Whether it is over no list or over one of those few sources.
+    pub fn is_over_few(self) -> bool {
+        matches!(
+            self.given(),
+            None | Some(Given::Slice | Given::Vector | Given::Iterator | Given::OwnProducer)
+        )
+    }
+
+    /// Whether it is over no list or over the producer of one's own: how many threads start depends
+    /// on no source.
+    pub fn is_over_own(self) -> bool {
+        matches!(self.given(), None | Some(Given::OwnProducer))
+    }
+
+    /// Whether its items take no memory.
+    pub fn is_bare(self) -> bool {
+        match self {
+            Act::List(_, Given::OwnProducer | Given::Indices | Given::Counted) => true,
+            Act::Batch(batched, _) => !matches!(batched, Batched::Change),
+            Act::Join | Act::Run(_) | Act::Fill(..) => true,
+            _ => false,
+        }
+    }
+
+    // The source of a list call.
+    fn given(self) -> Option<Given> {
+        match self {
+            Act::List(_, given) => Some(given),
+            _ => None,
+        }
     }
 
     /// What a call over that many items is asked as, planned for that many. Each index of a batch
@@ -111,7 +143,7 @@ impl Act {
 }
 
 fn rest() {
-    for _ in 0..1000u32 {
+    for _ in 0..50u32 {
         yield_now();
     }
 }
@@ -124,13 +156,7 @@ pub fn does<Rt: Host, S: Strategy>(
     len: usize,
     visited: Visitor<'_>,
 ) -> Outcome {
-    let (alloc, site) = (rt.alloc(), SITE);
-    let on: &Here<'_, Rt, S> = &On {
-        rt,
-        alloc,
-        strategy,
-        site,
-    };
+    let on = &here(rt, strategy);
     match act {
         Act::List(called, given) => make_over(on, called, given, len, visited),
         Act::Sort(is_stable) => sort(on, is_stable, len, visited),
@@ -140,7 +166,7 @@ pub fn does<Rt: Host, S: Strategy>(
         Act::Fill(filling, columns) => fill(on, filling, columns, len, visited),
         Act::Tree(rooted) => root(on, rooted, len, visited),
         Act::Run(may_fail) => run(on, may_fail, len, visited),
-        Act::Job => match strategy.spawn(rt, alloc, site, 1, Gives(7)) {
+        Act::Job => match strategy.spawn(rt, on.alloc, SITE, 1, Gives(7)) {
             // (where no stack is to be had, its worker is refused)
             Ok(_) | Err(Fault::Worker) => Ok(()),
             Err(fault) => Err(Trouble::Fault(fault)),

@@ -1,5 +1,7 @@
 //! The list calls, each over any source, with closures that visit a probe.
+use crate::acts::Host;
 use crate::steps::{add_counts, no_count};
+use crate::strategies::SITE;
 use crate::visits::Visitor;
 use commonware_parallel::{Fault, On, Runtime, Site, Source, Strategy, Trouble};
 
@@ -39,20 +41,27 @@ pub type Outcome = Result<(), Trouble<u32>>;
 /// What the calls through a strategy have in common.
 pub type Here<'a, Rt, S> = On<'a, Rt, S, Site>;
 
+/// The same of such a strategy, at the place that the tests call from.
+pub fn here<'a, Rt: Host, S>(rt: &'a Rt, strategy: &'a S) -> Here<'a, Rt, S> {
+    let (alloc, site) = (rt.alloc(), SITE);
+    On {
+        rt,
+        alloc,
+        strategy,
+        site,
+    }
+}
+
 /// The outcome of a call without its result.
 pub fn done<T: Drop>(outcome: Result<T, Fault>) -> Outcome {
-    match outcome {
-        Ok(_) => Ok(()),
-        Err(fault) => Err(Trouble::Fault(fault)),
-    }
+    let _ = outcome?;
+    Ok(())
 }
 
 /// The same of a call that may fail.
 pub fn tried<T: Drop>(outcome: Result<T, Trouble<u32>>) -> Outcome {
-    match outcome {
-        Ok(_) => Ok(()),
-        Err(trouble) => Err(trouble),
-    }
+    let _ = outcome?;
+    Ok(())
 }
 
 // The maps, of one closure for all of them.

@@ -276,10 +276,7 @@ pub fn fill<Rt: Runtime, S: Strategy>(
     let held = visited.holds(alloc);
     let filled = on.strategy.run_tiles(rt, alloc, site, len, &grids, 5, run);
     drop(held);
-    match filled {
-        Ok(filled) => done(filled),
-        Err(fault) => Err(Trouble::Fault(fault)),
-    }
+    done(filled?)
 }
 
 // A node of a tree.

@@ -2,7 +2,7 @@
 ghost use Rattle.std.specs.Prelude.{⊤};
 
 use crate::calls::{Called, Here, Outcome, make, make_fallible};
-use crate::counted::{Counts, counted_items};
+use crate::counted::{Counted as Item, Counts};
 use crate::visits::Visitor;
 use commonware_parallel::bridge::DrainProducer;
 use commonware_parallel::{
@@ -218,7 +218,10 @@ fn over_counted<Rt: Runtime, S: Strategy>(
     visited: Visitor<'_>,
 ) -> Outcome {
     let counts = Counts::new();
-    let items = counted_items(on.alloc, &counts, len)?;
+    let mut items = Vec::with_capacity(on.alloc, visited.places(len))?;
+    for place in 0..len {
+        items.push(Item::new(&counts, place))?;
+    }
     let made = match given {
         Given::Vector => make(on, called, items, visited),
         Given::Iterator => make(on, called, items.into_iter(), visited),

@@ -28,14 +28,10 @@ impl Times {
         self.items.load(Ordering::SeqCst)
     }
 
-    /// How many states were begun.
-    pub fn states(&self) -> usize {
-        self.states.load(Ordering::SeqCst)
-    }
-
-    /// How often a list was cut.
-    pub fn cuts(&self) -> usize {
-        self.cuts.load(Ordering::SeqCst)
+    /// How many items came, how many states were begun, and how often a list was cut.
+    pub fn counted(&self) -> [usize; 3] {
+        let states = self.states.load(Ordering::SeqCst);
+        [self.items(), states, self.cuts.load(Ordering::SeqCst)]
     }
 
     // One item more: how many came before.
@@ -61,8 +57,10 @@ pub enum Visitor<'a> {
     FailsAt(&'a Times, usize),
     /// Counts its calls, the states and the cuts.
     Counts(&'a Times),
-    /// The same while no block of 1 MiB and more is to be had.
+    /// The same while no block of 1 MiB and more is to be had, but for the items.
     Starves(&'a Times),
+    /// As `FailsAt`, over items that lie in a block of 320 MiB; or `Starves` over these.
+    Roams(&'a Times, usize, bool),
     /// Looks how many threads were started before the caller's own part.
     Sees(HostRuntime, &'a OwnPart),
 }
@@ -82,7 +80,7 @@ impl Visitor<'_> {
                 log.write(RAN);
                 return Err(7);
             }
-            Visitor::FailsAt(times, at) => {
+            Visitor::FailsAt(times, at) | Visitor::Roams(times, at, _) => {
                 if times.count() == at {
                     return Err(7);
                 }
@@ -131,10 +129,18 @@ impl Visitor<'_> {
         }
     }
 
+    /// How many places the block of a call's owned items has, of which there are that many.
+    pub fn places(self, len: usize) -> usize {
+        match self {
+            Visitor::Roams(..) => 20 << 20,
+            _ => len,
+        }
+    }
+
     /// What is held while a call is made, whose items are there.
     pub fn holds(self, alloc: Global) -> Option<Vec<Vec<u8>>> {
         match self {
-            Visitor::Starves(_) => all_places(alloc),
+            Visitor::Starves(_) | Visitor::Roams(_, _, true) => all_places(alloc),
             _ => None,
         }
     }

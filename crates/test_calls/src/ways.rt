@@ -33,7 +33,7 @@ pub enum Way {
     Explorer(Rule, usize, usize),
 }
 
-/// All of them.
+/// All of them, but for pools of more than nine threads, which take long.
 pub fn ways(alloc: Global) -> Result<Vec<Way>, Fault> {
     let few = [
         Way::Sequential,
@@ -43,8 +43,8 @@ pub fn ways(alloc: Global) -> Result<Vec<Way>, Fault> {
         Way::Pool(3, 16),
     ];
     let mut ways = Vec::from_slice(alloc, &few)?;
-    for threads in THREADS {
-        ways.push(Way::Pool(threads, threads))?;
+    for threads in threads_between(1, 9) {
+        ways.push(Way::Pool(*threads, *threads))?;
     }
     for rule in RULES {
         ways.push(Way::Explorer(rule, WORKERS, TASKS))?;
@@ -58,6 +58,12 @@ pub struct Row {
     pub way: Way,
     pub act: Act,
     pub len: usize,
+}
+
+impl Row {
+    pub fn of(way: Way, act: Act, len: usize) -> Row {
+        Row { way, act, len }
+    }
 }
 
 /// A strategy that stands.
