@@ -13,9 +13,7 @@ mod checks;
 #[cfg(test)]
 mod entries;
 #[cfg(test)]
-mod lines;
-#[cfg(test)]
-mod longs;
+mod jobs;
 #[cfg(test)]
 mod looks;
 #[cfg(test)]

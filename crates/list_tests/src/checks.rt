@@ -13,6 +13,11 @@ pub fn held(rt: &impl Abort, text: &str, is_so: bool) {
     assert!(rt; is_so, "{text}");
 }
 
+/// Stops the test where the two differ, and prints both and what the first one is.
+pub fn equal<T: PartialEq + Debug + Drop>(rt: &impl Abort, text: &str, found: T, wanted: T) {
+    assert_eq!(rt; found, wanted, "{text}");
+}
+
 /// Stops the test where the two differ, and prints both and their row.
 pub fn row<L: Debug + Drop, T: PartialEq + Debug + Drop>(
     rt: &impl Abort,

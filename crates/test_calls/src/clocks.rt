@@ -12,6 +12,8 @@ use std::thread::Threads;
 pub struct Stepping {
     pub reading: Arc<AtomicU64, Global>,
     step: u64,
+    // Whether the readings are the squares of so many whole milliseconds.
+    is_squared: bool,
 }
 
 impl Stepping {
@@ -20,24 +22,50 @@ impl Stepping {
         Ok(Stepping {
             reading: Arc::new(alloc, start)?,
             step,
+            is_squared: false,
+        })
+    }
+
+    /// One whose readings are the squares of 0, 1, 2 .. milliseconds, so that the time between two of
+    /// them tells which two they were.
+    pub fn squares(alloc: Global) -> Result<Stepping, Fault> {
+        Ok(Stepping {
+            reading: Arc::new(alloc, AtomicU64::new(0))?,
+            step: 1,
+            is_squared: true,
         })
     }
 }
 
 impl Clock for Stepping {
     fn now(&self) -> u64 {
-        self.reading.fetch_add(self.step, Ordering::SeqCst)
+        let reading = self.reading.fetch_add(self.step, Ordering::SeqCst);
+        if self.is_squared {
+            reading.wrapping_mul(reading).wrapping_mul(1_000_000)
+        } else {
+            reading
+        }
     }
 }
 
-/// A pool of four threads with a fresh policy, and a clock.
+/// A pool of that many threads with a fresh policy, and a clock.
+pub fn learning_by<Rt: Threads, C: Clock>(
+    rt: &Rt,
+    alloc: Global,
+    threads: usize,
+    clock: C,
+) -> Result<Rayon<C>, Fault> {
+    match Rayon::new(rt, alloc, threads_of(threads), clock) {
+        Ok(strategy) => Ok(strategy),
+        Err(_) => Err(Fault::Memory),
+    }
+}
+
+/// The same of four threads.
 pub fn learning<Rt: Threads, C: Clock>(
     rt: &Rt,
     alloc: Global,
     clock: C,
 ) -> Result<Rayon<C>, Fault> {
-    match Rayon::new(rt, alloc, threads_of(4), clock) {
-        Ok(strategy) => Ok(strategy),
-        Err(_) => Err(Fault::Memory),
-    }
+    learning_by(rt, alloc, 4, clock)
 }

@@ -87,16 +87,6 @@ pub fn error_of_five() -> Result<u32, u32> {
     Err(5)
 }
 
-pub fn yes() -> bool {
-    true
-}
-
-pub fn both(left: bool, right: bool) -> bool {
-    left & right
-}
-
-pub fn nothing() {}
-
 // The body of a run that goes serially, and that of one that goes in parallel.
 pub fn serial() -> &'static str {
     "serial"

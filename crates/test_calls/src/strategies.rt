@@ -1,4 +1,5 @@
 //! What the tests make their strategies of.
+use crate::clocks::learning_by;
 use commonware_parallel::mocks::{Explorer, Rule, TASKS, WORKERS};
 use commonware_parallel::{Clock, Fault, Rayon, Site};
 use std::alloc::Global;
@@ -29,10 +30,7 @@ pub(crate) fn threads_of(number: usize) -> NonZeroUsize {
 
 /// A pool of that many threads with a fresh policy.
 pub fn fresh<Rt: Threads>(rt: &Rt, alloc: Global, threads: usize) -> Result<Rayon<Stopped>, Fault> {
-    match Rayon::new(rt, alloc, threads_of(threads), Stopped) {
-        Ok(strategy) => Ok(strategy),
-        Err(_) => Err(Fault::Memory),
-    }
+    learning_by(rt, alloc, threads, Stopped)
 }
 
 /// A pool of that many threads, planned for that many, for which no policy chooses.

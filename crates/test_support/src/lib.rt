@@ -20,7 +20,7 @@ macro_rules! holds {
 #[macro_export]
 macro_rules! same {
     ($rt:expr, $found:expr, $wanted:expr $(,)?) => {
-        crate::checks::row(
+        crate::checks::equal(
             $rt,
             concat!(module_path!(), ": ", stringify!($found)),
             $found,
