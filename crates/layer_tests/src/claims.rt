@@ -141,7 +141,8 @@ pub(crate) fn opened(rt: &impl Abort, alloc: Global, sizes: Sizes) -> (Shares, V
     ensures { AreSeatsOf result.0 result.1.items }
 {
     let (rows, len, tile_cost, workers, whole) = sizes;
-    assert!(rt; rows != 0 && len != 0 && (whole || tile_cost <= len / 2));
+    assert!(rt; rows != 0 && len != 0);
+    assert!(rt; whole || tile_cost <= len.saturating_sub(tile_cost));
     assert!(rt; rows.checked_mul(len).is_some());
     let (tile_cost, workers) = (number(rt, tile_cost), number(rt, workers));
     Shares::new(alloc, rows, len, tile_cost, workers, whole).expect(rt, "memory")
@@ -150,7 +151,8 @@ pub(crate) fn opened(rt: &impl Abort, alloc: Global, sizes: Sizes) -> (Shares, V
 // The plan of the same sizes.
 fn planned(rt: &impl Abort, sizes: Sizes) -> Plan {
     let (rows, len, tile_cost, workers, whole) = sizes;
-    assert!(rt; rows != 0 && len != 0 && (whole || tile_cost <= len / 2));
+    assert!(rt; rows != 0 && len != 0);
+    assert!(rt; whole || tile_cost <= len.saturating_sub(tile_cost));
     assert!(rt; rows.checked_mul(len).is_some());
     Plan::new(rows, len, number(rt, tile_cost), number(rt, workers), whole)
 }

@@ -22,7 +22,7 @@ use parallel_policy::key::Key;
 use parallel_policy::policy::Policy;
 use parallel_policy::table::Table;
 use parallel_pool::latch::{CoreLatch, CountLatch, OnceLatch, SpinLatch};
-use parallel_pool::rayon::{BroadcastContext, JobQueues, ThreadPool, map_in_row};
+use parallel_pool::rayon::{BroadcastContext, JobQueues, JobSeat, ThreadPool, map_in_row};
 use parallel_pool::sleep::{Sleep, SleepState};
 use parallel_shares::{Seat, Shares, cut};
 use std::alloc::{AllocGlobal, Global};
@@ -34,7 +34,6 @@ use std::sync::Wait;
 use std::sync::atomic::{AtomicU64, Ordering};
 use std::thread::Threads;
 use test_support::no_memory::all_memory;
-use test_support::same;
 
 // How what needs no memory is used: it is made and let go, and closed or used before.
 #[derive(Clone, Copy, Debug, PartialEq, Eq)]
@@ -113,41 +112,40 @@ fn rows<R: Threads + Sync + Abort>(rt: &R, alloc: Global) -> Option<()> {
     let called = if places.is_ok() { 4 } else { 0 };
     let found = (counts.left(), calls.load(Ordering::SeqCst));
     row(rt, "a row", found, (0, called));
-    row(
-        rt,
-        "a row",
-        places.ok()?.as_slice(),
-        [0, 1, 2, 3].as_slice(),
-    );
+    let places = places.ok()?;
+    row(rt, "a row", places.as_slice(), [0, 1, 2, 3].as_slice());
     let pool = ThreadPool::new(number(rt, 3));
     let indices = pool.broadcast(rt, alloc, &index_of).ok()?;
     row(rt, "a broadcast", indices.as_slice(), [0, 1, 2].as_slice());
     Some(())
 }
 
+fn seats_of_queues(alloc: Global, workers: NonZeroUsize) -> Option<JobSeat<u32>> {
+    let (queues, _owned) = JobQueues::new(alloc, workers).ok()?;
+    queues.seat(alloc).ok()
+}
+
 fn of_pool(rt: &impl Abort, alloc: Global) -> Option<()> {
     let three = number(rt, 3);
     assert!(rt; three.get() <= 65_535);
-    let _core = CoreLatch::new(alloc, three).ok()?;
-    let _count = CountLatch::with_count(alloc, three).ok()?;
-    let _spin = SpinLatch::new(alloc, three, 1).ok()?;
-    let _once = OnceLatch::new(alloc, three, 1).ok()?;
-    let _sleep = Sleep::new(alloc, three).ok()?;
-    let _state = SleepState::new(alloc, three, 0).ok()?;
-    let (queues, owned) = JobQueues::<u32>::new(alloc, three).ok()?;
-    same!(rt, owned.len(), 3);
-    let _seat = queues.seat(alloc).ok()?;
-    Some(())
+    let is_made = CoreLatch::new(alloc, three).is_ok()
+        && CountLatch::with_count(alloc, three).is_ok()
+        && SpinLatch::new(alloc, three, 1).is_ok()
+        && OnceLatch::new(alloc, three, 1).is_ok()
+        && Sleep::new(alloc, three).is_ok()
+        && SleepState::new(alloc, three, 0).is_ok()
+        && seats_of_queues(alloc, three).is_some();
+    if is_made { Some(()) } else { None }
 }
 
 fn of_bridge(rt: &impl Abort, alloc: Global) -> Option<()> {
     let three = number(rt, 3);
-    let _opened = Gate::open(alloc, three).ok()?;
-    let _gate = Gate::new(alloc, three).ok()?;
-    let _segments = segments(alloc, three, 9).ok()?;
     let (window, home) = Home::<u64, Global>::reserve(alloc, 7).ok()?;
     home.free(window);
-    Some(())
+    let is_made = Gate::open(alloc, three).is_ok()
+        && Gate::new(alloc, three).is_ok()
+        && segments(alloc, three, 9).is_ok();
+    if is_made { Some(()) } else { None }
 }
 
 // The shares of three rows of five cells, and a run over all of them.
