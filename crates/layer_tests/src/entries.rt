@@ -98,14 +98,14 @@ fn a_fresh_entry_runs_in_parallel_and_then_tries_the_serial_path(rt: HostRuntime
 
 #[test]
 fn work_over_the_budget_never_runs_serially(rt: HostRuntime) {
-    let twice = [Waits(P, 100, P), Waits(P, 100, P)];
-    let steps = [Took(P, 10_000_000), twice[0], twice[1], Keeps(S, None)];
+    let waits = Waits(P, 100, P);
+    let steps = [Took(P, 10_000_000), waits, waits, Keeps(S, None)];
     play(&rt, "projection over the budget", 4, &steps);
-    let steps = [Took(P, 30_000_000), Took(S, 12_000_000), twice[0], twice[1]];
+    let steps = [Took(P, 30_000_000), Took(S, 12_000_000), waits, waits];
     play(&rt, "both over the budget", 4, &steps);
-    let steps = [Took(P, 25_000_000), Took(S, 8_000_000), twice[0], twice[1]];
+    let steps = [Took(P, 25_000_000), Took(S, 8_000_000), waits, waits];
     play(&rt, "projection alone over the budget", 12, &steps);
-    let steps = [Took(P, 2_500_000), Took(S, 1), twice[0]];
+    let steps = [Took(P, 2_500_000), Took(S, 1), waits];
     play(&rt, "projection at the budget", 4, &steps);
 }
 
