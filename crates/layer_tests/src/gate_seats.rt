@@ -31,8 +31,8 @@ fn take_one(gate: &Gate, seats: &mut Vec<GateSeat>) -> Option<GateSeat>
     seats.pop()
 }
 
-// What is seen of the starts 50, 10 and 5 once 10 was told; of 5 once 3 was told too, and of 4 once 10
-// was told again.
+// What is seen of the starts 50, 10 and 5 once 10 was told; of 5 once 3 was told too, and of 4 once
+// 10 was told again.
 fn seen(gate: &Gate, first: &mut GateSeat, second: &mut GateSeat, third: &mut GateSeat) -> [bool; 5]
     requires belong { IsGateSeatOf gate.now first.old × IsGateSeatOf gate.now second.old
         × IsGateSeatOf gate.now third.old }

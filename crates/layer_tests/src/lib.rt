@@ -1,5 +1,5 @@
-//! The tests of shares, policies and the bridge, and of what all crates below the strategies do with
-//! memory, at concrete types. Expected values stand in the tests.
+//! The tests of shares, policies and the bridge, and of what all crates below the strategies do
+//! with memory, at concrete types. Expected values stand in the tests.
 #![tactic(auto)]
 
 #[cfg(test)]

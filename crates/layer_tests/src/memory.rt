@@ -414,8 +414,8 @@ fn grows<R: Threads + Wait + Sync + Files + AllocGlobal + Abort>(rt: &R, called:
     resident(rt).saturating_sub(before)
 }
 
-// Under `rt try` a block that is let go stays with the process, so that it grows by each: there a call
-// that takes one is seen, and elsewhere one that doesn't give it back.
+// Under `rt try` a block that is let go stays with the process, so that it grows by each: there a
+// call that takes one is seen, and elsewhere one that doesn't give it back.
 #[test]
 fn a_call_of_a_layer_gives_back_what_it_takes_and_takes_none_where_it_says_so(rt: HostRuntime) {
     let mut least = [0; 5];

@@ -165,8 +165,8 @@ fn records_of_jobs_feed_their_choices(rt: HostRuntime) {
     holds!(&rt, policy.run_entry(&rt, key).is_none());
 }
 
-// A run over ten items planned for so many, by a clock that goes on by a step at each reading and by
-// another one in each body. It returns its path, or fails by 57 where it is the one that fails.
+// A run over ten items planned for so many, by a clock that goes on by a step at each reading and
+// by another one in each body. It returns its path, or fails by 57 where it is the one that fails.
 fn run_of_ten<Rt: Wait>(
     rt: &Rt,
     policy: &Policy,
