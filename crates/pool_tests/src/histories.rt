@@ -131,8 +131,8 @@ fn a_job_counts_until_it_has_ended(rt: HostRuntime) {
     }
 }
 
-// Stops the test where the workers don't end of a pool that was let go, once a job that came in some
-// way was taken by the first worker's seat. The other one had a job that didn't end meanwhile.
+// Stops the test where the workers don't end of a pool that was let go, once a job that came in
+// some way was taken by the first worker's seat. The other one had a job that didn't end meanwhile.
 fn takes<R: Host>(rt: &R, brought: Brought, queue: Queue) {
     let mut led = leads(rt, 2);
     let halted = led.halts(rt, 1);

@@ -72,7 +72,8 @@ fn what_one_seat_has_seen_another_may_learn(rt: HostRuntime) {
     holds!(&rt, set_and_tell(&latch, &mut setter, &mut prober));
 }
 
-// What a latch says that is set, of the worker 7 that slept or not. The worker sleeps where it is to.
+// What a latch says that is set, of the worker 7 that slept or not. The worker sleeps where it is
+// to.
 fn sets_spin<R: Host>(rt: &R, sleeps: bool) -> [Option<usize>; 2] {
     let made = SpinLatch::new(rt.alloc(), NonZeroUsize::MIN, 7);
     let (latch, mut seats) = made.expect(rt, "memory");

@@ -1,5 +1,5 @@
-//! That whoever waits takes no time of a processor: an idle worker, and whoever waits for a latch or
-//! closes a pool.
+//! That whoever waits takes no time of a processor: an idle worker, and whoever waits for a latch
+//! or closes a pool.
 ghost use Rattle.std.specs.Prelude.{◌≡◌};
 
 use crate::brought::{ALL, leads};

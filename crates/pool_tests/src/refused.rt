@@ -1,12 +1,12 @@
-//! Builds and jobs that are refused: no worker is left running, and no job is waited for that didn't
-//! come.
+//! Builds and jobs that are refused: no worker is left running, and no job is waited for that
+//! didn't come.
 //!
-//! The tests that take all memory first are refused wherever they are run, but where allocations are
-//! checked (`no_memory`): there they end. The one that takes all places for a thread's stack is
+//! The tests that take all memory first are refused wherever they are run, but where allocations
+//! are checked (`no_memory`): there they end. The one that takes all places for a thread's stack is
 //! refused there too. `a_build_works_or_leaves_no_worker` and that of the many jobs are also to be
-//! run with each allocation failing in turn, as the 1000th, which is of a push to the injected jobs,
-//! and the 3000th, of a push for a worker; the former also with each start of a thread failing. A
-//! test whose own boxes are refused has nothing to ask, and ends.
+//! run with each allocation failing in turn, as the 1000th, which is of a push to the injected
+//! jobs, and the 3000th, of a push for a worker; the former also with each start of a thread
+//! failing. A test whose own boxes are refused has nothing to ask, and ends.
 use crate::brought::{Brought, Led, Long, leads};
 use crate::checks::row;
 use crate::tally::{
@@ -102,9 +102,9 @@ fn places(alloc: Global, count: usize) -> Option<(Vec<Vec<u8>>, Vec<Vec<u8>>)> {
     Some((stacks, between))
 }
 
-// A stack fits in a place, and two of them don't. Neither is kept once it is given back. A stack fits
-// also where three threads before it have a heap of their own in that place, for each of which glibc
-// takes 128 MiB at most.
+// A stack fits in a place, and two of them don't. Neither is kept once it is given back. A stack
+// fits also where three threads before it have a heap of their own in that place, for each of which
+// glibc takes 128 MiB at most.
 const STACK: usize = 800 << 20;
 
 const PLACE: usize = 1_400 << 20;
@@ -224,8 +224,8 @@ fn many_come<R: Host>(
 // A job that takes little memory.
 type Short = Job<1>;
 
-// Many jobs are brought to a pool in each way, where no memory is left if `takes_all`. Nothing where
-// the test's own memory is refused.
+// Many jobs are brought to a pool in each way, where no memory is left if `takes_all`. Nothing
+// where the test's own memory is refused.
 fn comes_or_is_refused<R: Host>(rt: &R, takes_all: bool) -> Option<()> {
     let tally = try_tally(rt.alloc())?;
     let builder = told_to(rt.alloc(), 2, &tally)?.use_current_thread();

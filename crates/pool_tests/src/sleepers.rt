@@ -20,8 +20,8 @@ fn one_sleep<R: Host>(rt: &R) -> (Sleep, Parker) {
     (sleep, parkers.pop().expect(rt, "a parker"))
 }
 
-// The one worker of a sleep is idle for so many rounds, and before one of them a job comes, or one is
-// there all the time. It returns in which round it is then, and which events it has recorded.
+// The one worker of a sleep is idle for so many rounds, and before one of them a job comes, or one
+// is there all the time. It returns in which round it is then, and which events it has recorded.
 fn idle_for<R: Host>(
     rt: &R,
     sleep: &Sleep,

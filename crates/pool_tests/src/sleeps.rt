@@ -35,7 +35,7 @@ fn finds(rt: &impl Abort, state: &mut SleepState, idle: IdleState) {
     state.work_found(idle);
 }
 
-// Two of three workers sleep, and two jobs come.
+// Two of four workers sleep and a third looks for work, and two jobs come.
 #[test]
 fn workers_sleep_and_are_woken_from_the_lowest(rt: HostRuntime) {
     let four = NonZeroUsize::MIN.saturating_add(3);
@@ -62,8 +62,8 @@ fn workers_sleep_and_are_woken_from_the_lowest(rt: HostRuntime) {
     row(&rt, "it is awake", state.wake(1), false);
 }
 
-// One worker, with the greatest count of events: a job keeps it awake, and then it sleeps until it is
-// woken by its index.
+// One worker, with the greatest count of events: a job keeps it awake, and then it sleeps until it
+// is woken by its index.
 #[test]
 fn one_worker_stays_awake_for_a_job_and_is_woken_by_its_index(rt: HostRuntime) {
     let most = 4_294_967_295;

@@ -51,8 +51,8 @@ pub(crate) fn awaits(rt: &impl Abort, word: &AtomicU64, wanted: u64, what: &str)
     row(rt, what, becomes(word, wanted), true);
 }
 
-/// By then a thread that was started sleeps where it is to wait: a worker yields 33 times before. On
-/// a machine that is busy it may still be on its way.
+/// By then a thread that was started sleeps where it is to wait: a worker yields 33 times before.
+/// On a machine that is busy it may still be on its way.
 pub(crate) fn let_it_sleep(rt: &impl Clock) {
     thread::sleep(rt, Duration::from_millis(30));
 }
