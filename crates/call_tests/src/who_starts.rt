@@ -13,14 +13,14 @@ use test_calls::ways::{Row, Through, Way, threads_between};
 use test_support::processes::last_number;
 
 // How many items a call is over, and how many threads its caller starts of that many. Of a run one
-// body is called, and a sort of 64 parts and more gives each thread that is started two.
+// body is called, and a part of a sort has no fewer items than that.
 fn wanted_of(act: Act, threads: usize) -> (usize, usize) {
     let others = threads.saturating_sub(1);
     let many = threads.saturating_mul(10);
     match act {
         Act::Run(_) => (many, 0),
         Act::Join => (many, others.min(1)),
-        Act::Sort(_) => (threads.min(63).saturating_mul(PART), others.min(62)),
+        Act::Sort(_) => (threads.saturating_mul(PART), others),
         Act::Tree(_) => (threads.saturating_mul(37), others),
         _ => (many, others),
     }

@@ -29,15 +29,15 @@ pub fn row<L: Debug + Drop, T: PartialEq + Debug + Drop>(
 }
 
 /// The same of a call that returns a list.
-pub fn lists<L: Debug + Drop, T: PartialEq + Debug + Drop, E: Debug + Drop>(
-    rt: &impl Abort,
-    of: L,
+pub fn lists<R: Abort, T: PartialEq + Debug + Drop, E: Debug + Drop>(
+    rt: &R,
+    of: &str,
     found: Result<Vec<T>, E>,
     wanted: &[T],
 ) {
     match found {
         Ok(list) => row(rt, of, list.as_slice(), wanted),
-        Err(error) => panic!(rt; "row {of:?}: {error:?} in the place of {wanted:?}"),
+        Err(error) => panic!(rt; "row {of}: {error:?} in the place of {wanted:?}"),
     }
 }
 

@@ -11,7 +11,7 @@ use std::num::NonZeroUsize;
 use std::ops::Range;
 use std::process::Abort;
 use std::sync::Wait;
-use test_support::same;
+use test_support::{holds, same};
 
 // One try of the seat at a place to claim.
 pub(crate) fn claim_at(
@@ -69,7 +69,7 @@ pub(crate) fn last_claim<R: Wait + Abort>(
     let mut last = 0..0;
     for _ in rt.forever() {
         match claim_at(rt, shares, seats, index) {
-            Tried::Claimed(cells) => last = cells,
+            Claimed(cells) => last = cells,
             _ => return last,
         }
     }
@@ -89,6 +89,9 @@ enum Step {
     Refills(usize),
 }
 
+use Step::{Claims, Empties, Refills, Steals};
+use Tried::{Claimed, Empty, Nothing, Taken};
+
 // The seats take the step of that number.
 fn take<R: Wait + Abort>(
     rt: &R,
@@ -101,20 +104,20 @@ fn take<R: Wait + Abort>(
     ensures { AreSeatsOf shares.now seats.new.items }
 {
     match steps.get(number) {
-        Some(Step::Claims(index, wanted)) => {
+        Some(Claims(index, wanted)) => {
             let tried = claim_at(rt, shares, seats, *index);
             row(rt, number, &tried, wanted);
         }
-        Some(Step::Empties(index, wanted)) => {
+        Some(Empties(index, wanted)) => {
             let last = last_claim(rt, shares, seats, *index);
             row(rt, number, &last, wanted);
         }
-        Some(Step::Steals(index, wanted, transit)) => {
+        Some(Steals(index, wanted, transit)) => {
             let (tried, carried) = steal_at(rt, shares, seats, *index);
             row(rt, number, &tried, wanted);
             row(rt, number, &carried, transit);
         }
-        Some(Step::Refills(index)) => refill_at(rt, shares, seats, *index),
+        Some(Refills(index)) => refill_at(rt, shares, seats, *index),
         None => {}
     }
 }
@@ -129,108 +132,152 @@ fn play<R: Wait + Abort>(rt: &R, shares: &Shares, seats: &mut Vec<Seat>, steps: 
     }
 }
 
-// Shares of that many rows and cells a row, and their seats.
-pub(crate) fn opened(
-    rt: &impl Abort,
-    alloc: Global,
-    rows: usize,
-    len: usize,
-    tile_cost: usize,
-    workers: usize,
-    whole: bool,
-) -> (Shares, Vec<Seat>)
-    requires some_rows { rows ≢ 0 }
-    requires some_cells { len ≢ 0 }
-    requires cells_fit { rows * len < 2 ^ 64 }
-    requires cut_pays { IsFalse whole → 2 * tile_cost ≤ len }
+/// How many rows there are, cells in a row, what a tile costs, how many workers, and whether a row
+/// stays whole.
+pub(crate) type Sizes = (usize, usize, usize, usize, bool);
+
+/// Shares of those sizes, and their seats.
+pub(crate) fn opened(rt: &impl Abort, alloc: Global, sizes: Sizes) -> (Shares, Vec<Seat>)
     ensures { AreSeatsOf result.0 result.1.items }
 {
+    let (rows, len, tile_cost, workers, whole) = sizes;
+    assert!(rt; rows != 0 && len != 0);
+    assert!(rt; whole || tile_cost <= len.saturating_sub(tile_cost));
+    assert!(rt; rows.checked_mul(len).is_some());
     let (tile_cost, workers) = (number(rt, tile_cost), number(rt, workers));
     Shares::new(alloc, rows, len, tile_cost, workers, whole).expect(rt, "memory")
 }
 
 // The plan of the same sizes.
-fn planned(
-    rt: &impl Abort,
-    rows: usize,
-    len: usize,
-    tile_cost: usize,
-    workers: usize,
-    whole: bool,
-) -> Plan
-    requires some_rows { rows ≢ 0 }
-    requires some_cells { len ≢ 0 }
-    requires cells_fit { rows * len < 2 ^ 64 }
-    requires cut_pays { IsFalse whole → 2 * tile_cost ≤ len }
-{
+fn planned(rt: &impl Abort, sizes: Sizes) -> Plan {
+    let (rows, len, tile_cost, workers, whole) = sizes;
+    assert!(rt; rows != 0 && len != 0);
+    assert!(rt; whole || tile_cost <= len.saturating_sub(tile_cost));
+    assert!(rt; rows.checked_mul(len).is_some());
     Plan::new(rows, len, number(rt, tile_cost), number(rt, workers), whole)
 }
 
-// The seats take all steps, and then these words are left.
-fn plays<R: Wait + Abort>(rt: &R, made: (Shares, Vec<Seat>), steps: &[Step], words: &[u64])
-    requires { AreSeatsOf made.0 made.1.items }
-{
-    let (shares, mut seats) = made;
+// The seats of shares of those sizes take all steps, and then these words are left at their places.
+fn plays<R: Wait + Abort>(
+    rt: &R,
+    alloc: Global,
+    sizes: Sizes,
+    steps: &[Step],
+    words: &[(usize, u64)],
+) {
+    let (shares, mut seats) = opened(rt, alloc, sizes);
     play(rt, &shares, &mut seats, steps);
-    closes(rt, shares, seats, words);
-}
-
-// The words that are left.
-fn closes(rt: &impl Abort, shares: Shares, seats: Vec<Seat>, wanted: &[u64])
-    requires { AreSeatsOf shares seats.items }
-{
-    let words = shares.close(seats);
-    same!(rt, words.as_slice(), wanted);
+    let left = shares.close(seats);
+    for (place, word) in words {
+        row(rt, (sizes, *place), left.get(*place), Some(word));
+    }
 }
 
 #[test]
 fn one_seat_claims_a_whole_queue(rt: HostRuntime) {
-    let (shares, mut seats) = opened(&rt, rt.alloc(), 65_536, 3, 1, 4, true);
-    same!(&rt, (shares.unit(), shares.cells()), (6, 196_608));
-    same!(
-        &rt,
-        (shares.workers(), shares.seats(), seats.len()),
-        (4, 4, 4),
-    );
-    let steps = [
-        Step::Empties(3, 196_602..196_608),
-        Step::Steals(3, Tried::Nothing, None),
-    ];
-    play(&rt, &shares, &mut seats, &steps);
-    closes(&rt, shares, seats, &[pack(32_768, 32_768)]);
+    let steps = [Empties(3, 196_602..196_608), Steals(3, Nothing, None)];
+    let words = [(0, pack(32_768, 32_768))];
+    plays(&rt, rt.alloc(), (65_536, 3, 1, 4, true), &steps, &words);
 }
 
+// The greatest queue, and the last unit of a cut plan.
 #[test]
-fn the_last_claim_of_the_greatest_queue_is_its_last_row(rt: HostRuntime) {
-    let len = 281_470_681_808_895;
-    let (shares, mut seats) = opened(&rt, rt.alloc(), 65_537, len, 1, 1, true);
-    let sizes = (shares.unit(), shares.cells());
-    same!(&rt, sizes, (562_941_363_617_790, usize::MAX));
+fn the_last_claim_has_the_cells_that_are_left(rt: HostRuntime) {
     let last = 18_446_462_603_027_742_720..18_446_744_073_709_551_615;
-    play(&rt, &shares, &mut seats, &[Step::Empties(0, last)]);
-    closes(&rt, shares, seats, &[pack(32_769, 32_769)]);
+    let words = [(0, pack(32_769, 32_769))];
+    let sizes = (65_537, 281_470_681_808_895, 1, 1, true);
+    plays(&rt, rt.alloc(), sizes, &[Empties(0, last)], &words);
+    let steps = [Empties(1, 99_992..100_001)];
+    plays(&rt, rt.alloc(), (1, 100_001, 10, 2, false), &steps, &[]);
+    same!(&rt, pack(3, 9), 196_617);
+}
+
+// The sizes, the cells of a unit and all cells, and the words of a plan that is untouched.
+const OPENED: [(Sizes, (usize, usize), &[u64]); 5] = [
+    (
+        (65_537, 281_470_681_808_895, 1, 1, true),
+        (562_941_363_617_790, usize::MAX),
+        &[32_769],
+    ),
+    ((65_536, 3, 1, 4, true), (6, 196_608), &[32_768]),
+    ((1, 4, 2, 2, false), (1, 4), &[2, 131_076]),
+    (
+        (1, usize::MAX, 1, 2, false),
+        (281_479_271_743_489, usize::MAX),
+        &[32_768, 2_147_549_183],
+    ),
+    (
+        (1, 100_001, 10, 2, false),
+        (2, 100_001),
+        &[25_001, 1_638_515_537],
+    ),
+];
+
+#[test]
+fn a_plan_opens_with_known_words_in_shares_and_in_the_machine(rt: HostRuntime) {
+    for (sizes, cells, words) in OPENED {
+        let (shares, seats) = opened(&rt, rt.alloc(), sizes);
+        row(&rt, sizes, (shares.unit(), shares.cells()), cells);
+        row(&rt, sizes, [shares.workers(), seats.len()], [sizes.3; 2]);
+        row(&rt, sizes, shares.close(seats).as_slice(), words);
+        let plan = planned(&rt, sizes);
+        row(&rt, sizes, plan.unit(), cells.0);
+        let state = State::new(rt.alloc(), &plan).expect(&rt, "memory");
+        row(&rt, sizes, state.words(), words);
+    }
+    let plan = planned(&rt, (1, 100_001, 10, 2, false));
+    same!(&rt, [plan.claim(), plan.units()], [5, 50_001]);
 }
 
 #[test]
-fn untouched_shares_have_the_words_of_the_opening(rt: HostRuntime) {
-    let (shares, seats) = opened(&rt, rt.alloc(), 65_537, 281_470_681_808_895, 1, 1, true);
-    closes(&rt, shares, seats, &[32_769]);
-    let (shares, seats) = opened(&rt, rt.alloc(), 1, 4, 2, 2, false);
-    closes(&rt, shares, seats, &[2, 131_076]);
-}
-
-// A plan's state has these words at first.
-fn opens_with(rt: &impl Abort, alloc: Global, plan: &Plan, words: &[u64]) {
-    let state = State::new(alloc, plan).expect(rt, "memory");
-    same!(rt, state.words(), words);
+fn a_thief_takes_the_last_of_equals(rt: HostRuntime) {
+    let steps = [
+        Claims(0, Claimed(0..1)),
+        Empties(0, 3..4),
+        Steals(0, Taken, Some(10..12)),
+        Refills(0),
+    ];
+    let words = [(0, 655_372), (1, 262_152), (2, 524_298)];
+    plays(&rt, rt.alloc(), (1, 12, 1, 3, false), &steps, &words);
 }
 
 #[test]
-fn the_machine_opens_with_the_same_words(rt: HostRuntime) {
-    let greatest = planned(&rt, 65_537, 281_470_681_808_895, 1, 1, true);
-    opens_with(&rt, rt.alloc(), &greatest, &[32_769]);
-    let small = planned(&rt, 1, 4, 2, 2, false);
-    opens_with(&rt, rt.alloc(), &small, &[2, 131_076]);
+fn a_thief_takes_the_most_cells_and_not_the_most_units(rt: HostRuntime) {
+    let steps = [
+        Empties(0, 21_844..21_846),
+        Steals(0, Taken, Some(16_384..21_846)),
+        Refills(0),
+    ];
+    let words = [(1, 715_866_112)];
+    plays(&rt, rt.alloc(), (1, 65_537, 2, 3, false), &steps, &words);
+}
+
+#[test]
+fn nothing_is_taken_where_no_split_pays_or_there_is_no_other_seat(rt: HostRuntime) {
+    let steps = [
+        Claims(0, Claimed(0..2)),
+        Claims(0, Empty),
+        Steals(0, Nothing, None),
+    ];
+    let words = [(0, pack(2, 2)), (1, 131_076)];
+    plays(&rt, rt.alloc(), (1, 4, 2, 2, false), &steps, &words);
+    let steps = [Empties(0, 7..8), Steals(0, Nothing, None)];
+    plays(&rt, rt.alloc(), (1, 8, 1, 1, false), &steps, &[]);
+}
+
+#[test]
+fn seats_share_a_row_by_a_steal(rt: HostRuntime) {
+    let steps = [
+        Empties(0, 3..4),
+        Steals(0, Taken, Some(6..8)),
+        Refills(0),
+        Claims(0, Claimed(6..7)),
+        Claims(0, Claimed(7..8)),
+        Claims(1, Claimed(4..5)),
+        Claims(1, Claimed(5..6)),
+    ];
+    let words = [(0, pack(8, 8)), (1, pack(6, 6))];
+    plays(&rt, rt.alloc(), (1, 8, 1, 2, false), &steps, &words);
 }
 
 // One step returns so.
@@ -241,8 +288,8 @@ fn takes(rt: &impl Abort, plan: &Plan, state: &mut State, event: Event, wanted: 
 // Two plans of as many words and seats, the second over twice as many cells.
 #[test]
 fn a_state_of_another_plan_is_left_as_it_was(rt: HostRuntime) {
-    let plan = planned(&rt, 3, 2, 1, 2, true);
-    let other = planned(&rt, 3, 4, 1, 2, true);
+    let plan = planned(&rt, (3, 2, 1, 2, true));
+    let other = planned(&rt, (3, 4, 1, 2, true));
     let mut state = State::new(rt.alloc(), &plan).expect(&rt, "memory");
     let load = Event::Load { seat: 0, share: 0 };
     let claim = Event::Claim { seat: 0 };
@@ -252,106 +299,6 @@ fn a_state_of_another_plan_is_left_as_it_was(rt: HostRuntime) {
     takes(&rt, &other, &mut state, claim, Outcome::Refused);
     same!(&rt, state.words(), [3].as_slice());
     takes(&rt, &plan, &mut state, claim, Outcome::Claimed(0..2));
-}
-
-#[test]
-fn the_greatest_cut_plan_opens_with_two_halves(rt: HostRuntime) {
-    let (shares, seats) = opened(&rt, rt.alloc(), 1, usize::MAX, 1, 2, false);
-    same!(&rt, shares.unit(), 281_479_271_743_489);
-    closes(&rt, shares, seats, &[32_768, 2_147_549_183]);
-}
-
-#[test]
-fn the_last_unit_of_a_cut_plan_has_the_cells_that_are_left(rt: HostRuntime) {
-    same!(&rt, pack(3, 9), 196_617);
-    let plan = planned(&rt, 1, 100_001, 10, 2, false);
-    same!(
-        &rt,
-        (plan.unit(), plan.workers(), plan.claim(), plan.units()),
-        (2, 2, 5, 50_001),
-    );
-    opens_with(&rt, rt.alloc(), &plan, &[25_001, 1_638_515_537]);
-    let (shares, mut seats) = opened(&rt, rt.alloc(), 1, 100_001, 10, 2, false);
-    play(
-        &rt,
-        &shares,
-        &mut seats,
-        &[Step::Empties(1, 99_992..100_001)],
-    );
-}
-
-#[test]
-fn a_thief_takes_the_last_of_equals(rt: HostRuntime) {
-    let steps = [
-        Step::Claims(0, Tried::Claimed(0..1)),
-        Step::Empties(0, 3..4),
-        Step::Steals(0, Tried::Taken, Some(10..12)),
-        Step::Refills(0),
-    ];
-    plays(
-        &rt,
-        opened(&rt, rt.alloc(), 1, 12, 1, 3, false),
-        &steps,
-        &[655_372, 262_152, 524_298],
-    );
-}
-
-#[test]
-fn a_thief_takes_the_most_cells_and_not_the_most_units(rt: HostRuntime) {
-    let (shares, mut seats) = opened(&rt, rt.alloc(), 1, 65_537, 2, 3, false);
-    same!(&rt, shares.unit(), 2);
-    let steps = [
-        Step::Empties(0, 21_844..21_846),
-        Step::Steals(0, Tried::Taken, Some(16_384..21_846)),
-        Step::Refills(0),
-    ];
-    play(&rt, &shares, &mut seats, &steps);
-    let words = shares.close(seats);
-    same!(&rt, words.get(1), Some(&715_866_112));
-}
-
-#[test]
-fn nothing_is_taken_where_no_split_pays(rt: HostRuntime) {
-    let steps = [
-        Step::Claims(0, Tried::Claimed(0..2)),
-        Step::Claims(0, Tried::Empty),
-        Step::Steals(0, Tried::Nothing, None),
-    ];
-    plays(
-        &rt,
-        opened(&rt, rt.alloc(), 1, 4, 2, 2, false),
-        &steps,
-        &[pack(2, 2), 131_076],
-    );
-}
-
-#[test]
-fn nothing_is_taken_where_there_is_no_other_seat(rt: HostRuntime) {
-    let (shares, mut seats) = opened(&rt, rt.alloc(), 1, 8, 1, 1, false);
-    let steps = [
-        Step::Empties(0, 7..8),
-        Step::Steals(0, Tried::Nothing, None),
-    ];
-    play(&rt, &shares, &mut seats, &steps);
-}
-
-#[test]
-fn seats_share_a_row_by_a_steal(rt: HostRuntime) {
-    let steps = [
-        Step::Empties(0, 3..4),
-        Step::Steals(0, Tried::Taken, Some(6..8)),
-        Step::Refills(0),
-        Step::Claims(0, Tried::Claimed(6..7)),
-        Step::Claims(0, Tried::Claimed(7..8)),
-        Step::Claims(1, Tried::Claimed(4..5)),
-        Step::Claims(1, Tried::Claimed(5..6)),
-    ];
-    plays(
-        &rt,
-        opened(&rt, rt.alloc(), 1, 8, 1, 2, false),
-        &steps,
-        &[pack(8, 8), pack(6, 6)],
-    );
 }
 
 // The events of two seats and their shares.
@@ -391,13 +338,13 @@ fn claims_stretches(
 )
     requires { len ≢ 0 }
 {
-    lists(rt, len, stretches(alloc, claims, len), wanted);
+    lists(rt, "stretches", stretches(alloc, claims, len), wanted);
 }
 
 #[test]
 fn a_replay_steals_and_loses_a_stale_claim(rt: HostRuntime) {
     let alloc = rt.alloc();
-    let plan = planned(&rt, 1, 8, 1, 2, false);
+    let plan = planned(&rt, (1, 8, 1, 2, false));
     let events = [
         LOOK_1, LOOK_0, CLAIM_0, LOOK_0, CLAIM_0, LOOK_0, CLAIM_0, LOOK_0, CLAIM_0, ACROSS,
         STEAL_0, CLAIM_1, FILL_0, LOOK_0, CLAIM_0, LOOK_0, CLAIM_0, LOOK_1, CLAIM_1, LOOK_1,
@@ -421,7 +368,7 @@ fn a_replay_steals_and_loses_a_stale_claim(rt: HostRuntime) {
 #[test]
 fn a_small_cut_plan_is_claimed_across_rows(rt: HostRuntime) {
     let alloc = rt.alloc();
-    let plan = planned(&rt, 3, 5, 2, 2, false);
+    let plan = planned(&rt, (3, 5, 2, 2, false));
     let events = [
         LOOK_0, CLAIM_0, LOOK_0, CLAIM_0, LOOK_0, CLAIM_0, LOOK_0, CLAIM_0,
     ];
@@ -453,36 +400,16 @@ pub(crate) fn row_cells_and_calls(
 #[test]
 fn a_run_goes_on_in_a_row_and_over_to_the_next(rt: HostRuntime) {
     let alloc = rt.alloc();
-    let (shares, mut seats) = opened(&rt, alloc, 3, 5, 2, 2, false);
-    let Some(mut seat) = seats.pop() else {
-        panic!(rt; "no seat")
-    };
+    let (shares, mut seats) = opened(&rt, alloc, (3, 5, 2, 2, false));
+    let mut seat = seats.pop().expect(&rt, "a seat");
     let mut filled = (0_usize, 0_usize);
-    let results = shares
-        .run(
-            &rt,
-            alloc,
-            &mut seat,
-            5,
-            &mut filled,
-            &count_columns,
-            &row_cells_and_calls,
-        )
-        .expect(&rt, "memory");
-    same!(
-        &rt,
-        results.as_slice(),
-        [(1, 2, 1), (2, 5, 3), (0, 1, 1), (1, 3, 2)].as_slice(),
-    );
-    row(
-        &rt,
-        "it has no room for a result of each cell",
-        results.capacity() < 15,
-        true,
-    );
-    same!(
-        &rt,
-        (filled, seat.own_empty(), seat.in_transit()),
-        ((0, 0), true, None),
-    );
+    let (fill, sum) = (&count_columns, &row_cells_and_calls);
+    let run = shares.run(&rt, alloc, &mut seat, 5, &mut filled, fill, sum);
+    let results = run.expect(&rt, "memory");
+    let wanted = [(1, 2, 1), (2, 5, 3), (0, 1, 1), (1, 3, 2)];
+    same!(&rt, results.as_slice(), wanted.as_slice());
+    // (it has no room for a result of each cell)
+    holds!(&rt, results.capacity() < 15);
+    same!(&rt, (filled, seat.own_empty()), ((0, 0), true));
+    same!(&rt, seat.in_transit(), None);
 }
