@@ -4,42 +4,22 @@
 #[cfg(test)]
 mod batches;
 #[cfg(test)]
+mod callers;
+#[cfg(test)]
 mod checks;
 #[cfg(test)]
 mod errors;
 #[cfg(test)]
 mod explorers;
 #[cfg(test)]
-mod folds;
-#[cfg(test)]
 mod in_place;
 #[cfg(test)]
-mod layers;
+mod lists;
 #[cfg(test)]
-mod lent;
-#[cfg(test)]
-mod lent_batches;
-#[cfg(test)]
-mod maps;
-#[cfg(test)]
-mod plans;
-#[cfg(test)]
-mod roots;
-#[cfg(test)]
-mod rows;
-#[cfg(test)]
-mod sequentials;
-#[cfg(test)]
-mod shares;
-#[cfg(test)]
-mod states;
+mod sides;
 #[cfg(test)]
 mod tiles;
 #[cfg(test)]
-mod transforms;
-#[cfg(test)]
 mod trees;
-#[cfg(test)]
-mod tries;
 #[cfg(test)]
 mod ways;

@@ -1,16 +1,105 @@
-//! A Merkle tree over SHA-256, as `uses` has it. Its roots and commitments were computed by another
-//! program, from what the digest of a leaf, of a node and of a whole tree is said to be.
-use crate::checks::{returns, row};
-use commonware_parallel::mocks::explore;
+//! Merkle trees: known roots by levels and by blocks, of which each node is let go once; and the tree
+//! over SHA-256, as `uses` has it. Its roots and commitments were computed by another program, from
+//! what the digest of a leaf, of a node and of a whole tree is said to be.
+use crate::checks::{Of, returns, row};
+use commonware_parallel::merkle::plain_root;
 use commonware_parallel::{Fault, Sequential, Strategy};
 use std::alloc::Global;
 use std::process::Abort;
 use std::sync::Wait;
 use std::thread::Threads;
+use test_calls::counted::{Counts, counted_items, greater};
+use test_calls::roots::{ROOTED, Rooted, root_of};
 use test_calls::strategies::{SITE, pool};
+use test_support::holds;
 use uses::merkle::{
     Digest, Tree, commitment, commitment_digest, is_member, leaf_digest, node_digest, root,
 };
+
+// ---- roots by levels and by blocks
+
+// A node of two neighbours, which tells their order and how they are grouped.
+fn combine(left: u64, right: u64) -> u64 {
+    let modulus = 1_000_003;
+    let twice = (left % modulus).wrapping_mul(2);
+    let thrice = (right % modulus).wrapping_mul(3);
+    twice.wrapping_add(thrice) % modulus
+}
+
+const SEVEN: [u64; 7] = [1, 2, 3, 4, 5, 6, 7];
+
+// The root of [9], and those of the first of seven numbers.
+fn are_known<Rt: Threads + Wait + Abort + Sync, S: Strategy>(
+    rt: &Rt,
+    alloc: Global,
+    strategy: &S,
+    through: &'static str,
+    rooted: Rooted,
+) {
+    for (numbers, known) in [
+        ([9].as_slice(), Some(9)),
+        (&SEVEN[..0], None),
+        (&SEVEN[..3], Some(25)),
+        (&SEVEN[..5], Some(155)),
+        (&SEVEN[..7], Some(371)),
+    ] {
+        let leaves = Vec::from_slice(alloc, numbers).expect(rt, "memory for leaves");
+        let found = root_of(rt, alloc, strategy, SITE, rooted, leaves, combine);
+        returns(rt, (name_of(rooted), through, numbers.len()), found, known);
+    }
+}
+
+fn name_of(rooted: Rooted) -> &'static str {
+    match rooted {
+        Rooted::ByLevels => "root by levels",
+        Rooted::ByBlocks => "root by blocks",
+    }
+}
+
+#[test]
+fn roots_are_as_by_hand(rt: HostRuntime) {
+    let alloc = rt.alloc();
+    let four = pool(&rt, alloc, 4, 4).expect(&rt, "a pool");
+    for rooted in ROOTED {
+        are_known(&rt, alloc, &Sequential, "Sequential", rooted);
+        are_known(&rt, alloc, &four, "a pool", rooted);
+    }
+    let leaves = Vec::from_slice(alloc, &SEVEN).expect(&rt, "memory for leaves");
+    let plain = plain_root(alloc, leaves, &combine);
+    returns(&rt, ("plain root", "nobody", 7), plain, Some(371));
+}
+
+// What is left of the nodes of a tree while its root is there, and then.
+fn nodes_left<Rt: Threads + Wait + Abort + Sync, S: Strategy>(
+    rt: &Rt,
+    alloc: Global,
+    strategy: &S,
+    rooted: Rooted,
+    len: usize,
+) {
+    let of: Of = (name_of(rooted), "leaves", len);
+    let counts = Counts::new();
+    let leaves = counted_items(alloc, &counts, len).expect(rt, "memory");
+    let found = root_of(rt, alloc, strategy, SITE, rooted, leaves, greater).expect(rt, "memory");
+    row(rt, of, found.is_some(), len > 0);
+    row(rt, of, counts.left(), len.min(1) as u64);
+    drop(found);
+    row(rt, of, counts.left(), 0);
+}
+
+#[test]
+fn each_node_is_let_go_once(rt: HostRuntime) {
+    let alloc = rt.alloc();
+    let eight = pool(&rt, alloc, 8, 8).expect(&rt, "a pool");
+    for rooted in ROOTED {
+        for len in [0usize, 1, 2, 3, 7, 8, 9, 1000] {
+            nodes_left(&rt, alloc, &Sequential, rooted, len);
+            nodes_left(&rt, alloc, &eight, rooted, len);
+        }
+    }
+}
+
+// ---- the tree over SHA-256
 
 // The leaves of the greatest tree. A smaller one has the first of them.
 fn all_leaves() -> [&'static [u8]; 9] {
@@ -77,20 +166,8 @@ fn is_written(digest: &Digest, text: &str) -> bool {
     digits.next().is_none()
 }
 
-// Whether the commitment to the leaves' tree is the one that is known, also by the tree with all
-// its levels.
-fn is_committed<Rt: Threads + Wait + Sync, S: Strategy>(
-    rt: &Rt,
-    alloc: Global,
-    strategy: &S,
-    leaves: &[&[u8]],
-) -> Result<bool, Fault> {
-    let own = commitment(rt, alloc, strategy, SITE, leaves)?;
-    let tree = Tree::build(rt, alloc, strategy, SITE, leaves)?;
-    Ok(own == tree.commitment() && is_written(&own, known_commitment(leaves.len())))
-}
-
-// Whether the root of the leaves is the one that is known, also by the tree with all its levels.
+// Whether the root and the commitment of the leaves are those that are known, also by the tree with
+// all its levels.
 fn is_known<Rt: Threads + Wait + Sync, S: Strategy>(
     rt: &Rt,
     alloc: Global,
@@ -98,14 +175,15 @@ fn is_known<Rt: Threads + Wait + Sync, S: Strategy>(
     leaves: &[&[u8]],
 ) -> Result<bool, Fault> {
     let own = root(rt, alloc, strategy, SITE, leaves)?;
+    let committed = commitment(rt, alloc, strategy, SITE, leaves)?;
     let tree = Tree::build(rt, alloc, strategy, SITE, leaves)?;
-    if own != tree.root() || tree.leaf_count() != leaves.len() {
-        return Ok(false);
-    }
-    Ok(match own {
+    let is_one = own == tree.root() && committed == tree.commitment();
+    let is_root = match own {
         Some(digest) => is_written(&digest, known_root(leaves.len())),
         None => leaves.is_empty(),
-    })
+    };
+    let is_committed = is_written(&committed, known_commitment(leaves.len()));
+    Ok(is_one && is_root && is_committed && tree.leaf_count() == leaves.len())
 }
 
 #[test]
@@ -115,15 +193,10 @@ fn roots_are_those_of_another_program(rt: HostRuntime) {
     let four = pool(&rt, alloc, 4, 4).expect(&rt, "a pool");
     for count in [0usize, 1, 2, 3, 4, 5, 7, 8, 9] {
         let first = leaves.get(..count).expect(&rt, "as many leaves");
-        returns(&rt, count, is_known(&rt, alloc, &Sequential, first), true);
-        returns(&rt, count, is_known(&rt, alloc, &four, first), true);
-        returns(&rt, count, is_committed(&rt, alloc, &four, first), true);
-        let explored = explore(
-            &rt,
-            alloc,
-            |explorer| is_known(&rt, alloc, explorer, first).ok(),
-        );
-        returns(&rt, count, explored, Some(true));
+        let found = is_known(&rt, alloc, &Sequential, first);
+        returns(&rt, ("SHA-256", "Sequential", count), found, true);
+        let found = is_known(&rt, alloc, &four, first);
+        returns(&rt, ("SHA-256", "a pool", count), found, true);
     }
 }
 
@@ -149,85 +222,53 @@ fn changed_steps(
     proof: &[Option<Digest>],
 ) -> Result<u64, Fault> {
     let mut accepted = 0u64;
-    for at in 0..proof.len() {
-        for change in 0..3u8 {
-            let mut forged = Vec::from_slice(alloc, proof)?;
-            if at < forged.len() {
-                forged[at] = changed(forged[at], change, commitment);
-            }
-            if is_member(commitment, count, index, leaf, &forged) {
-                accepted = accepted.saturating_add(1);
-            }
+    for both in 0..proof.len().saturating_mul(3) {
+        let mut forged = Vec::from_slice(alloc, proof)?;
+        let at = both / 3;
+        if at < forged.len() {
+            forged[at] = changed(forged[at], (both % 3) as u8, commitment);
         }
+        let is_accepted = is_member(commitment, count, index, leaf, &forged);
+        accepted = accepted.saturating_add(u64::from(is_accepted));
     }
     Ok(accepted)
 }
 
-// How many further changes are accepted: another leaf or commitment, the tree's root in place of
-// its commitment, a step less and a step more.
-fn other_claims(
-    alloc: Global,
-    (commitment, root): (&Digest, &Digest),
-    (count, index): (usize, usize),
-    leaf: &[u8],
-    proof: &[Option<Digest>],
-) -> Result<u64, Fault> {
-    let mut other_commitment = *commitment;
-    other_commitment[5] ^= 4;
-    let mut longer = Vec::from_slice(alloc, proof)?;
-    longer.push(Some(*root))?;
-    let shorter = proof.get(1..).unwrap_or(longer.as_slice());
-    let mut accepted = 0u64;
-    for is_accepted in [
-        is_member(commitment, count, index, b"another", proof),
-        is_member(&other_commitment, count, index, leaf, proof),
-        is_member(root, count, index, leaf, proof),
-        is_member(commitment, count, index, leaf, shorter),
-        is_member(commitment, count, index, leaf, &longer),
-    ] {
-        accepted = accepted.saturating_add(u64::from(is_accepted));
-    }
-    Ok(accepted)
+// Whether a claim is accepted with the tree's root in place of its commitment, or of another leaf,
+// and whether two inputs with one digest come of it.
+fn is_deceived(tree: &Tree, at: usize, leaf: &[u8], proof: &[Option<Digest>]) -> bool {
+    let (count, commitment) = (tree.leaf_count(), tree.commitment());
+    let root = tree.root().unwrap_or(commitment);
+    is_member(&root, count, at, leaf, proof)
+        || is_member(&commitment, count, at, b"another", proof)
+        || tree.has_leaf(at, b"another")
+        || tree.collision(count, at, b"another", proof, Some(leaf)).is_some()
+        || tree.collision(count, at, leaf, proof, Some(leaf)).is_some()
 }
 
 // For how many numbers of leaves below 12 and how many places below 12 the proof is accepted.
 fn places(commitment: &Digest, leaf: &[u8], proof: &[Option<Digest>]) -> u64 {
     let mut accepted = 0u64;
     for both in 0..144usize {
-        if is_member(commitment, both / 12, both % 12, leaf, proof) {
-            accepted = accepted.saturating_add(1);
-        }
+        let is_accepted = is_member(commitment, both / 12, both % 12, leaf, proof);
+        accepted = accepted.saturating_add(u64::from(is_accepted));
     }
     accepted
 }
 
 // Each leaf's proof is accepted for it alone, and no two inputs with one digest come of it.
 fn proofs_hold(rt: &impl Abort, alloc: Global, tree: &Tree, leaves: &[&[u8]]) {
-    let root = tree.root().expect(rt, "a leaf");
-    let commitment = tree.commitment();
-    let count = tree.leaf_count();
-    row(rt, count, leaves.len(), count);
-    for index in 0..count {
-        let leaf = *leaves.get(index).expect(rt, "its leaf");
-        let proof = tree.proof(alloc, index).expect(rt, "memory");
-        let at = (count, index);
-        let is_accepted = is_member(&commitment, count, index, leaf, &proof);
-        row(rt, at, is_accepted, true);
-        row(rt, at, places(&commitment, leaf, &proof), 1);
-        let others = changed_steps(alloc, &commitment, at, leaf, &proof);
-        returns(rt, at, others, 0);
-        let others = other_claims(alloc, (&commitment, &root), at, leaf, &proof);
-        returns(rt, at, others, 0);
-        row(rt, at, tree.has_leaf(index, leaf), true);
-        row(rt, at, tree.has_leaf(index, b"another"), false);
-        for (claimed, own) in [
-            (b"another".as_slice(), leaf),
-            (leaf, leaf),
-            (leaf, b"another".as_slice()),
-        ] {
-            let found = tree.collision(count, index, claimed, &proof, Some(own));
-            row(rt, at, found.is_some(), false);
-        }
+    let (commitment, count) = (tree.commitment(), leaves.len());
+    for at in 0..count {
+        let of: Of = ("proof", "leaf", at);
+        let leaf = *leaves.get(at).expect(rt, "its leaf");
+        let proof = tree.proof(alloc, at).expect(rt, "memory");
+        row(rt, of, is_member(&commitment, count, at, leaf, &proof), true);
+        row(rt, of, tree.has_leaf(at, leaf), true);
+        row(rt, of, places(&commitment, leaf, &proof), 1);
+        let others = changed_steps(alloc, &commitment, (count, at), leaf, &proof);
+        returns(rt, of, others, 0);
+        row(rt, of, is_deceived(tree, at, leaf, &proof), false);
     }
 }
 
@@ -253,9 +294,8 @@ fn another_number_of_leaves_is_refused(rt: HostRuntime) {
     let pair = Some(node_digest(&leaf_digest(b"a"), &leaf_digest(b"b")));
     let of_two = commitment_digest(2, &tree.root());
     let honest = [None, pair];
-    row(&rt, 1, is_member(&commitment, 3, 2, b"c", &honest), true);
-    row(&rt, 2, is_member(&of_two, 2, 1, b"c", &[pair]), true);
-    row(&rt, 3, is_member(&commitment, 2, 1, b"c", &[pair]), false);
-    let found = tree.collision(2, 1, b"c", &[pair], None);
-    row(&rt, 4, found.is_some(), false);
+    holds!(&rt, is_member(&commitment, 3, 2, b"c", &honest));
+    holds!(&rt, is_member(&of_two, 2, 1, b"c", &[pair]));
+    holds!(&rt, !is_member(&commitment, 2, 1, b"c", &[pair]));
+    holds!(&rt, tree.collision(2, 1, b"c", &[pair], None).is_none());
 }

@@ -1,16 +1,18 @@
 //! The ways that explorers take: by the serial and the parallel rule, and by seeds.
-use crate::checks::{returns, row};
-use crate::explorers::{PLACE, picks_last};
-use crate::states::parts_see;
-use commonware_parallel::mocks::{Explorer, Rule, TASKS, explore};
-use commonware_parallel::{Call, Counted, Fault, Grid, Strategy};
+ghost use Rattle.std.specs.Prelude.{◌<◌};
+
+use crate::checks::{Of, number, returns, row};
+use crate::explorers::PLACE;
+use crate::sides::parts_see;
+use commonware_parallel::mocks::{Explorer, Rule, TASKS, explore, pooled};
+use commonware_parallel::{Call, Chooser, Counted, Fault, Grid, Path, Pick, Strategy};
 use std::alloc::Global;
 use std::num::NonZeroUsize;
 use std::process::Abort;
 use std::sync::Wait;
 use std::thread::Threads;
 use test_calls::steps::{add_counts, count, no_count, parallel, serial, zero};
-use test_calls::strategies::pool;
+use test_calls::strategies::{Stopped, pool};
 use test_support::no_memory::all_places;
 use test_support::{holds, same};
 use uses::batches::batch_ranges;
@@ -62,6 +64,19 @@ fn last_count<Rt: Threads + Wait + Sync>(
     Ok(counts.last().copied())
 }
 
+// Whether the explorer picks the last way of such a call.
+fn picks_last<Rt: Wait>(
+    rt: &Rt,
+    alloc: Global,
+    explorer: &Explorer,
+    call: Call,
+) -> Result<bool, Fault>
+    requires { 0 < call.max_parts }
+{
+    let (pick, _unmeasured) = explorer.choose(rt, alloc, PLACE, call)?;
+    Ok(pick == Pick::By(Path::Parallel))
+}
+
 // Makes one call of each kind, but for a join and a job, whose picks alone are looked at.
 fn ways_of<Rt: Threads + Wait + Sync + Abort>(
     rt: &Rt,
@@ -101,16 +116,29 @@ fn the_parallel_rule_takes_the_most_parallel_ways(rt: HostRuntime) {
         (4, 8, parallel_ways(8)),
         (2, 1, serial_ways(true)),
     ] {
-        let strategy = pool(&rt, alloc, threads, planned).expect(&rt, "a pool");
+        let (threads, number) = (number(&rt, threads), number(&rt, planned));
+        let strategy = pooled(&rt, alloc, threads, number, Stopped).expect(&rt, "a pool");
         let explorer = Explorer::parallel(&strategy).expect(&rt, "memory");
-        let of = (threads, planned);
+        let of: Of = ("ways", "Parallel, planned for", planned);
         returns(&rt, of, ways_of(&rt, alloc, &explorer), wanted);
         returns(&rt, of, parts_see(&rt, alloc, &explorer), (true, true));
     }
 }
 
+// The ways of a seed, by its hash of the place and the length.
+fn seeded_ways(parts: usize, body: &'static str, is_last: bool, hands_off: bool) -> Ways {
+    Ways {
+        ranges: parts,
+        workers: parts,
+        body,
+        is_cut: is_last,
+        joins: is_last,
+        hands_off,
+    }
+}
+
 #[test]
-fn a_search_takes_the_serial_ways_and_then_the_parallel_ones(rt: HostRuntime) {
+fn a_search_takes_the_ways_of_each_rule(rt: HostRuntime) {
     let alloc = rt.alloc();
     let mut taken = Vec::with_capacity(alloc, 6).expect(&rt, "memory");
     let is_kept = explore(&rt, alloc, |explorer| {
@@ -118,92 +146,67 @@ fn a_search_takes_the_serial_ways_and_then_the_parallel_ones(rt: HostRuntime) {
         taken.push(ways).is_ok()
     });
     holds!(&rt, is_kept.expect(&rt, "one output"));
-    let first = taken.first().copied();
-    row(&rt, "serial", first, Some(serial_ways(false)));
-    let second = taken.get(1).copied();
-    row(&rt, "parallel", second, Some(parallel_ways(TASKS)));
-    same!(&rt, taken.len(), 6);
-}
-
-// One bit for each way that was seen of each call.
-#[derive(Clone, Copy, Debug, PartialEq, Eq)]
-struct Seen {
-    ranges: u32,
-    workers: u32,
-    others: u32,
+    let wanted = [
+        serial_ways(false),
+        parallel_ways(TASKS),
+        seeded_ways(5, "serial", false, true),
+        seeded_ways(8, "parallel", true, false),
+        seeded_ways(3, "serial", false, true),
+        seeded_ways(5, "serial", false, true),
+    ];
+    for (at, ways) in wanted.iter().enumerate() {
+        row(&rt, ("ways", "the rule at that place", at), taken.get(at), Some(ways));
+    }
 }
 
 fn bit(place: usize) -> u32 {
     1u32.wrapping_shl((place % 32) as u32)
 }
 
-fn add_seen(seen: &mut Seen, ways: Ways) {
-    seen.ranges |= bit(ways.ranges);
-    seen.workers |= bit(ways.workers);
-    let last = [
-        ways.body == "parallel",
-        ways.is_cut,
-        ways.joins,
-        ways.hands_off,
-    ];
-    for (place, is_last) in last.into_iter().enumerate() {
-        let way = if is_last { 1 } else { 0 };
-        seen.others |= bit(place.wrapping_mul(2).wrapping_add(way));
+// A bit for the number of ranges, for that of workers, and for the way of each other call.
+fn bits_of(ways: Ways) -> [u32; 3] {
+    let mut others = 0;
+    for is_last in [ways.body == "parallel", ways.is_cut, ways.joins, ways.hands_off] {
+        others = others * 4 % 256 + bit(usize::from(is_last));
     }
+    [bit(ways.ranges), bit(ways.workers), others]
 }
 
 #[test]
 fn a_seed_repeats_its_ways_and_seeds_take_each_of_them(rt: HostRuntime) {
     let alloc = rt.alloc();
     let strategy = pool(&rt, alloc, 2, 8).expect(&rt, "a pool");
-    let mut seen = Seen {
-        ranges: 0,
-        workers: 0,
-        others: 0,
-    };
+    // One to eight ranges, as many workers, and both ways of each other call, a bit for each.
+    let mut unseen = [510, 510, 255];
     for seed in 0..256u64 {
         let explorer = Explorer::seeded(&strategy, seed).expect(&rt, "memory");
         let first = ways_of(&rt, alloc, &explorer).expect(&rt, "memory");
-        returns(&rt, seed, ways_of(&rt, alloc, &explorer), first);
-        add_seen(&mut seen, first);
+        let of: Of = ("ways", "seed", seed as usize);
+        returns(&rt, of, ways_of(&rt, alloc, &explorer), first);
+        let seen = bits_of(first);
+        unseen = [unseen[0] & !seen[0], unseen[1] & !seen[1], unseen[2] & !seen[2]];
     }
-    // One to eight ranges, as many workers, and both ways of each other call.
-    let wanted = Seen {
-        ranges: 510,
-        workers: 510,
-        others: 255,
-    };
-    same!(&rt, seen, wanted);
+    same!(&rt, unseen, [0, 0, 0]);
 }
 
-// The sum of the numbers below 1,000,000, which are 8 MB as a list: by an iterator that says how
-// many come.
-fn sum_counted<Rt: Threads + Wait + Sync, S: Strategy>(
-    rt: &Rt,
-    alloc: Global,
-    strategy: &S,
-) -> Result<usize, Fault> {
-    let numbers = Counted {
-        iter: 0..1_000_000usize,
-    };
-    strategy.fold(rt, alloc, PLACE, numbers, no_count, add_counts, add_counts)
-}
+// How many numbers there are, which are 8 MB as a list, and their sum.
+const MILLION: usize = 1_000_000;
 
-// The same by an iterator alone.
-fn sum_gathered<Rt: Threads + Wait + Sync, S: Strategy>(
+const SUM: usize = 499_999_500_000;
+
+// The sum of the numbers: by an iterator that says how many come, or by an iterator alone.
+fn sum_of<Rt: Threads + Wait + Sync>(
     rt: &Rt,
     alloc: Global,
-    strategy: &S,
+    explorer: &Explorer,
+    is_counted: bool,
 ) -> Result<usize, Fault> {
-    strategy.fold(
-        rt,
-        alloc,
-        PLACE,
-        0..1_000_000usize,
-        no_count,
-        add_counts,
-        add_counts,
-    )
+    if is_counted {
+        let iter = 0..MILLION;
+        let numbers = Counted { iter };
+        return explorer.fold(rt, alloc, PLACE, numbers, no_count, add_counts, add_counts);
+    }
+    explorer.fold(rt, alloc, PLACE, 0..MILLION, no_count, add_counts, add_counts)
 }
 
 #[test]
@@ -212,18 +215,16 @@ fn a_counted_iterator_is_gathered_where_it_goes_parallel_alone(rt: HostRuntime) 
     let pool = pool(&rt, alloc, 2, 2).expect(&rt, "a pool");
     let serial = Explorer::by_rule(&pool, Rule::Serial).expect(&rt, "memory");
     let parallel = Explorer::by_rule(&pool, Rule::Parallel).expect(&rt, "memory");
-    for explorer in [&serial, &parallel] {
-        let sum = sum_counted(&rt, alloc, explorer);
-        row(&rt, explorer.rule(), sum, Ok(499_999_500_000));
-    }
+    row(&rt, ("counted", "Serial", MILLION), sum_of(&rt, alloc, &serial, true), Ok(SUM));
+    row(&rt, ("counted", "Parallel", MILLION), sum_of(&rt, alloc, &parallel, true), Ok(SUM));
     let Some(held) = all_places(alloc) else {
         return;
     };
-    let counted = sum_counted(&rt, alloc, &serial);
-    let gathered = sum_gathered(&rt, alloc, &serial);
-    let cut = sum_counted(&rt, alloc, &parallel);
+    let counted = sum_of(&rt, alloc, &serial, true);
+    let gathered = sum_of(&rt, alloc, &serial, false);
+    let cut = sum_of(&rt, alloc, &parallel, true);
     drop(held);
-    row(&rt, "counted", counted, Ok(499_999_500_000));
-    row(&rt, "gathered", gathered, Err(Fault::Memory));
-    row(&rt, "cut", cut, Err(Fault::Memory));
+    row(&rt, ("counted, without memory", "Serial", MILLION), counted, Ok(SUM));
+    row(&rt, ("gathered, without memory", "Serial", MILLION), gathered, Err(Fault::Memory));
+    row(&rt, ("counted, without memory", "Parallel", MILLION), cut, Err(Fault::Memory));
 }
