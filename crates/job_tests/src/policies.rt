@@ -6,19 +6,19 @@ use std::process::Abort;
 use std::sync::Wait;
 use std::thread::Threads;
 use test_calls::clocks::{Stepping, learning};
+use test_calls::steps::{parallel, serial};
 use test_calls::strategies::SITE;
-use uses::runs::one_of;
 
 // Stops the test where runs over 64 items don't take these bodies, one after the other.
-fn takes<Rt: Wait + Abort, S: Strategy>(
+fn takes<Rt: Wait + Abort>(
     rt: &Rt,
     alloc: Global,
-    strategy: &S,
+    strategy: &Rayon<Stepping>,
     bodies: &[&'static str],
 ) {
     for (turn, body) in bodies.iter().enumerate() {
-        let taken = one_of(rt, alloc, strategy, SITE, 64, "serial", "parallel");
-        returns(rt, turn, taken, *body);
+        let taken = strategy.run(rt, alloc, SITE, 64, serial, parallel);
+        returns(rt, ("run", "its number", turn), taken, *body);
     }
 }
 

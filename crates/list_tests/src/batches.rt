@@ -20,13 +20,24 @@ fn balanced_ranges_differ_by_one_at_most(rt: HostRuntime) {
     let alloc = rt.alloc();
     for (len, count, ranges) in [
         (10, 4, [0..3, 3..6, 6..8, 8..10].as_slice()),
+        (64, 5, [0..13, 13..26, 26..39, 39..52, 52..64].as_slice()),
         (10, 1, [0..10].as_slice()),
         (0, 1, [0..0].as_slice()),
     ] {
         let batches = Batches::balanced(alloc, &Sequential, SITE, len, number(&rt, count));
         let batches = batches.expect(&rt, "memory");
-        row(&rt, ("balanced", "Sequential", len), batches.ranges(), ranges);
-        row(&rt, ("is whole", "Sequential", len), batches.is_whole(), count == 1);
+        row(
+            &rt,
+            ("balanced", "Sequential", len),
+            batches.ranges(),
+            ranges,
+        );
+        row(
+            &rt,
+            ("is whole", "Sequential", len),
+            batches.is_whole(),
+            count == 1,
+        );
     }
     let whole = Batches::whole(alloc, &Sequential, SITE, 16).expect(&rt, "memory");
     same!(&rt, whole.ranges(), [0..16].as_slice());
@@ -43,7 +54,12 @@ fn a_batch_has_as_many_ranges_as_are_planned(rt: HostRuntime) {
         (0, 1, [0..0].as_slice()),
     ] {
         let ranges = batch_ranges(&rt, alloc, &four, SITE, len, number(&rt, minimum));
-        lists(&rt, ("ranges of a minimum", "a pool", minimum), ranges, wanted);
+        lists(
+            &rt,
+            ("ranges of a minimum", "a pool", minimum),
+            ranges,
+            wanted,
+        );
     }
     let ranges = batch_ranges(&rt, alloc, &Sequential, SITE, 16, NonZeroUsize::MIN);
     lists(&rt, ("ranges", "Sequential", 16), ranges, &[0..16]);
@@ -121,7 +137,12 @@ fn a_batch_returns_its_closures_error(rt: HostRuntime) {
     let whole = Sequential.run_batches(alloc, SITE, 16, number(&rt, 5), usize::MAX, |batches| {
         (batches.ranges() == [0..16].as_slice(), batches.site())
     });
-    returns(&rt, ("whole batch", "Sequential's own", 16), whole, (true, SITE));
+    returns(
+        &rt,
+        ("whole batch", "Sequential's own", 16),
+        whole,
+        (true, SITE),
+    );
 }
 
 // ---- lent lists
@@ -153,7 +174,12 @@ fn marks_are_right<Rt: Threads + Wait + Abort + Sync, S: Strategy>(
         let batches = batches.expect(rt, "memory");
         let changed = batches.for_each_mut(rt, alloc, numbers.as_mut_slice(), mark);
         returns(rt, ("change by parts", through, marks.len()), changed, ());
-        row(rt, ("marks by parts", through, marks.len()), numbers.as_slice(), marks);
+        row(
+            rt,
+            ("marks by parts", through, marks.len()),
+            numbers.as_slice(),
+            marks,
+        );
     }
 }
 
@@ -161,7 +187,12 @@ fn marks_are_right<Rt: Threads + Wait + Abort + Sync, S: Strategy>(
 fn each_part_of_a_lent_list_is_changed_once(rt: HostRuntime) {
     let alloc = rt.alloc();
     marks_are_right(&rt, alloc, &Sequential, "Sequential");
-    marks_are_right(&rt, alloc, &pool(&rt, alloc, 3, 3).expect(&rt, "a pool"), "a pool");
+    marks_are_right(
+        &rt,
+        alloc,
+        &pool(&rt, alloc, 3, 3).expect(&rt, "a pool"),
+        "a pool",
+    );
 }
 
 // Squares the numbers from 1 to 10 where they are, by ranges of these lengths.
@@ -173,7 +204,12 @@ fn squares_in_place<Rt: Threads + Wait + Abort + Sync, S: Strategy>(
 ) {
     let mut numbers = [1u64, 2, 3, 4, 5, 6, 7, 8, 9, 10];
     let found = square_in_place(rt, alloc, strategy, SITE, &mut numbers);
-    lists(rt, ("square_in_place", "so many ranges", lengths.len()), found, lengths);
+    lists(
+        rt,
+        ("square_in_place", "so many ranges", lengths.len()),
+        found,
+        lengths,
+    );
     same!(rt, numbers, [1, 4, 9, 16, 25, 36, 49, 64, 81, 100]);
 }
 

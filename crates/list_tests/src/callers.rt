@@ -46,7 +46,17 @@ fn values_come<Rt: Threads + Wait + Abort + Sync, S: Strategy>(
     let sum = plain_fold(rt, alloc, strategy, SITE, 0..100u32, zero, add, add);
     returns(rt, ("plain_fold", through, 100), sum, 4950);
     let numbers = 0..100u32;
-    let sum = plain_fold_init(rt, alloc, strategy, SITE, numbers, zero, zero, add_counted, add);
+    let sum = plain_fold_init(
+        rt,
+        alloc,
+        strategy,
+        SITE,
+        numbers,
+        zero,
+        zero,
+        add_counted,
+        add,
+    );
     returns(rt, ("plain_fold_init", through, 100), sum, 4950);
     let counts = count_parities(rt, alloc, strategy, SITE, &[1, 2, 3]);
     returns(rt, ("count_parities", through, 3), counts, (1, 2));
@@ -80,8 +90,18 @@ fn digests_come<Rt: Threads + Wait + Abort + Sync, S: Strategy>(
     let mut buffer = [0u8; 64];
     let written = digests_into(rt, alloc, strategy, SITE, &messages, &mut buffer);
     returns(rt, ("digests_into", through, 2), written, ());
-    row(rt, ("the first", through, 0), &buffer[..32], DIGESTS[0].as_slice());
-    row(rt, ("the second", through, 1), &buffer[32..], DIGESTS[1].as_slice());
+    row(
+        rt,
+        ("the first", through, 0),
+        &buffer[..32],
+        DIGESTS[0].as_slice(),
+    );
+    row(
+        rt,
+        ("the second", through, 1),
+        &buffer[32..],
+        DIGESTS[1].as_slice(),
+    );
     let mut digests = [[9u8; 32]; 2];
     let written = digests_by_ranges(rt, alloc, strategy, SITE, &messages, &mut digests);
     returns(rt, ("digests_by_ranges", through, 2), written, ());

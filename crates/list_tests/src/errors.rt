@@ -74,13 +74,23 @@ fn are_first<Rt: Threads + Wait + Abort + Sync, S: Strategy>(
 #[test]
 fn the_first_error_is_returned_in_each_of_a_thousand_runs(rt: HostRuntime) {
     let alloc = rt.alloc();
-    are_first(&rt, alloc, &pool(&rt, alloc, 4, 4).expect(&rt, "a pool"), "a pool");
+    are_first(
+        &rt,
+        alloc,
+        &pool(&rt, alloc, 4, 4).expect(&rt, "a pool"),
+        "a pool",
+    );
 }
 
 #[test]
 fn a_policy_returns_the_first_error_in_each_of_a_thousand_runs(rt: HostRuntime) {
     let alloc = rt.alloc();
-    are_first(&rt, alloc, &fresh(&rt, alloc, 4).expect(&rt, "a pool"), "a policy");
+    are_first(
+        &rt,
+        alloc,
+        &fresh(&rt, alloc, 4).expect(&rt, "a pool"),
+        "a policy",
+    );
 }
 
 // By each of six rules.
@@ -119,9 +129,15 @@ fn an_unsteady_closure_fails_by_an_error_of_its_own(rt: HostRuntime) {
     holds!(&rt, serial == (Err(Trouble::Closure(50)), 51));
     let four = pool(&rt, alloc, 4, 4).expect(&rt, "a pool");
     let (failed, _) = map_unsteadily(&rt, alloc, &four, 50);
-    holds!(&rt, matches!(failed, Err(Trouble::Closure(call)) if 50 <= call && call < 100));
+    holds!(
+        &rt,
+        matches!(failed, Err(Trouble::Closure(call)) if 50 <= call && call < 100)
+    );
     let (mapped, calls) = map_unsteadily(&rt, alloc, &four, 100);
-    holds!(&rt, matches!(mapped, Ok(numbers) if numbers.len() == 100) && calls == 100);
+    holds!(
+        &rt,
+        matches!(mapped, Ok(numbers) if numbers.len() == 100) && calls == 100
+    );
 }
 
 // Adds an odd number, and fails at an even one.
@@ -148,7 +164,12 @@ fn folds_come<Rt: Threads + Wait + Abort + Sync, S: Strategy>(
     sum: Result<u32, Trouble<u32>>,
 ) {
     let odd = strategy.try_fold(rt, alloc, SITE, 1..5u32, hundred, add_odd, add);
-    row(rt, ("sum of odd numbers", through, 4), odd, Err(Trouble::Closure(2)));
+    row(
+        rt,
+        ("sum of odd numbers", through, 4),
+        odd,
+        Err(Trouble::Closure(2)),
+    );
     let found = strategy.try_fold(rt, alloc, SITE, 6..8u32, zero, add_to_ten, add);
     row(rt, ("sum up to ten", through, 2), found, sum);
     let failed = strategy.try_map_collect_vec(rt, alloc, SITE, 0..100u32, square_or_fail);

@@ -35,7 +35,12 @@ fn the_hash_is_the_same_everywhere(rt: HostRuntime) {
         (3, 1244984757, 1244984758, 1244984820),
     ] {
         let found = [1, 2, 64].map(|len: usize| mix(seed, PLACE, len));
-        row(&rt, ("mix", "seed", seed as usize), found, [none, two, many]);
+        row(
+            &rt,
+            ("mix", "seed", seed as usize),
+            found,
+            [none, two, many],
+        );
     }
     let longer = Site {
         file: "aa",
@@ -69,7 +74,12 @@ fn a_rule_picks_the_first_the_last_or_by_the_hash(rt: HostRuntime) {
         (Rule::Seeded(2), PLACE, 65, 1, 3),
     ] {
         let picked = (pick(rule, site, len, two), pick(rule, site, len, eight));
-        row(&rt, (rule_name(rule), "pick of two and of eight", len), picked, (of_two, of_eight));
+        row(
+            &rt,
+            (rule_name(rule), "pick of two and of eight", len),
+            picked,
+            (of_two, of_eight),
+        );
     }
 }
 
@@ -137,7 +147,10 @@ fn two_closures_are_told_apart(rt: HostRuntime) {
     let told = explore_from_zero(&rt, rt.alloc());
     returns(&rt, ("explore_from_zero", "each rule", 100), told, Ok(4950));
     let told = explore_from_ten(&rt, rt.alloc());
-    holds!(&rt, matches!(told, Err(ExploreError::Differs(Rule::Parallel))));
+    holds!(
+        &rt,
+        matches!(told, Err(ExploreError::Differs(Rule::Parallel)))
+    );
 }
 
 // A search ends at the first output that differs, which here is the second one.
@@ -152,7 +165,10 @@ fn the_rules_come_in_their_order(rt: HostRuntime) {
             let body = explorer.run(&rt, alloc, SITE, 64, serial, parallel);
             is_kept && (body == Ok("serial") || !is_told)
         });
-        holds!(&rt, is_told == matches!(told, Err(ExploreError::Differs(Rule::Parallel))));
+        holds!(
+            &rt,
+            is_told == matches!(told, Err(ExploreError::Differs(Rule::Parallel)))
+        );
         holds!(&rt, is_told == !matches!(told, Ok(true)));
         same!(&rt, rules.as_slice(), wanted);
     }

@@ -86,8 +86,9 @@ fn map<Rt: Threads + Wait + Sync, S: Strategy>(
             strategy.map_collect_vec_with_multiplier(rt, alloc, SITE, numbers, 9, square)
         }
         Called::MapInit => strategy.map_init_collect_vec(rt, alloc, SITE, numbers, zero, count),
-        _ => strategy
-            .map_init_collect_vec_with_multiplier(rt, alloc, SITE, numbers, 9, zero, count),
+        _ => strategy.map_init_collect_vec_with_multiplier(
+            rt, alloc, SITE, numbers, 9, zero, count,
+        ),
     };
     Ok(mapped?)
 }
@@ -119,9 +120,7 @@ pub fn call<Rt: Threads + Wait + Sync, S: Strategy>(
     numbers: Range<u32>,
 ) -> Outcome {
     match called {
-        Called::TryMap => {
-            strategy.try_map_collect_vec(rt, alloc, SITE, numbers, square_or_fail)
-        }
+        Called::TryMap => { strategy.try_map_collect_vec(rt, alloc, SITE, numbers, square_or_fail) }
         Called::Fold | Called::FoldInit | Called::TryFold => {
             one(alloc, fold(rt, alloc, strategy, called, numbers)?)
         }
@@ -235,6 +234,11 @@ fn a_strategy_of_ones_own_goes_by_length(rt: HostRuntime) {
         let found = fold_by_length(&rt, alloc, &strategy, SITE, 1..4u32, ten, add, add);
         returns(&rt, ("fold_by_length", "LongLists", from), found, sum);
         let found = squares_by_length(&rt, alloc, &strategy, SITE, &[3, 0, 1]);
-        lists(&rt, ("squares_by_length", "LongLists", from), found, &[9, 0, 1]);
+        lists(
+            &rt,
+            ("squares_by_length", "LongLists", from),
+            found,
+            &[9, 0, 1],
+        );
     }
 }

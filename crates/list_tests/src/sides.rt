@@ -33,13 +33,23 @@ fn are_known<Rt: Threads + Wait + Abort + Sync, S: Strategy>(
 fn sorts_and_joins_return_known_values(rt: HostRuntime) {
     let alloc = rt.alloc();
     are_known(&rt, alloc, &Sequential, "Sequential");
-    are_known(&rt, alloc, &pool(&rt, alloc, 2, 3).expect(&rt, "a pool"), "a pool");
+    are_known(
+        &rt,
+        alloc,
+        &pool(&rt, alloc, 2, 3).expect(&rt, "a pool"),
+        "a pool",
+    );
     let mut numbers = [3, 1, 2, 1];
     let sorted = Sequential.sort_by(alloc, SITE, &mut numbers, ascending);
     returns(&rt, ("sort", "Sequential's own", 4), sorted, ());
     row(&rt, ("sort", "Sequential's own", 4), numbers, [1, 1, 2, 3]);
     Sequential.sort_unstable_by(SITE, &mut numbers, descending);
-    row(&rt, ("unstable sort", "Sequential's own", 4), numbers, [3, 2, 1, 1]);
+    row(
+        &rt,
+        ("unstable sort", "Sequential's own", 4),
+        numbers,
+        [3, 2, 1, 1],
+    );
     same!(&rt, Sequential.join(SITE, give_one, give_two), (1, 2));
 }
 
@@ -62,7 +72,13 @@ pub fn parts_see<Rt: Threads + Wait + Sync, S: Strategy>(
     strategy: &S,
 ) -> Result<(bool, bool), Fault> {
     let (first, second) = (AtomicBool::new(false), AtomicBool::new(false));
-    strategy.join(rt, alloc, SITE, || sees(&first, &second), || sees(&second, &first))
+    strategy.join(
+        rt,
+        alloc,
+        SITE,
+        || sees(&first, &second),
+        || sees(&second, &first),
+    )
 }
 
 #[test]

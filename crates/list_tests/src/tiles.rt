@@ -109,9 +109,19 @@ fn covers<Rt: Threads + Wait + Abort + Sync, S: Strategy>(
     let counted = marks(alloc, rows.saturating_mul(len)).expect(rt, "memory");
     let grids = [grid(rt, rows, tile_cost)];
     let (plan, results) = fill(rt, alloc, strategy, len, &grids, &counted);
-    row(rt, ("cells that are filled once", "rows", rows), marked_once(&counted), counted.len());
+    row(
+        rt,
+        ("cells that are filled once", "rows", rows),
+        marked_once(&counted),
+        counted.len(),
+    );
     for at in 0..rows {
-        row(rt, ("cells of a row", "its number", at), cells_of_row(&results, at), len);
+        row(
+            rt,
+            ("cells of a row", "its number", at),
+            cells_of_row(&results, at),
+            len,
+        );
     }
     plan
 }
@@ -137,7 +147,11 @@ fn each_cell_is_filled_once(rt: HostRuntime) {
     let alloc = rt.alloc();
     all_cover(&rt, alloc, &Sequential);
     for (threads, planned) in [(1, 1), (2, 2), (3, 8), (3, 16), (4, 4)] {
-        all_cover(&rt, alloc, &pool(&rt, alloc, threads, planned).expect(&rt, "a pool"));
+        all_cover(
+            &rt,
+            alloc,
+            &pool(&rt, alloc, threads, planned).expect(&rt, "a pool"),
+        );
     }
 }
 
@@ -163,7 +177,12 @@ fn two_workers_take_whole_rows_and_eight_cut_them(rt: HostRuntime) {
     for (threads, planned, is_cut) in [(2, 2, false), (1, 8, true), (2, 8, true), (4, 8, true)] {
         let strategy = pool(&rt, alloc, threads, planned).expect(&rt, "a pool");
         let plan = covers(&rt, alloc, &strategy, (4, 64, 1));
-        row(&rt, ("tiles", "a pool of threads", threads), plan, (0, planned, is_cut));
+        row(
+            &rt,
+            ("tiles", "a pool of threads", threads),
+            plan,
+            (0, planned, is_cut),
+        );
     }
 }
 
@@ -187,7 +206,12 @@ fn a_grid_without_cells_has_no_results(rt: HostRuntime) {
     let results = two.run_tiles(&rt, alloc, SITE, usize::MAX, &grids, usize::MAX, |tiles| {
         tiles.fill_collect_vec(&rt, alloc, init, fill_nothing, number_of_row)
     });
-    lists(&rt, ("tiles", "a pool", 0), results.expect(&rt, "tiles"), &[]);
+    lists(
+        &rt,
+        ("tiles", "a pool", 0),
+        results.expect(&rt, "tiles"),
+        &[],
+    );
     same!(&rt, made.load(Ordering::SeqCst), 0);
 }
 
@@ -220,9 +244,19 @@ fn rows_of_three_columns_by_hand(rt: HostRuntime) {
     let two = pool(&rt, alloc, 2, 2).expect(&rt, "a pool");
     let cost = number(&rt, 1);
     let values = two.fold_rows(&rt, alloc, SITE, 2, 3, cost, part_of, both_parts);
-    lists(&rt, ("kernel by row", "a pool", 3), values, &[(0, 0, 3, 9), (1, 0, 3, 12)]);
+    lists(
+        &rt,
+        ("kernel by row", "a pool", 3),
+        values,
+        &[(0, 0, 3, 9), (1, 0, 3, 12)],
+    );
     let values = two.fold_rows(&rt, alloc, SITE, 2, 0, cost, part_of, both_parts);
-    lists(&rt, ("kernel by row", "a pool", 0), values, &[(0, 0, 0, 0), (1, 0, 0, 0)]);
+    lists(
+        &rt,
+        ("kernel by row", "a pool", 0),
+        values,
+        &[(0, 0, 0, 0), (1, 0, 0, 0)],
+    );
 }
 
 // How many parts the kernel was called with, of one row of that many columns, each of which is in

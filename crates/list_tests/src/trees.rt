@@ -242,7 +242,9 @@ fn is_deceived(tree: &Tree, at: usize, leaf: &[u8], proof: &[Option<Digest>]) ->
     is_member(&root, count, at, leaf, proof)
         || is_member(&commitment, count, at, b"another", proof)
         || tree.has_leaf(at, b"another")
-        || tree.collision(count, at, b"another", proof, Some(leaf)).is_some()
+        || tree
+            .collision(count, at, b"another", proof, Some(leaf))
+            .is_some()
         || tree.collision(count, at, leaf, proof, Some(leaf)).is_some()
 }
 
@@ -263,7 +265,12 @@ fn proofs_hold(rt: &impl Abort, alloc: Global, tree: &Tree, leaves: &[&[u8]]) {
         let of: Of = ("proof", "leaf", at);
         let leaf = *leaves.get(at).expect(rt, "its leaf");
         let proof = tree.proof(alloc, at).expect(rt, "memory");
-        row(rt, of, is_member(&commitment, count, at, leaf, &proof), true);
+        row(
+            rt,
+            of,
+            is_member(&commitment, count, at, leaf, &proof),
+            true,
+        );
         row(rt, of, tree.has_leaf(at, leaf), true);
         row(rt, of, places(&commitment, leaf, &proof), 1);
         let others = changed_steps(alloc, &commitment, (count, at), leaf, &proof);

@@ -155,7 +155,12 @@ fn a_search_takes_the_ways_of_each_rule(rt: HostRuntime) {
         seeded_ways(5, "serial", false, true),
     ];
     for (at, ways) in wanted.iter().enumerate() {
-        row(&rt, ("ways", "the rule at that place", at), taken.get(at), Some(ways));
+        row(
+            &rt,
+            ("ways", "the rule at that place", at),
+            taken.get(at),
+            Some(ways),
+        );
     }
 }
 
@@ -165,9 +170,16 @@ fn bit(place: usize) -> u32 {
 
 // A bit for the number of ranges, for that of workers, and for the way of each other call.
 fn bits_of(ways: Ways) -> [u32; 3] {
-    let mut others = 0;
-    for is_last in [ways.body == "parallel", ways.is_cut, ways.joins, ways.hands_off] {
-        others = others * 4 % 256 + bit(usize::from(is_last));
+    let mut others = 0u32;
+    for is_last in [
+        ways.body == "parallel",
+        ways.is_cut,
+        ways.joins,
+        ways.hands_off,
+    ] {
+        others = others
+            .wrapping_mul(4)
+            .wrapping_add(bit(usize::from(is_last)));
     }
     [bit(ways.ranges), bit(ways.workers), others]
 }
@@ -184,7 +196,11 @@ fn a_seed_repeats_its_ways_and_seeds_take_each_of_them(rt: HostRuntime) {
         let of: Of = ("ways", "seed", seed as usize);
         returns(&rt, of, ways_of(&rt, alloc, &explorer), first);
         let seen = bits_of(first);
-        unseen = [unseen[0] & !seen[0], unseen[1] & !seen[1], unseen[2] & !seen[2]];
+        unseen = [
+            unseen[0] & !seen[0],
+            unseen[1] & !seen[1],
+            unseen[2] & !seen[2],
+        ];
     }
     same!(&rt, unseen, [0, 0, 0]);
 }
@@ -206,7 +222,15 @@ fn sum_of<Rt: Threads + Wait + Sync>(
         let numbers = Counted { iter };
         return explorer.fold(rt, alloc, PLACE, numbers, no_count, add_counts, add_counts);
     }
-    explorer.fold(rt, alloc, PLACE, 0..MILLION, no_count, add_counts, add_counts)
+    explorer.fold(
+        rt,
+        alloc,
+        PLACE,
+        0..MILLION,
+        no_count,
+        add_counts,
+        add_counts,
+    )
 }
 
 #[test]
@@ -215,8 +239,18 @@ fn a_counted_iterator_is_gathered_where_it_goes_parallel_alone(rt: HostRuntime) 
     let pool = pool(&rt, alloc, 2, 2).expect(&rt, "a pool");
     let serial = Explorer::by_rule(&pool, Rule::Serial).expect(&rt, "memory");
     let parallel = Explorer::by_rule(&pool, Rule::Parallel).expect(&rt, "memory");
-    row(&rt, ("counted", "Serial", MILLION), sum_of(&rt, alloc, &serial, true), Ok(SUM));
-    row(&rt, ("counted", "Parallel", MILLION), sum_of(&rt, alloc, &parallel, true), Ok(SUM));
+    row(
+        &rt,
+        ("counted", "Serial", MILLION),
+        sum_of(&rt, alloc, &serial, true),
+        Ok(SUM),
+    );
+    row(
+        &rt,
+        ("counted", "Parallel", MILLION),
+        sum_of(&rt, alloc, &parallel, true),
+        Ok(SUM),
+    );
     let Some(held) = all_places(alloc) else {
         return;
     };
@@ -224,7 +258,22 @@ fn a_counted_iterator_is_gathered_where_it_goes_parallel_alone(rt: HostRuntime) 
     let gathered = sum_of(&rt, alloc, &serial, false);
     let cut = sum_of(&rt, alloc, &parallel, true);
     drop(held);
-    row(&rt, ("counted, without memory", "Serial", MILLION), counted, Ok(SUM));
-    row(&rt, ("gathered, without memory", "Serial", MILLION), gathered, Err(Fault::Memory));
-    row(&rt, ("counted, without memory", "Parallel", MILLION), cut, Err(Fault::Memory));
+    row(
+        &rt,
+        ("counted, without memory", "Serial", MILLION),
+        counted,
+        Ok(SUM),
+    );
+    row(
+        &rt,
+        ("gathered, without memory", "Serial", MILLION),
+        gathered,
+        Err(Fault::Memory),
+    );
+    row(
+        &rt,
+        ("counted, without memory", "Parallel", MILLION),
+        cut,
+        Err(Fault::Memory),
+    );
 }
