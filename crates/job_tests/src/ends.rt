@@ -1,5 +1,5 @@
 //! What the task of a spawned job sees of its end, and jobs that nobody waits for.
-ghost use Rattle.std.specs.Prelude.{⊤};
+ghost use Rattle.std.specs.Prelude.{◌≡◌, ⊤};
 
 use crate::checks::number;
 use commonware_parallel::mocks::{Explorer, pending};
@@ -12,8 +12,7 @@ use std::random::RandomSource;
 use std::sync::atomic::{AtomicBool, Ordering};
 use std::sync::{Arc, Wait};
 use std::thread::{Threads, yield_now};
-use test_calls::steps::Gives;
-use test_calls::strategies::{SITE, Stopped, pool};
+use test_strategies::{SITE, Stopped, pool};
 use test_support::{holds, same};
 
 // Turns to wait for another thread.
@@ -28,6 +27,20 @@ fn is_raised(flag: &AtomicBool) -> bool {
         yield_now();
     }
     false
+}
+
+/// A job that returns its number.
+#[derive(Drop)]
+pub struct Gives(pub u64);
+
+impl<S: Drop> Job<S, u64> for Gives {
+    ghost may_run = { λ _ _. ⊤ };
+
+    ghost may_answer = { λ job _ answer. answer ≡ job.0 };
+
+    fn run_on(self, _strategy: S) -> u64 {
+        self.0
+    }
 }
 
 // Says that it began, and returns whether it then saw that it may end.

@@ -8,15 +8,18 @@ use std::alloc::Global;
 use std::process::Abort;
 use std::sync::Wait;
 use std::thread::available_parallelism;
-use test_calls::steps::{error_of_five, give_one, give_two, parallel, serial, seven_or_error};
-use test_calls::strategies::{SITE, Stopped, fresh, pool};
+use test_strategies::{SITE, Stopped, learning, parallel, pool, serial};
 use test_support::{holds, same};
-use uses::batches::count_by_ranges;
-use uses::long_lists::LongLists;
-use uses::runs::{count_set, one_of};
 
-// Stops the test where a run over that many items doesn't take that body, by the trait's calls and
-// by a caller, or where a count by either body or by ranges isn't 3.
+fn answered() -> Result<u32, u32> {
+    Ok(7)
+}
+
+fn failed() -> Result<u32, u32> {
+    Err(5)
+}
+
+// Stops the test where a run over 64 items doesn't take that body.
 fn takes<Rt: Wait + Abort, S: Strategy>(
     rt: &Rt,
     alloc: Global,
@@ -24,36 +27,23 @@ fn takes<Rt: Wait + Abort, S: Strategy>(
     of: Of,
     body: &'static str,
 ) {
-    let taken = strategy.run(rt, alloc, SITE, of.2, serial, parallel);
+    let taken = strategy.run(rt, alloc, SITE, 64, serial, parallel);
     returns(rt, of, taken, body);
-    let taken = one_of(rt, alloc, strategy, SITE, of.2, "serial", "parallel");
-    returns(rt, of, taken, body);
-    let tried = strategy.try_run(rt, alloc, SITE, of.2, seven_or_error, error_of_five);
+    let tried = strategy.try_run(rt, alloc, SITE, 64, answered, failed);
     let wanted = if body == "serial" {
         Ok(7)
     } else {
         Err(Trouble::Closure(5))
     };
     row(rt, of, tried, wanted);
-    let flags = [true, false, true, true, false];
-    returns(rt, of, count_set(rt, alloc, strategy, SITE, &flags), 3);
-    returns(
-        rt,
-        of,
-        count_by_ranges(rt, alloc, strategy, SITE, &flags),
-        3,
-    );
 }
 
 #[test]
 fn a_run_takes_the_body_of_its_strategy(rt: HostRuntime) {
     let alloc = rt.alloc();
     same!(&rt, Sequential.run(SITE, 4, serial, parallel), "serial");
-    holds!(
-        &rt,
-        Sequential.try_run(SITE, 4, error_of_five, seven_or_error) == Err(5)
-    );
-    takes(&rt, alloc, &Sequential, ("run", "Sequential", 4), "serial");
+    holds!(&rt, Sequential.try_run(SITE, 4, failed, answered) == Err(5));
+    takes(&rt, alloc, &Sequential, ("run", "Sequential", 1), "serial");
     for (threads, planned, body) in [
         (1, 1, "serial"),
         (4, 1, "serial"),
@@ -62,23 +52,9 @@ fn a_run_takes_the_body_of_its_strategy(rt: HostRuntime) {
         (8, 8, "parallel"),
     ] {
         let strategy = pool(&rt, alloc, threads, planned).expect(&rt, "a pool");
-        takes(&rt, alloc, &strategy, ("run", "a pool", 64), body);
+        let of: Of = ("run", "a pool planned for", planned);
+        takes(&rt, alloc, &strategy, of, body);
     }
-    let long = LongLists::new(number(&rt, 2), 64);
-    takes(
-        &rt,
-        alloc,
-        &long,
-        ("run", "LongLists from 64 on", 63),
-        "serial",
-    );
-    takes(
-        &rt,
-        alloc,
-        &long,
-        ("run", "LongLists from 64 on", 64),
-        "parallel",
-    );
 }
 
 #[test]
@@ -124,11 +100,11 @@ fn numbers_of<S: Strategy>(strategy: &S) -> (usize, usize) {
 #[test]
 fn the_planning_number_chooses(rt: HostRuntime) {
     let alloc = rt.alloc();
-    let three = fresh(&rt, alloc, 3).expect(&rt, "a pool");
+    let three = learning(&rt, alloc, 3, Stopped).expect(&rt, "a pool");
     same!(&rt, numbers_of(&three), (3, 3));
     let five = three.with_parallelism(number(&rt, 5)).without_policy();
     same!(&rt, numbers_of(&five.expect(&rt, "memory")), (5, 3));
-    let most = fresh(&rt, alloc, usize::MAX).expect(&rt, "a pool");
+    let most = learning(&rt, alloc, usize::MAX, Stopped).expect(&rt, "a pool");
     same!(&rt, numbers_of(&most), (65_535, 65_535));
     let planned = most.with_parallelism(number(&rt, usize::MAX));
     same!(&rt, numbers_of(&planned), (usize::MAX, 65_535));
@@ -151,8 +127,8 @@ fn joined<Rt: Runtime, S: Strategy>(
     rt: &Rt,
     alloc: Global,
     strategy: &S,
-) -> Result<(u32, u32), Fault> {
-    strategy.join(rt, alloc, SITE, give_one, give_two)
+) -> Result<(&'static str, &'static str), Fault> {
+    strategy.join(rt, alloc, SITE, serial, parallel)
 }
 
 #[test]
@@ -161,10 +137,6 @@ fn a_pool_of_the_machines_size_is_planned_for_all_of_it(rt: HostRuntime) {
     let cores = available_parallelism(&rt).expect(&rt, "cores").get();
     let strategy = Rayon::of_machine(&rt, alloc, number(&rt, 77)).expect(&rt, "memory");
     same!(&rt, numbers_of(&strategy), (cores, cores));
-    returns(
-        &rt,
-        ("join", "the machine's pool", 2),
-        joined(&rt, alloc, &strategy),
-        (1, 2),
-    );
+    let both = joined(&rt, alloc, &strategy).expect(&rt, "memory");
+    same!(&rt, both, ("serial", "parallel"));
 }

@@ -1,5 +1,6 @@
 //! Spawned jobs: where they run, and what a policy learns of them.
-use crate::checks::{Of, number, returns, row};
+use crate::checks::{Of, number, row};
+use crate::ends::Gives;
 use commonware_parallel::mocks::{Explorer, Rule, inline};
 use commonware_parallel::{Clock, Rayon, Sequential, Site, Strategy};
 use futures::executor::block_on;
@@ -9,11 +10,8 @@ use std::random::RandomSource;
 use std::sync::atomic::{AtomicU64, Ordering};
 use std::sync::{Arc, Wait};
 use std::thread::Threads;
-use test_calls::clocks::learning;
-use test_calls::steps::Gives;
-use test_calls::strategies::{SITE, Stopped, pool};
+use test_strategies::{SITE, learning, pool};
 use test_support::{holds, same};
-use uses::spawned_jobs::{counts_beside, two_counts};
 
 // Whether a job was handed off. It is waited for, and returns 7.
 fn is_handed_off<
@@ -113,7 +111,7 @@ fn a_policy_weighs_a_job_against_its_hand_off(rt: HostRuntime) {
         (50_000, 5_000, [true, false, true, true]),
     ] {
         let clock = Scripted::new(&rt, rt.alloc(), time, overhead);
-        let strategy = learning(&rt, rt.alloc(), clock).expect(&rt, "a pool");
+        let strategy = learning(&rt, rt.alloc(), 4, clock).expect(&rt, "a pool");
         let of: Of = ("jobs", "a policy, by their time", time as usize);
         hand_offs(&rt, &strategy, of, then);
     }
@@ -127,19 +125,4 @@ fn a_pool_of_one_thread_measures_no_job(rt: HostRuntime) {
     let one = inline(&rt, alloc, number(&rt, 4), clock).expect(&rt, "memory");
     holds!(&rt, !is_handed_off(&rt, &one, SITE));
     same!(&rt, readings.load(Ordering::SeqCst), 0);
-}
-
-// The set flags of two lists, each counted in a job of its own, and of one counted in a job beside
-// the other.
-#[test]
-fn flags_are_counted_in_jobs(rt: HostRuntime) {
-    let strategy = pool(&rt, rt.alloc(), 4, 4).expect(&rt, "a pool");
-    let flags = vec![in rt.alloc(); true, false, false].expect(&rt, "memory");
-    let others = [true, false, true];
-    let beside = counts_beside(&rt, &strategy, SITE, flags, &others);
-    returns(&rt, ("counts_beside", "a pool", 3), beside, (1, 2));
-    let flags = vec![in rt.alloc(); true, true, true].expect(&rt, "memory");
-    let more = vec![in rt.alloc(); false, true].expect(&rt, "memory");
-    let two = two_counts(&rt, &strategy, SITE, flags, more);
-    returns(&rt, ("two_counts", "a pool", 3), two, (3, 1));
 }

@@ -8,12 +8,24 @@ use std::process::Abort;
 use std::sync::Wait;
 use std::sync::atomic::{AtomicU64, Ordering};
 use std::thread::Threads;
-use test_calls::strategies::{SITE, pool};
+use test_strategies::{SITE, pool};
 use test_support::{holds, same};
-use uses::batches::batch_ranges;
-use uses::outputs::square_in_place;
 
 // ---- ranges
+
+/// The ranges that the strategy runs a batch over.
+pub fn batch_ranges<Rt: Wait, S: Strategy>(
+    rt: &Rt,
+    alloc: Global,
+    strategy: &S,
+    site: Site,
+    len: usize,
+    minimum: NonZeroUsize,
+) -> Result<Vec<Range<usize>>, Fault> {
+    let list = |batches: Batches<'_, S, Site>| batches.ranges().to_vec(alloc);
+    let ranges = strategy.run_batches(rt, alloc, site, len, minimum, 1, list)?;
+    Ok(ranges?)
+}
 
 #[test]
 fn balanced_ranges_differ_by_one_at_most(rt: HostRuntime) {
@@ -193,30 +205,4 @@ fn each_part_of_a_lent_list_is_changed_once(rt: HostRuntime) {
         &pool(&rt, alloc, 3, 3).expect(&rt, "a pool"),
         "a pool",
     );
-}
-
-// Squares the numbers from 1 to 10 where they are, by ranges of these lengths.
-fn squares_in_place<Rt: Threads + Wait + Abort + Sync, S: Strategy>(
-    rt: &Rt,
-    alloc: Global,
-    strategy: &S,
-    lengths: &[usize],
-) {
-    let mut numbers = [1u64, 2, 3, 4, 5, 6, 7, 8, 9, 10];
-    let found = square_in_place(rt, alloc, strategy, SITE, &mut numbers);
-    lists(
-        rt,
-        ("square_in_place", "so many ranges", lengths.len()),
-        found,
-        lengths,
-    );
-    same!(rt, numbers, [1, 4, 9, 16, 25, 36, 49, 64, 81, 100]);
-}
-
-#[test]
-fn a_batch_changes_the_parts_of_a_list_that_is_lent(rt: HostRuntime) {
-    let alloc = rt.alloc();
-    squares_in_place(&rt, alloc, &Sequential, &[10]);
-    let four = pool(&rt, alloc, 4, 4).expect(&rt, "a pool");
-    squares_in_place(&rt, alloc, &four, &[3, 3, 2, 2]);
 }

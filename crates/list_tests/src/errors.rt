@@ -1,6 +1,7 @@
 //! Calls whose closures fail: by which error, in each of many runs; and what is let go.
 use crate::checks::{Of, returns, row};
-use crate::lists::square_or_fail;
+use crate::counted::{Counted, Counts, again, again_of, count_again, counted_items};
+use crate::lists::{square_or_fail, ten, zero};
 use commonware_parallel::mocks::explore;
 use commonware_parallel::{Pairs, Sequential, Strategy, Trouble};
 use std::alloc::Global;
@@ -8,9 +9,7 @@ use std::process::Abort;
 use std::sync::Wait;
 use std::sync::atomic::{AtomicU32, Ordering};
 use std::thread::Threads;
-use test_calls::counted::{Counted, Counts, again, again_of, count_again, counted_items};
-use test_calls::steps::{add, add_counts, hundred, no_count, zero};
-use test_calls::strategies::{SITE, fresh, pool};
+use test_strategies::{SITE, Stopped, learning, pool};
 use test_support::{holds, same};
 
 // ---- which error
@@ -88,7 +87,7 @@ fn a_policy_returns_the_first_error_in_each_of_a_thousand_runs(rt: HostRuntime) 
     are_first(
         &rt,
         alloc,
-        &fresh(&rt, alloc, 4).expect(&rt, "a pool"),
+        &learning(&rt, alloc, 4, Stopped).expect(&rt, "a pool"),
         "a policy",
     );
 }
@@ -145,13 +144,13 @@ fn add_odd(sum: u32, number: u32) -> Result<u32, u32> {
     if number % 2 == 0 {
         Err(number)
     } else {
-        Ok(add(sum, number))
+        Ok(sum.wrapping_add(number))
     }
 }
 
 // Adds a number, and fails where the sum passes 10.
 fn add_to_ten(sum: u32, number: u32) -> Result<u32, u32> {
-    let next = add(sum, number);
+    let next = sum.wrapping_add(number);
     if next > 10 { Err(number) } else { Ok(next) }
 }
 
@@ -163,14 +162,18 @@ fn folds_come<Rt: Threads + Wait + Abort + Sync, S: Strategy>(
     through: &'static str,
     sum: Result<u32, Trouble<u32>>,
 ) {
-    let odd = strategy.try_fold(rt, alloc, SITE, 1..5u32, hundred, add_odd, add);
-    row(
+    let odd = strategy.try_fold(rt, alloc, SITE, 1..5u32, ten, add_odd, u32::wrapping_add);
+    let of: Of = ("sum of odd numbers", through, 4);
+    row(rt, of, odd, Err(Trouble::Closure(2)));
+    let found = strategy.try_fold(
         rt,
-        ("sum of odd numbers", through, 4),
-        odd,
-        Err(Trouble::Closure(2)),
+        alloc,
+        SITE,
+        6..8u32,
+        zero,
+        add_to_ten,
+        u32::wrapping_add,
     );
-    let found = strategy.try_fold(rt, alloc, SITE, 6..8u32, zero, add_to_ten, add);
     row(rt, ("sum up to ten", through, 2), found, sum);
     let failed = strategy.try_map_collect_vec(rt, alloc, SITE, 0..100u32, square_or_fail);
     let wanted = Some(Trouble::Closure(57));
@@ -185,7 +188,7 @@ fn a_call_ends_at_its_first_error(rt: HostRuntime) {
     folds_come(&rt, alloc, &Sequential, "Sequential", in_one);
     let two = pool(&rt, alloc, 2, 2).expect(&rt, "a pool");
     folds_come(&rt, alloc, &two, "a pool of two", Ok(13));
-    let own = Sequential.try_fold(SITE, 6..8u32, zero, add_to_ten, add);
+    let own = Sequential.try_fold(SITE, 6..8u32, zero, add_to_ten, u32::wrapping_add);
     holds!(&rt, own == Err(7));
     let own = Sequential.try_map_collect_vec(alloc, SITE, 0..100u32, square_or_fail);
     holds!(&rt, own.err() == Some(Trouble::Closure(57)));
@@ -218,30 +221,42 @@ fn again_of_two<'a>(pair: (Counted<'a>, Counted<'a>)) -> Result<Counted<'a>, usi
     again_of(&pair.0)
 }
 
-// The map, whose values are there beside those that are lent while they are kept: how many.
-fn map_again<Rt: Threads + Wait + Abort + Sync, S: Strategy>(
+fn no_count() -> usize {
+    0
+}
+
+// The map.
+fn map_again<'a, Rt: Threads + Wait + Sync, S: Strategy>(
     rt: &Rt,
     alloc: Global,
     strategy: &S,
-    items: Vec<Counted<'_>>,
+    items: Vec<Counted<'a>>,
     over: Over,
-    counts: &Counts,
-) -> Result<usize, Trouble<usize>> {
-    let lent = if over == Over::Slice { items.len() } else { 0 };
-    let values = match over {
-        Over::Slice => {
-            strategy.try_map_collect_vec(rt, alloc, SITE, items.as_slice(), again_of)?
-        }
-        Over::Vector => strategy.try_map_collect_vec(rt, alloc, SITE, items, again)?,
+) -> Result<Vec<Counted<'a>>, Trouble<usize>> {
+    match over {
+        Over::Slice => { strategy.try_map_collect_vec(rt, alloc, SITE, items.as_slice(), again_of) }
+        Over::Vector => strategy.try_map_collect_vec(rt, alloc, SITE, items, again),
         Over::Pairs => {
             let (pairs, _none) = Pairs::new(items);
-            strategy.try_map_collect_vec(rt, alloc, SITE, pairs, again_of_two)?
+            strategy.try_map_collect_vec(rt, alloc, SITE, pairs, again_of_two)
         }
-        _ => strategy.try_map_collect_vec(rt, alloc, SITE, items.into_iter(), again)?,
-    };
-    let there = values.len().saturating_add(lent);
-    same!(rt, counts.left(), there as u64);
-    Ok(values.len())
+        _ => strategy.try_map_collect_vec(rt, alloc, SITE, items.into_iter(), again),
+    }
+}
+
+// How many values it returned, which alone are there while they are kept.
+fn values_of(
+    rt: &impl Abort,
+    counts: &Counts,
+    mapped: Result<Vec<Counted<'_>>, Trouble<usize>>,
+) -> Result<usize, Trouble<usize>> {
+    match mapped {
+        Ok(values) => {
+            same!(rt, counts.left(), values.len() as u64);
+            Ok(values.len())
+        }
+        Err(trouble) => Err(trouble),
+    }
 }
 
 // The same, or the fold that counts the items.
@@ -255,13 +270,29 @@ fn call_over<Rt: Threads + Wait + Abort + Sync, S: Strategy>(
 ) -> Result<usize, Trouble<usize>> {
     match over {
         Over::FoldedVector => {
-            strategy.try_fold(rt, alloc, SITE, items, no_count, count_again, add_counts)
+            strategy.try_fold(
+                rt,
+                alloc,
+                SITE,
+                items,
+                no_count,
+                count_again,
+                usize::wrapping_add,
+            )
         }
         Over::FoldedIterator => {
             let items = items.into_iter();
-            strategy.try_fold(rt, alloc, SITE, items, no_count, count_again, add_counts)
+            strategy.try_fold(
+                rt,
+                alloc,
+                SITE,
+                items,
+                no_count,
+                count_again,
+                usize::wrapping_add,
+            )
         }
-        _ => map_again(rt, alloc, strategy, items, over, counts),
+        _ => values_of(rt, counts, map_again(rt, alloc, strategy, items, over)),
     }
 }
 

@@ -8,10 +8,8 @@ use std::num::NonZeroUsize;
 use std::sync::Wait;
 use std::test::Fail;
 use std::thread::Threads;
-use test_calls::steps::{add_sums, parallel, serial};
-use test_calls::strategies::{RULES, SITE};
+use test_strategies::{SITE, parallel, serial};
 use test_support::{holds, same};
-use uses::explored::{explore_from_ten, explore_from_zero};
 
 /// The first place of a file whose name is one byte.
 pub const PLACE: Site = Site {
@@ -126,7 +124,15 @@ fn sum_from<Rt: Threads + Wait + Sync, S: Strategy>(
     first: u64,
 ) -> Result<u64, Fault> {
     let items = Copies { slice: numbers };
-    strategy.fold(rt, alloc, SITE, items, || first, add_sums, add_sums)
+    strategy.fold(
+        rt,
+        alloc,
+        SITE,
+        items,
+        || first,
+        u64::wrapping_add,
+        u64::wrapping_add,
+    )
 }
 
 #[test]
@@ -142,16 +148,14 @@ fn a_sum_does_not_depend_on_the_shape(rt: HostRuntime) -> Result<(), Fail> {
     Ok(())
 }
 
-#[test]
-fn two_closures_are_told_apart(rt: HostRuntime) {
-    let told = explore_from_zero(&rt, rt.alloc());
-    returns(&rt, ("explore_from_zero", "each rule", 100), told, Ok(4950));
-    let told = explore_from_ten(&rt, rt.alloc());
-    holds!(
-        &rt,
-        matches!(told, Err(ExploreError::Differs(Rule::Parallel)))
-    );
-}
+const RULES: [Rule; 6] = [
+    Rule::Serial,
+    Rule::Parallel,
+    Rule::Seeded(0),
+    Rule::Seeded(1),
+    Rule::Seeded(2),
+    Rule::Seeded(3),
+];
 
 // A search ends at the first output that differs, which here is the second one.
 #[test]

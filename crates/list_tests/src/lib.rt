@@ -1,12 +1,12 @@
-//! The calls over lists, ranges, tiles and trees, at concrete types. Expected values stand in the tests.
+//! The calls of the strategies, at concrete types. Expected values stand in the tests.
 #![tactic(auto)]
 
 #[cfg(test)]
 mod batches;
 #[cfg(test)]
-mod callers;
-#[cfg(test)]
 mod checks;
+#[cfg(test)]
+mod counted;
 #[cfg(test)]
 mod errors;
 #[cfg(test)]

@@ -3,7 +3,7 @@
 //! The identity 10 isn't neutral for addition, so that a sum tells in how many segments a list
 //! went: each leaf of its shape adds 20, and a list in one piece adds 10. A state counts the items
 //! of its segment.
-use crate::checks::{Of, lists, number, returns};
+use crate::checks::{Of, lists};
 use commonware_parallel::mocks::Explorer;
 use commonware_parallel::{Sequential, Strategy, Trouble};
 use std::alloc::{AllocError, Global};
@@ -11,10 +11,21 @@ use std::ops::Range;
 use std::process::Abort;
 use std::sync::Wait;
 use std::thread::Threads;
-use test_calls::calls::Called;
-use test_calls::steps::{add, add_counted, add_or_fail, count, ten, tenfold, zero};
-use test_calls::strategies::{SITE, pool};
-use uses::long_lists::{LongLists, fold_by_length, squares_by_length};
+use test_strategies::{SITE, pool};
+
+/// A list call, which is the strategy's of that name.
+#[derive(Clone, Copy, Debug, PartialEq, Eq)]
+pub enum Called {
+    Map,
+    MultipliedMap,
+    TryMap,
+    MapInit,
+    MultipliedMapInit,
+    Fold,
+    FoldInit,
+    TryFold,
+    Partition,
+}
 
 /// What a call returns as a list: a fold its one value, a partition its values and then its keys.
 pub type Outcome = Result<Vec<u32>, Trouble<u32>>;
@@ -47,6 +58,44 @@ pub const KNOWN: [Known; 12] = [
     (Called::Partition, 0, 6, [&[0, 20, 40, 1, 3, 5]; 3]),
 ];
 
+// ---- what their closures do
+
+/// What a state begins with, and a sum that is to be the list's own.
+pub fn zero() -> u32 {
+    0
+}
+
+/// What a sum begins with that tells the segments.
+pub fn ten() -> u32 {
+    10
+}
+
+/// Adds 1 to the state and returns it, whatever the item.
+pub fn count(state: &mut u32, _item: u32) -> u32 {
+    *state = state.wrapping_add(1);
+    *state
+}
+
+// Adds the item, and counts it in the state.
+fn add_counted(sum: u32, state: &mut u32, item: u32) -> u32 {
+    *state = state.wrapping_add(1);
+    sum.wrapping_add(item)
+}
+
+// The sum, by a step that fails nowhere.
+fn add_or_fail(sum: u32, item: u32) -> Result<u32, u32> {
+    Ok(sum.wrapping_add(item))
+}
+
+// The even numbers with ten times themselves, and the odd ones without.
+fn tenfold(number: u32) -> (u32, Option<u32>) {
+    if number % 2 == 0 {
+        (number, Some(number.wrapping_mul(10)))
+    } else {
+        (number, None)
+    }
+}
+
 fn square(number: u32) -> u32 {
     number.wrapping_mul(number)
 }
@@ -59,6 +108,8 @@ pub fn square_or_fail(number: u32) -> Result<u32, u32> {
         Ok(square(number))
     }
 }
+
+// ---- the calls
 
 // One value as a list.
 fn one(alloc: Global, value: u32) -> Outcome {
@@ -102,11 +153,36 @@ fn fold<Rt: Threads + Wait + Sync, S: Strategy>(
     numbers: Range<u32>,
 ) -> Result<u32, Trouble<u32>> {
     let folded = match called {
-        Called::Fold => strategy.fold(rt, alloc, SITE, numbers, ten, add, add),
+        Called::Fold => strategy.fold(
+            rt,
+            alloc,
+            SITE,
+            numbers,
+            ten,
+            u32::wrapping_add,
+            u32::wrapping_add,
+        ),
         Called::FoldInit => {
-            strategy.fold_init(rt, alloc, SITE, numbers, zero, ten, add_counted, add)
+            strategy.fold_init(
+                rt,
+                alloc,
+                SITE,
+                numbers,
+                zero,
+                ten,
+                add_counted,
+                u32::wrapping_add,
+            )
         }
-        _ => return strategy.try_fold(rt, alloc, SITE, numbers, ten, add_or_fail, add),
+        _ => return strategy.try_fold(
+            rt,
+            alloc,
+            SITE,
+            numbers,
+            ten,
+            add_or_fail,
+            u32::wrapping_add,
+        ),
     };
     Ok(folded?)
 }
@@ -157,9 +233,22 @@ fn call_own(alloc: Global, called: Called, numbers: Range<u32>) -> Outcome {
 
 fn fold_own(called: Called, numbers: Range<u32>) -> Result<u32, Trouble<u32>> {
     match called {
-        Called::Fold => Ok(Sequential.fold(SITE, numbers, ten, add, add)),
-        Called::FoldInit => Ok(Sequential.fold_init(SITE, numbers, zero, ten, add_counted, add)),
-        _ => match Sequential.try_fold(SITE, numbers, ten, add_or_fail, add) {
+        Called::Fold => Ok(Sequential.fold(
+            SITE,
+            numbers,
+            ten,
+            u32::wrapping_add,
+            u32::wrapping_add,
+        )),
+        Called::FoldInit => Ok(Sequential.fold_init(
+            SITE,
+            numbers,
+            zero,
+            ten,
+            add_counted,
+            u32::wrapping_add,
+        )),
+        _ => match Sequential.try_fold(SITE, numbers, ten, add_or_fail, u32::wrapping_add) {
             Ok(sum) => Ok(sum),
             Err(error) => Err(Trouble::Closure(error)),
         },
@@ -224,21 +313,4 @@ fn a_list_along_the_shape_takes_two_identities_and_a_state_a_leaf(rt: HostRuntim
     are_known(&rt, alloc, ("an explorer over two", &explorer), 1);
     let one = pool(&rt, alloc, 1, 2).expect(&rt, "a pool");
     are_known(&rt, alloc, ("a pool of one", &one), 2);
-}
-
-#[test]
-fn a_strategy_of_ones_own_goes_by_length(rt: HostRuntime) {
-    let alloc = rt.alloc();
-    for (from, sum) in [(3, 66), (4, 16)] {
-        let strategy = LongLists::new(number(&rt, 2), from);
-        let found = fold_by_length(&rt, alloc, &strategy, SITE, 1..4u32, ten, add, add);
-        returns(&rt, ("fold_by_length", "LongLists", from), found, sum);
-        let found = squares_by_length(&rt, alloc, &strategy, SITE, &[3, 0, 1]);
-        lists(
-            &rt,
-            ("squares_by_length", "LongLists", from),
-            found,
-            &[9, 0, 1],
-        );
-    }
 }

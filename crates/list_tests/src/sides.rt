@@ -3,13 +3,21 @@
 use crate::checks::{Of, returns, row};
 use commonware_parallel::{Fault, Sequential, Strategy};
 use std::alloc::Global;
+use std::cmp as order;
 use std::process::Abort;
 use std::sync::Wait;
 use std::sync::atomic::{AtomicBool, AtomicU32, Ordering};
 use std::thread::{Threads, yield_now};
-use test_calls::steps::{ascending, descending, give_one, give_two};
-use test_calls::strategies::{SITE, pool};
+use test_strategies::{SITE, parallel, pool, serial};
 use test_support::same;
+
+fn ascending(left: &u32, right: &u32) -> order::Ordering {
+    left.cmp(right)
+}
+
+fn descending(left: &u32, right: &u32) -> order::Ordering {
+    right.cmp(left)
+}
 
 // Two sorts and a join.
 fn are_known<Rt: Threads + Wait + Abort + Sync, S: Strategy>(
@@ -25,8 +33,8 @@ fn are_known<Rt: Threads + Wait + Abort + Sync, S: Strategy>(
     let sorted = strategy.sort_unstable_by(rt, alloc, SITE, &mut numbers, descending);
     returns(rt, ("unstable sort", through, 4), sorted, ());
     row(rt, ("unstable sort", through, 4), numbers, [3, 2, 1, 1]);
-    let both = strategy.join(rt, alloc, SITE, give_one, give_two);
-    returns(rt, ("join", through, 2), both, (1, 2));
+    let both = strategy.join(rt, alloc, SITE, serial, parallel);
+    returns(rt, ("join", through, 2), both, ("serial", "parallel"));
 }
 
 #[test]
@@ -50,7 +58,11 @@ fn sorts_and_joins_return_known_values(rt: HostRuntime) {
         numbers,
         [3, 2, 1, 1],
     );
-    same!(&rt, Sequential.join(SITE, give_one, give_two), (1, 2));
+    same!(
+        &rt,
+        Sequential.join(SITE, serial, parallel),
+        ("serial", "parallel")
+    );
 }
 
 // Sets the own flag, and returns whether the other one was seen within ten million turns.
