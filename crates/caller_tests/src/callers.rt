@@ -1,5 +1,5 @@
 //! Known values of callers, through a serial strategy and a pool.
-use crate::checks::{lists, number, returns, row};
+use crate::checks::{Of, lists, number, returns, row};
 use commonware_parallel::mocks::{ExploreError, Rule};
 use commonware_parallel::{Sequential, Strategy};
 use std::alloc::Global;
@@ -115,18 +115,10 @@ fn digests_come<Rt: Threads + Wait + Abort + Sync, S: Strategy>(
     let mut buffer = [0u8; 64];
     let written = digests_into(rt, alloc, strategy, SITE, &messages, &mut buffer);
     returns(rt, ("digests_into", through, 2), written, ());
-    row(
-        rt,
-        ("the first", through, 0),
-        &buffer[..32],
-        DIGESTS[0].as_slice(),
-    );
-    row(
-        rt,
-        ("the second", through, 1),
-        &buffer[32..],
-        DIGESTS[1].as_slice(),
-    );
+    let of: Of = ("the first", through, 0);
+    row(rt, of, &buffer[..32], DIGESTS[0].as_slice());
+    let of: Of = ("the second", through, 1);
+    row(rt, of, &buffer[32..], DIGESTS[1].as_slice());
     let mut digests = [[9u8; 32]; 2];
     let written = digests_by_ranges(rt, alloc, strategy, SITE, &messages, &mut digests);
     returns(rt, ("digests_by_ranges", through, 2), written, ());
@@ -157,12 +149,8 @@ fn squares_come<Rt: Threads + Wait + Abort + Sync, S: Strategy>(
 ) {
     let mut numbers = [1u64, 2, 3, 4, 5, 6, 7, 8, 9, 10];
     let found = square_in_place(rt, alloc, strategy, SITE, &mut numbers);
-    lists(
-        rt,
-        ("square_in_place", "so many ranges", lengths.len()),
-        found,
-        lengths,
-    );
+    let of: Of = ("square_in_place", "so many ranges", lengths.len());
+    lists(rt, of, found, lengths);
     same!(rt, numbers, [1, 4, 9, 16, 25, 36, 49, 64, 81, 100]);
 }
 
@@ -173,12 +161,8 @@ fn a_batch_changes_the_parts_of_a_list_that_is_lent(rt: HostRuntime) {
     let four = pool(&rt, alloc, 4, 4).expect(&rt, "a pool");
     squares_come(&rt, alloc, &four, &[3, 3, 2, 2]);
     let ranges = batch_ranges(&rt, alloc, &four, SITE, 16, number(&rt, 5));
-    lists(
-        &rt,
-        ("batch_ranges", "a pool", 16),
-        ranges,
-        &[0..6, 6..11, 11..16],
-    );
+    let of: Of = ("batch_ranges", "a pool", 16);
+    lists(&rt, of, ranges, &[0..6, 6..11, 11..16]);
 }
 
 // A run takes that body, and a count by either body or by ranges is 3.
@@ -223,12 +207,8 @@ fn a_strategy_of_ones_own_goes_by_length(rt: HostRuntime) {
         let sum = fold_by_length(&rt, alloc, &strategy, SITE, 1..4u32, ten, add, add);
         returns(&rt, ("fold_by_length", "LongLists", from), sum, wanted);
         let found = squares_by_length(&rt, alloc, &strategy, SITE, &[3, 0, 1]);
-        lists(
-            &rt,
-            ("squares_by_length", "LongLists", from),
-            found,
-            &[9, 0, 1],
-        );
+        let of: Of = ("squares_by_length", "LongLists", from);
+        lists(&rt, of, found, &[9, 0, 1]);
     }
 }
 

@@ -111,41 +111,31 @@ fn roots_are_those_of_another_program(rt: HostRuntime) {
     }
 }
 
-// A step of a proof, changed: another byte at either end, or the step taken away or put in.
-fn changed(step: Option<Digest>, change: u8, other: &Digest) -> Option<Digest> {
-    let Some(mut digest) = step else {
-        return Some(*other);
-    };
-    match change {
-        0 => digest[0] ^= 1,
-        1 => digest[31] ^= 128,
-        _ => return None,
-    }
-    Some(digest)
-}
-
-// How many of such changes of one step of a proof are accepted.
-fn changed_steps(
+// With how many of its steps taken away, or put in where there was none, the proof is accepted.
+fn other_steps(
     alloc: Global,
     commitment: &Digest,
-    (count, index): (usize, usize),
+    (count, at): (usize, usize),
     leaf: &[u8],
     proof: &[Option<Digest>],
 ) -> Result<u64, Fault> {
     let mut accepted = 0u64;
-    for both in 0..proof.len().saturating_mul(3) {
+    for place in 0..proof.len() {
         let mut forged = Vec::from_slice(alloc, proof)?;
-        let at = both / 3;
-        if at < forged.len() {
-            forged[at] = changed(forged[at], (both % 3) as u8, commitment);
+        if let Some(step) = forged.get_mut(place) {
+            *step = if step.is_some() {
+                None
+            } else {
+                Some(*commitment)
+            };
         }
-        let is_accepted = is_member(commitment, count, index, leaf, &forged);
+        let is_accepted = is_member(commitment, count, at, leaf, &forged);
         accepted = accepted.saturating_add(u64::from(is_accepted));
     }
     Ok(accepted)
 }
 
-// Whether a claim is accepted with the tree's root in place of its commitment, or of another leaf,
+// Whether a claim is accepted of another leaf, or with the tree's root in place of its commitment,
 // and whether two inputs with one digest come of it.
 fn is_deceived(tree: &Tree, at: usize, leaf: &[u8], proof: &[Option<Digest>]) -> bool {
     let (count, commitment) = (tree.leaf_count(), tree.commitment());
@@ -176,15 +166,10 @@ fn proofs_hold(rt: &impl Abort, alloc: Global, tree: &Tree, leaves: &[&[u8]]) {
         let of: Of = ("proof", "leaf", at);
         let leaf = *leaves.get(at).expect(rt, "its leaf");
         let proof = tree.proof(alloc, at).expect(rt, "memory");
-        row(
-            rt,
-            of,
-            is_member(&commitment, count, at, leaf, &proof),
-            true,
-        );
-        row(rt, of, tree.has_leaf(at, leaf), true);
+        let is_accepted = is_member(&commitment, count, at, leaf, &proof);
+        row(rt, of, is_accepted && tree.has_leaf(at, leaf), true);
         row(rt, of, places(&commitment, leaf, &proof), 1);
-        let others = changed_steps(alloc, &commitment, (count, at), leaf, &proof);
+        let others = other_steps(alloc, &commitment, (count, at), leaf, &proof);
         returns(rt, of, others, 0);
         row(rt, of, is_deceived(tree, at, leaf, &proof), false);
     }

@@ -1,5 +1,5 @@
 //! Batches: in which ranges their indices go, and what becomes of a list that is lent to one.
-use crate::checks::{lists, number, returns, row};
+use crate::checks::{Of, lists, number, returns, row};
 use commonware_parallel::{Batches, Fault, Sequential, Site, Strategy, Trouble};
 use std::alloc::Global;
 use std::num::NonZeroUsize;
@@ -38,18 +38,10 @@ fn balanced_ranges_differ_by_one_at_most(rt: HostRuntime) {
     ] {
         let batches = Batches::balanced(alloc, &Sequential, SITE, len, number(&rt, count));
         let batches = batches.expect(&rt, "memory");
-        row(
-            &rt,
-            ("balanced", "Sequential", len),
-            batches.ranges(),
-            ranges,
-        );
-        row(
-            &rt,
-            ("is whole", "Sequential", len),
-            batches.is_whole(),
-            count == 1,
-        );
+        let of: Of = ("balanced", "Sequential", len);
+        row(&rt, of, batches.ranges(), ranges);
+        let of: Of = ("is whole", "Sequential", len);
+        row(&rt, of, batches.is_whole(), count == 1);
     }
     let whole = Batches::whole(alloc, &Sequential, SITE, 16).expect(&rt, "memory");
     same!(&rt, whole.ranges(), [0..16].as_slice());
@@ -66,12 +58,8 @@ fn a_batch_has_as_many_ranges_as_are_planned(rt: HostRuntime) {
         (0, 1, [0..0].as_slice()),
     ] {
         let ranges = batch_ranges(&rt, alloc, &four, SITE, len, number(&rt, minimum));
-        lists(
-            &rt,
-            ("ranges of a minimum", "a pool", minimum),
-            ranges,
-            wanted,
-        );
+        let of: Of = ("ranges of a minimum", "a pool", minimum);
+        lists(&rt, of, ranges, wanted);
     }
     let ranges = batch_ranges(&rt, alloc, &Sequential, SITE, 16, NonZeroUsize::MIN);
     lists(&rt, ("ranges", "Sequential", 16), ranges, &[0..16]);
@@ -149,12 +137,8 @@ fn a_batch_returns_its_closures_error(rt: HostRuntime) {
     let whole = Sequential.run_batches(alloc, SITE, 16, number(&rt, 5), usize::MAX, |batches| {
         (batches.ranges() == [0..16].as_slice(), batches.site())
     });
-    returns(
-        &rt,
-        ("whole batch", "Sequential's own", 16),
-        whole,
-        (true, SITE),
-    );
+    let of: Of = ("whole batch", "Sequential's own", 16);
+    returns(&rt, of, whole, (true, SITE));
 }
 
 // ---- lent lists
@@ -186,12 +170,8 @@ fn marks_are_right<Rt: Threads + Wait + Abort + Sync, S: Strategy>(
         let batches = batches.expect(rt, "memory");
         let changed = batches.for_each_mut(rt, alloc, numbers.as_mut_slice(), mark);
         returns(rt, ("change by parts", through, marks.len()), changed, ());
-        row(
-            rt,
-            ("marks by parts", through, marks.len()),
-            numbers.as_slice(),
-            marks,
-        );
+        let of: Of = ("marks by parts", through, marks.len());
+        row(rt, of, numbers.as_slice(), marks);
     }
 }
 

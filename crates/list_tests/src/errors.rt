@@ -1,7 +1,7 @@
 //! Calls whose closures fail: by which error, in each of many runs; and what is let go.
 use crate::checks::{Of, returns, row};
 use crate::counted::{Counted, Counts, again, again_of, count_again, counted_items};
-use crate::lists::{square_or_fail, ten, zero};
+use crate::lists::{add, square_or_fail, ten, zero};
 use commonware_parallel::mocks::explore;
 use commonware_parallel::{Pairs, Sequential, Strategy, Trouble};
 use std::alloc::Global;
@@ -73,23 +73,15 @@ fn are_first<Rt: Threads + Wait + Abort + Sync, S: Strategy>(
 #[test]
 fn the_first_error_is_returned_in_each_of_a_thousand_runs(rt: HostRuntime) {
     let alloc = rt.alloc();
-    are_first(
-        &rt,
-        alloc,
-        &pool(&rt, alloc, 4, 4).expect(&rt, "a pool"),
-        "a pool",
-    );
+    let fixed = pool(&rt, alloc, 4, 4).expect(&rt, "a pool");
+    are_first(&rt, alloc, &fixed, "a pool");
 }
 
 #[test]
 fn a_policy_returns_the_first_error_in_each_of_a_thousand_runs(rt: HostRuntime) {
     let alloc = rt.alloc();
-    are_first(
-        &rt,
-        alloc,
-        &learning(&rt, alloc, 4, Stopped).expect(&rt, "a pool"),
-        "a policy",
-    );
+    let strategy = learning(&rt, alloc, 4, Stopped).expect(&rt, "a pool");
+    are_first(&rt, alloc, &strategy, "a policy");
 }
 
 // By each of six rules.
@@ -127,16 +119,12 @@ fn an_unsteady_closure_fails_by_an_error_of_its_own(rt: HostRuntime) {
     let serial = map_unsteadily(&rt, alloc, &Sequential, 50);
     holds!(&rt, serial == (Err(Trouble::Closure(50)), 51));
     let four = pool(&rt, alloc, 4, 4).expect(&rt, "a pool");
-    let (failed, _) = map_unsteadily(&rt, alloc, &four, 50);
-    holds!(
-        &rt,
-        matches!(failed, Err(Trouble::Closure(call)) if 50 <= call && call < 100)
-    );
+    let (failed, calls) = map_unsteadily(&rt, alloc, &four, 50);
+    let is_own = matches!(failed, Err(Trouble::Closure(call)) if 50 <= call && call < calls);
+    holds!(&rt, is_own);
     let (mapped, calls) = map_unsteadily(&rt, alloc, &four, 100);
-    holds!(
-        &rt,
-        matches!(mapped, Ok(numbers) if numbers.len() == 100) && calls == 100
-    );
+    let len = mapped.expect(&rt, "no error").len();
+    same!(&rt, (len, calls), (100, 100));
 }
 
 // Adds an odd number, and fails at an even one.
@@ -162,18 +150,10 @@ fn folds_come<Rt: Threads + Wait + Abort + Sync, S: Strategy>(
     through: &'static str,
     sum: Result<u32, Trouble<u32>>,
 ) {
-    let odd = strategy.try_fold(rt, alloc, SITE, 1..5u32, ten, add_odd, u32::wrapping_add);
+    let odd = strategy.try_fold(rt, alloc, SITE, 1..5u32, ten, add_odd, add);
     let of: Of = ("sum of odd numbers", through, 4);
     row(rt, of, odd, Err(Trouble::Closure(2)));
-    let found = strategy.try_fold(
-        rt,
-        alloc,
-        SITE,
-        6..8u32,
-        zero,
-        add_to_ten,
-        u32::wrapping_add,
-    );
+    let found = strategy.try_fold(rt, alloc, SITE, 6..8u32, zero, add_to_ten, add);
     row(rt, ("sum up to ten", through, 2), found, sum);
     let failed = strategy.try_map_collect_vec(rt, alloc, SITE, 0..100u32, square_or_fail);
     let wanted = Some(Trouble::Closure(57));
@@ -188,7 +168,7 @@ fn a_call_ends_at_its_first_error(rt: HostRuntime) {
     folds_come(&rt, alloc, &Sequential, "Sequential", in_one);
     let two = pool(&rt, alloc, 2, 2).expect(&rt, "a pool");
     folds_come(&rt, alloc, &two, "a pool of two", Ok(13));
-    let own = Sequential.try_fold(SITE, 6..8u32, zero, add_to_ten, u32::wrapping_add);
+    let own = Sequential.try_fold(SITE, 6..8u32, zero, add_to_ten, add);
     holds!(&rt, own == Err(7));
     let own = Sequential.try_map_collect_vec(alloc, SITE, 0..100u32, square_or_fail);
     holds!(&rt, own.err() == Some(Trouble::Closure(57)));
@@ -268,29 +248,14 @@ fn call_over<Rt: Threads + Wait + Abort + Sync, S: Strategy>(
     over: Over,
     counts: &Counts,
 ) -> Result<usize, Trouble<usize>> {
+    let add = usize::wrapping_add;
     match over {
         Over::FoldedVector => {
-            strategy.try_fold(
-                rt,
-                alloc,
-                SITE,
-                items,
-                no_count,
-                count_again,
-                usize::wrapping_add,
-            )
+            strategy.try_fold(rt, alloc, SITE, items, no_count, count_again, add)
         }
         Over::FoldedIterator => {
             let items = items.into_iter();
-            strategy.try_fold(
-                rt,
-                alloc,
-                SITE,
-                items,
-                no_count,
-                count_again,
-                usize::wrapping_add,
-            )
+            strategy.try_fold(rt, alloc, SITE, items, no_count, count_again, add)
         }
         _ => values_of(rt, counts, map_again(rt, alloc, strategy, items, over)),
     }

@@ -1,6 +1,6 @@
 //! Explorers: what they pick, and what the search through the rules returns.
 use crate::checks::{Of, returns, row};
-use crate::lists::{KNOWN, call, name_of};
+use crate::lists::{KNOWN, call};
 use commonware_parallel::mocks::{ExploreError, Rule, explore, mix, pick};
 use commonware_parallel::{Chooser, Copies, Fault, Site, Strategy};
 use std::alloc::Global;
@@ -33,12 +33,8 @@ fn the_hash_is_the_same_everywhere(rt: HostRuntime) {
         (3, 1244984757, 1244984758, 1244984820),
     ] {
         let found = [1, 2, 64].map(|len: usize| mix(seed, PLACE, len));
-        row(
-            &rt,
-            ("mix", "seed", seed as usize),
-            found,
-            [none, two, many],
-        );
+        let of: Of = ("mix", "seed", seed as usize);
+        row(&rt, of, found, [none, two, many]);
     }
     let longer = Site {
         file: "aa",
@@ -72,12 +68,8 @@ fn a_rule_picks_the_first_the_last_or_by_the_hash(rt: HostRuntime) {
         (Rule::Seeded(2), PLACE, 65, 1, 3),
     ] {
         let picked = (pick(rule, site, len, two), pick(rule, site, len, eight));
-        row(
-            &rt,
-            (rule_name(rule), "pick of two and of eight", len),
-            picked,
-            (of_two, of_eight),
-        );
+        let of: Of = (rule_name(rule), "picks of two and of eight, over", len);
+        row(&rt, of, picked, (of_two, of_eight));
     }
 }
 
@@ -98,19 +90,15 @@ pub fn rule_name(rule: Rule) -> &'static str {
 #[test]
 fn outputs_that_the_shape_does_not_change_are_returned(rt: HostRuntime) {
     let alloc = rt.alloc();
-    for (called, from, end, known) in KNOWN {
+    for (name, called, from, end, known) in KNOWN {
         let told = explore(&rt, alloc, |explorer| {
             call(&rt, alloc, explorer, called, from..end).ok()
         });
-        let of: Of = (name_of(called), "a search", end.wrapping_sub(from) as usize);
-        match told {
-            Ok(Some(list)) => row(&rt, of, list.as_slice(), known[1]),
-            other => row(
-                &rt,
-                of,
-                matches!(other, Err(ExploreError::Differs(Rule::Parallel))),
-                known[0] != known[1],
-            ),
+        let of: Of = (name, "a search", end.wrapping_sub(from) as usize);
+        let is_told = matches!(told, Err(ExploreError::Differs(Rule::Parallel)));
+        row(&rt, of, is_told, known[0] != known[1]);
+        if let Ok(Some(list)) = told {
+            row(&rt, of, list.as_slice(), known[0]);
         }
     }
 }
@@ -169,11 +157,11 @@ fn the_rules_come_in_their_order(rt: HostRuntime) {
             let body = explorer.run(&rt, alloc, SITE, 64, serial, parallel);
             is_kept && (body == Ok("serial") || !is_told)
         });
-        holds!(
-            &rt,
-            is_told == matches!(told, Err(ExploreError::Differs(Rule::Parallel)))
-        );
-        holds!(&rt, is_told == !matches!(told, Ok(true)));
+        let is_right = match told {
+            Ok(is_kept) => is_kept && !is_told,
+            Err(error) => is_told && matches!(error, ExploreError::Differs(Rule::Parallel)),
+        };
+        holds!(&rt, is_right);
         same!(&rt, rules.as_slice(), wanted);
     }
 }

@@ -32,7 +32,7 @@ pub type Outcome = Result<Vec<u32>, Trouble<u32>>;
 
 /// A call over the numbers from one up to another, and what it returns in one piece, with a leaf for
 /// each item, and with leaves of one and of two.
-pub type Known = (Called, u32, u32, [&'static [u32]; 3]);
+pub type Known = (&'static str, Called, u32, u32, [&'static [u32]; 3]);
 
 const SQUARES: [&[u32]; 3] = [&[0, 1, 4, 9, 16, 25, 36, 49, 64, 81]; 3];
 
@@ -44,18 +44,30 @@ const NONE: [&[u32]; 3] = [&[10], &[20], &[20]];
 
 /// The calls, each over ten numbers or fewer.
 pub const KNOWN: [Known; 12] = [
-    (Called::Map, 0, 10, SQUARES),
-    (Called::MultipliedMap, 0, 10, SQUARES),
-    (Called::TryMap, 0, 10, SQUARES),
-    (Called::MapInit, 0, 3, COUNTS),
-    (Called::MultipliedMapInit, 0, 3, COUNTS),
-    (Called::Fold, 1, 4, THREE),
-    (Called::Fold, 1, 1, NONE),
-    (Called::FoldInit, 1, 4, THREE),
-    (Called::FoldInit, 1, 1, NONE),
-    (Called::TryFold, 1, 4, THREE),
-    (Called::TryFold, 1, 1, NONE),
-    (Called::Partition, 0, 6, [&[0, 20, 40, 1, 3, 5]; 3]),
+    ("map", Called::Map, 0, 10, SQUARES),
+    ("multiplied map", Called::MultipliedMap, 0, 10, SQUARES),
+    ("fallible map", Called::TryMap, 0, 10, SQUARES),
+    ("map with a state", Called::MapInit, 0, 3, COUNTS),
+    (
+        "multiplied map with a state",
+        Called::MultipliedMapInit,
+        0,
+        3,
+        COUNTS,
+    ),
+    ("fold", Called::Fold, 1, 4, THREE),
+    ("fold", Called::Fold, 1, 1, NONE),
+    ("fold with a state", Called::FoldInit, 1, 4, THREE),
+    ("fold with a state", Called::FoldInit, 1, 1, NONE),
+    ("fallible fold", Called::TryFold, 1, 4, THREE),
+    ("fallible fold", Called::TryFold, 1, 1, NONE),
+    (
+        "partition",
+        Called::Partition,
+        0,
+        6,
+        [&[0, 20, 40, 1, 3, 5]; 3],
+    ),
 ];
 
 // ---- what their closures do
@@ -74,6 +86,10 @@ pub fn ten() -> u32 {
 pub fn count(state: &mut u32, _item: u32) -> u32 {
     *state = state.wrapping_add(1);
     *state
+}
+
+pub fn add(left: u32, right: u32) -> u32 {
+    left.wrapping_add(right)
 }
 
 // Adds the item, and counts it in the state.
@@ -153,36 +169,18 @@ fn fold<Rt: Threads + Wait + Sync, S: Strategy>(
     numbers: Range<u32>,
 ) -> Result<u32, Trouble<u32>> {
     let folded = match called {
-        Called::Fold => strategy.fold(
+        Called::Fold => strategy.fold(rt, alloc, SITE, numbers, ten, add, add),
+        Called::FoldInit => strategy.fold_init(
             rt,
             alloc,
             SITE,
             numbers,
+            zero,
             ten,
-            u32::wrapping_add,
-            u32::wrapping_add,
+            add_counted,
+            add,
         ),
-        Called::FoldInit => {
-            strategy.fold_init(
-                rt,
-                alloc,
-                SITE,
-                numbers,
-                zero,
-                ten,
-                add_counted,
-                u32::wrapping_add,
-            )
-        }
-        _ => return strategy.try_fold(
-            rt,
-            alloc,
-            SITE,
-            numbers,
-            ten,
-            add_or_fail,
-            u32::wrapping_add,
-        ),
+        _ => return strategy.try_fold(rt, alloc, SITE, numbers, ten, add_or_fail, add),
     };
     Ok(folded?)
 }
@@ -233,47 +231,19 @@ fn call_own(alloc: Global, called: Called, numbers: Range<u32>) -> Outcome {
 
 fn fold_own(called: Called, numbers: Range<u32>) -> Result<u32, Trouble<u32>> {
     match called {
-        Called::Fold => Ok(Sequential.fold(
-            SITE,
-            numbers,
-            ten,
-            u32::wrapping_add,
-            u32::wrapping_add,
-        )),
-        Called::FoldInit => Ok(Sequential.fold_init(
-            SITE,
-            numbers,
-            zero,
-            ten,
-            add_counted,
-            u32::wrapping_add,
-        )),
-        _ => match Sequential.try_fold(SITE, numbers, ten, add_or_fail, u32::wrapping_add) {
+        Called::Fold => Ok(Sequential.fold(SITE, numbers, ten, add, add)),
+        Called::FoldInit => Ok(Sequential.fold_init(SITE, numbers, zero, ten, add_counted, add)),
+        _ => match Sequential.try_fold(SITE, numbers, ten, add_or_fail, add) {
             Ok(sum) => Ok(sum),
             Err(error) => Err(Trouble::Closure(error)),
         },
     }
 }
 
-/// The call's name.
-pub fn name_of(called: Called) -> &'static str {
-    match called {
-        Called::Map => "map",
-        Called::MultipliedMap => "multiplied map",
-        Called::TryMap => "fallible map",
-        Called::MapInit => "map with a state",
-        Called::MultipliedMapInit => "multiplied map with a state",
-        Called::Fold => "fold",
-        Called::FoldInit => "fold with a state",
-        Called::TryFold => "fallible fold",
-        Called::Partition => "partition",
-    }
-}
-
 // Stops the test where a call isn't known to return that.
 fn is_known(rt: &impl Abort, through: &'static str, shape: usize, row: &Known, found: Outcome) {
-    let (called, from, end, known) = *row;
-    let of: Of = (name_of(called), through, end.wrapping_sub(from) as usize);
+    let (name, _, from, end, known) = *row;
+    let of: Of = (name, through, end.wrapping_sub(from) as usize);
     let wanted = known.get(shape).expect(rt, "a shape");
     lists(rt, of, found, wanted);
 }
@@ -286,7 +256,7 @@ fn are_known<Rt: Threads + Wait + Abort + Sync, S: Strategy>(
     shape: usize,
 ) {
     for known in &KNOWN {
-        let found = call(rt, alloc, strategy, known.0, known.1..known.2);
+        let found = call(rt, alloc, strategy, known.1, known.2..known.3);
         is_known(rt, through, shape, known, found);
     }
 }
@@ -295,7 +265,7 @@ fn are_known<Rt: Threads + Wait + Abort + Sync, S: Strategy>(
 fn a_list_in_one_piece_takes_one_identity_and_one_state(rt: HostRuntime) {
     let alloc = rt.alloc();
     for known in &KNOWN {
-        let found = call_own(alloc, known.0, known.1..known.2);
+        let found = call_own(alloc, known.1, known.2..known.3);
         is_known(&rt, "Sequential's own", 0, known, found);
     }
     are_known(&rt, alloc, ("Sequential", &Sequential), 0);

@@ -52,17 +52,10 @@ fn sorts_and_joins_return_known_values(rt: HostRuntime) {
     returns(&rt, ("sort", "Sequential's own", 4), sorted, ());
     row(&rt, ("sort", "Sequential's own", 4), numbers, [1, 1, 2, 3]);
     Sequential.sort_unstable_by(SITE, &mut numbers, descending);
-    row(
-        &rt,
-        ("unstable sort", "Sequential's own", 4),
-        numbers,
-        [3, 2, 1, 1],
-    );
-    same!(
-        &rt,
-        Sequential.join(SITE, serial, parallel),
-        ("serial", "parallel")
-    );
+    let of: Of = ("unstable sort", "Sequential's own", 4);
+    row(&rt, of, numbers, [3, 2, 1, 1]);
+    let both = Sequential.join(SITE, serial, parallel);
+    same!(&rt, both, ("serial", "parallel"));
 }
 
 // Sets the own flag, and returns whether the other one was seen within ten million turns.

@@ -46,21 +46,22 @@ fn grids_fit_where_their_indices_can_be_counted(rt: HostRuntime) {
 
 // ---- the machine
 
+const LOOK_0: Event = Event::Load { seat: 0, share: 0 };
+
+const LOOK_1: Event = Event::Load { seat: 1, share: 0 };
+
+const LOOK_2: Event = Event::Load { seat: 2, share: 0 };
+
+const CLAIM_0: Event = Event::Claim { seat: 0 };
+
+const CLAIM_1: Event = Event::Claim { seat: 1 };
+
+const STEAL_0: Event = Event::Steal { seat: 0 };
+
 // Two seats that load before either claims: the second one's claim is lost.
 const EVENTS: [Event; 13] = [
-    Event::Load { seat: 0, share: 0 },
-    Event::Load { seat: 1, share: 0 },
-    Event::Claim { seat: 0 },
-    Event::Claim { seat: 1 },
-    Event::Claim { seat: 1 },
-    Event::Load { seat: 1, share: 0 },
-    Event::Claim { seat: 1 },
-    Event::Load { seat: 0, share: 0 },
-    Event::Claim { seat: 0 },
-    Event::Load { seat: 1, share: 0 },
-    Event::Claim { seat: 1 },
-    Event::Steal { seat: 0 },
-    Event::Load { seat: 2, share: 0 },
+    LOOK_0, LOOK_1, CLAIM_0, CLAIM_1, CLAIM_1, LOOK_1, CLAIM_1, LOOK_0, CLAIM_0, LOOK_1, CLAIM_1,
+    STEAL_0, LOOK_2,
 ];
 
 #[test]
@@ -125,9 +126,9 @@ fn replay_or_refusal(rt: &impl Abort, alloc: Global) {
     let Ok(mut state) = State::new(alloc, &plan) else {
         return;
     };
-    let loaded = step(&plan, &mut state, Event::Load { seat: 0, share: 0 });
+    let loaded = step(&plan, &mut state, LOOK_0);
     same!(rt, loaded, Ok(Outcome::Loaded(3)));
-    match step(&plan, &mut state, Event::Claim { seat: 0 }) {
+    match step(&plan, &mut state, CLAIM_0) {
         Ok(outcome) => {
             same!(rt, outcome, Outcome::Claimed(0..2));
             same!(rt, state.words(), [65_539].as_slice());

@@ -1,11 +1,12 @@
 //! What is printed.
-use crate::checks::{number, prints, says};
-use commonware_parallel::mocks::{ExploreError, Explorer, Rule, pooled};
-use commonware_parallel::{Clock, Fault, Trouble};
+use crate::checks::{prints, says};
+use commonware_parallel::mocks::{ExploreError, Explorer, Rule};
+use commonware_parallel::{Fault, Trouble};
 use parallel_pool::rayon::{ThreadPoolBuildError, ThreadPoolBuilder};
 use std::alloc::{AllocError, Global};
 use std::error::Error;
 use std::process::Abort;
+use test_strategies::pool;
 
 // Stops the test where an error isn't written as the text.
 fn errs<E: Error>(rt: &impl Abort, alloc: Global, error: &E, text: &str) {
@@ -38,22 +39,10 @@ fn refusals_print_their_reason(rt: HostRuntime) {
     errs(&rt, alloc, &ExploreError::Differs(Rule::Seeded(2)), text);
 }
 
-// A clock that stands still.
-#[derive(Clone, Copy, Debug)]
-struct Stopped;
-
-impl Clock for Stopped {
-    fn now(&self) -> u64 {
-        0
-    }
-}
-
 #[test]
 fn strategies_print_their_parts(rt: HostRuntime) {
     let alloc = rt.alloc();
-    let strategy = pooled(&rt, alloc, number(&rt, 2), number(&rt, 3), Stopped);
-    let strategy = strategy.expect(&rt, "a pool").without_policy();
-    let strategy = strategy.expect(&rt, "memory");
+    let strategy = pool(&rt, alloc, 2, 3).expect(&rt, "a pool");
     let text = "Rayon { pool: ThreadPool { num_threads: 2 }, parallelism: 3, starts_workers: true, \
          clock: Stopped, policy: None }";
     prints(&rt, alloc, &strategy, text);

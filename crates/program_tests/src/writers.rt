@@ -5,6 +5,7 @@ use parallel_fault::Fault;
 use shapes_command::{command, out_of_memory, unread, unwritten};
 use std::io;
 use std::io::{ErrorKind, Write};
+use std::process::Abort;
 
 // A writer that refuses each write.
 #[derive(Drop)]
@@ -42,6 +43,11 @@ impl Write for Narrow {
     }
 }
 
+// Stops the test where that isn't what was written.
+fn wrote(rt: &impl Abort, written: Vec<u8>, text: &str) {
+    equal(rt, "written", text_of(rt, written).as_str(), text);
+}
+
 #[test]
 fn a_line_is_written_in_parts(rt: HostRuntime) {
     let alloc = rt.alloc();
@@ -56,13 +62,8 @@ fn a_line_is_written_in_parts(rt: HostRuntime) {
     let unknown = words_of(alloc, "unknown").expect(&rt, "memory");
     let unknown = command(&rt, alloc, &unknown, &mut out, &mut err);
     held(&rt, "an unknown word", matches!(unknown, Ok(2)));
-    equal(&rt, "out", text_of(&rt, out.taken).as_str(), "0 1 2 3\n");
-    equal(
-        &rt,
-        "err",
-        text_of(&rt, err.taken).as_str(),
-        "shapes: bad arguments\n",
-    );
+    wrote(&rt, out.taken, "0 1 2 3\n");
+    wrote(&rt, err.taken, "shapes: bad arguments\n");
 }
 
 #[test]
@@ -76,12 +77,7 @@ fn a_failed_write_is_named_and_is_status_one(rt: HostRuntime) {
     held(&rt, "nobody is told", answered.is_err() && kept.is_empty());
     held(&rt, "said to nobody", unwritten(&error, &mut Closed) == 1);
     held(&rt, "said", unwritten(&error, &mut kept) == 1);
-    equal(
-        &rt,
-        "what is said",
-        text_of(&rt, kept).as_str(),
-        "shapes: broken pipe\n",
-    );
+    wrote(&rt, kept, "shapes: broken pipe\n");
 }
 
 // What the line of a refusal says is the refusal's own text.
@@ -90,22 +86,15 @@ fn a_refusal_says_its_text(rt: HostRuntime) {
     let mut err = Vec::new(rt.alloc());
     held(&rt, "its status", matches!(out_of_memory(&mut err), Ok(1)));
     let line = format!(in rt.alloc(); "shapes: {}\n", Fault::Memory).expect(&rt, "memory");
-    equal(&rt, "its line", text_of(&rt, err).as_str(), line.as_str());
+    wrote(&rt, err, &line);
 }
 
 #[test]
 fn words_that_could_not_be_read(rt: HostRuntime) {
     let mut err = Vec::new(rt.alloc());
-    held(
-        &rt,
-        "no text",
-        matches!(unread(ErrorKind::InvalidData, &mut err), Ok(2)),
-    );
-    held(
-        &rt,
-        "no memory",
-        matches!(unread(ErrorKind::OutOfMemory, &mut err), Ok(1)),
-    );
-    let said = "shapes: bad arguments\nshapes: out of memory\n";
-    equal(&rt, "what is said", text_of(&rt, err).as_str(), said);
+    let no_text = unread(ErrorKind::InvalidData, &mut err);
+    held(&rt, "no text", matches!(no_text, Ok(2)));
+    let no_memory = unread(ErrorKind::OutOfMemory, &mut err);
+    held(&rt, "no memory", matches!(no_memory, Ok(1)));
+    wrote(&rt, err, "shapes: bad arguments\nshapes: out of memory\n");
 }
