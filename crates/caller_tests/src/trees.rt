@@ -161,7 +161,7 @@ fn places(commitment: &Digest, leaf: &[u8], proof: &[Option<Digest>]) -> u64 {
 
 // Each leaf's proof is accepted for it alone, and no two inputs with one digest come of it.
 fn proofs_hold(rt: &impl Abort, alloc: Global, tree: &Tree, leaves: &[&[u8]]) {
-    let (commitment, count) = (tree.commitment(), leaves.len());
+    let (commitment, count) = (tree.commitment(), tree.leaf_count());
     for at in 0..count {
         let of: Of = ("proof", "leaf", at);
         let leaf = *leaves.get(at).expect(rt, "its leaf");

@@ -43,8 +43,6 @@ fn balanced_ranges_differ_by_one_at_most(rt: HostRuntime) {
         let of: Of = ("is whole", "Sequential", len);
         row(&rt, of, batches.is_whole(), count == 1);
     }
-    let whole = Batches::whole(alloc, &Sequential, SITE, 16).expect(&rt, "memory");
-    same!(&rt, whole.ranges(), [0..16].as_slice());
 }
 
 #[test]
@@ -151,6 +149,19 @@ pub fn mark(start: usize, part: &mut [u64]) {
     }
 }
 
+// Marks each of that many parts of a list.
+fn mark_parts<Rt: Threads + Wait + Abort + Sync, S: Strategy>(
+    rt: &Rt,
+    alloc: Global,
+    strategy: &S,
+    numbers: &mut [u64],
+    count: usize,
+) -> Result<(), Fault> {
+    let count = number(rt, count);
+    let batches = Batches::balanced(alloc, strategy, SITE, numbers.len(), count)?;
+    batches.for_each_mut(rt, alloc, numbers, mark)
+}
+
 // Parts of a list, in one part, in some, and in more than there are items.
 fn marks_are_right<Rt: Threads + Wait + Abort + Sync, S: Strategy>(
     rt: &Rt,
@@ -166,11 +177,9 @@ fn marks_are_right<Rt: Threads + Wait + Abort + Sync, S: Strategy>(
     ] {
         let mut numbers = Vec::from_slice(alloc, marks).expect(rt, "memory");
         numbers.fill(0);
-        let batches = Batches::balanced(alloc, strategy, SITE, marks.len(), number(rt, count));
-        let batches = batches.expect(rt, "memory");
-        let changed = batches.for_each_mut(rt, alloc, numbers.as_mut_slice(), mark);
-        returns(rt, ("change by parts", through, marks.len()), changed, ());
-        let of: Of = ("marks by parts", through, marks.len());
+        let of: Of = ("change by parts", through, count);
+        let changed = mark_parts(rt, alloc, strategy, numbers.as_mut_slice(), count);
+        returns(rt, of, changed, ());
         row(rt, of, numbers.as_slice(), marks);
     }
 }

@@ -272,11 +272,16 @@ fn none_is_left<Rt: Threads + Wait + Abort + Sync, S: Strategy>(
 ) {
     for (over, name) in OVER {
         let counts = Counts::failing(place);
-        let each = if over == Over::Pairs { 2 } else { 1 };
-        let count = len.saturating_mul(each);
+        let is_paired = over == Over::Pairs;
+        let count = if is_paired {
+            len.saturating_mul(2)
+        } else {
+            len
+        };
         let items = counted_items(alloc, &counts, count).expect(rt, "memory");
         let found = call_over(rt, alloc, strategy, items, over, &counts);
-        let wanted = if place < count && place % each == 0 {
+        let is_passed = is_paired && place % 2 == 1;
+        let wanted = if place < count && !is_passed {
             Err(Trouble::Closure(place))
         } else {
             Ok(len)

@@ -68,20 +68,8 @@ fn a_rule_picks_the_first_the_last_or_by_the_hash(rt: HostRuntime) {
         (Rule::Seeded(2), PLACE, 65, 1, 3),
     ] {
         let picked = (pick(rule, site, len, two), pick(rule, site, len, eight));
-        let of: Of = (rule_name(rule), "picks of two and of eight, over", len);
-        row(&rt, of, picked, (of_two, of_eight));
-    }
-}
-
-/// The name of one of a search's rules.
-pub fn rule_name(rule: Rule) -> &'static str {
-    match rule {
-        Rule::Serial => "Serial",
-        Rule::Parallel => "Parallel",
-        Rule::Seeded(0) => "Seeded(0)",
-        Rule::Seeded(1) => "Seeded(1)",
-        Rule::Seeded(2) => "Seeded(2)",
-        Rule::Seeded(_) => "Seeded",
+        let of: Of = ("picks of two and of eight", "the rule", len);
+        row(&rt, of, (rule, picked), (rule, (of_two, of_eight)));
     }
 }
 

@@ -9,8 +9,8 @@ use std::sync::Wait;
 use std::thread::Threads;
 use test_strategies::{SITE, pool};
 
-// How a root is found.
-const ROOTED: [&str; 2] = ["root by levels", "root by blocks"];
+// How a root is found, and whether that is by blocks.
+const ROOTED: [(&str, bool); 2] = [("root by levels", false), ("root by blocks", true)];
 
 fn root_of<
     Rt: Threads + Wait + Sync,
@@ -49,7 +49,7 @@ fn are_known<Rt: Threads + Wait + Abort + Sync, S: Strategy>(
     alloc: Global,
     strategy: &S,
     through: &'static str,
-    by_blocks: bool,
+    (name, by_blocks): (&'static str, bool),
 ) {
     for (numbers, known) in [
         ([9].as_slice(), Some(9)),
@@ -60,12 +60,7 @@ fn are_known<Rt: Threads + Wait + Abort + Sync, S: Strategy>(
     ] {
         let leaves = Vec::from_slice(alloc, numbers).expect(rt, "memory for leaves");
         let found = root_of(rt, alloc, strategy, by_blocks, leaves, combine);
-        returns(
-            rt,
-            (ROOTED[usize::from(by_blocks)], through, numbers.len()),
-            found,
-            known,
-        );
+        returns(rt, (name, through, numbers.len()), found, known);
     }
 }
 
@@ -73,9 +68,9 @@ fn are_known<Rt: Threads + Wait + Abort + Sync, S: Strategy>(
 fn roots_are_as_by_hand(rt: HostRuntime) {
     let alloc = rt.alloc();
     let four = pool(&rt, alloc, 4, 4).expect(&rt, "a pool");
-    for by_blocks in [false, true] {
-        are_known(&rt, alloc, &Sequential, "Sequential", by_blocks);
-        are_known(&rt, alloc, &four, "a pool", by_blocks);
+    for rooted in ROOTED {
+        are_known(&rt, alloc, &Sequential, "Sequential", rooted);
+        are_known(&rt, alloc, &four, "a pool", rooted);
     }
     let leaves = Vec::from_slice(alloc, &SEVEN).expect(&rt, "memory for leaves");
     let plain = plain_root(alloc, leaves, &combine);
@@ -87,10 +82,10 @@ fn nodes_left<Rt: Threads + Wait + Abort + Sync, S: Strategy>(
     rt: &Rt,
     alloc: Global,
     strategy: &S,
-    by_blocks: bool,
+    (name, by_blocks): (&'static str, bool),
     len: usize,
 ) {
-    let of: Of = (ROOTED[usize::from(by_blocks)], "leaves", len);
+    let of: Of = (name, "leaves", len);
     let counts = Counts::failing(len);
     let leaves = counted_items(alloc, &counts, len).expect(rt, "memory");
     let found = root_of(rt, alloc, strategy, by_blocks, leaves, greater).expect(rt, "memory");
@@ -104,10 +99,10 @@ fn nodes_left<Rt: Threads + Wait + Abort + Sync, S: Strategy>(
 fn each_node_is_let_go_once(rt: HostRuntime) {
     let alloc = rt.alloc();
     let eight = pool(&rt, alloc, 8, 8).expect(&rt, "a pool");
-    for by_blocks in [false, true] {
+    for rooted in ROOTED {
         for len in [0usize, 1, 2, 3, 7, 8, 9, 1000] {
-            nodes_left(&rt, alloc, &Sequential, by_blocks, len);
-            nodes_left(&rt, alloc, &eight, by_blocks, len);
+            nodes_left(&rt, alloc, &Sequential, rooted, len);
+            nodes_left(&rt, alloc, &eight, rooted, len);
         }
     }
 }
