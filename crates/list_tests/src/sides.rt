@@ -1,6 +1,7 @@
 //! Sorts and joins: known values, which closure of a join comes first, and whether they go side by
 //! side.
 use crate::checks::{Of, returns, row};
+use crate::lists::{ten, zero};
 use commonware_parallel::{Fault, Sequential, Strategy};
 use std::alloc::Global;
 use std::cmp as order;
@@ -8,7 +9,7 @@ use std::process::Abort;
 use std::sync::Wait;
 use std::sync::atomic::{AtomicBool, AtomicU32, Ordering};
 use std::thread::{Threads, yield_now};
-use test_strategies::{SITE, parallel, pool, serial};
+use test_strategies::{SITE, pool};
 use test_support::same;
 
 fn ascending(left: &u32, right: &u32) -> order::Ordering {
@@ -33,8 +34,8 @@ fn are_known<Rt: Threads + Wait + Abort + Sync, S: Strategy>(
     let sorted = strategy.sort_unstable_by(rt, alloc, SITE, &mut numbers, descending);
     returns(rt, ("unstable sort", through, 4), sorted, ());
     row(rt, ("unstable sort", through, 4), numbers, [3, 2, 1, 1]);
-    let both = strategy.join(rt, alloc, SITE, serial, parallel);
-    returns(rt, ("join", through, 2), both, ("serial", "parallel"));
+    let both = strategy.join(rt, alloc, SITE, ten, zero);
+    returns(rt, ("join", through, 2), both, (10, 0));
 }
 
 #[test]
@@ -54,8 +55,8 @@ fn sorts_and_joins_return_known_values(rt: HostRuntime) {
     Sequential.sort_unstable_by(SITE, &mut numbers, descending);
     let of: Of = ("unstable sort", "Sequential's own", 4);
     row(&rt, of, numbers, [3, 2, 1, 1]);
-    let both = Sequential.join(SITE, serial, parallel);
-    same!(&rt, both, ("serial", "parallel"));
+    let both = Sequential.join(SITE, ten, zero);
+    same!(&rt, both, (10, 0));
 }
 
 // Sets the own flag, and returns whether the other one was seen within ten million turns.
