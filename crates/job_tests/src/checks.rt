@@ -3,10 +3,12 @@
 ghost use Rattle.std.specs.Prelude.{◌≡◌};
 ghost use Rattle.std.specs.Int.NonZero.{non_zero_usize_get};
 
-use std::alloc::Global;
-use std::fmt::{Debug, Display};
+use std::fmt::Debug;
 use std::num::NonZeroUsize;
 use std::process::Abort;
+
+/// What a row is of: the call, the strategy, and a number that tells it from others.
+pub type Of = (&'static str, &'static str, usize);
 
 /// Stops the test where that doesn't hold, and prints its text.
 pub fn held(rt: &impl Abort, text: &str, is_so: bool) {
@@ -19,19 +21,14 @@ pub fn equal<T: PartialEq + Debug + Drop>(rt: &impl Abort, text: &str, found: T,
 }
 
 /// Stops the test where the two differ, and prints both and their row.
-pub fn row<L: Debug + Drop, T: PartialEq + Debug + Drop>(
-    rt: &impl Abort,
-    row: L,
-    found: T,
-    wanted: T,
-) {
-    assert_eq!(rt; found, wanted, "row {row:?}");
+pub fn row<T: PartialEq + Debug + Drop>(rt: &impl Abort, of: Of, found: T, wanted: T) {
+    assert_eq!(rt; found, wanted, "row {of:?}");
 }
 
 /// The same of a call, which has to return.
-pub fn returns<L: Debug + Drop, T: PartialEq + Debug + Drop, E: Debug + Drop>(
+pub fn returns<T: PartialEq + Debug + Drop, E: Debug + Drop>(
     rt: &impl Abort,
-    of: L,
+    of: Of,
     found: Result<T, E>,
     wanted: T,
 ) {
@@ -41,34 +38,9 @@ pub fn returns<L: Debug + Drop, T: PartialEq + Debug + Drop, E: Debug + Drop>(
     }
 }
 
-/// The same of a call that returns a list.
-pub fn lists<L: Debug + Drop, T: PartialEq + Debug + Drop, E: Debug + Drop>(
-    rt: &impl Abort,
-    of: L,
-    found: Result<Vec<T>, E>,
-    wanted: &[T],
-) {
-    match found {
-        Ok(list) => row(rt, of, list.as_slice(), wanted),
-        Err(error) => panic!(rt; "row {of:?}: {error:?} in the place of {wanted:?}"),
-    }
-}
-
 /// A number that isn't 0.
 pub fn number(rt: &impl Abort, value: usize) -> NonZeroUsize
     ensures { non_zero_usize_get result ≡ value }
 {
     NonZeroUsize::new(value).expect(rt, "a number above 0")
-}
-
-/// Stops the test where the value isn't written as the text.
-pub fn says<T: Display>(rt: &impl Abort, alloc: Global, value: &T, text: &str) {
-    let written = format!(in alloc; "{value}").expect(rt, "memory");
-    row(rt, "written", written.as_str(), text);
-}
-
-/// Stops the test where the value isn't printed as the text.
-pub fn prints<T: Debug>(rt: &impl Abort, alloc: Global, value: &T, text: &str) {
-    let printed = format!(in alloc; "{value:?}").expect(rt, "memory");
-    row(rt, "printed", printed.as_str(), text);
 }

@@ -1,15 +1,18 @@
-//! What the task of a spawned job sees of its end.
-ghost use Rattle.std.specs.Prelude.{⊤};
+//! What the task of a spawned job sees of its end, and jobs that nobody waits for.
+ghost use Rattle.std.specs.Prelude.{◌≡◌, ⊤};
 
-use commonware_parallel::{Job, Strategy};
+use crate::checks::number;
+use commonware_parallel::mocks::{Explorer, pending};
+use commonware_parallel::{Fault, Job, Sequential, Spawned, Strategy};
 use futures::task::Poll;
 use futures::test::MockTask;
-use std::alloc::Global;
+use std::alloc::{AllocGlobal, Global};
 use std::process::Abort;
-use std::sync::Arc;
+use std::random::RandomSource;
 use std::sync::atomic::{AtomicBool, Ordering};
-use std::thread::yield_now;
-use test_calls::strategies::{SITE, pool};
+use std::sync::{Arc, Wait};
+use std::thread::{Threads, yield_now};
+use test_strategies::{SITE, Stopped, pool};
 use test_support::{holds, same};
 
 // Turns to wait for another thread.
@@ -24,6 +27,20 @@ fn is_raised(flag: &AtomicBool) -> bool {
         yield_now();
     }
     false
+}
+
+/// A job that returns its number.
+#[derive(Drop)]
+pub struct Gives(pub u64);
+
+impl<S: Drop> Job<S, u64> for Gives {
+    ghost may_run = { λ _ _. ⊤ };
+
+    ghost may_answer = { λ job _ answer. answer ≡ job.0 };
+
+    fn run_on(self, _strategy: S) -> u64 {
+        self.0
+    }
 }
 
 // Says that it began, and returns whether it then saw that it may end.
@@ -77,4 +94,74 @@ fn a_poll_before_a_jobs_end_is_pending_and_its_task_is_woken(rt: HostRuntime) {
     }
     holds!(&rt, task.is_woken());
     same!(&rt, task.poll(&mut spawned), Poll::Ready(true));
+}
+
+#[test]
+fn a_job_that_nobody_waits_for_runs_all_the_same(rt: HostRuntime) {
+    let alloc = rt.alloc();
+    let two = pool(&rt, alloc, 2, 2).expect(&rt, "a pool");
+    let (begun, may_end) = (flag(&rt, alloc), flag(&rt, alloc));
+    may_end.store(true, Ordering::SeqCst);
+    let job = Waits {
+        begun: shared(&rt, &begun),
+        may_end,
+    };
+    drop(two.spawn(&rt, alloc, SITE, 1, job).expect(&rt, "a job"));
+    holds!(&rt, is_raised(&begun));
+}
+
+// Whether a job that is handed off gets no worker: it is pending, and was let go.
+fn is_never_run<
+    Rt: Threads + Wait + RandomSource + AllocGlobal + Abort + Copy + Send + 'static,
+    S: Strategy,
+>(rt: &Rt, strategy: &S) -> bool {
+    let begun = flag(rt, rt.alloc());
+    let job = Waits {
+        begun: shared(rt, &begun),
+        may_end: flag(rt, rt.alloc()),
+    };
+    let spawned = strategy.spawn(rt, rt.alloc(), SITE, 1, job);
+    let mut spawned = spawned.expect(rt, "a job");
+    let is_waiting = !spawned.is_ready();
+    let task = MockTask::new(rt).expect(rt, "memory");
+    let is_pending = matches!(task.poll(&mut spawned), Poll::Pending);
+    let is_gone = Arc::strong_count(&begun) == 1;
+    is_waiting && is_pending && is_gone && !begun.load(Ordering::SeqCst)
+}
+
+#[test]
+fn a_pool_without_workers_leaves_its_jobs_pending(rt: HostRuntime) {
+    let alloc = rt.alloc();
+    let idle = pending(&rt, alloc, number(&rt, 2), Stopped).expect(&rt, "memory");
+    holds!(&rt, is_never_run(&rt, &idle));
+    let fixed = idle.without_policy().expect(&rt, "memory");
+    holds!(&rt, is_never_run(&rt, &fixed));
+    let explorer = Explorer::parallel(&idle).expect(&rt, "memory");
+    holds!(&rt, is_never_run(&rt, &explorer));
+    let single = Explorer::parallel(&pool(&rt, alloc, 1, 4).expect(&rt, "a pool"));
+    let single = single.expect(&rt, "memory");
+    let refused = single.spawn(&rt, alloc, SITE, 1, Gives(7));
+    holds!(&rt, matches!(refused, Err(Fault::HandOff)));
+}
+
+#[test]
+fn a_result_is_given_once(rt: HostRuntime) {
+    let alloc = rt.alloc();
+    let task = MockTask::new(&rt).expect(&rt, "memory");
+    let ready = Strategy::spawn(&Sequential, &rt, alloc, SITE, 1, Gives(7));
+    let mut ready = ready.expect(&rt, "memory");
+    holds!(&rt, ready.is_ready());
+    same!(&rt, task.poll(&mut ready), Poll::Ready(7));
+    holds!(&rt, !ready.is_ready());
+    same!(&rt, task.poll(&mut ready), Poll::Pending);
+    same!(
+        &rt,
+        task.enter(|cx| Spawned::poll(&mut ready, cx)),
+        Poll::Pending
+    );
+    let mut own = Sequential.spawn((), SITE, 1, Gives(7));
+    holds!(&rt, own.is_ready());
+    same!(&rt, own.take_ready(), Some(7));
+    holds!(&rt, !own.is_ready());
+    same!(&rt, own.take_ready(), None);
 }

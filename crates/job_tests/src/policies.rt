@@ -1,30 +1,44 @@
 //! What a policy learns, through the calls of a pool.
 use crate::checks::{number, returns};
-use commonware_parallel::{Rayon, Strategy};
+use commonware_parallel::{Clock, Rayon, Strategy};
 use std::alloc::Global;
 use std::process::Abort;
-use std::sync::Wait;
+use std::sync::atomic::{AtomicU64, Ordering};
+use std::sync::{Arc, Wait};
 use std::thread::Threads;
-use test_calls::clocks::{Stepping, learning};
-use test_calls::strategies::SITE;
-use uses::runs::one_of;
+use test_strategies::{SITE, learning, parallel, serial};
+
+// A clock that goes on by `step` at each reading, or back where `step` is near 2 to the power of 64.
+#[derive(Clone, Debug, Drop)]
+struct Stepping {
+    reading: Arc<AtomicU64, Global>,
+    step: u64,
+}
+
+impl Clock for Stepping {
+    fn now(&self) -> u64 {
+        self.reading.fetch_add(self.step, Ordering::SeqCst)
+    }
+}
 
 // Stops the test where runs over 64 items don't take these bodies, one after the other.
-fn takes<Rt: Wait + Abort, S: Strategy>(
+fn takes<Rt: Wait + Abort>(
     rt: &Rt,
     alloc: Global,
-    strategy: &S,
+    strategy: &Rayon<Stepping>,
     bodies: &[&'static str],
 ) {
     for (turn, body) in bodies.iter().enumerate() {
-        let taken = one_of(rt, alloc, strategy, SITE, 64, "serial", "parallel");
-        returns(rt, turn, taken, *body);
+        let taken = strategy.run(rt, alloc, SITE, 64, serial, parallel);
+        returns(rt, ("run", "its number", turn), taken, *body);
     }
 }
 
 // A pool that learns by a clock which goes on by so much at each reading.
 fn by_steps<Rt: Threads + Abort>(rt: &Rt, alloc: Global, step: u64) -> Rayon<Stepping> {
-    learning(rt, alloc, Stepping::new(alloc, step).expect(rt, "a clock")).expect(rt, "a pool")
+    let start = AtomicU64::new(1_000_000_000_000);
+    let reading = Arc::new(alloc, start).expect(rt, "memory");
+    learning(rt, alloc, 4, Stepping { reading, step }).expect(rt, "a pool")
 }
 
 #[test]

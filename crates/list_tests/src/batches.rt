@@ -1,6 +1,6 @@
-//! Batches: in which ranges their indices go.
-use crate::checks::{lists, number, returns, row};
-use commonware_parallel::{Batches, Fault, Sequential, Strategy, Trouble};
+//! Batches: in which ranges their indices go, and what becomes of a list that is lent to one.
+use crate::checks::{Of, lists, number, returns, row};
+use commonware_parallel::{Batches, Fault, Sequential, Site, Strategy, Trouble};
 use std::alloc::Global;
 use std::num::NonZeroUsize;
 use std::ops::Range;
@@ -8,23 +8,41 @@ use std::process::Abort;
 use std::sync::Wait;
 use std::sync::atomic::{AtomicU64, Ordering};
 use std::thread::Threads;
-use test_calls::strategies::{SITE, pool};
+use test_strategies::{SITE, pool};
 use test_support::{holds, same};
-use uses::batches::batch_ranges;
+
+// ---- ranges
+
+/// The ranges that the strategy runs a batch over.
+pub fn batch_ranges<Rt: Wait, S: Strategy>(
+    rt: &Rt,
+    alloc: Global,
+    strategy: &S,
+    site: Site,
+    len: usize,
+    minimum: NonZeroUsize,
+) -> Result<Vec<Range<usize>>, Fault> {
+    let list = |batches: Batches<'_, S, Site>| batches.ranges().to_vec(alloc);
+    let ranges = strategy.run_batches(rt, alloc, site, len, minimum, 1, list)?;
+    Ok(ranges?)
+}
 
 #[test]
 fn balanced_ranges_differ_by_one_at_most(rt: HostRuntime) {
     let alloc = rt.alloc();
-    let four = Batches::balanced(alloc, &Sequential, SITE, 10, number(&rt, 4));
-    let four = four.expect(&rt, "memory");
-    same!(&rt, four.ranges(), [0..3, 3..6, 6..8, 8..10].as_slice());
-    holds!(&rt, !four.is_whole());
-    let one = Batches::balanced(alloc, &Sequential, SITE, 10, number(&rt, 1)).expect(&rt, "memory");
-    same!(&rt, one.ranges(), [0..10].as_slice());
-    holds!(&rt, one.is_whole());
-    let none = Batches::whole(alloc, &Sequential, SITE, 0).expect(&rt, "memory");
-    same!(&rt, none.ranges(), [0..0].as_slice());
-    holds!(&rt, none.is_whole());
+    for (len, count, ranges) in [
+        (10, 4, [0..3, 3..6, 6..8, 8..10].as_slice()),
+        (64, 5, [0..13, 13..26, 26..39, 39..52, 52..64].as_slice()),
+        (10, 1, [0..10].as_slice()),
+        (0, 1, [0..0].as_slice()),
+    ] {
+        let batches = Batches::balanced(alloc, &Sequential, SITE, len, number(&rt, count));
+        let batches = batches.expect(&rt, "memory");
+        let of: Of = ("balanced", "Sequential", len);
+        row(&rt, of, batches.ranges(), ranges);
+        let of: Of = ("is whole", "Sequential", len);
+        row(&rt, of, batches.is_whole(), count == 1);
+    }
 }
 
 #[test]
@@ -37,12 +55,12 @@ fn a_batch_has_as_many_ranges_as_are_planned(rt: HostRuntime) {
         (16, 9, [0..16].as_slice()),
         (0, 1, [0..0].as_slice()),
     ] {
-        let minimum = number(&rt, minimum);
-        let ranges = batch_ranges(&rt, alloc, &four, SITE, len, minimum);
-        lists(&rt, (len, minimum), ranges, wanted);
+        let ranges = batch_ranges(&rt, alloc, &four, SITE, len, number(&rt, minimum));
+        let of: Of = ("ranges of a minimum", "a pool", minimum);
+        lists(&rt, of, ranges, wanted);
     }
-    let ranges = batch_ranges(&rt, alloc, &Sequential, SITE, 16, number(&rt, 1));
-    lists(&rt, "serial", ranges, &[0..16]);
+    let ranges = batch_ranges(&rt, alloc, &Sequential, SITE, 16, NonZeroUsize::MIN);
+    lists(&rt, ("ranges", "Sequential", 16), ranges, &[0..16]);
 }
 
 #[test]
@@ -62,37 +80,21 @@ fn a_batch_has_no_range_below_the_minimum(rt: HostRuntime) {
     ] {
         let ranges = batch_ranges(&rt, rt.alloc(), &eight, SITE, len, number(&rt, minimum));
         let ranges = ranges.expect(&rt, "memory");
-        row(&rt, (len, minimum), ranges.len(), count);
+        row(&rt, ("how many ranges", "a pool", len), ranges.len(), count);
     }
 }
 
 #[test]
 fn more_ranges_than_memory_are_refused(rt: HostRuntime) {
     let alloc = rt.alloc();
-    let most = NonZeroUsize::MAX;
-    let refused = Batches::balanced(alloc, &Sequential, SITE, 7, most);
+    let refused = Batches::balanced(alloc, &Sequential, SITE, 7, NonZeroUsize::MAX);
     holds!(&rt, matches!(refused, Err(Fault::Memory)));
     let endless = pool(&rt, alloc, 1, usize::MAX).expect(&rt, "a pool");
     let refused = batch_ranges(&rt, alloc, &endless, SITE, usize::MAX, NonZeroUsize::MIN);
     holds!(&rt, matches!(refused, Err(Fault::Memory)));
 }
 
-// How often each kind of map calls its closure where what it maps is not prepared.
-fn mapped_unprepared<Rt: Threads + Wait + Abort + Sync, S: Strategy>(
-    rt: &Rt,
-    alloc: Global,
-    strategy: &S,
-) -> u64 {
-    let calls = AtomicU64::new(0);
-    let map_op = |_: u32| -> Result<u64, u32> { Ok(calls.fetch_add(1, Ordering::SeqCst)) };
-    let batch = Batches::balanced(alloc, strategy, SITE, 10, number(rt, 4)).expect(rt, "memory");
-    let refused = batch.map_collect_vec(rt, alloc, unprepared, map_op);
-    row(rt, 1, refused.err(), Some(Fault::Worker));
-    let batch = Batches::whole(alloc, strategy, SITE, 10).expect(rt, "memory");
-    let refused = batch.try_map_collect_vec(rt, alloc, unprepared, map_op);
-    row(rt, 2, refused.err(), Some(Trouble::Fault(Fault::Worker)));
-    calls.load(Ordering::SeqCst)
-}
+// ---- closures
 
 fn unprepared(_ranges: &[Range<usize>]) -> Result<Vec<u32>, Fault> {
     Err(Fault::Worker)
@@ -100,38 +102,96 @@ fn unprepared(_ranges: &[Range<usize>]) -> Result<Vec<u32>, Fault> {
 
 #[test]
 fn what_is_not_prepared_is_not_mapped(rt: HostRuntime) {
-    let strategy = pool(&rt, rt.alloc(), 2, 4).expect(&rt, "a pool");
-    same!(&rt, mapped_unprepared(&rt, rt.alloc(), &strategy), 0);
+    let alloc = rt.alloc();
+    let strategy = pool(&rt, alloc, 2, 4).expect(&rt, "a pool");
+    let calls = AtomicU64::new(0);
+    let map_op = |_: u32| -> Result<u64, u32> { Ok(calls.fetch_add(1, Ordering::SeqCst)) };
+    let four = number(&rt, 4);
+    let batch = Batches::balanced(alloc, &strategy, SITE, 10, four).expect(&rt, "memory");
+    let refused = batch.map_collect_vec(&rt, alloc, unprepared, map_op);
+    holds!(&rt, refused.err() == Some(Fault::Worker));
+    let batch = Batches::whole(alloc, &strategy, SITE, 10).expect(&rt, "memory");
+    let refused = batch.try_map_collect_vec(&rt, alloc, unprepared, map_op);
+    holds!(&rt, refused.err() == Some(Trouble::Fault(Fault::Worker)));
+    same!(&rt, calls.load(Ordering::SeqCst), 0);
 }
 
 // The number of ranges, or the first index of the second range.
-fn ranges_or_second<Rt: Wait, S: Strategy>(
-    rt: &Rt,
-    alloc: Global,
-    strategy: &S,
-) -> Result<usize, Trouble<usize>> {
-    let least = NonZeroUsize::MIN;
-    strategy.try_run_batches(
-        rt,
-        alloc,
-        SITE,
-        10,
-        least,
-        1,
-        |batches: Batches<'_, S, _>| {
-            match batches.ranges().get(1) {
-                Some(range) => Err(range.start),
-                None => Ok(batches.ranges().len()),
-            }
-        },
-    )
+fn second_range<S: Strategy>(batches: Batches<'_, S, Site>) -> Result<usize, usize> {
+    match batches.ranges().get(1) {
+        Some(range) => Err(range.start),
+        None => Ok(batches.ranges().len()),
+    }
 }
 
 #[test]
 fn a_batch_returns_its_closures_error(rt: HostRuntime) {
+    let (alloc, least) = (rt.alloc(), NonZeroUsize::MIN);
+    let four = pool(&rt, alloc, 1, 4).expect(&rt, "a pool");
+    let failed = four.try_run_batches(&rt, alloc, SITE, 10, least, 1, second_range);
+    holds!(&rt, failed == Err(Trouble::Closure(3)));
+    let passed = Sequential.try_run_batches(alloc, SITE, 10, least, 1, second_range);
+    holds!(&rt, passed == Ok(1));
+    let whole = Sequential.run_batches(alloc, SITE, 16, number(&rt, 5), usize::MAX, |batches| {
+        (batches.ranges() == [0..16].as_slice(), batches.site())
+    });
+    let of: Of = ("whole batch", "Sequential's own", 16);
+    returns(&rt, of, whole, (true, SITE));
+}
+
+// ---- lent lists
+
+/// Adds ten times the part's beginning, and its length, to each of its items.
+pub fn mark(start: usize, part: &mut [u64]) {
+    let mark = start.wrapping_mul(10).wrapping_add(part.len()) as u64;
+    for item in part.iter_mut() {
+        *item = item.wrapping_add(mark);
+    }
+}
+
+// Marks each of that many parts of a list.
+fn mark_parts<Rt: Threads + Wait + Abort + Sync, S: Strategy>(
+    rt: &Rt,
+    alloc: Global,
+    strategy: &S,
+    numbers: &mut [u64],
+    count: usize,
+) -> Result<(), Fault> {
+    let count = number(rt, count);
+    let batches = Batches::balanced(alloc, strategy, SITE, numbers.len(), count)?;
+    batches.for_each_mut(rt, alloc, numbers, mark)
+}
+
+// Parts of a list, in one part, in some, and in more than there are items.
+fn marks_are_right<Rt: Threads + Wait + Abort + Sync, S: Strategy>(
+    rt: &Rt,
+    alloc: Global,
+    strategy: &S,
+    through: &'static str,
+) {
+    for (count, marks) in [
+        (3, [].as_slice()),
+        (5, [1, 11].as_slice()),
+        (1, [3, 3, 3].as_slice()),
+        (3, [3, 3, 3, 32, 32, 52, 52].as_slice()),
+    ] {
+        let mut numbers = Vec::from_slice(alloc, marks).expect(rt, "memory");
+        numbers.fill(0);
+        let of: Of = ("change by parts", through, count);
+        let changed = mark_parts(rt, alloc, strategy, numbers.as_mut_slice(), count);
+        returns(rt, of, changed, ());
+        row(rt, of, numbers.as_slice(), marks);
+    }
+}
+
+#[test]
+fn each_part_of_a_lent_list_is_changed_once(rt: HostRuntime) {
     let alloc = rt.alloc();
-    returns(&rt, 1, ranges_or_second(&rt, alloc, &Sequential), 1);
-    let strategy = pool(&rt, alloc, 1, 4).expect(&rt, "a pool");
-    let failed = ranges_or_second(&rt, alloc, &strategy);
-    holds!(&rt, matches!(failed, Err(Trouble::Closure(3))));
+    marks_are_right(&rt, alloc, &Sequential, "Sequential");
+    marks_are_right(
+        &rt,
+        alloc,
+        &pool(&rt, alloc, 3, 3).expect(&rt, "a pool"),
+        "a pool",
+    );
 }

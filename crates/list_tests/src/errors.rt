@@ -1,246 +1,294 @@
-//! Calls whose closures fail at many items, many times over: the first failing item's error is
-//! returned each time, and each item and each result is let go once.
-use crate::checks::{returns, row};
+//! Calls whose closures fail: by which error, in each of many runs; and what is let go.
+use crate::checks::{Of, returns, row};
+use crate::counted::{Counted, Counts, again, again_of, count_again, counted_items};
+use crate::lists::{add, square_or_fail, ten, zero};
 use commonware_parallel::mocks::explore;
-use commonware_parallel::{Fault, Pairs, Strategy, Trouble};
+use commonware_parallel::{Pairs, Sequential, Strategy, Trouble};
 use std::alloc::Global;
 use std::process::Abort;
 use std::sync::Wait;
-use std::sync::atomic::{AtomicU64, Ordering};
+use std::sync::atomic::{AtomicU32, Ordering};
 use std::thread::Threads;
-use test_calls::counted::{Counted, Counts, again, again_of, count_again, counted_items};
-use test_calls::steps::{add_counts, no_count};
-use test_calls::strategies::{SITE, fresh, pool};
+use test_strategies::{SITE, Stopped, learning, pool};
+use test_support::{holds, same};
 
-/// Maps the numbers below 100, of which one fails, a further one, and those from a third one on.
-pub fn fails_at<Rt: Threads + Wait + Sync, S: Strategy>(
+// ---- which error
+
+// Which of the numbers below 100 fail: one, and those from a further one on; and the first of them.
+type Failing = (u32, u32, u32);
+
+// Two that fail, each, and many.
+const FAILING: [Failing; 3] = [(57, 99, 57), (0, 0, 0), (25, 25, 25)];
+
+// The error of a map of the numbers below 100.
+fn error_of<Rt: Threads + Wait + Sync, S: Strategy>(
     rt: &Rt,
     alloc: Global,
     strategy: &S,
-    (one, other, from): (u32, u32, u32),
-) -> Result<Vec<u32>, Trouble<u32>> {
-    strategy.try_map_collect_vec(rt, alloc, SITE, 0..100u32, |number: u32| {
-        if number == one || number == other || number >= from {
+    (one, from, _): Failing,
+) -> Option<Trouble<u32>> {
+    let map_op = |number: u32| {
+        if number == one || number >= from {
             Err(number)
         } else {
             Ok(number)
         }
-    })
+    };
+    strategy
+        .try_map_collect_vec(rt, alloc, SITE, 0..100u32, map_op)
+        .err()
 }
-
-// Which of the numbers fail: one, and those from a further one on; and the first of them.
-type Failing = (u32, u32, u32);
-
-const TWO: Failing = (57, 99, 57);
-
-const EACH: Failing = (0, 0, 0);
-
-const MANY: Failing = (25, 25, 25);
 
 // In how many of that many runs another error was returned than the first one.
 fn other_errors<Rt: Threads + Wait + Sync, S: Strategy>(
     rt: &Rt,
     alloc: Global,
     strategy: &S,
-    (one, from, first): Failing,
+    failing: Failing,
     runs: u32,
 ) -> u32 {
     let mut others = 0u32;
     for _ in 0..runs {
-        let outcome = fails_at(rt, alloc, strategy, (one, one, from));
-        if !matches!(outcome, Err(Trouble::Closure(error)) if error == first) {
-            others = others.saturating_add(1);
+        if error_of(rt, alloc, strategy, failing) != Some(Trouble::Closure(failing.2)) {
+            others = others.wrapping_add(1);
         }
     }
     others
 }
 
-// None in a thousand runs through a pool of four without a policy and one with one. (A test that
-// makes more of them might not end in its time where the machine does much else.)
-fn first_is_returned<Rt: Threads + Wait + Abort + Sync>(rt: &Rt, alloc: Global, failing: Failing) {
-    let fixed = pool(rt, alloc, 4, 4).expect(rt, "a pool");
-    row(
-        rt,
-        failing,
-        other_errors(rt, alloc, &fixed, failing, 1000),
-        0,
-    );
-    let learning = fresh(rt, alloc, 4).expect(rt, "a pool");
-    row(
-        rt,
-        failing,
-        other_errors(rt, alloc, &learning, failing, 1000),
-        0,
-    );
-}
-
-#[test]
-fn the_first_of_two_errors_is_returned_in_each_of_a_thousand_runs(rt: HostRuntime) {
-    first_is_returned(&rt, rt.alloc(), TWO);
-}
-
-#[test]
-fn the_first_error_is_returned_in_each_of_a_thousand_runs_where_each_item_fails(rt: HostRuntime) {
-    first_is_returned(&rt, rt.alloc(), EACH);
-}
-
-#[test]
-fn the_first_of_many_errors_is_returned_in_each_of_a_thousand_runs(rt: HostRuntime) {
-    first_is_returned(&rt, rt.alloc(), MANY);
-}
-
-// None in 167 runs by each of six rules.
-fn a_search_returns_the_first<Rt: Threads + Wait + Abort + Sync>(
+// None in a thousand runs. (A test that makes many more might not end in its time where the machine
+// does much else.)
+fn are_first<Rt: Threads + Wait + Abort + Sync, S: Strategy>(
     rt: &Rt,
     alloc: Global,
-    failing: Failing,
+    strategy: &S,
+    through: &'static str,
 ) {
-    let explored = explore(rt, alloc, |explorer| {
-        other_errors(rt, alloc, explorer, failing, 167)
-    });
-    returns(rt, failing, explored, 0);
+    for failing in FAILING {
+        let others = other_errors(rt, alloc, strategy, failing, 1000);
+        row(rt, ("fallible map", through, failing.2 as usize), others, 0);
+    }
 }
 
 #[test]
-fn a_search_returns_the_first_of_two_errors_in_each_of_a_thousand_runs(rt: HostRuntime) {
-    a_search_returns_the_first(&rt, rt.alloc(), TWO);
+fn the_first_error_is_returned_in_each_of_a_thousand_runs(rt: HostRuntime) {
+    let alloc = rt.alloc();
+    let fixed = pool(&rt, alloc, 4, 4).expect(&rt, "a pool");
+    are_first(&rt, alloc, &fixed, "a pool");
 }
 
+#[test]
+fn a_policy_returns_the_first_error_in_each_of_a_thousand_runs(rt: HostRuntime) {
+    let alloc = rt.alloc();
+    let strategy = learning(&rt, alloc, 4, Stopped).expect(&rt, "a pool");
+    are_first(&rt, alloc, &strategy, "a policy");
+}
+
+// By each of six rules.
 #[test]
 fn a_search_returns_the_first_error_in_each_of_a_thousand_runs(rt: HostRuntime) {
-    a_search_returns_the_first(&rt, rt.alloc(), EACH);
-    a_search_returns_the_first(&rt, rt.alloc(), MANY);
+    let alloc = rt.alloc();
+    for failing in FAILING {
+        let explored = explore(&rt, alloc, |explorer| {
+            other_errors(&rt, alloc, explorer, failing, 167)
+        });
+        let of: Of = ("fallible map", "each explorer", failing.2 as usize);
+        returns(&rt, of, explored, 0);
+    }
 }
 
-// What a map of counted items returned, of which one fails, and what is left of items and results.
-fn map_left(
-    rt: &impl Abort,
-    counts: &Counts,
-    len: usize,
-    mapped: Result<Vec<Counted<'_>>, Trouble<usize>>,
-    kept: usize,
+// Each call returns its own number, and the calls from the one of this number on fail by it; and
+// how many there were.
+fn map_unsteadily<Rt: Threads + Wait + Sync, S: Strategy>(
+    rt: &Rt,
+    alloc: Global,
+    strategy: &S,
+    from: u32,
+) -> (Result<Vec<u32>, Trouble<u32>>, u32) {
+    let calls = AtomicU32::new(0);
+    let mapped = strategy.try_map_collect_vec(rt, alloc, SITE, 0..100u32, |_: u32| {
+        let call = calls.fetch_add(1, Ordering::SeqCst);
+        if call < from { Ok(call) } else { Err(call) }
+    });
+    (mapped, calls.load(Ordering::SeqCst))
+}
+
+#[test]
+fn an_unsteady_closure_fails_by_an_error_of_its_own(rt: HostRuntime) {
+    let alloc = rt.alloc();
+    let serial = map_unsteadily(&rt, alloc, &Sequential, 50);
+    holds!(&rt, serial == (Err(Trouble::Closure(50)), 51));
+    let four = pool(&rt, alloc, 4, 4).expect(&rt, "a pool");
+    let (failed, calls) = map_unsteadily(&rt, alloc, &four, 50);
+    let is_own = matches!(failed, Err(Trouble::Closure(call)) if 50 <= call && call < calls);
+    holds!(&rt, is_own);
+    let (mapped, calls) = map_unsteadily(&rt, alloc, &four, 100);
+    let len = mapped.expect(&rt, "no error").len();
+    same!(&rt, (len, calls), (100, 100));
+}
+
+// Adds an odd number, and fails at an even one.
+fn add_odd(sum: u32, number: u32) -> Result<u32, u32> {
+    if number % 2 == 0 {
+        Err(number)
+    } else {
+        Ok(sum.wrapping_add(number))
+    }
+}
+
+// Adds a number, and fails where the sum passes 10.
+fn add_to_ten(sum: u32, number: u32) -> Result<u32, u32> {
+    let next = sum.wrapping_add(number);
+    if next > 10 { Err(number) } else { Ok(next) }
+}
+
+// A fold of the odd numbers of 1 to 4, and one of 6 and 7 that fails where a sum passes 10.
+fn folds_come<Rt: Threads + Wait + Abort + Sync, S: Strategy>(
+    rt: &Rt,
+    alloc: Global,
+    strategy: &S,
+    through: &'static str,
+    sum: Result<u32, Trouble<u32>>,
 ) {
-    let of = (len, counts.fails);
-    match mapped {
-        Ok(values) => {
-            row(rt, of, (values.len(), counts.fails < len), (len, false));
-            row(rt, of, counts.left(), len.saturating_add(kept) as u64);
-        }
-        Err(trouble) => row(rt, of, trouble, Trouble::Closure(counts.fails)),
-    }
-    row(rt, of, counts.left(), kept as u64);
+    let odd = strategy.try_fold(rt, alloc, SITE, 1..5u32, ten, add_odd, add);
+    let of: Of = ("sum of odd numbers", through, 4);
+    row(rt, of, odd, Err(Trouble::Closure(2)));
+    let found = strategy.try_fold(rt, alloc, SITE, 6..8u32, zero, add_to_ten, add);
+    row(rt, ("sum up to ten", through, 2), found, sum);
+    let failed = strategy.try_map_collect_vec(rt, alloc, SITE, 0..100u32, square_or_fail);
+    let wanted = Some(Trouble::Closure(57));
+    row(rt, ("fallible map", through, 100), failed.err(), wanted);
 }
 
-// The same of a fold that counts the items.
-fn fold_left(rt: &impl Abort, counts: &Counts, len: usize, folded: Result<usize, Trouble<usize>>) {
-    let of = (len, counts.fails);
-    match folded {
-        Ok(count) => row(rt, of, (count, counts.fails < len), (len, false)),
-        Err(trouble) => row(rt, of, trouble, Trouble::Closure(counts.fails)),
-    }
-    row(rt, of, counts.left(), 0);
+// Each segment begins anew, so that in two of them no sum passes 10.
+#[test]
+fn a_call_ends_at_its_first_error(rt: HostRuntime) {
+    let alloc = rt.alloc();
+    let in_one = Err(Trouble::Closure(7));
+    folds_come(&rt, alloc, &Sequential, "Sequential", in_one);
+    let two = pool(&rt, alloc, 2, 2).expect(&rt, "a pool");
+    folds_come(&rt, alloc, &two, "a pool of two", Ok(13));
+    let own = Sequential.try_fold(SITE, 6..8u32, zero, add_to_ten, add);
+    holds!(&rt, own == Err(7));
+    let own = Sequential.try_map_collect_vec(alloc, SITE, 0..100u32, square_or_fail);
+    holds!(&rt, own.err() == Some(Trouble::Closure(57)));
 }
 
-// Maps that many counted items of a slice.
-fn slice_left<Rt: Threads + Wait + Abort + Sync, S: Strategy>(
-    rt: &Rt,
-    alloc: Global,
-    strategy: &S,
-    counts: &Counts,
-    len: usize,
-) {
-    let items = counted_items(alloc, counts, len).expect(rt, "memory");
-    let mapped = strategy.try_map_collect_vec(rt, alloc, SITE, items.as_slice(), again_of);
-    map_left(rt, counts, len, mapped, len);
+// ---- what is let go
+
+// A fallible map or fold of counted items, which are lent or handed over.
+#[derive(Clone, Copy, Debug, PartialEq, Eq)]
+enum Over {
+    Slice,
+    Vector,
+    Iterator,
+    Pairs,
+    FoldedVector,
+    FoldedIterator,
 }
 
-// The fallible map of counted items, as a list or as they come.
-fn try_map<'a, Rt: Threads + Wait + Sync, S: Strategy>(
-    rt: &Rt,
-    alloc: Global,
-    strategy: &S,
-    items: Vec<Counted<'a>>,
-    is_list: bool,
-) -> Result<Vec<Counted<'a>>, Trouble<usize>> {
-    if is_list {
-        return strategy.try_map_collect_vec(rt, alloc, SITE, items, again);
-    }
-    strategy.try_map_collect_vec(rt, alloc, SITE, items.into_iter(), again)
-}
-
-// The fallible fold that counts them, over a list or as they come.
-fn try_count<Rt: Threads + Wait + Sync, S: Strategy>(
-    rt: &Rt,
-    alloc: Global,
-    strategy: &S,
-    items: Vec<Counted<'_>>,
-    is_list: bool,
-) -> Result<usize, Trouble<usize>> {
-    if is_list {
-        return strategy.try_fold(rt, alloc, SITE, items, no_count, count_again, add_counts);
-    }
-    let items = items.into_iter();
-    strategy.try_fold(rt, alloc, SITE, items, no_count, count_again, add_counts)
-}
-
-// Maps and folds that many counted items of a vector, or of an iterator.
-fn items_left<Rt: Threads + Wait + Abort + Sync, S: Strategy>(
-    rt: &Rt,
-    alloc: Global,
-    strategy: &S,
-    counts: &Counts,
-    (len, is_list): (usize, bool),
-) {
-    let items = counted_items(alloc, counts, len).expect(rt, "memory");
-    map_left(
-        rt,
-        counts,
-        len,
-        try_map(rt, alloc, strategy, items, is_list),
-        0,
-    );
-    let items = counted_items(alloc, counts, len).expect(rt, "memory");
-    fold_left(
-        rt,
-        counts,
-        len,
-        try_count(rt, alloc, strategy, items, is_list),
-    );
-}
+const OVER: [(Over, &str); 6] = [
+    (Over::Slice, "map of a slice"),
+    (Over::Vector, "map of a vector"),
+    (Over::Iterator, "map of an iterator"),
+    (Over::Pairs, "map of pairs"),
+    (Over::FoldedVector, "fold of a vector"),
+    (Over::FoldedIterator, "fold of an iterator"),
+];
 
 // A further value for the first of two items, or its place where it is the one that fails.
 fn again_of_two<'a>(pair: (Counted<'a>, Counted<'a>)) -> Result<Counted<'a>, usize> {
     again_of(&pair.0)
 }
 
-// Maps that many pairs of counted items: nothing is left of them, whether one fails or not.
-fn pairs_left<Rt: Threads + Wait + Abort + Sync, S: Strategy>(
-    rt: &Rt,
-    alloc: Global,
-    strategy: &S,
-    counts: &Counts,
-    len: usize,
-) {
-    let items = counted_items(alloc, counts, len.saturating_mul(2)).expect(rt, "memory");
-    let (pairs, _none) = Pairs::new(items);
-    let mapped = strategy.try_map_collect_vec(rt, alloc, SITE, pairs, again_of_two);
-    drop(mapped);
-    row(rt, ("pairs", len, counts.fails), counts.left(), 0);
+fn no_count() -> usize {
+    0
 }
 
-// All of them, of which the item at a place fails.
-fn all_left<Rt: Threads + Wait + Abort + Sync, S: Strategy>(
+// The map.
+fn map_again<'a, Rt: Threads + Wait + Sync, S: Strategy>(
+    rt: &Rt,
+    alloc: Global,
+    strategy: &S,
+    items: Vec<Counted<'a>>,
+    over: Over,
+) -> Result<Vec<Counted<'a>>, Trouble<usize>> {
+    match over {
+        Over::Slice => { strategy.try_map_collect_vec(rt, alloc, SITE, items.as_slice(), again_of) }
+        Over::Vector => strategy.try_map_collect_vec(rt, alloc, SITE, items, again),
+        Over::Pairs => {
+            let (pairs, _none) = Pairs::new(items);
+            strategy.try_map_collect_vec(rt, alloc, SITE, pairs, again_of_two)
+        }
+        _ => strategy.try_map_collect_vec(rt, alloc, SITE, items.into_iter(), again),
+    }
+}
+
+// How many values it returned, which alone are there while they are kept.
+fn values_of(
+    rt: &impl Abort,
+    counts: &Counts,
+    mapped: Result<Vec<Counted<'_>>, Trouble<usize>>,
+) -> Result<usize, Trouble<usize>> {
+    match mapped {
+        Ok(values) => {
+            same!(rt, counts.left(), values.len() as u64);
+            Ok(values.len())
+        }
+        Err(trouble) => Err(trouble),
+    }
+}
+
+// The same, or the fold that counts the items.
+fn call_over<Rt: Threads + Wait + Abort + Sync, S: Strategy>(
+    rt: &Rt,
+    alloc: Global,
+    strategy: &S,
+    items: Vec<Counted<'_>>,
+    over: Over,
+    counts: &Counts,
+) -> Result<usize, Trouble<usize>> {
+    let add = usize::wrapping_add;
+    match over {
+        Over::FoldedVector => {
+            strategy.try_fold(rt, alloc, SITE, items, no_count, count_again, add)
+        }
+        Over::FoldedIterator => {
+            let items = items.into_iter();
+            strategy.try_fold(rt, alloc, SITE, items, no_count, count_again, add)
+        }
+        _ => values_of(rt, counts, map_again(rt, alloc, strategy, items, over)),
+    }
+}
+
+// Makes each of these calls over that many items, of which the one at a place fails: nothing is
+// left.
+fn none_is_left<Rt: Threads + Wait + Abort + Sync, S: Strategy>(
     rt: &Rt,
     alloc: Global,
     strategy: &S,
     len: usize,
-    fails: usize,
+    place: usize,
 ) {
-    let counts = Counts::failing(fails);
-    slice_left(rt, alloc, strategy, &counts, len);
-    items_left(rt, alloc, strategy, &counts, (len, true));
-    items_left(rt, alloc, strategy, &counts, (len, false));
-    pairs_left(rt, alloc, strategy, &counts, len);
+    for (over, name) in OVER {
+        let counts = Counts::failing(place);
+        let is_paired = over == Over::Pairs;
+        let count = if is_paired {
+            len.saturating_mul(2)
+        } else {
+            len
+        };
+        let items = counted_items(alloc, &counts, count).expect(rt, "memory");
+        let found = call_over(rt, alloc, strategy, items, over, &counts);
+        let is_passed = is_paired && place % 2 == 1;
+        let wanted = if place < count && !is_passed {
+            Err(Trouble::Closure(place))
+        } else {
+            Ok(len)
+        };
+        row(rt, (name, "a pool", len), found, wanted);
+        row(rt, (name, "a pool", len), counts.left(), 0);
+    }
 }
 
 #[test]
@@ -250,7 +298,7 @@ fn each_item_and_each_result_is_let_go_once(rt: HostRuntime) {
         let strategy = pool(&rt, alloc, threads, threads).expect(&rt, "a pool");
         for len in [0usize, 1, 2, 100] {
             for fails in [0, len / 2, 99, 100] {
-                all_left(&rt, alloc, &strategy, len, fails);
+                none_is_left(&rt, alloc, &strategy, len, fails);
             }
         }
     }

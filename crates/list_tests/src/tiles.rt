@@ -1,6 +1,6 @@
-//! Tiles: which cells are filled, for how many workers, and what is returned for each row.
-use crate::checks::{number, returns, row};
-use commonware_parallel::shares::machine::{Event, Outcome, Plan, replay};
+//! Tiles and kernels by row: which cells are filled, for how many workers, and what is returned for
+//! each row.
+use crate::checks::{Of, lists, number, row};
 use commonware_parallel::{Fault, Grid, Sequential, Site, Strategy, Tiles};
 use std::alloc::Global;
 use std::ops::Range;
@@ -8,13 +8,17 @@ use std::process::Abort;
 use std::sync::Wait;
 use std::sync::atomic::{AtomicU64, Ordering};
 use std::thread::Threads;
-use test_calls::steps::no_count;
-use test_calls::strategies::{SITE, explorers, pool, pools};
-use test_support::same;
+use test_strategies::{SITE, pool};
+use test_support::{holds, same};
 
-// What tiles returned: the grid, the workers, whether rows may be cut, and for each result its row
-// and the number of cells that were filled for it.
-type Told = ((usize, usize, bool), Vec<(usize, usize)>);
+// ---- tiles
+
+// The columns that were filled for a result: how many, and the sum of their numbers.
+type Filled = (usize, usize);
+
+// What tiles returned: the grid, the workers, whether rows may be cut, and each result's row and
+// columns.
+type Told = ((usize, usize, bool), Vec<(usize, Filled)>);
 
 fn grid(rt: &impl Abort, rows: usize, tile_cost: usize) -> Grid {
     Grid {
@@ -23,107 +27,124 @@ fn grid(rt: &impl Abort, rows: usize, tile_cost: usize) -> Grid {
     }
 }
 
-// The row and the number of its cells, of which the next row has none yet.
-fn row_and_cells(count: &mut usize, row: usize) -> (usize, usize) {
-    let cells = *count;
-    *count = 0;
-    (row, cells)
+fn nothing() -> Filled {
+    (0, 0)
 }
 
-// What tiles return, each cell of a row of `len` counted in `marks` as it is filled.
+fn fill_columns(filled: &mut Filled, _row: usize, columns: Range<usize>) {
+    for column in columns {
+        *filled = (filled.0.wrapping_add(1), filled.1.wrapping_add(column));
+    }
+}
+
+// The row and its columns, of which the next row has none yet.
+fn row_and_columns(filled: &mut Filled, row: usize) -> (usize, Filled) {
+    let columns = *filled;
+    *filled = nothing();
+    (row, columns)
+}
+
+// What tiles return.
 fn fill_tiles<Rt: Threads + Wait + Sync, S: Strategy>(
     rt: &Rt,
     alloc: Global,
     tiles: Tiles<'_, S, Site>,
-    len: usize,
-    marks: &[AtomicU64],
 ) -> Result<Told, Fault> {
     let plan = (tiles.grid(), tiles.workers().get(), tiles.is_cut());
-    let mark = |count: &mut usize, row: usize, columns: Range<usize>| {
-        *count = count.saturating_add(columns.len());
-        mark_cells(marks, row.saturating_mul(len), columns);
-    };
-    let results = tiles.fill_collect_vec(rt, alloc, no_count, mark, row_and_cells)?;
+    let results = tiles.fill_collect_vec(rt, alloc, nothing, fill_columns, row_and_columns)?;
     Ok((plan, results))
 }
 
-// Fills the grids, and counts in `marks` how often each cell of a row of `len` was filled.
+// Fills the grids, whose rows have that many columns.
 fn fill<Rt: Threads + Wait + Abort + Sync, S: Strategy>(
     rt: &Rt,
     alloc: Global,
     strategy: &S,
     len: usize,
     grids: &[Grid],
-    marks: &[AtomicU64],
-) -> Result<Told, Fault> {
+) -> Told {
     assert!(rt; Grid::fits(grids, len));
-    strategy.run_tiles(rt, alloc, SITE, len, grids, 1, |tiles| {
-        fill_tiles(rt, alloc, tiles, len, marks)
-    })?
+    let filled = strategy.run_tiles(rt, alloc, SITE, len, grids, 1, |tiles| {
+        fill_tiles(rt, alloc, tiles)
+    });
+    filled.expect(rt, "tiles").expect(rt, "memory")
 }
 
-// Counts the cells of a row that begins there.
-fn mark_cells(marks: &[AtomicU64], first: usize, columns: Range<usize>) {
-    for column in columns {
-        if let Some(mark) = marks.get(first.saturating_add(column)) {
-            mark.fetch_add(1, Ordering::SeqCst);
+// The columns that one row's results say were filled.
+fn columns_of(results: &[(usize, Filled)], at: usize) -> Filled {
+    let mut filled = nothing();
+    for (row, more) in results {
+        if *row == at {
+            filled = (filled.0.wrapping_add(more.0), filled.1.wrapping_add(more.1));
         }
     }
+    filled
 }
 
-// The cells that one row's results say were filled.
-fn cells_of_row(results: &[(usize, usize)], at: usize) -> usize {
-    let mut cells = 0_usize;
-    for result in results {
-        if result.0 == at {
-            cells = cells.saturating_add(result.1);
-        }
-    }
-    cells
-}
-
-fn marks(alloc: Global, cells: usize) -> Result<Vec<AtomicU64>, Fault> {
-    let mut marks = Vec::new(alloc);
-    for _ in 0..cells {
-        marks.push(AtomicU64::new(0))?;
-    }
-    Ok(marks)
-}
-
-fn marked_once(marks: &[AtomicU64]) -> usize {
-    let mut once = 0usize;
-    for mark in marks {
-        once = once.wrapping_add(usize::from(mark.load(Ordering::SeqCst) == 1));
-    }
-    once
-}
-
-// Each cell of the grid was filled once, and each row's results have all of its cells: the plan.
+// Each row's results have all of its columns: the plan.
 fn covers<Rt: Threads + Wait + Abort + Sync, S: Strategy>(
     rt: &Rt,
     alloc: Global,
     strategy: &S,
     (rows, len, tile_cost): (usize, usize, usize),
 ) -> (usize, usize, bool) {
-    let counted = marks(alloc, rows.saturating_mul(len)).expect(rt, "memory");
     let grids = [grid(rt, rows, tile_cost)];
-    let told = fill(rt, alloc, strategy, len, &grids, &counted);
-    let (plan, results) = told.expect(rt, "memory");
-    row(rt, (rows, len), marked_once(&counted), counted.len());
+    let (plan, results) = fill(rt, alloc, strategy, len, &grids);
+    let all = (len, len.wrapping_mul(len.wrapping_sub(1)) / 2);
     for at in 0..rows {
-        row(rt, (at, rows), cells_of_row(&results, at), len);
+        let of: Of = ("columns of a row", "rows of that length", len);
+        row(rt, of, columns_of(&results, at), all);
     }
     plan
+}
+
+// Grids of each shape, filled by a strategy.
+fn all_cover<Rt: Threads + Wait + Abort + Sync, S: Strategy>(rt: &Rt, alloc: Global, strategy: &S) {
+    for shape in [
+        (0, 7, 3),
+        (1, 1, 1),
+        (1, 64, 1),
+        (3, 5, 2),
+        (7, 3, 8),
+        (5, 41, 4),
+        (64, 7, 1),
+    ] {
+        covers(rt, alloc, strategy, shape);
+    }
+}
+
+#[test]
+fn each_cell_is_filled_once(rt: HostRuntime) {
+    let alloc = rt.alloc();
+    all_cover(&rt, alloc, &Sequential);
+    for (threads, planned) in [(1, 1), (2, 2), (3, 8), (3, 16), (4, 4)] {
+        all_cover(
+            &rt,
+            alloc,
+            &pool(&rt, alloc, threads, planned).expect(&rt, "a pool"),
+        );
+    }
 }
 
 #[test]
 fn a_serial_plan_fills_each_row_whole(rt: HostRuntime) {
     let alloc = rt.alloc();
     let grids = [grid(&rt, 2, 1), grid(&rt, 1, 9)];
-    let told = fill(&rt, alloc, &Sequential, 5, &grids, &[]);
-    let (plan, results) = told.expect(&rt, "memory");
-    same!(&rt, plan, (0, 1, false));
-    same!(&rt, results.as_slice(), [(0, 5), (1, 5)].as_slice());
+    assert!(rt; Grid::fits(&grids, 5));
+    let own = Sequential.run_tiles(SITE, 5, &grids, usize::MAX, |tiles| {
+        fill_tiles(&rt, alloc, tiles)
+    });
+    for told in [
+        fill(&rt, alloc, &Sequential, 5, &grids),
+        own.expect(&rt, "memory"),
+    ] {
+        same!(&rt, told.0, (0, 1, false));
+        same!(
+            &rt,
+            told.1.as_slice(),
+            [(0, (5, 10)), (1, (5, 10))].as_slice()
+        );
+    }
 }
 
 #[test]
@@ -132,160 +153,99 @@ fn two_workers_take_whole_rows_and_eight_cut_them(rt: HostRuntime) {
     for (threads, planned, is_cut) in [(2, 2, false), (1, 8, true), (2, 8, true), (4, 8, true)] {
         let strategy = pool(&rt, alloc, threads, planned).expect(&rt, "a pool");
         let plan = covers(&rt, alloc, &strategy, (4, 64, 1));
-        row(&rt, (threads, planned), plan, (0, planned, is_cut));
+        let of: Of = ("tiles", "a pool of threads", threads);
+        row(&rt, of, plan, (0, planned, is_cut));
     }
 }
 
-// Grids of each shape, filled through each of the strategies.
-fn all_cover<Rt: Threads + Wait + Abort + Sync, S: Strategy>(
-    rt: &Rt,
-    alloc: Global,
-    strategies: &[S],
-) {
-    for strategy in strategies {
-        for shape in [
-            (1, 1, 1),
-            (1, 64, 1),
-            (3, 5, 2),
-            (7, 3, 8),
-            (2, 100, 1),
-            (5, 41, 4),
-            (64, 7, 1),
-        ] {
-            covers(rt, alloc, strategy, shape);
-        }
-    }
-}
-
-#[test]
-fn each_cell_is_filled_once(rt: HostRuntime) {
-    let alloc = rt.alloc();
-    all_cover(&rt, alloc, &[Sequential]);
-    all_cover(&rt, alloc, &pools(&rt, alloc).expect(&rt, "pools"));
-    let planned_for_more = [
-        pool(&rt, alloc, 3, 8).expect(&rt, "a pool"),
-        pool(&rt, alloc, 3, 16).expect(&rt, "a pool"),
-    ];
-    all_cover(&rt, alloc, &planned_for_more);
-}
-
-fn fill_nothing(_state: &mut (), _row: usize, _columns: Range<usize>) {}
-
-fn number_of_row(_state: &mut (), row: usize) -> usize {
-    row
-}
-
-// How many results tiles have of a grid without cells. Counts the states that are made.
-fn results_of_nothing<Rt: Threads + Wait + Abort + Sync, S: Strategy>(
-    rt: &Rt,
-    alloc: Global,
-    strategy: &S,
-    (rows, len): (usize, usize),
-    made: &AtomicU64,
-) -> Result<usize, Fault> {
-    let grids = [grid(rt, rows, 3)];
-    assert!(rt; Grid::fits(&grids, len));
-    let results = strategy.run_tiles(rt, alloc, SITE, len, &grids, usize::MAX, |tiles| {
-        let init = || {
-            made.fetch_add(1, Ordering::SeqCst);
-        };
-        tiles.fill_collect_vec(rt, alloc, init, fill_nothing, number_of_row)
-    })??;
-    Ok(results.len())
-}
-
-// None, and no state, through each of the strategies.
-fn nothing_comes<Rt: Threads + Wait + Abort + Sync, S: Strategy>(
-    rt: &Rt,
-    alloc: Global,
-    strategies: &[S],
-) {
-    let made = AtomicU64::new(0);
-    for strategy in strategies {
-        for shape in [(0, 7), (7, 0), (0, 0), (0, usize::MAX)] {
-            let count = results_of_nothing(rt, alloc, strategy, shape, &made);
-            returns(rt, shape, count, 0);
-        }
-    }
-    same!(rt, made.load(Ordering::SeqCst), 0);
-}
-
+// A grid without cells, of as many columns as there may be: no result, and no state.
 #[test]
 fn a_grid_without_cells_has_no_results(rt: HostRuntime) {
     let alloc = rt.alloc();
-    nothing_comes(&rt, alloc, &[Sequential]);
-    nothing_comes(&rt, alloc, &pools(&rt, alloc).expect(&rt, "pools"));
-    nothing_comes(&rt, alloc, &explorers(&rt, alloc).expect(&rt, "explorers"));
+    let two = pool(&rt, alloc, 2, 2).expect(&rt, "a pool");
+    let made = AtomicU64::new(0);
+    let init = || {
+        made.fetch_add(1, Ordering::SeqCst);
+        nothing()
+    };
+    for (rows, len) in [(0, usize::MAX), (7, 0), (0, 0)] {
+        let grids = [grid(&rt, rows, 3)];
+        assert!(rt; Grid::fits(&grids, len));
+        let results = two.run_tiles(&rt, alloc, SITE, len, &grids, usize::MAX, |tiles| {
+            tiles.fill_collect_vec(&rt, alloc, init, fill_columns, row_and_columns)
+        });
+        let results = results.expect(&rt, "tiles").expect(&rt, "memory");
+        row(&rt, ("tiles", "no cells", rows), results.len(), 0);
+    }
+    same!(&rt, made.load(Ordering::SeqCst), 0);
 }
 
-fn load(seat: usize, share: usize) -> Event {
-    Event::Load { seat, share }
+// ---- kernels by row
+
+// Columns of a row, from the first one up to the second, and the sum of their cells.
+type Part = (usize, usize, usize, usize);
+
+// The part, whose cell of a column is three times the column, and the row.
+fn part_of(row: usize, columns: Range<usize>) -> Part {
+    let (first, end) = (columns.start, columns.end);
+    let mut sum = 0usize;
+    for column in columns {
+        sum = sum.wrapping_add(column.wrapping_mul(3).wrapping_add(row));
+    }
+    (row, first, end, sum)
 }
 
-fn claim(seat: usize) -> Event {
-    Event::Claim { seat }
-}
-
-fn steal(seat: usize) -> Event {
-    Event::Steal { seat }
-}
-
-fn refill(seat: usize) -> Event {
-    Event::Refill { seat }
+// Two neighbouring parts of a row as one. Any others, or the two the wrong way round, are no part.
+fn both_parts(left: Part, right: Part) -> Part {
+    if left.0 != right.0 || left.2 != right.1 {
+        return (usize::MAX, 0, 0, 0);
+    }
+    (left.0, left.1, right.2, left.3.wrapping_add(right.3))
 }
 
 #[test]
-fn stale_steals_claims_and_refills_change_nothing(rt: HostRuntime) {
-    let plan = Plan::new(1, 12, number(&rt, 1), number(&rt, 3), false);
-    let events = [
-        load(0, 0),
-        claim(0),
-        load(0, 0),
-        claim(0),
-        load(0, 0),
-        claim(0),
-        load(0, 0),
-        claim(0),
-        load(1, 1),
-        claim(1),
-        load(1, 1),
-        claim(1),
-        load(1, 1),
-        claim(1),
-        load(1, 1),
-        claim(1),
-        load(0, 2),
-        load(1, 2),
-        load(2, 2),
-        steal(0),
-        steal(1),
-        claim(2),
-        load(1, 2),
-        steal(1),
-        load(1, 0),
-        steal(1),
-        refill(1),
-        refill(0),
-        refill(0),
-    ];
-    let (_state, outcomes) = replay(rt.alloc(), &plan, &events).expect(&rt, "memory");
-    let expected = [
-        Outcome::Loaded(524_300),
-        Outcome::Loaded(524_300),
-        Outcome::Loaded(524_300),
-        Outcome::Taken(10..12),
-        Outcome::Lost,
-        Outcome::Lost,
-        Outcome::Loaded(524_298),
-        Outcome::Nothing,
-        Outcome::Loaded(262_148),
-        Outcome::Nothing,
-        Outcome::Refused,
-        Outcome::Refilled(655_372),
-        Outcome::Refused,
-    ];
-    same!(&rt, outcomes.len(), 29);
-    for (at, outcome) in expected.iter().enumerate() {
-        same!(&rt, outcomes.get(at.saturating_add(16)), Some(outcome));
+fn rows_of_three_columns_by_hand(rt: HostRuntime) {
+    let alloc = rt.alloc();
+    let two = pool(&rt, alloc, 2, 2).expect(&rt, "a pool");
+    let cost = number(&rt, 1);
+    let values = two.fold_rows(&rt, alloc, SITE, 2, 3, cost, part_of, both_parts);
+    let of: Of = ("kernel by row", "a pool", 3);
+    lists(&rt, of, values, &[(0, 0, 3, 9), (1, 0, 3, 12)]);
+    let values = two.fold_rows(&rt, alloc, SITE, 2, 0, cost, part_of, both_parts);
+    let of: Of = ("kernel by row", "a pool", 0);
+    lists(&rt, of, values, &[(0, 0, 0, 0), (1, 0, 0, 0)]);
+}
+
+// How many parts the kernel was called with, of one row of that many columns, each of which is in
+// one part.
+fn parts_of_a_row<Rt: Threads + Wait + Abort + Sync, S: Strategy>(
+    rt: &Rt,
+    alloc: Global,
+    strategy: &S,
+    len: usize,
+    tile_cost: usize,
+) -> u64 {
+    let (called, cells) = (AtomicU64::new(0), AtomicU64::new(0));
+    let kernel = |_row: usize, columns: Range<usize>| {
+        cells.fetch_add(columns.len() as u64, Ordering::SeqCst);
+        called.fetch_add(1, Ordering::SeqCst)
+    };
+    assert!(rt; 1usize.checked_mul(len).is_some());
+    let cost = number(rt, tile_cost);
+    let values = strategy.fold_rows(rt, alloc, SITE, 1, len, cost, kernel, u64::wrapping_add);
+    same!(rt, values.expect(rt, "memory").len(), 1);
+    same!(rt, cells.load(Ordering::SeqCst), len as u64);
+    called.load(Ordering::SeqCst)
+}
+
+#[test]
+fn a_row_of_two_tiles_is_cut_and_a_shorter_one_is_not(rt: HostRuntime) {
+    let alloc = rt.alloc();
+    let four = pool(&rt, alloc, 4, 4).expect(&rt, "a pool");
+    holds!(&rt, parts_of_a_row(&rt, alloc, &four, 640, 1) > 1);
+    for (len, cost) in [(15, 8), (0, 1)] {
+        let parts = parts_of_a_row(&rt, alloc, &four, len, cost);
+        row(&rt, ("kernel by row", "a pool", len), parts, 1);
     }
+    same!(&rt, parts_of_a_row(&rt, alloc, &Sequential, 640, 1), 1);
 }

@@ -1,261 +1,108 @@
-//! A Merkle tree over SHA-256, as `uses` has it. Its roots and commitments were computed by another
-//! program, from what the digest of a leaf, of a node and of a whole tree is said to be.
-use crate::checks::{returns, row};
-use commonware_parallel::mocks::explore;
+//! Roots of trees, by levels and by blocks: known values, and that each node is let go once.
+use crate::checks::{Of, returns, row};
+use crate::counted::{Counts, counted_items, greater};
+use commonware_parallel::merkle::{plain_root, root, root_by_blocks};
 use commonware_parallel::{Fault, Sequential, Strategy};
 use std::alloc::Global;
 use std::process::Abort;
 use std::sync::Wait;
 use std::thread::Threads;
-use test_calls::strategies::{SITE, pool};
-use uses::merkle::{
-    Digest, Tree, commitment, commitment_digest, is_member, leaf_digest, node_digest, root,
-};
+use test_strategies::{SITE, pool};
 
-// The leaves of the greatest tree. A smaller one has the first of them.
-fn all_leaves() -> [&'static [u8]; 9] {
-    [
-        b"",
-        b"a",
-        b"ab",
-        b"abc",
-        b"abcd",
-        b"abcde",
-        b"abcdef",
-        b"abcdefg",
-        b"abcdefgh",
-    ]
-}
+// How a root is found, and whether that is by blocks.
+const ROOTED: [(&str, bool); 2] = [("root by levels", false), ("root by blocks", true)];
 
-// The root of that many leaves, the first ones, in hexadecimal digits.
-fn known_root(count: usize) -> &'static str {
-    match count {
-        1 => "6e340b9cffb37a989ca544e6bb780a2c78901d3fb33738768511a30617afa01d",
-        2 => "688dc6244b041199e7ab4990df6340ce3dc14caa5cd5a0e1131addaa1209e1a6",
-        3 => "383e04b3c7a704f3c74bf0bdd1e1bc1b645cc4cd3a65623f3bd7ae331aea6a31",
-        4 => "8f81aec6982163362cc8ce0c08da70bfbaa97b5b6e54817a88c7f632089f0784",
-        5 => "eed92cb74de86bbba60dd0be941565d235d373ee576bc9033f0b0846d91b663b",
-        7 => "064e85ca5dfb6c2571523dc2f66965d4f259726eea488d00975eec3ae155cbc0",
-        8 => "c73c83f393c6b07b1f589d42afc6e706b80f93b7abfe8ebfbbb7c17f414b2f7e",
-        9 => "00478de74de95bb18f261546f440b8ca2d0904f22d3bc5fed1ff536383039242",
-        _ => "",
-    }
-}
-
-// The commitment to the tree of that many leaves, the first ones, in hexadecimal digits: in Python,
-// hashlib.sha256(bytes([2]) + count.to_bytes(8, "big") + root).hexdigest(), where root is the 32
-// bytes of the root, and empty where there is no leaf.
-fn known_commitment(count: usize) -> &'static str {
-    match count {
-        0 => "4322fd2bc0a137d1375b37b3b2e2b4715b3d3dd7ca9682438d4fea0f8437fad3",
-        1 => "5cc26cdeaf1949b023361937a0119ed5d1f0cd9fba7d5577f2da20280f29cc64",
-        2 => "673ff2bef585b2f447f7c4642f64deada26f25f67853698f4e3701e9aab57f9b",
-        3 => "220e38d7a8caf2470ca69b423d33e0e30e4e8a4c80fb3335e545aa2419eea7d2",
-        4 => "1821c544557775aafc39f671057e8a6db15047c80e55247a9c13ca82fb3d955a",
-        5 => "40369431aa795b32ca5ea1babff00e461345b6fb129907113e6d74060f8eaf14",
-        7 => "a3feb799934007d70b184d47946a98922a73fe65c63db5d874e5c1b87daedf2d",
-        8 => "f7415e6f77fca04d021c96734e4b5287f4cf310ffc8edf94e615cb1e62c17a6b",
-        9 => "57f4d995cab8bd8321e366a302ce3387959abfacd98b546ca4f563d89e84b76f",
-        _ => "",
-    }
-}
-
-// Whether a digest is written so.
-fn is_written(digest: &Digest, text: &str) -> bool {
-    let mut digits = text.chars();
-    for byte in digest {
-        let (Some(high), Some(low)) = (digits.next(), digits.next()) else {
-            return false;
-        };
-        let (Some(high), Some(low)) = (high.to_digit(16), low.to_digit(16)) else {
-            return false;
-        };
-        if u32::from(*byte) != high.wrapping_mul(16).wrapping_add(low) {
-            return false;
-        }
-    }
-    digits.next().is_none()
-}
-
-// Whether the commitment to the leaves' tree is the one that is known, also by the tree with all
-// its levels.
-fn is_committed<Rt: Threads + Wait + Sync, S: Strategy>(
+fn root_of<
+    Rt: Threads + Wait + Sync,
+    S: Strategy,
+    T: Send + Drop,
+    F: Fn(T, T) -> T + Send + Sync + Drop,
+>(
     rt: &Rt,
     alloc: Global,
     strategy: &S,
-    leaves: &[&[u8]],
-) -> Result<bool, Fault> {
-    let own = commitment(rt, alloc, strategy, SITE, leaves)?;
-    let tree = Tree::build(rt, alloc, strategy, SITE, leaves)?;
-    Ok(own == tree.commitment() && is_written(&own, known_commitment(leaves.len())))
+    by_blocks: bool,
+    leaves: Vec<T>,
+    combine: F,
+) -> Result<Option<T>, Fault>
+    requires { F.IsAlwaysCallable combine }
+{
+    if by_blocks {
+        return root_by_blocks(rt, alloc, strategy, SITE, leaves, combine);
+    }
+    root(rt, alloc, strategy, SITE, leaves, combine)
 }
 
-// Whether the root of the leaves is the one that is known, also by the tree with all its levels.
-fn is_known<Rt: Threads + Wait + Sync, S: Strategy>(
+// A node of two neighbours, which tells their order and how they are grouped.
+fn combine(left: u64, right: u64) -> u64 {
+    let modulus = 1_000_003;
+    let twice = (left % modulus).wrapping_mul(2);
+    let thrice = (right % modulus).wrapping_mul(3);
+    twice.wrapping_add(thrice) % modulus
+}
+
+const SEVEN: [u64; 7] = [1, 2, 3, 4, 5, 6, 7];
+
+// The root of [9], and those of the first of seven numbers.
+fn are_known<Rt: Threads + Wait + Abort + Sync, S: Strategy>(
     rt: &Rt,
     alloc: Global,
     strategy: &S,
-    leaves: &[&[u8]],
-) -> Result<bool, Fault> {
-    let own = root(rt, alloc, strategy, SITE, leaves)?;
-    let tree = Tree::build(rt, alloc, strategy, SITE, leaves)?;
-    if own != tree.root() || tree.leaf_count() != leaves.len() {
-        return Ok(false);
-    }
-    Ok(match own {
-        Some(digest) => is_written(&digest, known_root(leaves.len())),
-        None => leaves.is_empty(),
-    })
-}
-
-#[test]
-fn roots_are_those_of_another_program(rt: HostRuntime) {
-    let alloc = rt.alloc();
-    let leaves = all_leaves();
-    let four = pool(&rt, alloc, 4, 4).expect(&rt, "a pool");
-    for count in [0usize, 1, 2, 3, 4, 5, 7, 8, 9] {
-        let first = leaves.get(..count).expect(&rt, "as many leaves");
-        returns(&rt, count, is_known(&rt, alloc, &Sequential, first), true);
-        returns(&rt, count, is_known(&rt, alloc, &four, first), true);
-        returns(&rt, count, is_committed(&rt, alloc, &four, first), true);
-        let explored = explore(
-            &rt,
-            alloc,
-            |explorer| is_known(&rt, alloc, explorer, first).ok(),
-        );
-        returns(&rt, count, explored, Some(true));
-    }
-}
-
-// A step of a proof, changed: another byte at either end, or the step taken away or put in.
-fn changed(step: Option<Digest>, change: u8, other: &Digest) -> Option<Digest> {
-    let Some(mut digest) = step else {
-        return Some(*other);
-    };
-    match change {
-        0 => digest[0] ^= 1,
-        1 => digest[31] ^= 128,
-        _ => return None,
-    }
-    Some(digest)
-}
-
-// How many of such changes of one step of a proof are accepted.
-fn changed_steps(
-    alloc: Global,
-    commitment: &Digest,
-    (count, index): (usize, usize),
-    leaf: &[u8],
-    proof: &[Option<Digest>],
-) -> Result<u64, Fault> {
-    let mut accepted = 0u64;
-    for at in 0..proof.len() {
-        for change in 0..3u8 {
-            let mut forged = Vec::from_slice(alloc, proof)?;
-            if at < forged.len() {
-                forged[at] = changed(forged[at], change, commitment);
-            }
-            if is_member(commitment, count, index, leaf, &forged) {
-                accepted = accepted.saturating_add(1);
-            }
-        }
-    }
-    Ok(accepted)
-}
-
-// How many further changes are accepted: another leaf or commitment, the tree's root in place of
-// its commitment, a step less and a step more.
-fn other_claims(
-    alloc: Global,
-    (commitment, root): (&Digest, &Digest),
-    (count, index): (usize, usize),
-    leaf: &[u8],
-    proof: &[Option<Digest>],
-) -> Result<u64, Fault> {
-    let mut other_commitment = *commitment;
-    other_commitment[5] ^= 4;
-    let mut longer = Vec::from_slice(alloc, proof)?;
-    longer.push(Some(*root))?;
-    let shorter = proof.get(1..).unwrap_or(longer.as_slice());
-    let mut accepted = 0u64;
-    for is_accepted in [
-        is_member(commitment, count, index, b"another", proof),
-        is_member(&other_commitment, count, index, leaf, proof),
-        is_member(root, count, index, leaf, proof),
-        is_member(commitment, count, index, leaf, shorter),
-        is_member(commitment, count, index, leaf, &longer),
+    through: &'static str,
+    (name, by_blocks): (&'static str, bool),
+) {
+    for (numbers, known) in [
+        ([9].as_slice(), Some(9)),
+        (&SEVEN[..0], None),
+        (&SEVEN[..3], Some(25)),
+        (&SEVEN[..5], Some(155)),
+        (&SEVEN[..7], Some(371)),
     ] {
-        accepted = accepted.saturating_add(u64::from(is_accepted));
-    }
-    Ok(accepted)
-}
-
-// For how many numbers of leaves below 12 and how many places below 12 the proof is accepted.
-fn places(commitment: &Digest, leaf: &[u8], proof: &[Option<Digest>]) -> u64 {
-    let mut accepted = 0u64;
-    for both in 0..144usize {
-        if is_member(commitment, both / 12, both % 12, leaf, proof) {
-            accepted = accepted.saturating_add(1);
-        }
-    }
-    accepted
-}
-
-// Each leaf's proof is accepted for it alone, and no two inputs with one digest come of it.
-fn proofs_hold(rt: &impl Abort, alloc: Global, tree: &Tree, leaves: &[&[u8]]) {
-    let root = tree.root().expect(rt, "a leaf");
-    let commitment = tree.commitment();
-    let count = tree.leaf_count();
-    row(rt, count, leaves.len(), count);
-    for index in 0..count {
-        let leaf = *leaves.get(index).expect(rt, "its leaf");
-        let proof = tree.proof(alloc, index).expect(rt, "memory");
-        let at = (count, index);
-        let is_accepted = is_member(&commitment, count, index, leaf, &proof);
-        row(rt, at, is_accepted, true);
-        row(rt, at, places(&commitment, leaf, &proof), 1);
-        let others = changed_steps(alloc, &commitment, at, leaf, &proof);
-        returns(rt, at, others, 0);
-        let others = other_claims(alloc, (&commitment, &root), at, leaf, &proof);
-        returns(rt, at, others, 0);
-        row(rt, at, tree.has_leaf(index, leaf), true);
-        row(rt, at, tree.has_leaf(index, b"another"), false);
-        for (claimed, own) in [
-            (b"another".as_slice(), leaf),
-            (leaf, leaf),
-            (leaf, b"another".as_slice()),
-        ] {
-            let found = tree.collision(count, index, claimed, &proof, Some(own));
-            row(rt, at, found.is_some(), false);
-        }
+        let leaves = Vec::from_slice(alloc, numbers).expect(rt, "memory for leaves");
+        let found = root_of(rt, alloc, strategy, by_blocks, leaves, combine);
+        returns(rt, (name, through, numbers.len()), found, known);
     }
 }
 
 #[test]
-fn a_proof_is_accepted_for_its_leaf_alone(rt: HostRuntime) {
+fn roots_are_as_by_hand(rt: HostRuntime) {
     let alloc = rt.alloc();
-    let leaves = all_leaves();
-    for count in 1..10usize {
-        let first = leaves.get(..count).expect(&rt, "as many leaves");
-        let tree = Tree::build(&rt, alloc, &Sequential, SITE, first).expect(&rt, "memory");
-        proofs_hold(&rt, alloc, &tree, first);
+    let four = pool(&rt, alloc, 4, 4).expect(&rt, "a pool");
+    for rooted in ROOTED {
+        are_known(&rt, alloc, &Sequential, "Sequential", rooted);
+        are_known(&rt, alloc, &four, "a pool", rooted);
     }
+    let leaves = Vec::from_slice(alloc, &SEVEN).expect(&rt, "memory for leaves");
+    let plain = plain_root(alloc, leaves, &combine);
+    returns(&rt, ("plain root", "nobody", 7), plain, Some(371));
 }
 
-// The tree of three leaves has the same root as one of two, of which the left one's digest would be
-// that of the two first leaves' node.
+// What is left of the nodes of a tree while its root is there, and then.
+fn nodes_left<Rt: Threads + Wait + Abort + Sync, S: Strategy>(
+    rt: &Rt,
+    alloc: Global,
+    strategy: &S,
+    (name, by_blocks): (&'static str, bool),
+    len: usize,
+) {
+    let of: Of = (name, "leaves", len);
+    let counts = Counts::failing(len);
+    let leaves = counted_items(alloc, &counts, len).expect(rt, "memory");
+    let found = root_of(rt, alloc, strategy, by_blocks, leaves, greater).expect(rt, "memory");
+    row(rt, of, found.is_some(), len > 0);
+    row(rt, of, counts.left(), len.min(1) as u64);
+    drop(found);
+    row(rt, of, counts.left(), 0);
+}
+
 #[test]
-fn another_number_of_leaves_is_refused(rt: HostRuntime) {
+fn each_node_is_let_go_once(rt: HostRuntime) {
     let alloc = rt.alloc();
-    let leaves: [&[u8]; 3] = [b"a", b"b", b"c"];
-    let tree = Tree::build(&rt, alloc, &Sequential, SITE, &leaves).expect(&rt, "memory");
-    let commitment = tree.commitment();
-    let pair = Some(node_digest(&leaf_digest(b"a"), &leaf_digest(b"b")));
-    let of_two = commitment_digest(2, &tree.root());
-    let honest = [None, pair];
-    row(&rt, 1, is_member(&commitment, 3, 2, b"c", &honest), true);
-    row(&rt, 2, is_member(&of_two, 2, 1, b"c", &[pair]), true);
-    row(&rt, 3, is_member(&commitment, 2, 1, b"c", &[pair]), false);
-    let found = tree.collision(2, 1, b"c", &[pair], None);
-    row(&rt, 4, found.is_some(), false);
+    let eight = pool(&rt, alloc, 8, 8).expect(&rt, "a pool");
+    for rooted in ROOTED {
+        for len in [0usize, 1, 2, 3, 7, 8, 9, 1000] {
+            nodes_left(&rt, alloc, &Sequential, rooted, len);
+            nodes_left(&rt, alloc, &eight, rooted, len);
+        }
+    }
 }

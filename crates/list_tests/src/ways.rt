@@ -1,56 +1,26 @@
 //! The ways that explorers take: by the serial and the parallel rule, and by seeds.
-use crate::checks::{returns, row};
-use crate::explorers::{PLACE, picks_last};
-use crate::states::parts_see;
-use commonware_parallel::mocks::{Explorer, Rule, TASKS, explore};
-use commonware_parallel::{Call, Counted, Fault, Grid, Strategy};
+ghost use Rattle.std.specs.Prelude.{◌<◌};
+
+use crate::batches::batch_ranges;
+use crate::checks::{Of, number, returns};
+use crate::explorers::PLACE;
+use crate::lists::{count, zero};
+use crate::sides::parts_see;
+use commonware_parallel::mocks::{Explorer, Rule, explore, pooled};
+use commonware_parallel::{Call, Chooser, Counted, Fault, Grid, Path, Pick, Strategy};
 use std::alloc::Global;
 use std::num::NonZeroUsize;
 use std::process::Abort;
 use std::sync::Wait;
 use std::thread::Threads;
-use test_calls::steps::{add_counts, count, no_count, parallel, serial, zero};
-use test_calls::strategies::pool;
+use test_strategies::{Stopped, parallel, pool, serial};
 use test_support::no_memory::all_places;
 use test_support::{holds, same};
-use uses::batches::batch_ranges;
 
 // The ways that an explorer takes: how many ranges of 64 indices and how many workers of a grid of
-// 64 rows, which of two bodies, whether a map of four items is cut, and whether it picks the
-// parallel way of a join and the hand-off of a job.
-#[derive(Clone, Copy, Debug, PartialEq, Eq)]
-struct Ways {
-    ranges: usize,
-    workers: usize,
-    body: &'static str,
-    is_cut: bool,
-    joins: bool,
-    hands_off: bool,
-}
-
-// What each call goes by where nothing is parallel, but for a join and a job.
-fn serial_ways(aside: bool) -> Ways {
-    Ways {
-        ranges: 1,
-        workers: 1,
-        body: "serial",
-        is_cut: false,
-        joins: aside,
-        hands_off: aside,
-    }
-}
-
-// The most parallel ways, planned for that many.
-fn parallel_ways(planned: usize) -> Ways {
-    Ways {
-        ranges: planned,
-        workers: planned,
-        body: "parallel",
-        is_cut: true,
-        joins: true,
-        hands_off: true,
-    }
-}
+// 64 rows; and whether a run takes the parallel body, a map of four items is cut, a join goes in
+// parallel, and a job is handed off.
+type Ways = ([usize; 2], [bool; 4]);
 
 // The last of the counts that a map of four items makes in its states: 4 in one segment.
 fn last_count<Rt: Threads + Wait + Sync>(
@@ -60,6 +30,19 @@ fn last_count<Rt: Threads + Wait + Sync>(
 ) -> Result<Option<u32>, Fault> {
     let counts = explorer.map_init_collect_vec(rt, alloc, PLACE, 0..4u32, zero, count)?;
     Ok(counts.last().copied())
+}
+
+// Whether the explorer picks the last way of such a call.
+fn picks_last<Rt: Wait>(
+    rt: &Rt,
+    alloc: Global,
+    explorer: &Explorer,
+    call: Call,
+) -> Result<bool, Fault>
+    requires { 0 < call.max_parts }
+{
+    let (pick, _unmeasured) = explorer.choose(rt, alloc, PLACE, call)?;
+    Ok(pick == Pick::By(Path::Parallel))
 }
 
 // Makes one call of each kind, but for a join and a job, whose picks alone are looked at.
@@ -82,14 +65,8 @@ fn ways_of<Rt: Threads + Wait + Sync + Abort>(
     let is_cut = last_count(rt, alloc, explorer)? != Some(4);
     let joins = picks_last(rt, alloc, explorer, Call::join())?;
     let hands_off = picks_last(rt, alloc, explorer, Call::spawn(1))?;
-    Ok(Ways {
-        ranges,
-        workers,
-        body,
-        is_cut,
-        joins,
-        hands_off,
-    })
+    let last = [body == "parallel", is_cut, joins, hands_off];
+    Ok(([ranges, workers], last))
 }
 
 #[test]
@@ -97,20 +74,31 @@ fn the_parallel_rule_takes_the_most_parallel_ways(rt: HostRuntime) {
     let alloc = rt.alloc();
     // Planned for one, a join is parallel all the same, and a job is handed off.
     for (threads, planned, wanted) in [
-        (2, 3, parallel_ways(3)),
-        (4, 8, parallel_ways(8)),
-        (2, 1, serial_ways(true)),
+        (2, 3, ([3, 3], [true; 4])),
+        (4, 8, ([8, 8], [true; 4])),
+        (2, 1, ([1, 1], [false, false, true, true])),
     ] {
-        let strategy = pool(&rt, alloc, threads, planned).expect(&rt, "a pool");
+        let (threads, number) = (number(&rt, threads), number(&rt, planned));
+        let strategy = pooled(&rt, alloc, threads, number, Stopped).expect(&rt, "a pool");
         let explorer = Explorer::parallel(&strategy).expect(&rt, "memory");
-        let of = (threads, planned);
+        let of: Of = ("ways", "Parallel, planned for", planned);
         returns(&rt, of, ways_of(&rt, alloc, &explorer), wanted);
         returns(&rt, of, parts_see(&rt, alloc, &explorer), (true, true));
     }
 }
 
+// By each rule of a search: serially, in parallel, and by the hash of each of four seeds.
+const WAYS: [Ways; 6] = [
+    ([1, 1], [false; 4]),
+    ([8, 8], [true; 4]),
+    ([5, 5], [false, false, false, true]),
+    ([8, 8], [true, true, true, false]),
+    ([3, 3], [false, false, false, true]),
+    ([5, 5], [false, false, false, true]),
+];
+
 #[test]
-fn a_search_takes_the_serial_ways_and_then_the_parallel_ones(rt: HostRuntime) {
+fn a_search_takes_the_ways_of_each_rule(rt: HostRuntime) {
     let alloc = rt.alloc();
     let mut taken = Vec::with_capacity(alloc, 6).expect(&rt, "memory");
     let is_kept = explore(&rt, alloc, |explorer| {
@@ -118,92 +106,69 @@ fn a_search_takes_the_serial_ways_and_then_the_parallel_ones(rt: HostRuntime) {
         taken.push(ways).is_ok()
     });
     holds!(&rt, is_kept.expect(&rt, "one output"));
-    let first = taken.first().copied();
-    row(&rt, "serial", first, Some(serial_ways(false)));
-    let second = taken.get(1).copied();
-    row(&rt, "parallel", second, Some(parallel_ways(TASKS)));
-    same!(&rt, taken.len(), 6);
-}
-
-// One bit for each way that was seen of each call.
-#[derive(Clone, Copy, Debug, PartialEq, Eq)]
-struct Seen {
-    ranges: u32,
-    workers: u32,
-    others: u32,
+    same!(&rt, taken.as_slice(), WAYS.as_slice());
 }
 
 fn bit(place: usize) -> u32 {
     1u32.wrapping_shl((place % 32) as u32)
 }
 
-fn add_seen(seen: &mut Seen, ways: Ways) {
-    seen.ranges |= bit(ways.ranges);
-    seen.workers |= bit(ways.workers);
-    let last = [
-        ways.body == "parallel",
-        ways.is_cut,
-        ways.joins,
-        ways.hands_off,
-    ];
-    for (place, is_last) in last.into_iter().enumerate() {
-        let way = if is_last { 1 } else { 0 };
-        seen.others |= bit(place.wrapping_mul(2).wrapping_add(way));
+// A bit for both numbers, which differ, and for the way of each other call.
+fn bits_of(ways: Ways) -> [u32; 3] {
+    let (counts, last) = ways;
+    let mut others = 0u32;
+    for is_last in last {
+        others = others
+            .wrapping_mul(4)
+            .wrapping_add(bit(usize::from(is_last)));
     }
+    [bit(counts[0]), bit(counts[1]), others]
 }
 
 #[test]
 fn a_seed_repeats_its_ways_and_seeds_take_each_of_them(rt: HostRuntime) {
     let alloc = rt.alloc();
     let strategy = pool(&rt, alloc, 2, 8).expect(&rt, "a pool");
-    let mut seen = Seen {
-        ranges: 0,
-        workers: 0,
-        others: 0,
-    };
+    let mut seen = [0u32; 3];
     for seed in 0..256u64 {
         let explorer = Explorer::seeded(&strategy, seed).expect(&rt, "memory");
         let first = ways_of(&rt, alloc, &explorer).expect(&rt, "memory");
-        returns(&rt, seed, ways_of(&rt, alloc, &explorer), first);
-        add_seen(&mut seen, first);
+        let of: Of = ("ways", "seed", seed as usize);
+        returns(&rt, of, ways_of(&rt, alloc, &explorer), first);
+        let bits = bits_of(first);
+        seen = [seen[0] | bits[0], seen[1] | bits[1], seen[2] | bits[2]];
     }
     // One to eight ranges, as many workers, and both ways of each other call.
-    let wanted = Seen {
-        ranges: 510,
-        workers: 510,
-        others: 255,
-    };
-    same!(&rt, seen, wanted);
+    same!(&rt, seen, [510, 510, 255]);
 }
 
-// The sum of the numbers below 1,000,000, which are 8 MB as a list: by an iterator that says how
-// many come.
-fn sum_counted<Rt: Threads + Wait + Sync, S: Strategy>(
+fn no_count() -> usize {
+    0
+}
+
+// How many numbers there are, which are 8 MB as a list, and their sum.
+const MILLION: usize = 1_000_000;
+
+const SUM: usize = 499_999_500_000;
+
+// The sum of the numbers, by an iterator that says how many come.
+fn counted<Rt: Threads + Wait + Sync>(
     rt: &Rt,
     alloc: Global,
-    strategy: &S,
+    explorer: &Explorer,
 ) -> Result<usize, Fault> {
-    let numbers = Counted {
-        iter: 0..1_000_000usize,
-    };
-    strategy.fold(rt, alloc, PLACE, numbers, no_count, add_counts, add_counts)
+    let (iter, add) = (0..MILLION, usize::wrapping_add);
+    explorer.fold(rt, alloc, PLACE, Counted { iter }, no_count, add, add)
 }
 
 // The same by an iterator alone.
-fn sum_gathered<Rt: Threads + Wait + Sync, S: Strategy>(
+fn gathered<Rt: Threads + Wait + Sync>(
     rt: &Rt,
     alloc: Global,
-    strategy: &S,
+    explorer: &Explorer,
 ) -> Result<usize, Fault> {
-    strategy.fold(
-        rt,
-        alloc,
-        PLACE,
-        0..1_000_000usize,
-        no_count,
-        add_counts,
-        add_counts,
-    )
+    let add = usize::wrapping_add;
+    explorer.fold(rt, alloc, PLACE, 0..MILLION, no_count, add, add)
 }
 
 #[test]
@@ -212,18 +177,16 @@ fn a_counted_iterator_is_gathered_where_it_goes_parallel_alone(rt: HostRuntime) 
     let pool = pool(&rt, alloc, 2, 2).expect(&rt, "a pool");
     let serial = Explorer::by_rule(&pool, Rule::Serial).expect(&rt, "memory");
     let parallel = Explorer::by_rule(&pool, Rule::Parallel).expect(&rt, "memory");
-    for explorer in [&serial, &parallel] {
-        let sum = sum_counted(&rt, alloc, explorer);
-        row(&rt, explorer.rule(), sum, Ok(499_999_500_000));
-    }
+    let sums = [counted(&rt, alloc, &serial), counted(&rt, alloc, &parallel)];
+    same!(&rt, sums, [Ok(SUM), Ok(SUM)]);
     let Some(held) = all_places(alloc) else {
         return;
     };
-    let counted = sum_counted(&rt, alloc, &serial);
-    let gathered = sum_gathered(&rt, alloc, &serial);
-    let cut = sum_counted(&rt, alloc, &parallel);
+    let sums = [
+        counted(&rt, alloc, &serial),
+        gathered(&rt, alloc, &serial),
+        counted(&rt, alloc, &parallel),
+    ];
     drop(held);
-    row(&rt, "counted", counted, Ok(499_999_500_000));
-    row(&rt, "gathered", gathered, Err(Fault::Memory));
-    row(&rt, "cut", cut, Err(Fault::Memory));
+    same!(&rt, sums, [Ok(SUM), Err(Fault::Memory), Err(Fault::Memory)]);
 }

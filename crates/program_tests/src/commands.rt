@@ -1,15 +1,11 @@
-//! The program's command lines, its refusals, and writers that fail.
-use crate::checks::{returns, row};
-use parallel_fault::Fault;
-use shapes_command::{command, out_of_memory, unread, unwritten};
+//! The program's command lines, and its refusals.
+use crate::checks::{equal, held};
+use shapes_command::command;
 use std::alloc::{AllocError, Global};
-use std::io;
-use std::io::{ErrorKind, Write};
 use std::process::Abort;
 use std::sync::Wait;
 use std::thread::Threads;
 use test_support::no_memory::all_memory;
-use test_support::{holds, same};
 
 // What a command left: its status, and what it wrote to either writer.
 #[derive(Debug, PartialEq, Eq, Drop)]
@@ -19,8 +15,8 @@ struct Ran {
     err: String,
 }
 
-// The words of the line, which single spaces part; no words where it is empty.
-fn words_of(alloc: Global, line: &str) -> Result<Vec<String>, AllocError> {
+/// The words of the line, which single spaces part; no words where it is empty.
+pub fn words_of(alloc: Global, line: &str) -> Result<Vec<String>, AllocError> {
     let mut words = Vec::new(alloc);
     if !line.is_empty() {
         for word in line.split(' ') {
@@ -50,8 +46,8 @@ fn run<R: Threads + Wait + Abort + Sync>(rt: &R, alloc: Global, line: &str) -> O
     })
 }
 
-// The text that was written.
-fn text_of(rt: &impl Abort, written: Vec<u8>) -> String {
+/// The text that was written.
+pub fn text_of(rt: &impl Abort, written: Vec<u8>) -> String {
     String::from_utf8(written).expect(rt, "a text")
 }
 
@@ -63,26 +59,8 @@ pub fn leaves<R: Threads + Wait + Abort + Sync>(
     wanted: (u8, &str, &str),
 ) {
     let ran = run(rt, alloc, line).expect(rt, "memory");
-    row(
-        rt,
-        line,
-        (ran.status, ran.out.as_str(), ran.err.as_str()),
-        wanted,
-    );
-}
-
-// A writer that refuses each write.
-#[derive(Drop)]
-struct Closed;
-
-impl Write for Closed {
-    fn write(&mut self, _buf: &[u8]) -> io::Result<usize> {
-        Err(io::Error::from(ErrorKind::BrokenPipe))
-    }
-
-    fn flush(&mut self) -> io::Result<()> {
-        Ok(())
-    }
+    let found = (ran.status, ran.out.as_str(), ran.err.as_str());
+    equal(rt, line, found, wanted);
 }
 
 // Command lines, and after a colon the line that each prints. (One text, since a list of as many
@@ -97,7 +75,6 @@ const ANSWERED: &str = "\
     batches 3 5: 0..1 1..2 2..3 3..3 3..3\n\
     batches 0 2: 0..0 0..0\n\
     batches 18446744073709551615 3: 0..6148914691236517205 6148914691236517205..12297829382473034410 12297829382473034410..18446744073709551615\n\
-    batches 0010 04: 0..3 3..6 6..8 8..10\n\
     grid 4 1 64 8: 35 cut\n\
     grid 4 1 64 1: 260 whole\n\
     grid 18446744073709551615 18446744073709551615 18446744073709551615 1: 18446744073709551615 whole\n\
@@ -113,7 +90,6 @@ const ANSWERED: &str = "\
     fold serial 10 1 2 3: 16\n\
     fold serial 10: 10\n\
     fold serial 0: 0\n\
-    fold serial 0 1000000: 1000000\n\
     fold serial 1000000 1000000: 2000000\n\
     fold serial 010 01 2 003: 16\n\
     fold parallel 10 1 2 3: 66\n\
@@ -121,7 +97,6 @@ const ANSWERED: &str = "\
     fold parallel 0: 0\n\
     fold parallel 0 1 2 3 4 5: 15\n\
     fold parallel 1 0 0 0 0 0 0 0 0 0: 8\n\
-    fold parallel 010 01 2 003: 66\n\
     threads 0 0 7 4: 4\n\
     threads 0 - 7 4: 7\n\
     threads 0 x 7 4: 7\n\
@@ -133,20 +108,16 @@ const ANSWERED: &str = "\
     threads 0 3x +5 4: 5\n\
     threads 0 18446744073709551616 - 4: 4\n\
     threads 0  - 18446744073709551615: 65535\n\
-    threads 002 3 7 4: 2\n\
     mix 0 1 1 64: 2107625324\n\
     mix 1 1 1 64: 1104250607\n\
     mix 2 1 1 64: 100875890\n\
     mix 3 1 1 64: 1244984820\n\
-    mix 03 001 01 064: 1244984820\n\
     mix 18446744073709551615 4294967295 4294967295 18446744073709551615: 1244984759\n\
     root: \n\
     root 9: 9\n\
     root 1 2 3: 25\n\
     root 1 2 3 4 5: 155\n\
-    root 1 2 3 4 5 6 7: 371\n\
-    root 1000000: 1000000\n\
-    root 01 02 003: 25";
+    root 1 2 3 4 5 6 7: 371";
 
 #[test]
 fn each_command_prints_one_line(rt: HostRuntime) {
@@ -168,23 +139,27 @@ fn words_left<R: Threads + Wait + Abort + Sync>(
     last: &str,
 ) -> usize {
     let ran = run(rt, alloc, line).expect(rt, "memory");
-    row(rt, line, ran.status, 0);
-    let is_so = ran.out.starts_with(first) && ran.out.ends_with(last);
-    row(rt, line, is_so, true);
+    equal(rt, line, ran.status, 0);
+    held(
+        rt,
+        line,
+        ran.out.starts_with(first) && ran.out.ends_with(last),
+    );
     ran.out.split(' ').count()
 }
 
 #[test]
 fn the_widest_commands_succeed(rt: HostRuntime) {
     let alloc = rt.alloc();
-    let rows = words_left(&rt, alloc, "drain 65535 16", "0 1 2 ", " 65533 65534\n");
-    row(&rt, 1, rows, 65_535);
     let line = "batches 18446744073709551615 65535";
-    let ranges = words_left(&rt, alloc, line, "0..", "..18446744073709551615\n");
-    row(&rt, 2, ranges, 65_535);
-    let line = "segments 65535 18446744073709551615";
-    let lengths = words_left(&rt, alloc, line, "", "\n");
-    row(&rt, 3, lengths, 65_536);
+    for (line, first, last, words) in [
+        ("drain 65535 16", "0 1 2 ", " 65533 65534\n", 65_535),
+        (line, "0..", "..18446744073709551615\n", 65_535),
+        ("segments 65535 18446744073709551615", "", "\n", 65_536),
+    ] {
+        let found = words_left(&rt, alloc, line, first, last);
+        equal(&rt, line, found, words);
+    }
 }
 
 /// The line of that many items after these words, each the greatest number.
@@ -217,97 +192,46 @@ fn a_fold_and_a_root_take_a_thousand_items(rt: HostRuntime) {
 
 // Lines that are no command.
 const REFUSED: &str = "\
-    drain\n\
     drain 4\n\
-    drain 4 2 1\n\
     drain 65536 2\n\
     drain 4 0\n\
     drain 4 17\n\
     drain +3 2\n\
-    drain -1 2\n\
-    drain  2\n\
-    drain 3x 2\n\
-    drain 3.0 2\n\
     drain ٣ 2\n\
-    Drain 4 2\n\
     batches 18446744073709551616 1\n\
     batches 4 0\n\
     batches 4 65536\n\
-    batches 4\n\
-    batches 4 2 1\n\
     grid 4 0 64 1\n\
     grid 4 1 64 0\n\
     grid 4 1 64\n\
-    grid 4 1 64 8 9\n\
-    grid 4 1 64 18446744073709551616\n\
-    mix\n\
     mix 0 1 1\n\
     mix 0 1 1 64 1\n\
     mix 18446744073709551616 1 1 64\n\
     mix 0 4294967296 1 64\n\
-    mix 0 1 4294967296 64\n\
     mix 0 1 1 18446744073709551616\n\
-    mix +0 1 1 64\n\
-    mix 0 +1 1 64\n\
-    mix 0 1 -1 64\n\
-    mix 0 1 1 +64\n\
-    mix 0 1 1 64x\n\
-    Mix 0 1 1 64\n\
-    segments\n\
     segments 3\n\
-    segments 3 5 7\n\
     segments 0 5\n\
     segments 65536 5\n\
-    segments 3 18446744073709551616\n\
-    segments 3 -5\n\
     fold\n\
-    fold serial\n\
-    fold serial \n\
-    fold 10 1 2 3\n\
     fold parallel\n\
-    fold parallel \n\
     fold Parallel 10 1 2 3\n\
     fold parallel 1000001\n\
-    fold parallel 0 1000001\n\
-    fold parallel 0 1 1000001 1\n\
-    fold parallel +1 2\n\
     fold parallel 1 -2\n\
-    fold parallel 1 2 \n\
-    fold Serial 10 1 2 3\n\
-    fold serial 1000001\n\
-    fold serial 0 1000001\n\
-    fold serial 0 1 1000001 1\n\
-    fold serial +1 2\n\
-    fold serial 1 +2\n\
     fold serial 1 -2\n\
-    fold serial 1  2\n\
     fold serial 1 2 \n\
-    fold serial 1 2x\n\
     explore\n\
-    explore Sum\n\
     explore sum 1\n\
     explore bodies 2\n\
     explore  sum\n\
     root 1000001\n\
-    root 1 2 1000001\n\
     root 1 two\n\
-    root +1\n\
     root \n\
-    root 1 2 \n\
-    Root 1\n\
-    threads\n\
     threads 0 0 7\n\
-    threads 0 0 7 4 1\n\
     threads - 0 7 4\n\
-    threads +1 0 7 4\n\
-    threads x 0 7 4\n\
     threads 18446744073709551616 0 7 4\n\
     threads 0 0 7 0\n\
     threads 0 0 7 +4\n\
-    threads 0 0 7 --\n\
-    threads 0 0 7 18446744073709551616\n\
     threads 0 0 7 \n\
-    Threads 0 0 7 4\n\
     help\n\
     \x20";
 
@@ -334,7 +258,8 @@ fn is_refused<R: Threads + Wait + Abort + Sync>(
 ) -> bool {
     err.clear();
     let mut out = Vec::new(alloc);
-    returns(rt, 1, command(rt, alloc, words, &mut out, err), 1);
+    let status = command(rt, alloc, words, &mut out, err).expect(rt, "writers that write");
+    equal(rt, "the status", status, 1);
     err.as_slice() == b"shapes: out of memory\n".as_slice()
 }
 
@@ -351,115 +276,34 @@ fn a_search_for_bodies_is_refused_memory(rt: HostRuntime) {
     }
     for _ in 0..60u32 {
         let later = Vec::<u64>::with_capacity(alloc, 1);
-        row(&rt, "later", later.is_ok(), true);
+        held(&rt, "what is asked for later is granted", later.is_ok());
     }
-    if let Some(held) = all_memory(alloc) {
+    if let Some(blocks) = all_memory(alloc) {
         let refused = is_refused(&rt, alloc, &words, &mut err);
-        drop(held);
-        row(&rt, "held", refused, true);
+        drop(blocks);
+        held(&rt, "a search without memory is refused", refused);
     }
-}
-
-// A writer that takes one byte at a time.
-#[derive(Drop)]
-struct Narrow {
-    taken: Vec<u8>,
-}
-
-impl Write for Narrow {
-    fn write(&mut self, buf: &[u8]) -> io::Result<usize> {
-        match buf.first() {
-            Some(byte) => {
-                self.taken.push(*byte)?;
-                Ok(1)
-            }
-            None => Ok(0),
-        }
-    }
-
-    fn flush(&mut self) -> io::Result<()> {
-        Ok(())
-    }
-}
-
-#[test]
-fn a_line_is_written_in_parts(rt: HostRuntime) {
-    let alloc = rt.alloc();
-    let mut out = Narrow {
-        taken: Vec::new(alloc),
-    };
-    let mut err = Narrow {
-        taken: Vec::new(alloc),
-    };
-    returns(&rt, 1, command(&rt, alloc, &[], &mut out, &mut err), 0);
-    let unknown = words_of(alloc, "unknown").expect(&rt, "memory");
-    returns(&rt, 2, command(&rt, alloc, &unknown, &mut out, &mut err), 2);
-    same!(&rt, text_of(&rt, out.taken).as_str(), "0 1 2 3\n");
-    same!(
-        &rt,
-        text_of(&rt, err.taken).as_str(),
-        "shapes: bad arguments\n",
-    );
-}
-
-#[test]
-fn a_failed_write_is_named_and_is_status_one(rt: HostRuntime) {
-    let alloc = rt.alloc();
-    let mut kept = Vec::new(alloc);
-    let error = command(&rt, alloc, &[], &mut Closed, &mut kept).expect_err(&rt, "a closed writer");
-    same!(&rt, error.kind(), ErrorKind::BrokenPipe);
-    row(&rt, 1, kept.len(), 0);
-    let unknown = words_of(alloc, "unknown").expect(&rt, "memory");
-    let answered = command(&rt, alloc, &unknown, &mut kept, &mut Closed);
-    holds!(&rt, answered.is_err());
-    row(&rt, 2, kept.len(), 0);
-    row(&rt, 3, unwritten(&error, &mut Closed), 1);
-    row(&rt, 4, unwritten(&error, &mut kept), 1);
-    same!(&rt, text_of(&rt, kept).as_str(), "shapes: broken pipe\n");
-}
-
-// What the line of a refusal says is the refusal's own text.
-#[test]
-fn a_refusal_says_its_text(rt: HostRuntime) {
-    let mut err = Vec::new(rt.alloc());
-    returns(&rt, 1, out_of_memory(&mut err), 1);
-    let line = format!(in rt.alloc(); "shapes: {}\n", Fault::Memory).expect(&rt, "memory");
-    same!(&rt, text_of(&rt, err).as_str(), line.as_str());
 }
 
 // Run with `rt try --test --fail-alloc N` for each N: a refused growth leaves no line, half or
 // whole.
 #[test]
 fn a_refused_growth_leaves_no_line(rt: HostRuntime) {
-    let alloc = rt.alloc();
-    let lines = [
-        ("drain 4 2", "0 1 2 3\n"),
-        ("batches 3 2", "0..2 2..3\n"),
-        ("segments 3 5", "1 1 1 2\n"),
-        ("fold serial 10 1 2 3", "16\n"),
-        ("fold parallel 10 1 2 3", "66\n"),
-        ("threads 0 - 7 4", "7\n"),
-        ("mix 0 1 1 64", "2107625324\n"),
-        ("root 1 2 3", "25\n"),
-    ];
-    for (line, printed) in lines {
-        let Some(ran) = run(&rt, alloc, line) else {
+    for told in ANSWERED.split('\n') {
+        let (line, printed) = told.split_once(": ").expect(&rt, "a colon");
+        let Some(ran) = run(&rt, rt.alloc(), line) else {
             continue;
         };
         let wanted = if ran.status == 0 {
-            (printed, "")
+            (Some(printed), "")
         } else {
-            ("", "shapes: out of memory\n")
+            (None, "shapes: out of memory\n")
         };
-        row(&rt, line, (ran.out.as_str(), ran.err.as_str()), wanted);
+        equal(
+            &rt,
+            line,
+            (ran.out.strip_suffix('\n'), ran.err.as_str()),
+            wanted,
+        );
     }
-}
-
-#[test]
-fn words_that_could_not_be_read(rt: HostRuntime) {
-    let mut err = Vec::new(rt.alloc());
-    returns(&rt, 1, unread(ErrorKind::InvalidData, &mut err), 2);
-    returns(&rt, 2, unread(ErrorKind::OutOfMemory, &mut err), 1);
-    let said = "shapes: bad arguments\nshapes: out of memory\n";
-    same!(&rt, text_of(&rt, err).as_str(), said);
 }

@@ -1,5 +1,5 @@
 //! That the program's searches and its drain start threads.
-use crate::checks::row;
+use crate::checks::held;
 use crate::commands::{leaves, widest};
 use std::alloc::{AllocGlobal, Global};
 use std::process::Abort;
@@ -31,10 +31,10 @@ fn least_by_command<Rt: Threads + Wait + Files + AllocGlobal + Abort + Sync>(
 fn the_programs_searches_and_its_drain_start_threads(rt: HostRuntime) {
     let alloc = rt.alloc();
     let least = least_by_command(&rt, alloc, "explore sum", "4950\n");
-    row(&rt, ("explore sum", least), least >= 12, true);
+    held(&rt, "explore sum", least >= 12);
     let least = least_by_command(&rt, alloc, "drain 4 2", "0 1 2 3\n");
-    row(&rt, "drain", least > 0, true);
+    held(&rt, "drain", least > 0);
     let line = widest(alloc, "root", 1_000).expect(&rt, "memory");
     let least = least_by_command(&rt, alloc, &line, "890209\n");
-    row(&rt, ("root", least), least >= 75, true);
+    held(&rt, "root", least >= 75);
 }

@@ -1,27 +1,67 @@
-//! Packed words, and the pure machine of shares on whole plans.
-use crate::checks::{number, row};
-use commonware_parallel::Fault;
+//! Grids, packed words, and the pure machine of shares on whole plans.
+use crate::checks::number;
 use commonware_parallel::shares::machine::{Event, Outcome, Plan, State, replay, step};
 use commonware_parallel::shares::{pack, unpack};
+use commonware_parallel::{Fault, Grid};
 use std::alloc::Global;
+use std::num::NonZeroUsize;
 use std::process::Abort;
-use test_support::same;
+use test_support::{holds, same};
+
+// ---- grids
+
+fn grid_of(rows: usize) -> Grid {
+    Grid {
+        rows,
+        tile_cost: NonZeroUsize::MIN,
+    }
+}
+
+#[test]
+fn grids_cost_their_longest_chain(rt: HostRuntime) {
+    let grid = grid_of(4);
+    let found = [1, 3, 5, 8].map(|workers: usize| {
+        grid.critical_path(
+            64,
+            NonZeroUsize::MIN.saturating_add(workers.saturating_sub(1)),
+        )
+    });
+    same!(
+        &rt,
+        found,
+        [(260, true), (89, false), (55, false), (35, false)]
+    );
+    let (index, cost, whole) = Grid::choose(&[grid, grid], 64, number(&rt, 8));
+    same!(&rt, (index, cost, whole), (0, 35, false));
+}
+
+#[test]
+fn grids_fit_where_their_indices_can_be_counted(rt: HostRuntime) {
+    holds!(&rt, !Grid::fits(&[], 1));
+    holds!(&rt, Grid::fits(&[grid_of(0)], usize::MAX));
+    holds!(&rt, Grid::fits(&[grid_of(4_294_967_295)], 4_294_967_297));
+    holds!(&rt, !Grid::fits(&[grid_of(2)], 9_223_372_036_854_775_808));
+    holds!(&rt, !Grid::fits(&[grid_of(usize::MAX)], usize::MAX));
+}
+
+// ---- the machine
+
+const LOOK_0: Event = Event::Load { seat: 0, share: 0 };
+
+const LOOK_1: Event = Event::Load { seat: 1, share: 0 };
+
+const LOOK_2: Event = Event::Load { seat: 2, share: 0 };
+
+const CLAIM_0: Event = Event::Claim { seat: 0 };
+
+const CLAIM_1: Event = Event::Claim { seat: 1 };
+
+const STEAL_0: Event = Event::Steal { seat: 0 };
 
 // Two seats that load before either claims: the second one's claim is lost.
 const EVENTS: [Event; 13] = [
-    Event::Load { seat: 0, share: 0 },
-    Event::Load { seat: 1, share: 0 },
-    Event::Claim { seat: 0 },
-    Event::Claim { seat: 1 },
-    Event::Claim { seat: 1 },
-    Event::Load { seat: 1, share: 0 },
-    Event::Claim { seat: 1 },
-    Event::Load { seat: 0, share: 0 },
-    Event::Claim { seat: 0 },
-    Event::Load { seat: 1, share: 0 },
-    Event::Claim { seat: 1 },
-    Event::Steal { seat: 0 },
-    Event::Load { seat: 2, share: 0 },
+    LOOK_0, LOOK_1, CLAIM_0, CLAIM_1, CLAIM_1, LOOK_1, CLAIM_1, LOOK_0, CLAIM_0, LOOK_1, CLAIM_1,
+    STEAL_0, LOOK_2,
 ];
 
 #[test]
@@ -81,20 +121,20 @@ fn replay_or_refusal(rt: &impl Abort, alloc: Global) {
             same!(rt, state.words(), [196_611].as_slice());
             same!(rt, outcomes.len(), EVENTS.len());
         }
-        Err(fault) => row(rt, 1, fault, Fault::Memory),
+        Err(fault) => same!(rt, fault, Fault::Memory),
     }
     let Ok(mut state) = State::new(alloc, &plan) else {
         return;
     };
-    let loaded = step(&plan, &mut state, Event::Load { seat: 0, share: 0 });
+    let loaded = step(&plan, &mut state, LOOK_0);
     same!(rt, loaded, Ok(Outcome::Loaded(3)));
-    match step(&plan, &mut state, Event::Claim { seat: 0 }) {
+    match step(&plan, &mut state, CLAIM_0) {
         Ok(outcome) => {
             same!(rt, outcome, Outcome::Claimed(0..2));
             same!(rt, state.words(), [65_539].as_slice());
         }
         Err(fault) => {
-            row(rt, 2, fault, Fault::Memory);
+            same!(rt, fault, Fault::Memory);
             same!(rt, state.words(), [3].as_slice());
         }
     }
