@@ -1,5 +1,4 @@
 //! Clocks that are told what to read, and pools that learn by them.
-use crate::strategies::threads_of;
 use commonware_parallel::{Clock, Fault, Rayon};
 use std::alloc::Global;
 use std::sync::Arc;
@@ -48,24 +47,11 @@ impl Clock for Stepping {
     }
 }
 
-/// A pool of that many threads with a fresh policy, and a clock.
-pub fn learning_by<Rt: Threads, C: Clock>(
-    rt: &Rt,
-    alloc: Global,
-    threads: usize,
-    clock: C,
-) -> Result<Rayon<C>, Fault> {
-    match Rayon::new(rt, alloc, threads_of(threads), clock) {
-        Ok(strategy) => Ok(strategy),
-        Err(_) => Err(Fault::Memory),
-    }
-}
-
-/// The same of four threads.
+/// A pool of four threads with a fresh policy, which learns by that clock.
 pub fn learning<Rt: Threads, C: Clock>(
     rt: &Rt,
     alloc: Global,
     clock: C,
 ) -> Result<Rayon<C>, Fault> {
-    learning_by(rt, alloc, 4, clock)
+    test_strategies::learning(rt, alloc, 4, clock)
 }

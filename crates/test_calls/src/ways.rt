@@ -1,7 +1,7 @@
 //! The strategies of the tests' one list of calls, and the numbers of threads.
 use crate::acts::{Act, Host, does};
 use crate::calls::Outcome;
-use crate::clocks::{Stepping, learning_by};
+use crate::clocks::Stepping;
 use crate::noting::Noting;
 use crate::strategies::{RULES, threads_of};
 use crate::visits::Visitor;
@@ -87,7 +87,7 @@ impl Through {
                 (threads, planned, 0)
             }
         };
-        let learning = learning_by(rt, alloc, threads, Stepping::new(alloc, step)?)?;
+        let learning = test_strategies::learning(rt, alloc, threads, Stepping::new(alloc, step)?)?;
         if matches!(way, Way::Learning(..)) {
             return Ok(Through::Rayon(learning));
         }

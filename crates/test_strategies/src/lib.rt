@@ -23,8 +23,8 @@ impl Clock for Stopped {
     }
 }
 
-// A number of threads, which isn't 0.
-fn threads_of(number: usize) -> NonZeroUsize {
+/// A number of threads, which isn't 0.
+pub fn threads_of(number: usize) -> NonZeroUsize {
     NonZeroUsize::MIN.saturating_add(number.saturating_sub(1))
 }
 
