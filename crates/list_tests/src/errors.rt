@@ -1,6 +1,5 @@
 //! Calls whose closures fail: by which error, in each of many runs; and what is let go.
 use crate::checks::{Of, returns, row};
-use crate::counted::{Counted, Counts, again, again_of, count_again, counted_items};
 use crate::lists::{add, square_or_fail, ten, zero};
 use commonware_parallel::mocks::explore;
 use commonware_parallel::{Pairs, Sequential, Strategy, Trouble};
@@ -9,6 +8,7 @@ use std::process::Abort;
 use std::sync::Wait;
 use std::sync::atomic::{AtomicU32, Ordering};
 use std::thread::Threads;
+use test_strategies::counted::{Counted, Counts, again, again_of, count_again, counted_items};
 use test_strategies::{SITE, Stopped, learning, pool};
 use test_support::{holds, same};
 

@@ -6,8 +6,6 @@ mod batches;
 #[cfg(test)]
 mod checks;
 #[cfg(test)]
-mod counted;
-#[cfg(test)]
 mod errors;
 #[cfg(test)]
 mod explorers;

@@ -1,12 +1,12 @@
 //! Roots of trees, by levels and by blocks: known values, and that each node is let go once.
 use crate::checks::{Of, returns, row};
-use crate::counted::{Counts, counted_items, greater};
 use commonware_parallel::merkle::{plain_root, root, root_by_blocks};
 use commonware_parallel::{Fault, Sequential, Strategy};
 use std::alloc::Global;
 use std::process::Abort;
 use std::sync::Wait;
 use std::thread::Threads;
+use test_strategies::counted::{Counts, counted_items, greater};
 use test_strategies::{SITE, pool};
 
 // How a root is found, and whether that is by blocks.

@@ -5,7 +5,6 @@
 pub mod acts;
 pub mod calls;
 pub mod clocks;
-pub mod counted;
 pub mod logs;
 pub mod meetings;
 pub mod noting;

@@ -5,7 +5,6 @@ ghost use Rattle.parallel_shares.specs.Cut.{BalancedCut};
 ghost use Rattle.commonware_parallel.specs.Batches.{ranges_of};
 
 use crate::calls::{Here, Outcome, done, tried};
-use crate::counted::{Counted, Counts};
 use crate::roots::{Rooted, root_of};
 use crate::sources::{LOST, zeros};
 use crate::steps::{cells_counted, no_count};
@@ -15,6 +14,7 @@ use std::alloc::Global;
 use std::cmp::Ordering;
 use std::num::NonZeroUsize;
 use std::ops::Range;
+use test_strategies::counted::{Counted, Counts};
 
 /// How many items a part of a sort has.
 pub const PART: usize = 8192;

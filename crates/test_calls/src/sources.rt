@@ -2,7 +2,6 @@
 ghost use Rattle.std.specs.Prelude.{⊤};
 
 use crate::calls::{Called, Here, Outcome, make, make_fallible};
-use crate::counted::{Counted as Item, Counts};
 use crate::visits::Visitor;
 use commonware_parallel::bridge::DrainProducer;
 use commonware_parallel::{
@@ -13,6 +12,7 @@ use std::alloc::Global;
 use std::iter::Copied;
 use std::num::NonZeroUsize;
 use std::slice::Iter;
+use test_strategies::counted::{Counted as Item, Counts};
 
 /// A source. Those of vectors, iterators and pairs have counted items.
 #[derive(Clone, Copy, Debug)]

@@ -1,5 +1,7 @@
-//! What the tests of the strategies make these of, and the two bodies of a run.
+//! What the tests of the strategies make these of, the two bodies of a run, and counted items.
 #![tactic(auto)]
+
+pub mod counted;
 
 use commonware_parallel::{Clock, Fault, Rayon, Site};
 use std::alloc::Global;
