@@ -5,7 +5,6 @@ ghost use Rattle.parallel_bridge.specs.GateRule.{newcomer};
 ghost use Rattle.parallel_bridge.specs.Gates.{IsGateSeatOf, known, stands_for};
 
 use crate::checks::{number, row};
-use crate::windows::{Counted, Counts, counted_items};
 use parallel_bridge::gate::{Gate, GateSeat, GateWatch};
 use parallel_bridge::list::try_map::try_map_parallel;
 use parallel_bridge::parts::ProducerParts;
@@ -18,6 +17,7 @@ use std::num::NonZeroUsize;
 use std::process::Abort;
 use std::sync::atomic::{AtomicU64, Ordering};
 use std::thread::{self, Threads};
+use test_support::counted::{Counted, Counts, counted_items};
 use test_support::{holds, same};
 
 // The last seat of a list.

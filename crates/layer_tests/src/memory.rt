@@ -9,7 +9,7 @@ use crate::checks::{number, row};
 use crate::claims::{count_columns, last_claim, opened, refill_at, row_cells_and_calls, steal_at};
 use crate::gate_seats::stops;
 use crate::tables::SITE;
-use crate::windows::{Counted, Counts, Doing, counted_items, does};
+use crate::windows::{Doing, does};
 use parallel_bridge::gate::{Gate, GateSeat};
 use parallel_bridge::list::fold::fold_iter;
 use parallel_bridge::list::fold_init::fold_init_iter;
@@ -33,6 +33,7 @@ use std::rt::Files;
 use std::sync::Wait;
 use std::sync::atomic::{AtomicU64, Ordering};
 use std::thread::Threads;
+use test_support::counted::{Counted, Counts, counted_items};
 use test_support::no_memory::all_memory;
 
 // How what needs no memory is used: it is made and let go, and closed or used before.

@@ -13,69 +13,9 @@ use parallel_bridge::window::block::Block;
 use parallel_fault::Trouble;
 use std::alloc::Global;
 use std::process::Abort;
-use std::sync::atomic::{AtomicU64, Ordering};
 use std::thread::Threads;
+use test_support::counted::{Counted, Counts, counted_items};
 use test_support::{holds, same};
-
-/// Counts those that were made and those that were let go.
-#[derive(Drop)]
-pub(crate) struct Counts {
-    made: AtomicU64,
-    gone: AtomicU64,
-}
-
-impl Counts {
-    pub(crate) fn new() -> Counts {
-        Counts {
-            made: AtomicU64::new(0),
-            gone: AtomicU64::new(0),
-        }
-    }
-
-    /// How many were made.
-    pub(crate) fn made(&self) -> u64 {
-        self.made.load(Ordering::SeqCst)
-    }
-
-    /// How many weren't let go.
-    pub(crate) fn left(&self) -> usize {
-        let gone = self.gone.load(Ordering::SeqCst);
-        self.made().wrapping_sub(gone) as usize
-    }
-}
-
-/// An item that is counted, with its place in a list.
-pub(crate) struct Counted<'a> {
-    counts: &'a Counts,
-    pub(crate) place: usize,
-}
-
-impl<'a> Counted<'a> {
-    pub(crate) fn new(counts: &'a Counts, place: usize) -> Self {
-        counts.made.fetch_add(1, Ordering::SeqCst);
-        Counted { counts, place }
-    }
-}
-
-impl Drop for Counted<'_> {
-    fn drop(self) {
-        let Self { counts, place: _ } = self;
-        counts.gone.fetch_add(1, Ordering::SeqCst);
-    }
-}
-
-/// So many counted items, where memory is given for them.
-pub(crate) fn counted_items<'a>(
-    alloc: Global,
-    counts: &'a Counts,
-    len: usize,
-) -> Option<Vec<Counted<'a>>> {
-    let mut items = Vec::new(alloc);
-    for place in 0..len {
-        items.push(Counted::new(counts, place)).ok()?;
-    }
-    Some(items)
-}
 
 // The place of an item that is there.
 fn place_of(item: Option<&Counted<'_>>) -> Option<usize> {

@@ -8,8 +8,8 @@ use std::process::Abort;
 use std::sync::Wait;
 use std::sync::atomic::{AtomicU32, Ordering};
 use std::thread::Threads;
-use test_strategies::counted::{Counted, Counts, again, again_of, count_again, counted_items};
 use test_strategies::{SITE, Stopped, learning, pool};
+use test_support::counted::{Counted, Counts, again, again_of, count_again, counted_items};
 use test_support::{holds, same};
 
 // ---- which error
@@ -232,7 +232,7 @@ fn values_of(
 ) -> Result<usize, Trouble<usize>> {
     match mapped {
         Ok(values) => {
-            same!(rt, counts.left(), values.len() as u64);
+            same!(rt, counts.left(), values.len());
             Ok(values.len())
         }
         Err(trouble) => Err(trouble),

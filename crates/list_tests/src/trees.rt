@@ -6,8 +6,8 @@ use std::alloc::Global;
 use std::process::Abort;
 use std::sync::Wait;
 use std::thread::Threads;
-use test_strategies::counted::{Counts, counted_items, greater};
 use test_strategies::{SITE, pool};
+use test_support::counted::{Counts, counted_items, greater};
 
 // How a root is found, and whether that is by blocks.
 const ROOTED: [(&str, bool); 2] = [("root by levels", false), ("root by blocks", true)];
@@ -90,7 +90,7 @@ fn nodes_left<Rt: Threads + Wait + Abort + Sync, S: Strategy>(
     let leaves = counted_items(alloc, &counts, len).expect(rt, "memory");
     let found = root_of(rt, alloc, strategy, by_blocks, leaves, greater).expect(rt, "memory");
     row(rt, of, found.is_some(), len > 0);
-    row(rt, of, counts.left(), len.min(1) as u64);
+    row(rt, of, counts.left(), len.min(1));
     drop(found);
     row(rt, of, counts.left(), 0);
 }

@@ -14,7 +14,7 @@ use std::alloc::Global;
 use std::cmp::Ordering;
 use std::num::NonZeroUsize;
 use std::ops::Range;
-use test_strategies::counted::{Counted, Counts};
+use test_support::counted::{Counted, Counts};
 
 /// How many items a part of a sort has.
 pub const PART: usize = 8192;

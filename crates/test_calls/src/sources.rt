@@ -12,7 +12,7 @@ use std::alloc::Global;
 use std::iter::Copied;
 use std::num::NonZeroUsize;
 use std::slice::Iter;
-use test_strategies::counted::{Counted as Item, Counts};
+use test_support::counted::{Counted as Item, Counts};
 
 /// A source. Those of vectors, iterators and pairs have counted items.
 #[derive(Clone, Copy, Debug)]

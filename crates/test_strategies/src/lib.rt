@@ -1,7 +1,5 @@
-//! What the tests of the strategies make these of, the two bodies of a run, and counted items.
+//! What the tests of the strategies make these of, and the two bodies of a run.
 #![tactic(auto)]
-
-pub mod counted;
 
 use commonware_parallel::{Clock, Fault, Rayon, Site};
 use std::alloc::Global;

@@ -1,10 +1,11 @@
 //! What the crates of tests have in common and what needs no crate of the repository: a machine
-//! without memory, the numbers of threads, and the macros `holds` and `same`.
+//! without memory, the numbers of threads, counted items, and the macros `holds` and `same`.
 //!
 //! The functions that stop a test stand in each crate of tests, in its module `checks`: a library
 //! can't take the handle that stops a program, and a macro writes no function.
 #![tactic(auto)]
 
+pub mod counted;
 pub mod no_memory;
 pub mod processes;
 

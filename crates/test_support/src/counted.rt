@@ -1,5 +1,4 @@
 //! Items that are counted, of which one may fail.
-use commonware_parallel::Fault;
 use std::alloc::Global;
 use std::sync::atomic::{AtomicU64, Ordering};
 
@@ -24,10 +23,15 @@ impl Counts {
         }
     }
 
+    /// How many were made.
+    pub fn made(&self) -> u64 {
+        self.made.load(Ordering::SeqCst)
+    }
+
     /// How many are there, or near 2 to the power of 64 where some were let go twice.
-    pub fn left(&self) -> u64 {
+    pub fn left(&self) -> usize {
         let gone = self.gone.load(Ordering::SeqCst);
-        self.made.load(Ordering::SeqCst).wrapping_sub(gone)
+        self.made().wrapping_sub(gone) as usize
     }
 }
 
@@ -56,17 +60,17 @@ impl Drop for Counted<'_> {
     }
 }
 
-/// A number of them, whose places go from 0 on.
+/// A number of them, whose places go from 0 on, where memory is given for them.
 pub fn counted_items<'a>(
     alloc: Global,
     counts: &'a Counts,
     len: usize,
-) -> Result<Vec<Counted<'a>>, Fault> {
-    let mut items = Vec::with_capacity(alloc, len)?;
+) -> Option<Vec<Counted<'a>>> {
+    let mut items = Vec::new(alloc);
     for place in 0..len {
-        items.push(Counted::new(counts, place))?;
+        items.push(Counted::new(counts, place)).ok()?;
     }
-    Ok(items)
+    Some(items)
 }
 
 /// A further value for an item, or the item's place where it is the one that fails.
