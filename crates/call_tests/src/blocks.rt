@@ -1,7 +1,7 @@
 //! That blocks of memory are given back: of a home by the count of a heap; of calls by the size of
 //! the process. Where allocations are checked, as by `rt try`, small blocks stay with the process
 //! once they are let go, and large ones don't.
-use crate::checks::{Test, all_acts, equal, held, row, through};
+use crate::checks::{Test, all_acts, equal, row, through};
 use commonware_parallel::mocks::explore;
 use commonware_parallel::rayon::ThreadPoolBuilder;
 use commonware_parallel::{Chooser, Clock, Fault, Rayon, Strategy, Trouble};

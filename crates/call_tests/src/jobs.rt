@@ -3,8 +3,8 @@
 ghost use Rattle.std.specs.Prelude.{◌≡◌, ⊤};
 
 use crate::asks::asked;
-use crate::checks::{Test, equal, has, number};
-use commonware_parallel::mocks::{Explorer, Rule};
+use crate::checks::{Test, equal, has};
+use commonware_parallel::mocks::Explorer;
 use commonware_parallel::{Call, Job, Strategy};
 use futures::executor::block_on;
 use std::alloc::Global;

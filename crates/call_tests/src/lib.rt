@@ -1,5 +1,5 @@
-//! That each call does what it has to, whatever its source and its strategy: each probe goes over one
-//! list of calls.
+//! That each call does what it has to, whatever its source and its strategy: each probe goes over
+//! one list of calls.
 #![tactic(auto)]
 
 #[cfg(test)]

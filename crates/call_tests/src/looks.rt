@@ -24,7 +24,8 @@ fn ends_at_its_error(rt: &impl Test, through: &Through, of: Row) {
     }
 }
 
-// The same of each list call that may fail. (A batch has a range for each thread, and a run no list.)
+// The same of each list call that may fail. (A batch has a range for each thread, and a run no
+// list.)
 fn all_end(rt: &impl Test, way: Way) {
     let through = through(rt, way);
     for act in all_acts(rt) {

@@ -15,8 +15,8 @@ fn turns(threads: usize) -> u32 {
 }
 
 // The greatest power of two that isn't above the number, which isn't 0. A list of about as many
-// items as there are threads, tiles, and the levels of a tree needn't be shared by all of them where
-// their number is no power of two.
+// items as there are threads, tiles, and the levels of a tree needn't be shared by all of them
+// where their number is no power of two.
 fn power_within(number: usize) -> usize {
     let halvings = number.checked_ilog2().unwrap_or(0);
     1usize.checked_shl(halvings).unwrap_or(1)
@@ -82,8 +82,8 @@ fn level_bounds(threads: usize, nodes: usize) -> (usize, usize) {
     }
 }
 
-// The same of the pairs of each level of a tree, of sixteen leaves a thread and more, of which there
-// are blocks.
+// The same of the pairs of each level of a tree, of sixteen leaves a thread and more, of which
+// there are blocks.
 fn pairs_meet(rt: &impl Test, through: &Through, of: Row, threads: usize) {
     let levels = levels_of(rt, threads, of.len);
     let made = through.does(rt, of.act, of.len, Visitor::MeetsByLevel(levels.as_slice()));

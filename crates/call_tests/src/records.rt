@@ -2,8 +2,8 @@
 //! between two readings of the clock recorded once.
 //!
 //! The clock's readings are the squares of whole milliseconds, so that the time between two of them
-//! tells which two they were. Each call is made until a further time has moved its entry by a fifth,
-//! so that one recorded twice shows.
+//! tells which two they were. Each call is made until a further time has moved its entry by a
+//! fifth, so that one recorded twice shows.
 ghost use Rattle.std.specs.Prelude.{⊤};
 
 use crate::checks::{Test, all_acts, equal, number, row};

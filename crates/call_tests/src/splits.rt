@@ -49,7 +49,8 @@ fn states(act: Act, segments: usize, workers: usize) -> usize {
 fn cuts(rt: &impl Test, way: Way, (threads, segments): (usize, usize), len: usize) {
     let through = through(rt, way);
     for act in all_acts(rt) {
-        // Only one of one's own tells its cuts. (By four threads the states over others are counted.)
+        // Only one of one's own tells its cuts. (By four threads the states over others are
+        // counted.)
         if !act.is_over_own() && (threads != 4 || len > 1000 || !act.is_over_few()) {
             continue;
         }

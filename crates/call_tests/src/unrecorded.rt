@@ -1,6 +1,6 @@
 //! What a policy keeps of a call that is refused, through a pool: that it was asked, where it was,
-//! and no time. The clock goes on by a second at each reading, so that a time of such a call would be
-//! seen in the estimates.
+//! and no time. The clock goes on by a second at each reading, so that a time of such a call would
+//! be seen in the estimates.
 use crate::checks::{Test, equal, held, row};
 use crate::entries::{Times, by_policy, times};
 use crate::requests::{Fate, LEN, Path, bare_acts, fate_of, laden_acts};

@@ -1,5 +1,5 @@
-//! The Merkle tree over SHA-256, as `uses` has it. Its roots and commitments were computed by another
-//! program, from what the digest of a leaf, of a node and of a whole tree is said to be.
+//! The Merkle tree over SHA-256, as `uses` has it. Its roots and commitments were computed by
+//! another program, from what the digest of a leaf, of a node and of a whole tree is said to be.
 use crate::checks::{Of, returns, row};
 use commonware_parallel::{Fault, Sequential, Strategy};
 use std::alloc::Global;

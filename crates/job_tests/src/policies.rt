@@ -8,7 +8,8 @@ use std::sync::{Arc, Wait};
 use std::thread::Threads;
 use test_strategies::{SITE, learning, parallel, serial};
 
-// A clock that goes on by `step` at each reading, or back where `step` is near 2 to the power of 64.
+// A clock that goes on by `step` at each reading, or back where `step` is near 2 to the power of
+// 64.
 #[derive(Clone, Debug, Drop)]
 struct Stepping {
     reading: Arc<AtomicU64, Global>,

@@ -30,8 +30,8 @@ pub enum Called {
 /// What a call returns as a list: a fold its one value, a partition its values and then its keys.
 pub type Outcome = Result<Vec<u32>, Trouble<u32>>;
 
-/// A call over the numbers from one up to another, and what it returns in one piece, with a leaf for
-/// each item, and with leaves of one and of two.
+/// A call over the numbers from one up to another, and what it returns in one piece, with a leaf
+/// for each item, and with leaves of one and of two.
 pub type Known = (&'static str, Called, u32, u32, [&'static [u32]; 3]);
 
 const SQUARES: [&[u32]; 3] = [&[0, 1, 4, 9, 16, 25, 36, 49, 64, 81]; 3];

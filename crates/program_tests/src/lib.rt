@@ -1,4 +1,5 @@
-//! The program's commands, and values and texts that need no strategy's calls. Expected values stand in the tests.
+//! The program's commands, and values and texts that need no strategy's calls. Expected values
+//! stand in the tests.
 #![tactic(auto)]
 
 #[cfg(test)]

@@ -25,8 +25,8 @@ impl Stepping {
         })
     }
 
-    /// One whose readings are the squares of 0, 1, 2 .. milliseconds, so that the time between two of
-    /// them tells which two they were.
+    /// One whose readings are the squares of 0, 1, 2 .. milliseconds, so that the time between two
+    /// of them tells which two they were.
     pub fn squares(alloc: Global) -> Result<Stepping, Fault> {
         Ok(Stepping {
             reading: Arc::new(alloc, AtomicU64::new(0))?,

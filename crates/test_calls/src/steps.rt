@@ -1,5 +1,5 @@
-//! Steps of the tests' tiles, and a job. One that stands here is proved once, and not once for each test
-//! that hands it on.
+//! Steps of the tests' tiles, and a job. One that stands here is proved once, and not once for each
+//! test that hands it on.
 ghost use Rattle.std.specs.Prelude.{◌≡◌, ⊤};
 
 use commonware_parallel::Job;
