@@ -115,24 +115,27 @@ fn a_call_gives_the_blocks_of_its_items_and_results_back(rt: HostRuntime) {
         for act in all_acts(&rt) {
             if owns(act) {
                 let of = Row { way, act, len: 16 };
-                gives_back(&rt, &through, of, 3, Block::Large);
                 gives_back(&rt, &through, of, usize::MAX, Block::Large);
+                if act.may_fail() {
+                    gives_back(&rt, &through, of, 3, Block::Large);
+                }
             }
         }
         let act = Act::List(Called::TryMap, Given::OwnProducer);
         let len = 40usize << 20;
         gives_back(&rt, &through, Row { way, act, len }, 0, Block::Large);
-        let len = 262_144usize;
-        for called in [Called::Map, Called::TryMap, Called::MapInit] {
-            let act = Act::List(called, Given::Vector);
-            gives_back(
-                &rt,
-                &through,
-                Row { way, act, len },
-                usize::MAX,
-                Block::Starved,
-            );
-        }
+    }
+}
+
+#[test]
+fn a_call_that_is_refused_gives_the_block_of_its_items_back(rt: HostRuntime) {
+    for (way, called) in [
+        (Way::Sequential, Called::MapInit),
+        (Way::Pool(2, 2), Called::Map),
+        (Way::Pool(2, 2), Called::TryMap),
+    ] {
+        let of = Row::of(way, Act::List(called, Given::Vector), 262_144);
+        gives_back(&rt, &through(&rt, way), of, usize::MAX, Block::Starved);
     }
 }
 
@@ -215,9 +218,9 @@ fn what_is_made_and_let_go_leaves_no_block(rt: HostRuntime) {
         let through = through(&rt, way);
         for act in all_acts(&rt) {
             let of = Row { way, act, len: 40 };
-            gives_back(&rt, &through, of, 0, Block::Small);
+            gives_back(&rt, &through, of, usize::MAX, Block::Small);
             if act.may_fail() {
-                gives_back(&rt, &through, of, usize::MAX, Block::Small);
+                gives_back(&rt, &through, of, 0, Block::Small);
             }
         }
     }

@@ -199,12 +199,16 @@ fn many_of(act: Act) -> usize {
     }
 }
 
-// Two threads share it, and a batch has a hundred ranges.
+// Two threads share it, and a batch has a hundred ranges. Each list call has one body for all
+// sources, so of the others those that may fail are made.
 fn long_calls_meet(rt: &impl Test, is_list: bool, is_own: bool) {
     let way = Way::Pool(2, 100);
     let through = through(rt, way);
     for act in all_acts(rt) {
-        if matches!(act, Act::List(..)) == is_list && act.is_over_own() == is_own {
+        if matches!(act, Act::List(..)) == is_list
+            && act.is_over_own() == is_own
+            && (is_own || act.may_fail())
+        {
             let of = Row::of(way, act, many_of(act));
             match act {
                 Act::Run(_) => {}

@@ -72,8 +72,12 @@ pub fn laden_acts(rt: &impl Test) -> Vec<Act> {
     acts
 }
 
+fn refused() -> Outcome {
+    Err(Trouble::Fault(Fault::Memory))
+}
+
 // Stops the test where a call takes a block that it needs not, or calls a closure before the block
-// that it needs is there. How often a sort compares nobody has counted.
+// that it needs is there.
 fn takes(
     rt: &impl Test,
     through: &Through,
@@ -88,14 +92,13 @@ fn takes(
         Visitor::Counts(&times)
     };
     let made = through.does(rt, of.act, LEN, visited);
-    let (outcome, calls) = match fate_of(of.act, path) {
-        Fate::Succeeds => (Ok(()), closures(of.act, LEN, planned)),
-        _ => (Err(Trouble::Fault(Fault::Memory)), Some(0)),
+    let (outcome, calls) = match (fate_of(of.act, path), path) {
+        (Fate::Succeeds, _) => (Ok(()), closures(of.act, LEN, planned)),
+        (_, Path::Parallel) if !matches!(of.act, Act::Fill(..)) => (refused(), Some(0)),
+        // Its results grow as they come.
+        _ => (refused(), None),
     };
-    let calls = match of.act {
-        Act::Sort(_) => times.items(),
-        _ => calls.unwrap_or(0),
-    };
+    let calls = calls.unwrap_or(times.items());
     row(rt, of, (made, times.items()), (outcome, calls));
 }
 
@@ -162,7 +165,7 @@ fn is_untold(rt: &impl Test, act: Act, threads: usize, call: Call) {
     let of = Row { way, act, len: LEN };
     let times = Times::new();
     let made: Outcome = does(rt, &noting, act, LEN, Visitor::Starves(&times));
-    row(rt, of, made, Err(Trouble::Fault(Fault::Memory)));
+    row(rt, of, made, refused());
     has(rt, noting.log(), of, &[asked(call), BEGUN, DROPPED]);
 }
 

@@ -49,17 +49,19 @@ fn states(act: Act, segments: usize, workers: usize) -> usize {
 fn cuts(rt: &impl Test, way: Way, (threads, segments): (usize, usize), len: usize) {
     let through = through(rt, way);
     for act in all_acts(rt) {
+        let is_own = matches!(act, Act::List(_, Given::OwnProducer));
         // Only one of one's own tells its cuts. (By four threads the states over others are
         // counted.)
-        if !act.is_over_own() && (threads != 4 || len > 1000 || !act.is_over_few()) {
+        if !is_own && (len > 1000 || !act.is_over_own() && threads != 4) {
             continue;
         }
         let of = Row { way, act, len };
         let times = Times::new();
         let made = through.does(rt, act, len, Visitor::Counts(&times));
-        let cut = match act {
-            Act::List(_, Given::OwnProducer) => segments.saturating_sub(1),
-            _ => 0,
+        let cut = if is_own {
+            segments.saturating_sub(1)
+        } else {
+            0
         };
         let states = states(act, segments, threads);
         let calls = closures(act, len, threads).unwrap_or(times.items());

@@ -11,7 +11,7 @@ use test_support::processes::last_number;
 // threads too. The greatest number is where it never succeeds.
 fn least_started(rt: &impl Test, through: &Through, of: Row, enough: u64) -> u64 {
     let mut least = u64::MAX;
-    for _ in 0..40u32 {
+    for _ in 0..15u32 {
         let before = last_number(rt);
         if through.does(rt, of.act, of.len, Visitor::Passes).is_ok() {
             least = least.min(last_number(rt).wrapping_sub(before));
@@ -41,8 +41,8 @@ fn most_of(act: Act, others: u64) -> (usize, u64) {
 fn all_start(rt: &impl Test, way: Way, others: u64) {
     let through = through(rt, way);
     for act in all_acts(rt) {
-        // Those over other sources take long by many threads.
-        if !act.is_over_few() || others > 4 && !act.is_over_own() {
+        // No call's start depends on its source.
+        if !act.is_over_own() {
             continue;
         }
         let (len, most) = most_of(act, others);

@@ -41,17 +41,22 @@ fn each_queue_has_jobs_of_its_own(rt: HostRuntime) {
     row(&rt, 1, seat.push(&rt, Queue::Injected, 1), Ok(()));
     row(&rt, 2, seat.push(&rt, Queue::Injected, 2), Ok(()));
     row(&rt, 3, seat.push(&rt, Queue::Broadcast(1), 3), Ok(()));
+    row(&rt, 4, seat.take(&rt, Queue::Broadcast(0)), None);
+    same!(&rt, seat.take(&rt, Queue::Injected), Some(1));
+    same!(&rt, seat.take(&rt, Queue::Broadcast(1)), Some(3));
+    same!(&rt, seat.take(&rt, Queue::Injected), Some(2));
+    row(&rt, 5, seat.take(&rt, Queue::Injected), None);
+}
+
+#[test]
+fn each_worker_gets_the_job_of_its_own(rt: HostRuntime) {
+    let (mut seat, _own) = two_workers(&rt, rt.alloc());
     let mut jobs = VecDeque::new(rt.alloc());
     jobs.push_back(7).expect(&rt, "memory");
     jobs.push_back(8).expect(&rt, "memory");
     row(&rt, "each", seat.push_each(&rt, jobs).is_ok(), true);
-    let injected = seat.take(&rt, Queue::Injected);
-    let first = seat.take(&rt, Queue::Broadcast(0));
-    let second = seat.take(&rt, Queue::Broadcast(1));
-    same!(&rt, [injected, first, second], [Some(1), Some(7), Some(3)]);
-    let injected = seat.take(&rt, Queue::Injected);
-    let first = seat.take(&rt, Queue::Broadcast(0));
-    let second = seat.take(&rt, Queue::Broadcast(1));
-    same!(&rt, [injected, first, second], [Some(2), None, Some(8)]);
-    same!(&rt, seat.take(&rt, Queue::Injected), None);
+    same!(&rt, seat.take(&rt, Queue::Broadcast(1)), Some(8));
+    same!(&rt, seat.take(&rt, Queue::Broadcast(0)), Some(7));
+    row(&rt, 1, seat.take(&rt, Queue::Broadcast(0)), None);
+    row(&rt, 2, seat.take(&rt, Queue::Injected), None);
 }
