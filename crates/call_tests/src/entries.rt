@@ -3,12 +3,12 @@
 //! so each measured run takes as long.
 use crate::checks::{Test, equal, number};
 use commonware_parallel::policy::{Key, RunExecution};
-use commonware_parallel::{Clock, Policy, Rayon, Site};
+use commonware_parallel::{Clock, Policy, Rayon, Site, Strategy};
 use std::num::NonZeroUsize;
 use test_calls::clocks::{Stepping, learning};
+use test_calls::steps::{parallel, serial};
 use test_calls::strategies::SITE;
 use uses::batches::batch_ranges;
-use uses::runs::one_of;
 
 /// The times of runs in parallel and of serial ones, where there is an entry.
 pub type Times = Option<(Option<u64>, Option<u64>)>;
@@ -53,7 +53,7 @@ fn takes(
     policy: &Policy,
     (turn, body, kept): (u32, &'static str, Times),
 ) {
-    let taken = one_of(rt, rt.alloc(), strategy, SITE, 16, "serial", "parallel");
+    let taken = strategy.run(rt, rt.alloc(), SITE, 16, serial, parallel);
     let found = (turn, taken, times(rt, policy, SITE, 16, 16));
     equal(rt, "a run", found, (turn, Ok(body), kept));
 }

@@ -190,46 +190,61 @@ fn many_threads_meet_and_as_many_where_more_are_planned(rt: HostRuntime) {
     numbers_meet(&rt, 17, 65);
 }
 
-// How many items a long call is over: a million, but of those that take long for each.
-fn many_of(act: Act) -> usize {
+// What is tried together of the long calls, each in a test of its own, as it takes long.
+#[derive(Clone, Copy, PartialEq, Eq)]
+enum Group {
+    Lists,
+    Sources,
+    Sorts,
+    Others,
+    // One of its bodies runs, or, as each list call has one body for all sources, another source.
+    None,
+}
+
+// The group of a call, and how many items it is over: a million, but of those that take long for
+// each.
+fn group_of(act: Act) -> (Group, usize) {
     match act {
-        Act::List(_, Given::OwnProducer) => 1_000_001,
-        Act::List(..) => 100_001,
-        _ => 300_001,
+        Act::List(_, Given::OwnProducer) => (Group::Lists, 1_000_001),
+        Act::List(..) if act.may_fail() => (Group::Sources, 100_001),
+        Act::List(..) | Act::Run(_) => (Group::None, 0),
+        Act::Sort(_) => (Group::Sorts, 300_001),
+        _ => (Group::Others, 300_001),
     }
 }
 
-// Two threads share it, and a batch has a hundred ranges. Each list call has one body for all
-// sources, so of the others those that may fail are made.
-fn long_calls_meet(rt: &impl Test, is_list: bool, is_own: bool) {
+// Stops the test where two closures of such a call don't meet, or more. Two threads share it, and a
+// batch has a hundred ranges.
+fn long_calls_meet(rt: &impl Test, group: Group) {
     let way = Way::Pool(2, 100);
     let through = through(rt, way);
     for act in all_acts(rt) {
-        if matches!(act, Act::List(..)) == is_list
-            && act.is_over_own() == is_own
-            && (is_own || act.may_fail())
-        {
-            let of = Row::of(way, act, many_of(act));
-            match act {
-                Act::Run(_) => {}
-                Act::Tree(_) => pairs_meet(rt, &through, of, 2),
-                _ => meet(rt, &through, of, (2, 2)),
-            }
+        let (own, len) = group_of(act);
+        let of = Row { way, act, len };
+        match act {
+            _ if own != group => {}
+            Act::Tree(_) => pairs_meet(rt, &through, of, 2),
+            _ => meet(rt, &through, of, (2, 2)),
         }
     }
 }
 
 #[test]
 fn two_closures_of_each_long_list_call_meet(rt: HostRuntime) {
-    long_calls_meet(&rt, true, true);
+    long_calls_meet(&rt, Group::Lists);
 }
 
 #[test]
 fn two_closures_over_each_long_source_meet(rt: HostRuntime) {
-    long_calls_meet(&rt, true, false);
+    long_calls_meet(&rt, Group::Sources);
+}
+
+#[test]
+fn two_closures_of_each_long_sort_meet(rt: HostRuntime) {
+    long_calls_meet(&rt, Group::Sorts);
 }
 
 #[test]
 fn two_closures_of_each_other_long_call_meet(rt: HostRuntime) {
-    long_calls_meet(&rt, false, true);
+    long_calls_meet(&rt, Group::Others);
 }

@@ -15,8 +15,16 @@ use test_calls::visits::{Times, Visitor};
 use test_calls::ways::{Row, Through, Way};
 use test_support::no_memory::all_places;
 
-/// How many items each call has: their results take 2 MiB at least.
-pub const LEN: usize = 524_288;
+// How many items each call has: their results take 1.5 MiB at least.
+const LEN: usize = 196_608;
+
+/// The same of each call: the numbers of a sort take 3 MiB.
+pub fn len_of(act: Act) -> usize {
+    match act {
+        Act::Sort(_) => 786_432,
+        _ => LEN,
+    }
+}
 
 /// How a call goes: in parallel; serially once its strategy was asked; or serially unasked.
 #[derive(Clone, Copy)]
@@ -45,9 +53,7 @@ pub fn fate_of(act: Act, path: Path) -> Fate {
         (Act::List(_, Given::Counted), Path::Parallel) => Fate::Refused,
         (Act::List(Called::Fold | Called::FoldInit | Called::TryFold, _), _) => Fate::Succeeds,
         (Act::List(Called::Partition, _), _) => Fate::Succeeds,
-        // Its parts are too short for such a block.
-        (Act::Sort(_), Path::Parallel) => Fate::Succeeds,
-        (Act::List(..) | Act::Sort(true) | Act::Fill(..), _) => Fate::Refused,
+        (Act::List(..) | Act::Sort(_) | Act::Fill(..), _) => Fate::Refused,
         (Act::Tree(Rooted::ByLevels), _) => Fate::Refused,
         _ => Fate::Succeeds,
     }
@@ -91,9 +97,9 @@ fn takes(
     } else {
         Visitor::Counts(&times)
     };
-    let made = through.does(rt, of.act, LEN, visited);
+    let made = through.does(rt, of.act, of.len, visited);
     let (outcome, calls) = match (fate_of(of.act, path), path) {
-        (Fate::Succeeds, _) => (Ok(()), closures(of.act, LEN, planned)),
+        (Fate::Succeeds, _) => (Ok(()), closures(of.act, of.len, planned)),
         (_, Path::Parallel) if !matches!(of.act, Act::Fill(..)) => (refused(), Some(0)),
         // Its results grow as they come.
         _ => (refused(), None),
@@ -108,13 +114,16 @@ fn all_take(rt: &impl Test, way: Way, path: Path, planned: usize) {
     let bare = bare_acts(rt);
     let held = all_places(rt.alloc()).expect(rt, "places that have an end");
     for act in bare.iter() {
-        let of = Row::of(way, *act, LEN);
+        let of = Row::of(way, *act, len_of(*act));
         takes(rt, &through, of, path, (planned, false));
     }
     drop(held);
     for act in laden_acts(rt) {
-        let of = Row { way, act, len: LEN };
-        takes(rt, &through, of, path, (planned, true));
+        // The parts of a sort that go in parallel are too short for such a block.
+        if !matches!((act, path), (Act::Sort(_), Path::Parallel)) {
+            let of = Row::of(way, act, len_of(act));
+            takes(rt, &through, of, path, (planned, true));
+        }
     }
 }
 
@@ -169,11 +178,11 @@ fn is_untold(rt: &impl Test, act: Act, threads: usize, call: Call) {
     has(rt, noting.log(), of, &[asked(call), BEGUN, DROPPED]);
 }
 
-// With 32,768 threads a block of the tree has two leaves, and there are as many tops.
+// With a thread for each sixteen leaves a block of the tree has two, and there are as many tops.
 #[test]
 fn a_call_that_is_refused_tells_nothing(rt: HostRuntime) {
     let blocks = Call::body_with_multiplier(LEN / 2, 2);
-    is_untold(&rt, Act::Tree(Rooted::ByBlocks), 32_768, blocks);
+    is_untold(&rt, Act::Tree(Rooted::ByBlocks), LEN / 16, blocks);
     is_untold(&rt, Act::Tree(Rooted::ByLevels), 4, Call::body(LEN / 2));
     for called in CALLS {
         let act = Act::List(called, Given::OwnProducer);

@@ -3,7 +3,7 @@
 //! be seen in the estimates.
 use crate::checks::{Test, equal, held, row};
 use crate::entries::{Times, by_policy, times};
-use crate::requests::{Fate, LEN, Path, bare_acts, fate_of, laden_acts};
+use crate::requests::{Fate, Path, bare_acts, fate_of, laden_acts, len_of};
 use commonware_parallel::policy::{Key, RunExecution, SpawnExecution, SpawnSample};
 use commonware_parallel::{Fault, Policy, Rayon, Strategy, Trouble};
 use test_calls::acts::{Act, does};
@@ -38,7 +38,7 @@ fn after_nine_choices(rt: &impl Test, key: Key) -> Policy {
 // Stops the test where a call that is refused is recorded, or is counted as a choice where it is
 // refused unasked.
 fn is_unrecorded(rt: &impl Test, act: Act, starves: bool) {
-    let call = act.question(LEN, 4);
+    let call = act.question(4);
     let key = Key::new(SITE, call.len, call.work, 4);
     let policy = after_nine_choices(rt, key);
     let strategy = by_policy(rt, &policy, SECOND);
@@ -48,7 +48,7 @@ fn is_unrecorded(rt: &impl Test, act: Act, starves: bool) {
     } else {
         Visitor::Counts(&calls)
     };
-    let made = does(rt, &strategy, act, LEN, visited);
+    let made = does(rt, &strategy, act, visited);
     let way = Way::Learning(4, SECOND);
     let of = Row { way, act, len: LEN };
     let known = times(rt, &policy, SITE, call.len, call.work);

@@ -24,12 +24,14 @@ fn above_none(number: usize) -> NonZeroUsize {
     NonZeroUsize::MIN.saturating_add(number.saturating_sub(1))
 }
 
-/// That many numbers, none of which is in its place, and no run of which a sort turns.
+/// That many numbers, which are no run that a sort turns without memory: the first ones aren't in
+/// their places, and of many none is. More of few would take long.
 pub fn numbers(alloc: Global, count: usize) -> Result<Vec<u32>, Fault> {
     let mut numbers = Vec::with_capacity(alloc, count)?;
+    let mixed = if count < 100_000 { 64 } else { u32::MAX };
     let mut place = 0u32;
     for _ in 0..count {
-        numbers.push(place ^ 1)?;
+        numbers.push(if place < mixed { place ^ 1 } else { place })?;
         place = place.wrapping_add(1);
     }
     Ok(numbers)
