@@ -210,7 +210,6 @@ const REFUSED: &str = "\
     segments 3\n\
     segments 0 5\n\
     fold\n\
-    fold parallel\n\
     fold Parallel 10 1 2 3\n\
     fold parallel 1000001\n\
     fold parallel 1 -2\n\
@@ -225,7 +224,6 @@ const REFUSED: &str = "\
     threads - 0 7 4\n\
     threads 18446744073709551616 0 7 4\n\
     threads 0 0 7 0\n\
-    threads 0 0 7 +4\n\
     threads 0 0 7 \n\
     help\n\
     \x20";
