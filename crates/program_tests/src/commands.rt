@@ -222,7 +222,6 @@ const REFUSED: &str = "\
     root \n\
     threads 0 0 7\n\
     threads - 0 7 4\n\
-    threads 18446744073709551616 0 7 4\n\
     threads 0 0 7 0\n\
     threads 0 0 7 \n\
     help\n\
