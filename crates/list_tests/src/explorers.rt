@@ -1,10 +1,11 @@
 //! Explorers: what they pick, and what the search through the rules returns.
 use crate::checks::{Of, returns, row};
-use crate::lists::{KNOWN, call};
+use crate::lists::{Called, KNOWN, call};
 use commonware_parallel::mocks::{ExploreError, Rule, explore, mix, pick};
 use commonware_parallel::{Chooser, Copies, Fault, Site, Strategy};
 use std::alloc::Global;
 use std::num::NonZeroUsize;
+use std::ops::Range;
 use std::sync::Wait;
 use std::test::Fail;
 use std::thread::Threads;
@@ -75,18 +76,34 @@ fn a_rule_picks_the_first_the_last_or_by_the_hash(rt: HostRuntime) {
 
 // ---- searches
 
+// What a search says of a call, whose list is none where the call fails; and whether its outputs
+// differ.
+fn explored<Rt: Threads + Wait + Sync>(
+    rt: &Rt,
+    alloc: Global,
+    called: Called,
+    numbers: Range<u32>,
+) -> (Option<Vec<u32>>, bool) {
+    let (start, end) = (numbers.start, numbers.end);
+    match explore(
+        rt,
+        alloc,
+        |explorer| call(rt, alloc, explorer, called, start..end).ok(),
+    ) {
+        Ok(list) => (list, false),
+        Err(error) => (None, matches!(error, ExploreError::Differs(Rule::Parallel))),
+    }
+}
+
 #[test]
 fn outputs_that_the_shape_does_not_change_are_returned(rt: HostRuntime) {
     let alloc = rt.alloc();
-    for (name, called, from, end, known) in KNOWN {
-        let told = explore(&rt, alloc, |explorer| {
-            call(&rt, alloc, explorer, called, from..end).ok()
-        });
-        let of: Of = (name, "a search", end.wrapping_sub(from) as usize);
-        let is_told = matches!(told, Err(ExploreError::Differs(Rule::Parallel)));
-        row(&rt, of, is_told, known[0] != known[1]);
-        if let Ok(Some(list)) = told {
-            row(&rt, of, list.as_slice(), known[0]);
+    for known in &KNOWN {
+        let (list, differs) = explored(&rt, alloc, known.1, known.2..known.3);
+        let of: Of = (known.0, "a search", known.3 as usize);
+        row(&rt, of, differs, known.4[0] != known.4[1]);
+        if let Some(list) = list {
+            row(&rt, of, list.as_slice(), known.4[0]);
         }
     }
 }

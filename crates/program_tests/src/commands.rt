@@ -203,34 +203,26 @@ const REFUSED: &str = "\
     batches 4 65536\n\
     grid 4 0 64 1\n\
     grid 4 1 64 0\n\
-    grid 4 1 64\n\
     mix 0 1 1\n\
     mix 0 1 1 64 1\n\
     mix 18446744073709551616 1 1 64\n\
     mix 0 4294967296 1 64\n\
-    mix 0 1 1 18446744073709551616\n\
     segments 3\n\
     segments 0 5\n\
-    segments 65536 5\n\
     fold\n\
-    fold parallel\n\
     fold Parallel 10 1 2 3\n\
     fold parallel 1000001\n\
     fold parallel 1 -2\n\
-    fold serial 1 -2\n\
     fold serial 1 2 \n\
     explore\n\
     explore sum 1\n\
     explore bodies 2\n\
-    explore  sum\n\
     root 1000001\n\
     root 1 two\n\
     root \n\
     threads 0 0 7\n\
     threads - 0 7 4\n\
-    threads 18446744073709551616 0 7 4\n\
     threads 0 0 7 0\n\
-    threads 0 0 7 +4\n\
     threads 0 0 7 \n\
     help\n\
     \x20";

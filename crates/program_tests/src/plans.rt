@@ -77,6 +77,13 @@ fn a_stale_claim_is_lost(rt: HostRuntime) {
     let plan = Plan::new(3, 2, number(&rt, 1), number(&rt, 2), true);
     same!(&rt, (plan.workers(), plan.unit(), plan.claim()), (2, 2, 1));
     same!(&rt, (plan.cells(), plan.units()), (6, 3));
+    // A unit has several rows where there are many.
+    let many = Plan::new(65_536, 3, number(&rt, 1), number(&rt, 4), true);
+    same!(
+        &rt,
+        (many.unit(), many.workers(), many.units()),
+        (6, 4, 32_768)
+    );
     let (state, outcomes) = replay(rt.alloc(), &plan, &EVENTS).expect(&rt, "memory");
     let expected = [
         Outcome::Loaded(3),
@@ -98,18 +105,6 @@ fn a_stale_claim_is_lost(rt: HostRuntime) {
     same!(&rt, state.claims(0), [0..2, 4..6].as_slice());
     same!(&rt, state.claims(1), [2..4].as_slice());
     same!(&rt, state.in_transit(1), None);
-}
-
-#[test]
-fn a_unit_has_several_rows_where_there_are_many(rt: HostRuntime) {
-    let plan = Plan::new(65_536, 3, number(&rt, 1), number(&rt, 4), true);
-    same!(
-        &rt,
-        (plan.unit(), plan.workers(), plan.units()),
-        (6, 4, 32_768),
-    );
-    let state = State::new(rt.alloc(), &plan).expect(&rt, "memory");
-    same!(&rt, state.words(), [32_768].as_slice());
 }
 
 // A replay, and one claim by steps, return what they always do, or want of memory. Run with each
