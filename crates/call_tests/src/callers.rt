@@ -1,7 +1,8 @@
 //! The callers that others may read, through any strategy, each over eight items.
-use crate::checks::Test;
-use commonware_parallel::{On, Runtime, Site, Strategy};
-use test_calls::calls::Here;
+use commonware_parallel::{Site, Strategy};
+use std::alloc::Global;
+use std::sync::Wait;
+use std::thread::Threads;
 use uses::folds::sum_of_squares;
 use uses::in_place::double_each;
 use uses::maps::{borrowed_squares, first_squares};
@@ -15,7 +16,7 @@ use uses::verifier::{split_by_check, sum_within, verify_all, verify_digests};
 use uses::words::longest_word;
 
 /// A caller.
-#[derive(Clone, Copy, Debug, PartialEq, Eq)]
+#[derive(Clone, Copy, Debug)]
 pub enum Caller {
     SumOfSquares,
     BorrowedSquares,
@@ -64,8 +65,13 @@ fn is_small(number: u32) -> bool {
 }
 
 // Those over numbers that stay as they are.
-fn over_numbers<Rt: Runtime, S: Strategy>(on: &Here<'_, Rt, S>, caller: Caller) -> bool {
-    let (rt, alloc, strategy, site) = (on.rt, on.alloc, on.strategy, on.site);
+fn over_numbers<Rt: Threads + Wait + Sync, S: Strategy>(
+    rt: &Rt,
+    alloc: Global,
+    strategy: &S,
+    site: Site,
+    caller: Caller,
+) -> bool {
     let numbers = NUMBERS.as_slice();
     match caller {
         Caller::SumOfSquares => sum_of_squares(rt, alloc, strategy, site, numbers).is_ok(),
@@ -87,8 +93,13 @@ fn over_numbers<Rt: Runtime, S: Strategy>(on: &Here<'_, Rt, S>, caller: Caller) 
 }
 
 // Those over wide numbers, in place or with a sum that passes.
-fn over_wide_numbers<Rt: Runtime, S: Strategy>(on: &Here<'_, Rt, S>, caller: Caller) -> bool {
-    let (rt, alloc, strategy, site) = (on.rt, on.alloc, on.strategy, on.site);
+fn over_wide_numbers<Rt: Threads + Wait + Sync, S: Strategy>(
+    rt: &Rt,
+    alloc: Global,
+    strategy: &S,
+    site: Site,
+    caller: Caller,
+) -> bool {
     let mut numbers = [3u64, 1, 4, 1, 5, 9, 2, 6];
     match caller {
         Caller::SquareInPlace => square_in_place(rt, alloc, strategy, site, &mut numbers).is_ok(),
@@ -104,8 +115,13 @@ const OF_NONE: [u8; 32] = [
 ];
 
 // Those over texts, which are empty but for the words.
-fn over_texts<Rt: Runtime, S: Strategy>(on: &Here<'_, Rt, S>, caller: Caller) -> bool {
-    let (rt, alloc, strategy, site) = (on.rt, on.alloc, on.strategy, on.site);
+fn over_texts<Rt: Threads + Wait + Sync, S: Strategy>(
+    rt: &Rt,
+    alloc: Global,
+    strategy: &S,
+    site: Site,
+    caller: Caller,
+) -> bool {
     let leaves: [&[u8]; 8] = [b""; 8];
     match caller {
         Caller::LongestWord => {
@@ -122,21 +138,20 @@ fn over_texts<Rt: Runtime, S: Strategy>(on: &Here<'_, Rt, S>, caller: Caller) ->
 }
 
 /// Such a caller: whether it returns as it should.
-pub fn call<S: Strategy>(rt: &impl Test, strategy: &S, site: Site, caller: Caller) -> bool {
-    let alloc = rt.alloc();
-    let on = &On {
-        rt,
-        alloc,
-        strategy,
-        site,
-    };
+pub fn call<Rt: Threads + Wait + Sync, S: Strategy>(
+    rt: &Rt,
+    alloc: Global,
+    strategy: &S,
+    site: Site,
+    caller: Caller,
+) -> bool {
     match caller {
         Caller::SquareInPlace | Caller::DoubleEach | Caller::SumWithin => {
-            over_wide_numbers(on, caller)
+            over_wide_numbers(rt, alloc, strategy, site, caller)
         }
         Caller::LongestWord | Caller::VerifyDigests | Caller::Commitment | Caller::Build => {
-            over_texts(on, caller)
+            over_texts(rt, alloc, strategy, site, caller)
         }
-        _ => over_numbers(on, caller),
+        _ => over_numbers(rt, alloc, strategy, site, caller),
     }
 }

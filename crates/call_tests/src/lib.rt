@@ -1,5 +1,5 @@
-//! That each call does what it has to, whatever its source and its strategy: each probe goes over
-//! one list of calls.
+//! That each call does what it has to, whatever its source and its strategy: each probe goes over one
+//! list of calls.
 #![tactic(auto)]
 
 #[cfg(test)]
@@ -13,7 +13,9 @@ mod checks;
 #[cfg(test)]
 mod entries;
 #[cfg(test)]
-mod jobs;
+mod lines;
+#[cfg(test)]
+mod longs;
 #[cfg(test)]
 mod looks;
 #[cfg(test)]

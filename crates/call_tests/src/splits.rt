@@ -1,87 +1,139 @@
 //! How often each list call cuts a list: once less often than it has segments, of which there are
-//! at most twice as many as threads; and how often a call calls its closures and begins a state.
-use crate::checks::{Test, all_acts, row, through};
-use commonware_parallel::mocks::Rule;
-use test_calls::acts::Act;
-use test_calls::calls::Called;
-use test_calls::others::{Batched, Filling};
-use test_calls::sources::Given;
+//! at most twice as many as threads; and how often it calls its closures.
+use crate::checks::row;
+use commonware_parallel::mocks::{Explorer, Rule};
+use commonware_parallel::{Fault, Indices, Producer, Strategy};
+use std::alloc::Global;
+use std::process::Abort;
+use std::sync::Wait;
+use std::sync::atomic::{AtomicUsize, Ordering};
+use std::thread::Threads;
+use test_calls::calls::{CALLS, Called, make};
+use test_calls::every_call::on;
+use test_calls::noting::Noting;
+use test_calls::other_calls::{FILLINGS, Filling, Side, make_side};
+use test_calls::strategies::pool;
 use test_calls::visits::{Times, Visitor};
-use test_calls::ways::{Row, THREADS, Way};
 
-// How often a call calls its closures, but one whose comparisons nobody has counted.
-pub fn closures(act: Act, len: usize, planned: usize) -> Option<usize> {
-    match act {
-        Act::Sort(_) => None,
-        Act::Join => Some(2),
-        Act::Run(_) => Some(1),
-        Act::Change(size) => Some(len.div_ceil(size.max(1))),
-        Act::Batch(Batched::Change, _) => Some(planned),
-        Act::Batch(..) => Some(planned.saturating_mul(3)),
-        Act::Tree(_) => Some(len.saturating_sub(1)),
-        _ => Some(len),
+// A list, with the number of times that it was cut.
+#[derive(Drop)]
+struct Cut<'a, P> {
+    list: P,
+    times: &'a AtomicUsize,
+}
+
+impl<'a, P: Producer> Producer for Cut<'a, P> {
+    type Item = P::Item;
+
+    type Iter = P::Iter;
+
+    ghost gives = { λ s xs. P.gives s.list xs };
+
+    ghost may = { λ s x. P.may s.list x };
+
+    ghost count = { λ s. P.count s.list };
+
+    fn len(&self) -> usize {
+        self.list.len()
+    }
+
+    fn split_at(self, alloc: Global, index: usize) -> Result<(Self, Self), Fault> {
+        let times = self.times;
+        times.fetch_add(1, Ordering::SeqCst);
+        let (front, back) = self.list.split_at(alloc, index)?;
+        Ok((Cut { list: front, times }, Cut { list: back, times }))
+    }
+
+    fn into_items(self) -> P::Iter {
+        self.list.into_items()
     }
 }
 
-// Into how many segments a list is cut by that many threads.
-fn segments(threads: usize) -> usize {
-    match threads {
-        1 => 2,
-        2 | 3 => 4,
-        4..8 => 8,
-        8..16 => 16,
-        16..32 => 32,
-        _ => 128,
-    }
-}
-
-// How many states a call begins: one for each segment, or for each worker of tiles.
-fn states(act: Act, segments: usize, workers: usize) -> usize {
-    match act {
-        Act::List(Called::MapInit | Called::MultipliedMapInit | Called::FoldInit, _) => segments,
-        Act::Fill(Filling::Stretches | Filling::Rows, _) => workers,
+// How many states a list call begins for that many segments.
+fn states_of(called: Called, segments: usize) -> usize {
+    match called {
+        Called::MapInit | Called::MultipliedMapInit | Called::FoldInit => segments,
         _ => 0,
     }
 }
 
-// Stops the test where a call doesn't cut its list into so many segments, call its closure once for
-// each item, and begin a state for each segment. Only the list of one's own tells its cuts.
-fn cuts(rt: &impl Test, way: Way, (threads, segments): (usize, usize), len: usize) {
-    let through = through(rt, way);
-    for act in all_acts(rt) {
-        let is_own = matches!(act, Act::List(_, Given::OwnProducer));
-        // Only one of one's own tells its cuts. (By four threads the states over others are
-        // counted.)
-        if !is_own && (len > 1000 || !act.is_over_own() && threads != 4) {
-            continue;
-        }
-        let of = Row { way, act, len };
-        let times = Times::new();
-        let made = through.does(rt, act, len, Visitor::Counts(&times));
-        let cut = if is_own {
-            segments.saturating_sub(1)
-        } else {
-            0
+// Stops the test where a list call cuts a list of that many items more or less often than that,
+// where it doesn't call its closure once for each, or begins more or fewer states than there are
+// segments.
+fn cuts<Rt: Threads + Wait + Abort + Sync, S: Strategy>(
+    rt: &Rt,
+    alloc: Global,
+    strategy: &S,
+    len: usize,
+    wanted: usize,
+) {
+    let on = on(rt, alloc, strategy);
+    for called in CALLS {
+        let times = AtomicUsize::new(0);
+        let closures = Times::new();
+        let list = Cut {
+            list: Indices {
+                start: 3,
+                end: len.saturating_add(3),
+            },
+            times: &times,
         };
-        let states = states(act, segments, threads);
-        let calls = closures(act, len, threads).unwrap_or(times.items());
-        let found = (made, times.counted());
-        row(rt, of, found, (Ok(()), [calls, states, cut]));
+        let made = make(&on, called, list, Visitor::Counts(&closures));
+        let found = (made, times.load(Ordering::SeqCst), closures.counted());
+        let states = states_of(called, wanted.saturating_add(1));
+        row(
+            rt,
+            (called, len, wanted),
+            found,
+            (Ok(()), wanted, (len, states)),
+        );
     }
 }
 
 #[test]
 fn each_list_call_cuts_a_list_into_segments_and_begins_a_state_for_each(rt: HostRuntime) {
-    for threads in THREADS {
+    let alloc = rt.alloc();
+    for (threads, times) in [(1, 1), (2, 3), (3, 3), (4, 7), (7, 7), (8, 15)] {
         cuts(
             &rt,
-            Way::Noting(threads),
-            (threads, segments(threads)),
+            alloc,
+            &Noting::new(alloc, threads).expect(&rt, "a log"),
             1000,
+            times,
         );
     }
-    cuts(&rt, Way::Noting(4), (4, 8), 100_000);
+    cuts(
+        &rt,
+        alloc,
+        &Noting::new(alloc, 4).expect(&rt, "a log"),
+        100_000,
+        7,
+    );
     // What goes serially is one segment.
-    cuts(&rt, Way::Explorer(Rule::Serial, 4, 4), (1, 1), 1000);
-    cuts(&rt, Way::Explorer(Rule::Parallel, 4, 1), (1, 1), 1000);
+    for (planned, rule) in [(4, Rule::Serial), (1, Rule::Parallel)] {
+        let four = pool(&rt, alloc, 4, planned).expect(&rt, "a pool");
+        let serial = Explorer::by_rule(&four, rule).expect(&rt, "memory for a handle");
+        cuts(&rt, alloc, &serial, 1000, 0);
+    }
+}
+
+// Rows that are too short to be cut, of which a worker fills each by one call.
+#[test]
+fn tiles_begin_a_state_for_each_worker_and_fill_each_row_once(rt: HostRuntime) {
+    let alloc = rt.alloc();
+    for threads in 1..5usize {
+        let noting = Noting::new(alloc, threads).expect(&rt, "a log");
+        let on = on(&rt, alloc, &noting);
+        for filling in FILLINGS {
+            let closures = Times::new();
+            let made = make_side(&on, Side::Fill(filling), Visitor::Counts(&closures));
+            let states = if matches!(filling, Filling::Kernel) {
+                0
+            } else {
+                threads
+            };
+            let found = (made, closures.counted());
+            row(&rt, (filling, threads), found, (Ok(()), (4, states)));
+        }
+    }
 }

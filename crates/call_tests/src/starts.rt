@@ -1,20 +1,34 @@
 //! How many threads each call starts: at most one fewer than its strategy has, and none where it
 //! goes serially.
-use crate::checks::{Test, all_acts, row, through};
-use commonware_parallel::mocks::Rule;
-use test_calls::acts::Act;
+use crate::checks::row;
+use commonware_parallel::mocks::{Explorer, Rule};
+use commonware_parallel::{On, Site, Strategy};
+use std::alloc::{AllocGlobal, Global};
+use std::process::Abort;
+use std::rt::Files;
+use std::sync::Wait;
+use std::thread::Threads;
+use test_calls::calls::CALLS;
+use test_calls::every_call::{Act, does, on};
+use test_calls::noting::Noting;
+use test_calls::other_calls::SIDES;
+use test_calls::roots::ROOTED;
+use test_calls::sources::FEW;
+use test_calls::strategies::pool;
 use test_calls::visits::Visitor;
-use test_calls::ways::{Row, THREADS, Through, Way};
 use test_support::processes::last_number;
 
 // How many threads are started meanwhile, as few as in the best of many tries, as others start
 // threads too. The greatest number is where it never succeeds.
-fn least_started(rt: &impl Test, through: &Through, of: Row, enough: u64) -> u64 {
+fn least_started<Rt, S: Strategy>(on: &On<'_, Rt, S, Site>, done: Act, enough: u64) -> u64
+where
+    Rt: Threads + Wait + Files + AllocGlobal + Abort + Sync,
+{
     let mut least = u64::MAX;
-    for _ in 0..15u32 {
-        let before = last_number(rt);
-        if through.does(rt, of.act, of.len, Visitor::Passes).is_ok() {
-            least = least.min(last_number(rt).wrapping_sub(before));
+    for _ in 0..200u32 {
+        let before = last_number(on.rt);
+        if does(on, done, Visitor::Passes).is_ok() {
+            least = least.min(last_number(on.rt).wrapping_sub(before));
         }
         if least <= enough {
             return least;
@@ -23,61 +37,69 @@ fn least_started(rt: &impl Test, through: &Through, of: Row, enough: u64) -> u64
     least
 }
 
-// How many items a call is over, and how many threads it starts at most, of that many others.
-fn most_of(act: Act, others: u64) -> (usize, u64) {
-    match act {
-        Act::Run(_) => (100, 0),
-        Act::Join => (100, others.min(1)),
-        // Numbers that are three parts.
-        Act::Sort(_) => (24_576, others.min(2)),
-        // A tree of 128 leaves has seven levels.
-        Act::Tree(_) => (128, others.saturating_mul(7)),
-        _ => (100, others),
+// Stops the test where each such act starts more threads than that. Where others start threads all
+// the time there is nothing to be seen.
+fn starts<Rt, S: Strategy>(on: &On<'_, Rt, S, Site>, done: Act, most: usize)
+where
+    Rt: Threads + Wait + Files + AllocGlobal + Abort + Sync,
+{
+    let most = most as u64;
+    let least = least_started(on, done, most);
+    if least > most && least_started(on, Act::Rest, 0) == 0 {
+        row(on.rt, done, least, most);
     }
 }
 
-// Stops the test where a call through a strategy starts more threads than that. Where others start
-// threads all the time there is nothing to be seen.
-fn all_start(rt: &impl Test, way: Way, others: u64) {
-    let through = through(rt, way);
-    for act in all_acts(rt) {
-        // No call's start depends on its source.
-        if !act.is_over_own() {
-            continue;
-        }
-        let (len, most) = most_of(act, others);
-        let of = Row { way, act, len };
-        let least = least_started(rt, &through, of, most);
-        let rest = Row {
-            act: Act::Rest,
-            ..of
-        };
-        if least > most && least_started(rt, &through, rest, 0) == 0 {
-            row(rt, of, least, most);
-        } else if least > most {
-            return;
+// Stops the test where a call through a strategy starts more threads than that, or a tree more for
+// one of its levels.
+fn all_start<Rt, S: Strategy>(rt: &Rt, alloc: Global, strategy: &S, most: usize)
+where
+    Rt: Threads + Wait + Files + AllocGlobal + Abort + Sync,
+{
+    let on = on(rt, alloc, strategy);
+    for called in CALLS {
+        for given in FEW {
+            starts(&on, Act::List(called, given, 100), most);
         }
     }
+    for side in SIDES {
+        starts(&on, Act::Side(side), most);
+    }
+    // A tree of 128 leaves has seven levels.
+    for rooted in ROOTED {
+        starts(&on, Act::Tree(rooted, 128), most.saturating_mul(7));
+    }
+    starts(&on, Act::Chunks(20_000), most);
+    // Numbers that are three parts, and such that are one.
+    starts(&on, Act::Sort(true, 24_576), most.min(2));
+    starts(&on, Act::Sort(true, 16_383), 0);
 }
 
 #[test]
 fn each_call_starts_at_most_one_thread_fewer_than_there_are(rt: HostRuntime) {
-    for threads in THREADS {
-        let others = (threads as u64).saturating_sub(1);
-        all_start(&rt, Way::Pool(threads, threads), others);
+    let alloc = rt.alloc();
+    for threads in [2usize, 3, 4, 9] {
+        let most = threads.saturating_sub(1);
+        all_start(
+            &rt,
+            alloc,
+            &Noting::new(alloc, threads).expect(&rt, "a log"),
+            most,
+        );
+        all_start(
+            &rt,
+            alloc,
+            &pool(&rt, alloc, threads, threads).expect(&rt, "a pool"),
+            most,
+        );
     }
-    all_start(&rt, Way::Noting(3), 2);
-    all_start(&rt, Way::Pool(2, 8), 1);
+    all_start(&rt, alloc, &pool(&rt, alloc, 2, 8).expect(&rt, "a pool"), 1);
 }
 
 #[test]
 fn a_serial_call_starts_no_thread(rt: HostRuntime) {
-    all_start(&rt, Way::Sequential, 0);
-    all_start(&rt, Way::Explorer(Rule::Serial, 4, 4), 0);
-    // Fewer numbers than two parts are sorted by the caller alone.
-    let way = Way::Pool(4, 4);
-    let act = Act::Sort(true);
-    let len = 16_383usize;
-    let of = Row { way, act, len };
-    row(&rt, of, least_started(&rt, &through(&rt, way), of, 0), 0);
+    let alloc = rt.alloc();
+    let four = pool(&rt, alloc, 4, 4).expect(&rt, "a pool");
+    let serial = Explorer::by_rule(&four, Rule::Serial).expect(&rt, "memory for a handle");
+    all_start(&rt, alloc, &serial, 0);
 }

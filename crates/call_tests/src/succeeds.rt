@@ -1,45 +1,74 @@
 //! That each call succeeds through each strategy, and each caller that others may read.
 use crate::callers::{CALLERS, call};
-use crate::checks::{Test, all_acts, equal, number, row, through};
-use commonware_parallel::{Sequential, Strategy};
-use test_calls::strategies::{SITE, explorers, pools};
+use crate::checks::{number, row};
+use commonware_parallel::{On, Sequential, Site, Strategy};
+use std::alloc::Global;
+use std::process::Abort;
+use std::sync::Wait;
+use std::thread::Threads;
+use test_calls::calls::CALLS;
+use test_calls::every_call::{Act, does, on};
+use test_calls::other_calls::SIDES;
+use test_calls::roots::ROOTED;
+use test_calls::sources::{SOURCES, is_made, make_over};
+use test_calls::strategies::{SITE, explorers, pool, pools};
 use test_calls::visits::Visitor;
-use test_calls::ways::{Row, Way, ways};
 use uses::long_lists::LongLists;
 
-// Over each source by a few strategies, and by the others over one's own and few lengths: what a
-// call returns is a clause.
-#[test]
-fn each_call_succeeds_through_each_strategy(rt: HostRuntime) {
-    for way in ways(rt.alloc()).expect(&rt, "memory for a table") {
-        let through = through(&rt, way);
-        let is_whole = matches!(way, Way::Sequential | Way::Noting(_) | Way::Pool(4, _));
-        for act in all_acts(&rt) {
-            for len in [0, 1, 7, 100] {
-                if is_whole || act.is_over_own() && (len == 0 || len == 7) {
-                    let made = through.does(&rt, act, len, Visitor::Passes);
-                    row(&rt, Row::of(way, act, len), made, Ok(()));
+// Stops the test where a list call over no item, one, some or many doesn't succeed.
+fn lists_succeed<Rt: Threads + Wait + Abort + Sync, S: Strategy>(on: &On<'_, Rt, S, Site>) {
+    for called in CALLS {
+        for given in SOURCES {
+            if is_made(called, given) {
+                for len in [0, 1, 7, 1000] {
+                    let made = make_over(on, called, given, len, Visitor::Passes);
+                    row(on.rt, (called, given, len), made, Ok(()));
                 }
             }
         }
     }
 }
 
-// Stops the test where a caller doesn't succeed through such a strategy.
-fn callers_succeed<S: Strategy>(rt: &impl Test, strategies: &[S]) {
+// The same of the other calls, and of the callers.
+fn others_succeed<Rt: Threads + Wait + Abort + Sync, S: Strategy>(on: &On<'_, Rt, S, Site>) {
+    let rt = on.rt;
+    for side in SIDES {
+        let made = does(on, Act::Side(side), Visitor::Passes);
+        row(rt, side, made, Ok(()));
+    }
+    for rooted in ROOTED {
+        let made = does(on, Act::Tree(rooted, 100), Visitor::Passes);
+        row(rt, rooted, made, Ok(()));
+    }
+    row(rt, "run", does(on, Act::Run, Visitor::Passes), Ok(()));
+    for caller in CALLERS {
+        let is_right = call(rt, on.alloc, on.strategy, SITE, caller);
+        row(rt, caller, is_right, true);
+    }
+}
+
+fn all_succeed<Rt: Threads + Wait + Abort + Sync, S: Strategy>(
+    rt: &Rt,
+    alloc: Global,
+    strategies: &[S],
+) {
     for strategy in strategies {
-        for caller in CALLERS {
-            let is_right = call(rt, strategy, SITE, caller);
-            equal(rt, "a caller succeeds", (caller, is_right), (caller, true));
-        }
+        let on = on(rt, alloc, strategy);
+        lists_succeed(&on);
+        others_succeed(&on);
     }
 }
 
 #[test]
-fn each_caller_succeeds_through_each_strategy(rt: HostRuntime) {
+fn each_call_succeeds_through_each_strategy(rt: HostRuntime) {
     let alloc = rt.alloc();
-    callers_succeed(&rt, &[Sequential]);
-    callers_succeed(&rt, &pools(&rt, alloc).expect(&rt, "pools"));
-    callers_succeed(&rt, &explorers(&rt, alloc).expect(&rt, "explorers"));
-    callers_succeed(&rt, &[LongLists::new(number(&rt, 4), 3)]);
+    all_succeed(&rt, alloc, &[Sequential]);
+    all_succeed(&rt, alloc, &pools(&rt, alloc).expect(&rt, "pools"));
+    let planned_for_more = [
+        pool(&rt, alloc, 1, 2).expect(&rt, "a pool"),
+        pool(&rt, alloc, 3, 16).expect(&rt, "a pool"),
+    ];
+    all_succeed(&rt, alloc, &planned_for_more);
+    all_succeed(&rt, alloc, &explorers(&rt, alloc).expect(&rt, "explorers"));
+    all_succeed(&rt, alloc, &[LongLists::new(number(&rt, 4), 3)]);
 }

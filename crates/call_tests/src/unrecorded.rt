@@ -1,18 +1,25 @@
 //! What a policy keeps of a call that is refused, through a pool: that it was asked, where it was,
-//! and no time. The clock goes on by a second at each reading, so that a time of such a call would
-//! be seen in the estimates.
-use crate::checks::{Test, equal, held, row};
+//! and no time. The clock goes on by a second at each reading, so that a time of such a call would be
+//! seen in the estimates.
+use crate::checks::{returns, row};
 use crate::entries::{Times, by_policy, times};
-use crate::requests::{Fate, Path, bare_acts, fate_of, laden_acts, len_of};
 use commonware_parallel::policy::{Key, RunExecution, SpawnExecution, SpawnSample};
-use commonware_parallel::{Fault, Policy, Rayon, Strategy, Trouble};
-use test_calls::acts::{Act, does};
+use commonware_parallel::{Fault, Indices, Policy, Rayon, Source, Strategy, Trouble};
+use std::alloc::Global;
+use std::process::Abort;
+use std::sync::Wait;
+use std::sync::atomic::{AtomicU64, Ordering};
+use std::thread::Threads;
 use test_calls::clocks::Stepping;
-use test_calls::steps::Gives;
+use test_calls::steps::{Gives, descending};
 use test_calls::strategies::SITE;
-use test_calls::visits::{self, Visitor};
-use test_calls::ways::{Row, Way};
+use test_support::holds;
 use test_support::no_memory::{all_memory, all_places};
+
+// How many items each call has: their results take 2 MiB at least.
+const LEN: usize = 524_288;
+
+const INDICES: Indices = Indices { start: 0, end: LEN };
 
 const SECOND: u64 = 1_000_000_000;
 
@@ -22,80 +29,163 @@ const SERIAL: RunExecution = RunExecution::Serial;
 const KNOWN: Times = Some((Some(100_000), Some(95_000)));
 
 // A policy that knows a parallel run of 100000 nanoseconds and a serial one of 95000, and has then
-// made nine choices for four threads. The tenth one is to be serial and measured.
-fn after_nine_choices(rt: &impl Test, key: Key) -> Policy {
-    let policy = Policy::new(rt.alloc()).expect(rt, "memory for a policy");
-    let first = policy.record_run(rt, key, RunExecution::Parallel, 100_000);
-    let second = policy.record_run(rt, key, SERIAL, 95_000);
-    equal(rt, "records", (first, second), (Ok(()), Ok(())));
-    for _ in 1..10u32 {
-        let chosen = policy.choose_run(rt, key, 4);
-        equal(rt, "a choice", chosen, Ok((SERIAL, false)));
+// made nine choices for four threads.
+fn after_nine_choices<Rt: Wait + Abort>(rt: &Rt, alloc: Global) -> Policy {
+    let policy = Policy::new(alloc).expect(rt, "memory for a policy");
+    let key = Key::new(SITE, LEN, LEN, 4);
+    for (execution, time) in [(RunExecution::Parallel, 100_000), (SERIAL, 95_000)] {
+        returns(
+            rt,
+            "record",
+            policy.record_run(rt, key, execution, time),
+            (),
+        );
+    }
+    for choice in 1..10u32 {
+        returns(rt, choice, policy.choose_run(rt, key, 4), (SERIAL, false));
     }
     policy
 }
 
-// Stops the test where a call that is refused is recorded, or is counted as a choice where it is
-// refused unasked.
-fn is_unrecorded(rt: &impl Test, act: Act, starves: bool) {
-    let call = act.question(4);
-    let key = Key::new(SITE, call.len, call.work, 4);
-    let policy = after_nine_choices(rt, key);
-    let strategy = by_policy(rt, &policy, SECOND);
-    let calls = visits::Times::new();
-    let visited = if starves {
-        Visitor::Starves(&calls)
-    } else {
-        Visitor::Counts(&calls)
-    };
-    let made = does(rt, &strategy, act, visited);
-    let way = Way::Learning(4, SECOND);
-    let of = Row { way, act, len: LEN };
-    let known = times(rt, &policy, SITE, call.len, call.work);
-    row(
-        rt,
-        of,
-        (made, known),
-        (Err(Trouble::Fault(Fault::Memory)), KNOWN),
-    );
-    let is_next = fate_of(act, Path::Serial) == Fate::RefusedUnasked;
-    row(rt, of, policy.choose_run(rt, key, 4), Ok((SERIAL, is_next)));
+// The calls: a map that gathers its items first, a map and a fallible map that don't, and a sort.
+#[derive(Clone, Copy, Debug, PartialEq, Eq)]
+enum Made {
+    Gathered,
+    Map,
+    Tried,
+    Sort,
 }
 
-// Whether such a call is refused. (Of a tree each level has an entry, and tiles are asked about by
-// their work.)
-fn is_refused(act: Act) -> bool {
-    fate_of(act, Path::Serial) != Fate::Succeeds && !matches!(act, Act::Tree(_) | Act::Fill(..))
+// A map of a source's items.
+fn map_counted<Rt: Threads + Wait + Sync, S: Strategy, M, I: Source<M>>(
+    rt: &Rt,
+    alloc: Global,
+    strategy: &S,
+    source: I,
+    calls: &AtomicU64,
+) -> Result<(), Fault>
+    requires { I.can source }
+{
+    let map = |item: I::Item| {
+        calls.fetch_add(1, Ordering::SeqCst);
+        item
+    };
+    strategy.map_collect_vec(rt, alloc, SITE, source, map)?;
+    Ok(())
+}
+
+// A fallible map of indices.
+fn try_map_indices<Rt: Threads + Wait + Sync, S: Strategy>(
+    rt: &Rt,
+    alloc: Global,
+    strategy: &S,
+    calls: &AtomicU64,
+) -> Result<(), Trouble<u32>> {
+    let map = |index: usize| -> Result<u32, u32> {
+        calls.fetch_add(1, Ordering::SeqCst);
+        Ok(index as u32)
+    };
+    strategy.try_map_collect_vec(rt, alloc, SITE, INDICES, map)?;
+    Ok(())
+}
+
+// Makes such a call: its outcome without its result.
+fn outcome_of<Rt: Threads + Wait + Sync, S: Strategy>(
+    rt: &Rt,
+    alloc: Global,
+    strategy: &S,
+    call: Made,
+    numbers: &mut [u32],
+    calls: &AtomicU64,
+) -> Result<(), Trouble<u32>> {
+    match call {
+        Made::Gathered => map_counted(rt, alloc, strategy, 0..LEN, calls)?,
+        Made::Map => map_counted(rt, alloc, strategy, INDICES, calls)?,
+        Made::Tried => try_map_indices(rt, alloc, strategy, calls)?,
+        Made::Sort => strategy.sort_by(rt, alloc, SITE, numbers, descending)?,
+    }
+    Ok(())
+}
+
+// The numbers of a sort, from 0 on and not in one run, which a sort turns without memory; none for
+// the other calls.
+fn numbers_of(alloc: Global, call: Made) -> Result<Vec<u32>, Fault> {
+    if call != Made::Sort {
+        return Ok(Vec::new(alloc));
+    }
+    let mut numbers = Vec::with_capacity(alloc, LEN)?;
+    for number in 0..LEN as u32 {
+        numbers.push(number ^ 1)?;
+    }
+    Ok(numbers)
+}
+
+// The sum of numbers, wrapping.
+fn sum_of(numbers: &[u32]) -> u32 {
+    let mut sum = 0u32;
+    for number in numbers {
+        sum = sum.wrapping_add(*number);
+    }
+    sum
+}
+
+// The outcome of such a call as the tenth choice of a policy, where large blocks are refused, how
+// often its closure was called, what the policy knows then, and what it chooses next.
+fn outcome<Rt: Threads + Wait + Abort + Sync>(
+    rt: &Rt,
+    alloc: Global,
+    call: Made,
+) -> (Result<(), Trouble<u32>>, u64, Times, (RunExecution, bool)) {
+    let policy = after_nine_choices(rt, alloc);
+    let strategy = by_policy(rt, alloc, &policy, SECOND);
+    let mut numbers = numbers_of(alloc, call).expect(rt, "memory for numbers");
+    let sum = sum_of(&numbers);
+    let calls = AtomicU64::new(0);
+    let held = all_places(alloc).expect(rt, "places that have an end");
+    let found = outcome_of(rt, alloc, &strategy, call, &mut numbers, &calls);
+    drop(held);
+    row(rt, call, sum_of(&numbers), sum);
+    let known = times(rt, &policy, SITE, LEN, LEN);
+    let next = policy.choose_run(rt, Key::new(SITE, LEN, LEN, 4), 4);
+    let next = next.expect(rt, "an entry");
+    (found, calls.load(Ordering::SeqCst), known, next)
 }
 
 #[test]
 fn a_run_that_is_refused_is_not_recorded(rt: HostRuntime) {
-    let bare = bare_acts(&rt);
-    let all = all_places(rt.alloc()).expect(&rt, "places that have an end");
-    for act in bare.iter() {
-        if is_refused(*act) {
-            is_unrecorded(&rt, *act, false);
+    let mut refused = 0u32;
+    // What gathers its items is refused before the policy is asked, and before any item is mapped.
+    for (call, next) in [
+        (Made::Gathered, (SERIAL, true)),
+        (Made::Map, (SERIAL, false)),
+        (Made::Tried, (SERIAL, false)),
+        (Made::Sort, (SERIAL, false)),
+    ] {
+        let (found, calls, known, then) = outcome(&rt, rt.alloc(), call);
+        row(&rt, call, (known, then), (KNOWN, next));
+        if found == Err(Trouble::Fault(Fault::Memory)) {
+            refused = refused.saturating_add(1);
         }
+        row(&rt, calls, call != Made::Gathered || calls == 0, true);
     }
-    drop(all);
-    for act in laden_acts(&rt) {
-        if is_refused(act) {
-            is_unrecorded(&rt, act, true);
-        }
-    }
+    row(&rt, "refused", refused, 4);
 }
 
 // Spawns jobs with more and more memory until a worker is refused: how often memory was, before
 // that.
-fn refused_jobs(rt: &impl Test, strategy: &Rayon<Stepping>) -> u64 {
-    let (alloc, mut refused) = (rt.alloc(), 0u64);
+fn refused_jobs<Rt: Threads + Wait + Abort + Copy + Send + 'static>(
+    rt: &Rt,
+    alloc: Global,
+    strategy: &Rayon<Stepping>,
+) -> u64 {
+    let mut refused = 0u64;
     for step in 0..60usize {
         let taken = 4_096usize.saturating_sub(step.saturating_mul(16));
         let plug = Vec::<u8>::with_capacity(alloc, taken).expect(rt, "room for the rest");
         match strategy.spawn(rt, alloc, SITE, 1, Gives(7)) {
             Err(Fault::Memory) => refused = refused.saturating_add(1),
             Err(fault) => {
-                equal(rt, "a refused job", fault, Fault::Worker);
+                row(rt, step, fault, Fault::Worker);
                 return refused;
             }
             Ok(_) => panic!(rt; "a job was handed off with {taken} bytes taken"),
@@ -106,7 +196,7 @@ fn refused_jobs(rt: &impl Test, strategy: &Rayon<Stepping>) -> u64 {
 }
 
 // What a policy's samples of a key's jobs, of their hand-offs and of inline runs say.
-fn job_times(rt: &impl Test, policy: &Policy, key: Key) -> Option<[Option<u64>; 3]> {
+fn job_times<Rt: Wait>(rt: &Rt, policy: &Policy, key: Key) -> Option<[Option<u64>; 3]> {
     let entry = policy.spawn_entry(rt, key)?;
     let job = entry.estimate(SpawnSample::Job);
     let overhead = entry.estimate(SpawnSample::Overhead);
@@ -115,29 +205,25 @@ fn job_times(rt: &impl Test, policy: &Policy, key: Key) -> Option<[Option<u64>; 
 
 #[test]
 fn a_spawn_that_is_refused_is_not_recorded(rt: HostRuntime) {
-    let policy = Policy::new(rt.alloc()).expect(&rt, "memory");
-    let strategy = by_policy(&rt, &policy, SECOND);
+    let alloc = rt.alloc();
+    let policy = Policy::new(alloc).expect(&rt, "memory");
+    let strategy = by_policy(&rt, alloc, &policy, SECOND);
     let key = Key::new(SITE, 1, 1, 4);
-    let first = Ok((SpawnExecution::Offload, true));
-    equal(
-        &rt,
-        "first",
-        policy.choose_spawn(&rt, key, 1_000_000),
-        first,
-    );
-    let room = Vec::<u8>::with_capacity(rt.alloc(), 4_096).expect(&rt, "memory");
-    if let Some(all) = all_memory(rt.alloc()) {
+    let first = (SpawnExecution::Offload, true);
+    returns(&rt, 1, policy.choose_spawn(&rt, key, 1_000_000), first);
+    let room = Vec::<u8>::with_capacity(alloc, 4_096).expect(&rt, "memory");
+    if let Some(held) = all_memory(alloc) {
         drop(room);
-        let refused = refused_jobs(&rt, &strategy);
-        drop(all);
-        held(&rt, "some jobs are refused", refused > 0);
+        let refused = refused_jobs(&rt, alloc, &strategy);
+        drop(held);
+        holds!(&rt, refused > 0);
     }
-    let known = job_times(&rt, &policy, key);
-    equal(&rt, "times", known, Some([None, None, None]));
-    held(
+    row(
         &rt,
-        "no entry of a run",
-        policy.run_entry(&rt, key).is_none(),
+        2,
+        job_times(&rt, &policy, key),
+        Some([None, None, None]),
     );
-    equal(&rt, "next", policy.choose_spawn(&rt, key, 1_000_000), first);
+    holds!(&rt, policy.run_entry(&rt, key).is_none());
+    returns(&rt, 3, policy.choose_spawn(&rt, key, 1_000_000), first);
 }

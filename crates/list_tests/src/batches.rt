@@ -117,21 +117,37 @@ fn what_is_not_prepared_is_not_mapped(rt: HostRuntime) {
 }
 
 // The number of ranges, or the first index of the second range.
-fn second_range<S: Strategy>(batches: Batches<'_, S, Site>) -> Result<usize, usize> {
-    match batches.ranges().get(1) {
-        Some(range) => Err(range.start),
-        None => Ok(batches.ranges().len()),
-    }
+fn ranges_or_second<Rt: Wait, S: Strategy>(
+    rt: &Rt,
+    alloc: Global,
+    strategy: &S,
+) -> Result<usize, Trouble<usize>> {
+    let least = NonZeroUsize::MIN;
+    strategy.try_run_batches(
+        rt,
+        alloc,
+        SITE,
+        10,
+        least,
+        1,
+        |batches: Batches<'_, S, _>| {
+            match batches.ranges().get(1) {
+                Some(range) => Err(range.start),
+                None => Ok(batches.ranges().len()),
+            }
+        },
+    )
 }
 
 #[test]
 fn a_batch_returns_its_closures_error(rt: HostRuntime) {
-    let (alloc, least) = (rt.alloc(), NonZeroUsize::MIN);
+    let alloc = rt.alloc();
     let four = pool(&rt, alloc, 1, 4).expect(&rt, "a pool");
-    let failed = four.try_run_batches(&rt, alloc, SITE, 10, least, 1, second_range);
-    holds!(&rt, failed == Err(Trouble::Closure(3)));
-    let passed = Sequential.try_run_batches(alloc, SITE, 10, least, 1, second_range);
-    holds!(&rt, passed == Ok(1));
+    holds!(
+        &rt,
+        ranges_or_second(&rt, alloc, &four) == Err(Trouble::Closure(3))
+    );
+    holds!(&rt, ranges_or_second(&rt, alloc, &Sequential) == Ok(1));
     let whole = Sequential.run_batches(alloc, SITE, 16, number(&rt, 5), usize::MAX, |batches| {
         (batches.ranges() == [0..16].as_slice(), batches.site())
     });

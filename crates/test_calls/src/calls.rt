@@ -1,9 +1,9 @@
 //! The list calls, each over any source, with closures that visit a probe.
-use crate::acts::Host;
-use crate::steps::{add_counts, no_count};
-use crate::strategies::SITE;
+use crate::steps::{both, yes};
 use crate::visits::Visitor;
-use commonware_parallel::{Fault, On, Runtime, Site, Source, Strategy, Trouble};
+use commonware_parallel::{Fault, On, Site, Source, Strategy, Trouble};
+use std::sync::Wait;
+use std::thread::Threads;
 
 /// A list call of one place, which is the strategy's of that name; and those of a strategy alone.
 #[derive(Clone, Copy, Debug)]
@@ -32,71 +32,74 @@ pub const CALLS: [Called; 9] = [
     Called::Partition,
 ];
 
+/// Whether the closures of such a call may fail.
+pub fn may_fail(called: Called) -> bool {
+    matches!(called, Called::TryMap | Called::TryFold)
+}
+
 /// What stands for the work of an item in the calls that are told so.
 pub const MULTIPLIER: usize = 9;
 
-/// How a call went.
-pub type Outcome = Result<(), Trouble<u32>>;
-
-/// What the calls through a strategy have in common.
-pub type Here<'a, Rt, S> = On<'a, Rt, S, Site>;
-
-/// The same of such a strategy, at the place that the tests call from.
-pub fn here<'a, Rt: Host, S>(rt: &'a Rt, strategy: &'a S) -> Here<'a, Rt, S> {
-    let (alloc, site) = (rt.alloc(), SITE);
-    On {
-        rt,
-        alloc,
-        strategy,
-        site,
+/// The outcome of a call without its result.
+pub fn done<T: Drop>(outcome: Result<T, Fault>) -> Result<(), Trouble<u32>> {
+    match outcome {
+        Ok(_) => Ok(()),
+        Err(fault) => Err(Trouble::Fault(fault)),
     }
 }
 
-/// The outcome of a call without its result.
-pub fn done<T: Drop>(outcome: Result<T, Fault>) -> Outcome {
-    let _ = outcome?;
-    Ok(())
-}
-
 /// The same of a call that may fail.
-pub fn tried<T: Drop>(outcome: Result<T, Trouble<u32>>) -> Outcome {
-    let _ = outcome?;
-    Ok(())
+pub fn tried<T: Drop>(outcome: Result<T, Trouble<u32>>) -> Result<(), Trouble<u32>> {
+    match outcome {
+        Ok(_) => Ok(()),
+        Err(trouble) => Err(trouble),
+    }
 }
 
-// The maps, of one closure for all of them.
-fn map<Rt: Runtime, S: Strategy, M, I: Source<M>>(
-    on: &Here<'_, Rt, S>,
+fn map<Rt: Threads + Wait + Sync, S: Strategy, M, I: Source<M>>(
+    on: &On<'_, Rt, S, Site>,
     called: Called,
     source: I,
     visited: Visitor<'_>,
-) -> Outcome
+) -> Result<(), Trouble<u32>>
     requires { I.can source }
 {
+    let map_op = |item: I::Item| {
+        let _ = visited.visit();
+        item
+    };
+    if matches!(called, Called::Map) {
+        return done(on.map(source, map_op));
+    }
     let (rt, alloc, site) = (on.rt, on.alloc, on.site);
+    done(
+        on.strategy
+            .map_collect_vec_with_multiplier(rt, alloc, site, source, MULTIPLIER, map_op),
+    )
+}
+
+fn try_map<Rt: Threads + Wait + Sync, S: Strategy, M, I: Source<M>>(
+    on: &On<'_, Rt, S, Site>,
+    source: I,
+    visited: Visitor<'_>,
+) -> Result<(), Trouble<u32>>
+    requires { I.can source }
+{
     let map_op = |item: I::Item| match visited.visit() {
         Ok(()) => Ok(item),
         Err(error) => Err(error),
     };
-    match called {
-        Called::Map => done(on.map(source, map_op)),
-        Called::TryMap => tried(on.try_map(source, map_op)),
-        _ => done(
-            on.strategy
-                .map_collect_vec_with_multiplier(rt, alloc, site, source, MULTIPLIER, map_op),
-        ),
-    }
+    tried(on.try_map(source, map_op))
 }
 
-fn map_init<Rt: Runtime, S: Strategy, M, I: Source<M>>(
-    on: &Here<'_, Rt, S>,
+fn map_init<Rt: Threads + Wait + Sync, S: Strategy, M, I: Source<M>>(
+    on: &On<'_, Rt, S, Site>,
     called: Called,
     source: I,
     visited: Visitor<'_>,
-) -> Outcome
+) -> Result<(), Trouble<u32>>
     requires { I.can source }
 {
-    let (rt, alloc, site) = (on.rt, on.alloc, on.site);
     let init = || visited.begin();
     let map_op = |_: &mut (), item: I::Item| {
         let _ = visited.visit();
@@ -105,6 +108,7 @@ fn map_init<Rt: Runtime, S: Strategy, M, I: Source<M>>(
     if matches!(called, Called::MapInit) {
         return done(on.map_init(source, init, map_op));
     }
+    let (rt, alloc, site) = (on.rt, on.alloc, on.site);
     done(
         on.strategy
             .map_init_collect_vec_with_multiplier(
@@ -113,46 +117,56 @@ fn map_init<Rt: Runtime, S: Strategy, M, I: Source<M>>(
     )
 }
 
-fn fold<Rt: Runtime, S: Strategy, M, I: Source<M>>(
-    on: &Here<'_, Rt, S>,
+fn fold<Rt: Threads + Wait + Sync, S: Strategy, M, I: Source<M>>(
+    on: &On<'_, Rt, S, Site>,
     source: I,
     visited: Visitor<'_>,
-) -> Outcome
+) -> Result<(), Trouble<u32>>
     requires { I.can source }
 {
-    let step = |count: usize, _: I::Item| visited.counted(count);
-    done(on.fold(source, no_count, step, add_counts))
+    let step = |so_far: bool, _: I::Item| so_far & visited.visit().is_ok();
+    done(on.fold(source, yes, step, both))
 }
 
-fn fold_init<Rt: Runtime, S: Strategy, M, I: Source<M>>(
-    on: &Here<'_, Rt, S>,
+fn fold_init<Rt: Threads + Wait + Sync, S: Strategy, M, I: Source<M>>(
+    on: &On<'_, Rt, S, Site>,
     source: I,
     visited: Visitor<'_>,
-) -> Outcome
+) -> Result<(), Trouble<u32>>
     requires { I.can source }
 {
-    let init = || visited.begin();
-    let step = |count: usize, _: &mut (), _: I::Item| visited.counted(count);
-    done(on.fold_init(source, init, no_count, step, add_counts))
+    let step = |so_far: bool, _: &mut (), _: I::Item| so_far & visited.visit().is_ok();
+    done(on.fold_init(source, || visited.begin(), yes, step, both))
 }
 
-fn try_fold<Rt: Runtime, S: Strategy, M, I: Source<M>>(
-    on: &Here<'_, Rt, S>,
+// Keeps what came so far where a visit doesn't fail.
+fn after(so_far: bool, visited: Visitor<'_>) -> Result<bool, u32> {
+    match visited.visit() {
+        Ok(()) => Ok(so_far),
+        Err(error) => Err(error),
+    }
+}
+
+fn try_fold<Rt: Threads + Wait + Sync, S: Strategy, M, I: Source<M>>(
+    on: &On<'_, Rt, S, Site>,
     source: I,
     visited: Visitor<'_>,
-) -> Outcome
+) -> Result<(), Trouble<u32>>
     requires { I.can source }
 {
-    let identity = || visited.begin_sum();
-    let step = |_: (), _: I::Item| visited.visit();
-    tried(on.try_fold(source, identity, step, |_: (), _: ()| ()))
+    let identity = || {
+        visited.begin_sum();
+        true
+    };
+    let step = |so_far: bool, _: I::Item| after(so_far, visited);
+    tried(on.try_fold(source, identity, step, both))
 }
 
-fn partition<Rt: Runtime, S: Strategy, M, I: Source<M>>(
-    on: &Here<'_, Rt, S>,
+fn partition<Rt: Threads + Wait + Sync, S: Strategy, M, I: Source<M>>(
+    on: &On<'_, Rt, S, Site>,
     source: I,
     visited: Visitor<'_>,
-) -> Outcome
+) -> Result<(), Trouble<u32>>
     requires { I.can source }
 {
     let map_op = |item: I::Item| (item, visited.visit().ok());
@@ -160,41 +174,35 @@ fn partition<Rt: Runtime, S: Strategy, M, I: Source<M>>(
 }
 
 /// The fallible map, or else the fallible fold.
-pub fn make_fallible<Rt: Runtime, S: Strategy, M, I: Source<M>>(
-    on: &Here<'_, Rt, S>,
+pub fn make_fallible<Rt: Threads + Wait + Sync, S: Strategy, M, I: Source<M>>(
+    on: &On<'_, Rt, S, Site>,
     called: Called,
     source: I,
     visited: Visitor<'_>,
-) -> Outcome
+) -> Result<(), Trouble<u32>>
     requires { I.can source }
 {
-    let held = visited.holds(on.alloc);
-    let made = match called {
-        Called::TryMap => map(on, called, source, visited),
+    match called {
+        Called::TryMap => try_map(on, source, visited),
         _ => try_fold(on, source, visited),
-    };
-    drop(held);
-    made
+    }
 }
 
 /// Makes such a call, of which each closure visits once for each item. A map returns the items.
-pub fn make<Rt: Runtime, S: Strategy, M, I: Source<M>>(
-    on: &Here<'_, Rt, S>,
+pub fn make<Rt: Threads + Wait + Sync, S: Strategy, M, I: Source<M>>(
+    on: &On<'_, Rt, S, Site>,
     called: Called,
     source: I,
     visited: Visitor<'_>,
-) -> Outcome
+) -> Result<(), Trouble<u32>>
     requires { I.can source }
 {
-    let held = visited.holds(on.alloc);
-    let made = match called {
-        Called::Map | Called::MultipliedMap | Called::TryMap => map(on, called, source, visited),
+    match called {
+        Called::Map | Called::MultipliedMap => map(on, called, source, visited),
         Called::MapInit | Called::MultipliedMapInit => map_init(on, called, source, visited),
         Called::Fold => fold(on, source, visited),
         Called::FoldInit => fold_init(on, source, visited),
-        Called::TryFold => try_fold(on, source, visited),
+        Called::TryMap | Called::TryFold => make_fallible(on, called, source, visited),
         Called::Partition => partition(on, source, visited),
-    };
-    drop(held);
-    made
+    }
 }

@@ -1,4 +1,5 @@
 //! Clocks that are told what to read, and pools that learn by them.
+use crate::strategies::threads_of;
 use commonware_parallel::{Clock, Fault, Rayon};
 use std::alloc::Global;
 use std::sync::Arc;
@@ -11,8 +12,6 @@ use std::thread::Threads;
 pub struct Stepping {
     pub reading: Arc<AtomicU64, Global>,
     step: u64,
-    // Whether the readings are the squares of so many whole milliseconds.
-    is_squared: bool,
 }
 
 impl Stepping {
@@ -21,37 +20,24 @@ impl Stepping {
         Ok(Stepping {
             reading: Arc::new(alloc, start)?,
             step,
-            is_squared: false,
-        })
-    }
-
-    /// One whose readings are the squares of 0, 1, 2 .. milliseconds, so that the time between two
-    /// of them tells which two they were.
-    pub fn squares(alloc: Global) -> Result<Stepping, Fault> {
-        Ok(Stepping {
-            reading: Arc::new(alloc, AtomicU64::new(0))?,
-            step: 1,
-            is_squared: true,
         })
     }
 }
 
 impl Clock for Stepping {
     fn now(&self) -> u64 {
-        let reading = self.reading.fetch_add(self.step, Ordering::SeqCst);
-        if self.is_squared {
-            reading.wrapping_mul(reading).wrapping_mul(1_000_000)
-        } else {
-            reading
-        }
+        self.reading.fetch_add(self.step, Ordering::SeqCst)
     }
 }
 
-/// A pool of four threads with a fresh policy, which learns by that clock.
+/// A pool of four threads with a fresh policy, and a clock.
 pub fn learning<Rt: Threads, C: Clock>(
     rt: &Rt,
     alloc: Global,
     clock: C,
 ) -> Result<Rayon<C>, Fault> {
-    test_strategies::learning(rt, alloc, 4, clock)
+    match Rayon::new(rt, alloc, threads_of(4), clock) {
+        Ok(strategy) => Ok(strategy),
+        Err(_) => Err(Fault::Memory),
+    }
 }

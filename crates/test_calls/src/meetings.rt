@@ -29,16 +29,18 @@ impl Meeting {
         }
     }
 
+    /// How many are to be under way at once.
+    pub fn wanted(&self) -> usize {
+        self.wanted
+    }
+
     /// How many were under way at once, at most.
     pub fn most(&self) -> usize {
         self.most.load(Ordering::SeqCst)
     }
 
-    /// Comes to the meeting and leaves it, but for those of whom a thousand came before.
+    /// Comes to the meeting, and leaves it.
     pub fn attend(&self) {
-        if self.come.load(Ordering::SeqCst) >= 1000 {
-            return;
-        }
         let before = self.under_way.fetch_add(1, Ordering::SeqCst);
         self.most
             .fetch_max(before.wrapping_add(1), Ordering::SeqCst);
@@ -48,6 +50,13 @@ impl Meeting {
             self.stay();
         }
         self.under_way.fetch_sub(1, Ordering::SeqCst);
+    }
+
+    /// Comes to the meeting, but for those of whom a thousand came before.
+    pub fn attend_early(&self) {
+        if self.come.load(Ordering::SeqCst) < 1000 {
+            self.attend();
+        }
     }
 
     // Whether nobody waits any more.

@@ -1,5 +1,4 @@
-//! What the part of a call that its caller's thread does itself sees of the threads that are
-//! started.
+//! What the part of a call that its caller's thread does itself sees of the threads that are started.
 use std::sync::atomic::{AtomicU64, Ordering};
 use std::thread::yield_now;
 use test_support::processes::{last_number, own_number};
@@ -43,8 +42,7 @@ impl OwnPart {
     }
 
     /// How many threads had been started by then, of all that were since that number; none where no
-    /// closure ran on the caller's thread. Behind the greatest number Linux begins anew: many,
-    /// then.
+    /// closure ran on the caller's thread. Behind the greatest number Linux begins anew: many, then.
     pub fn started_since(&self, before: u64) -> u64 {
         match self.last.load(Ordering::SeqCst) {
             0 => 0,

@@ -12,6 +12,9 @@ pub enum Rooted {
     ByBlocks,
 }
 
+/// Both of them.
+pub const ROOTED: [Rooted; 2] = [Rooted::ByLevels, Rooted::ByBlocks];
+
 /// The root of the leaves.
 pub fn root_of<
     Rt: Threads + Wait + Sync,
