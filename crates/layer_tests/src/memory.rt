@@ -153,11 +153,22 @@ fn of_bridge(rt: &impl Abort, alloc: Global) -> Option<()> {
 fn of_shares<R: Wait + Abort>(rt: &R, alloc: Global) -> Option<()> {
     let two = number(rt, 2);
     let _ranges = cut(alloc, 10, two).ok()?;
-    let (shares, mut seats) = Shares::new(alloc, 3, 5, two, two, false).ok()?;
-    let mut seat = seats.pop()?;
+    let Ok((shares, mut seats)) = Shares::new(alloc, 3, 5, two, two, false) else {
+        return None;
+    };
+    let Some(mut seat) = seats.pop() else {
+        return None;
+    };
     let mut filled = (0usize, 0usize);
-    let (fill, sum) = (&count_columns, &row_cells_and_calls);
-    let run = shares.run(rt, alloc, &mut seat, 5, &mut filled, fill, sum);
+    let run = shares.run(
+        rt,
+        alloc,
+        &mut seat,
+        5,
+        &mut filled,
+        &count_columns,
+        &row_cells_and_calls,
+    );
     let wanted = [(1, 2, 1), (2, 5, 3), (0, 1, 1), (1, 3, 2)];
     row(rt, "a run", run.ok()?.as_slice(), wanted.as_slice());
     Some(())

@@ -174,8 +174,9 @@ fn run_of_ten<Rt: Wait>(
     (reading, body): (u64, u64),
     fails: Option<RunExecution>,
 ) -> Result<RunExecution, Trouble<u8>> {
-    let ticks = AtomicU64::new(0);
-    let now = || ticks.fetch_add(reading, Ordering::SeqCst);
+    let told = AtomicU64::new(0);
+    let ticks = &told;
+    let now = move || ticks.fetch_add(reading, Ordering::SeqCst);
     policy.try_run(
         rt,
         SITE,
@@ -183,7 +184,7 @@ fn run_of_ten<Rt: Wait>(
         10,
         planned,
         &now,
-        |path: RunExecution| -> Result<RunExecution, u8> {
+        move |path: RunExecution| -> Result<RunExecution, u8> {
             let _before = ticks.fetch_add(body, Ordering::SeqCst);
             if fails == Some(path) {
                 Err(57)
@@ -230,18 +231,19 @@ fn success_is_recorded_and_errors_are_not(rt: HostRuntime) {
 #[test]
 fn a_body_runs_without_the_lock(rt: HostRuntime) {
     let policy = fresh(&rt, rt.alloc());
-    let (inner, asked) = (handle(&rt, &policy), handle(&rt, &policy));
-    let key = Key::new(SITE, 1, 1, 2);
+    let inner = handle(&rt, &policy);
     let body = move |path: RunExecution| -> Result<RunExecution, Fault> {
+        let key = Key::new(SITE, 1, 1, 2);
         inner.record_run(&rt, key, path, 5)?;
         Ok(path)
     };
+    let asked = handle(&rt, &policy);
     let now = move || {
-        let _entry = asked.run_entry(&rt, key);
+        let _entry = asked.run_entry(&rt, Key::new(SITE, 1, 1, 2));
         0
     };
     let answer = policy.try_run(&rt, SITE, 64, 64, 4, &now, body);
     same!(&rt, answer, Ok(P));
-    let estimates = estimates_of(&rt, &policy, key);
+    let estimates = estimates_of(&rt, &policy, Key::new(SITE, 1, 1, 2));
     same!(&rt, estimates, Some([Some(5), None]));
 }

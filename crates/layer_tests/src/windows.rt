@@ -84,11 +84,13 @@ fn does_with<'a, R: Threads + Sync + Abort>(
         Doing::Drain(front, back) => drain(rt, counts, items, front, back),
         Doing::Split(index) => split(rt, alloc, counts, items, index),
         Doing::Push => {
+            let more = len.wrapping_add(1);
             let block = Block::from_vec(items).push(Counted::new(counts, len)).ok()?;
-            row(rt, "push", (block.len(), counts.left()), (len + 1, len + 1));
+            row(rt, "push", (block.len(), counts.left()), (more, more));
             Some(())
         }
         Doing::Cut(index) => {
+            assert!(rt; index <= items.len());
             let (front, back) = Block::from_vec(items).split_off(index).ok()?;
             row(rt, len, (front.len(), counts.left()), (index, len));
             drop((front, back));
