@@ -115,10 +115,7 @@ fn digests_come<Rt: Threads + Wait + Abort + Sync, S: Strategy>(
     let mut buffer = [0u8; 64];
     let written = digests_into(rt, alloc, strategy, SITE, &messages, &mut buffer);
     returns(rt, ("digests_into", through, 2), written, ());
-    let of: Of = ("the first", through, 0);
-    row(rt, of, &buffer[..32], DIGESTS[0].as_slice());
-    let of: Of = ("the second", through, 1);
-    row(rt, of, &buffer[32..], DIGESTS[1].as_slice());
+    same!(rt, buffer.as_slice(), DIGESTS.as_flattened());
     let mut digests = [[9u8; 32]; 2];
     let written = digests_by_ranges(rt, alloc, strategy, SITE, &messages, &mut digests);
     returns(rt, ("digests_by_ranges", through, 2), written, ());
