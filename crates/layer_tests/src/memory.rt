@@ -435,6 +435,7 @@ fn a_call_of_a_layer_gives_back_what_it_takes_and_takes_none_where_it_says_so(rt
         let mut at = 0usize;
         for called in unneeding(used) {
             let found = grows(&rt, called);
+            assert!(rt; at < 5);
             if used == Used::Not {
                 least[at] = found;
             }
