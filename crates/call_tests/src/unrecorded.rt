@@ -38,7 +38,8 @@ fn after_nine_choices(rt: &impl Test, key: Key) -> Policy {
 // Stops the test where a call that is refused is recorded, or is counted as a choice where it is
 // refused unasked.
 fn is_unrecorded(rt: &impl Test, act: Act, starves: bool) {
-    let call = act.question(4);
+    let len = len_of(act);
+    let call = act.question(len, 4);
     let key = Key::new(SITE, call.len, call.work, 4);
     let policy = after_nine_choices(rt, key);
     let strategy = by_policy(rt, &policy, SECOND);
@@ -48,9 +49,9 @@ fn is_unrecorded(rt: &impl Test, act: Act, starves: bool) {
     } else {
         Visitor::Counts(&calls)
     };
-    let made = does(rt, &strategy, act, visited);
+    let made = does(rt, &strategy, act, len, visited);
     let way = Way::Learning(4, SECOND);
-    let of = Row { way, act, len: LEN };
+    let of = Row { way, act, len };
     let known = times(rt, &policy, SITE, call.len, call.work);
     row(
         rt,
