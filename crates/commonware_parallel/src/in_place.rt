@@ -21,5 +21,12 @@ pub(crate) fn each_part<Rt: Threads + Sync, T: Send, F: Fn(usize, &mut [T]) + Sy
     requires accepts { AcceptsParts F.Fn op.now ranges.now items.old }
     ensures { ChangesParts F.Fn op.now ranges.now items.old items.new }
 {
-    parts_in_row(rt, threads.get(), &Along { ranges }, ranges.len(), items, op);
+    parts_in_row(
+        rt,
+        threads.get(),
+        &Along { ranges },
+        ranges.len(),
+        items,
+        op,
+    );
 }
