@@ -17,7 +17,7 @@ fn turns(threads: usize) -> u32 {
 // The greatest power of two that isn't above the number, which isn't 0. A list of about as many
 // items as there are threads, tiles, and the levels of a tree needn't be shared by all of them where
 // their number is no power of two.
-fn power_within(number: usize) -> usize {
+pub fn power_within(number: usize) -> usize {
     let halvings = number.checked_ilog2().unwrap_or(0);
     1usize.checked_shl(halvings).unwrap_or(1)
 }

@@ -2,6 +2,7 @@
 //! its own. A thread that is started by another one comes later than that by as long as a start
 //! takes, and by then the caller is at work.
 use crate::checks::{Test, all_acts, equal, row, through};
+use crate::meets::power_within;
 use commonware_parallel::mocks::Rule;
 use parallel_pool::rayon::map_in_row;
 use test_calls::acts::Act;
@@ -22,6 +23,8 @@ fn wanted_of(act: Act, threads: usize) -> (usize, usize) {
         Act::Join => (many, others.min(1)),
         Act::Sort(_) => (threads.min(63).saturating_mul(PART), others.min(62)),
         Act::Tree(_) => (threads.saturating_mul(37), others),
+        // Their workers are a list with an item for each, which needn't be shared by all threads.
+        Act::Fill(..) => (many, power_within(threads).saturating_sub(1)),
         _ => (many, others),
     }
 }
