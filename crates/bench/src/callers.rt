@@ -2,12 +2,11 @@
 //! messages that are checked against their digests.
 use crate::calls::SITE;
 use crate::case::Case;
+use batch_verifier::{Digest, verify_digests};
 use commonware_parallel::{Fault, Runtime, Strategy, Trouble};
 use sha2::{Digest as _, Sha256};
 use std::alloc::{AllocError, Global};
-use uses::merkle::Digest;
 use uses::tile_rows::above_by_row;
-use uses::verifier;
 
 /// How many rows a matrix has. Bytes that fill no row are left out.
 pub const ROWS: usize = 2000;
@@ -131,7 +130,7 @@ pub fn first_mismatch<Rt: Runtime, S: Strategy>(
     if messages.len() != digests.len() {
         return Ok(0);
     }
-    match verifier::verify_digests(rt, alloc, strategy, SITE, messages, digests) {
+    match verify_digests(rt, alloc, strategy, SITE, messages, digests) {
         Ok(passed) => Ok(passed.len()),
         Err(Trouble::Closure(index)) => Ok(index),
         Err(Trouble::Fault(fault)) => Err(fault),

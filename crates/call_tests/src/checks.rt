@@ -1,48 +1,50 @@
 //! Functions that stop a test. A call of these costs a tenth of an `assert_eq!` or an `assert!` in
 //! its place to prove.
-ghost use Rattle.std.specs.Prelude.{◌≡◌};
-ghost use Rattle.std.specs.Int.NonZero.{non_zero_usize_get};
-
 use std::fmt::Debug;
 use std::num::NonZeroUsize;
 use std::process::Abort;
+use std::random::RandomSource;
+use std::rt::Files;
+use test_calls::acts::{Act, Host, acts};
+use test_calls::logs::{Line, Log};
+use test_calls::ways::{Row, Through, Way};
+
+/// The runtime of a test.
+pub trait Test: Host + Files + RandomSource + Abort {}
+
+impl<Rt: Host + Files + RandomSource + Abort> Test for Rt {}
 
 /// Stops the test where that doesn't hold, and prints its text.
-pub fn held(rt: &impl Abort, text: &str, is_so: bool) {
+pub fn held(rt: &impl Test, text: &str, is_so: bool) {
     assert!(rt; is_so, "{text}");
 }
 
 /// Stops the test where the two differ, and prints both and what the first one is.
-pub fn equal<T: PartialEq + Debug + Drop>(rt: &impl Abort, text: &str, found: T, wanted: T) {
+pub fn equal<T: PartialEq + Debug + Drop>(rt: &impl Test, text: &str, found: T, wanted: T) {
     assert_eq!(rt; found, wanted, "{text}");
 }
 
 /// Stops the test where the two differ, and prints both and their row.
-pub fn row<L: Debug + Drop, T: PartialEq + Debug + Drop>(
-    rt: &impl Abort,
-    row: L,
-    found: T,
-    wanted: T,
-) {
-    assert_eq!(rt; found, wanted, "row {row:?}");
+pub fn row<T: PartialEq + Debug + Drop>(rt: &impl Test, row: Row, found: T, wanted: T) {
+    assert_eq!(rt; found, wanted, "{row:?}");
 }
 
-/// The same of a call, which has to return.
-pub fn returns<L: Debug + Drop, T: PartialEq + Debug + Drop, E: Debug + Drop>(
-    rt: &impl Abort,
-    of: L,
-    found: Result<T, E>,
-    wanted: T,
-) {
-    match found {
-        Ok(value) => row(rt, of, value, wanted),
-        Err(error) => panic!(rt; "row {of:?}: {error:?} in the place of {wanted:?}"),
-    }
+/// Stops the test where a log has other lines than these.
+pub fn has(rt: &impl Test, log: &Log, of: Row, wanted: &[Line]) {
+    row(rt, of, log.lines(rt).as_slice(), wanted);
 }
 
 /// A number that isn't 0.
-pub fn number(rt: &impl Abort, value: usize) -> NonZeroUsize
-    ensures { non_zero_usize_get result ≡ value }
-{
+pub fn number(rt: &impl Test, value: usize) -> NonZeroUsize {
     NonZeroUsize::new(value).expect(rt, "a number above 0")
+}
+
+/// All calls.
+pub fn all_acts(rt: &impl Test) -> Vec<Act> {
+    acts(rt.alloc()).expect(rt, "memory for a table")
+}
+
+/// Such a strategy.
+pub fn through(rt: &impl Test, way: Way) -> Through {
+    Through::of(rt, way).expect(rt, "memory for a strategy")
 }

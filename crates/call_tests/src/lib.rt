@@ -1,5 +1,5 @@
-//! That each call does what it has to, whatever its source and its strategy: each probe goes over one
-//! list of calls.
+//! That each call does what it has to, whatever its source and its strategy: each probe goes over
+//! one list of calls.
 #![tactic(auto)]
 
 #[cfg(test)]
@@ -7,15 +7,11 @@ mod asks;
 #[cfg(test)]
 mod blocks;
 #[cfg(test)]
-mod callers;
-#[cfg(test)]
 mod checks;
 #[cfg(test)]
 mod entries;
 #[cfg(test)]
-mod lines;
-#[cfg(test)]
-mod longs;
+mod jobs;
 #[cfg(test)]
 mod looks;
 #[cfg(test)]
@@ -27,12 +23,4 @@ mod refusals;
 #[cfg(test)]
 mod requests;
 #[cfg(test)]
-mod splits;
-#[cfg(test)]
 mod starts;
-#[cfg(test)]
-mod succeeds;
-#[cfg(test)]
-mod unrecorded;
-#[cfg(test)]
-mod who_starts;

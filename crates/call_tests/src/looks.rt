@@ -1,84 +1,54 @@
 //! What becomes of a list once an item has failed: right of an error that is known nothing is
 //! called, and an error is known before what is left of its segment is let go.
-use crate::checks::row;
-use commonware_parallel::mocks::{Explorer, Rule};
-use commonware_parallel::{Fault, On, Site, Source, Strategy, Trouble};
+use crate::checks::{Test, all_acts, equal, row, through};
+use commonware_parallel::mocks::Rule;
+use commonware_parallel::{Fault, Runtime, Source, Strategy, Trouble};
 use std::alloc::Global;
-use std::process::Abort;
-use std::sync::Wait;
 use std::sync::atomic::{AtomicBool, AtomicUsize, Ordering};
-use std::thread::{Threads, yield_now};
-use test_calls::calls::Called;
-use test_calls::every_call::on;
+use std::thread::yield_now;
+use test_calls::acts::Act;
+use test_calls::calls::{Called, Here, called_here};
 use test_calls::noting::Noting;
-use test_calls::sources::{FEW, Given, SOURCES, make_over, make_over_few};
 use test_calls::steps::{add_counts, no_count};
-use test_calls::strategies::pool;
-use test_calls::visits::Visitor;
+use test_calls::visits::{Times, Visitor};
+use test_calls::ways::{Row, Through, Way};
 
-// The calls that may fail.
-const FALLIBLE: [Called; 2] = [Called::TryMap, Called::TryFold];
-
-// Stops the test where a list call that fails at an item calls anything after it. One thread goes
-// over both segments of the list, of which the second one begins at half of its length.
-fn ends_at_its_error<Rt: Threads + Wait + Abort + Sync, S: Strategy>(
-    on: &On<'_, Rt, S, Site>,
-    called: Called,
-    given: Given,
-    len: usize,
-) {
-    for at in 0..len {
-        let calls = AtomicUsize::new(0);
-        let made = make_over(on, called, given, len, Visitor::FailsAt(&calls, at));
-        let found = (made, calls.load(Ordering::SeqCst));
+// Stops the test where a call that fails at an item, each in its turn, calls anything after it.
+fn ends_at_its_error(rt: &impl Test, through: &Through, of: Row) {
+    for at in 0..of.len {
+        let times = Times::new();
+        let made = through.does(rt, of.act, of.len, Visitor::FailsAt(&times, at));
+        let found = (made, times.items());
         let wanted = (Err(Trouble::Closure(7)), at.saturating_add(1));
-        row(on.rt, (called, given, len, at), found, wanted);
+        row(rt, of, found, wanted);
     }
 }
 
+// The same of each list call that may fail. (A batch has a range for each thread, and a run no
+// list.)
+fn all_end(rt: &impl Test, way: Way) {
+    let through = through(rt, way);
+    for act in all_acts(rt) {
+        if matches!(act, Act::List(..)) && act.may_fail() {
+            for len in 1..12usize {
+                ends_at_its_error(rt, &through, Row { way, act, len });
+            }
+        }
+    }
+}
+
+// One thread goes over both segments of the list, of which the second one begins at half of its
+// length.
 #[test]
 fn right_of_a_known_error_nothing_is_called(rt: HostRuntime) {
-    let alloc = rt.alloc();
-    let one = Noting::new(alloc, 1).expect(&rt, "a log");
-    let on = on(&rt, alloc, &one);
-    for called in FALLIBLE {
-        for given in SOURCES {
-            for len in 1..12usize {
-                ends_at_its_error(&on, called, given, len);
-            }
-        }
-    }
-}
-
-// The same of calls that go serially.
-fn ends_serially<Rt: Threads + Wait + Abort + Sync, S: Strategy>(
-    rt: &Rt,
-    alloc: Global,
-    strategy: &S,
-) {
-    let on = on(rt, alloc, strategy);
-    for called in FALLIBLE {
-        for given in FEW {
-            for at in 0..5usize {
-                let calls = AtomicUsize::new(0);
-                let failing = Visitor::FailsAt(&calls, at);
-                let made = make_over_few(&on, called, given, 5, failing);
-                let found = (made, calls.load(Ordering::SeqCst));
-                let wanted = (Err(Trouble::Closure(7)), at.saturating_add(1));
-                row(rt, (called, given, at), found, wanted);
-            }
-        }
-    }
+    all_end(&rt, Way::Noting(1));
 }
 
 #[test]
 fn after_an_error_of_a_serial_call_nothing_is_called(rt: HostRuntime) {
-    let alloc = rt.alloc();
-    for (planned, rule) in [(4, Rule::Serial), (1, Rule::Parallel)] {
-        let four = pool(&rt, alloc, 4, planned).expect(&rt, "a pool");
-        let explorer = Explorer::by_rule(&four, rule).expect(&rt, "memory for a handle");
-        ends_serially(&rt, alloc, &explorer);
-    }
+    all_end(&rt, Way::Sequential);
+    all_end(&rt, Way::Explorer(Rule::Serial, 4, 4));
+    all_end(&rt, Way::Explorer(Rule::Parallel, 4, 1));
 }
 
 // What is known of a list of which one of the first items fails while another segment is under way.
@@ -217,8 +187,8 @@ fn segments<'a>(alloc: Global, known: &'a Known) -> Result<Vec<Kept<'a>>, Fault>
 }
 
 // The trouble of such a call over a list of such items.
-fn trouble_of<Rt: Threads + Wait + Sync, S: Strategy, M, I: Source<M>>(
-    on: &On<'_, Rt, S, Site>,
+fn trouble_of<Rt: Runtime, M, I: Source<M>>(
+    on: &Here<'_, Rt, Noting>,
     called: Called,
     source: I,
 ) -> Option<Trouble<u32>>
@@ -227,24 +197,36 @@ where
     requires { I.can source }
 {
     match called {
-        Called::TryMap => on.try_map(source, hand_over).err(),
-        _ => on.try_fold(source, no_count, count_over, add_counts).err(),
+        Called::TryMap => on
+            .strategy
+            .try_map_collect_vec(on.rt, on.alloc, on.site, source, hand_over)
+            .err(),
+        _ => on
+            .strategy
+            .try_fold(
+                on.rt, on.alloc, on.site, source, no_count, count_over, add_counts,
+            )
+            .err(),
     }
 }
 
 // How many other items were handed over, of a list or an iterator, and the call's trouble.
-fn other_calls<Rt: Threads + Wait + Abort + Sync, S: Strategy>(
-    on: &On<'_, Rt, S, Site>,
+fn other_calls(
+    rt: &impl Test,
     called: Called,
+    threads: usize,
     is_iterator: bool,
     (segment, fails): (usize, usize),
 ) -> (usize, Option<Trouble<u32>>) {
-    let known = Known::new(on.strategy.thread_number().get(), segment, fails);
-    let items = segments(on.alloc, &known).expect(on.rt, "memory for items");
+    let alloc = rt.alloc();
+    let strategy = &Noting::new(alloc, threads).expect(rt, "a log");
+    let on = called_here(rt, strategy);
+    let known = Known::new(threads, segment, fails);
+    let items = segments(alloc, &known).expect(rt, "memory for items");
     let trouble = if is_iterator {
-        trouble_of(on, called, items.into_iter())
+        trouble_of(&on, called, items.into_iter())
     } else {
-        trouble_of(on, called, items)
+        trouble_of(&on, called, items)
     };
     (known.calls.load(Ordering::SeqCst), trouble)
 }
@@ -252,24 +234,20 @@ fn other_calls<Rt: Threads + Wait + Abort + Sync, S: Strategy>(
 // At most one other item of each further thread is handed over.
 #[test]
 fn an_error_is_known_before_what_is_left_of_its_segment_is_let_go(rt: HostRuntime) {
-    let alloc = rt.alloc();
-    for (called, threads, is_iterator, segment, fails) in [
-        (Called::TryMap, 2, false, 4, 0),
-        (Called::TryMap, 2, false, 4, 1),
-        (Called::TryMap, 2, false, 4, 2),
-        (Called::TryMap, 9, true, 4, 0),
-        (Called::TryMap, 9, false, 10_000, 2),
-        (Called::TryFold, 2, false, 4, 0),
-        (Called::TryFold, 2, false, 4, 1),
-        (Called::TryFold, 2, false, 4, 2),
-        (Called::TryFold, 9, true, 4, 0),
-        (Called::TryFold, 9, false, 10_000, 2),
-    ] {
-        let noting = Noting::new(alloc, threads).expect(&rt, "a log");
-        let on = on(&rt, alloc, &noting);
-        let (calls, trouble) = other_calls(&on, called, is_iterator, (segment, fails));
-        let found = (0 < calls && calls < threads, trouble);
-        let wanted = (true, Some(Trouble::Closure(7)));
-        row(&rt, (called, threads, segment, fails, calls), found, wanted);
+    for called in [Called::TryMap, Called::TryFold] {
+        for (threads, is_iterator, segment, fails) in [
+            (2, false, 4, 0),
+            (2, false, 4, 1),
+            (2, false, 4, 2),
+            (9, true, 4, 0),
+            (9, false, 10_000, 2),
+        ] {
+            let ends = (segment, fails);
+            let (calls, trouble) = other_calls(&rt, called, threads, is_iterator, ends);
+            let found = (0 < calls && calls < threads, trouble);
+            let wanted = (true, Some(Trouble::Closure(7)));
+            let of = (threads, segment, fails, calls);
+            equal(&rt, "an error", (of, found), (of, wanted));
+        }
     }
 }

@@ -1,372 +1,359 @@
-//! That as many closures of a call are under way at once as the strategy has threads, and no more:
-//! those of lists, sorts, joins, batches, tiles, trees and jobs.
-ghost use Rattle.std.specs.Prelude.{◌≡◌, ⊤};
-
-use crate::checks::{returns, row};
-use commonware_parallel::mocks::Explorer;
-use commonware_parallel::{Fault, Job, On, Rayon, Site, Strategy, Trouble};
-use std::alloc::Global;
-use std::num::NonZeroUsize;
-use std::process::Abort;
-use std::sync::{Arc, Wait};
-use std::thread::Threads;
-use test_calls::calls::{CALLS, Called};
-use test_calls::clocks::{Stepping, learning};
-use test_calls::every_call::{numbers, on};
+//! That as many closures of a call are under way at once as the strategy has threads, and no more;
+//! how often a list is cut, once less often than it has segments, of which there are at most twice
+//! as many as threads; and how often a call calls its closures and begins a state.
+use crate::checks::{Test, all_acts, row, through};
+use commonware_parallel::mocks::Rule;
+use test_calls::acts::Act;
+use test_calls::calls::Called;
 use test_calls::meetings::Meeting;
-use test_calls::noting::Noting;
-use test_calls::other_calls::{
-    BATCHES, FILLINGS, Filling, PART, change, fill, join, root, run_batch, sort,
-};
-use test_calls::roots::{ROOTED, Rooted};
-use test_calls::sources::{FEW, Given, SOURCES, is_made, leaves, make_over, make_over_few};
-use test_calls::strategies::{SITE, pool};
-use test_calls::visits::Visitor;
-use uses::spawned_jobs::answer_beside;
+use test_calls::others::{Batched, Filling, PART, Rooted};
+use test_calls::sources::Given;
+use test_calls::visits::{Times, Visitor};
+use test_calls::ways::{Row, THREADS, Through, Way, threads_between};
 
-// For how many turns a meeting goes on, so that one too many may come.
-const TURNS: u32 = 1000;
-
-// The same of that many threads: one of more than four doesn't go on, as it would take long.
+// For how many turns a meeting goes on, so that one too many may come. One of more than four
+// threads doesn't go on, as it would take long.
 fn turns(threads: usize) -> u32 {
-    if threads > 4 { 0 } else { TURNS }
+    if threads > 4 { 0 } else { 20 }
 }
 
-// A number for few threads, and one for many.
-fn by_threads(threads: usize, few: usize, many: usize) -> usize {
-    if threads > 8 { many } else { few }
+// The greatest power of two that isn't above the number, which isn't 0. A list of about as many
+// items as there are threads, tiles, and the levels of a tree needn't be shared by all of them
+// where their number is no power of two.
+pub fn power_within(number: usize) -> usize {
+    let halvings = number.checked_ilog2().unwrap_or(0);
+    1usize.checked_shl(halvings).unwrap_or(1)
 }
 
-// Stops the test where the closures of a list call didn't meet, or where more met than there are
-// threads.
-fn met<Rt: Abort>(
-    rt: &Rt,
-    (called, given, len): (Called, Given, usize),
-    made: Result<(), Trouble<u32>>,
-    meeting: &Meeting,
-) {
-    let found = (made, meeting.most());
-    let wanted = (Ok(()), meeting.wanted());
-    row(rt, (called, given, len, meeting.wanted()), found, wanted);
-}
-
-// How many of that many segments, of one item each or few more, are under way at once. A list is
-// halved, and its threads with it, the fewer ones to the outer quarters: where a quarter that is
-// one item has got threads to share, some of them are left without any.
-fn workers_at_once(threads: usize, segments: usize) -> usize {
-    match (threads, segments) {
-        (5, 5 | 6) => 4,
-        (6, 6) => 5,
-        (9, 9..=14) => 8,
-        (12, 10) => 9,
-        (12, 11 | 12) => 10,
-        (12, 13 | 14) => 11,
-        (17, 17..=30) => 16,
-        (65, 65..=126) => 64,
-        _ => threads.min(segments),
+// How many closures meet, at least and at most, of a call over that many parts.
+fn bounds(act: Act, threads: usize, parts: usize) -> (usize, usize) {
+    let most = threads.min(parts);
+    let is_even = threads == 0 || parts % threads == 0;
+    match act {
+        Act::Join => (2, 2),
+        // It has as many ranges as are planned for its threads, once or twice.
+        Act::Batch(..) if !is_even => (power_within(most), threads),
+        Act::Batch(..) => (threads, threads),
+        // Chunks of as many items as a share has, which needn't be as many as there are threads.
+        Act::Change(_) if !is_even => (most.div_ceil(2), most),
+        Act::Change(_) | Act::Sort(_) => (most, most),
+        Act::List(..) if parts >= threads.saturating_mul(2) => (threads, threads),
+        _ => (power_within(most), most),
     }
 }
 
-// The same of all list calls over that many items of each source.
-fn items_meet<Rt: Threads + Wait + Abort + Sync, S: Strategy>(
-    on: &On<'_, Rt, S, Site>,
-    len: usize,
-    turns: u32,
-) {
-    let (rt, threads) = (on.rt, on.strategy.thread_number().get());
-    for called in CALLS {
-        for given in SOURCES {
-            if is_made(called, given) {
-                let meeting = Meeting::of(threads, turns);
-                let made = make_over(on, called, given, len, Visitor::Meets(&meeting));
-                met(rt, (called, given, len), made, &meeting);
-            }
+// How many items so many parts of a call have.
+fn items(act: Act, parts: usize) -> usize {
+    match act {
+        Act::Sort(_) => parts.saturating_mul(PART),
+        Act::Change(2) => parts.saturating_mul(2),
+        Act::Tree(_) => parts.saturating_mul(16).wrapping_add(5),
+        _ => parts,
+    }
+}
+
+// Stops the test where fewer closures of a call meet, or more.
+fn meet(rt: &impl Test, through: &Through, of: Row, (least, most): (usize, usize)) {
+    let meeting = Meeting::of(least, turns(most));
+    let made = through.does(rt, of.act, of.len, Visitor::Meets(&meeting));
+    let met = meeting.most();
+    row(rt, of, (made, met), (Ok(()), met.max(least).min(most)));
+}
+
+// A meeting for each level of a tree of so many leaves.
+fn levels_of(rt: &impl Test, threads: usize, leaves: usize) -> Vec<Meeting> {
+    let mut levels = Vec::new(rt.alloc());
+    let mut nodes = leaves;
+    for _ in 0..64u32 {
+        if nodes > 1 {
+            let (least, most) = level_bounds(threads, nodes);
+            let meeting = Meeting::of(least, turns(most));
+            levels.push(meeting).expect(rt, "memory for meetings");
+            nodes = nodes.div_ceil(2);
         }
     }
+    levels
 }
 
-#[test]
-fn as_many_items_of_each_source_meet_as_there_are_threads(rt: HostRuntime) {
-    let alloc = rt.alloc();
-    for (threads, len, turns) in [
-        (2, 1000, TURNS),
-        (3, 6, 0),
-        (3, 100, TURNS),
-        (4, 4, 0),
-        (4, 8, TURNS),
-        (4, 1000, 0),
-        (2, 100_000, 0),
-        (16, 100, 0),
-    ] {
-        let own = Noting::new(alloc, threads).expect(&rt, "a log");
-        items_meet(&on(&rt, alloc, &own), len, turns);
+// How many pairs of a level of so many nodes meet.
+fn level_bounds(threads: usize, nodes: usize) -> (usize, usize) {
+    let pairs = nodes / 2;
+    let most = threads.min(pairs);
+    if pairs < threads.saturating_mul(2) {
+        (power_within(most), most)
+    } else {
+        (threads, threads)
     }
 }
 
-// The lengths: one item for each thread, two, and many.
-fn lengths(threads: usize) -> [usize; 4] {
-    let more = by_threads(threads, 100, threads.saturating_mul(10));
-    let long = by_threads(threads, 1000, 20_000);
-    [threads, threads.saturating_mul(2), more, long]
+// Whether threads come to a level of so many nodes of a tree when each is done with a long block,
+// maybe long after one another.
+fn is_late(leaves: usize, nodes: usize) -> bool {
+    leaves > 100_000 && nodes < 1000
 }
 
-// The same over few sources, fewer items than there are segments, and as many as there are threads.
-fn few_items_meet<Rt: Threads + Wait + Abort + Sync, S: Strategy>(on: &On<'_, Rt, S, Site>) {
-    let (rt, threads) = (on.rt, on.strategy.thread_number().get());
-    let many = by_threads(threads, 100, threads.saturating_mul(10));
-    for called in CALLS {
-        for given in FEW {
-            for len in [threads / 2, threads, threads.wrapping_add(1), many] {
-                let wanted = workers_at_once(threads, len);
-                let meeting = Meeting::of(wanted, turns(threads));
-                let made = make_over_few(on, called, given, len, Visitor::Meets(&meeting));
-                met(rt, (called, given, len), made, &meeting);
-            }
-        }
-    }
-}
-
-// The same of each sort: of a list that has just as many parts as there are threads.
-fn parts_of_sorts_meet<Rt: Threads + Wait + Abort + Sync, S: Strategy>(on: &On<'_, Rt, S, Site>) {
-    let (rt, threads) = (on.rt, on.strategy.thread_number().get());
-    for sorted in [true, false] {
-        let mut numbers = numbers(on.alloc, threads.saturating_mul(PART)).expect(rt, "memory");
-        let meeting = Meeting::of(threads, turns(threads));
-        let visitor = Visitor::MeetsEarly(&meeting);
-        let outcome = sort(on, sorted, numbers.as_mut_slice(), visitor);
-        returns(rt, sorted, outcome, ());
-        let found = (meeting.most(), numbers.is_sorted());
-        row(rt, (sorted, threads), found, (threads, true));
+// The same of the pairs of each level of a tree, of sixteen leaves a thread and more, of which
+// there are blocks.
+fn pairs_meet(rt: &impl Test, through: &Through, of: Row, threads: usize) {
+    let levels = levels_of(rt, threads, of.len);
+    let made = through.does(rt, of.act, of.len, Visitor::MeetsByLevel(levels.as_slice()));
+    row(rt, of, made, Ok(()));
+    let mut nodes = of.len;
+    for meeting in levels.iter() {
+        let (least, most) = level_bounds(threads, nodes);
+        let least = if is_late(of.len, nodes) { 1 } else { least };
+        let met = meeting.most();
+        row(rt, of, (nodes, met), (nodes, met.max(least).min(most)));
+        nodes = nodes.div_ceil(2);
     }
 }
 
 // The same of the first round in which parts of a sort are merged: half as many meet, whose
 // comparisons are of numbers of two parts.
-fn merges_of_sorts_meet<Rt: Threads + Wait + Abort + Sync, S: Strategy>(on: &On<'_, Rt, S, Site>) {
-    let (rt, threads) = (on.rt, on.strategy.thread_number().get());
-    let halves = threads / 2;
-    for sorted in [true, false] {
-        let mut numbers = numbers(on.alloc, threads.saturating_mul(PART)).expect(rt, "memory");
-        let levels = [Meeting::of(halves, 0)];
-        let visitor = Visitor::MeetsByLevel(&levels);
-        let outcome = sort(on, sorted, numbers.as_mut_slice(), visitor);
-        returns(rt, sorted, outcome, ());
-        let found = (levels[0].most() >= halves, numbers.is_sorted());
-        row(rt, (sorted, halves), found, (true, true));
+fn merges_meet(rt: &impl Test, through: &Through, of: Row, threads: usize) {
+    let levels = [Meeting::of(threads / 2, 0)];
+    let made = through.does(rt, of.act, of.len, Visitor::MeetsByLevel(&levels));
+    let met = levels[0].most();
+    row(rt, of, (made, met), (Ok(()), met.max(threads / 2)));
+}
+
+// The same of a call over so many parts.
+fn call_meets(rt: &impl Test, through: &Through, of: Row, (threads, parts): (usize, usize)) {
+    let of = Row {
+        len: items(of.act, parts),
+        ..of
+    };
+    match of.act {
+        // One of its bodies runs.
+        Act::Run(_) => {}
+        // A batch of one range is whole, and not shared.
+        Act::Batch(..) if parts < 2 => {}
+        Act::Sort(_) if parts == threads && threads < 64 => {
+            meet(rt, through, of, (threads, threads));
+            merges_meet(rt, through, of, threads);
+        }
+        // More parts than threads take long, and of 64 each thread that is started gets two.
+        Act::Sort(_) => {}
+        Act::Tree(_) => pairs_meet(rt, through, of, threads),
+        act => meet(rt, through, of, bounds(act, threads, parts)),
     }
 }
 
-// The same of a change in place: of items, and of chunks, which are short on few threads.
-fn changes_meet<Rt: Threads + Wait + Abort + Sync, S: Strategy>(on: &On<'_, Rt, S, Site>) {
-    let (rt, threads) = (on.rt, on.strategy.thread_number().get());
-    for len in lengths(threads) {
-        for size in [1, by_threads(threads, 2, 100)] {
-            let mut numbers = numbers(on.alloc, len.saturating_mul(size)).expect(rt, "memory");
-            let meeting = Meeting::of(threads, turns(threads));
-            let visitor = Visitor::Meets(&meeting);
-            let changed = change(on, size, numbers.as_mut_slice(), visitor);
-            let found = (changed, meeting.most());
-            row(rt, (size, len), found, (Ok(()), threads));
+// The same of each call, over all sources or one's own alone, as the others take long; and of tiles
+// on one row, which is cut.
+fn all_meet(rt: &impl Test, (way, threads): (Way, usize), is_whole: bool, parts: &[usize]) {
+    let through = through(rt, way);
+    for act in all_acts(rt) {
+        if is_whole || act.is_over_own() {
+            for share in parts {
+                call_meets(rt, &through, Row::of(way, act, 0), (threads, *share));
+            }
         }
     }
-}
-
-// The same of a join, which has two closures.
-fn sides_of_a_join_meet<Rt: Threads + Wait + Abort + Sync, S: Strategy>(on: &On<'_, Rt, S, Site>) {
-    let rt = on.rt;
-    let meeting = Meeting::of(2, TURNS);
-    row(rt, "join", join(on, Visitor::Meets(&meeting)), Ok(()));
-    row(rt, "join", meeting.most(), 2);
-}
-
-// The same of what is prepared of a batch, which has as many ranges as are planned.
-fn ranges_meet<Rt: Threads + Wait + Abort + Sync, S: Strategy>(on: &On<'_, Rt, S, Site>) {
-    let (rt, threads) = (on.rt, on.strategy.thread_number().get());
-    let planned = on.strategy.planning().get();
-    for len in lengths(threads) {
-        for batched in BATCHES {
-            let meeting = Meeting::of(threads, turns(threads));
-            let visitor = Visitor::Meets(&meeting);
-            let mapped = run_batch(on, batched, len, NonZeroUsize::MIN, visitor);
-            let found = (mapped, meeting.most());
-            row(rt, (batched, len), found, (Ok(planned.min(len)), threads));
-        }
+    for filling in [Filling::Stretches, Filling::Rows, Filling::Kernel] {
+        let act = Act::Fill(filling, 20_000);
+        let bounds = (power_within(threads), threads);
+        meet(rt, &through, Row::of(way, act, 1), bounds);
     }
 }
 
-// The same of the fills of tiles on rows that are too short to be cut: as many meet as there are
-// rows, where these are fewer than workers, which are a list with an item for each thread. Then of
-// one row, which is cut.
-fn fills_meet<Rt: Threads + Wait + Abort + Sync, S: Strategy>(
-    on: &On<'_, Rt, S, Site>,
-    filling: Filling,
-) {
-    let (rt, threads) = (on.rt, on.strategy.thread_number().get());
-    let many = by_threads(threads, 100, 1000);
-    let workers = workers_at_once(threads, threads);
-    for rows in [2, threads, threads.saturating_mul(2), many] {
-        let meeting = Meeting::of(workers.min(rows), turns(threads));
-        let filled = fill(on, filling, rows, 10, Visitor::Meets(&meeting));
-        let found = (filled, meeting.most());
-        let wanted = (Ok(rows), workers.min(rows));
-        row(rt, (filling, rows, threads), found, wanted);
-    }
-    let meeting = Meeting::of(workers, turns(threads));
-    let columns = by_threads(threads, 1000, 20_000);
-    let filled = fill(on, filling, 1, columns, Visitor::Meets(&meeting));
-    let found = (filled.is_ok(), meeting.most());
-    row(rt, (filling, "cut", threads), found, (true, workers));
-}
-
-// A meeting for each level of a tree.
-fn levels_of(alloc: Global, threads: usize, leaves: usize) -> Result<Vec<Meeting>, Fault> {
-    let mut levels = Vec::new(alloc);
-    let mut nodes = leaves;
-    for _ in 0..64u32 {
-        if nodes > 1 {
-            let wanted = workers_at_once(threads, nodes / 2);
-            levels.push(Meeting::of(wanted, turns(threads)))?;
-            nodes = nodes.div_ceil(2);
-        }
-    }
-    Ok(levels)
-}
-
-// The same of the pairs of each level of a tree: as many meet as there are pairs, where these are
-// fewer than threads.
-fn pairs_meet<Rt: Threads + Wait + Abort + Sync, S: Strategy>(
-    on: &On<'_, Rt, S, Site>,
-    rooted: Rooted,
-) {
-    let (rt, threads) = (on.rt, on.strategy.thread_number().get());
-    // Of sixteen leaves a thread, and more, there are blocks.
-    for share in [16, 37] {
-        let count = threads.saturating_mul(share);
-        let levels = levels_of(on.alloc, threads, count).expect(rt, "memory for meetings");
-        let visited = Visitor::MeetsByLevel(levels.as_slice());
-        let leaves = leaves(on.alloc, count).expect(rt, "memory for leaves");
-        let found = root(on, rooted, leaves, visited).expect(rt, "memory for nodes");
-        row(rt, (rooted, count), found, Some(levels.len()));
-        for (level, meeting) in levels.iter().enumerate() {
-            let of = (rooted, count, level, threads);
-            row(rt, of, meeting.most(), meeting.wanted());
-        }
-    }
-}
-
-// A job that comes to a meeting.
-#[derive(Drop)]
-struct Attends {
-    meeting: Arc<Meeting, Global>,
-}
-
-impl<S: Drop> Job<S, u32> for Attends {
-    ghost may_run = { λ _ _. ⊤ };
-
-    ghost may_answer = { λ _ _ answer. answer ≡ 7 };
-
-    fn run_on(self, _strategy: S) -> u32 {
-        self.meeting.attend();
-        7
-    }
-}
-
-// Stops the test where jobs, each handed off after the one before, don't meet their caller.
-fn jobs_meet_their_caller<Rt: Threads + Wait + Abort + Copy + Send + 'static, S: Strategy>(
-    rt: &Rt,
-    alloc: Global,
-    strategy: &S,
-) {
-    for jobs in [1usize, 2, 3] {
-        let all = jobs.wrapping_add(1);
-        let meeting = Meeting::of(all, 0);
-        let meeting = Arc::new(alloc, meeting).expect(rt, "memory for a meeting");
-        for job in 0..jobs {
-            let meeting = Arc::try_clone(&meeting).expect(rt, "a handle");
-            let spawned = strategy.spawn(rt, alloc, SITE, 1, Attends { meeting });
-            row(rt, ("job", job), spawned.is_ok(), true);
-        }
-        meeting.attend();
-        row(rt, ("jobs", jobs), meeting.most(), all);
-    }
-}
-
-// Stops the test where the closures of any other call don't meet, or where too many do.
-fn all_meet<Rt: Threads + Wait + Abort + Sync, S: Strategy>(rt: &Rt, alloc: Global, strategy: &S) {
-    let on = on(rt, alloc, strategy);
-    few_items_meet(&on);
-    parts_of_sorts_meet(&on);
-    merges_of_sorts_meet(&on);
-    changes_meet(&on);
-    sides_of_a_join_meet(&on);
-    ranges_meet(&on);
-    for filling in FILLINGS {
-        fills_meet(&on, filling);
-    }
-    for rooted in ROOTED {
-        pairs_meet(&on, rooted);
-    }
-}
-
+// Over eight items by one's own producer, and by each source.
 #[test]
 fn as_many_closures_of_each_call_meet_as_there_are_threads(rt: HostRuntime) {
-    let alloc = rt.alloc();
-    for threads in [2usize, 4, 5] {
-        let own = Noting::new(alloc, threads).expect(&rt, "a log");
-        own.log().hand_off();
-        all_meet(&rt, alloc, &own);
-        jobs_meet_their_caller(&rt, alloc, &own);
-        let pool = pool(&rt, alloc, threads, threads).expect(&rt, "a pool");
-        jobs_meet_their_caller(&rt, alloc, &pool);
-        let explorer = Explorer::parallel(&pool).expect(&rt, "memory for a handle");
-        all_meet(&rt, alloc, &explorer);
-        jobs_meet_their_caller(&rt, alloc, &explorer);
+    all_meet(&rt, (Way::Noting(4), 4), true, &[8]);
+    all_meet(&rt, (Way::Noting(4), 4), false, &[2, 4, 5]);
+}
+
+// By this clock each run takes so long that its policy keeps it parallel.
+#[test]
+fn as_many_meet_whatever_the_strategy(rt: HostRuntime) {
+    for way in [
+        Way::Explorer(Rule::Parallel, 4, 4),
+        Way::Learning(4, 2_500_000),
+        Way::Pool(4, 8),
+    ] {
+        all_meet(&rt, (way, 4), false, &[4, 40]);
     }
-    // By this clock each run takes so long that its policy keeps it parallel.
-    let slow = learning(
-        &rt,
-        alloc,
-        Stepping::new(alloc, 2_500_000).expect(&rt, "a clock"),
-    )
-    .expect(&rt, "a pool");
-    all_meet(&rt, alloc, &slow);
+    // A join goes in parallel whatever its pool is planned for.
+    let way = Way::Pool(2, 1);
+    meet(&rt, &through(&rt, way), Row::of(way, Act::Join, 2), (2, 2));
+}
+
+// The same by each of these numbers of threads, of as many parts and of ten times as many.
+fn numbers_meet(rt: &impl Test, least: usize, most: usize) {
+    for threads in threads_between(least, most) {
+        let parts = [*threads, threads.saturating_mul(10)];
+        all_meet(rt, (Way::Pool(*threads, *threads), *threads), false, &parts);
+    }
 }
 
 #[test]
 fn as_many_meet_whatever_the_number_of_threads(rt: HostRuntime) {
-    let alloc = rt.alloc();
-    for threads in [3usize, 6, 8] {
-        all_meet(
-            &rt,
-            alloc,
-            &pool(&rt, alloc, threads, threads).expect(&rt, "a pool"),
-        );
-    }
+    numbers_meet(&rt, 2, 6);
+}
+
+#[test]
+fn as_many_meet_of_more_threads(rt: HostRuntime) {
+    numbers_meet(&rt, 7, 12);
 }
 
 #[test]
 fn many_threads_meet_and_as_many_where_more_are_planned(rt: HostRuntime) {
-    let alloc = rt.alloc();
-    all_meet(&rt, alloc, &pool(&rt, alloc, 17, 17).expect(&rt, "a pool"));
-    few_items_meet(&on(&rt, alloc, &pool(&rt, alloc, 12, 12).expect(&rt, "a pool")));
-    // More than one thread starts in a row.
-    let most = pool(&rt, alloc, 65, 65).expect(&rt, "a pool");
-    few_items_meet(&on(&rt, alloc, &most));
-    changes_meet(&on(&rt, alloc, &most));
-    let four = pool(&rt, alloc, 4, 8).expect(&rt, "a pool");
-    few_items_meet(&on(&rt, alloc, &four));
-    ranges_meet(&on(&rt, alloc, &four));
+    numbers_meet(&rt, 17, 65);
+}
+
+// What is tried together of the long calls, each in a test of its own, as it takes long.
+#[derive(Clone, Copy, PartialEq, Eq)]
+enum Group {
+    Maps,
+    Folds,
+    Sources,
+    Sorts,
+    Changes,
+    Tiles,
+    Trees,
+    // One of its bodies runs, or, as each list call has one body for all sources, another source.
+    None,
+}
+
+// The group of a call, and how many items it is over: a million, but of those that take long for
+// each. The other list calls, the other tiles and a tree by levels have bodies that these stand
+// for.
+fn group_of(act: Act) -> (Group, usize) {
+    match act {
+        Act::List(Called::Map, Given::OwnProducer) => (Group::Maps, 1_000_001),
+        Act::List(Called::Fold, Given::OwnProducer) => (Group::Folds, 1_000_001),
+        Act::List(Called::FoldInit | Called::TryFold | Called::Partition, Given::OwnProducer) => {
+            (Group::Folds, 300_001)
+        }
+        Act::List(_, Given::OwnProducer) => (Group::Maps, 300_001),
+        Act::List(..) if act.may_fail() => (Group::Sources, 100_001),
+        Act::List(..) | Act::Run(_) => (Group::None, 0),
+        Act::Sort(_) => (Group::Sorts, 300_001),
+        Act::Fill(Filling::Stretches, _) => (Group::Tiles, 300_001),
+        Act::Fill(..) => (Group::Tiles, 10_001),
+        Act::Tree(Rooted::ByBlocks) => (Group::Trees, 300_001),
+        Act::Tree(_) => (Group::Trees, 10_001),
+        _ => (Group::Changes, 1_000_001),
+    }
+}
+
+// Stops the test where two closures of such a call don't meet, or more. Two threads share it, and a
+// batch has a hundred ranges.
+fn long_calls_meet(rt: &impl Test, group: Group) {
+    let way = Way::Pool(2, 100);
+    let through = through(rt, way);
+    for act in all_acts(rt) {
+        let (own, len) = group_of(act);
+        let of = Row { way, act, len };
+        match act {
+            _ if own != group => {}
+            Act::Tree(_) => pairs_meet(rt, &through, of, 2),
+            _ => meet(rt, &through, of, (2, 2)),
+        }
+    }
 }
 
 #[test]
-fn a_caller_goes_on_while_its_job_runs(rt: HostRuntime) {
-    let alloc = rt.alloc();
-    let two = pool(&rt, alloc, 2, 2).expect(&rt, "a pool");
-    let meeting = Meeting::of(2, 0);
-    let meeting = Arc::new(alloc, meeting).expect(&rt, "memory for a meeting");
-    let shared = Arc::try_clone(&meeting).expect(&rt, "a handle");
-    let job = Attends { meeting: shared };
-    let both = answer_beside(&rt, &two, SITE, 1, job, || meeting.attend());
-    row(&rt, "both", both.is_ok(), true);
-    row(&rt, "both", meeting.most(), 2);
+fn two_closures_of_each_long_map_meet(rt: HostRuntime) {
+    long_calls_meet(&rt, Group::Maps);
+}
+
+#[test]
+fn two_closures_of_each_long_fold_meet(rt: HostRuntime) {
+    long_calls_meet(&rt, Group::Folds);
+}
+
+#[test]
+fn two_closures_over_each_long_source_meet(rt: HostRuntime) {
+    long_calls_meet(&rt, Group::Sources);
+}
+
+#[test]
+fn two_closures_of_each_long_sort_meet(rt: HostRuntime) {
+    long_calls_meet(&rt, Group::Sorts);
+}
+
+#[test]
+fn two_closures_of_each_long_change_and_batch_meet(rt: HostRuntime) {
+    long_calls_meet(&rt, Group::Changes);
+}
+
+#[test]
+fn two_closures_of_long_tiles_meet(rt: HostRuntime) {
+    long_calls_meet(&rt, Group::Tiles);
+}
+
+#[test]
+fn two_closures_of_long_trees_meet(rt: HostRuntime) {
+    long_calls_meet(&rt, Group::Trees);
+}
+
+// How often a call calls its closures, but one whose comparisons nobody has counted.
+pub fn closures(act: Act, len: usize, planned: usize) -> Option<usize> {
+    match act {
+        Act::Sort(_) => None,
+        Act::Join => Some(2),
+        Act::Run(_) => Some(1),
+        Act::Change(2) => Some(len.div_ceil(2)),
+        Act::Batch(Batched::Change, _) => Some(planned),
+        Act::Batch(..) => Some(planned.saturating_mul(3)),
+        Act::Tree(_) => Some(len.saturating_sub(1)),
+        _ => Some(len),
+    }
+}
+
+// Into how many segments a list is cut by that many threads.
+fn segments(threads: usize) -> usize {
+    match threads {
+        1 => 2,
+        2 | 3 => 4,
+        4..8 => 8,
+        8..16 => 16,
+        16..32 => 32,
+        _ => 128,
+    }
+}
+
+// How many states a call begins: one for each segment, or for each worker of tiles.
+fn states(act: Act, segments: usize, workers: usize) -> usize {
+    match act {
+        Act::List(Called::MapInit | Called::MultipliedMapInit | Called::FoldInit, _) => segments,
+        Act::Fill(Filling::Stretches | Filling::Rows, _) => workers,
+        _ => 0,
+    }
+}
+
+// Stops the test where a call doesn't cut its list into so many segments, call its closure once for
+// each item, and begin a state for each segment. Only the list of one's own tells its cuts.
+fn cuts(rt: &impl Test, way: Way, (threads, segments): (usize, usize), len: usize) {
+    let through = through(rt, way);
+    for act in all_acts(rt) {
+        let is_own = matches!(act, Act::List(_, Given::OwnProducer));
+        // Only one of one's own tells its cuts. (By four threads the states over others are
+        // counted.)
+        if !is_own && (len > 1000 || !act.is_over_own() && threads != 4) {
+            continue;
+        }
+        let of = Row { way, act, len };
+        let times = Times::new();
+        let made = through.does(rt, act, len, Visitor::Counts(&times));
+        let cut = segments.saturating_sub(1).wrapping_mul(usize::from(is_own));
+        let states = states(act, segments, threads);
+        let calls = closures(act, len, threads).unwrap_or(times.items());
+        let found = (made, times.counted());
+        row(rt, of, found, (Ok(()), [calls, states, cut]));
+    }
+}
+
+#[test]
+fn each_list_call_cuts_a_list_into_segments_and_begins_a_state_for_each(rt: HostRuntime) {
+    for threads in THREADS {
+        let of = (threads, segments(threads));
+        cuts(&rt, Way::Noting(threads), of, 1000);
+    }
+    cuts(&rt, Way::Noting(4), (4, 8), 100_000);
+    // What goes serially is one segment.
+    cuts(&rt, Way::Explorer(Rule::Serial, 4, 4), (1, 1), 1000);
+    cuts(&rt, Way::Explorer(Rule::Parallel, 4, 1), (1, 1), 1000);
 }

@@ -1,200 +1,213 @@
-//! List calls over more items than a block for all of them is to be had for: a fold needs none, and
-//! a map is refused before it calls anything.
-use crate::checks::row;
-use crate::lines::has;
+//! Calls over more items than a block for all of them is to be had for: which need none, and that
+//! the others are refused before they call anything.
+use crate::asks::{BEGUN, DROPPED, asked};
+use crate::checks::{Test, all_acts, equal, has, row, through};
+use crate::meets::closures;
 use commonware_parallel::mocks::{Explorer, Rule};
-use commonware_parallel::{Call, Chooser, Fault, Indices, On, Site, Source, Strategy, Trouble};
-use std::alloc::Global;
-use std::process::Abort;
-use std::sync::Wait;
-use std::thread::Threads;
-use test_calls::calls::{CALLS, Called, MULTIPLIER, make};
-use test_calls::every_call::on;
-use test_calls::logs::{BEGUN, DROPPED, OUTER, asked_at};
+use commonware_parallel::{Call, Fault, Strategy, Trouble};
+use test_calls::acts::{Act, does};
+use test_calls::calls::{CALLS, Called, Outcome, called_here};
 use test_calls::noting::Noting;
-use test_calls::other_calls::root;
-use test_calls::roots::Rooted;
-use test_calls::sources::leaves;
-use test_calls::steps::nothing;
-use test_calls::strategies::pool;
+use test_calls::others::{Filling, Rooted};
+use test_calls::sources::Given;
 use test_calls::visits::{Times, Visitor};
+use test_calls::ways::{Row, Through, Way};
+use test_strategies::pool;
 use test_support::no_memory::all_places;
 
-// How many items each list has: they take 2 MiB.
-const LEN: usize = 262_144;
+// How many items each call has: their results take more than 1 MiB.
+const LEN: usize = 140_000;
 
-// The outcome of such a call, and how often its closures were called.
-type Outcome = (Result<(), Trouble<u32>>, (usize, usize));
-
-fn outcome<Rt: Threads + Wait + Sync, S: Strategy, M, I: Source<M>>(
-    on: &On<'_, Rt, S, Site>,
-    called: Called,
-    source: I,
-) -> Outcome
-    requires { I.can source }
-{
-    let closures = Times::new();
-    let made = make(on, called, source, Visitor::Counts(&closures));
-    (made, closures.counted())
-}
-
-// That of a fold which calls its closure for each item, and begins a state for each segment where
-// it has some.
-fn folded(called: Called, segments: usize) -> Outcome {
-    let states = match called {
-        Called::FoldInit => segments,
-        _ => 0,
-    };
-    (Ok(()), (LEN, states))
-}
-
-// Stops the test where a call over a list that is cut as it is takes a block for its items, or
-// where one that needs a block for its results calls a closure. (A partition by whose closure all
-// items pass, with values that take no place, needs none.)
-fn cut_lists_take_no_block<Rt: Threads + Wait + Abort + Sync, S: Strategy>(
-    rt: &Rt,
-    alloc: Global,
-    strategy: &S,
-) {
-    let on = on(rt, alloc, strategy);
-    for called in CALLS {
-        let indices = Indices { start: 0, end: LEN };
-        let found = outcome(&on, called, indices);
-        let wanted = match called {
-            Called::Fold | Called::FoldInit | Called::TryFold => folded(called, 8),
-            Called::Partition => (Ok(()), (LEN, 0)),
-            _ => (Err(Trouble::Fault(Fault::Memory)), (0, 0)),
-        };
-        row(rt, called, found, wanted);
+/// The same of each call: the numbers of a sort take 3 MiB.
+pub fn len_of(act: Act) -> usize {
+    match act {
+        Act::Sort(_) => 786_432,
+        _ => LEN,
     }
 }
 
-// Results of items that take no place: by a map, by one that may fail and by one with a state.
-fn forget<T: Drop>(_item: T) {}
-
-fn forget_or_fail<T: Drop>(_item: T) -> Result<(), u32> {
-    Ok(())
+/// How a call goes: in parallel; serially once its strategy was asked; or serially unasked.
+#[derive(Clone, Copy)]
+pub enum Path {
+    Parallel,
+    Serial,
+    Unasked,
 }
 
-fn forget_by_state<T: Drop>(_state: &mut (), _item: T) {}
-
-// How many such results a map of a source's items has.
-fn mapped<Rt: Threads + Wait + Sync, S: Strategy, M, I: Source<M>>(
-    on: &On<'_, Rt, S, Site>,
-    called: Called,
-    source: I,
-) -> Result<usize, Trouble<u32>>
-    requires { I.can source }
-{
-    let (rt, alloc, site) = (on.rt, on.alloc, on.site);
-    let results = match called {
-        Called::Map => on.map(source, forget)?,
-        Called::MultipliedMap => on
-            .strategy
-            .map_collect_vec_with_multiplier(rt, alloc, site, source, MULTIPLIER, forget)?,
-        Called::MapInit => on.map_init(source, nothing, forget_by_state)?,
-        Called::MultipliedMapInit => on.strategy.map_init_collect_vec_with_multiplier(
-            rt,
-            alloc,
-            site,
-            source,
-            MULTIPLIER,
-            nothing,
-            forget_by_state,
-        )?,
-        _ => on.try_map(source, forget_or_fail)?,
-    };
-    Ok(results.len())
+/// What becomes of a call for which no large block is to be had.
+#[derive(Clone, Copy, Debug, PartialEq, Eq)]
+pub enum Fate {
+    Succeeds,
+    Refused,
+    /// Refused before its strategy is asked, as its items have to be gathered first.
+    RefusedUnasked,
 }
 
-// Stops the test where a serial call gathers the items of an iterator.
-fn serial_calls_gather_nothing<Rt: Threads + Wait + Abort + Sync, S: Strategy>(
-    rt: &Rt,
-    alloc: Global,
-    strategy: &S,
+/// The fate of each call. Maps need a block for their results, and a partition that all items pass,
+/// with values that take no place, needs none.
+pub fn fate_of(act: Act, path: Path) -> Fate {
+    match (act, path) {
+        (Act::List(_, Given::Iterator | Given::OwnSource), Path::Parallel | Path::Serial) => {
+            Fate::RefusedUnasked
+        }
+        (Act::List(_, Given::Counted), Path::Parallel) => Fate::Refused,
+        (Act::List(Called::Fold | Called::FoldInit | Called::TryFold, _), _) => Fate::Succeeds,
+        (Act::List(Called::Partition, _), _) => Fate::Succeeds,
+        (Act::List(..) | Act::Sort(_) | Act::Fill(..), _) => Fate::Refused,
+        (Act::Tree(Rooted::ByLevels), _) => Fate::Refused,
+        _ => Fate::Succeeds,
+    }
+}
+
+/// The calls whose items take no memory, which are made while all large blocks are held; of tiles
+/// those by stretches alone, as each row takes long.
+pub fn bare_acts(rt: &impl Test) -> Vec<Act> {
+    let mut acts = all_acts(rt);
+    acts.retain(|act| act.is_bare()
+        && !matches!(act, Act::Fill(Filling::Rows | Filling::Kernel, _)));
+    acts
+}
+
+/// The others, for each of which the blocks are taken anew, which takes long: so of the list calls
+/// a map and a fold that may fail alone.
+pub fn laden_acts(rt: &impl Test) -> Vec<Act> {
+    let mut acts = all_acts(rt);
+    acts.retain(|act| match act {
+        Act::List(Called::TryFold, _) | Act::List(Called::TryMap, Given::Vector) => !act.is_bare(),
+        Act::List(..) => false,
+        _ => !act.is_bare(),
+    });
+    acts
+}
+
+fn refused() -> Outcome {
+    Err(Trouble::Fault(Fault::Memory))
+}
+
+// Stops the test where a call takes a block that it needs not, or calls a closure before the block
+// that it needs is there.
+fn takes(
+    rt: &impl Test,
+    through: &Through,
+    of: Row,
+    path: Path,
+    (planned, starves): (usize, bool),
 ) {
-    let on = on(rt, alloc, strategy);
-    for called in CALLS {
-        match called {
-            Called::Fold | Called::FoldInit | Called::TryFold | Called::Partition => {
-                row(rt, called, outcome(&on, called, 0..LEN), folded(called, 1));
-            }
-            _ => row(rt, called, mapped(&on, called, 0..LEN), Ok(LEN)),
+    let times = Times::new();
+    let visited = if starves {
+        Visitor::Starves(&times)
+    } else {
+        Visitor::Counts(&times)
+    };
+    let made = through.does(rt, of.act, of.len, visited);
+    let (outcome, calls) = match (fate_of(of.act, path), path) {
+        (Fate::Succeeds, _) => (Ok(()), closures(of.act, of.len, planned)),
+        (_, Path::Parallel) if !matches!(of.act, Act::Fill(..)) => (refused(), Some(0)),
+        // Its results grow as they come.
+        _ => (refused(), None),
+    };
+    let calls = calls.unwrap_or(times.items());
+    row(rt, of, (made, times.items()), (outcome, calls));
+}
+
+/// All places for large blocks but the first one, in which the items of a call have room until the
+/// call itself takes what is left of it.
+pub fn all_but_one(held: Vec<Vec<u8>>) -> Vec<Vec<u8>> {
+    let mut held = held;
+    held.as_mut_slice().reverse();
+    let _first = held.pop();
+    held
+}
+
+// The same of each call whose items take no memory, and of the others.
+fn all_take(rt: &impl Test, path: Path, (bare, laden): ((Way, usize), (Way, usize))) {
+    let (through_bare, through_laden) = (through(rt, bare.0), through(rt, laden.0));
+    let (bare_acts, laden_acts) = (bare_acts(rt), laden_acts(rt));
+    let held = all_places(rt.alloc()).expect(rt, "places that have an end");
+    for act in bare_acts.iter() {
+        let of = Row::of(bare.0, *act, len_of(*act));
+        takes(rt, &through_bare, of, path, (bare.1, false));
+    }
+    let held = all_but_one(held);
+    for act in laden_acts.iter() {
+        // The parts of a sort that go in parallel are too short for such a block.
+        if !matches!((*act, path), (Act::Sort(_), Path::Parallel)) {
+            let of = Row::of(laden.0, *act, len_of(*act));
+            takes(rt, &through_laden, of, path, (laden.1, true));
         }
     }
-}
-
-#[test]
-fn a_call_takes_no_block_for_items_that_it_need_not_gather(rt: HostRuntime) {
-    let alloc = rt.alloc();
-    let four = Noting::new(alloc, 4).expect(&rt, "a log");
-    let one = pool(&rt, alloc, 4, 1).expect(&rt, "a pool");
-    let serial = Explorer::by_rule(&one, Rule::Parallel).expect(&rt, "memory for a handle");
-    let held = all_places(alloc).expect(&rt, "places that have an end");
-    cut_lists_take_no_block(&rt, alloc, &four);
-    serial_calls_gather_nothing(&rt, alloc, &serial);
     drop(held);
 }
 
-// The memory is taken for one list at a time: those that a call lets go leave some.
+// One thread for those whose items take memory: where allocations are checked, a thread needs
+// places of its own.
 #[test]
-fn a_fold_of_a_vector_takes_no_block(rt: HostRuntime) {
-    let alloc = rt.alloc();
-    for called in [Called::Fold, Called::FoldInit, Called::TryFold] {
-        let four = Noting::new(alloc, 4).expect(&rt, "a log");
-        let items = leaves(alloc, LEN).expect(&rt, "memory for items");
-        let held = all_places(alloc).expect(&rt, "places that have an end");
-        let found = outcome(&on(&rt, alloc, &four), called, items);
-        row(&rt, called, found, folded(called, 8));
-        drop(held);
-    }
+fn a_call_takes_no_block_for_items_that_it_need_not_gather(rt: HostRuntime) {
+    let ways = ((Way::Noting(4), 4), (Way::Noting(1), 1));
+    all_take(&rt, Path::Parallel, ways);
 }
 
-// Stops the test where a tree of twice as many leaves doesn't go through, or isn't refused before
-// its closure is called, while no block for a level of its leaves is to be had. With 32,768 threads
-// a block has two leaves, and there are as many tops.
-fn tree<Rt: Threads + Wait + Abort + Sync>(
-    rt: &Rt,
-    alloc: Global,
-    rooted: Rooted,
-    noting: &Noting,
-    leaves: Vec<usize>,
-) {
-    let closures = Times::new();
-    let on = on(rt, alloc, noting);
-    let found = root(&on, rooted, leaves, Visitor::Counts(&closures));
-    let found = (found, closures.counted().0);
-    let multiplier = match (rooted, noting.thread_number().get()) {
-        (Rooted::ByBlocks, 4) => {
-            row(rt, "few tops", found, (Ok(Some(19)), LEN * 2 - 1));
-            return;
+#[test]
+fn a_serial_call_takes_no_block_for_items(rt: HostRuntime) {
+    let way = (Way::Explorer(Rule::Parallel, 4, 1), 1);
+    all_take(&rt, Path::Unasked, (way, way));
+}
+
+// Results of items that take no place: by a map, by one that may fail and by one with a state.
+fn forget(_item: usize) {}
+
+fn forget_or_fail(_item: usize) -> Result<(), u32> {
+    Ok(())
+}
+
+fn nothing() {}
+
+fn forget_by_state(_state: &mut (), _item: usize) {}
+
+#[test]
+fn a_serial_map_gathers_nothing(rt: HostRuntime) {
+    let alloc = rt.alloc();
+    let one = pool(&rt, alloc, 4, 1).expect(&rt, "a pool");
+    let strategy = &Explorer::by_rule(&one, Rule::Parallel).expect(&rt, "memory for a handle");
+    let on = called_here(&rt, strategy);
+    let held = all_places(alloc).expect(&rt, "places that have an end");
+    let plain = on
+        .strategy
+        .map_collect_vec(on.rt, on.alloc, on.site, 0..LEN, forget)
+        .is_ok();
+    let fallible = on
+        .strategy
+        .try_map_collect_vec(on.rt, on.alloc, on.site, 0..LEN, forget_or_fail)
+        .is_ok();
+    let by_state = on
+        .strategy
+        .map_init_collect_vec(on.rt, on.alloc, on.site, 0..LEN, nothing, forget_by_state)
+        .is_ok();
+    equal(&rt, "maps", [plain, fallible, by_state], [true; 3]);
+    drop(held);
+}
+
+// Stops the test where a call that is refused is asked about or told otherwise.
+fn is_untold(rt: &impl Test, act: Act, threads: usize, call: Call) {
+    let noting = Noting::new(rt.alloc(), threads).expect(rt, "a log");
+    let way = Way::Noting(threads);
+    let of = Row { way, act, len: LEN };
+    let times = Times::new();
+    let made: Outcome = does(rt, &noting, act, LEN, Visitor::Starves(&times));
+    row(rt, of, made, refused());
+    has(rt, noting.log(), of, &[asked(call), BEGUN, DROPPED]);
+}
+
+// With a thread for each sixteen leaves a block of the tree has two, and there are as many tops.
+#[test]
+fn a_call_that_is_refused_tells_nothing(rt: HostRuntime) {
+    let blocks = Call::body_with_multiplier(LEN / 2, 2);
+    is_untold(&rt, Act::Tree(Rooted::ByBlocks), LEN / 16, blocks);
+    is_untold(&rt, Act::Tree(Rooted::ByLevels), 4, Call::body(LEN / 2));
+    for called in CALLS {
+        let act = Act::List(called, Given::OwnProducer);
+        if fate_of(act, Path::Parallel) == Fate::Refused {
+            is_untold(&rt, act, 4, act.question(LEN, 4));
         }
-        (Rooted::ByBlocks, _) => 2,
-        (Rooted::ByLevels, _) => 1,
-    };
-    row(rt, rooted, found, (Err(Fault::Memory), 0));
-    let call = Call::body_with_multiplier(LEN, multiplier);
-    let lines = [
-        asked_at(OUTER, 1, call),
-        (OUTER, BEGUN, None),
-        (OUTER, DROPPED, None),
-    ];
-    has(rt, noting.log(), rooted, &lines);
-}
-
-// The places are held for one tree at a time: the leaves that a call lets go leave one.
-#[test]
-fn a_tree_by_blocks_takes_memory_for_their_tops_alone(rt: HostRuntime) {
-    let alloc = rt.alloc();
-    for (rooted, threads) in [
-        (Rooted::ByBlocks, 4),
-        (Rooted::ByBlocks, 32_768),
-        (Rooted::ByLevels, 4),
-    ] {
-        let noting = Noting::new(alloc, threads).expect(&rt, "a log");
-        let leaves = leaves(alloc, LEN * 2).expect(&rt, "memory for leaves");
-        let held = all_places(alloc).expect(&rt, "places that have an end");
-        tree(&rt, alloc, rooted, &noting, leaves);
-        drop(held);
     }
 }

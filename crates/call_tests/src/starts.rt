@@ -1,34 +1,27 @@
 //! How many threads each call starts: at most one fewer than its strategy has, and none where it
-//! goes serially.
-use crate::checks::row;
-use commonware_parallel::mocks::{Explorer, Rule};
-use commonware_parallel::{On, Site, Strategy};
-use std::alloc::{AllocGlobal, Global};
-use std::process::Abort;
-use std::rt::Files;
-use std::sync::Wait;
-use std::thread::Threads;
-use test_calls::calls::CALLS;
-use test_calls::every_call::{Act, does, on};
-use test_calls::noting::Noting;
-use test_calls::other_calls::SIDES;
-use test_calls::roots::ROOTED;
-use test_calls::sources::FEW;
-use test_calls::strategies::pool;
+//! goes serially; and who starts them: its caller, up to 63 of them, and all before it does a part
+//! of its own. A thread that is started by another one comes later than that by as long as a start
+//! takes, and by then the caller is at work.
+use crate::checks::{Test, all_acts, equal, row, through};
+use crate::meets::power_within;
+use commonware_parallel::mocks::Rule;
+use parallel_pool::rayon::map_in_row;
+use test_calls::acts::Act;
+use test_calls::others::PART;
+use test_calls::own_part::OwnPart;
+use test_calls::sources::zeros;
 use test_calls::visits::Visitor;
+use test_calls::ways::{Row, THREADS, Through, Way, threads_between};
 use test_support::processes::last_number;
 
 // How many threads are started meanwhile, as few as in the best of many tries, as others start
-// threads too. The greatest number is where it never succeeds.
-fn least_started<Rt, S: Strategy>(on: &On<'_, Rt, S, Site>, done: Act, enough: u64) -> u64
-where
-    Rt: Threads + Wait + Files + AllocGlobal + Abort + Sync,
-{
+// threads too; the greatest number is where it never succeeds.
+fn least_started(rt: &impl Test, through: &Through, of: Row, enough: u64) -> u64 {
     let mut least = u64::MAX;
     for _ in 0..200u32 {
-        let before = last_number(on.rt);
-        if does(on, done, Visitor::Passes).is_ok() {
-            least = least.min(last_number(on.rt).wrapping_sub(before));
+        let before = last_number(rt);
+        if through.does(rt, of.act, of.len, Visitor::Passes).is_ok() {
+            least = least.min(last_number(rt).wrapping_sub(before));
         }
         if least <= enough {
             return least;
@@ -37,69 +30,142 @@ where
     least
 }
 
-// Stops the test where each such act starts more threads than that. Where others start threads all
-// the time there is nothing to be seen.
-fn starts<Rt, S: Strategy>(on: &On<'_, Rt, S, Site>, done: Act, most: usize)
-where
-    Rt: Threads + Wait + Files + AllocGlobal + Abort + Sync,
-{
-    let most = most as u64;
-    let least = least_started(on, done, most);
-    if least > most && least_started(on, Act::Rest, 0) == 0 {
-        row(on.rt, done, least, most);
+// How many items a call is over, and how many threads it starts at most, of that many others. A
+// join starts one by whatever number of threads.
+fn most_of(way: Way, act: Act, others: u64) -> (usize, u64) {
+    match act {
+        Act::Run(_) => (100, 0),
+        Act::Join if matches!(way, Way::Pool(..)) => (100, 1),
+        Act::Join => (100, others.min(1)),
+        // Numbers that are three parts.
+        Act::Sort(_) => (24_576, others.min(2)),
+        // A tree of 128 leaves has seven levels.
+        Act::Tree(_) => (128, others.saturating_mul(7)),
+        _ => (100, others),
     }
 }
 
-// Stops the test where a call through a strategy starts more threads than that, or a tree more for
-// one of its levels.
-fn all_start<Rt, S: Strategy>(rt: &Rt, alloc: Global, strategy: &S, most: usize)
-where
-    Rt: Threads + Wait + Files + AllocGlobal + Abort + Sync,
-{
-    let on = on(rt, alloc, strategy);
-    for called in CALLS {
-        for given in FEW {
-            starts(&on, Act::List(called, given, 100), most);
+// Stops the test where a call through a strategy starts more threads than that. Where others start
+// threads all the time there is nothing to be seen.
+fn all_start(rt: &impl Test, way: Way, others: u64) {
+    let through = through(rt, way);
+    for act in all_acts(rt) {
+        // No call's start depends on its source.
+        if !act.is_over_own() {
+            continue;
+        }
+        let (len, most) = most_of(way, act, others);
+        // (others start a few while a call starts many)
+        let most = most.saturating_add(others / 8);
+        let of = Row { way, act, len };
+        let least = least_started(rt, &through, of, most);
+        let rest = Row::of(way, Act::Rest, len);
+        if least > most && least_started(rt, &through, rest, 0) == 0 {
+            row(rt, of, least, most);
+        } else if least > most {
+            return;
         }
     }
-    for side in SIDES {
-        starts(&on, Act::Side(side), most);
-    }
-    // A tree of 128 leaves has seven levels.
-    for rooted in ROOTED {
-        starts(&on, Act::Tree(rooted, 128), most.saturating_mul(7));
-    }
-    starts(&on, Act::Chunks(20_000), most);
-    // Numbers that are three parts, and such that are one.
-    starts(&on, Act::Sort(true, 24_576), most.min(2));
-    starts(&on, Act::Sort(true, 16_383), 0);
 }
 
 #[test]
 fn each_call_starts_at_most_one_thread_fewer_than_there_are(rt: HostRuntime) {
-    let alloc = rt.alloc();
-    for threads in [2usize, 3, 4, 9] {
-        let most = threads.saturating_sub(1);
-        all_start(
-            &rt,
-            alloc,
-            &Noting::new(alloc, threads).expect(&rt, "a log"),
-            most,
-        );
-        all_start(
-            &rt,
-            alloc,
-            &pool(&rt, alloc, threads, threads).expect(&rt, "a pool"),
-            most,
-        );
+    for threads in THREADS {
+        let others = (threads as u64).saturating_sub(1);
+        all_start(&rt, Way::Pool(threads, threads), others);
     }
-    all_start(&rt, alloc, &pool(&rt, alloc, 2, 8).expect(&rt, "a pool"), 1);
+    all_start(&rt, Way::Noting(3), 2);
+    all_start(&rt, Way::Pool(2, 8), 1);
 }
 
 #[test]
 fn a_serial_call_starts_no_thread(rt: HostRuntime) {
-    let alloc = rt.alloc();
-    let four = pool(&rt, alloc, 4, 4).expect(&rt, "a pool");
-    let serial = Explorer::by_rule(&four, Rule::Serial).expect(&rt, "memory for a handle");
-    all_start(&rt, alloc, &serial, 0);
+    all_start(&rt, Way::Sequential, 0);
+    all_start(&rt, Way::Explorer(Rule::Serial, 4, 4), 0);
+    // Fewer numbers than two parts are sorted by the caller alone.
+    let way = Way::Pool(4, 4);
+    let of = Row::of(way, Act::Sort(true), 16_383);
+    row(&rt, of, least_started(&rt, &through(&rt, way), of, 0), 0);
+}
+
+// How many items a call is over, and how many threads its caller starts of that many. Of a run one
+// body is called, and a sort of 64 parts and more gives each thread that is started two.
+fn wanted_of(act: Act, threads: usize) -> (usize, usize) {
+    let others = threads.saturating_sub(1);
+    let many = threads.saturating_mul(10);
+    match act {
+        Act::Run(_) => (many, 0),
+        Act::Join => (many, others.min(1)),
+        Act::Sort(_) => (threads.min(63).saturating_mul(PART), others.min(62)),
+        Act::Tree(_) => (threads.saturating_mul(37), others),
+        // Their workers are a list with an item for each, which needn't be shared by all threads.
+        Act::Fill(..) => (many, power_within(threads).saturating_sub(1)),
+        _ => (many, others),
+    }
+}
+
+// Stops the test where the caller of that has begun its own part before so many threads were
+// started, in one of some tries.
+fn starts_first(rt: &impl Test, host: HostRuntime, through: &Through, of: Row, wanted: u64) {
+    let tries = if wanted > 3 { 1 } else { 5 };
+    for _ in 0..tries {
+        let own = OwnPart::of(&host);
+        let before = last_number(rt);
+        let made = through.does(rt, of.act, of.len, Visitor::Sees(host, &own));
+        let found = own.started_since(before).min(wanted);
+        row(rt, of, (made, found), (Ok(()), wanted));
+    }
+}
+
+// The same of each call, by that many threads: no call's start depends on its source.
+fn all_start_first(rt: &impl Test, host: HostRuntime, way: Way, threads: usize) {
+    let through = through(rt, way);
+    for act in all_acts(rt) {
+        let (len, others) = wanted_of(act, threads);
+        if act.is_over_own() && others > 0 {
+            starts_first(rt, host, &through, Row { way, act, len }, others as u64);
+        }
+    }
+}
+
+#[test]
+fn a_caller_starts_all_threads_before_its_own_part(rt: HostRuntime) {
+    for threads in threads_between(2, 7) {
+        all_start_first(&rt, rt, Way::Pool(*threads, *threads), *threads);
+    }
+    all_start_first(&rt, rt, Way::Noting(4), 4);
+}
+
+// One more than 64 starts in two rows.
+#[test]
+fn a_caller_starts_many_threads_before_its_own_part(rt: HostRuntime) {
+    for threads in threads_between(8, 17) {
+        all_start_first(&rt, rt, Way::Pool(*threads, *threads), *threads);
+    }
+    all_start_first(&rt, rt, Way::Explorer(Rule::Parallel, 16, 16), 16);
+    all_start_first(&rt, rt, Way::Pool(64, 64), 64);
+}
+
+// The same of calls side by side, the last of which is the caller's own.
+fn row_starts_first(rt: &impl Test, host: HostRuntime, calls: usize) {
+    let wanted = (calls as u64).saturating_sub(1);
+    for _ in 0..10u32 {
+        let own = OwnPart::of(&host);
+        let before = last_number(rt);
+        let items = zeros(rt.alloc(), calls).expect(rt, "items");
+        let visit = |item: usize| {
+            own.see(&host);
+            item
+        };
+        let made = map_in_row(rt, rt.alloc(), items, &visit);
+        let found = own.started_since(before).min(wanted);
+        equal(rt, "calls in a row", (made.is_ok(), found), (true, wanted));
+    }
+}
+
+#[test]
+fn a_caller_starts_all_threads_of_calls_in_a_row(rt: HostRuntime) {
+    for calls in [2usize, 3, 8, 64] {
+        row_starts_first(&rt, rt, calls);
+    }
 }

@@ -4,8 +4,10 @@ use commonware_parallel::mocks::{ExploreError, Rule};
 use commonware_parallel::{Sequential, Strategy};
 use std::alloc::Global;
 use std::process::Abort;
-use std::sync::Wait;
+use std::sync::{Arc, Wait};
 use std::thread::Threads;
+use test_calls::meetings::Meeting;
+use test_calls::steps::Does;
 use test_strategies::{SITE, parallel, pool, serial};
 use test_support::{holds, same};
 use uses::batches::{batch_ranges, count_by_ranges, digests_by_ranges};
@@ -17,7 +19,7 @@ use uses::long_lists::{LongLists, fold_by_length, squares_by_length};
 use uses::maps::{doubles, last_entries, squares_of_both};
 use uses::outputs::square_in_place;
 use uses::runs::{count_set, one_of};
-use uses::spawned_jobs::{counts_beside, two_counts};
+use uses::spawned_jobs::{answer_beside, counts_beside, two_counts};
 use uses::stateful::{plain_fold_init, sort_by_first};
 use uses::tile_rows::{above_by_row, workers_on_whole_rows};
 
@@ -233,4 +235,14 @@ fn flags_are_counted_in_jobs(rt: HostRuntime) {
     let more = vec![in rt.alloc(); false, true].expect(&rt, "memory");
     let two = two_counts(&rt, &strategy, SITE, flags, more);
     returns(&rt, ("two_counts", "a pool", 3), two, (3, 1));
+}
+
+#[test]
+fn a_caller_goes_on_while_its_job_runs(rt: HostRuntime) {
+    let alloc = rt.alloc();
+    let two = pool(&rt, alloc, 2, 2).expect(&rt, "a pool");
+    let meeting = Arc::new(alloc, Meeting::of(2, 0)).expect(&rt, "memory for a meeting");
+    let job = Does::Attends(Arc::try_clone(&meeting).expect(&rt, "a handle"));
+    let both = answer_beside(&rt, &two, SITE, 1, job, || meeting.attend());
+    same!(&rt, (both.is_ok(), meeting.most()), (true, 2));
 }

@@ -6,6 +6,10 @@ mod callers;
 #[cfg(test)]
 mod checks;
 #[cfg(test)]
+mod each_caller;
+#[cfg(test)]
 mod transforms;
 #[cfg(test)]
 mod trees;
+#[cfg(test)]
+mod watched;

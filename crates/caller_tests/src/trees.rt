@@ -1,16 +1,16 @@
-//! The Merkle tree over SHA-256, as `uses` has it. Its roots and commitments were computed by
+//! The Merkle tree over SHA-256 of `merkle_tree`. Its roots and commitments were computed by
 //! another program, from what the digest of a leaf, of a node and of a whole tree is said to be.
 use crate::checks::{Of, returns, row};
 use commonware_parallel::{Fault, Sequential, Strategy};
+use merkle_tree::{
+    Digest, Tree, commitment, commitment_digest, is_member, leaf_digest, node_digest, root,
+};
 use std::alloc::Global;
 use std::process::Abort;
 use std::sync::Wait;
 use std::thread::Threads;
 use test_strategies::{SITE, pool};
 use test_support::holds;
-use uses::merkle::{
-    Digest, Tree, commitment, commitment_digest, is_member, leaf_digest, node_digest, root,
-};
 
 // The leaves of the greatest tree. A smaller one has the first of them.
 fn all_leaves() -> [&'static [u8]; 9] {

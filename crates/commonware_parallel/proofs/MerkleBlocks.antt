@@ -1,6 +1,6 @@
 -- Levels of a tree by blocks of its leaves.
 use Rattle.commonware_parallel.proofs.Common.{ℕ, zero, suc, ◌+◌, ◌-◌, ◌*◌, ◌/◌, ◌<◌, ◌≤◌, ◌≡◌, ◌++◌, ◌∷◌, [], List, Option, length, take, drop, refl, sym, ◌∙◌, ap, subst, arith}
-use Rattle.commonware_parallel.proofs.Common.{drop-drop, length-take-le, take-add, take-append-drop, take_all, drop_all, append_assoc, append-nil, add-mul, mul-add, one-mul, suc-mul, zero-mul, cases_lt, inl, inr}
+use Rattle.commonware_parallel.proofs.Common.{drop-drop, length-take-le, take-add, take-append-drop, take_all, drop_all, append_assoc, append-nil, add-mul, mul-add, one-mul, zero-mul, cases_lt, inl, inr}
 use Rattle.commonware_parallel.proofs.Common.{AreBlocks, AreTops, Levels, MerkleRoot, NextLevel, leaves_below, of_level}
 
 -- a node is above some leaf
@@ -143,10 +143,6 @@ module _ {T : Type 0} (combine : T → T → T → Type 0) where
   LeadsToTops size all done left = (levels : ℕ) → size ≡ leaves_below levels → (more : List T)
       → Levels combine levels left more → Levels combine levels all (done ++ more)
 
-  pub tops_start : (size : ℕ) (all done : List T) → done ≡ [] → LeadsToTops size all done all
-  tops_start size all done none levels at more h =
-      subst (λ l. Levels combine levels all (l ++ more)) (sym none) h
-
   -- the tops of the first block, and those of the rest
   first_block : (size levels : ℕ) (left : List T) (top : T) (more : List T)
       → size ≡ leaves_below levels → AreTops combine size (take size left) (top ∷ [])
@@ -180,13 +176,7 @@ module _ {T : Type 0} (combine : T → T → T → Type 0) where
       (leads levels at [] (subst (λ l. Levels combine levels l []) (sym none)
       (levels_none levels)))
 
--- there is a leaf where there is a block
-pub block_some : (size len count : ℕ) → AreBlocks size len count → 0 < size → 0 < count → 0 < len
-block_some size len zero blocks some more = absurd (omega (arith, more))
-block_some size len (suc count) blocks some more =
-    let one = suc-mul count size in omega (arith, blocks.0, blocks.1, one)
-
--- there is none where there is no block
+-- there is no leaf where there is no block
 pub block_none : (size len count : ℕ) → AreBlocks size len count → count ≡ 0 → len ≡ 0
 block_none size len count blocks none =
     omega (arith, blocks.0, ap (λ n. n * size) none ∙ zero-mul size)

@@ -1,5 +1,5 @@
 -- Which path a pick is, or which number of parts; and which picks the inner strategies take.
-use Rattle.commonware_parallel.proofs.Common.{◌≡◌, ◌∙◌, ℕ, zero, Bool, true, false, ap, refl, nat_le, if◌then◌else◌, Path, Serial, body_call, nth_path}
+use Rattle.commonware_parallel.proofs.Common.{◌≡◌, ◌∙◌, ℕ, Bool, true, false, ap, refl, nat_le, if◌then◌else◌, Path, Serial, body_call, nth_path}
 use Rattle.commonware_parallel.proofs.Common.{None, Pick, By, Into, IsInnerOf, rules, subst, sym}
 use Rattle.parallel_policy.specs.declared.Site.{Site}
 use Rattle.commonware_parallel.specs.Explorers.{ExplorerRefuses, ExplorerTakes, ExplorerView, picked}
@@ -10,17 +10,9 @@ abbrev path_of : Pick → Path
 path_of (By path) = path
 path_of (Into parts) = Serial
 
-abbrev parts_of : Pick → ℕ
-parts_of (By path) = zero
-parts_of (Into parts) = parts
-
 -- two picks that are one go by one path
 pub one_path : (p q : Path) → By p ≡ By q → p ≡ q
 one_path p q same = ap path_of same
-
--- or in as many parts
-pub as_many_parts : (m n : ℕ) → Into m ≡ Into n → m ≡ n
-as_many_parts m n same = ap parts_of same
 
 serial_either_way : (b : Bool) → nth_path (if b then 0 else 0) ≡ Serial
 serial_either_way true = refl

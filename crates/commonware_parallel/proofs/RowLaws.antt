@@ -1,7 +1,11 @@
--- Where merge respects cuts, each row has one value.
-use Rattle.commonware_parallel.proofs.Common.{◌≡◌, ℕ, zero, suc, ◌+◌, ◌<◌, ◌≤◌, List, [], ◌∷◌, ◌++◌, All, map, sym, ap, subst, ◌∙◌, arith, FoldsTo, range_with_len, map-append, All-head, All-tail}
+-- What holds of the results of a row's stretches, and of results that are merged, holds of the
+-- row's value.
+use Rattle.commonware_parallel.proofs.Common.{◌≡◌, ℕ, zero, suc, ◌+◌, ◌<◌, ◌≤◌, List, [], ◌∷◌, ◌++◌, All, map, add-one, ap, subst, ◌∙◌, arith, AllZip, FoldsTo, range_with_len, All-head, All-tail}
 use Rattle.commonware_parallel.proofs.Common.{All-permutation, Stretch, stretches_in, results_in, MergesTo, TilesRow, RowValues, MergesRows, RespectsCuts, IsValueOf}
 use Rattle.commonware_parallel.proofs.NamedResults.{All-front, All-back}
+use Rattle.parallel_bridge.proofs.Shapes.{MapOf-append}
+use Rattle.parallel_shares.proofs.Stretching.{numbers_cut}
+use Rattle.std.proofs.lemmas.Slice.Zip.{AllZip-map}
 
 -- stretches that tile columns don't end before they begin
 tiles_up : (row a b : ℕ) (ss : List Stretch) → TilesRow row a b ss → a ≤ b
@@ -9,73 +13,83 @@ tiles_up row a b [] same = omega (arith, same)
 tiles_up row a b (s ∷ ss) tiled =
     omega (arith, tiled.2, tiles_up row s.columns.end b ss tiled.3)
 
--- the numbers below one more
-pub one_number_more : (n : ℕ) → range_with_len 0 (suc n) ≡ range_with_len 0 n ++ n ∷ []
-one_number_more n =
+-- one value more, for the next number
+pub next_value : {R : Type 0} (P : ℕ → R → Type 0) (n : ℕ) (values after : List R) (value : R)
+    → AllZip P (range_with_len 0 n) values → P n value → after ≡ values ++ value ∷ []
+    → AllZip P (range_with_len 0 (n + 1)) after
+next_value P n values after value so_far is more =
     let same : 0 + n ≡ n = omega arith in
-    more 0 n ∙ ap (λ k. range_with_len 0 n ++ k ∷ []) same
-  where
-    more : (a n : ℕ) → range_with_len a (suc n) ≡ range_with_len a n ++ (a + n) ∷ []
-    more a zero = let same : a ≡ a + 0 = omega arith in ap (λ k. k ∷ []) same
-    more a (suc n) =
-        let same : (a + 1) + n ≡ a + suc n = omega arith in
-        ap (λ l. a ∷ l) (more (a + 1) n)
-        ∙ ap (λ k. a ∷ (range_with_len (a + 1) n ++ k ∷ [])) same
+    let numbers : range_with_len 0 (n + 1) ≡ range_with_len 0 n ++ n ∷ [] =
+    numbers_cut 0 n 1 ∙ ap (λ k. range_with_len 0 n ++ k ∷ []) same in
+    rw (more, numbers)
+    (MapOf-append P (range_with_len 0 n) (n ∷ []) values (value ∷ []) so_far (is, tt))
 
-module _ {R : Type 0} (merge : R → R → R → Type 0) (rows len : ℕ) (value : ℕ → ℕ → ℕ → R)
-    (respects : RespectsCuts merge rows len value) where
-  -- what came so far of a row is the value of its columns
-  columns_on : (row a b : ℕ) (own : List (Stretch × R)) (v : R) → row < rows → a < b
-      → TilesRow row b len (stretches_in own) → All (IsValueOf value) own
-      → FoldsTo merge (value row a b) (results_in own) v → v ≡ value row a len
-  columns_on row a b [] v there some tiled all same = sym same ∙ ap (value row a) tiled
-  columns_on row a b (x ∷ own) v there some tiled all (j, merged, more) =
-      let is : x.1 ≡ value x.0.row x.0.columns.start x.0.columns.end =
-      All-head (IsValueOf value) x own all in
-      let own_value : x.1 ≡ value row b x.0.columns.end =
-      is ∙ ap (λ r. value r x.0.columns.start x.0.columns.end) tiled.0
-      ∙ ap (λ c. value row c x.0.columns.end) tiled.1 in
-      let both : j ≡ value row a x.0.columns.end =
-      respects row a b x.0.columns.end j there some tiled.2
-      (tiles_up row x.0.columns.end len (stretches_in own) tiled.3)
-      (subst (λ r. merge (value row a b) r j) own_value merged) in
-      columns_on row a x.0.columns.end own v there (omega (arith, some, tiled.2)) tiled.3
-      (All-tail (IsValueOf value) x own all)
-      (subst (λ p. FoldsTo merge p (results_in own) v) both more)
+module _ {R : Type 0} (merge : R → R → R → Type 0) (rows len : ℕ) (holds : ℕ → ℕ → ℕ → R → Type 0)
+    (both : (row a b c : ℕ) (left right value : R) → row < rows → a < b → b < c → c ≤ len
+    → holds row a b left → holds row b c right → merge left right value → holds row a c value) where
+  -- a result holds of its stretch
+  abbrev pub Holds : Stretch × R → Type 0
+  Holds part = holds part.0.row part.0.columns.start part.0.columns.end part.1
 
-  row_value : (row : ℕ) (own : List (Stretch × R)) (v : R) → row < rows
-      → TilesRow row 0 len (stretches_in own) → All (IsValueOf value) own
-      → MergesTo merge (results_in own) v → v ≡ value row 0 len
-  row_value row [] v there tiled all none = absurd none
-  row_value row (x ∷ own) v there tiled all merged =
-      let is : x.1 ≡ value x.0.row x.0.columns.start x.0.columns.end =
-      All-head (IsValueOf value) x own all in
-      let own_value : x.1 ≡ value row 0 x.0.columns.end =
-      is ∙ ap (λ r. value r x.0.columns.start x.0.columns.end) tiled.0
-      ∙ ap (λ c. value row c x.0.columns.end) tiled.1 in
-      columns_on row 0 x.0.columns.end own v there tiled.2 tiled.3
-      (All-tail (IsValueOf value) x own all)
-      (subst (λ p. FoldsTo merge p (results_in own) v) own_value merged)
+  -- so it does of the columns that the stretch has
+  at_columns : (row a : ℕ) (part : Stretch × R) → part.0.row ≡ row → part.0.columns.start ≡ a
+      → Holds part → holds row a part.0.columns.end part.1
+  at_columns row a part there start h =
+      subst (λ n. holds n a part.0.columns.end part.1) there
+      (subst (λ n. holds part.0.row n part.0.columns.end part.1) start h)
+
+  -- what came so far of a row, and its parts from a column on
+  columns_on : (row b : ℕ) (own : List (Stretch × R)) (so_far value : R) → row < rows → 0 < b
+      → TilesRow row b len (stretches_in own) → All Holds own → holds row 0 b so_far
+      → FoldsTo merge so_far (results_in own) value → holds row 0 len value
+  columns_on row b [] so_far value there some tiled all so same =
+      subst (λ n. holds row 0 n value) tiled (subst (holds row 0 b) same so)
+  columns_on row b (x ∷ own) so_far value there some tiled all so (next, merged, more) =
+      let end = x.0.columns.end in
+      let below : end ≤ len = tiles_up row end len (stretches_in own) tiled.3 in
+      let here = at_columns row b x tiled.0 tiled.1 (All-head Holds x own all) in
+      columns_on row end own next value there (omega (arith, some, tiled.2)) tiled.3
+      (All-tail Holds x own all)
+      (both row 0 b end so_far x.1 next there some tiled.2 below so here merged) more
+
+  row_value : (row : ℕ) (own : List (Stretch × R)) (value : R) → row < rows
+      → TilesRow row 0 len (stretches_in own) → All Holds own
+      → MergesTo merge (results_in own) value → holds row 0 len value
+  row_value row [] value there tiled all none = absurd none
+  row_value row (x ∷ own) value there tiled all merged =
+      columns_on row x.0.columns.end own x.1 value there tiled.2 tiled.3 (All-tail Holds x own all)
+      (at_columns row 0 x tiled.0 tiled.1 (All-head Holds x own all)) merged
 
   rows_values : (n : ℕ) (parts : List (Stretch × R)) (values : List R) → n ≤ rows
-      → All (IsValueOf value) parts → RowValues merge len n parts values
-      → values ≡ map (λ row. value row 0 len) (range_with_len 0 n)
-  rows_values zero parts values below all none = none.1
+      → All Holds parts → RowValues merge len n parts values
+      → AllZip (λ row value. holds row 0 len value) (range_with_len 0 n) values
+  rows_values zero parts values below all none = rw none.1 tt
   rows_values (suc row) parts values below all
-      (before, own, some, v, done, tiled, merged, split, behind) =
-      let each : All (IsValueOf value) (before ++ own) = subst (All (IsValueOf value)) split all in
+      (before, own, some, value, done, tiled, merged, split, behind) =
+      let each : All Holds (before ++ own) = subst (All Holds) split all in
       let first = rows_values row before some (omega (arith, below))
-      (All-front (IsValueOf value) before own each) done in
-      let last = row_value row own v (omega (arith, below)) tiled
-      (All-back (IsValueOf value) before own each) merged in
-      behind ∙ ap (λ l. l ++ v ∷ []) first
-      ∙ ap (λ r. map (λ row. value row 0 len) (range_with_len 0 row) ++ r ∷ []) last
-      ∙ sym (map-append (λ row. value row 0 len) (range_with_len 0 row) (row ∷ []))
-      ∙ ap (map (λ row. value row 0 len)) (sym (one_number_more row))
+      (All-front Holds before own each) done in
+      let last = row_value row own value (omega (arith, below)) tiled
+      (All-back Holds before own each) merged in
+      subst (λ k. AllZip (λ row value. holds row 0 len value) (range_with_len 0 k) values)
+      (add-one row) (next_value (λ k v. holds k 0 len v) row some values value first last behind)
 
-  pub one_value : (parts : List (Stretch × R)) (values : List R) → All (IsValueOf value) parts
+  pub merged_hold : (parts : List (Stretch × R)) (values : List R) → All Holds parts
       → MergesRows merge rows len parts values
-      → values ≡ map (λ row. value row 0 len) (range_with_len 0 rows)
-  one_value parts values all (ordered, moved, done) =
+      → AllZip (λ row value. holds row 0 len value) (range_with_len 0 rows) values
+  merged_hold parts values all (ordered, moved, done) =
       rows_values rows ordered values (omega arith)
-      (All-permutation (IsValueOf value) parts ordered moved all) done
+      (All-permutation Holds parts ordered moved all) done
+
+-- where merge respects cuts, each row has one value
+pub one_value : {R : Type 0} (merge : R → R → R → Type 0) (rows len : ℕ) (value : ℕ → ℕ → ℕ → R)
+    → RespectsCuts merge rows len value → (parts : List (Stretch × R)) (values : List R)
+    → All (IsValueOf value) parts → MergesRows merge rows len parts values
+    → values ≡ map (λ row. value row 0 len) (range_with_len 0 rows)
+one_value {R} merge rows len value respects parts values all merged =
+    AllZip-map (λ row. value row 0 len) (range_with_len 0 rows) values
+    (merged_hold merge rows len (λ row a b v. v ≡ value row a b)
+    (λ row a b c left right v there low high below one two is. respects row a b c v there low high
+    below (subst (λ l. merge l (value row b c) v) one
+    (subst (λ r. merge left r v) two is)))
+    parts values all merged)

@@ -1,15 +1,16 @@
 -- What the seats that came back have together: results in chains, over stretches that cut the grid.
 use Rattle.commonware_parallel.proofs.Common.{◌≡◌, ℕ, zero, suc, ◌*◌, ◌<◌, List, [], ◌∷◌, ◌++◌, All, Ok, IfOk, map, length, get_or, true, None, refl, sym, ap, subst, ◌∙◌, append-nil, append_assoc}
 use Rattle.commonware_parallel.proofs.Common.{arith, AllZip, Range, length-map, map-append, All-nil, All-append, Stretch, Finished, IsFront, in_ranges, same_number, plan_of, index_of, claims_of}
-use Rattle.commonware_parallel.proofs.Common.{has_emptied, transit_of, IsSeatOf, AreSeatsOf, EachCellOnce, Work, sizes_of, IsStretch, Cutting, cut_cells, total, times, total_append, StatesFrom}
+use Rattle.commonware_parallel.proofs.Common.{has_emptied, transit_of, IsSeatOf, AreSeatsOf, EachCellOnce, Work, sizes_of, IsStretch, Cutting, cut_cells, total, times, total_append, StatesFrom, finished_append}
 use Rattle.commonware_parallel.proofs.Common.{Stateful, no_segment, more_segments, Chains, no_chain, more_chains, CutsRectangle, IsWholeRow, seat_of, WorksFrom, AllResults}
+use Rattle.parallel_bridge.proofs.Shapes.{MapOf-append}
+use Rattle.std.proofs.lemmas.Slice.Zip.{AllZip-long}
 use Rattle.std.specs.declared.alloc.Global.{Global}
 use Rattle.std.specs.declared.vec.Vec.{Vec}
 use Rattle.parallel_shares.specs.declared.shares.Shares.{Shares}
 use Rattle.parallel_shares.specs.declared.shares.seat.Seat.{Seat}
 use Rattle.parallel_shares.specs.Steals.{FoundNothing}
 use Rattle.commonware_parallel.specs.declared.tiles.seats.Worked.{Worked}
-use Rattle.commonware_parallel.proofs.FilledRows.{finished_append}
 use Rattle.commonware_parallel.proofs.Rectangles.{times_all, cut_append, apart_each, cuts}
 use Rattle.commonware_parallel.proofs.WholeRowCuts.{fronts_cut}
 
@@ -17,14 +18,14 @@ use Rattle.commonware_parallel.proofs.WholeRowCuts.{fronts_cut}
 
 -- no result
 pub chains_of_none : {T R : Type 0} (init : T → Type 0) (fill : T → ℕ → Range ℕ → T → Type 0)
-    (finish : T → ℕ → R → T → Type 0) (rs : List R) → rs ≡ [] → Chains init fill finish [] rs
-chains_of_none init fill finish rs none = subst (Chains init fill finish []) (sym none) no_chain
+    (ends : T → Stretch → R → T → Type 0) (rs : List R) → rs ≡ [] → Chains init fill ends [] rs
+chains_of_none init fill ends rs none = subst (Chains init fill ends []) (sym none) no_chain
 
 -- one chain
 pub chains_of_one : {T R : Type 0} (init : T → Type 0) (fill : T → ℕ → Range ℕ → T → Type 0)
-    (finish : T → ℕ → R → T → Type 0) (s t : T) (xs : List Stretch) (rs : List R) → init s
-    → Finished fill finish s xs rs t → Chains init fill finish xs rs
-chains_of_one init fill finish s t xs rs fresh h =
+    (ends : T → Stretch → R → T → Type 0) (s t : T) (xs : List Stretch) (rs : List R) → init s
+    → Finished fill ends s xs rs t → Chains init fill ends xs rs
+chains_of_one init fill ends s t xs rs fresh h =
     more_chains s t xs [] rs [] (sym (append-nil xs)) (sym (append-nil rs)) fresh h no_chain
 
 -- ---- results
@@ -59,7 +60,7 @@ results_split (w ∷ ws) vs rs (v, more, ok, others, joined) =
     )
 
 module _ {T R : Type 0} (init : T → Type 0) (shares : Shares) (len : ℕ)
-    (fill : T → ℕ → Range ℕ → T → Type 0) (finish : T → ℕ → R → T → Type 0) where
+    (fill : T → ℕ → Range ℕ → T → Type 0) (ends : T → Stretch → R → T → Type 0) where
   -- ---- the seats, place by place
 
   -- a seat as it was and as it came back
@@ -69,30 +70,17 @@ module _ {T R : Type 0} (init : T → Type 0) (shares : Shares) (len : ℕ)
     pub done : IfOk w.results (λ _. FoundNothing shares seat (seat_of w))
 
   came : (s : T) (xs : List Seat) (ws : List (Worked R))
-      → StatesFrom (WorksFrom shares len fill finish) s xs ws → AllZip Came xs ws
+      → StatesFrom (WorksFrom shares len fill ends) s xs ws → AllZip Came xs ws
   came s [] ws none = subst (AllZip Came []) (sym none) tt
   came s (x ∷ xs) [] wrong = absurd wrong
   came s (x ∷ xs) (w ∷ ws) (t, step, rest) =
       (record { belongs = step.belongs; number = step.number; done = step.done }, came t xs ws rest)
 
-  came_append : (xs ys : List Seat) (ws vs : List (Worked R)) → AllZip Came xs ws
-      → AllZip Came ys vs → AllZip Came (xs ++ ys) (ws ++ vs)
-  came_append [] ys [] vs z y = y
-  came_append [] ys (w ∷ ws) vs z y = absurd z
-  came_append (x ∷ xs) ys [] vs z y = absurd z
-  came_append (x ∷ xs) ys (w ∷ ws) vs z y = (z.0, came_append xs ys ws vs z.1 y)
-
   pub all_came : {xs : List Seat} {ws : List (Worked R)}
-      → Stateful init (WorksFrom shares len fill finish) xs ws → AllZip Came xs ws
+      → Stateful init (WorksFrom shares len fill ends) xs ws → AllZip Came xs ws
   all_came no_segment = tt
   all_came (more_segments x xs rest ys more at answers (s, fresh, h) tail) =
-      rw (at, answers) (came_append (x ∷ xs) rest ys more (came s (x ∷ xs) ys h) (all_came tail))
-
-  as_many : (xs : List Seat) (ws : List (Worked R)) → AllZip Came xs ws → length xs ≡ length ws
-  as_many [] [] z = refl
-  as_many [] (w ∷ ws) z = absurd z
-  as_many (x ∷ xs) [] z = absurd z
-  as_many (x ∷ xs) (w ∷ ws) z = ap suc (as_many xs ws z.1)
+      rw (at, answers) (MapOf-append Came (x ∷ xs) rest ys more (came s (x ∷ xs) ys h) (all_came tail))
 
   at_place : (xs : List Seat) (ws : List (Worked R)) → AllZip Came xs ws → (i : ℕ) (d : Seat)
       → i < length ws → IsSeatOf shares (get_or (map seat_of ws) i d)
@@ -119,10 +107,10 @@ module _ {T R : Type 0} (init : T → Type 0) (shares : Shares) (len : ℕ)
   module _ (xs : List Seat) (ws : List (Worked R)) (z : AllZip Came xs ws) where
     pub seats_back : AreSeatsOf shares xs → AreSeatsOf shares (map seat_of ws)
     seats_back all = record {
-      count = length-map ws seat_of ∙ sym (as_many xs ws z) ∙ all.count;
+      count = length-map ws seat_of ∙ AllZip-long Came xs ws z ∙ all.count;
       each = λ i d h. (at_place xs ws z i d (omega (arith, h, length-map ws seat_of))).0;
       order = λ i d h. (at_place xs ws z i d (omega (arith, h, length-map ws seat_of))).1
-          ∙ all.order i d (omega (arith, h, length-map ws seat_of, as_many xs ws z));
+          ∙ all.order i d (omega (arith, h, length-map ws seat_of, AllZip-long Came xs ws z));
     }
 
     pub all_done : (rs : List R) → AllResults ws rs → (i : ℕ) (d : Seat)
@@ -181,13 +169,13 @@ module _ {T R : Type 0} (init : T → Type 0) (shares : Shares) (len : ℕ)
 
     -- the seats of one segment, with the state that goes from seat to seat
     chain_of : (s : T) (xs : List Seat) (ws : List (Worked R)) (rs : List R)
-        → StatesFrom (WorksFrom shares len fill finish) s xs ws → AllResults ws rs → (t : T)
-        × (cut : List Stretch) × Finished fill finish s cut rs t × Part cut ws
+        → StatesFrom (WorksFrom shares len fill ends) s xs ws → AllResults ws rs → (t : T)
+        × (cut : List Stretch) × Finished fill ends s cut rs t × Part cut ws
     chain_of s [] ws rs none all =
         let no_results : rs ≡ [] = subst (λ v. AllResults v rs) none all in (
           s,
           [],
-          subst (λ v. Finished fill finish s [] v s) (sym no_results) refl,
+          subst (λ v. Finished fill ends s [] v s) (sym no_results) refl,
           subst (Part []) (sym none) part_none,
         )
     chain_of s (x ∷ xs) [] rs wrong all = absurd wrong
@@ -196,22 +184,22 @@ module _ {T R : Type 0} (init : T → Type 0) (shares : Shares) (len : ℕ)
         subst (λ r. IfOk r (λ results. (gained : List (Range ℕ)) × (cut : List Stretch)
         × (claims_of (seat_of w) ≡ claims_of x ++ gained)
         × All (IsFront (plan_of shares)) gained × Cutting gained len cut
-        × Finished fill finish s cut results.items t)) ok step.chain in
+        × Finished fill ends s cut results.items t)) ok step.chain in
         let next = chain_of t xs ws more rest others in
         let claimed : claims_of (seat_of w) ≡ one.0 = one.2 ∙ ap (λ c. c ++ one.0) step.fresh in (
           next.0,
           one.1 ++ next.1,
           rw joined
-              (finished_append fill finish s t next.0 one.1 next.1 v.items more one.5 next.2),
+              (finished_append fill ends s t next.0 one.1 next.1 v.items more one.5 next.2),
           part_more one.1 next.1 (w ∷ []) ws (part_one w one.0 one.1 claimed one.3 one.4) next.3,
         )
 
     -- all seats, segment by segment
     pub chains_of : {xs : List Seat} {ws : List (Worked R)}
-        → Stateful init (WorksFrom shares len fill finish) xs ws → (rs : List R) → AllResults ws rs
-        → (cut : List Stretch) × Chains init fill finish cut rs × Part cut ws
+        → Stateful init (WorksFrom shares len fill ends) xs ws → (rs : List R) → AllResults ws rs
+        → (cut : List Stretch) × Chains init fill ends cut rs × Part cut ws
     chains_of no_segment rs all =
-        ([], subst (Chains init fill finish []) (sym all) no_chain, part_none)
+        ([], subst (Chains init fill ends []) (sym all) no_chain, part_none)
     chains_of (more_segments x xs rest ys more at answers (s, fresh, h) tail) rs all =
         let split = results_split ys more rs (subst (λ v. AllResults v rs) answers all) in
         let one = chain_of s (x ∷ xs) ys split.0 h split.2 in

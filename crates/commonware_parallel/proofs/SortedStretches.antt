@@ -1,6 +1,6 @@
 -- Stretches that cut a grid, in the order of their places, follow one another.
 use Rattle.commonware_parallel.proofs.Common.{◌≡◌, ℕ, suc, ◌+◌, ◌-◌, ◌*◌, ◌/◌, ◌%◌, ◌^◌, ◌<◌, ◌≤◌, inl, inr, List, [], ◌∷◌, All, get_or, refl, sym, ap, ◌∙◌, arith, sum_by, mod-add-div, mod-lt}
-use Rattle.commonware_parallel.proofs.Common.{cases_lt, All-nil, All-cons, All-head, All-tail, sum_by-IsPermutation, All-permutation, row_fits, Stretch, inside, same_number, IsStretch, cut_cells}
+use Rattle.commonware_parallel.proofs.Common.{cases_lt, All-nil, All-cons, All-head, All-map, All-tail, sum_by-IsPermutation, All-permutation, row_fits, Stretch, inside, same_number, IsStretch, cut_cells}
 use Rattle.commonware_parallel.proofs.Common.{stretch_cells, total, times, inside_within, inside_before, inside_after, inside_cut, times_range, total_append, total_zero, stretches_in, wrapped_place}
 use Rattle.commonware_parallel.proofs.Common.{IsThere, Follows, CutsRectangle}
 use Rattle.commonware_parallel.specs.MergedRows.{place_of}
@@ -107,14 +107,6 @@ module _ {R : Type 0} (rows len : ℕ) where
       (each_there parts
       (All-tail (λ s. (s.row < rows) × IsStretch len s) part.0 (stretches_in parts) all))
 
-  each_stretch : (parts : List (Stretch × R)) → All (IsThere rows len) parts
-      → All (IsStretch len) (stretches_in parts)
-  each_stretch [] all = All-nil (IsStretch len)
-  each_stretch (part ∷ parts) all =
-      All-cons (IsStretch len) part.0 (stretches_in parts)
-      (All-head (IsThere rows len) part parts all).1
-      (each_stretch parts (All-tail (IsThere rows len) part parts all))
-
   holds_all : (parts : List (Stretch × R)) → 0 < len → CutsRectangle rows len (stretches_in parts)
       → HoldCells 0 (rows * len) parts
   holds_all parts wide cuts k =
@@ -129,7 +121,8 @@ module _ {R : Type 0} (rows len : ℕ) where
             let one : total (holds_cell k) parts ≡ 1 =
             held k parts there
             ∙ ap (λ c. times c (cut_cells len (stretches_in parts))) (sym place)
-            ∙ sym (has_all len row column below (stretches_in parts) (each_stretch parts there))
+            ∙ sym (has_all len row column below (stretches_in parts)
+            (All-map (IsStretch len) (λ (part : Stretch × R). part.0) parts (λ i d h. (there i d h).1)))
             ∙ cuts.once row column (row_there rows row len (omega (arith, place, l))) below in
             one ∙ sym (inside_within k 0 (rows * len) (omega arith) l)
         | inr m ↦

@@ -1,7 +1,7 @@
 -- Claims of whole rows are cut into whole rows.
-use Rattle.commonware_parallel.proofs.Common.{◌≡◌, ℕ, zero, suc, ◌+◌, ◌-◌, ◌*◌, ◌<◌, ◌≤◌, min, ◌⊎◌, inl, inr, List, [], ◌∷◌, ◌++◌, All, length, get_or, true, refl, sym, ap, ◌∙◌, append-nil}
+use Rattle.commonware_parallel.proofs.Common.{◌≡◌, ℕ, zero, suc, ◌+◌, ◌-◌, ◌*◌, ◌<◌, ◌≤◌, min, ◌⊎◌, inl, inr, List, [], ◌∷◌, ◌++◌, All, length, get_or, true, refl, sym, ap, ◌∙◌}
 use Rattle.commonware_parallel.proofs.Common.{append_assoc, arith, range_with_len, Range, add-mul, mul-sub, mul_assoc, mul_comm, min-eq_left, min-eq_right, cases_lt, append_cancel_left, All-nil}
-use Rattle.commonware_parallel.proofs.Common.{All-cons, All-head, All-tail, All-append, All-push, same_from_place, row_fits, Stretch, IsFront, Work, sizes_of, IsStretch, AreApart, Cutting, all_cells}
+use Rattle.commonware_parallel.proofs.Common.{All-cons, All-head, All-tail, All-append, All-map, same_from_place, Stretch, IsFront, Work, sizes_of, IsStretch, AreApart, Cutting, all_cells}
 use Rattle.commonware_parallel.proofs.Common.{cut_cells, range_cells, stretch_cells, times, inside_within, inside_after, times_range, CutsRectangle, IsWholeRow, whole_row, whole_rows}
 use Rattle.std.specs.Int.{div_ceil}
 use Rattle.parallel_shares.specs.Answers.{claim_stop}
@@ -93,15 +93,9 @@ module _ (len : ℕ) (wide : 0 < len) where
 
 -- ---- claims of whole rows
 
--- that many whole rows, from one on
-abbrev rows_from : ℕ → ℕ → ℕ → List Stretch
-rows_from len row zero = []
-rows_from len row (suc n) = whole_row len row ∷ rows_from len (row + 1) n
-
-are_whole : (len row n : ℕ) → All (IsWholeRow len) (rows_from len row n)
-are_whole len row zero = All-nil (IsWholeRow len)
-are_whole len row (suc n) = All-cons (IsWholeRow len) (whole_row len row)
-    (rows_from len (row + 1) n) (refl, refl) (are_whole len (row + 1) n)
+pub rows_are_whole : (len row n : ℕ) → All (IsWholeRow len) (whole_rows len row n)
+rows_are_whole len row n =
+    All-map (IsWholeRow len) (whole_row len) (range_with_len row n) (λ i d h. (refl, refl))
 
 -- the cells of one whole row
 whole_cells : (len row : ℕ) → stretch_cells len (whole_row len row) ≡ range_with_len (row * len) len
@@ -110,7 +104,7 @@ whole_cells len row =
     let width : len - 0 ≡ len = omega arith in
     ap (λ w. range_with_len (row * len + 0) w) width ∙ ap (λ a. range_with_len a len) start
 
-their_cells : (len row n : ℕ) → cut_cells len (rows_from len row n) ≡ range_with_len (row * len)
+their_cells : (len row n : ℕ) → cut_cells len (whole_rows len row n) ≡ range_with_len (row * len)
     (n * len)
 their_cells len row zero = let e : 0 ≡ 0 * len = omega arith in ap (range_with_len (row * len)) e
 their_cells len row (suc n) =
@@ -118,40 +112,25 @@ their_cells len row (suc n) =
     let next : (row + 1) * len ≡ row * len + len = add-mul row 1 len
     ∙ ap (λ x. row * len + x) one in
     let more : len + n * len ≡ suc n * len = omega arith in
-    ap (λ xs. xs ++ cut_cells len (rows_from len (row + 1) n)) (whole_cells len row)
+    ap (λ xs. xs ++ cut_cells len (whole_rows len (row + 1) n)) (whole_cells len row)
     ∙ ap (λ xs. range_with_len (row * len) len ++ xs)
     (their_cells len (row + 1) n ∙ ap (λ a. range_with_len a (n * len)) next)
     ∙ sym (numbers_cut (row * len) len (n * len)) ∙ ap (range_with_len (row * len)) more
 
--- rows of a range whose ends are ends of rows
-ends_at_rows : (len p q r : ℕ) → min (q * len) (r * len) - p * len ≡ (min q r - p) * len
-ends_at_rows len p q r =
-    let turn : (x y : ℕ) → x * len - y * len ≡ (x - y) * len = λ x y. ap (λ z. z - y * len)
-    (mul_comm x len) ∙ ap (λ z. len * x - z) (mul_comm y len) ∙ sym (mul-sub len x y)
-    ∙ mul_comm len (x - y) in
-    elim (cases_lt r q) as (λ _. min (q * len) (r * len) - p * len ≡ (min q r - p) * len) [
-      | inl l ↦ let k : r * len ≤ q * len = omega
-          (arith, row_fits r len q len l (omega arith)) in rw
-          (min-eq_right k, min-eq_right {n = r} {m = q} (omega (arith, l))) (turn r p)
-      | inr m ↦ elim (cases_lt q r) as
-          (λ _. min (q * len) (r * len) - p * len ≡ (min q r - p) * len) [
-            | inl l ↦ let k : q * len ≤ r * len = omega
-                (arith, row_fits q len r len l (omega arith)) in rw (min-eq_left k, min-eq_left m)
-                (turn q p)
-            | inr n ↦ let e : q * len ≡ r * len = ap (λ x. x * len)
-                (omega (arith, m, n)) in let k : q * len ≤ r * len = omega (arith, e) in rw
-                (min-eq_left k, min-eq_left m) (turn q p)
-          ]
-    ]
+-- where units of whole rows end, or all rows do, a row ends
+row_end : (len rows q : ℕ) → (n : ℕ) × (min (q * len) (rows * len) ≡ n * len)
+row_end len rows q = elim (cases_lt (rows * len) (q * len)) [
+  | inl l ↦ (rows, min-eq_right (omega (arith, l)))
+  | inr m ↦ (q, min-eq_left m)
+]
+
+-- the cells between the ends of two rows
+rows_between : (len n p : ℕ) → n * len - p * len ≡ (n - p) * len
+rows_between len n p =
+    ap (λ z. z - p * len) (mul_comm n len) ∙ ap (λ z. len * n - z) (mul_comm p len)
+    ∙ sym (mul-sub len n p) ∙ mul_comm len (n - p)
 
 module _ (work : Work) (whole : work.whole ≡ true) where
-  -- the rows of a unit
-  per_unit : ℕ
-  per_unit = div_ceil work.rows 65535
-
-  unit_rows : (sizes_of work).unit ≡ work.len * div_ceil work.rows 65535
-  unit_rows = rw whole refl
-
   -- the cells of a front are those of whole rows
   front_rows : (range : Range ℕ) → IsFront (sizes_of work) range → (ts : List Stretch)
       × All (IsWholeRow work.len) ts × (cut_cells work.len ts ≡ range_cells range)
@@ -159,18 +138,20 @@ module _ (work : Work) (whole : work.whole ≡ true) where
       let len = work.len in
       let k : ℕ = div_ceil work.rows 65535 in
       let p : ℕ = start_of word * k in
-      let q : ℕ = claim_stop (sizes_of work) word * k in
-      let n : ℕ = min q work.rows - p in
+      let q : ℕ = claim_stop (sizes_of work) word in
+      let unit : (sizes_of work).unit ≡ len * k = rw whole refl in
       let cells : (x : ℕ) → x * (sizes_of work).unit ≡ (x * k) * len =
-      λ x. ap (λ u. x * u) (unit_rows ∙ mul_comm len k) ∙ sym (mul_assoc x k len) in
+      λ x. ap (λ u. x * u) (unit ∙ mul_comm len k) ∙ sym (mul_assoc x k len) in
+      let end = row_end len work.rows (q * k) in
+      let n : ℕ = end.0 - p in
       let start : range.start ≡ p * len = ap (λ (r : Range ℕ). r.start) is
       ∙ cells (start_of word) in
-      let end : range.end ≡ min (q * len) (work.rows * len) = ap (λ (r : Range ℕ). r.end) is
-      ∙ ap (λ x. min x (work.rows * len)) (cells (claim_stop (sizes_of work) word)) in
-      let width : range.end - range.start ≡ n * len = ap (λ x. x - range.start) end
-      ∙ ap (λ x. min (q * len) (work.rows * len) - x) start ∙ ends_at_rows len p q work.rows in (
-        rows_from len p n,
-        are_whole len p n,
+      let stop : range.end ≡ end.0 * len = ap (λ (r : Range ℕ). r.end) is
+      ∙ ap (λ x. min x (work.rows * len)) (cells q) ∙ end.1 in
+      let width : range.end - range.start ≡ n * len = ap (λ x. x - range.start) stop
+      ∙ ap (λ x. end.0 * len - x) start ∙ rows_between len end.0 p in (
+        whole_rows len p n,
+        rows_are_whole len p n,
         their_cells len p n
             ∙ ap (λ a. range_with_len a (n * len)) (sym start)
             ∙ ap (range_with_len range.start) (sym width),
@@ -199,34 +180,15 @@ module _ (work : Work) (whole : work.whole ≡ true) where
 
 -- ---- a serial plan
 
--- all rows, whole
-pub rows_are_whole : (len n : ℕ) → All (IsWholeRow len) (whole_rows len n)
-rows_are_whole len zero = All-nil (IsWholeRow len)
-rows_are_whole len (suc n) = All-push (IsWholeRow len) (whole_rows len n) (whole_row len n)
-    (rows_are_whole len n) (refl, refl)
-
-rows_are_some : (len n : ℕ) → 0 < len → All (IsStretch len) (whole_rows len n)
-rows_are_some len zero wide = All-nil (IsStretch len)
-rows_are_some len (suc n) wide = All-push (IsStretch len) (whole_rows len n) (whole_row len n)
-    (rows_are_some len n wide) (wide, omega arith)
-
-rows_cells : (len n : ℕ) → cut_cells len (whole_rows len n) ≡ range_with_len 0 (n * len)
-rows_cells len zero = let e : 0 ≡ 0 * len = omega arith in ap (range_with_len 0) e
-rows_cells len (suc n) =
-    let start : n * len ≡ 0 + n * len = omega arith in
-    let more : n * len + len ≡ suc n * len = omega arith in
-    cut_append len (whole_rows len n) (whole_row len n ∷ [])
-    ∙ ap (λ xs. xs ++ cut_cells len (whole_row len n ∷ [])) (rows_cells len n)
-    ∙ ap (λ xs. range_with_len 0 (n * len) ++ xs)
-    (append-nil (stretch_cells len (whole_row len n)) ∙ whole_cells len n
-    ∙ ap (λ a. range_with_len a len) start)
-    ∙ sym (numbers_cut 0 (n * len) len) ∙ ap (range_with_len 0) more
-
 -- whole rows cut the grid
-pub whole_rectangle : (rows len : ℕ) → 0 < len → CutsRectangle rows len (whole_rows len rows)
+pub whole_rectangle : (rows len : ℕ) → 0 < len → CutsRectangle rows len (whole_rows len 0 rows)
 whole_rectangle rows len wide =
-    let cells = rows_cells len rows in
-    cuts rows len (rows * len) (whole_rows len rows) refl (rows_are_some len rows wide)
+    let first : 0 * len ≡ 0 = omega arith in
+    let cells : cut_cells len (whole_rows len 0 rows) ≡ range_with_len 0 (rows * len) =
+    their_cells len 0 rows ∙ ap (λ a. range_with_len a (rows * len)) first in
+    cuts rows len (rows * len) (whole_rows len 0 rows) refl
+    (All-map (IsStretch len) (whole_row len) (range_with_len 0 rows)
+    (λ i d h. (wide, omega arith)))
     (λ k h. ap (times k) cells ∙ times_range k 0 (rows * len)
     ∙ inside_within k 0 (0 + rows * len) (omega arith) (omega (arith, h)))
     (λ k h. ap (times k) cells ∙ times_range k 0 (rows * len)

@@ -10,8 +10,6 @@ pub mod MergedRows
 pub mod Merkle
 pub mod MerkleBlocks
 pub mod Mixes
-pub mod Noting
-pub mod OnePlace
 pub mod Rayon
 pub mod Chains
 pub mod Rectangles

@@ -45,18 +45,21 @@ MergesRows {R = R} merge rows len parts values = (ordered : List (Stretch × R))
     × IsPermutation parts ordered × RowValues merge len rows ordered values
 
 -- chains over stretches that cut the grid, into whole rows where rows stay whole
-abbrev pub FillsParts : {T R : Type 0} → (T → Type 0) → (T → ℕ → Range ℕ → T → Type 0)
-    → (T → ℕ → R → T → Type 0) → ℕ → ℕ → Bool → List (Stretch × R) → Type 0
-FillsParts init fill finish rows len whole parts = CutsRectangle rows len (stretches_in parts)
-    × (whole ≡ true → All (IsWholeRow len) (stretches_in parts))
-    × Chains init fill finish (stretches_in parts) (results_in parts)
+abbrev pub FillsStretches : {T R : Type 0} → (T → Type 0) → (T → ℕ → Range ℕ → T → Type 0)
+    → (T → Stretch → R → T → Type 0) → ℕ → ℕ → Bool → List Stretch → List R → Type 0
+FillsStretches init fill ends rows len whole cut results = CutsRectangle rows len cut
+    × (whole ≡ true → All (IsWholeRow len) cut) × Chains init fill ends cut results
 
 -- such chains over some stretches, of which the results alone are told
+abbrev pub FillsSome : {T R : Type 0} → (T → Type 0) → (T → ℕ → Range ℕ → T → Type 0)
+    → (T → Stretch → R → T → Type 0) → ℕ → ℕ → Bool → List R → Type 0
+FillsSome init fill ends rows len whole results =
+    (cut : List Stretch) × FillsStretches init fill ends rows len whole cut results
+
+-- the same, where what ends a stretch knows its row
 abbrev pub FillsCut : {T R : Type 0} → (T → Type 0) → (T → ℕ → Range ℕ → T → Type 0)
     → (T → ℕ → R → T → Type 0) → ℕ → ℕ → Bool → List R → Type 0
-FillsCut init fill finish rows len whole results = (cut : List Stretch)
-    × CutsRectangle rows len cut × (whole ≡ true → All (IsWholeRow len) cut)
-    × Chains init fill finish cut results
+FillsCut init fill finish = FillsSome init fill (λ s x. finish s x.row)
 
 -- There are stretches with their results. The stretches cut the grid, into whole rows if rows stay
 -- whole, and the results come from chains over them; and the values are the results merged row by
@@ -65,7 +68,13 @@ FillsCut init fill finish rows len whole results = (cut : List Stretch)
 abbrev pub FillsRows : {T R : Type 0} → (T → Type 0) → (T → ℕ → Range ℕ → T → Type 0)
     → (T → ℕ → R → T → Type 0) → (R → R → R → Type 0) → ℕ → ℕ → Bool → List R → Type 0
 FillsRows {R = R} init fill finish merge rows len whole values = (parts : List (Stretch × R))
-    × FillsParts init fill finish rows len whole parts × MergesRows merge rows len parts values
+    × FillsStretches init fill (λ s x. finish s x.row) rows len whole (stretches_in parts)
+    (results_in parts) × MergesRows merge rows len parts values
+
+-- what ends a stretch gives it with its result
+abbrev pub Names : {T R : Type 0} → (T → Stretch → R → T → Type 0) → T → Stretch → Stretch × R → T
+    → Type 0
+Names ends s x part t = (part.0 ≡ x) × ends s x part.1 t
 
 -- ---- on the way
 

@@ -1,5 +1,6 @@
 -- stretches that cut a rectangle of rows and columns
-use Rattle.std.specs.Prelude.{◌≡◌, ℕ, zero, suc, ◌<◌, ◌≤◌, List, [], ◌∷◌, ◌++◌, All, cond, eqb}
+use Rattle.std.specs.Prelude.{◌≡◌, ℕ, ◌<◌, ◌≤◌, List, All, cond, eqb, map}
+use Rattle.std.specs.List.{range_with_len}
 use Rattle.std.specs.declared.ops.Range.{Range}
 use Rattle.parallel_shares.specs.declared.shares.stretch.Stretch.{Stretch}
 use Rattle.parallel_shares.specs.Holders.{inside}
@@ -28,7 +29,6 @@ IsWholeRow len s = (s.columns.start ≡ 0) × (s.columns.end ≡ len)
 abbrev pub whole_row : ℕ → ℕ → Stretch
 whole_row len row = record { row = row; columns = record { start = 0; end = len } }
 
--- the rows below a number, whole and in order
-abbrev pub whole_rows : ℕ → ℕ → List Stretch
-whole_rows len zero = []
-whole_rows len (suc row) = whole_rows len row ++ whole_row len row ∷ []
+-- that many rows from one on, whole and in order
+abbrev pub whole_rows : ℕ → ℕ → ℕ → List Stretch
+whole_rows len row n = map (whole_row len) (range_with_len row n)

@@ -7,6 +7,7 @@ use Rattle.parallel_fault.specs.declared.fault.Fault.{Fault}
 use Rattle.parallel_policy.specs.declared.Site.{Site}
 use Rattle.parallel_shares.specs.declared.grid.Grid.{Grid}
 use Rattle.parallel_shares.specs.Grid.{critical_cost}
+use Rattle.parallel_shares.specs.declared.shares.stretch.Stretch.{Stretch}
 use Rattle.commonware_parallel.specs.Calls.{tiles_call}
 use Rattle.commonware_parallel.specs.MergedRows.{Joins}
 use Rattle.commonware_parallel.specs.declared.call.Call.{Call}
@@ -71,6 +72,6 @@ FoldsOn {R = R} kernel merge before row columns after = (next value : R) × kern
     × Joins merge before next value × (after ≡ Some value)
 
 -- what came so far is the result, and is gone
-abbrev pub EndsFold : {R : Type 0} → Option R → R → Option R → Type 0
-EndsFold None value after = after ≡ None
-EndsFold (Some so_far) value after = (value ≡ so_far) × (after ≡ None)
+abbrev pub EndsFold : {R : Type 0} → Option R → Stretch → R → Option R → Type 0
+EndsFold None stretch value after = after ≡ None
+EndsFold (Some so_far) stretch value after = (value ≡ so_far) × (after ≡ None)

@@ -6,11 +6,12 @@ pub use Rattle.std.specs.Int.{div_ceil}
 pub use Rattle.std.specs.Int.NonZero.{non_zero_usize_get}
 pub use Rattle.std.specs.Iterator.{Drains, HoldsAlong, IsFinite}
 pub use Rattle.std.specs.List.Sorted.{IsPermutation, IsSortedByClosure, IsStableByClosure}
+pub use Rattle.parallel_bridge.specs.Comes.{Comes, ComesSerially, OkStep}
 pub use Rattle.parallel_bridge.specs.Lists.{Bracketing, Brackets, MapOf}
 pub use Rattle.parallel_bridge.specs.Outcomes.{UnlessRefused, listed}
 pub use Rattle.parallel_bridge.specs.Parts.{PartitionOf}
-pub use Rattle.parallel_bridge.specs.Sources.{GivesSome}
-pub use Rattle.parallel_bridge.specs.States.{FoldInitSegment, FoldStep, MapStep, Stateful}
+pub use Rattle.parallel_bridge.specs.Sources.{GivesSome, MayCome}
+pub use Rattle.parallel_bridge.specs.States.{AnyState, FoldInitSegment, FoldStep, MapStep, Stateful}
 pub use Rattle.parallel_bridge.specs.Tries.{TryBracketing, TryFoldSegment, TryMapOf}
 pub use Rattle.parallel_bridge.specs.Ways.{FoldedAs, FoldedInitAs, MappedInitAs, TryFoldedAs}
 pub use Rattle.parallel_bridge.specs.declared.path.Path.{Path}

@@ -16,7 +16,6 @@ mod list;
 pub mod merkle;
 mod meter;
 pub mod mocks;
-mod on;
 mod outcome;
 mod rayon_strategy;
 mod running;
@@ -30,7 +29,6 @@ pub use batches::Batches;
 pub use call::{Call, Kind, Pick};
 pub use chooser::Chooser;
 pub use meter::{Learns, Measured, Meter, Unmeasured};
-pub use on::On;
 pub use outcome::flat;
 pub use parallel_bridge as bridge;
 pub use parallel_bridge::{

@@ -1,7 +1,7 @@
 //! What the list calls of a strategy stand on: what it is asked about a list, and the calls by a
 //! path and over a list as it comes.
 ghost use Rattle.std.specs.Prelude.{◌≡◌, All, List, length};
-ghost use Rattle.commonware_parallel.specs.Words.{Body, Drains, GivesSome, HoldsAlong, IsFinite, TryFoldSegment, UnlessRefused, body_call, multiplied_call};
+ghost use Rattle.commonware_parallel.specs.Words.{Body, ComesSerially, Drains, GivesSome, HoldsAlong, IsFinite, MayCome, OkStep, TryFoldSegment, UnlessRefused, body_call, multiplied_call};
 
 use crate::call::Call;
 use parallel_bridge::Parts;
@@ -53,7 +53,8 @@ where
     requires ends { IsFinite (I.remaining iter) }
     requires identity_accepts { ID.IsAlwaysCallable identity.now }
     requires fold_accepts { HoldsAlong I.next_gives iter
-        (All (λ x. (value : R) → F.pre fold_op.now value x)) }
+        (All (λ x. (value : R) → ComesSerially (ID.post identity.now) (OkStep (F.post fold_op.now))
+        (MayCome I.next_gives iter) value → F.pre fold_op.now value x)) }
     ensures { UnlessRefused result (λ out. GivesSome (Drains I.next_gives) iter
         (λ xs. TryFoldSegment (ID.post identity.now) (F.post fold_op.now) xs out)) }
 {

@@ -5,7 +5,7 @@
 //!
 //! `combine` isn't told leaves from nodes, and a root says nothing of how many leaves there were:
 //! before membership is checked against it, hash leaves and nodes after different bytes, and
-//! publish a digest of the number of leaves and the root, as `uses::merkle` does.
+//! publish a digest of the number of leaves and the root, as the crate `merkle_tree` does.
 ghost use Rattle.std.specs.Prelude.{IfOk};
 ghost use Rattle.parallel_fault.specs.Trouble.{IsMemoryOnErr};
 ghost use Rattle.commonware_parallel.specs.Merkle.{MerkleRoot, NextLevel};

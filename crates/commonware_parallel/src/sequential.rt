@@ -5,12 +5,13 @@ ghost use Rattle.std.specs.Fork.{AcceptsChunksMut, AcceptsEach, ChangesChunks, C
 ghost use Rattle.std.specs.Int.NonZero.{non_zero_usize_get};
 ghost use Rattle.std.specs.Iterator.{IsFinite, Drains, HoldsAlong};
 ghost use Rattle.std.specs.List.Sorted.{IsPermutation, IsSortedByClosure, IsStableByClosure};
-ghost use Rattle.parallel_bridge.specs.Sources.{GivesSome};
+ghost use Rattle.parallel_bridge.specs.Comes.{ComesSerially, OkStep};
+ghost use Rattle.parallel_bridge.specs.Sources.{GivesSome, MayCome};
 ghost use Rattle.parallel_fault.specs.Trouble.{IsMemoryOnErr};
 ghost use Rattle.parallel_bridge.specs.Lists.{FoldSegment, MapOf};
 ghost use Rattle.parallel_bridge.specs.Outcomes.{UnlessRefused, listed};
 ghost use Rattle.parallel_bridge.specs.Parts.{PartitionOf};
-ghost use Rattle.parallel_bridge.specs.States.{FoldInitSegment, FoldStep, MapStep, StateSegment};
+ghost use Rattle.parallel_bridge.specs.States.{AnyState, FoldInitSegment, FoldStep, MapStep, StateSegment};
 ghost use Rattle.parallel_bridge.specs.Tries.{TryFoldSegment, TryMapOf};
 ghost use Rattle.parallel_bridge.specs.declared.path.Path.TheVariants.{Serial};
 
@@ -147,7 +148,9 @@ impl Sequential {
         requires ends { IsFinite (I.remaining iter) }
         requires identity_accepts { ID.IsAlwaysCallable identity }
         requires fold_accepts { HoldsAlong I.next_gives iter
-            (All (λ x. (value : R) → F.pre fold_op value x)) }
+            (All (λ x. (value : R)
+            → ComesSerially (ID.post identity) (F.post fold_op) (MayCome I.next_gives iter) value
+            → F.pre fold_op value x)) }
         ensures { GivesSome (Drains I.next_gives) iter
             (λ xs. FoldSegment (ID.post identity) (F.post fold_op) xs result) }
     {
@@ -172,7 +175,9 @@ impl Sequential {
         requires init_accepts { N.IsAlwaysCallable init }
         requires identity_accepts { ID.IsAlwaysCallable identity }
         requires fold_accepts { HoldsAlong I.next_gives iter
-            (All (λ x. (value : R) (state : MutBor S) → F.pre fold_op value state x)) }
+            (All (λ x. (value : R)
+            → ComesSerially (ID.post identity) (AnyState (FoldStep (F.post fold_op)))
+            (MayCome I.next_gives iter) value → (state : MutBor S) → F.pre fold_op value state x)) }
         ensures { GivesSome (Drains I.next_gives) iter
             (λ xs. FoldInitSegment (N.post init) (ID.post identity)
             (FoldStep (F.post fold_op)) xs result) }
@@ -202,7 +207,8 @@ impl Sequential {
         requires ends { IsFinite (I.remaining iter) }
         requires identity_accepts { ID.IsAlwaysCallable identity }
         requires fold_accepts { HoldsAlong I.next_gives iter
-            (All (λ x. (value : R) → F.pre fold_op value x)) }
+            (All (λ x. (value : R) → ComesSerially (ID.post identity) (OkStep (F.post fold_op))
+            (MayCome I.next_gives iter) value → F.pre fold_op value x)) }
         ensures { GivesSome (Drains I.next_gives) iter
             (λ xs. TryFoldSegment (ID.post identity) (F.post fold_op) xs result) }
     {

@@ -1,9 +1,9 @@
 //! What a program calls: maps, folds, joins, sorts, batches, tiles and jobs through any strategy.
 ghost use Rattle.std.specs.Prelude.{◌<◌, ◌≡◌, ◌*◌, ◌^◌, IfErr, IfOk, OnOk, length, ℕ};
 ghost use Rattle.std.specs.declared.ops.Range.{Range};
-ghost use Rattle.commonware_parallel.specs.Words.{AnswersAs, Asked, AskedOver, AtSomePath, Batches, BeginsAs, Bracketing, Brackets, By, FailsToSpawn, Fits, FoldInitSegment, FoldStep};
-ghost use Rattle.commonware_parallel.specs.Words.{FoldedAs, FoldedInitAs, GivesSome, GoesByLength, IsBatch, IsMemoryOnErr, IsMemoryOnFault, IsPermutation, IsSortedByClosure};
-ghost use Rattle.commonware_parallel.specs.Words.{IsStableByClosure, IsTiling, MapOf, MapStep, MappedInitAs, MutBor, OfOne, OnSomeBatch, OnSomeTiles, OneOf, PartitionOf, Stateful, Tiles};
+ghost use Rattle.commonware_parallel.specs.Words.{AnswersAs, AnyState, Asked, AskedOver, AtSomePath, Batches, BeginsAs, Bracketing, Brackets, By, Comes, FailsToSpawn, FoldInitSegment, FoldStep};
+ghost use Rattle.commonware_parallel.specs.Words.{Fits, FoldedAs, FoldedInitAs, GivesSome, GoesByLength, IsBatch, IsMemoryOnErr, IsMemoryOnFault, IsPermutation, IsSortedByClosure};
+ghost use Rattle.commonware_parallel.specs.Words.{IsStableByClosure, IsTiling, MapOf, MapStep, MappedInitAs, MutBor, OfOne, OkStep, OnSomeBatch, OnSomeTiles, OneOf, PartitionOf, Stateful, Tiles};
 ghost use Rattle.commonware_parallel.specs.Words.{TryBracketing, TryFoldedAs, TryMapOf, UnlessRefused, body_call, gives_answer, join_call, listed, multiplied_call, non_zero_usize_get};
 ghost use Rattle.commonware_parallel.specs.Words.{AskedByRow, FoldsRows, GivesRows, IsAdditive, IsPartOfRows, columns_of, rows_of};
 ghost use Rattle.commonware_parallel.specs.Words.{AcceptsChunksMut, AcceptsEach, ChangesChunks, ChangesEach, div_ceil, ranges_of, spawn_call};
@@ -57,9 +57,9 @@ use std::thread::{self, Threads};
 /// list is one that the source gives (`Source::gives`). A list that is one already is neither
 /// gathered nor copied; an iterator's items are gathered where the strategy has to be asked by
 /// their number. A map's closure and a fold's step have to accept the items that may come
-/// (`Source::may`), at every value so far and every state where they have one, and no other;
-/// `identity`, `init`, `reduce_op` and `compare` have to accept every value of their arguments'
-/// types.
+/// (`Source::may`), at every state where they have one, and no other; a step and `reduce_op` have
+/// to accept the values that the fold's own closures may return for such items (`Comes`), and no
+/// other; `identity`, `init` and `compare` have to accept every value of their arguments' types.
 pub trait Strategy: Chooser {
     /// A result of one of two bodies, by the path that the strategy takes. `len` is the number of
     /// items that the bodies stand for, by which a policy tells calls apart. A run that returns is
@@ -466,8 +466,13 @@ pub trait Strategy: Chooser {
         G: Fn(R, R) -> R + Send + Sync + Drop,
         requires can { I.can source }
         requires identity_accepts { ID.IsAlwaysCallable identity }
-        requires fold_accepts { (x : I.Item) → I.may source x → (r : R) → F.pre fold_op r x }
-        requires reduce_accepts { G.IsAlwaysCallable reduce_op }
+        requires fold_accepts { (x : I.Item) → I.may source x → (value : R)
+            → Comes (ID.post identity) (F.post fold_op) (G.post reduce_op) (I.may source) value
+            → F.pre fold_op value x }
+        requires reduce_accepts { (a b : R)
+            → Comes (ID.post identity) (F.post fold_op) (G.post reduce_op) (I.may source) a
+            → Comes (ID.post identity) (F.post fold_op) (G.post reduce_op) (I.may source) b
+            → G.pre reduce_op a b }
         ensures brackets { IfOk result (λ r. GivesSome I.gives source
             (λ xs. Bracketing (ID.post identity) (F.post fold_op) (G.post reduce_op) xs r)) }
         ensures along { IfOk result
@@ -529,9 +534,14 @@ pub trait Strategy: Chooser {
         requires can { I.can source }
         requires init_accepts { N.IsAlwaysCallable init }
         requires identity_accepts { ID.IsAlwaysCallable identity }
-        requires fold_accepts { (x : I.Item) → I.may source x
-            → (value : R) (state : MutBor S) → F.pre fold_op value state x }
-        requires reduce_accepts { G.IsAlwaysCallable reduce_op }
+        requires fold_accepts { (x : I.Item) → I.may source x → (value : R)
+            → Comes (ID.post identity) (AnyState (FoldStep (F.post fold_op))) (G.post reduce_op)
+            (I.may source) value → (state : MutBor S) → F.pre fold_op value state x }
+        requires reduce_accepts { (a b : R)
+            → Comes (ID.post identity) (AnyState (FoldStep (F.post fold_op))) (G.post reduce_op)
+            (I.may source) a
+            → Comes (ID.post identity) (AnyState (FoldStep (F.post fold_op))) (G.post reduce_op)
+            (I.may source) b → G.pre reduce_op a b }
         ensures brackets { IfOk result (λ r. GivesSome I.gives source
             (λ xs. Brackets (FoldInitSegment (N.post init) (ID.post identity)
             (FoldStep (F.post fold_op))) (G.post reduce_op) xs r)) }
@@ -596,8 +606,13 @@ pub trait Strategy: Chooser {
         G: Fn(R, R) -> R + Send + Sync + Drop,
         requires can { I.can source }
         requires identity_accepts { ID.IsAlwaysCallable identity }
-        requires fold_accepts { (x : I.Item) → I.may source x → (r : R) → F.pre fold_op r x }
-        requires reduce_accepts { G.IsAlwaysCallable reduce_op }
+        requires fold_accepts { (x : I.Item) → I.may source x → (value : R)
+            → Comes (ID.post identity) (OkStep (F.post fold_op)) (G.post reduce_op) (I.may source)
+            value → F.pre fold_op value x }
+        requires reduce_accepts { (a b : R)
+            → Comes (ID.post identity) (OkStep (F.post fold_op)) (G.post reduce_op) (I.may source) a
+            → Comes (ID.post identity) (OkStep (F.post fold_op)) (G.post reduce_op) (I.may source) b
+            → G.pre reduce_op a b }
         ensures brackets { UnlessRefused result (λ out. GivesSome I.gives source
             (λ xs. TryBracketing (ID.post identity) (F.post fold_op) (G.post reduce_op) xs out)) }
         ensures along { UnlessRefused result

@@ -4,10 +4,10 @@ ghost use Rattle.std.specs.Borrow.{MutBor};
 ghost use Rattle.std.specs.Int.NonZero.{non_zero_usize_get};
 ghost use Rattle.std.specs.declared.ops.Range.{Range};
 ghost use Rattle.parallel_fault.specs.Trouble.{IsMemoryOnErr};
-ghost use Rattle.parallel_shares.specs.Fillings.{Fills, Gives};
+ghost use Rattle.parallel_shares.specs.Fillings.{Ends, Fills, Gives};
 ghost use Rattle.parallel_shares.specs.Grid.{Fits};
-ghost use Rattle.commonware_parallel.specs.Chains.{OneChain};
-ghost use Rattle.commonware_parallel.specs.MergedRows.{FillsCut};
+ghost use Rattle.commonware_parallel.specs.Chains.{OneChain, WholeRows};
+ghost use Rattle.commonware_parallel.specs.MergedRows.{FillsCut, FillsSome, Names};
 ghost use Rattle.commonware_parallel.specs.Rectangles.{IsInGrid};
 
 mod cost;
@@ -21,10 +21,10 @@ use crate::strategy::Strategy;
 pub(crate) use cost::serial_cost;
 pub(crate) use folded::fold_tiles;
 pub use law::merge_law;
-use merged::{fill_parts, merge_sorted};
+use merged::{merge_sorted, named};
 use parallel_fault::Fault;
 use parallel_policy::Place;
-use parallel_shares::{Grid, Shares};
+use parallel_shares::{Grid, Part, Shares, Stretch};
 use rows::fill_rows;
 use seats::fill_shared;
 use std::alloc::Global;
@@ -159,6 +159,40 @@ impl<'scope, S: Strategy, P: Place> Tiles<'scope, S, P> {
             → MatchResult result (λ results. results.items ≡ []) (λ _. ⊥) }
         ensures fault { IsMemoryOnErr result }
     {
+        let results = self.fill_stretches(rt, alloc, init, fill, finish)?;
+        Ok(results)
+    }
+
+    /// The same, where `finish` is handed the row of its stretch, or all of it.
+    ///
+    /// # Errors
+    ///
+    /// `Fault::Memory` if an allocation fails.
+    fn fill_stretches<
+        Rt: Threads + Wait + Sync,
+        T: Send + Drop,
+        Q: Part + Send,
+        R: Send + Drop,
+        N: Fn() -> T + Send + Sync + Drop,
+        L: Fn(&mut T, usize, Range<usize>) + Send + Sync + Drop,
+        F: Fn(&mut T, Q) -> R + Send + Sync + Drop,
+    >(self, rt: &Rt, alloc: Global, init: N, fill: L, finish: F) -> Result<Vec<R>, Fault>
+        requires init_accepts { N.IsAlwaysCallable init }
+        requires fill_accepts { (state : MutBor T) (row : ℕ) (columns : Range ℕ)
+            → IsInGrid (rows_of self) (columns_of self) row columns
+            → L.pre fill state row columns }
+        requires finish_accepts { (state : MutBor T) (stretch : Stretch)
+            → stretch.row < rows_of self → F.pre finish state (Q.part_of stretch) }
+        ensures fills { IfOk result (λ results. FillsSome (N.post init) (Fills (L.post fill))
+            (Ends Q.part_of (F.post finish)) (rows_of self.entry) (columns_of self.entry)
+            (keeps_rows self.entry) results.items) }
+        ensures serial { IfSerialTiles self.entry (IfOk result (λ results. (s t : T) × N.post init s
+            × WholeRows (Fills (L.post fill)) (Ends Q.part_of (F.post finish))
+            (columns_of self.entry) s (rows_of self.entry) results.items t)) }
+        ensures empty { (rows_of self.entry ≡ 0) ⊎ (columns_of self.entry ≡ 0)
+            → MatchResult result (λ results. results.items ≡ []) (λ _. ⊥) }
+        ensures fault { IsMemoryOnErr result }
+    {
         if self.is_empty() {
             return Ok(Vec::new(alloc));
         }
@@ -233,7 +267,12 @@ impl<'scope, S: Strategy, P: Place> Tiles<'scope, S, P> {
             return Ok(Vec::new(alloc));
         }
         let (rows, len) = (self.rows, self.len);
-        let parts = fill_parts(self, rt, alloc, init, fill, finish)?;
+        let name = move |state: &mut T, stretch: Stretch| -> (Stretch, R)
+            requires { (lent : MutBor T) → F.pre finish lent stretch.row }
+            ensures { Names (λ s x. Gives (F.post finish) s x.row) state.old stretch result
+                state.new }
+        { named(state, stretch, &finish) };
+        let parts = self.fill_stretches(rt, alloc, init, fill, name)?;
         let values = merge_sorted(alloc, rows, len, parts, &merge)?;
         Ok(values)
     }

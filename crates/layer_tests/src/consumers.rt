@@ -17,6 +17,7 @@ use parallel_bridge::splitter::LengthSplitter;
 use parallel_fault::{Fault, Trouble};
 use std::alloc::Global;
 use std::convert::Infallible;
+use std::marker::{Brand, PhantomData};
 use std::sync::atomic::{AtomicU64, Ordering};
 use test_support::same;
 
@@ -119,13 +120,24 @@ fn a_folder_of_what_may_fail_is_full_after_an_error(rt: HostRuntime) {
     let found = fullness::<Option<u32>, _, _>(alloc, options(alloc, false), Some(4), None);
     row(&rt, "options", found, wanted);
     let (control, reduce_op) = (Ok(0), &add);
-    let base = TryReduceFolder { control, reduce_op };
+    let domain: PhantomData<Brand> = PhantomData;
+    let base = TryReduceFolder {
+        control,
+        reduce_op,
+        domain,
+    };
     let found = fullness(alloc, base, Ok(4), Err(5));
     row(&rt, "reduction", found, wanted);
+    let base = TryReduceFolder {
+        control,
+        reduce_op,
+        domain,
+    };
     let folder = TryFoldFolder {
-        base: TryReduceFolder { control, reduce_op },
+        base,
         control,
         fold_op: &add_checked,
+        domain,
     };
     row(&rt, "fold", fullness(alloc, folder, 4, 5), wanted);
 }
@@ -168,11 +180,13 @@ fn a_folder_of_a_map_is_full_where_its_base_is(rt: HostRuntime) {
 #[test]
 fn a_folder_of_a_fold_is_full_where_its_base_is(rt: HostRuntime) {
     let alloc = rt.alloc();
+    let domain: PhantomData<Brand> = PhantomData;
     for is_full in [false, true] {
         let folder = FoldFolder {
             base: options(alloc, is_full),
             item: None,
             fold_op: &last_small,
+            domain,
         };
         let full = fullness::<u32, _, _>(alloc, folder, 4, 5);
         row(&rt, "fold", full, Ok([is_full; 3]));
@@ -181,6 +195,7 @@ fn a_folder_of_a_fold_is_full_where_its_base_is(rt: HostRuntime) {
             state: 0,
             item: None,
             fold_op: &last_small_with,
+            domain,
         };
         let full = fullness::<u32, _, _>(alloc, folder, 4, 5);
         row(&rt, "fold with a state", full, Ok([is_full; 3]));

@@ -16,6 +16,7 @@ use parallel_bridge::producer::{Indices, Producer};
 use parallel_bridge::window::home::Home;
 use parallel_fault::{Fault, Trouble};
 use std::alloc::Global;
+use std::marker::{Brand, PhantomData};
 use std::ops::Range;
 use std::process::Abort;
 use std::thread::Threads;
@@ -132,14 +133,17 @@ fn trouble<Rt: Threads + Sync + Abort>(
             done.err()
         }
         Asked::Bridge => {
+            let domain: PhantomData<Brand> = PhantomData;
             let base = TryReduceConsumer {
                 identity: &no_place,
                 reduce_op: &last_of,
+                domain,
             };
             let consumer = TryFoldConsumer {
                 base,
                 identity: &no_place,
                 fold_op: &step,
+                domain,
             };
             bridge(rt, alloc, four, parts, consumer).err()
         }

@@ -1,4 +1,5 @@
-//! Batches: in which ranges their indices go, and what becomes of a list that is lent to one.
+//! Batches: in which ranges their indices go, and what becomes of a list that is lent to one; and
+//! lists that are changed where they lie.
 use crate::checks::{Of, lists, number, returns, row};
 use commonware_parallel::{Batches, Fault, Sequential, Site, Strategy, Trouble};
 use std::alloc::Global;
@@ -204,10 +205,52 @@ fn marks_are_right<Rt: Threads + Wait + Abort + Sync, S: Strategy>(
 fn each_part_of_a_lent_list_is_changed_once(rt: HostRuntime) {
     let alloc = rt.alloc();
     marks_are_right(&rt, alloc, &Sequential, "Sequential");
-    marks_are_right(
-        &rt,
-        alloc,
-        &pool(&rt, alloc, 3, 3).expect(&rt, "a pool"),
-        "a pool",
-    );
+    let three = pool(&rt, alloc, 3, 3).expect(&rt, "a pool");
+    marks_are_right(&rt, alloc, &three, "a pool");
+}
+
+// Ten times the item, and its index.
+fn add_index(index: usize, item: &mut u64) {
+    *item = item.wrapping_mul(10).wrapping_add(index as u64);
+}
+
+// Lists of no item and of some, in chunks of one item, some, and more than all, and item by item.
+fn lists_are_right<Rt: Threads + Wait + Abort + Sync, S: Strategy>(
+    rt: &Rt,
+    alloc: Global,
+    strategy: &S,
+    through: &'static str,
+) {
+    for (size, marks) in [
+        (5, [].as_slice()),
+        (1, [1, 11, 21].as_slice()),
+        (3, [3, 3, 3, 33, 33, 33, 61].as_slice()),
+        (usize::MAX, [4, 4, 4, 4].as_slice()),
+    ] {
+        let mut numbers = Vec::from_slice(alloc, marks).expect(rt, "memory");
+        numbers.fill(0);
+        let list = numbers.as_mut_slice();
+        let changed = strategy.for_each_chunk_mut(rt, alloc, SITE, list, number(rt, size), mark);
+        returns(rt, ("change by chunks", through, size), changed, ());
+        let of: Of = ("marks by chunks", through, size);
+        row(rt, of, numbers.as_slice(), marks);
+    }
+    let mut numbers = [7, 8, 9];
+    let changed = strategy.for_each_mut(rt, alloc, SITE, &mut numbers, add_index);
+    returns(rt, ("change of items", through, 3), changed, ());
+    let of: Of = ("changed items", through, 3);
+    row(rt, of, numbers.as_slice(), &[70, 81, 92]);
+}
+
+#[test]
+fn a_list_is_changed_where_it_lies(rt: HostRuntime) {
+    let alloc = rt.alloc();
+    lists_are_right(&rt, alloc, &Sequential, "Sequential");
+    let three = pool(&rt, alloc, 3, 3).expect(&rt, "a pool");
+    lists_are_right(&rt, alloc, &three, "a pool");
+    let mut numbers = [7, 8, 9];
+    Sequential.for_each_mut(SITE, &mut numbers, add_index);
+    same!(&rt, numbers.as_slice(), [70, 81, 92].as_slice());
+    Sequential.for_each_chunk_mut(SITE, &mut numbers, number(&rt, 2), mark);
+    same!(&rt, numbers.as_slice(), [72, 83, 113].as_slice());
 }

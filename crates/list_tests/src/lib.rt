@@ -10,8 +10,6 @@ mod errors;
 #[cfg(test)]
 mod explorers;
 #[cfg(test)]
-mod in_place;
-#[cfg(test)]
 mod lists;
 #[cfg(test)]
 mod sides;

@@ -1,5 +1,4 @@
-//! Sorts and joins: known values, which closure of a join comes first, and whether they go side by
-//! side.
+//! Sorts and joins: known values, and which closure of a join comes first.
 use crate::checks::{Of, returns, row};
 use crate::lists::{ten, zero};
 use commonware_parallel::{Fault, Sequential, Strategy};
@@ -42,12 +41,8 @@ fn are_known<Rt: Threads + Wait + Abort + Sync, S: Strategy>(
 fn sorts_and_joins_return_known_values(rt: HostRuntime) {
     let alloc = rt.alloc();
     are_known(&rt, alloc, &Sequential, "Sequential");
-    are_known(
-        &rt,
-        alloc,
-        &pool(&rt, alloc, 2, 3).expect(&rt, "a pool"),
-        "a pool",
-    );
+    let two = pool(&rt, alloc, 2, 3).expect(&rt, "a pool");
+    are_known(&rt, alloc, &two, "a pool");
     let mut numbers = [3, 1, 2, 1];
     let sorted = Sequential.sort_by(alloc, SITE, &mut numbers, ascending);
     returns(&rt, ("sort", "Sequential's own", 4), sorted, ());
@@ -85,16 +80,6 @@ pub fn parts_see<Rt: Threads + Wait + Sync, S: Strategy>(
         || sees(&first, &second),
         || sees(&second, &first),
     )
-}
-
-#[test]
-fn joins_are_parallel_whatever_a_pool_is_planned_for(rt: HostRuntime) {
-    let alloc = rt.alloc();
-    for planned in [1, 2] {
-        let two = pool(&rt, alloc, 2, planned).expect(&rt, "a pool");
-        let of: Of = ("join", "a pool of two, planned for", planned);
-        returns(&rt, of, parts_see(&rt, alloc, &two), (true, true));
-    }
 }
 
 // Each closure takes the next number.

@@ -9,7 +9,7 @@ pub use Rattle.parallel_bridge.specs.GateRule.{FitsGate, IsGateOf, KeepsGate, Wa
 pub use Rattle.parallel_bridge.specs.Gates.{IsAtMost, IsGateSeatOf, IsWatching, MayTell, SameWatch, ToldByOne, known, seats_of, stands_for}
 pub use Rattle.parallel_bridge.specs.Halting.{IsUnhalted, NotStopped, halting, unstopped}
 pub use Rattle.parallel_bridge.specs.Lists.{Bracketing, Brackets, Chain, FoldSegment, IsFront, MapOf, of_parts, of_segment}
-pub use Rattle.parallel_bridge.specs.Loads.{CameTo, steps_left}
+pub use Rattle.parallel_bridge.specs.Loads.{LoadCameTo, steps_left, steps_of}
 pub use Rattle.parallel_bridge.specs.Onto.{PartitionOnto, ReducesTo, TryContinues, TryMapBehind, TryMapOnto}
 pub use Rattle.parallel_bridge.specs.Outcomes.{IsListed, PutTogether, UnlessRefused, ended, joined, listed}
 pub use Rattle.parallel_bridge.specs.Pairs.{odd_of, pair_items, pair_rest, pairs_of}
@@ -24,7 +24,6 @@ pub use Rattle.parallel_bridge.specs.Tries.{TryReducedSegment, of_left_error, of
 pub use Rattle.parallel_bridge.specs.Ways.{FoldedAs, FoldedInitAs, MappedInitAs, TryFoldedAs}
 pub use Rattle.parallel_bridge.specs.Windows.{Adjoins, Follows, IsRow, View, part}
 pub use Rattle.parallel_bridge.specs.Zips.{PairsOf, both, zipped_steps}
-pub use Rattle.parallel_bridge.specs.declared.drive.row.Load.{Load}
 pub use Rattle.parallel_bridge.specs.declared.gate.seat.GateSeat.{GateSeat}
 pub use Rattle.parallel_bridge.specs.declared.gate.seat.GateView.{GateView}
 pub use Rattle.parallel_bridge.specs.declared.gate.watch.GateWatch.{GateWatch}

@@ -22,19 +22,25 @@ parted (Err f) us ks P h at_us at_ks = tt
 
 -- the value of a segment is reduced after an identity
 module _ {X R : Type 0} (E : Type 0) (identity : R → Type 0) (allowed : List X → R → Type 0)
-    (reduce : R → R → R → Type 0) where
+    (reduce : R → R → R → Type 0) (has : R → Type 0) where
   pub fold_driven : (cut : Cut X) (r : R) → TryAlongCut {E = E} (λ l out. (b : R) × allowed l b
-      × OnlyOk (λ v. FoldSegment identity reduce (b ∷ []) v) out)
-      (λ a b out. OnlyOk (λ v. reduce a b v) out) cut (Ok r)
+      × OnlyOk (λ v. FoldSegment identity reduce (b ∷ []) v × has v) out)
+      (λ a b out. OnlyOk (λ v. reduce a b v × has v) out) cut (Ok r)
       → AlongLeaves identity allowed reduce cut r
-  fold_driven (segment xs) r (b, h, (e, first, (m, one, last))) =
+  fold_driven (segment xs) r (b, h, ((e, first, (m, one, last)), k)) =
       (e, b, first, h, subst (reduce e b) last one)
-  fold_driven (halves p q) r (inl (a, b, h, i, n)) = (a, b, fold_driven p a h, fold_driven q b i, n)
+  fold_driven (halves p q) r (inl (a, b, h, i, n)) =
+      (a, b, fold_driven p a h, fold_driven q b i, n.0)
   fold_driven (halves p q) r (inr (inl (e, same, h))) = absurd (cc same)
   fold_driven (halves p q) r (inr (inr (a, e, same, h, i))) = absurd (cc same)
 
 module _ {X R E : Type 0} (identity : R → Type 0) (allowed : List X → Result R E → Type 0)
-    (reduce : R → R → R → Type 0) where
+    (reduce : R → R → R → Type 0) (has : R → Type 0) where
+  reduced : (a b : R) (out : Result R E) → OnlyOk (λ v. reduce a b v × has v) out
+      → OnlyOk (reduce a b) out
+  reduced a b (Ok r) h = h.0
+  reduced a b (Err e) never = absurd never
+
   -- so is the value of a segment whose steps may fail, and an error stands
   try_reduced : (xs : List X) (v out : Result R E) → allowed xs v
       → TryFoldSegment identity (ReducesTo reduce) (v ∷ []) out
@@ -48,14 +54,15 @@ module _ {X R E : Type 0} (identity : R → Type 0) (allowed : List X → Result
 
   pub try_fold_driven : (cut : Cut X) (out : Result R E)
       → TryAlongCut (λ l o. (v : Result R E) × allowed l v
-      × TryFoldSegment identity (ReducesTo reduce) (v ∷ []) o) (λ a b. OnlyOk (reduce a b)) cut out
+      × (TryFoldSegment identity (ReducesTo reduce) (v ∷ []) o × IfOk o has))
+      (λ a b. OnlyOk (λ v. reduce a b v × has v)) cut out
       → TryAlongLeaves identity allowed reduce cut out
   try_fold_driven cut out h = try_along_wider
       (λ l o. (v : Result R E) × allowed l v
-      × TryFoldSegment identity (ReducesTo reduce) (v ∷ []) o)
-      (TryReducedSegment identity allowed reduce) (λ a b. OnlyOk (reduce a b))
+      × (TryFoldSegment identity (ReducesTo reduce) (v ∷ []) o × IfOk o has))
+      (TryReducedSegment identity allowed reduce) (λ a b. OnlyOk (λ v. reduce a b v × has v))
       (λ a b. OnlyOk (reduce a b))
-      (λ xs o (v, i, n). try_reduced xs v o i n) (λ a b o n. n) cut out h
+      (λ xs o (v, i, (n, k)). try_reduced xs v o i n) reduced cut out h
 
 module _ {X K U V : Type 0} (E : Type 0) (values : V → List U) (keys : V → List K)
     (allowed : X → (K × Option U) → Type 0) where

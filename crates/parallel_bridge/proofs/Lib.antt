@@ -31,6 +31,8 @@ pub mod Neighbours
 mod GateSteps
 mod GateEnds
 pub mod Feeds
+pub mod Comes
+pub mod Given
 pub mod Unhalt
 pub mod Watches
 mod Fronts
@@ -41,6 +43,7 @@ pub use Common.*
 pub use Blocks.*
 pub use Bracketings.*
 pub use CollectChains.*
+pub use Comes.*
 pub use Drivers.*
 pub use FirstFailing.*
 pub use FoldersAppend.*
@@ -48,6 +51,7 @@ pub use Fulls.*
 pub use Fronts.*
 pub use GateEnds.*
 pub use GateSteps.*
+pub use Given.*
 pub use Halves.*
 pub use IteratorItems.*
 pub use Laws.*

@@ -1,7 +1,8 @@
--- What loads came to, with one more at the end of both lists.
-use Rattle.parallel_bridge.proofs.Common.{◌≡◌, ℕ, List, [], ◌∷◌, ◌++◌, subst, arith, length-append, AllZip, CameTo, Load}
+-- Lists that go pair by pair, with one more at the end of both, and from each place.
+use Rattle.parallel_bridge.proofs.Common.{◌≡◌, ℕ, suc, ◌<◌, List, [], ◌∷◌, ◌++◌, subst, arith, length, length-append, AllZip}
 use Rattle.parallel_bridge.proofs.Shapes.{MapOf-append}
 use Rattle.std.proofs.lemmas.Slice.Zip.{AllZip-long}
+use Rattle.std.specs.Prelude.{slice_index_or}
 
 module _ {A B : Type 0} (R : A → B → Type 0) where
   pop : (xs : List A) (ys : List B) (x : A) (y : B) → AllZip R (xs ++ x ∷ []) (ys ++ y ∷ [])
@@ -15,31 +16,33 @@ module _ {A B : Type 0} (R : A → B → Type 0) where
     length-append v (y ∷ []),
   ))
 
-module _ {T D : Type 0} (ends : ℕ → T → D → Type 0) where
-  pub one_came : (loads : List (Load T)) (done all : List (D × D)) (load : Load T) (both : D × D)
-      → all ≡ done ++ both ∷ [] → CameTo ends loads done
-      → ends load.depth load.left both.0 × ends load.depth load.right both.1
-      → CameTo ends (loads ++ load ∷ []) all
-  one_came loads done all load both put each one =
-      rw put (MapOf-append _ loads (load ∷ []) done (both ∷ []) each (one, tt))
+  pub zip_more : (xs : List A) (ys all : List B) (x : A) (y : B) → all ≡ ys ++ y ∷ []
+      → AllZip R xs ys → R x y → AllZip R (xs ++ x ∷ []) all
+  zip_more xs ys all x y put each one =
+      rw put (MapOf-append _ xs (x ∷ []) ys (y ∷ []) each (one, tt))
 
-  pub last_came : (loads more : List (Load T)) (done all : List (D × D)) (load : Load T)
-      (both : D × D) → more ≡ loads ++ load ∷ [] → all ≡ done ++ both ∷ [] → CameTo ends more all
-      → CameTo ends loads done
-      × (ends load.depth load.left both.0 × ends load.depth load.right both.1)
-  last_came loads more done all load both longer put came =
-      pop (λ l d. ends l.depth l.left d.0 × ends l.depth l.right d.1) loads done load both
-      (subst (λ l. CameTo ends l (done ++ both ∷ [])) longer (subst (CameTo ends more) put came))
+  pub zip_last : (xs more : List A) (ys all : List B) (x : A) (y : B) → more ≡ xs ++ x ∷ []
+      → all ≡ ys ++ y ∷ [] → AllZip R more all → AllZip R xs ys × R x y
+  zip_last xs more ys all x y longer put each = pop xs ys x y
+      (subst (λ l. AllZip R l (ys ++ y ∷ [])) longer (subst (AllZip R more) put each))
 
   -- and with two more
-  pub two_came : (loads one two : List (Load T)) (done first all : List (D × D))
-      (inner outer : Load T) (last_but_one last : D × D) → one ≡ loads ++ inner ∷ []
-      → two ≡ one ++ outer ∷ [] → all ≡ first ++ last ∷ [] → first ≡ done ++ last_but_one ∷ []
-      → CameTo ends two all
-      → CameTo ends loads done × (ends inner.depth inner.left last_but_one.0
-      × ends inner.depth inner.right last_but_one.1)
-      × (ends outer.depth outer.left last.0 × ends outer.depth outer.right last.1)
-  two_came loads one two done first all inner outer i o longer longest put put_two came =
-      let (others, end) = last_came one two first all outer o longest put came in
-      let (rest, middle) = last_came loads one done first inner i longer put_two others in
-      (rest, middle, end)
+  pub zip_two : (xs one two : List A) (ys first all : List B) (i o : A) (p q : B)
+      → one ≡ xs ++ i ∷ [] → two ≡ one ++ o ∷ [] → all ≡ first ++ q ∷ [] → first ≡ ys ++ p ∷ []
+      → AllZip R two all → AllZip R xs ys × R i p × R o q
+  zip_two xs one two ys first all i o p q longer longest put_two put each =
+      let (others, outer) = zip_last one two first all o q longest put_two each in
+      let (rest, inner) = zip_last xs one ys first i p longer put others in
+      (rest, inner, outer)
+
+module _ {A : Type 0} (R : A → A → Type 0) where
+  pub zip_at : (xs ys : List A) → length ys ≡ length xs
+      → ((i : ℕ) (d : A) → i < length xs → R (slice_index_or xs i d) (slice_index_or ys i d))
+      → AllZip R xs ys
+  zip_at [] [] same at = tt
+  zip_at [] (y ∷ ys) same at = absurd (omega (arith, same))
+  zip_at (x ∷ xs) [] same at = absurd (omega (arith, same))
+  zip_at (x ∷ xs) (y ∷ ys) same at = (
+    at 0 x (omega arith),
+    zip_at xs ys (omega (arith, same)) (λ i d below. at (suc i) d (omega (arith, below))),
+  )

@@ -1,6 +1,7 @@
 pub mod Lists
 pub mod Shapes
 pub mod Folds
+pub mod Comes
 pub mod Outcomes
 pub mod States
 pub mod Tries

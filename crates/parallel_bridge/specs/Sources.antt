@@ -22,9 +22,8 @@ abbrev pub Driven : {S X R E : Type 0} → (S → List X → Type 0) → S → (
 Driven gives source leaf node depth result = UnlessRefused result
     (λ out. GivesSome gives source (λ xs. TryAlongCut leaf node (Shape depth xs) out))
 
--- a consumer may be handed a list: it may work, the list is as long as it knows, and it takes each
--- item that may come
-abbrev pub Suits : {P C X : Type 0} → (C → Type 0) → (C → ℕ → Type 0) → (C → X → Type 0) → (P → ℕ)
-    → (P → X → Type 0) → P → C → Type 0
-Suits {X = X} ready fits takes count may parts consumer = ready consumer
-    × fits consumer (count parts) × ((x : X) → may parts x → takes consumer x)
+-- a consumer may be handed a list: it may work, and it takes each item that may come
+abbrev pub Suits : {P C X : Type 0} → (C → Type 0) → (C → X → Type 0) → (P → X → Type 0) → P → C
+    → Type 0
+Suits {X = X} ready takes may parts consumer = ready consumer
+    × ((x : X) → may parts x → takes consumer x)

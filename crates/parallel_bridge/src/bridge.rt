@@ -1,5 +1,5 @@
 //! Lists handed to a consumer, split along their shape.
-ghost use Rattle.std.specs.Prelude.{◌≡◌, ◌*◌, ◌<◌, ◌≤◌, ◌⊎◌, List, Result, length};
+ghost use Rattle.std.specs.Prelude.{◌≡◌, ◌*◌, ◌<◌, ◌≤◌, ◌⊎◌, List, Ok, Result, length};
 ghost use Rattle.std.specs.Int.NonZero.{non_zero_usize_get};
 ghost use Rattle.parallel_bridge.specs.Endings.{IsUnderway, JoinsTo, ending_of, well};
 ghost use Rattle.parallel_bridge.specs.Halting.{halting, unstopped};
@@ -42,7 +42,6 @@ pub fn bridge<Rt: Threads + Sync, P: Parts, C: Consumer<P::Item> + Send>(
     consumer: C,
 ) -> Result<C::Result, Trouble<C::Error>>
     requires ready { C.ready consumer }
-    requires fits { C.fits consumer (P.count parts) }
     requires items { (x : P.Item) → P.may parts x → C.takes consumer x }
     ensures along { Driven P.gives parts (C.leaf_gives consumer) (C.node_gives consumer)
         (cutdepth (non_zero_usize_get threads)) result }
@@ -69,7 +68,6 @@ pub fn bridge_watched<Rt: Threads + Sync, P: Parts, C: Consumer<P::Item> + Send,
     watch: G,
 ) -> (Result<C::Result, Trouble<Halt<C::Error>>>, G)
     requires ready { C.ready consumer }
-    requires fits { C.fits consumer (P.count parts) }
     requires items { (x : P.Item) → P.may parts x → C.takes consumer x }
     requires watch { G.may watch (P.count parts) }
     ensures along { Driven P.gives parts (halting (C.leaf_gives consumer))
@@ -107,7 +105,7 @@ impl<X: Send + Drop, S: Segment<X>, C: Consumer<X> + Send, G: Watch + Send> Task
     type Seam = C::Reducer;
 
     ghost ready = { λ s. S.ready s.parts
-        × Suits C.ready C.fits C.takes S.count S.may s.parts s.consumer
+        × Suits C.ready C.takes S.may s.parts s.consumer
         × G.may s.watch (S.count s.parts) };
 
     ghost long = { λ s. 2 ≤ S.count s.parts };
@@ -118,7 +116,8 @@ impl<X: Send + Drop, S: Segment<X>, C: Consumer<X> + Send, G: Watch + Send> Task
         (λ a. unstopped (C.node_gives s.consumer a)) depth d.0 × S.leaves s.parts d.1
         × G.ends s.watch (S.count s.parts) d.2 (ending_of d.0) };
 
-    ghost meet = { λ seam a b. ((p q : C.Result) → C.Reducer.can_reduce seam p q)
+    ghost meet = { λ seam a b. ((p q : C.Result) → a.0 ≡ Ok p → b.0 ≡ Ok q
+        → C.Reducer.can_reduce seam p q)
         × ((whole : S) × S.meets whole a.1 b.1) × G.meets a.2 b.2
         × ((both : G) → G.joins a.2 b.2 both → ending_of a.0 ≡ well → ending_of b.0 ≡ well
         → IsUnderway G.ends both) };

@@ -1,14 +1,13 @@
 //! What goes along the shape of a list, whatever the parts of the list are and whatever is made of
 //! them: a task is split in two, the halves likewise, and the parts run side by side.
 ghost use Rattle.std.specs.Prelude.{◌≡◌, ◌-◌, ◌<◌, ◌≤◌, ℕ, IfErr, IfOk, IsTrue, false};
-ghost use Rattle.std.specs.Thread.{IsSync, IsSend};
 
 use std::alloc::Global;
-use std::thread::{Threads, join};
+use std::thread::Threads;
 
-mod row;
+mod loads;
 
-use row::drive_shared;
+use loads::drive_shared;
 
 /// A part of a list with what is to be made of it. Its laws are the clauses here: what two halves
 /// come to, put together, is what the task may come to.
@@ -66,7 +65,8 @@ pub trait Task: Send + Sized + Drop {
 }
 
 /// What a task comes to that is halved at most `depth` times over, with that many threads to share,
-/// of which the caller's is one.
+/// of which the caller's is one. Where no thread is to be shared, or no memory is there for a list
+/// of what each thread gets, it goes by the caller's thread alone.
 pub fn drive<Rt: Threads + Sync, T: Task>(
     rt: &Rt,
     alloc: Global,
@@ -77,8 +77,8 @@ pub fn drive<Rt: Threads + Sync, T: Task>(
     requires { T.ready task }
     ensures { T.ends depth task result }
 {
-    if task.is_leaf(depth) {
-        return task.run(alloc);
+    if threads < 2 || task.is_leaf(depth) {
+        return drive_alone(alloc, depth, task);
     }
     let (left, right, seam) = match task.split(alloc) {
         Ok(halves) => halves,
@@ -88,16 +88,8 @@ pub fn drive<Rt: Threads + Sync, T: Task>(
     T::join(seam, first, second)
 }
 
-// The task with no list of loads: its halves one after the other, or side by side where threads are
-// to share.
-#[cycle(halves)]
-fn drive_plain<Rt: Threads + Sync, T: Task>(
-    rt: &Rt,
-    alloc: Global,
-    depth: usize,
-    threads: usize,
-    task: T,
-) -> T::Done
+// The task on the caller's thread, its halves one after the other.
+fn drive_alone<T: Task>(alloc: Global, depth: usize, task: T) -> T::Done
     requires { T.ready task }
     ensures { T.ends depth task result }
 {
@@ -108,42 +100,7 @@ fn drive_plain<Rt: Threads + Sync, T: Task>(
         Ok(halves) => halves,
         Err(done) => return done,
     };
-    let (first, second) = drive_both(rt, alloc, depth - 1, threads, left, right);
+    let first = drive_alone(alloc, depth - 1, left);
+    let second = drive_alone(alloc, depth - 1, right);
     T::join(seam, first, second)
-}
-
-#[cycle(halves)]
-fn drive_both<Rt: Threads + Sync, T: Task>(
-    rt: &Rt,
-    alloc: Global,
-    depth: usize,
-    threads: usize,
-    left: T,
-    right: T,
-) -> (T::Done, T::Done)
-    requires left { T.ready left }
-    requires right { T.ready right }
-    ensures first { T.ends depth left result.0 }
-    ensures second { T.ends depth right result.1 }
-{
-    if threads < 2 {
-        let first = drive_plain(rt, alloc, depth, threads, left);
-        let second = drive_plain(rt, alloc, depth, threads, right);
-        return (first, second);
-    }
-    let others = threads / 2;
-    let own = threads - others;
-    join(
-        rt,
-        move || -> T::Done
-            requires { IsSync Rt.row × IsSend T.row × IsSend T.Done.row × IsSend T.Seam.row
-                × T.ready left }
-            ensures { T.ends depth left result }
-        { drive_plain(rt, alloc, depth, others, left) },
-        move || -> T::Done
-            requires { IsSync Rt.row × IsSend T.row × IsSend T.Done.row × IsSend T.Seam.row
-                × T.ready right }
-            ensures { T.ends depth right result }
-        { drive_plain(rt, alloc, depth, own, right) },
-    )
 }

@@ -1,8 +1,9 @@
 //! What a list is handed to: the traits, with the laws by which one bridge drives them all.
-ghost use Rattle.std.specs.Prelude.{◌≡◌, ◌++◌, ◌∷◌, ◌-◌, ◌≤◌, [], false, ℕ, Bool, List, Result, IfOk, IsTrue};
+ghost use Rattle.std.specs.Prelude.{◌≡◌, ◌++◌, ◌∷◌, [], false, Bool, List, Result, IfOk, IsTrue};
 ghost use Rattle.std.specs.Iterator.{Drains, HoldsAlong, IsFinite};
 ghost use Rattle.std.specs.List.{All};
 ghost use Rattle.parallel_fault.specs.Trouble.{IsMemoryOnErr};
+ghost use Rattle.parallel_bridge.specs.Comes.{Given};
 ghost use Rattle.parallel_bridge.specs.Outcomes.{UnlessRefused};
 
 use parallel_fault::{Fault, Trouble};
@@ -112,8 +113,6 @@ pub trait Consumer<Item: Drop>: Sized + Drop {
     ghost ready: { Self → Type 0 };
     /// An item that may be handed over.
     ghost takes: { Self → Item → Type 0 };
-    /// Whether it may be handed a list of that many items, for a consumer that knows its place.
-    ghost fits: { Self → ℕ → Type 0 };
     /// What the items of a list that is not split may give.
     ghost leaf_gives: { Self → List Item → Result Self.Result Self.Error → Type 0 };
     /// What the results of a left and a right part may give.
@@ -129,9 +128,9 @@ pub trait Consumer<Item: Drop>: Sized + Drop {
         requires { ready self }
         ensures ready { IfOk result (λ p. ready p.0 × ready p.1) }
         ensures takes { IfOk result (λ p. (x : Item) → takes self x → takes p.0 x × takes p.1 x) }
-        ensures fits { IfOk result (λ p. (n : ℕ) → index ≤ n → fits self n
-            → fits p.0 index × fits p.1 (n - index)) }
-        ensures reducer { IfOk result (λ p. (a b : Self.Result) → Self.Reducer.can_reduce p.2 a b) }
+        ensures reducer { IfOk result (λ p. (a b : Self.Result)
+            → Given (leaf_gives p.0) (node_gives p.0) a → Given (leaf_gives p.1) (node_gives p.1) b
+            → Self.Reducer.can_reduce p.2 a b) }
         ensures left_leaf { IfOk result (λ p. (xs : List Item) (out : Result Self.Result Self.Error)
             → leaf_gives p.0 xs out → leaf_gives self xs out) }
         ensures right_leaf { IfOk result

@@ -23,7 +23,7 @@ pub(crate) fn put_together<R: Drop, E: Drop, T: Reducer<R, E>, G: Watch>(
     second: (Result<R, Trouble<Halt<E>>>, G),
     reducer: T,
 ) -> (Result<R, Trouble<Halt<E>>>, G)
-    requires can { (a b : R) → T.can_reduce reducer a b }
+    requires can { (a b : R) → first.0 ≡ Ok a → second.0 ≡ Ok b → T.can_reduce reducer a b }
     requires meet { G.meets first.1 second.1 }
     requires underway { (both : G) → G.joins first.1 second.1 both → ending_of first.0 ≡ well
         → ending_of second.0 ≡ well → IsUnderway G.ends both }

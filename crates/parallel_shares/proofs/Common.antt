@@ -5,7 +5,7 @@ pub use Rattle.atomic_table.specs.Table.{Act, Allows, Joins, Me, Splits, State, 
 pub use Rattle.parallel_shares.specs.Answers.{Answers, CanClaim, CanRefill, CanSteal, ClaimAnswers, LoadAnswers, Pays, RefillAnswers, Replays, StealAnswers, cells_in, claim_cells, claim_stop}
 pub use Rattle.parallel_shares.specs.Answers.{middle_of}
 pub use Rattle.parallel_shares.specs.Cut.{BalancedCut, CutsFrom, IsEven, range_length}
-pub use Rattle.parallel_shares.specs.Fillings.{Chained, Closes, Ended, Ends, FilledOpen, Fills, GoesOn, Underway, last_fill, no_fill}
+pub use Rattle.parallel_shares.specs.Fillings.{Closes, Ends, FilledOpen, Fills, Finished, GoesOn, Underway, last_fill, no_fill}
 pub use Rattle.parallel_shares.specs.Fronts.{IsFront}
 pub use Rattle.parallel_shares.specs.Gathered.{HasAll}
 pub use Rattle.parallel_shares.specs.Holders.{Claims, Hands, Holder, Holders, IsOpening, Leads, Move, Reached, Refills, Shows, Steals, StepsByMoves, carried, claim, claimed, in_range, in_ranges}

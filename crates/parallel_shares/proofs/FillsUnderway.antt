@@ -1,31 +1,32 @@
 -- Fills and finishes along a cutting that is on its way.
 use Rattle.parallel_shares.proofs.Common.{◌≡◌, ℕ, ◌<◌, List, [], ◌∷◌, ◌++◌, Option, Some, None, refl, sym, subst, ◌∙◌, append-nil, arith, Range, Stretch, Piece, CutsCells, stretch_of, stretches_of}
-use Rattle.parallel_shares.proofs.Common.{IsPiece, piece_cells, Grown, no_fill, last_fill, Ended, Chained, FilledOpen, Closes, Underway}
+use Rattle.parallel_shares.proofs.Common.{IsPiece, piece_cells, Grown, no_fill, last_fill, Finished, FilledOpen, Closes, Underway}
 use Rattle.parallel_shares.proofs.Stretching.{parted_grows, parted_anew, parted_ends}
-
-module _ {T X R : Type 0} (does : T → X → R → T → Type 0) where
-  -- one element more at the end of a chain
-  chained_push : (s u t : T) (xs : List X) (rs : List R) (x : X) (r : R)
-      → Chained does s xs rs u → does u x r t → Chained does s (xs ++ x ∷ []) (rs ++ r ∷ []) t
-  chained_push s u t [] [] x r e last = (t, subst (λ v. does v x r t) (sym e) last, refl)
-  chained_push s u t [] (q ∷ rs) x r wrong last = absurd wrong
-  chained_push s u t (y ∷ xs) [] x r wrong last = absurd wrong
-  chained_push s u t (y ∷ xs) (q ∷ rs) x r (v, one, rest) last =
-      (v, one, chained_push v u t xs rs x r rest last)
 
 module _ {T R : Type 0} (fill : T → ℕ → Range ℕ → T → Type 0)
     (ends : T → Stretch → R → T → Type 0) where
+  -- two chains, the second from where the first ends
+  pub finished_append : (s u t : T) (xs ys : List Stretch) (rs qs : List R)
+      → Finished fill ends s xs rs u → Finished fill ends u ys qs t
+      → Finished fill ends s (xs ++ ys) (rs ++ qs) t
+  finished_append s u t [] ys [] qs e h = subst (λ v. Finished fill ends v ys qs t) (sym e) h
+  finished_append s u t [] ys (r ∷ rs) qs wrong h = absurd wrong
+  finished_append s u t (x ∷ xs) ys [] qs wrong h = absurd wrong
+  finished_append s u t (x ∷ xs) ys (r ∷ rs) qs (v, one, rest) h =
+      (v, one, finished_append v u t xs ys rs qs rest h)
+
   -- the open stretch got its result
   closed : (s u t : T) (xs : List Stretch) (opened : Option Piece) (before after : List R) (m : T)
-      → Chained (Ended fill ends) s xs before m → FilledOpen fill m opened u
+      → Finished fill ends s xs before m → FilledOpen fill m opened u
       → Closes ends opened u before t after
-      → Chained (Ended fill ends) s (xs ++ stretches_of opened) after t
+      → Finished fill ends s (xs ++ stretches_of opened) after t
   closed s u t xs None before after m done open_ (same, none_more) =
       let to : m ≡ t = open_ ∙ same in
       rw (append-nil xs, none_more, ← to) done
   closed s u t xs (Some p) before after m done open_ (r, gives, more) =
       rw more
-      (chained_push (Ended fill ends) s m t xs before (stretch_of p) r done (u, open_, gives))
+      (finished_append s m t xs (stretch_of p ∷ []) before (r ∷ []) done
+      (t, (u, open_, gives), refl))
 
   -- a stretch that was filled so far is filled further
   filled_more : (before s t : T) (opened : Option Piece) (piece longer : Piece)
@@ -47,7 +48,7 @@ module _ {T R : Type 0} (fill : T → ℕ → Range ℕ → T → Type 0)
     way_grows piece longer t g is fills = record {
       done = way.done;
       before = way.before;
-      chained = way.chained;
+      finished = way.finished;
       filled = filled_more way.before s t opened piece longer way.filled g is.0 fills;
       parted = parted_grows len cells way.done opened piece longer g is way.parted;
     }
@@ -60,8 +61,8 @@ module _ {T R : Type 0} (fill : T → ℕ → Range ℕ → T → Type 0)
     way_anew piece u t more g is closes fills = record {
       done = way.done ++ stretches_of opened;
       before = u;
-      chained =
-          closed first s u way.done opened results more way.before way.chained way.filled closes;
+      finished =
+          closed first s u way.done opened results more way.before way.finished way.filled closes;
       filled = last_fill u u t piece.start piece.start piece.end
           (no_fill u u piece.start piece.start refl refl) is.0 fills;
       parted = parted_anew len cells way.done opened piece g is way.parted;
@@ -69,11 +70,11 @@ module _ {T R : Type 0} (fill : T → ℕ → Range ℕ → T → Type 0)
 
     -- the open stretch ends, and nothing comes after it
     pub way_ends : (t : T) (more : List R) → Closes ends opened s results t more
-        → (cut : List Stretch) × CutsCells len cells cut × Chained (Ended fill ends) first cut more t
+        → (cut : List Stretch) × CutsCells len cells cut × Finished fill ends first cut more t
     way_ends t more closes = (
       way.done ++ stretches_of opened,
       parted_ends len cells way.done opened way.parted,
-      closed first s t way.done opened results more way.before way.chained way.filled closes,
+      closed first s t way.done opened results more way.before way.finished way.filled closes,
     )
 
   -- nothing so far
@@ -82,7 +83,7 @@ module _ {T R : Type 0} (fill : T → ℕ → Range ℕ → T → Type 0)
   way_begins len first results e = record {
     done = [];
     before = first;
-    chained = subst (λ rs. Chained (Ended fill ends) first [] rs first) (sym e) refl;
+    finished = subst (λ rs. Finished fill ends first [] rs first) (sym e) refl;
     filled = refl;
     parted = (refl, refl);
   }
@@ -91,7 +92,7 @@ module _ {T R : Type 0} (fill : T → ℕ → Range ℕ → T → Type 0)
 module _ {T : Type 0} (fill : T → ℕ → Range ℕ → T → Type 0)
     (ends : T → Stretch → Stretch → T → Type 0)
     (itself : (s t : T) (x r : Stretch) → ends s x r t → r ≡ x) where
-  all_itself : (s t : T) (xs rs : List Stretch) → Chained (Ended fill ends) s xs rs t → rs ≡ xs
+  all_itself : (s t : T) (xs rs : List Stretch) → Finished fill ends s xs rs t → rs ≡ xs
   all_itself s t [] [] e = refl
   all_itself s t [] (r ∷ rs) wrong = absurd wrong
   all_itself s t (x ∷ xs) [] wrong = absurd wrong

@@ -37,22 +37,14 @@ abbrev pub Ended : {T R : Type 0} → (T → ℕ → Range ℕ → T → Type 0)
 Ended {T = T} fill ends s x r t =
     (u : T) × Filled fill x.row s x.columns.start x.columns.end u × ends u x r t
 
--- the fills of a stretch, and then its result
-abbrev pub Finishes : {T R : Type 0} → (T → ℕ → Range ℕ → T → Type 0) → (T → ℕ → R → T → Type 0) → T
-    → Stretch → R → T → Type 0
-Finishes fill finish = Ended fill (λ s x. finish s x.row)
-
--- one result for each element, in order, by one chain from the state s to the state t
-abbrev pub Chained : {T X R : Type 0} → (T → X → R → T → Type 0) → T → List X → List R → T → Type 0
-Chained does s [] [] t = s ≡ t
-Chained does s [] (r ∷ rs) t = ⊥
-Chained does s (x ∷ xs) [] t = ⊥
-Chained {T = T} does s (x ∷ xs) (r ∷ rs) t = (u : T) × does s x r u × Chained does u xs rs t
-
 -- one result for each stretch, in order, by one chain from the state s to the state t
-abbrev pub Finished : {T R : Type 0} → (T → ℕ → Range ℕ → T → Type 0) → (T → ℕ → R → T → Type 0) → T
-    → List Stretch → List R → T → Type 0
-Finished fill finish = Chained (Finishes fill finish)
+abbrev pub Finished : {T R : Type 0} → (T → ℕ → Range ℕ → T → Type 0) → (T → Stretch → R → T → Type 0)
+    → T → List Stretch → List R → T → Type 0
+Finished fill ends s [] [] t = s ≡ t
+Finished fill ends s [] (r ∷ rs) t = ⊥
+Finished fill ends s (x ∷ xs) [] t = ⊥
+Finished {T = T} fill ends s (x ∷ xs) (r ∷ rs) t =
+    (u : T) × Ended fill ends s x r u × Finished fill ends u xs rs t
 
 -- ---- a chain on its way, with a stretch that is open
 
@@ -77,7 +69,7 @@ pub record Underway {T R : Type 0}
     (opened : Option Piece) (results : List R) (state : T) : Type 0 where
   pub done : List Stretch
   pub before : T
-  pub chained : Chained (Ended fill ends) first done results before
+  pub finished : Finished fill ends first done results before
   pub filled : FilledOpen fill before opened state
   pub parted : Parted len cells done opened
 
@@ -103,10 +95,10 @@ GoesOnByPiece fill ends piece opened results state opened_after results_after st
 
 -- ranges were claimed, each the front of a word of the cells, and the stretches that they are cut
 -- into have their results
-abbrev pub Worked : {T R : Type 0} → (T → ℕ → Range ℕ → T → Type 0) → (T → ℕ → R → T → Type 0)
+abbrev pub Worked : {T R : Type 0} → (T → ℕ → Range ℕ → T → Type 0) → (T → Stretch → R → T → Type 0)
     → Sizes → ℕ → List (Range ℕ) → T → List (Range ℕ) → List R → T → Type 0
-Worked fill finish sizes len claims state claims_after results state_after =
+Worked fill ends sizes len claims state claims_after results state_after =
     (gained : List (Range ℕ)) × (cut : List Stretch)
     × (claims_after ≡ claims ++ gained)
     × All (IsFront sizes) gained
-    × Cutting gained len cut × Finished fill finish state cut results state_after
+    × Cutting gained len cut × Finished fill ends state cut results state_after

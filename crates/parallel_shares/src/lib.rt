@@ -9,5 +9,5 @@ mod word;
 
 pub use balanced::cut;
 pub use grid::Grid;
-pub use shares::{Seat, Shares, Stretch, Tried, stretches};
+pub use shares::{Part, Seat, Shares, Stretch, Tried, stretches};
 pub use word::{pack, unpack};

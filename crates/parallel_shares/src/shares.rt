@@ -23,6 +23,7 @@ use lines::{place_of, spaced_words};
 use parallel_fault::Fault;
 pub use rule::View;
 use rule::{Deal, Gather, LookOwn, Partition, TakeFront};
+pub use run::Part;
 pub use seat::{Seat, Tried};
 use std::alloc::Global;
 use std::num::NonZeroUsize;

@@ -13,6 +13,4 @@ mod plans;
 #[cfg(test)]
 mod printed;
 #[cfg(test)]
-mod searches;
-#[cfg(test)]
 mod writers;

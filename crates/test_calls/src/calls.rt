@@ -1,9 +1,10 @@
 //! The list calls, each over any source, with closures that visit a probe.
-use crate::steps::{both, yes};
+use crate::acts::Host;
+use crate::steps::{add_counts, no_count};
 use crate::visits::Visitor;
-use commonware_parallel::{Fault, On, Site, Source, Strategy, Trouble};
-use std::sync::Wait;
-use std::thread::Threads;
+use commonware_parallel::{Fault, Runtime, Site, Source, Strategy, Trouble};
+use std::alloc::Global;
+use test_strategies::SITE;
 
 /// A list call of one place, which is the strategy's of that name; and those of a strategy alone.
 #[derive(Clone, Copy, Debug)]
@@ -32,83 +33,98 @@ pub const CALLS: [Called; 9] = [
     Called::Partition,
 ];
 
-/// Whether the closures of such a call may fail.
-pub fn may_fail(called: Called) -> bool {
-    matches!(called, Called::TryMap | Called::TryFold)
-}
-
 /// What stands for the work of an item in the calls that are told so.
 pub const MULTIPLIER: usize = 9;
 
-/// The outcome of a call without its result.
-pub fn done<T: Drop>(outcome: Result<T, Fault>) -> Result<(), Trouble<u32>> {
-    match outcome {
-        Ok(_) => Ok(()),
-        Err(fault) => Err(Trouble::Fault(fault)),
+/// How a call went.
+pub type Outcome = Result<(), Trouble<u32>>;
+
+/// What the calls through a strategy have in common.
+#[derive(Drop)]
+pub struct Here<'a, Rt, S> {
+    /// The runtime.
+    pub rt: &'a Rt,
+    /// What memory is taken from.
+    pub alloc: Global,
+    /// The strategy.
+    pub strategy: &'a S,
+    /// The place that they are made from.
+    pub site: Site,
+}
+
+/// The same of such a strategy, at the place that the tests call from.
+pub fn called_here<'a, Rt: Host, S>(rt: &'a Rt, strategy: &'a S) -> Here<'a, Rt, S> {
+    let (alloc, site) = (rt.alloc(), SITE);
+    Here {
+        rt,
+        alloc,
+        strategy,
+        site,
     }
+}
+
+/// The outcome of a call without its result.
+pub fn done<T: Drop>(outcome: Result<T, Fault>) -> Outcome {
+    let _ = outcome?;
+    Ok(())
 }
 
 /// The same of a call that may fail.
-pub fn tried<T: Drop>(outcome: Result<T, Trouble<u32>>) -> Result<(), Trouble<u32>> {
-    match outcome {
-        Ok(_) => Ok(()),
-        Err(trouble) => Err(trouble),
-    }
+pub fn tried<T: Drop>(outcome: Result<T, Trouble<u32>>) -> Outcome {
+    let _ = outcome?;
+    Ok(())
 }
 
-fn map<Rt: Threads + Wait + Sync, S: Strategy, M, I: Source<M>>(
-    on: &On<'_, Rt, S, Site>,
+// The maps, of one closure for all of them.
+fn map<Rt: Runtime, S: Strategy, M, I: Source<M>>(
+    on: &Here<'_, Rt, S>,
     called: Called,
     source: I,
     visited: Visitor<'_>,
-) -> Result<(), Trouble<u32>>
+) -> Outcome
     requires { I.can source }
 {
-    let map_op = |item: I::Item| {
-        let _ = visited.visit();
-        item
-    };
-    if matches!(called, Called::Map) {
-        return done(on.map(source, map_op));
-    }
     let (rt, alloc, site) = (on.rt, on.alloc, on.site);
-    done(
-        on.strategy
-            .map_collect_vec_with_multiplier(rt, alloc, site, source, MULTIPLIER, map_op),
-    )
-}
-
-fn try_map<Rt: Threads + Wait + Sync, S: Strategy, M, I: Source<M>>(
-    on: &On<'_, Rt, S, Site>,
-    source: I,
-    visited: Visitor<'_>,
-) -> Result<(), Trouble<u32>>
-    requires { I.can source }
-{
     let map_op = |item: I::Item| match visited.visit() {
         Ok(()) => Ok(item),
         Err(error) => Err(error),
     };
-    tried(on.try_map(source, map_op))
+    match called {
+        Called::Map => done(
+            on.strategy
+                .map_collect_vec(on.rt, on.alloc, on.site, source, map_op),
+        ),
+        Called::TryMap => tried(
+            on.strategy
+                .try_map_collect_vec(on.rt, on.alloc, on.site, source, map_op),
+        ),
+        _ => done(
+            on.strategy
+                .map_collect_vec_with_multiplier(rt, alloc, site, source, MULTIPLIER, map_op),
+        ),
+    }
 }
 
-fn map_init<Rt: Threads + Wait + Sync, S: Strategy, M, I: Source<M>>(
-    on: &On<'_, Rt, S, Site>,
+fn map_init<Rt: Runtime, S: Strategy, M, I: Source<M>>(
+    on: &Here<'_, Rt, S>,
     called: Called,
     source: I,
     visited: Visitor<'_>,
-) -> Result<(), Trouble<u32>>
+) -> Outcome
     requires { I.can source }
 {
+    let (rt, alloc, site) = (on.rt, on.alloc, on.site);
     let init = || visited.begin();
     let map_op = |_: &mut (), item: I::Item| {
         let _ = visited.visit();
         item
     };
     if matches!(called, Called::MapInit) {
-        return done(on.map_init(source, init, map_op));
+        return done(
+            on.strategy
+                .map_init_collect_vec(on.rt, on.alloc, on.site, source, init, map_op),
+        );
     }
-    let (rt, alloc, site) = (on.rt, on.alloc, on.site);
     done(
         on.strategy
             .map_init_collect_vec_with_multiplier(
@@ -117,92 +133,105 @@ fn map_init<Rt: Threads + Wait + Sync, S: Strategy, M, I: Source<M>>(
     )
 }
 
-fn fold<Rt: Threads + Wait + Sync, S: Strategy, M, I: Source<M>>(
-    on: &On<'_, Rt, S, Site>,
+fn fold<Rt: Runtime, S: Strategy, M, I: Source<M>>(
+    on: &Here<'_, Rt, S>,
     source: I,
     visited: Visitor<'_>,
-) -> Result<(), Trouble<u32>>
+) -> Outcome
     requires { I.can source }
 {
-    let step = |so_far: bool, _: I::Item| so_far & visited.visit().is_ok();
-    done(on.fold(source, yes, step, both))
+    let step = |count: usize, _: I::Item| visited.counted(count);
+    done(on.strategy.fold(on.rt, on.alloc, on.site, source, no_count, step, add_counts))
 }
 
-fn fold_init<Rt: Threads + Wait + Sync, S: Strategy, M, I: Source<M>>(
-    on: &On<'_, Rt, S, Site>,
+fn fold_init<Rt: Runtime, S: Strategy, M, I: Source<M>>(
+    on: &Here<'_, Rt, S>,
     source: I,
     visited: Visitor<'_>,
-) -> Result<(), Trouble<u32>>
+) -> Outcome
     requires { I.can source }
 {
-    let step = |so_far: bool, _: &mut (), _: I::Item| so_far & visited.visit().is_ok();
-    done(on.fold_init(source, || visited.begin(), yes, step, both))
+    let init = || visited.begin();
+    let step = |count: usize, _: &mut (), _: I::Item| visited.counted(count);
+    done(
+        on.strategy.fold_init(
+            on.rt, on.alloc, on.site, source, init, no_count, step, add_counts,
+        ),
+    )
 }
 
-// Keeps what came so far where a visit doesn't fail.
-fn after(so_far: bool, visited: Visitor<'_>) -> Result<bool, u32> {
-    match visited.visit() {
-        Ok(()) => Ok(so_far),
-        Err(error) => Err(error),
-    }
-}
-
-fn try_fold<Rt: Threads + Wait + Sync, S: Strategy, M, I: Source<M>>(
-    on: &On<'_, Rt, S, Site>,
+fn try_fold<Rt: Runtime, S: Strategy, M, I: Source<M>>(
+    on: &Here<'_, Rt, S>,
     source: I,
     visited: Visitor<'_>,
-) -> Result<(), Trouble<u32>>
+) -> Outcome
     requires { I.can source }
 {
-    let identity = || {
-        visited.begin_sum();
-        true
-    };
-    let step = |so_far: bool, _: I::Item| after(so_far, visited);
-    tried(on.try_fold(source, identity, step, both))
+    let identity = || visited.begin_sum();
+    let step = |_: (), _: I::Item| visited.visit();
+    tried(
+        on.strategy.try_fold(
+            on.rt,
+            on.alloc,
+            on.site,
+            source,
+            identity,
+            step,
+            |_: (), _: ()| (),
+        ),
+    )
 }
 
-fn partition<Rt: Threads + Wait + Sync, S: Strategy, M, I: Source<M>>(
-    on: &On<'_, Rt, S, Site>,
+fn partition<Rt: Runtime, S: Strategy, M, I: Source<M>>(
+    on: &Here<'_, Rt, S>,
     source: I,
     visited: Visitor<'_>,
-) -> Result<(), Trouble<u32>>
+) -> Outcome
     requires { I.can source }
 {
     let map_op = |item: I::Item| (item, visited.visit().ok());
-    done(on.map_partition(source, map_op))
+    done(
+        on.strategy
+            .map_partition_collect_vec(on.rt, on.alloc, on.site, source, map_op),
+    )
 }
 
 /// The fallible map, or else the fallible fold.
-pub fn make_fallible<Rt: Threads + Wait + Sync, S: Strategy, M, I: Source<M>>(
-    on: &On<'_, Rt, S, Site>,
+pub fn make_fallible<Rt: Runtime, S: Strategy, M, I: Source<M>>(
+    on: &Here<'_, Rt, S>,
     called: Called,
     source: I,
     visited: Visitor<'_>,
-) -> Result<(), Trouble<u32>>
+) -> Outcome
     requires { I.can source }
 {
-    match called {
-        Called::TryMap => try_map(on, source, visited),
+    let held = visited.holds(on.alloc);
+    let made = match called {
+        Called::TryMap => map(on, called, source, visited),
         _ => try_fold(on, source, visited),
-    }
+    };
+    drop(held);
+    made
 }
 
 /// Makes such a call, of which each closure visits once for each item. A map returns the items.
-pub fn make<Rt: Threads + Wait + Sync, S: Strategy, M, I: Source<M>>(
-    on: &On<'_, Rt, S, Site>,
+pub fn make<Rt: Runtime, S: Strategy, M, I: Source<M>>(
+    on: &Here<'_, Rt, S>,
     called: Called,
     source: I,
     visited: Visitor<'_>,
-) -> Result<(), Trouble<u32>>
+) -> Outcome
     requires { I.can source }
 {
-    match called {
-        Called::Map | Called::MultipliedMap => map(on, called, source, visited),
+    let held = visited.holds(on.alloc);
+    let made = match called {
+        Called::Map | Called::MultipliedMap | Called::TryMap => map(on, called, source, visited),
         Called::MapInit | Called::MultipliedMapInit => map_init(on, called, source, visited),
         Called::Fold => fold(on, source, visited),
         Called::FoldInit => fold_init(on, source, visited),
-        Called::TryMap | Called::TryFold => make_fallible(on, called, source, visited),
+        Called::TryFold => try_fold(on, source, visited),
         Called::Partition => partition(on, source, visited),
-    }
+    };
+    drop(held);
+    made
 }

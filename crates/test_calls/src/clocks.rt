@@ -1,10 +1,8 @@
-//! Clocks that are told what to read, and pools that learn by them.
-use crate::strategies::threads_of;
-use commonware_parallel::{Clock, Fault, Rayon};
+//! Clocks that are told what to read.
+use commonware_parallel::{Clock, Fault};
 use std::alloc::Global;
 use std::sync::Arc;
 use std::sync::atomic::{AtomicU64, Ordering};
-use std::thread::Threads;
 
 /// A clock that goes on by `step` at each reading, or back where `step` is near 2 to the power of
 /// 64. Whoever has its reading may move it on.
@@ -12,6 +10,8 @@ use std::thread::Threads;
 pub struct Stepping {
     pub reading: Arc<AtomicU64, Global>,
     step: u64,
+    // Whether the readings are the squares of so many whole milliseconds.
+    is_squared: bool,
 }
 
 impl Stepping {
@@ -20,24 +20,28 @@ impl Stepping {
         Ok(Stepping {
             reading: Arc::new(alloc, start)?,
             step,
+            is_squared: false,
+        })
+    }
+
+    /// One whose readings are the squares of 0, 1, 2 .. milliseconds, so that the time between two
+    /// of them tells which two they were.
+    pub fn squares(alloc: Global) -> Result<Stepping, Fault> {
+        Ok(Stepping {
+            reading: Arc::new(alloc, AtomicU64::new(0))?,
+            step: 1,
+            is_squared: true,
         })
     }
 }
 
 impl Clock for Stepping {
     fn now(&self) -> u64 {
-        self.reading.fetch_add(self.step, Ordering::SeqCst)
-    }
-}
-
-/// A pool of four threads with a fresh policy, and a clock.
-pub fn learning<Rt: Threads, C: Clock>(
-    rt: &Rt,
-    alloc: Global,
-    clock: C,
-) -> Result<Rayon<C>, Fault> {
-    match Rayon::new(rt, alloc, threads_of(4), clock) {
-        Ok(strategy) => Ok(strategy),
-        Err(_) => Err(Fault::Memory),
+        let reading = self.reading.fetch_add(self.step, Ordering::SeqCst);
+        if self.is_squared {
+            reading.wrapping_mul(reading).wrapping_mul(1_000_000)
+        } else {
+            reading
+        }
     }
 }

@@ -29,18 +29,16 @@ impl Meeting {
         }
     }
 
-    /// How many are to be under way at once.
-    pub fn wanted(&self) -> usize {
-        self.wanted
-    }
-
     /// How many were under way at once, at most.
     pub fn most(&self) -> usize {
         self.most.load(Ordering::SeqCst)
     }
 
-    /// Comes to the meeting, and leaves it.
+    /// Comes to the meeting and leaves it, but for those of whom a thousand came before.
     pub fn attend(&self) {
+        if self.come.load(Ordering::SeqCst) >= 1000 {
+            return;
+        }
         let before = self.under_way.fetch_add(1, Ordering::SeqCst);
         self.most
             .fetch_max(before.wrapping_add(1), Ordering::SeqCst);
@@ -52,21 +50,14 @@ impl Meeting {
         self.under_way.fetch_sub(1, Ordering::SeqCst);
     }
 
-    /// Comes to the meeting, but for those of whom a thousand came before.
-    pub fn attend_early(&self) {
-        if self.come.load(Ordering::SeqCst) < 1000 {
-            self.attend();
-        }
-    }
-
     // Whether nobody waits any more.
     fn is_over(&self) -> bool {
         self.most() >= self.wanted || self.gave_up.load(Ordering::SeqCst)
     }
 
-    // Waits until all have met, for some seconds at most.
+    // Waits until all have met, for a million turns at most, each of which lets others go on.
     fn wait(&self) {
-        for _ in 0..10_000_000u32 {
+        for _ in 0..1_000_000u32 {
             if self.is_over() {
                 return;
             }

@@ -4,11 +4,11 @@ ghost use Rattle.std.specs.Int.NonZero.{non_zero_usize_get};
 ghost use Rattle.commonware_parallel.specs.Calls.{last_pick};
 
 use crate::logs::{BEGUN, DROPPED, ENDED, INNER, Log, OUTER, TOLD, asked_at};
-use crate::strategies::threads_of;
 use commonware_parallel::{Call, Chooser, Fault, Kind, Learns, Meter, Pick, Place, Running};
 use std::alloc::Global;
 use std::num::NonZeroUsize;
 use std::sync::{Arc, Wait};
+use test_strategies::threads_of;
 
 /// Takes the last pick of each call, planned for as many as it has threads. A clone and the
 /// strategy of a batch's parts write to the same log.

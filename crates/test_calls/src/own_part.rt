@@ -1,6 +1,7 @@
-//! What the part of a call that its caller's thread does itself sees of the threads that are started.
+//! What the part of a call that its caller's thread does itself sees of the threads that start.
 use std::sync::atomic::{AtomicU64, Ordering};
-use std::thread::yield_now;
+use std::thread::sleep;
+use std::time::Duration;
 use test_support::processes::{last_number, own_number};
 
 /// The part of a call that runs on its caller's thread.
@@ -29,20 +30,22 @@ impl OwnPart {
             self.last.store(last_number(rt), Ordering::SeqCst);
             return;
         }
-        self.wait();
+        self.wait(rt);
     }
 
-    fn wait(&self) {
-        for _ in 0..100_000u32 {
+    // Waits asleep, so that many who wait don't keep the caller from its part.
+    fn wait(&self, rt: &HostRuntime) {
+        for _ in 0..1000u32 {
             if self.last.load(Ordering::SeqCst) > 0 {
                 return;
             }
-            yield_now();
+            sleep(rt, Duration::from_millis(1));
         }
     }
 
     /// How many threads had been started by then, of all that were since that number; none where no
-    /// closure ran on the caller's thread. Behind the greatest number Linux begins anew: many, then.
+    /// closure ran on the caller's thread. Behind the greatest number Linux begins anew: many,
+    /// then.
     pub fn started_since(&self, before: u64) -> u64 {
         match self.last.load(Ordering::SeqCst) {
             0 => 0,

@@ -1,108 +1,181 @@
 //! The sources that a list call may be given, each of any length.
-use crate::calls::{Called, make, make_fallible, may_fail};
+ghost use Rattle.std.specs.Prelude.{⊤};
+
+use crate::calls::{Called, Here, Outcome, make, make_fallible};
 use crate::visits::Visitor;
+use commonware_parallel::bridge::DrainProducer;
 use commonware_parallel::{
-    Chunks, Copies, Counted, Enumerated, Fault, Indices, On, Pairs, Producer, Site, Strategy,
-    Trouble, Zipped,
+    Chunks, Copies, Counted, Enumerated, Fault, Indices, Pairs, Producer, Runtime, Source,
+    Strategy, Trouble, Zipped,
 };
 use std::alloc::Global;
+use std::iter::Copied;
 use std::num::NonZeroUsize;
-use std::sync::Wait;
-use std::thread::Threads;
-use uses::own_lists::{Backwards, Wrapped};
+use std::slice::Iter;
+use test_support::counted::{Counted as Item, Counts};
 
-/// A source.
+/// A source. Those of vectors, iterators and pairs have counted items.
 #[derive(Clone, Copy, Debug)]
 pub enum Given {
     Slice,
+    Vector,
+    Iterator,
+    OwnProducer,
     Copies,
     Chunks,
     Zipped,
     Enumerated,
     Pairs,
-    Vector,
     Indices,
     Counted,
-    Iterator,
-    Producer,
     OwnSource,
 }
 
-/// All of them.
-pub const SOURCES: [Given; 12] = [
+/// One of a list that is cut as it is, one of owned items, one that has to be gathered, and a
+/// producer of one's own, which takes no memory.
+pub const FEW: [Given; 4] = [
     Given::Slice,
+    Given::Vector,
+    Given::Iterator,
+    Given::OwnProducer,
+];
+
+/// The others, over which the table has the fallible map and the fallible fold alone: no call's own
+/// body differs by its source, but how a list is cut does.
+pub const OTHERS: [Given; 8] = [
     Given::Copies,
     Given::Chunks,
     Given::Zipped,
     Given::Enumerated,
     Given::Pairs,
-    Given::Vector,
     Given::Indices,
     Given::Counted,
-    Given::Iterator,
-    Given::Producer,
     Given::OwnSource,
 ];
 
-/// One of a list that is cut as it is, one of owned items, and one that has to be gathered.
-pub const FEW: [Given; 3] = [Given::Slice, Given::Vector, Given::Iterator];
-
-/// Whether a table has the call over the source: each call over those few, and over each source the
-/// fallible map and the fallible fold. No call's own body differs by its source, but how a list is
-/// cut does.
-pub fn is_made(called: Called, given: Given) -> bool {
-    matches!(given, Given::Slice | Given::Vector | Given::Iterator) || may_fail(called)
+// A producer of one's own, of which each cut is told.
+#[derive(Drop)]
+struct Cut<'a, P> {
+    list: P,
+    visited: Visitor<'a>,
 }
 
-/// That many items, which are a tree's leaves too.
-pub fn leaves(alloc: Global, count: usize) -> Result<Vec<usize>, Fault> {
-    let mut leaves = Vec::with_capacity(alloc, count)?;
-    for _ in 0..count {
-        leaves.push(0)?;
+impl<'a, P: Producer> Producer for Cut<'a, P> {
+    type Item = P::Item;
+
+    type Iter = P::Iter;
+
+    ghost gives = { λ s xs. P.gives s.list xs };
+
+    ghost may = { λ s x. P.may s.list x };
+
+    ghost count = { λ s. P.count s.list };
+
+    fn len(&self) -> usize {
+        self.list.len()
     }
-    Ok(leaves)
+
+    fn split_at(self, alloc: Global, index: usize) -> Result<(Self, Self), Fault> {
+        let visited = self.visited;
+        visited.cut();
+        let (front, back) = self.list.split_at(alloc, index)?;
+        let front = Cut {
+            list: front,
+            visited,
+        };
+        let back = Cut {
+            list: back,
+            visited,
+        };
+        Ok((front, back))
+    }
+
+    fn into_items(self) -> P::Iter {
+        self.list.into_items()
+    }
+}
+
+// A source of one's own, whose items are gathered where a call goes parallel. Nothing is said of
+// which items come.
+#[derive(Drop)]
+struct OwnSource<'a> {
+    slice: &'a [usize],
+}
+
+struct ByOwnSource;
+
+impl<'a> Source<ByOwnSource> for OwnSource<'a> {
+    type Item = usize;
+
+    type Parts = DrainProducer<usize>;
+
+    type Iter = Copied<Iter<'a, usize>>;
+
+    ghost can = { λ _. ⊤ };
+
+    ghost gives = { λ _ _. ⊤ };
+
+    ghost may = { λ _ _. ⊤ };
+
+    fn into_items(self) -> Copied<Iter<'a, usize>> {
+        self.slice.iter().copied()
+    }
+
+    fn into_parts(self, alloc: Global) -> Result<DrainProducer<usize>, Fault> {
+        let items = Vec::from_slice(alloc, self.slice)?;
+        Ok(DrainProducer::from_vec(items))
+    }
+}
+
+/// That many items.
+pub fn zeros(alloc: Global, count: usize) -> Result<Vec<usize>, Fault> {
+    let mut items = Vec::with_capacity(alloc, count)?;
+    for _ in 0..count {
+        items.push(0)?;
+    }
+    Ok(items)
 }
 
 // The fallible call over a list that is cut as it is.
-fn over_list<Rt: Threads + Wait + Sync, S: Strategy, P: Producer>(
-    on: &On<'_, Rt, S, Site>,
+fn over_list<Rt: Runtime, S: Strategy, P: Producer>(
+    on: &Here<'_, Rt, S>,
     called: Called,
     list: P,
     visited: Visitor<'_>,
-) -> Result<(), Trouble<u32>> {
+) -> Outcome {
     make_fallible(on, called, list, visited)
 }
 
 // The same over the pairs of two lists.
-fn over_zipped<Rt: Threads + Wait + Sync, S: Strategy, L: Producer, R: Producer>(
-    on: &On<'_, Rt, S, Site>,
+fn over_zipped<Rt: Runtime, S: Strategy, L: Producer, R: Producer>(
+    on: &Here<'_, Rt, S>,
     called: Called,
     left: L,
     right: R,
     visited: Visitor<'_>,
-) -> Result<(), Trouble<u32>> {
+) -> Outcome {
     over_list(on, called, Zipped::new(left, right), visited)
 }
 
 // The same over a list whose items are numbered.
-fn over_enumerated<Rt: Threads + Wait + Sync, S: Strategy, P: Producer>(
-    on: &On<'_, Rt, S, Site>,
+fn over_enumerated<Rt: Runtime, S: Strategy, P: Producer>(
+    on: &Here<'_, Rt, S>,
     called: Called,
     list: P,
     visited: Visitor<'_>,
-) -> Result<(), Trouble<u32>> {
+) -> Outcome {
     over_list(on, called, Enumerated::new(list), visited)
 }
 
-// The same over the chunks of two of a list, alone or zipped with a list that is far longer, itself
-// one of pairs or not.
-fn over_chunks<Rt: Threads + Wait + Sync, S: Strategy>(
-    on: &On<'_, Rt, S, Site>,
+// The same over the chunks of two of a list, alone or zipped with a list that is far longer: that
+// of an even number of chunks is on the right.
+fn over_chunks<Rt: Runtime, S: Strategy>(
+    on: &Here<'_, Rt, S>,
     called: Called,
     given: Given,
     slice: &[usize],
     visited: Visitor<'_>,
-) -> Result<(), Trouble<u32>> {
+) -> Outcome {
     let size = NonZeroUsize::MIN.saturating_add(1);
     let chunks = Chunks { slice, size };
     if matches!(given, Given::Chunks) {
@@ -112,83 +185,96 @@ fn over_chunks<Rt: Threads + Wait + Sync, S: Strategy>(
         start: 3,
         end: 1 << 36,
     };
-    match slice.len() % 8 {
-        0 => over_zipped(on, called, chunks, indices, visited),
-        2 => over_zipped(on, called, indices, chunks, visited),
-        4 => over_zipped(on, called, Enumerated::new(indices), chunks, visited),
-        _ => over_zipped(on, called, Zipped::new(indices, indices), chunks, visited),
+    if slice.len() % 4 == 0 {
+        return over_zipped(on, called, chunks, indices, visited);
     }
+    let longer = Enumerated::new(Zipped::new(indices, indices));
+    over_zipped(on, called, longer, chunks, visited)
 }
 
-// The call over lists that are cut as they are, and a source of a user's own.
-fn make_over_parts<Rt: Threads + Wait + Sync, S: Strategy>(
-    on: &On<'_, Rt, S, Site>,
+// The call over lists that are cut as they are, and a source of one's own.
+fn over_parts<Rt: Runtime, S: Strategy>(
+    on: &Here<'_, Rt, S>,
     called: Called,
     given: Given,
     slice: &[usize],
     visited: Visitor<'_>,
-) -> Result<(), Trouble<u32>> {
+) -> Outcome {
     match given {
         Given::Copies => over_list(on, called, Copies { slice }, visited),
         Given::Enumerated => over_enumerated(on, called, Copies { slice }, visited),
-        Given::Producer => over_list(on, called, Backwards { slice }, visited),
-        Given::OwnSource => {
-            let wrapped = Wrapped {
-                front: slice,
-                back: &[],
-            };
-            make_fallible(on, called, wrapped, visited)
-        }
+        Given::OwnSource => make_fallible(on, called, OwnSource { slice }, visited),
         _ => over_chunks(on, called, given, slice, visited),
     }
 }
 
-/// The call over such a source of that many items: one that a table has.
-pub fn make_over<Rt: Threads + Wait + Sync, S: Strategy>(
-    on: &On<'_, Rt, S, Site>,
+// The call over counted items: a vector, its iterator or its pairs. It fails by an error of its own
+// where not each of them was let go once.
+fn over_counted<Rt: Runtime, S: Strategy>(
+    on: &Here<'_, Rt, S>,
     called: Called,
     given: Given,
     len: usize,
     visited: Visitor<'_>,
-) -> Result<(), Trouble<u32>> {
-    let twice = len.saturating_mul(2);
-    let start = 3usize;
-    let end = len.saturating_add(start);
-    match given {
-        Given::Slice | Given::Vector | Given::Iterator => {
-            make_over_few(on, called, given, len, visited)
-        }
-        Given::Indices => over_list(on, called, Indices { start, end }, visited),
-        Given::Counted => make_fallible(on, called, Counted { iter: 0..len }, visited),
-        Given::Pairs => {
-            let (pairs, _none) = Pairs::new(leaves(on.alloc, twice)?);
+) -> Outcome {
+    let counts = Counts::new();
+    let mut items = Vec::with_capacity(on.alloc, visited.places(len))?;
+    for place in 0..len {
+        items.push(Item::new(&counts, place))?;
+    }
+    let made = match given {
+        Given::Vector => make(on, called, items, visited),
+        Given::Iterator => make(on, called, items.into_iter(), visited),
+        _ => {
+            let (pairs, _none) = Pairs::new(items);
             make_fallible(on, called, pairs, visited)
         }
-        Given::Chunks | Given::Zipped => {
-            let items = leaves(on.alloc, twice)?;
-            make_over_parts(on, called, given, items.as_slice(), visited)
-        }
-        _ => {
-            let items = leaves(on.alloc, len)?;
-            make_over_parts(on, called, given, items.as_slice(), visited)
-        }
+    };
+    if counts.left() > 0 {
+        return Err(Trouble::Closure(LOST));
     }
+    made
 }
 
-/// The same over one of those few sources.
-pub fn make_over_few<Rt: Threads + Wait + Sync, S: Strategy>(
-    on: &On<'_, Rt, S, Site>,
+/// The error of a call that doesn't let each item go once.
+pub const LOST: u32 = 1000;
+
+/// The call over such a source of that many items: one that the table has.
+pub fn make_over<Rt: Runtime, S: Strategy>(
+    on: &Here<'_, Rt, S>,
     called: Called,
     given: Given,
     len: usize,
     visited: Visitor<'_>,
-) -> Result<(), Trouble<u32>> {
-    if matches!(given, Given::Iterator) {
-        return make(on, called, 0..len, visited);
-    }
-    let items = leaves(on.alloc, len)?;
+) -> Outcome {
+    let twice = len.saturating_mul(2);
+    let indices = Indices {
+        start: 3,
+        end: len.saturating_add(3),
+    };
     match given {
-        Given::Vector => make(on, called, items, visited),
-        _ => make(on, called, items.as_slice(), visited),
+        Given::Vector | Given::Iterator => over_counted(on, called, given, len, visited),
+        Given::Pairs => over_counted(on, called, given, twice, visited),
+        Given::Indices => over_list(on, called, indices, visited),
+        Given::OwnProducer => {
+            let list = Cut {
+                list: indices,
+                visited,
+            };
+            make(on, called, list, visited)
+        }
+        Given::Counted => make_fallible(on, called, Counted { iter: 0..len }, visited),
+        Given::Slice => {
+            let items = zeros(on.alloc, len)?;
+            make(on, called, items.as_slice(), visited)
+        }
+        Given::Chunks | Given::Zipped => {
+            let items = zeros(on.alloc, twice)?;
+            over_parts(on, called, given, items.as_slice(), visited)
+        }
+        _ => {
+            let items = zeros(on.alloc, len)?;
+            over_parts(on, called, given, items.as_slice(), visited)
+        }
     }
 }

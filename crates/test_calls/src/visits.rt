@@ -2,13 +2,16 @@
 use crate::logs::{Log, RAN};
 use crate::meetings::Meeting;
 use crate::own_part::OwnPart;
+use std::alloc::Global;
 use std::sync::atomic::{AtomicUsize, Ordering};
+use test_support::no_memory::all_places;
 
-/// How often closures are called: those for items, and those that begin a state.
+/// How often closures are called, those for items and those that begin a state, and a list is cut.
 #[derive(Drop)]
 pub struct Times {
     items: AtomicUsize,
     states: AtomicUsize,
+    cuts: AtomicUsize,
 }
 
 impl Times {
@@ -16,25 +19,33 @@ impl Times {
         Times {
             items: AtomicUsize::new(0),
             states: AtomicUsize::new(0),
+            cuts: AtomicUsize::new(0),
         }
     }
 
-    /// How many items came, and how many states were begun.
-    pub fn counted(&self) -> (usize, usize) {
-        let items = self.items.load(Ordering::SeqCst);
-        (items, self.states.load(Ordering::SeqCst))
+    /// How many items came.
+    pub fn items(&self) -> usize {
+        self.items.load(Ordering::SeqCst)
+    }
+
+    /// How many items came, how many states were begun, and how often a list was cut.
+    pub fn counted(&self) -> [usize; 3] {
+        let states = self.states.load(Ordering::SeqCst);
+        [self.items(), states, self.cuts.load(Ordering::SeqCst)]
+    }
+
+    // One item more: how many came before.
+    fn count(&self) -> usize {
+        self.items.fetch_add(1, Ordering::SeqCst)
     }
 }
 
 /// What each closure of a call does, whatever its item.
 #[derive(Clone, Copy)]
 pub enum Visitor<'a> {
-    /// Nothing.
     Passes,
-    /// Comes to a meeting.
-    Meets(&'a Meeting),
     /// Comes to a meeting, if it is one of the first thousand.
-    MeetsEarly(&'a Meeting),
+    Meets(&'a Meeting),
     /// Comes to the meeting of its level in a tree.
     MeetsByLevel(&'a [Meeting]),
     /// Writes that it ran.
@@ -42,9 +53,13 @@ pub enum Visitor<'a> {
     /// Writes that it ran, and fails, where it may.
     Fails(&'a Log),
     /// Counts its calls, and fails in that of a number, from 0 on, where it may.
-    FailsAt(&'a AtomicUsize, usize),
-    /// Counts its calls, and the states.
+    FailsAt(&'a Times, usize),
+    /// Counts its calls, the states and the cuts.
     Counts(&'a Times),
+    /// The same while no block of 1 MiB and more is to be had, but for the items.
+    Starves(&'a Times),
+    /// As `FailsAt`, over items that lie in a block of 64 MiB; or `Starves` over these.
+    Roams(&'a Times, usize, bool),
     /// Looks how many threads were started before the caller's own part.
     Sees(HostRuntime, &'a OwnPart),
 }
@@ -53,39 +68,30 @@ impl Visitor<'_> {
     /// One call of a closure. An error is that of the call, where it may fail.
     pub fn visit(self) -> Result<(), u32> {
         match self {
-            Visitor::Passes | Visitor::MeetsByLevel(_) => Ok(()),
-            Visitor::Counts(times) => {
-                times.items.fetch_add(1, Ordering::SeqCst);
-                Ok(())
+            Visitor::Passes | Visitor::MeetsByLevel(_) => {}
+            Visitor::Counts(times) | Visitor::Starves(times) => {
+                times.count();
             }
-            Visitor::Meets(meeting) => {
-                meeting.attend();
-                Ok(())
-            }
-            Visitor::MeetsEarly(meeting) => {
-                meeting.attend_early();
-                Ok(())
-            }
-            Visitor::Sees(rt, own) => {
-                own.see(&rt);
-                Ok(())
-            }
-            Visitor::Writes(log) => {
-                log.write(RAN);
-                Ok(())
-            }
+            Visitor::Meets(meeting) => meeting.attend(),
+            Visitor::Sees(rt, own) => own.see(&rt),
+            Visitor::Writes(log) => log.write(RAN),
             Visitor::Fails(log) => {
                 log.write(RAN);
-                Err(7)
+                return Err(7);
             }
-            Visitor::FailsAt(calls, at) => {
-                if calls.fetch_add(1, Ordering::SeqCst) == at {
-                    Err(7)
-                } else {
-                    Ok(())
+            Visitor::FailsAt(times, at) | Visitor::Roams(times, at, _) => {
+                if times.count() == at {
+                    return Err(7);
                 }
             }
         }
+        Ok(())
+    }
+
+    /// One call of a closure that counts: one more than before.
+    pub fn counted(self, before: usize) -> usize {
+        let _ = self.visit();
+        before.wrapping_add(1)
     }
 
     /// One call of the closure that begins a state.
@@ -97,24 +103,44 @@ impl Visitor<'_> {
 
     /// One call of a fallible fold's identity, which counts where its fold has failed already.
     pub fn begin_sum(self) {
-        if let Visitor::FailsAt(calls, at) = self {
-            if calls.load(Ordering::SeqCst) > at {
-                calls.fetch_add(1, Ordering::SeqCst);
+        if let Visitor::FailsAt(times, at) = self {
+            if times.items() > at {
+                times.count();
             }
+        }
+    }
+
+    /// One cut of a list.
+    pub fn cut(self) {
+        if let Visitor::Counts(times) = self {
+            times.cuts.fetch_add(1, Ordering::SeqCst);
         }
     }
 
     /// One call of a tree's closure, at a level from the leaves' up.
     pub fn visit_level(self, level: usize) {
+        if let Visitor::MeetsByLevel(meetings) = self {
+            if let Some(meeting) = meetings.get(level) {
+                meeting.attend();
+            }
+        } else {
+            let _ = self.visit();
+        }
+    }
+
+    /// How many places the block of a call's owned items has, of which there are that many.
+    pub fn places(self, len: usize) -> usize {
         match self {
-            Visitor::MeetsByLevel(meetings) => {
-                if let Some(meeting) = meetings.get(level) {
-                    meeting.attend();
-                }
-            }
-            _ => {
-                let _ = self.visit();
-            }
+            Visitor::Roams(..) => 4 << 20,
+            _ => len,
+        }
+    }
+
+    /// What is held while a call is made, whose items are there.
+    pub fn holds(self, alloc: Global) -> Option<Vec<Vec<u8>>> {
+        match self {
+            Visitor::Starves(_) | Visitor::Roams(_, _, true) => all_places(alloc),
+            _ => None,
         }
     }
 }

@@ -1,11 +1,7 @@
 pub mod Batches
 pub mod Joins
-pub mod Collisions
 pub mod LongLists
-pub mod Merkle
 pub mod Repeats
 pub mod Tiles
 pub mod Transforms
-pub mod Verdicts
 pub mod Words
-pub mod Firsts

@@ -2,7 +2,8 @@
 ghost use Rattle.std.specs.Prelude.{◌≡◌, ◌*◌, map, IfOk};
 ghost use Rattle.parallel_fault.specs.Trouble.{IsMemoryOnErr};
 
-use commonware_parallel::{Copies, Fault, On, Place, Strategy};
+use commonware_parallel::{Copies, Fault, Place, Strategy};
+use parallel_calls::On;
 use std::alloc::Global;
 use std::sync::Wait;
 use std::thread::Threads;

@@ -4,14 +4,16 @@ ghost use Rattle.std.specs.List.{range_with_len};
 ghost use Rattle.std.specs.declared.ops.Range.{Range};
 ghost use Rattle.parallel_bridge.specs.Lists.{MapOf};
 ghost use Rattle.parallel_fault.specs.Trouble.{IsMemoryOnErr};
+ghost use Rattle.commonware_parallel.specs.MergedRows.{Names};
 ghost use Rattle.commonware_parallel.specs.RowFolds.{EndsFold, FoldsOn, FoldsRows, IsPartOfRows};
 ghost use Rattle.commonware_parallel.specs.Tiles.{columns_of, rows_of};
 
 use super::Tiles;
-use super::merged::joined;
+use super::merged::{joined, merge_sorted};
 use crate::strategy::Strategy;
 use parallel_fault::Fault;
 use parallel_policy::Place;
+use parallel_shares::Stretch;
 use std::alloc::Global;
 use std::ops::Range;
 use std::sync::Wait;
@@ -51,15 +53,13 @@ pub(crate) fn fold_tiles<
         ensures { FoldsOn (K.post kernel.entry.now) (M.post merge.entry.now) so_far.old row columns
             so_far.new }
     { fold_on(so_far, row, columns, kernel, merge) };
-    let finish = move |so_far: &mut Option<R>, row: usize| -> R
-        requires { K.pre kernel.now row (record { start = 0; end = 0 }) }
-        ensures { EndsFold so_far.old result so_far.new }
-    { end_fold(so_far, row, kernel) };
-    let join = move |left: R, right: R| -> R
-        requires { M.IsAlwaysCallable merge.now }
-        ensures { M.post merge.entry.now left right result }
-    { merge(left, right) };
-    let values = tiles.fill_merge_collect_vec(rt, alloc, begin, fill, finish, join)?;
+    let finish = move |so_far: &mut Option<R>, stretch: Stretch| -> (Stretch, R)
+        requires { K.pre kernel.now stretch.row (record { start = 0; end = 0 }) }
+        ensures { Names EndsFold so_far.old stretch result so_far.new }
+    { end_fold(so_far, stretch, kernel) };
+    let (rows, len) = (tiles.rows, tiles.len);
+    let parts = tiles.fill_stretches(rt, alloc, begin, fill, finish)?;
+    let values = merge_sorted(alloc, rows, len, parts, merge)?;
     Ok(values)
 }
 
@@ -99,13 +99,18 @@ fn fold_on<R: Drop, K: Fn(usize, Range<usize>) -> R, M: Fn(R, R) -> R>(
     *so_far = Some(value);
 }
 
-// What came so far of a row, which ends. Something always came of a row that has columns.
-fn end_fold<R, K: Fn(usize, Range<usize>) -> R>(so_far: &mut Option<R>, row: usize, kernel: &K) -> R
-    requires { K.pre kernel.now row (record { start = 0; end = 0 }) }
-    ensures { EndsFold so_far.old result so_far.new }
+// A stretch with what came of it. Something always came of one that has columns.
+fn end_fold<R, K: Fn(usize, Range<usize>) -> R>(
+    so_far: &mut Option<R>,
+    stretch: Stretch,
+    kernel: &K,
+) -> (Stretch, R)
+    requires { K.pre kernel.now stretch.row (record { start = 0; end = 0 }) }
+    ensures { Names EndsFold so_far.old stretch result so_far.new }
 {
-    match so_far.take() {
-        Some(value) => value,
-        None => kernel(row, 0..0),
-    }
+    let Some(value) = so_far.take() else {
+        let value = kernel(stretch.row, 0..0);
+        return (stretch, value);
+    };
+    (stretch, value)
 }

@@ -1,117 +1,26 @@
 //! Results that name their stretches, put in order and merged row by row.
-ghost use Rattle.std.specs.Prelude.{◌≡◌, ◌*◌, ◌^◌, ◌<◌, ℕ, All, IfOk};
+ghost use Rattle.std.specs.Prelude.{◌≡◌, ◌*◌, ◌^◌, ◌<◌, All, IfOk};
 ghost use Rattle.std.specs.Borrow.{MutBor};
-ghost use Rattle.std.specs.declared.ops.Range.{Range};
 ghost use Rattle.parallel_fault.specs.Trouble.{IsMemoryOnErr};
-ghost use Rattle.parallel_shares.specs.Fillings.{Fills, Gives};
-ghost use Rattle.commonware_parallel.specs.MergedRows.{FillsParts, Follows, IsThere, Joins, MergesRows, Placed, RowValues, stretches_in, wrapped_place};
-ghost use Rattle.commonware_parallel.specs.Noting.{BeginsNoting, FillsNoting, FinishesNaming};
-ghost use Rattle.commonware_parallel.specs.Rectangles.{CutsRectangle, IsInGrid};
-ghost use Rattle.commonware_parallel.specs.Tiles.{columns_of, keeps_rows, rows_of};
+ghost use Rattle.parallel_shares.specs.Fillings.{Gives};
+ghost use Rattle.commonware_parallel.specs.MergedRows.{Follows, IsThere, Joins, MergesRows, Names, Placed, RowValues, stretches_in, wrapped_place};
+ghost use Rattle.commonware_parallel.specs.Rectangles.{CutsRectangle};
 
-use super::Tiles;
-use crate::strategy::Strategy;
 use parallel_fault::Fault;
-use parallel_policy::Place;
 use parallel_shares::Stretch;
 use std::alloc::Global;
-use std::ops::Range;
-use std::sync::Wait;
-use std::thread::Threads;
 
-/// A state, with the column at which the open stretch began, if one is open, and the column before
-/// which the fills have come.
-#[derive(Drop)]
-pub(crate) struct Noting<T> {
-    state: T,
-    first: Option<usize>,
-    end: usize,
-}
-
-/// The result of each stretch of the tiles, with the stretch.
-///
-/// # Errors
-///
-/// `Fault::Memory` if an allocation fails.
-pub(crate) fn fill_parts<
-    S: Strategy,
-    P: Place,
-    Rt: Threads + Wait + Sync,
-    T: Send + Drop,
-    R: Send + Drop,
-    N: Fn() -> T + Send + Sync + Drop,
-    L: Fn(&mut T, usize, Range<usize>) + Send + Sync + Drop,
-    F: Fn(&mut T, usize) -> R + Send + Sync + Drop,
->(
-    tiles: Tiles<'_, S, P>,
-    rt: &Rt,
-    alloc: Global,
-    init: N,
-    fill: L,
-    finish: F,
-) -> Result<Vec<(Stretch, R)>, Fault>
-    requires init_accepts { N.IsAlwaysCallable init }
-    requires fill_accepts { (state : MutBor T) (row : ℕ) (columns : Range ℕ)
-        → IsInGrid (rows_of tiles) (columns_of tiles) row columns
-        → L.pre fill state row columns }
-    requires finish_accepts { (state : MutBor T) (row : ℕ) → row < rows_of tiles
-        → F.pre finish state row }
-    ensures fills { IfOk result (λ parts. FillsParts (N.post init) (Fills (L.post fill))
-        (Gives (F.post finish)) (rows_of tiles.entry) (columns_of tiles.entry)
-        (keeps_rows tiles.entry) parts.items) }
-    ensures fault { IsMemoryOnErr result }
-{
-    let begin = move || -> Noting<T>
-        requires { N.IsAlwaysCallable init }
-        ensures { BeginsNoting (N.post init) result }
-    {
-        Noting {
-            state: init(),
-            first: None,
-            end: 0,
-        }
-    };
-    let note = move |noting: &mut Noting<T>, row: usize, columns: Range<usize>|
-        requires { (lent : MutBor T) → L.pre fill lent row columns }
-        ensures { FillsNoting (Fills (L.post fill)) noting.old row columns noting.new }
-    { fill_noting(noting, row, columns, &fill) };
-    let name = move |noting: &mut Noting<T>, row: usize| -> (Stretch, R)
-        requires { (lent : MutBor T) → F.pre finish lent row }
-        ensures { FinishesNaming (Gives (F.post finish)) noting.old row result noting.new }
-    { finish_naming(noting, row, &finish) };
-    let parts = tiles.fill_collect_vec(rt, alloc, begin, note, name)?;
-    Ok(parts)
-}
-
-// Fills, and notes where the stretch began and where it ends so far.
-fn fill_noting<T, L: Fn(&mut T, usize, Range<usize>)>(
-    noting: &mut Noting<T>,
-    row: usize,
-    columns: Range<usize>,
-    fill: &L,
-)
-    requires { (lent : MutBor T) → L.pre fill.now lent row columns }
-    ensures { FillsNoting (Fills (L.post fill.now)) noting.old row columns noting.new }
-{
-    let first = noting.first.unwrap_or(columns.start);
-    noting.first = Some(first);
-    noting.end = columns.end;
-    fill(&mut noting.state, row, columns);
-}
-
-// Finishes the stretch that was noted, which ends with it.
-fn finish_naming<T, R, F: Fn(&mut T, usize) -> R>(
-    noting: &mut Noting<T>,
-    row: usize,
+/// A stretch with its result.
+pub(crate) fn named<T, R, F: Fn(&mut T, usize) -> R>(
+    state: &mut T,
+    stretch: Stretch,
     finish: &F,
 ) -> (Stretch, R)
-    requires { (lent : MutBor T) → F.pre finish.now lent row }
-    ensures { FinishesNaming (Gives (F.post finish.now)) noting.old row result noting.new }
+    requires { (lent : MutBor T) → F.pre finish.now lent stretch.row }
+    ensures { Names (λ s x. Gives (F.post finish.now) s x.row) state.old stretch result state.new }
 {
-    let columns = noting.first.unwrap_or(0)..noting.end;
-    noting.first = None;
-    let result = finish(&mut noting.state, row);
-    (Stretch { row, columns }, result)
+    let result = finish(state, stretch.row);
+    (stretch, result)
 }
 
 /// The results of each row's stretches, merged from left to right.

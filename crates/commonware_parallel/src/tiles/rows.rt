@@ -2,10 +2,12 @@
 ghost use Rattle.std.specs.Prelude.{◌≡◌, ◌<◌, ℕ, IfOk};
 ghost use Rattle.std.specs.Borrow.{MutBor};
 ghost use Rattle.parallel_fault.specs.Trouble.{IsMemoryOnErr};
-ghost use Rattle.parallel_shares.specs.Fillings.{Fills, Gives};
+ghost use Rattle.parallel_shares.specs.Fillings.{Ends, Fills};
 ghost use Rattle.commonware_parallel.specs.Chains.{WholeRows};
+ghost use Rattle.commonware_parallel.specs.Rectangles.{whole_row};
 
 use parallel_fault::Fault;
+use parallel_shares::{Part, Stretch};
 use std::alloc::Global;
 use std::ops::Range;
 
@@ -15,7 +17,13 @@ use std::ops::Range;
 /// # Errors
 ///
 /// `Fault::Memory` if an allocation fails.
-pub(crate) fn fill_rows<T, R: Drop, L: Fn(&mut T, usize, Range<usize>), F: Fn(&mut T, usize) -> R>(
+pub(crate) fn fill_rows<
+    T,
+    Q: Part,
+    R: Drop,
+    L: Fn(&mut T, usize, Range<usize>),
+    F: Fn(&mut T, Q) -> R,
+>(
     alloc: Global,
     rows: usize,
     len: usize,
@@ -26,15 +34,16 @@ pub(crate) fn fill_rows<T, R: Drop, L: Fn(&mut T, usize, Range<usize>), F: Fn(&m
     requires fill_accepts { (lent : MutBor T) (row : ℕ) → row < rows
         → L.pre fill.now lent row (record { start = 0; end = len }) }
     requires finish_accepts { (lent : MutBor T) (row : ℕ) → row < rows
-        → F.pre finish.now lent row }
+        → F.pre finish.now lent (Q.part_of (whole_row len row)) }
     ensures chain { IfOk result (λ results. WholeRows (Fills (L.post fill.now))
-        (Gives (F.post finish.now)) len state.old rows results.items state.new) }
+        (Ends Q.part_of (F.post finish.now)) len state.old rows results.items state.new) }
     ensures fault { IsMemoryOnErr result }
 {
     let mut results = Vec::with_capacity(alloc, rows)?;
     for row in 0..rows {
         fill(state, row, 0..len);
-        results.push(finish(state, row))?;
+        let columns = 0..len;
+        results.push(finish(state, Q::of(Stretch { row, columns })))?;
     }
     Ok(results)
 }

@@ -5,7 +5,7 @@ ghost use Rattle.std.specs.declared.alloc.Global.{Global};
 ghost use Rattle.std.specs.declared.ops.Range.{Range};
 ghost use Rattle.std.specs.declared.vec.Vec.{Vec};
 ghost use Rattle.parallel_fault.specs.Trouble.{IsMemoryOnErr};
-ghost use Rattle.parallel_shares.specs.Fillings.{Fills, Gives};
+ghost use Rattle.parallel_shares.specs.Fillings.{Ends, Fills};
 ghost use Rattle.parallel_shares.specs.Seats.{AreFresh, AreSeatsOf, plan_of};
 ghost use Rattle.parallel_shares.specs.Sizes.{Work, sizes_of};
 ghost use Rattle.parallel_shares.specs.Stretches.{IsPartOfRow, StartsBelow};
@@ -15,7 +15,7 @@ ghost use Rattle.commonware_parallel.specs.Seated.{AcceptsFills, AcceptsFinishes
 use crate::strategy::Strategy;
 use parallel_fault::Fault;
 use parallel_policy::Place;
-use parallel_shares::{Seat, Shares};
+use parallel_shares::{Part, Seat, Shares, Stretch};
 use std::alloc::Global;
 use std::ops::Range;
 use std::sync::Wait;
@@ -40,10 +40,11 @@ pub(crate) fn fill_shared<
     Rt: Threads + Wait + Sync,
     P: Place,
     T: Send + Drop,
+    Q: Part + Send,
     R: Send + Drop,
     N: Fn() -> T + Send + Sync + Drop,
     L: Fn(&mut T, usize, Range<usize>) + Send + Sync,
-    F: Fn(&mut T, usize) -> R + Send + Sync,
+    F: Fn(&mut T, Q) -> R + Send + Sync,
 >(
     strategy: &S,
     rt: &Rt,
@@ -62,11 +63,12 @@ pub(crate) fn fill_shared<
     requires init_accepts { N.IsAlwaysCallable init }
     requires fill_accepts { (lent : MutBor T) (row : ℕ) (columns : Range ℕ)
         → IsPartOfRow (plan_of shares).cells len row columns → L.pre fill.now lent row columns }
-    requires finish_accepts { (lent : MutBor T) (row : ℕ)
-        → StartsBelow (plan_of shares).cells len row → F.pre finish.now lent row }
+    requires finish_accepts { (lent : MutBor T) (stretch : Stretch)
+        → StartsBelow (plan_of shares).cells len stretch.row
+        → F.pre finish.now lent (Q.part_of stretch) }
     ensures fills { IfOk result (λ results. (work : Work) → work.len ≡ len
         → plan_of shares ≡ sizes_of work → FillsWork (N.post init) (Fills (L.post fill.now))
-        (Gives (F.post finish.now)) len work results.items) }
+        (Ends Q.part_of (F.post finish.now)) len work results.items) }
     ensures fault { IsMemoryOnErr result }
 {
     let worked = work_all(
@@ -83,10 +85,11 @@ fn work_all<
     Rt: Threads + Wait + Sync,
     P: Place,
     T: Send + Drop,
+    Q: Part + Send,
     R: Send + Drop,
     N: Fn() -> T + Send + Sync + Drop,
     L: Fn(&mut T, usize, Range<usize>) + Send + Sync,
-    F: Fn(&mut T, usize) -> R + Send + Sync,
+    F: Fn(&mut T, Q) -> R + Send + Sync,
 >(
     strategy: &S,
     rt: &Rt,
@@ -104,26 +107,28 @@ fn work_all<
     requires init_accepts { N.IsAlwaysCallable init }
     requires fill_accepts { (lent : MutBor T) (row : ℕ) (columns : Range ℕ)
         → IsPartOfRow (plan_of shares.now).cells len row columns → L.pre fill.now lent row columns }
-    requires finish_accepts { (lent : MutBor T) (row : ℕ)
-        → StartsBelow (plan_of shares.now).cells len row → F.pre finish.now lent row }
+    requires finish_accepts { (lent : MutBor T) (stretch : Stretch)
+        → StartsBelow (plan_of shares.now).cells len stretch.row
+        → F.pre finish.now lent (Q.part_of stretch) }
     ensures stateful { IfOk result (λ worked. Stateful (N.post init)
-        (WorksFrom shares.now len (Fills (L.post fill.now)) (Gives (F.post finish.now)))
+        (WorksFrom shares.now len (Fills (L.post fill.now)) (Ends Q.part_of (F.post finish.now)))
         seats.items worked.items) }
     ensures fault { IsMemoryOnErr result }
 {
     let run = move |state: &mut T, seat: Seat| -> Worked<R>
         requires { IsReady shares.now seat × (len ≢ 0)
             × AcceptsFills (IsPartOfRow (plan_of shares.now).cells len) (L.pre fill.now)
-            × AcceptsFinishes (StartsBelow (plan_of shares.now).cells len) (F.pre finish.now) }
+            × AcceptsFinishes (StartsBelow (plan_of shares.now).cells len) Q.part_of
+            (F.pre finish.now) }
         ensures { WorksFrom shares.entry.now len (Fills (L.post fill.entry.now))
-            (Gives (F.post finish.entry.now)) state.old seat result state.new }
+            (Ends Q.part_of (F.post finish.entry.now)) state.old seat result state.new }
     { work(rt, alloc, shares, seat, len, state, fill, finish) };
     let worked = strategy.map_init_collect_vec(rt, alloc, site, seats, init, run)?;
     Ok(worked)
 }
 
 // The run of one seat, with the state of its segment.
-fn work<Rt: Wait, T, R: Drop, L: Fn(&mut T, usize, Range<usize>), F: Fn(&mut T, usize) -> R>(
+fn work<Rt: Wait, T, Q: Part, R: Drop, L: Fn(&mut T, usize, Range<usize>), F: Fn(&mut T, Q) -> R>(
     rt: &Rt,
     alloc: Global,
     shares: &Shares,
@@ -137,9 +142,10 @@ fn work<Rt: Wait, T, R: Drop, L: Fn(&mut T, usize, Range<usize>), F: Fn(&mut T, 
     requires some_columns { len ≢ 0 }
     requires fill_accepts { (lent : MutBor T) (row : ℕ) (columns : Range ℕ)
         → IsPartOfRow (plan_of shares.now).cells len row columns → L.pre fill.now lent row columns }
-    requires finish_accepts { (lent : MutBor T) (row : ℕ)
-        → StartsBelow (plan_of shares.now).cells len row → F.pre finish.now lent row }
-    ensures { WorksFrom shares.now len (Fills (L.post fill.now)) (Gives (F.post finish.now))
+    requires finish_accepts { (lent : MutBor T) (stretch : Stretch)
+        → StartsBelow (plan_of shares.now).cells len stretch.row
+        → F.pre finish.now lent (Q.part_of stretch) }
+    ensures { WorksFrom shares.now len (Fills (L.post fill.now)) (Ends Q.part_of (F.post finish.now))
         state.old seat result state.new }
 {
     let mut seat = seat;

@@ -71,8 +71,6 @@ impl<T: Send + Drop> Consumer<T> for CollectConsumer {
 
     ghost takes = { λ _ _. Unit {0} };
 
-    ghost fits = { λ _ _. Unit {0} };
-
     ghost leaf_gives = { λ _ xs out. OnlyOk (λ ys. ys.items ≡ xs) out };
 
     ghost node_gives = { λ _ left right out. OnlyOk

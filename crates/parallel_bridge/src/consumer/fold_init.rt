@@ -4,14 +4,16 @@ ghost use Rattle.std.specs.Borrow.{MutBor};
 ghost use Rattle.parallel_bridge.specs.Fulls.{OnValue};
 ghost use Rattle.parallel_bridge.specs.States.{FoldInitSegment, FoldStep, StateChain};
 
+use crate::domain::Domain;
 use crate::plumbing::{Consumer, Folder};
 use parallel_fault::{Fault, Trouble};
 use std::alloc::Global;
+use std::marker::PhantomData;
 
 /// Folds the items of each segment from an identity with a state at hand, fresh for each segment,
 /// and hands the value to another consumer.
 #[derive(Drop)]
-pub struct FoldInitConsumer<'c, C, N, I, F> {
+pub struct FoldInitConsumer<'c, C, N, I, F, D> {
     /// What takes the value of a segment.
     pub base: C,
     /// The closure that makes a state.
@@ -20,12 +22,14 @@ pub struct FoldInitConsumer<'c, C, N, I, F> {
     pub identity: &'c I,
     /// The closure that takes the folded value one item further.
     pub fold_op: &'c F,
+    /// The values that the fold stays among.
+    pub domain: PhantomData<D>,
 }
 
 /// The value that the items of a segment are folded to so far, and the state that the next item
 /// meets.
 #[derive(Drop)]
-pub struct FoldInitFolder<'c, C, S, R, F> {
+pub struct FoldInitFolder<'c, C, S, R, F, D> {
     /// What takes the value of the segment.
     pub base: C,
     /// The state that the next item meets.
@@ -34,16 +38,26 @@ pub struct FoldInitFolder<'c, C, S, R, F> {
     pub item: R,
     /// The closure that takes it one item further.
     pub fold_op: &'c F,
+    /// The values that the fold stays among.
+    pub domain: PhantomData<D>,
 }
 
-impl<'c, X: Drop, S: Drop, U: Drop, R, E, C: Folder<U, R, E>, F: Fn(U, &mut S, X) -> U> Folder<
-    X,
+impl<
+    'c,
+    X: Drop,
+    S: Drop,
+    U: Drop,
     R,
     E,
-> for FoldInitFolder<'c, C, S, U, F> {
-    ghost ready = { λ s. C.ready s.base × ((u : U) → C.takes s.base u) };
+    C: Folder<U, R, E>,
+    F: Fn(U, &mut S, X) -> U,
+    D: Domain<U>,
+> Folder<X, R, E> for FoldInitFolder<'c, C, S, U, F, D> {
+    ghost ready = { λ s. C.ready s.base × ((u : U) → D.has u → C.takes s.base u)
+        × D.has s.item };
 
-    ghost takes = { λ s x. (value : U) (state : MutBor S) → F.pre s.fold_op.now value state x };
+    ghost takes = { λ s x. (a : U) → D.has a → (p : MutBor S) → F.pre s.fold_op.now a p x
+        × ((b : U) (q : MutBor S) → F.post s.fold_op.now a p x b q → D.has b) };
 
     ghost gives = { λ s xs out. OnValue C.may_fill
         (StateChain (FoldStep (λ a p x b q. F.post s.fold_op.now a p x b q)) s.state s.item)
@@ -59,6 +73,7 @@ impl<'c, X: Drop, S: Drop, U: Drop, R, E, C: Folder<U, R, E>, F: Fn(U, &mut S, X
             state,
             item: value,
             fold_op: self.fold_op,
+            domain: PhantomData,
         })
     }
 
@@ -81,21 +96,22 @@ impl<
     N: Fn() -> S + Sync,
     I: Fn() -> U + Sync,
     F: Fn(U, &mut S, X) -> U + Sync,
-> Consumer<X> for FoldInitConsumer<'c, C, N, I, F> {
+    D: Domain<U> + Send,
+> Consumer<X> for FoldInitConsumer<'c, C, N, I, F, D> {
     type Result = C::Result;
 
     type Error = C::Error;
 
-    type Folder = FoldInitFolder<'c, C::Folder, S, U, F>;
+    type Folder = FoldInitFolder<'c, C::Folder, S, U, F, D>;
 
     type Reducer = C::Reducer;
 
-    ghost ready = { λ s. C.ready s.base × ((u : U) → C.takes s.base u)
-        × N.IsAlwaysCallable s.init.now × I.IsAlwaysCallable s.identity.now };
+    ghost ready = { λ s. C.ready s.base × ((u : U) → D.has u → C.takes s.base u)
+        × N.IsAlwaysCallable s.init.now × I.IsAlwaysCallable s.identity.now
+        × ((e : U) → I.post s.identity.now e → D.has e) };
 
-    ghost takes = { λ s x. (value : U) (state : MutBor S) → F.pre s.fold_op.now value state x };
-
-    ghost fits = { λ s n. C.fits s.base n };
+    ghost takes = { λ s x. (a : U) → D.has a → (p : MutBor S) → F.pre s.fold_op.now a p x
+        × ((b : U) (q : MutBor S) → F.post s.fold_op.now a p x b q → D.has b) };
 
     ghost leaf_gives = { λ s xs out. OnValue C.Folder.may_fill
         (FoldInitSegment (N.post s.init.now) (I.post s.identity.now)
@@ -111,7 +127,10 @@ impl<
         Ok((left, right, reducer))
     }
 
-    fn into_folder(self, alloc: Global) -> Result<FoldInitFolder<'c, C::Folder, S, U, F>, Fault> {
+    fn into_folder(
+        self,
+        alloc: Global,
+    ) -> Result<FoldInitFolder<'c, C::Folder, S, U, F, D>, Fault> {
         let base = self.base.into_folder(alloc)?;
         let state = (self.init)();
         let item = (self.identity)();
@@ -120,6 +139,7 @@ impl<
             state,
             item,
             fold_op: self.fold_op,
+            domain: PhantomData,
         })
     }
 }

@@ -81,8 +81,6 @@ impl<T: Send + Drop> Consumer<T> for ListVecConsumer {
 
     ghost takes = { λ _ _. Unit {0} };
 
-    ghost fits = { λ _ _. Unit {0} };
-
     ghost leaf_gives = { λ _ xs out. OnlyOk (λ all. IsListed xs all) out };
 
     ghost node_gives = { λ _ left right out. OnlyOk (λ all. all ≡ left ++ right) out };

@@ -65,8 +65,6 @@ impl<'f, X: Drop, T: Drop, C: Consumer<T>, F: Fn(X) -> T + Sync> Consumer<X>
 
     ghost takes = { λ s x. F.pre s.map_op.now x };
 
-    ghost fits = { λ s n. C.fits s.base n };
-
     ghost leaf_gives = { λ s xs out. OnResults C.Folder.may_fill (MapOf (F.post s.map_op.now))
         (C.leaf_gives s.base) xs out };
 

@@ -85,8 +85,6 @@ impl<
 
     ghost takes = { λ s x. (p : MutBor S) → F.pre s.map_op.now p x };
 
-    ghost fits = { λ s n. C.fits s.base n };
-
     ghost leaf_gives = { λ s xs out. OnResults C.Folder.may_fill
         (StateSegment (N.post s.init.now) (MapStep (λ p x y q. F.post s.map_op.now p x y q)))
         (C.leaf_gives s.base) xs out };

@@ -126,8 +126,6 @@ impl<'f, X: Drop, U: Send + Drop, K: Send + Drop, F: Fn(X) -> (K, Option<U>) + S
 
     ghost takes = { λ s x. F.pre s.map_op.now x };
 
-    ghost fits = { λ _ _. Unit {0} };
-
     ghost leaf_gives = { λ s xs out. OnlyOk
         (λ r. PartitionOf (F.post s.map_op.now) xs (values_in r.items) (keys_in r.items)) out };
 

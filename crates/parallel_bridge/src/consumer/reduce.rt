@@ -3,47 +3,57 @@ ghost use Rattle.std.specs.Prelude.{◌++◌, [], List, Result, false};
 ghost use Rattle.parallel_bridge.specs.Lists.{Chain, FoldSegment};
 ghost use Rattle.parallel_bridge.specs.Tries.{OnlyOk};
 
+use crate::domain::Domain;
 use crate::plumbing::{Consumer, Folder, Reducer};
 use parallel_fault::{Fault, Trouble};
 use std::alloc::Global;
 use std::convert::Infallible;
+use std::marker::PhantomData;
 
 /// Reduces the items of each segment after an identity, and then the results.
 #[derive(Drop)]
-pub struct ReduceConsumer<'r, I, G> {
+pub struct ReduceConsumer<'r, I, G, D> {
     /// The closure that returns a value to reduce from.
     pub identity: &'r I,
     /// The closure that reduces two values, the left one first.
     pub reduce_op: &'r G,
+    /// The values that the reduction stays among.
+    pub domain: PhantomData<D>,
 }
 
 /// The value that the items of a segment are reduced to so far.
 #[derive(Drop)]
-pub struct ReduceFolder<'r, T, G> {
+pub struct ReduceFolder<'r, T, G, D> {
     /// The value so far.
     pub item: T,
     /// The closure that reduces two values, the left one first.
     pub reduce_op: &'r G,
+    /// The values that the reduction stays among.
+    pub domain: PhantomData<D>,
 }
 
-impl<'r, T, I: Fn() -> T, G: Fn(T, T) -> T> Reducer<T, Infallible> for ReduceConsumer<'r, I, G> {
-    ghost can_reduce = { λ s _ _. G.IsAlwaysCallable s.reduce_op.now };
+impl<'r, T, I: Fn() -> T, G: Fn(T, T) -> T, D: Domain<T>> Reducer<T, Infallible>
+    for ReduceConsumer<'r, I, G, D> {
+    ghost can_reduce = { λ s left right. G.pre s.reduce_op.now left right
+        × ((r : T) → G.post s.reduce_op.now left right r → D.has r) };
 
     ghost reduce_gives = { λ s left right out. OnlyOk
-        (λ all. G.post s.reduce_op.now left right all) out };
+        (λ all. G.post s.reduce_op.now left right all × D.has all) out };
 
     fn reduce(self, left: T, right: T) -> Result<T, Trouble<Infallible>> {
         Ok((self.reduce_op)(left, right))
     }
 }
 
-impl<'r, T: Drop, G: Fn(T, T) -> T> Folder<T, T, Infallible> for ReduceFolder<'r, T, G> {
-    ghost ready = { λ s. G.IsAlwaysCallable s.reduce_op.now };
+impl<'r, T: Drop, G: Fn(T, T) -> T, D: Domain<T>> Folder<T, T, Infallible>
+    for ReduceFolder<'r, T, G, D> {
+    ghost ready = { λ s. D.has s.item × ((a b : T) → D.has a → D.has b
+        → G.pre s.reduce_op.now a b × ((r : T) → G.post s.reduce_op.now a b r → D.has r)) };
 
-    ghost takes = { λ _ _. Unit {0} };
+    ghost takes = { λ _ x. D.has x };
 
     ghost gives = { λ s xs out. OnlyOk
-        (λ r. Chain (λ a x b. G.post s.reduce_op.now a x b) s.item xs r) out };
+        (λ r. Chain (λ a x b. G.post s.reduce_op.now a x b) s.item xs r × D.has r) out };
 
     ghost may_fill = { false };
 
@@ -61,28 +71,34 @@ impl<'r, T: Drop, G: Fn(T, T) -> T> Folder<T, T, Infallible> for ReduceFolder<'r
     }
 }
 
-impl<'r, T: Send + Drop, I: Fn() -> T + Sync, G: Fn(T, T) -> T + Sync> Consumer<T>
-    for ReduceConsumer<'r, I, G> {
+impl<
+    'r,
+    T: Send + Drop,
+    I: Fn() -> T + Sync,
+    G: Fn(T, T) -> T + Sync,
+    D: Domain<T> + Send,
+> Consumer<T> for ReduceConsumer<'r, I, G, D> {
     type Result = T;
 
     type Error = Infallible;
 
-    type Folder = ReduceFolder<'r, T, G>;
+    type Folder = ReduceFolder<'r, T, G, D>;
 
-    type Reducer = ReduceConsumer<'r, I, G>;
+    type Reducer = ReduceConsumer<'r, I, G, D>;
 
-    ghost ready = { λ s. I.IsAlwaysCallable s.identity.now × G.IsAlwaysCallable s.reduce_op.now };
+    ghost ready = { λ s. I.IsAlwaysCallable s.identity.now
+        × ((e : T) → I.post s.identity.now e → D.has e)
+        × ((a b : T) → D.has a → D.has b
+        → G.pre s.reduce_op.now a b × ((r : T) → G.post s.reduce_op.now a b r → D.has r)) };
 
-    ghost takes = { λ _ _. Unit {0} };
-
-    ghost fits = { λ _ _. Unit {0} };
+    ghost takes = { λ _ x. D.has x };
 
     ghost leaf_gives = { λ s xs out. OnlyOk
-        (λ r. FoldSegment (I.post s.identity.now) (λ a x b. G.post s.reduce_op.now a x b) xs r)
-        out };
+        (λ r. FoldSegment (I.post s.identity.now) (λ a x b. G.post s.reduce_op.now a x b) xs r
+        × D.has r) out };
 
     ghost node_gives = { λ s left right out. OnlyOk
-        (λ all. G.post s.reduce_op.now left right all) out };
+        (λ all. G.post s.reduce_op.now left right all × D.has all) out };
 
     fn split_at(self, _index: usize) -> Result<(Self, Self, Self), Fault> {
         let right = ReduceConsumer { ..self };
@@ -90,10 +106,11 @@ impl<'r, T: Send + Drop, I: Fn() -> T + Sync, G: Fn(T, T) -> T + Sync> Consumer<
         Ok((self, right, reducer))
     }
 
-    fn into_folder(self, _alloc: Global) -> Result<ReduceFolder<'r, T, G>, Fault> {
+    fn into_folder(self, _alloc: Global) -> Result<ReduceFolder<'r, T, G, D>, Fault> {
         Ok(ReduceFolder {
             item: (self.identity)(),
             reduce_op: self.reduce_op,
+            domain: PhantomData,
         })
     }
 }

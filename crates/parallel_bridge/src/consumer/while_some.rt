@@ -69,8 +69,6 @@ impl<T: Drop, C: Consumer<T>> Consumer<Option<T>> for WhileSomeConsumer<C> {
 
     ghost takes = { λ _ _. Unit {0} };
 
-    ghost fits = { λ s n. C.fits s.base n };
-
     ghost leaf_gives = { λ s xs out. C.leaf_gives s.base (before_none xs) out };
 
     ghost node_gives = { λ s a b out. C.node_gives s.base a b out };

@@ -4,7 +4,7 @@ ghost use Rattle.std.specs.Prelude.{◌≡◌, ◌≢◌, ◌<◌, ◌-◌, ◌+
 ghost use Rattle.std.specs.Borrow.{MutBor};
 ghost use Rattle.std.specs.declared.ops.Range.{Range};
 ghost use Rattle.parallel_shares.specs.Stretches.{IsPartOfRow, StartsBelow, range_cells, stretch_of};
-ghost use Rattle.parallel_shares.specs.Fillings.{Fills, Gives, Ends, Closes, GoesOn, GoesOnByPiece, Worked};
+ghost use Rattle.parallel_shares.specs.Fillings.{Fills, Ends, Closes, GoesOn, GoesOnByPiece, Worked};
 ghost use Rattle.parallel_fault.specs.Trouble.{IsMemoryOnErr};
 
 use super::Shares;
@@ -24,16 +24,24 @@ impl Shares {
     ///
     /// The claims that the seat gained are fronts of words (`IsFront`), and are cut into stretches
     /// as `Cutting` says (`Worked`). Each stretch is filled by calls of `fill` with its row and
-    /// neighbouring columns, and then `finish` returns its result; all calls are lent one state,
-    /// which begins as the one handed in (`Finished`). `fill` is asked for columns of cells that
-    /// are there alone, at least one, and `finish` for rows that have such cells. The seat ends as
-    /// after a `claim` that returns `None`. `rt` is the right to go on trying.
+    /// neighbouring columns, and then `finish`, which is handed its row or all of it, as its
+    /// closure takes (`Part`), returns its result; all calls are lent one state, which begins as
+    /// the one handed in (`Finished`). `fill` is asked for columns of cells that are there alone,
+    /// at least one, and `finish` for rows that have such cells. The seat ends as after a `claim`
+    /// that returns `None`. `rt` is the right to go on trying.
     ///
     /// # Errors
     ///
     /// `Fault::Memory` where the list of results could not grow: the seat is still one of these
     /// shares, its claims have grown by what was claimed, and some of that has no result.
-    pub fn run<W: Wait, T, R: Drop, L: Fn(&mut T, usize, Range<usize>), N: Fn(&mut T, usize) -> R>(
+    pub fn run<
+        W: Wait,
+        T,
+        P: Part,
+        R: Drop,
+        L: Fn(&mut T, usize, Range<usize>),
+        N: Fn(&mut T, P) -> R,
+    >(
         &self,
         rt: &W,
         alloc: Global,
@@ -48,14 +56,15 @@ impl Shares {
         requires fill_accepts { (state : MutBor T) (row : ℕ) (columns : Range ℕ)
             → IsPartOfRow (plan_of self.now).cells len row columns
             → L.pre fill.now state row columns }
-        requires finish_accepts { (state : MutBor T) (row : ℕ)
-            → StartsBelow (plan_of self.now).cells len row → N.pre finish.now state row }
+        requires finish_accepts { (state : MutBor T) (stretch : Stretch)
+            → StartsBelow (plan_of self.now).cells len stretch.row
+            → N.pre finish.now state (P.part_of stretch) }
         ensures seat { IsSeatOf self.now seat.new }
         ensures index { index_of seat.new ≡ index_of seat.old }
         ensures transit { transit_of seat.new ≡ None }
         ensures done { IfOk result (λ _. FoundNothing self.now seat.old seat.new) }
         ensures chain { IfOk result (λ results.
-            Worked (Fills (L.post fill.now)) (Gives (N.post finish.now)) (plan_of self.now) len
+            Worked (Fills (L.post fill.now)) (Ends P.part_of (N.post finish.now)) (plan_of self.now) len
             (claims_of seat.old) state.old (claims_of seat.new) results.items state.new) }
         ensures fault { IsMemoryOnErr result }
     {

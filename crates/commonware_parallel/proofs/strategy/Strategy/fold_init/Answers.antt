@@ -1,6 +1,8 @@
 -- Over the source as it comes the list is one segment; by a path it goes as the strategy's thread
 -- number says.
 use Rattle.commonware_parallel.proofs.{rules, refl, length, of_segment, Serial, body_call, MutBor, Call, Pick, FoldStep, FoldedInitAs, along_source}
+use Rattle.parallel_bridge.proofs.Comes.{accepts_serially, comes_wider}
+use Rattle.parallel_bridge.specs.States.{AnyState}
 use Rattle.commonware_parallel.proofs.strategy.Strategy.fold_init.Goals as goal
 
 pub returns-then-is_serial-clause-brackets : goal.returns-then-is_serial-clause-brackets
@@ -34,3 +36,32 @@ returns-clause-along g c =
     c.fold_init_by-answer.result c.thread_number-threads.ensures.number c.in_ok-path.ensures.takes
     c.body_over-call.ensures.counted c.in_ok-parts.ensures.gives
     c.fold_init_by-answer.ensures.folds
+
+pub fold_init_iter-requires-clause-fold_accepts : goal.fold_init_iter-requires-clause-fold_accepts
+fold_init_iter-requires-clause-fold_accepts g c =
+    let identity = λ (e : g.row.R.Denot). g.ID.Fn.post c.args.identity tt e in
+    let step =
+    AnyState (FoldStep (λ (a : g.row.R.Denot) (p : MutBor g.row.S.Denot) (x : g.row.I-Item.Denot)
+    (b : g.row.R.Denot) (q : MutBor g.row.S.Denot). g.F.Fn.post c.args.fold_op
+    (a, (p, (x, tt))) (b, (q, tt)))) in
+    let reduce =
+    λ (a : g.row.R.Denot) (b : g.row.R.Denot) (r : g.row.R.Denot). g.G.Fn.post
+    c.args.reduce_op (a, (b, tt)) r in
+    accepts_serially g.I.Iter.Iterator.next_gives c.into_items.result
+    (g.I.Source.may c.args.source) identity step reduce
+    (λ r x. (p : MutBor g.row.S.Denot) → g.F.Fn.pre c.args.fold_op (r, (p, (x, tt))))
+    c.into_items.ensures.may
+    c.requires.fold_accepts
+
+pub fold_init_by-answer-requires-clause-fold_accepts : goal.fold_init_by-answer-requires-clause-fold_accepts
+fold_init_by-answer-requires-clause-fold_accepts g c κs within x may r comes =
+    let from = c.in_ok-parts.ensures.may in
+    c.requires.fold_accepts x (from x may) r
+    (comes_wider _ _ _ _ _ _ (λ a b r reduced. reduced) from comes)
+
+pub fold_init_by-answer-requires-clause-reduce_accepts : goal.fold_init_by-answer-requires-clause-reduce_accepts
+fold_init_by-answer-requires-clause-reduce_accepts g c κs within a b one other =
+    let from = c.in_ok-parts.ensures.may in
+    c.requires.reduce_accepts a b
+    (comes_wider _ _ _ _ _ _ (λ a b r reduced. reduced) from one)
+    (comes_wider _ _ _ _ _ _ (λ a b r reduced. reduced) from other)

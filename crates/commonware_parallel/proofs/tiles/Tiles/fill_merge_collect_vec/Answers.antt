@@ -1,5 +1,5 @@
 -- No cell, or the rows' stretches and what they are together.
-use Rattle.commonware_parallel.proofs.{rules, inl, inr, [], refl, sym, subst, All-nil, IsPermutation-refl, no_chain, RowValues, IsWholeRow, as_many_values, no_rectangle}
+use Rattle.commonware_parallel.proofs.{rules, inl, inr, [], refl, sym, subst, All-nil, IsPermutation-refl, no_chain, RowValues, IsWholeRow, as_many_values, no_rectangle, Gives, parts_named}
 use Rattle.commonware_parallel.proofs.tiles.Tiles.fill_merge_collect_vec.Goals as goal
 
 pub returns-then-is_empty-clause-merges : goal.returns-then-is_empty-clause-merges
@@ -23,9 +23,18 @@ returns-then-is_empty-clause-merges g c wide =
       | inr none ↦ absurd (wide none)
     ]
 
+pub merge_sorted-requires-clause-cut : goal.merge_sorted-requires-clause-cut
+merge_sorted-requires-clause-cut g c = (parts_named _ _ (λ s x. Gives (goal.F-post g c.args.finish) s x.row)
+    _ (λ p q x part h. h) c.args.self.rows c.args.self.len c.args.self.whole
+    c.in_ok-parts.parts.items c.in_ok-parts.ensures.fills).0
+
 pub returns-clause-merges : goal.returns-clause-merges
-returns-clause-merges g c wide =
-    (c.in_ok-parts.parts.items, c.in_ok-parts.ensures.fills, c.in_ok-values.ensures.merges)
+returns-clause-merges g c wide = (
+  c.in_ok-parts.parts.items,
+  parts_named _ _ _ _ (λ p q x part h. h) c.args.self.rows c.args.self.len c.args.self.whole
+      c.in_ok-parts.parts.items c.in_ok-parts.ensures.fills,
+  c.in_ok-values.ensures.merges,
+)
 
 pub returns-clause-count : goal.returns-clause-count
 returns-clause-count g c wide =

@@ -1,17 +1,21 @@
 -- The state is what came so far of a row. The closures' own clauses go along; a call of `fill`
 -- leaves its columns besides, of which nothing is said.
-use Rattle.commonware_parallel.proofs.{◌≡◌, ℕ, Option, None, arith, sym, MutBor, Range}
+use Rattle.commonware_parallel.proofs.{◌≡◌, ℕ, Option, None, arith, MutBor, Range, Fills, parts_named}
 use Rattle.commonware_parallel.proofs.RowFolds.{folds_nothing, rows_folded}
 use Rattle.commonware_parallel.specs.RowFolds.{EndsFold, FoldsOn}
 use Rattle.std.proofs.lemmas.Result.{IfOk-weaker}
 use Rattle.commonware_parallel.proofs.tiles.folded.fold_tiles.Goals as goal
 
-pub fill_merge_collect_vec-requires-clause-fill_accepts :
-    goal.fill_merge_collect_vec-requires-clause-fill_accepts
-fill_merge_collect_vec-requires-clause-fill_accepts g c κs within = λ state row columns is. (
+pub fill_stretches-requires-clause-fill_accepts : goal.fill_stretches-requires-clause-fill_accepts
+fill_stretches-requires-clause-fill_accepts g c κs within = λ state row columns is. (
   c.requires.kernel_accepts row columns (is.0, omega (arith, is.1), is.2),
   c.requires.merge_accepts,
 )
+
+pub merge_sorted-requires-clause-cut : goal.merge_sorted-requires-clause-cut
+merge_sorted-requires-clause-cut g c = (parts_named _ _ EndsFold _ (λ p q x part h. h)
+    c.args.tiles.rows c.args.tiles.len c.args.tiles.whole c.in_ok-parts.parts.items
+    c.in_ok-parts.ensures.fills).0
 
 pub returns-then-tiles-eq0-clause-folds : goal.returns-then-tiles-eq0-clause-folds
 returns-then-tiles-eq0-clause-folds g c =
@@ -25,10 +29,11 @@ returns-clause-folds g c =
     let kernel = goal.K-post g c.args.kernel.now in
     let merge = goal.M-post g c.args.merge.now in
     let Held : Type 0 = Option g.row.R.Denot in
-    rows_folded kernel merge (λ (s : Held). s ≡ None)
-    (λ (p : MutBor Held) (row : ℕ) (columns : Range ℕ) (done : Unit {0}) (q : MutBor Held).
-    Range ℕ × FoldsOn kernel merge p.now row columns q.now)
-    (λ (p : MutBor Held) (row : ℕ) (r : g.row.R.Denot) (q : MutBor Held). EndsFold p.now r q.now)
-    merge (λ s k. k) (λ p q row columns k. k.1) (λ p q row r k. k) (λ a b r k. k)
-    c.args.tiles.rows c.args.tiles.len c.args.tiles.whole c.in_ok-values.values.items
-    (c.in_ok-values.ensures.merges c.if-tiles-eq0.false)
+    let fill : MutBor Held → ℕ → Range ℕ → Unit {0} → MutBor Held → Type 0 =
+    λ p row columns done q. Range ℕ × FoldsOn kernel merge p.now row columns q.now in
+    rows_folded kernel merge fill (λ p q row columns h. h.1)
+    c.args.tiles.rows c.args.tiles.len c.args.tiles.whole c.in_ok-parts.parts.items
+    c.in_ok-values.values.items
+    (parts_named (λ (s : Held). s ≡ None) (Fills fill) EndsFold _ (λ p q x part h. h)
+    c.args.tiles.rows c.args.tiles.len c.args.tiles.whole c.in_ok-parts.parts.items
+    c.in_ok-parts.ensures.fills) c.in_ok-values.ensures.merges

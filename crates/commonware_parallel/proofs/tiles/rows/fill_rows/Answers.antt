@@ -11,6 +11,6 @@ loop-row-preserved g c =
       c.finish.result,
       c.loop-row.invariant,
       (_, _, refl, c.fill.ensures, refl),
-      (_, _, refl, c.finish.ensures, refl),
+      (_, _, refl, rw c.of.ensures at c.finish.ensures, refl),
       c.in_ok-push.ensures.items,
     )

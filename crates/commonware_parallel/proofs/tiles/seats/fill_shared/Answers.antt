@@ -22,8 +22,10 @@ returns-clause-fills g c work same planned =
     (subst AllDone (sym back) (all_done _ _ _ _ _ c.args.seats.items worked z results all)) in
     let chains = chains_of _ _ _ _ _ work same planned wide h results all in (
       chains.0,
-      rectangle _ _ _ _ _ work same planned wide chains.0 worked chains.2
-          (subst (EachCellOnce shares.plan) back once),
-      chains.2.rows,
-      chains.1,
+      (
+        rectangle _ _ _ _ _ work same planned wide chains.0 worked chains.2
+            (subst (EachCellOnce shares.plan) back once),
+        chains.2.rows,
+        chains.1,
+      ),
     )

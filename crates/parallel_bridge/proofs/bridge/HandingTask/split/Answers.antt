@@ -1,19 +1,27 @@
 -- The outcomes of the halves go along the shape, of two errors the left one stands, and their
 -- watches are joined.
-use Rattle.parallel_bridge.proofs.{◌≡◌, ◌-◌, ◌/◌, arith, inl, refl, subst, sym, driven_node, halting, unstopped}
+use Rattle.parallel_bridge.proofs.{◌≡◌, ◌-◌, ◌/◌, Driven, arith, given_along, inl, refl, subst, sym, driven_node, halting, unstopped, Shape}
 use Rattle.parallel_bridge.proofs.Feeds.{halting_weaker, unstopped_weaker}
 use Rattle.parallel_bridge.specs.Endings.{EndTogether, Ending, ending_of, well}
 use Rattle.parallel_bridge.proofs.bridge.HandingTask.split.Goals as goal
 
 pub returns-clause-meet : goal.returns-clause-meet
 returns-clause-meet g c depth a b left right =
-    let S = g.S.Segment in let parts = c.in-Ok-split_at.ensures in
+    let S = g.S.Segment in let C = g.C.Consumer in let parts = c.in-Ok-split_at.ensures in
+    let l = c.in-Ok.consumers.0 in let r = c.in-Ok.consumers.1 in
     let counted = c.len-len.ensures.counted in let watches = c.halve-left_watch.result in
     let back : S.count c.in-Ok-split_at.halves.1 ≡ c.len-len.result - c.len-len.result / 2 =
     omega (arith, parts.counts.1, counted) in
     let first = subst (λ n. g.G.Watch.ends watches.0 n a.2 (ending_of a.0)) parts.counts.0 left.2 in
     let second = subst (λ n. g.G.Watch.ends watches.1 n b.2 (ending_of b.0)) back right.2 in (
-      c.in-Ok.ensures.reducer,
+      λ p q is_p is_q.
+          let one = subst (Driven S.gives c.in-Ok-split_at.halves.0 (halting (C.leaf_gives l))
+          (λ a. unstopped (C.node_gives l a)) depth) is_p left.0 in
+          let other = subst (Driven S.gives c.in-Ok-split_at.halves.1 (halting (C.leaf_gives r))
+          (λ a. unstopped (C.node_gives r a)) depth) is_q right.0 in
+          c.in-Ok.ensures.reducer p q
+          (given_along (C.leaf_gives l) (C.node_gives l) (Shape depth one.0) p one.2)
+          (given_along (C.leaf_gives r) (C.node_gives r) (Shape depth other.0) q other.2),
       (c.args.self.parts, parts.rests a.1 b.1 left.1 right.1),
       c.halve-left_watch.ensures.meet (ending_of a.0) (ending_of b.0) a.2 b.2 first second,
       λ both joins is_left is_right. (

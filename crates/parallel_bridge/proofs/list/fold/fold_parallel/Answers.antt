@@ -1,22 +1,14 @@
--- The value of each segment is reduced after an identity.
-use Rattle.parallel_bridge.proofs.{Infallible, FoldSegment, Shape, cutdepth, Along, GivesSome, TryAlongCut, OnlyOk, ◌∷◌, [], driven, fold_driven}
+-- What comes is closed under the closures.
+use Rattle.parallel_bridge.specs.Comes.{of_identity, of_step, of_reduction}
 use Rattle.parallel_bridge.proofs.list.fold.fold_parallel.Goals as goal
 
-pub returns-clause-along : goal.returns-clause-along
-returns-clause-along g c =
-    let identity = goal.ID-post g c.args.identity.now in
-    let step = goal.F-post g c.args.fold_op.now in
-    let reduce = goal.G-post g c.args.reduce_op.now in let k = cutdepth c.args.threads.value in
-    let gives = g.P.Parts.gives in
-    driven c.bridge.result c.unfailing.result (λ o. GivesSome gives c.args.parts
-    (λ xs. TryAlongCut {E = Infallible}
-    (λ l out. (b : g.row.R.Denot) × FoldSegment identity step l b
-    × OnlyOk (λ v. FoldSegment identity reduce (b ∷ []) v) out)
-    (λ a b out. OnlyOk (λ v. reduce a b v) out) (Shape k xs) o))
-    (λ r. GivesSome gives c.args.parts (λ xs. Along identity step reduce (Shape k xs) r))
-    (λ r h. (
-      h.0,
-      h.1,
-      fold_driven Infallible identity (FoldSegment identity step) reduce (Shape k h.0) r h.2,
-    ))
-    c.unfailing.ensures.same c.bridge.ensures.along
+pub fold_among-requires-clause-begins : goal.fold_among-requires-clause-begins
+fold_among-requires-clause-begins g c κs within e h = of_identity h
+
+pub fold_among-requires-clause-steps : goal.fold_among-requires-clause-steps
+fold_among-requires-clause-steps g c κs within x may a h =
+    (c.requires.fold_accepts x may a h, λ b k. of_step h may k)
+
+pub fold_among-requires-clause-reduces : goal.fold_among-requires-clause-reduces
+fold_among-requires-clause-reduces g c κs within a b h k =
+    (c.requires.reduce_accepts a b h k, λ r one. of_reduction h k one)

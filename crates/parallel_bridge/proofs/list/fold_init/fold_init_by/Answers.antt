@@ -1,5 +1,5 @@
 -- One segment serially, the list's shape in parallel; either way a reduction of neighbours.
-use Rattle.parallel_bridge.proofs.{Serial, Parallel, ◌≡◌, rules, cutdepth, FoldStep, folded_init_by}
+use Rattle.parallel_bridge.proofs.{Serial, Parallel, ◌≡◌, rules, cutdepth, AnyState, FoldStep, MutBor, accepts_serially, folded_init_by}
 use Rattle.parallel_bridge.proofs.list.fold_init.fold_init_by.Goals as goal
 
 pub returns-in-Serial-clause-folds : goal.returns-in-Serial-clause-folds
@@ -30,3 +30,13 @@ returns-in-Serial-clause-serial g c = let is : c.args.path ≡ Serial = search r
 pub returns-in_ok-answer-in-Parallel-clause-serial : goal.returns-in_ok-answer-in-Parallel-clause-serial
 returns-in_ok-answer-in-Parallel-clause-serial g c =
     let is : c.args.path ≡ Parallel = search rules in rw is tt
+
+pub fold_init_iter-requires-clause-fold_accepts : goal.fold_init_iter-requires-clause-fold_accepts
+fold_init_iter-requires-clause-fold_accepts g c =
+    let step = FoldStep (goal.F-post g c.args.fold_op.now) in
+    accepts_serially g.P.Iter.Iterator.next_gives c.into_items.result
+    (g.P.Parts.may c.args.parts) (goal.ID-post g c.args.identity.now) (AnyState step)
+    (goal.G-post g c.args.reduce_op.now)
+    (λ r x. (p : MutBor g.row.S.Denot) → goal.F-pre g c.args.fold_op.now r p x)
+    c.into_items.ensures.may
+    c.requires.fold_accepts

@@ -1,5 +1,6 @@
 -- One segment serially, the list's shape in parallel; either way a reduction of neighbours.
-use Rattle.parallel_bridge.proofs.{Serial, Parallel, Shape, cutdepth, GivesSome, TryAlong, TryFoldSegment, TryFoldedAs, rules, Ok, Err, ◌≡◌, subst, unless_weaker, try_folded_by}
+use Rattle.parallel_bridge.proofs.{Serial, Parallel, Shape, cutdepth, GivesSome, TryAlong, TryFoldSegment, TryFoldedAs, rules, Ok, Err, ◌≡◌, accepts_serially, subst, unless_weaker, try_folded_by}
+use Rattle.parallel_bridge.specs.Comes.{OkStep}
 use Rattle.parallel_bridge.proofs.list.try_fold.try_fold_by.Goals as goal
 
 pub returns-in-Ok : goal.returns-in-Ok
@@ -54,3 +55,12 @@ returns-in-Parallel g c =
           c.try_fold_parallel.ensures.along;
       serial = rw is tt;
     }
+
+pub try_fold_iter-requires-clause-fold_accepts : goal.try_fold_iter-requires-clause-fold_accepts
+try_fold_iter-requires-clause-fold_accepts g c =
+    let step = goal.F-post g c.args.fold_op.now in
+    accepts_serially g.P.Iter.Iterator.next_gives c.into_items.result
+    (g.P.Parts.may c.args.parts) (goal.ID-post g c.args.identity.now) (OkStep step)
+    (goal.G-post g c.args.reduce_op.now)
+    (λ r x. goal.F-pre g c.args.fold_op.now r x) c.into_items.ensures.may
+    c.requires.fold_accepts

@@ -26,7 +26,7 @@ fill_claim-requires g c =
       some_cells = c.requires.some_cells;
       fill_accepts = λ state row columns part. c.requires.fill_accepts state row columns
           (part.0, part.1, omega (arith, part.2, cells.1));
-      finish_accepts = λ state stretch below. c.requires.finish_accepts state stretch.row
+      finish_accepts = λ state stretch below. c.requires.finish_accepts state stretch
           (omega (arith, below, cells.1));
       open_accepts = c.loop.invariant.accepts;
     }

@@ -1,5 +1,5 @@
 -- What the seat gained so far was cut, filled and finished, but for the open stretch.
-use Rattle.parallel_shares.proofs.{◌≡◌, ℕ, List, ◌++◌, All, IfSome, MutBor, Range, IsSeatOf, LoadsGrow, plan_of, index_of, claims_of, IsFront, all_cells, Fills, Ends, Underway}
+use Rattle.parallel_shares.proofs.{◌≡◌, ℕ, List, ◌++◌, All, IfSome, MutBor, Range, IsSeatOf, LoadsGrow, plan_of, index_of, claims_of, IsFront, all_cells, stretch_of, Fills, Ends, Underway}
 use Rattle.parallel_shares.proofs.shares.Shares.run.Given as goal
 
 abbrev pub invariant-loop : goal.invariant-loop
@@ -10,9 +10,9 @@ invariant-loop g l = record {
   index : index_of l.seat ≡ index_of l.fn.seat;
   loads : LoadsGrow l.fn.seat l.seat;
   accepts : IfSome l.opened
-      (λ piece. (state : MutBor g.row.T.Denot) → goal.N-pre g l.finish state piece.row);
+      (λ piece. (state : MutBor g.row.T.Denot) → goal.N-pre g l.finish state (g.P.Part.part_of (stretch_of piece)));
   chain : (gained : List (Range ℕ)) × (claims_of l.seat ≡ claims_of l.fn.seat ++ gained)
       × All (IsFront (plan_of l.self)) gained
-      × Underway (Fills (goal.L-post g l.fill)) (Ends (λ stretch. stretch.row) (goal.N-post g l.finish)) l.len l.fn.state
+      × Underway (Fills (goal.L-post g l.fill)) (Ends g.P.Part.part_of (goal.N-post g l.finish)) l.len l.fn.state
       (all_cells gained) l.opened l.results.items l.state;
 }

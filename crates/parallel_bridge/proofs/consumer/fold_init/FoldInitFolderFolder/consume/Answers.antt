@@ -10,3 +10,10 @@ returns-clause-gives g c xs out h =
     value_wider g.C.Folder.may_fill (chain c.fold_op-value.new.arg3 c.fold_op-value.result)
     (chain self.state self.item) gives gives xs (c.args.item ∷ xs)
     (λ b more. (_, _, search rules, more)) (λ bs out h. h) out h
+
+pub returns-clause-ready : goal.returns-clause-ready
+returns-clause-ready g c = (
+  c.requires.ready.0,
+  c.requires.ready.1,
+  (c.requires.item c.args.self.item c.requires.ready.2 _).1 _ _ c.fold_op-value.ensures,
+)

@@ -1,0 +1,2 @@
+pub mod FirstNumbered
+pub mod Verdicts

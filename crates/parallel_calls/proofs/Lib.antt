@@ -1,0 +1,12 @@
+pub mod CountedItems
+pub mod EachCalled
+pub mod FilteredItems
+pub mod FirstItems
+pub mod FirstPlaces
+pub mod FlatItems
+pub mod Folded
+pub mod Functions
+pub mod Neighbours
+pub mod Picks
+pub mod Reductions
+pub mod Sums

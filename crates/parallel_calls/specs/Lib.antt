@@ -1,0 +1,13 @@
+pub mod Counts
+pub mod Extremes
+pub mod Filters
+pub mod Firsts
+pub mod Flat
+pub mod Functions
+pub mod Keys
+pub mod Neighbours
+pub mod OnePlace
+pub mod Reductions
+pub mod Stops
+pub mod Sums
+pub mod Verdicts

@@ -1,0 +1,25 @@
+//! Ready calls through any strategy, by the names that std's and rayon's iterators give them: what
+//! some item satisfies, which is the first or the least one, how many there are, what a list is
+//! filtered to, and what it adds up to.
+//!
+//! All are methods of `On`, which has what the calls of a place have in common.
+#![tactic(auto)]
+
+mod any;
+mod by_key;
+mod count;
+mod extremes;
+mod filter;
+mod find;
+mod first_stop;
+mod flat_map;
+mod for_each;
+mod on;
+mod order;
+mod reduce;
+mod sorts;
+mod sum;
+mod whole;
+
+pub use on::On;
+pub use whole::Whole;

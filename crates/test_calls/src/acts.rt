@@ -1,0 +1,162 @@
+//! The one list of calls that each probe goes over.
+use crate::calls::{CALLS, Called, MULTIPLIER, Outcome, called_here};
+use crate::others::{Batched, Filling, Rooted, change, fill, join, run, run_batch, sort, tree};
+use crate::sources::{FEW, Given, OTHERS, make_over};
+use crate::steps::Gives;
+use crate::visits::Visitor;
+use commonware_parallel::{Call, Fault, Kind, Runtime, Strategy, Trouble};
+use std::alloc::{AllocGlobal, Global};
+use std::thread::yield_now;
+use test_strategies::SITE;
+
+/// What the runtime of a test is, beside what stops it.
+pub trait Host: Runtime + AllocGlobal + Copy + Send + 'static {}
+
+impl<Rt: Runtime + AllocGlobal + Copy + Send + 'static> Host for Rt {}
+
+/// A call, or a rest.
+#[derive(Clone, Copy, Debug)]
+pub enum Act {
+    /// A list call over one of the sources.
+    List(Called, Given),
+    /// A sort of numbers, which keeps the order of those that tie or needn't.
+    Sort(bool),
+    /// A change of numbers in place, one by one or in chunks of that size.
+    Change(usize),
+    Join,
+    /// A batch of indices, in ranges of at least that length.
+    Batch(Batched, usize),
+    /// The fill of tiles on rows of that many columns.
+    Fill(Filling, usize),
+    /// A tree over leaves.
+    Tree(Rooted),
+    /// A run of two bodies, which may fail or can't.
+    Run(bool),
+    /// A job that is let go. It stands in no list, as it goes on aside.
+    Job,
+    /// A rest for a while, in which a call would have ended.
+    Rest,
+}
+
+// Those that aren't list calls. Rows of ten columns are too short to be cut.
+const ASIDE: [Act; 16] = [
+    Act::Sort(true),
+    Act::Sort(false),
+    Act::Change(1),
+    Act::Change(2),
+    Act::Join,
+    Act::Batch(Batched::Map, 1),
+    Act::Batch(Batched::TryMap, 1),
+    Act::Batch(Batched::TryBatch, 1),
+    Act::Batch(Batched::Change, 1),
+    Act::Fill(Filling::Stretches, 10),
+    Act::Fill(Filling::Rows, 10),
+    Act::Fill(Filling::Kernel, 10),
+    Act::Tree(Rooted::ByLevels),
+    Act::Tree(Rooted::ByBlocks),
+    Act::Run(false),
+    Act::Run(true),
+];
+
+/// All calls: each list call over those few sources, the fallible map and fold over each source,
+/// and the others.
+pub fn acts(alloc: Global) -> Result<Vec<Act>, Fault> {
+    let mut acts = Vec::from_slice(alloc, &ASIDE)?;
+    for called in CALLS {
+        for given in FEW {
+            acts.push(Act::List(called, given))?;
+        }
+    }
+    for given in OTHERS {
+        acts.push(Act::List(Called::TryMap, given))?;
+        acts.push(Act::List(Called::TryFold, given))?;
+    }
+    Ok(acts)
+}
+
+impl Act {
+    /// Whether its closures may fail.
+    pub fn may_fail(self) -> bool {
+        matches!(
+            self,
+            Act::List(Called::TryMap | Called::TryFold, _)
+                | Act::Batch(Batched::TryMap | Batched::TryBatch, _)
+                | Act::Run(true)
+        )
+    }
+
+    /// Whether it is over no list or over the producer of one's own: how many threads start depends
+    /// on no source.
+    pub fn is_over_own(self) -> bool {
+        !matches!(self, Act::List(..)) || matches!(self, Act::List(_, Given::OwnProducer))
+    }
+
+    /// Whether its items take no memory.
+    pub fn is_bare(self) -> bool {
+        match self {
+            Act::List(_, Given::OwnProducer | Given::Indices | Given::Counted) => true,
+            Act::Batch(batched, _) => !matches!(batched, Batched::Change),
+            Act::Join | Act::Run(_) | Act::Fill(..) => true,
+            _ => false,
+        }
+    }
+
+    /// What a call over that many items is asked as, planned for that many. Each index of a batch
+    /// stands for three. Each row of ten takes eighteen, and they stand for five times as much, but
+    /// for a kernel's.
+    pub fn question(self, len: usize, planned: usize) -> Call {
+        let (kind, len, work, max_parts) = match self {
+            Act::Join => (Kind::Join, 2, 2, 1),
+            Act::List(Called::MultipliedMap | Called::MultipliedMapInit, _) => {
+                (Kind::Body, len, len.wrapping_mul(MULTIPLIER), 1)
+            }
+            Act::Change(2) => (Kind::Body, len / 2, len / 2, 1),
+            Act::Batch(..) => (Kind::Batches, len, len.wrapping_mul(3), planned),
+            Act::Fill(Filling::Kernel, _) => (Kind::Tiles, 10, len.wrapping_mul(18), planned),
+            Act::Fill(..) => (Kind::Tiles, 10, len.wrapping_mul(90), planned),
+            _ => (Kind::Body, len, len, 1),
+        };
+        Call {
+            kind,
+            len,
+            work,
+            max_parts,
+        }
+    }
+}
+
+fn rest() {
+    for _ in 0..50u32 {
+        yield_now();
+    }
+}
+
+/// Does that over so many items, rows or leaves, where it is over any. Each closure visits.
+pub fn does<Rt: Host, S: Strategy>(
+    rt: &Rt,
+    strategy: &S,
+    act: Act,
+    len: usize,
+    visited: Visitor<'_>,
+) -> Outcome {
+    let on = &called_here(rt, strategy);
+    match act {
+        Act::List(called, given) => make_over(on, called, given, len, visited),
+        Act::Sort(is_stable) => sort(on, is_stable, len, visited),
+        Act::Change(size) => change(on, size, len, visited),
+        Act::Join => join(on, visited),
+        Act::Batch(batched, minimum) => run_batch(on, batched, minimum, len, visited),
+        Act::Fill(filling, columns) => fill(on, filling, columns, len, visited),
+        Act::Tree(rooted) => tree(on, rooted, len, visited),
+        Act::Run(may_fail) => run(on, may_fail, len, visited),
+        Act::Job => match strategy.spawn(rt, on.alloc, SITE, 1, Gives(7)) {
+            // (where no stack is to be had, its worker is refused)
+            Ok(_) | Err(Fault::Worker) => Ok(()),
+            Err(fault) => Err(Trouble::Fault(fault)),
+        },
+        Act::Rest => {
+            rest();
+            Ok(())
+        }
+    }
+}

@@ -1,8 +1,0 @@
--- Each level is what it is to be.
-use Rattle.std.proofs.Common.{◌∙◌}
-use Rattle.uses.proofs.Trees.{level_items}
-use Rattle.uses.proofs.merkle.tree.level_at.Goals as goal
-
-pub returns : goal.returns
-returns c = c.as_slice.ensures.value ∙ level_items c.args.levels.now c.args.number _ c.requires.tree
-    c.requires.there c.index-levels-number.is

@@ -1,9 +1,0 @@
--- The steps so far lead from the leaf to the node at the place of the level.
-use Rattle.std.proofs.Common.{[]}
-use Rattle.uses.specs.Merkle.{levels_of, lowest, node_digest}
-use Rattle.uses.proofs.Trees.{Leads}
-use Rattle.uses.proofs.merkle.tree.proof_in.Given as goal
-
-abbrev pub invariant-loop-number : goal.invariant-loop-number
-invariant-loop-number l =
-    Leads node_digest [] (lowest (levels_of l.levels)) l.fn.index l.number l.place l.proof.items

@@ -1,0 +1,73 @@
+//! Ready calls: what each comes to, in std's own word for it.
+ghost use Rattle.std.specs.Prelude.{◌≡◌, ◌==◌, ◌%◌, IfOk, count_by, nat_lt};
+ghost use Rattle.std.specs.List.{filter, find};
+ghost use Rattle.parallel_fault.specs.Trouble.{IsMemoryOnErr};
+ghost use Rattle.parallel_calls.specs.Extremes.{LeastOf};
+
+use commonware_parallel::{Copies, Fault, Place, Strategy};
+use parallel_calls::On;
+use std::sync::Wait;
+use std::thread::Threads;
+
+/// The first even number, and none where there is none.
+///
+/// # Errors
+///
+/// `Fault::Memory` if an allocation fails.
+pub fn first_even<Rt: Threads + Wait + Sync, S: Strategy, P: Place>(
+    on: &On<'_, Rt, S, P>,
+    numbers: &[u64],
+) -> Result<Option<u64>, Fault>
+    ensures first { IfOk result (λ found. found ≡ find (λ x. x % 2 == 0) numbers.now) }
+    ensures fault { IsMemoryOnErr result }
+{
+    on.find_first(Copies { slice: numbers }, |number: &u64| *number % 2 == 0)
+}
+
+/// How many numbers are even.
+///
+/// # Errors
+///
+/// `Fault::Memory` if an allocation fails.
+pub fn count_even<Rt: Threads + Wait + Sync, S: Strategy, P: Place>(
+    on: &On<'_, Rt, S, P>,
+    numbers: &[u64],
+) -> Result<usize, Fault>
+    ensures counted { IfOk result (λ count. count ≡ count_by (λ x. x % 2 == 0) numbers.now) }
+    ensures fault { IsMemoryOnErr result }
+{
+    on.count(Copies { slice: numbers }, |number: u64| number % 2 == 0)
+}
+
+/// The first of the least numbers, and none where there is no number.
+///
+/// # Errors
+///
+/// `Fault::Memory` if an allocation fails.
+pub fn least<Rt: Threads + Wait + Sync, S: Strategy, P: Place>(
+    on: &On<'_, Rt, S, P>,
+    numbers: &[u64],
+) -> Result<Option<u64>, Fault>
+    ensures least { IfOk result (LeastOf nat_lt numbers.now) }
+    ensures fault { IsMemoryOnErr result }
+{
+    on.min_by(
+        Copies { slice: numbers },
+        |left: &u64, right: &u64| left.cmp(right),
+    )
+}
+
+/// The even numbers, in their order.
+///
+/// # Errors
+///
+/// `Fault::Memory` if an allocation fails.
+pub fn even_numbers<Rt: Threads + Wait + Sync, S: Strategy, P: Place>(
+    on: &On<'_, Rt, S, P>,
+    numbers: &[u64],
+) -> Result<Vec<u64>, Fault>
+    ensures kept { IfOk result (λ kept. kept.items ≡ filter (λ x. x % 2 == 0) numbers.now) }
+    ensures fault { IsMemoryOnErr result }
+{
+    on.filter(Copies { slice: numbers }, |number: &u64| *number % 2 == 0)
+}
