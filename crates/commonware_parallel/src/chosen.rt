@@ -70,7 +70,7 @@ pub(crate) fn choose_parts<S: Chooser, Rt: Wait, P: Place>(
 ///
 /// What the strategy refuses.
 #[inline(always)]
-pub(crate) fn begin_path<S: Chooser, Rt: Wait, P: Place>(
+pub fn begin_path<S: Chooser, Rt: Wait, P: Place>(
     strategy: &S,
     rt: &Rt,
     alloc: Global,

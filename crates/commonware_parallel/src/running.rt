@@ -39,7 +39,7 @@ impl<M: Learns> Running<M> {
 }
 
 /// The run has ended. Its strategy is told where it has succeeded: of an error nothing is told.
-pub(crate) fn end_run<S: Chooser, Rt: Wait>(
+pub fn end_run<S: Chooser, Rt: Wait>(
     strategy: &S,
     rt: &Rt,
     running: Running<S::Measure>,

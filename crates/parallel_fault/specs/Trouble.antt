@@ -2,7 +2,9 @@
 use Rattle.std.specs.Prelude.{◌≡◌, Result, Err, Ok, IfErr}
 use Rattle.parallel_fault.specs.declared.fault.Fault.{Fault}
 use Rattle.parallel_fault.specs.declared.fault.Trouble.{Trouble}
-use Rattle.parallel_fault.specs.declared.fault.Fault.TheVariants.{Memory}
+use Rattle.std.specs.declared.io.ErrorKind.{ErrorKind}
+use Rattle.std.specs.declared.io.ErrorKind.TheVariants.{OutOfMemory, Other}
+use Rattle.parallel_fault.specs.declared.fault.Fault.TheVariants.{Memory, Worker, HandOff}
 use Rattle.parallel_fault.specs.declared.fault.Trouble.TheVariants.{Closure}
 use Rattle.parallel_fault.specs.declared.fault.Trouble.TheVariants.{Fault as OfFault}
 
@@ -24,3 +26,9 @@ IsMemoryOnErr (Err f) = f ≡ Memory
 -- no fault but want of memory, where the closure may have an error of its own
 abbrev pub IsMemoryOnFault : {T E : Type 0} → Result T (Trouble E) → Type 0
 IsMemoryOnFault result = IfErr result (λ trouble. IfFault trouble (λ fault. fault ≡ Memory))
+
+-- the kind of the `io::Error` that a fault becomes
+abbrev pub fault_kind : Fault → ErrorKind
+fault_kind Memory = OutOfMemory
+fault_kind Worker = Other
+fault_kind HandOff = Other

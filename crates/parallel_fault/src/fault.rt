@@ -1,10 +1,13 @@
 //! Why a call could not be carried out, and why a call whose closures may fail has no result.
 ghost use Rattle.std.specs.Prelude.{◌≡◌};
+ghost use Rattle.std.specs.IoError.{error_kind};
+ghost use Rattle.parallel_fault.specs.Trouble.{fault_kind};
 ghost use Rattle.parallel_fault.specs.declared.fault.Fault.TheVariants.{Memory};
 ghost use Rattle.parallel_fault.specs.declared.fault.Trouble.TheVariants.{Fault as OfFault};
 
 use std::alloc::{AllocError, AllocFailed};
 use std::fmt::Display;
+use std::io;
 use thiserror::Error;
 
 /// Why a call could not be carried out, for a reason that is none of its caller's closures.
@@ -51,6 +54,20 @@ impl<T: Drop> From<AllocFailed<T>> for Fault {
 
     fn from(_error: AllocFailed<T>) -> Fault {
         Fault::Memory
+    }
+}
+
+/// For a program that returns an `io::Result`: `Fault::Memory` is of the kind `OutOfMemory`, the
+/// others of the kind `Other`. The text is the fault's.
+impl From<Fault> for io::Error {
+    ghost from_gives = { λ fault error. error_kind error ≡ fault_kind fault };
+
+    fn from(fault: Fault) -> io::Error {
+        match fault {
+            Fault::Memory => io::Error::new(io::ErrorKind::OutOfMemory, "out of memory"),
+            Fault::Worker => io::Error::other("a worker could not be started"),
+            Fault::HandOff => io::Error::other("a handed-off job needs a pool of two threads"),
+        }
     }
 }
 
