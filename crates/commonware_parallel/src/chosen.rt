@@ -64,7 +64,9 @@ pub(crate) fn choose_parts<S: Chooser, Rt: Wait, P: Place>(
     Ok((call.parts(pick), measure))
 }
 
-/// A path that the strategy takes for the call, by which the run has begun.
+/// A path that the strategy takes for the call, by which the run has begun. A call of one's own
+/// that goes by a path begins so, runs its body by the path, and says by `end_run` that it has
+/// ended.
 ///
 /// # Errors
 ///

@@ -38,7 +38,7 @@ impl<M: Learns> Running<M> {
     }
 }
 
-/// The run has ended. Its strategy is told where it has succeeded: of an error nothing is told.
+/// The run has ended. Its strategy is told where it has answered: of an error nothing is told.
 pub fn end_run<S: Chooser, Rt: Wait>(
     strategy: &S,
     rt: &Rt,
