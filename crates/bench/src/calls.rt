@@ -1,6 +1,7 @@
 //! The same cases through a strategy, over any source of the items.
 use crate::callers::{Extras, bytes_above, first_mismatch};
 use crate::case::{Case, Cost};
+use crate::ready::ready_by_strategy;
 use crate::tiles::{Tiling, sum_of_tiles};
 use crate::ways::{Answer, Items};
 use crate::work::{
@@ -58,6 +59,7 @@ fn by_slice<Rt: Runtime, S: Strategy>(
 ) -> Result<Answer, Fault> {
     let number = match case {
         Case::Sort => return sorted(rt, alloc, strategy, items),
+        Case::Ready(ready) => return ready_by_strategy(rt, alloc, strategy, ready, items),
         Case::Tiles(rows, cost) => {
             let tiling = Tiling::of(rows, cost, items.len());
             sum_of_tiles(rt, alloc, strategy, tiling, items)?

@@ -1,4 +1,6 @@
 //! The cases that are timed, and their names.
+use crate::ready::Ready;
+
 /// What a call does with its items or its cells.
 #[derive(Clone, Copy)]
 pub enum Case {
@@ -32,6 +34,7 @@ pub enum Case {
     RowsAbove,
     /// Messages that are checked against their digests.
     Digests,
+    Ready(Ready),
 }
 
 /// What a closure costs: a nanosecond or less, about a microsecond (a cell: 30 nanoseconds), or the
@@ -51,7 +54,7 @@ pub enum Rows {
 }
 
 /// Every case with the name by which the command line asks for it.
-pub const CASES: [(&str, Case); 25] = [
+pub const CASES: [(&str, Case); 31] = [
     ("map-light", Case::Map(Cost::Light)),
     ("map-heavy", Case::Map(Cost::Heavy)),
     ("map-rising", Case::Map(Cost::Rising)),
@@ -77,6 +80,12 @@ pub const CASES: [(&str, Case); 25] = [
     ("merkle-blocks-heavy", Case::BlocksHeavy),
     ("rows-above", Case::RowsAbove),
     ("digests", Case::Digests),
+    ("find", Case::Ready(Ready::Find)),
+    ("filter", Case::Ready(Ready::Filter)),
+    ("count", Case::Ready(Ready::Count)),
+    ("sum", Case::Ready(Ready::Sum)),
+    ("scan", Case::Ready(Ready::Scan)),
+    ("min-heavy", Case::Ready(Ready::Least)),
 ];
 
 impl Case {
@@ -116,6 +125,9 @@ impl Case {
 
     /// Whether the kit's `rayon` has the call.
     pub fn suits_kit(self) -> bool {
-        matches!(self, Case::Map(_) | Case::Fold(_) | Case::Sort)
+        match self {
+            Case::Ready(ready) => ready.suits_kit(),
+            _ => matches!(self, Case::Map(_) | Case::Fold(_) | Case::Sort),
+        }
     }
 }

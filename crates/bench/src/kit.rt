@@ -1,5 +1,6 @@
 //! The same cases through the kit's `rayon`, as its callers write them.
 use crate::case::{Case, Cost};
+use crate::ready::ready_by_kit;
 use crate::ways::Answer;
 use crate::work::{add, ascending, heavy, light, rising, zero};
 use commonware_parallel::Fault;
@@ -24,6 +25,7 @@ pub fn by_kit<Rt: Threads + Sync>(
         Case::Map(cost) => Ok(Answer::Numbers(mapped(rt, alloc, cost, items)?)),
         Case::Fold(cost) => Ok(Answer::Number(folded(rt, cost, items))),
         Case::Sort => Ok(Answer::Numbers(sorted(rt, alloc, items)?)),
+        Case::Ready(ready) => Ok(ready_by_kit(rt, alloc, ready, items)?),
         _ => Ok(Answer::Number(0)),
     }
 }

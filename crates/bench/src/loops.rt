@@ -2,6 +2,7 @@
 //! is a chain, which is its faster form.
 use crate::callers::{Extras, ROWS, THRESHOLD, digest_of};
 use crate::case::{Case, Cost};
+use crate::ready::ready_by_loop;
 use crate::tiles::Tiling;
 use crate::ways::Answer;
 use crate::work::{
@@ -42,6 +43,7 @@ pub fn by_loop(
         }
         Case::RowsAbove => Ok(Answer::Number(bytes_above(extras.bytes))),
         Case::Digests => Ok(Answer::Number(first_mismatch(extras) as u64)),
+        Case::Ready(ready) => Ok(ready_by_loop(alloc, ready, items)?),
         Case::Each(_) => Ok(Answer::Number(0)),
     }
 }

@@ -14,6 +14,7 @@ mod loops;
 mod policies;
 mod pools;
 mod race;
+mod ready;
 mod request;
 mod soak;
 mod tiles;

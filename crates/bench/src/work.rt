@@ -121,6 +121,21 @@ pub fn ascending(left: &u64, right: &u64) -> Ordering {
     left.cmp(right)
 }
 
+/// The order of what the heavy function makes of items.
+pub fn heavier(left: &u64, right: &u64) -> Ordering {
+    heavy(*left).cmp(&heavy(*right))
+}
+
+/// Whether an item is even.
+pub fn is_even(item: u64) -> bool {
+    item % 2 == 0
+}
+
+/// The same of an item that is lent.
+pub fn is_even_at(item: &u64) -> bool {
+    is_even(*item)
+}
+
 /// The node above two neighbours of a tree, in a few nanoseconds.
 pub fn combined(left: u64, right: u64) -> u64 {
     (2 * (left % MODULUS) + 3 * (right % MODULUS)) % MODULUS

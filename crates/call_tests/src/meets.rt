@@ -6,7 +6,7 @@ use commonware_parallel::mocks::Rule;
 use test_calls::acts::Act;
 use test_calls::calls::Called;
 use test_calls::meetings::Meeting;
-use test_calls::others::{Batched, Filling, PART, Rooted};
+use test_calls::others::{Batched, Filling, PART, Rooted, Sorted};
 use test_calls::sources::Given;
 use test_calls::visits::{Times, Visitor};
 use test_calls::ways::{Row, THREADS, Through, Way, threads_between};
@@ -117,8 +117,14 @@ fn merges_meet(rt: &impl Test, through: &Through, of: Row, threads: usize) {
     row(rt, of, (made, met), (Ok(()), met.max(threads / 2)));
 }
 
-// The same of a call over so many parts.
+// The same of a call over so many parts. Where closures are called with neighbours each segment has
+// some.
 fn call_meets(rt: &impl Test, through: &Through, of: Row, (threads, parts): (usize, usize)) {
+    let parts = if of.act.is_of_pairs() {
+        parts.saturating_mul(8)
+    } else {
+        parts
+    };
     let of = Row {
         len: items(of.act, parts),
         ..of
@@ -126,11 +132,15 @@ fn call_meets(rt: &impl Test, through: &Through, of: Row, (threads, parts): (usi
     match of.act {
         // One of its bodies runs.
         Act::Run(_) => {}
+        act if act.is_silent() => {}
         // A batch of one range is whole, and not shared.
         Act::Batch(..) if parts < 2 => {}
         Act::Sort(_) if parts == threads && threads < 64 => {
             meet(rt, through, of, (threads, threads));
-            merges_meet(rt, through, of, threads);
+            // A key is of one number.
+            if matches!(of.act, Act::Sort(Sorted::Stable | Sorted::Unstable)) {
+                merges_meet(rt, through, of, threads);
+            }
         }
         // More parts than threads take long, and of 64 each thread that is started gets two.
         Act::Sort(_) => {}
@@ -207,6 +217,7 @@ fn many_threads_meet_and_as_many_where_more_are_planned(rt: HostRuntime) {
 enum Group {
     Maps,
     Folds,
+    Ready,
     Sources,
     Sorts,
     Changes,
@@ -221,6 +232,9 @@ enum Group {
 // for.
 fn group_of(act: Act) -> (Group, usize) {
     match act {
+        _ if act.is_silent() => (Group::None, 0),
+        Act::List(Called::Ready(_), Given::Iterator) => (Group::None, 0),
+        Act::List(Called::Ready(_), _) => (Group::Ready, 300_001),
         Act::List(Called::Map, Given::OwnProducer) => (Group::Maps, 1_000_001),
         Act::List(Called::Fold, Given::OwnProducer) => (Group::Folds, 1_000_001),
         Act::List(Called::FoldInit | Called::TryFold | Called::Partition, Given::OwnProducer) => {
@@ -265,6 +279,11 @@ fn two_closures_of_each_long_fold_meet(rt: HostRuntime) {
 }
 
 #[test]
+fn two_closures_of_each_long_ready_call_meet(rt: HostRuntime) {
+    long_calls_meet(&rt, Group::Ready);
+}
+
+#[test]
 fn two_closures_over_each_long_source_meet(rt: HostRuntime) {
     long_calls_meet(&rt, Group::Sources);
 }
@@ -293,6 +312,8 @@ fn two_closures_of_long_trees_meet(rt: HostRuntime) {
 pub fn closures(act: Act, len: usize, planned: usize) -> Option<usize> {
     match act {
         Act::Sort(_) => None,
+        act if act.is_of_pairs() => None,
+        act if act.is_silent() => Some(0),
         Act::Join => Some(2),
         Act::Run(_) => Some(1),
         Act::Change(2) => Some(len.div_ceil(2)),

@@ -2,7 +2,7 @@
 //! its turn: the result is the right one or want of memory, each item is let go once, and the call
 //! succeeds in the end.
 //!
-//! All memory is taken first but for a room, of which each further try of a call is left 16 bytes
+//! All memory is taken before each call but for a room, of which each further try is left 16 bytes
 //! more, so that the first request is refused, then the second, and so on. Where memory has no end
 //! (`no_memory`) each call has to succeed at once. The test that makes each call twice is for runs
 //! in which one allocation fails.
@@ -15,7 +15,7 @@ use test_calls::acts::{Act, acts};
 use test_calls::calls::Outcome;
 use test_calls::visits::Visitor;
 use test_calls::ways::{Row, Through, Way, ways};
-use test_support::no_memory::all_memory;
+use test_support::no_memory::{all_memory, hold_rest};
 
 // The strategies, one of each kind.
 const WAYS: [Way; 6] = [
@@ -112,27 +112,40 @@ fn refusals(rt: &impl Test, through: &Through, of: Row) -> u64 {
     panic!(rt; "{of:?} doesn't succeed")
 }
 
-// What a call lets go stays at hand for later ones, so only the first is surely refused. A search
-// stands in the place of a rest.
+// The same while nothing but a room is left: what calls before it let go is taken too.
+fn refusals_in_a_room(rt: &impl Test, held: &mut Vec<Vec<u8>>, through: &Through, of: Row) -> u64 {
+    let room = Vec::<u8>::with_capacity(rt.alloc(), ROOM).expect(rt, "a room");
+    let before = held.len();
+    if before > 0 {
+        hold_rest(rt.alloc(), held);
+    }
+    drop(room);
+    let refused = refusals(rt, through, of);
+    held.truncate(before);
+    refused
+}
+
+// A search stands in the place of a rest.
 #[test]
 fn each_growth_is_refused_in_turn(rt: HostRuntime) {
-    let acts = all_acts(&rt);
-    let mut standing = Vec::new(rt.alloc());
+    let (acts, alloc) = (all_acts(&rt), rt.alloc());
+    let mut standing = Vec::new(alloc);
     for way in WAYS {
         let one = (way, through(&rt, way));
         standing.push(one).expect(&rt, "memory");
     }
-    let room = Vec::<u8>::with_capacity(rt.alloc(), ROOM).expect(&rt, "memory");
-    let held = all_memory(rt.alloc());
-    drop(room);
+    let rooms = Vec::<u8>::with_capacity(alloc, ROOM * 6).expect(&rt, "memory");
+    let mut held = all_memory(alloc).unwrap_or(Vec::new(alloc));
+    drop(rooms);
     let mut total = 0u64;
     for (way, through) in standing.iter() {
         for act in acts.iter().chain(&[Act::Job, Act::Rest]) {
             let of = Row::of(*way, *act, 30);
-            total = total.saturating_add(refusals(&rt, through, of));
+            let refused = refusals_in_a_room(&rt, &mut held, through, of);
+            total = total.saturating_add(refused);
         }
     }
-    equal(&rt, "some are refused", total > 0, held.is_some());
+    equal(&rt, "some are refused", total > 0, held.len() > 0);
     drop(held);
     let _told = eprintln!(&rt; "{total} calls were refused");
 }

@@ -9,6 +9,7 @@ use test_calls::acts::{Act, does};
 use test_calls::calls::{CALLS, Called, Outcome, called_here};
 use test_calls::noting::Noting;
 use test_calls::others::{Filling, Rooted};
+use test_calls::ready::Ready;
 use test_calls::sources::Given;
 use test_calls::visits::{Times, Visitor};
 use test_calls::ways::{Row, Through, Way};
@@ -44,7 +45,7 @@ pub enum Fate {
 }
 
 /// The fate of each call. Maps need a block for their results, and a partition that all items pass,
-/// with values that take no place, needs none.
+/// with values that take no place, needs none, nor one that keeps nothing.
 pub fn fate_of(act: Act, path: Path) -> Fate {
     match (act, path) {
         (Act::List(_, Given::Iterator | Given::OwnSource), Path::Parallel | Path::Serial) => {
@@ -53,6 +54,7 @@ pub fn fate_of(act: Act, path: Path) -> Fate {
         (Act::List(_, Given::Counted), Path::Parallel) => Fate::Refused,
         (Act::List(Called::Fold | Called::FoldInit | Called::TryFold, _), _) => Fate::Succeeds,
         (Act::List(Called::Partition, _), _) => Fate::Succeeds,
+        (Act::List(Called::Ready(ready), _), _) if ready != Ready::FlatMap => Fate::Succeeds,
         (Act::List(..) | Act::Sort(_) | Act::Fill(..), _) => Fate::Refused,
         (Act::Tree(Rooted::ByLevels), _) => Fate::Refused,
         _ => Fate::Succeeds,

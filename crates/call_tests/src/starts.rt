@@ -7,7 +7,7 @@ use crate::meets::power_within;
 use commonware_parallel::mocks::Rule;
 use parallel_pool::rayon::map_in_row;
 use test_calls::acts::Act;
-use test_calls::others::PART;
+use test_calls::others::{PART, Sorted};
 use test_calls::own_part::OwnPart;
 use test_calls::sources::zeros;
 use test_calls::visits::Visitor;
@@ -84,17 +84,18 @@ fn a_serial_call_starts_no_thread(rt: HostRuntime) {
     all_start(&rt, Way::Explorer(Rule::Serial, 4, 4), 0);
     // Fewer numbers than two parts are sorted by the caller alone.
     let way = Way::Pool(4, 4);
-    let of = Row::of(way, Act::Sort(true), 16_383);
+    let of = Row::of(way, Act::Sort(Sorted::Stable), 16_383);
     row(&rt, of, least_started(&rt, &through(&rt, way), of, 0), 0);
 }
 
-// How many items a call is over, and how many threads its caller starts of that many. Of a run one
-// body is called, and a sort of 64 parts and more gives each thread that is started two.
+// How many items a call is over, and how many threads its caller starts of that many; none where
+// nothing is called that sees it. Of a run one body is called, and a sort of 64 parts and more gives each thread that is started two.
 fn wanted_of(act: Act, threads: usize) -> (usize, usize) {
     let others = threads.saturating_sub(1);
     let many = threads.saturating_mul(10);
     match act {
         Act::Run(_) => (many, 0),
+        act if act.is_silent() => (many, 0),
         Act::Join => (many, others.min(1)),
         Act::Sort(_) => (threads.min(63).saturating_mul(PART), others.min(62)),
         Act::Tree(_) => (threads.saturating_mul(37), others),

@@ -69,7 +69,7 @@ fn over_numbers<Rt: Runtime, S: Strategy>(on: &Here<'_, Rt, S>, caller: usize) -
         3 => squares_and_sum(rt, alloc, strategy, site, numbers).is_ok(),
         4 => squares_backwards(rt, alloc, strategy, site, numbers).is_ok(),
         5 => squares_of_wrapped(rt, alloc, strategy, site, front, back).is_ok(),
-        6 => squares(rt, alloc, strategy, site, numbers).is_ok(),
+        6 => squares(on, numbers).is_ok(),
         7 => split_by_check(rt, alloc, strategy, site, numbers, is_small).is_ok(),
         8 => verify_all(rt, alloc, strategy, site, numbers, is_small).is_ok(),
         _ => leave_out_repeats(rt, alloc, strategy, site, numbers).is_ok(),

@@ -2,10 +2,6 @@
 #![tactic(auto)]
 
 #[cfg(test)]
-mod checks;
-#[cfg(test)]
 mod lists;
 #[cfg(test)]
 mod random;
-#[cfg(test)]
-mod stops;

@@ -1,7 +1,8 @@
 //! The squares of some numbers, found on the machine's cores.
 #![tactic(auto)]
 
-use commonware_parallel::{Copies, Rayon, Site, Strategy};
+use commonware_parallel::{Copies, Rayon, Site};
+use parallel_calls::On;
 use std::io;
 use std::num::NonZeroUsize;
 
@@ -12,13 +13,17 @@ const SITE: Site = Site {
 };
 
 fn main(rt: HostRuntime) -> io::Result<()> {
-    let alloc = rt.alloc();
-    let strategy = Rayon::of_machine(&rt, alloc, NonZeroUsize::MIN)?;
+    let (rt, alloc) = (&rt, rt.alloc());
+    let strategy = &Rayon::of_machine(rt, alloc, NonZeroUsize::MIN)?;
+    let on = On {
+        rt,
+        alloc,
+        strategy,
+        site: SITE,
+    };
     let numbers = Copies {
         slice: &[3, 1, 4, 1, 5],
     };
-    match strategy.map_collect_vec(&rt, alloc, SITE, numbers, |n: u64| n.wrapping_mul(n)) {
-        Ok(squares) => println!(rt; "{squares:?}"),
-        Err(fault) => eprintln!(rt; "{fault}"),
-    }
+    let squares = on.map(numbers, |n: u64| n.wrapping_mul(n))?;
+    println!(rt; "{squares:?}")
 }

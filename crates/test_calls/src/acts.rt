@@ -1,7 +1,10 @@
 //! The one list of calls that each probe goes over.
 use crate::calls::{CALLS, Called, MULTIPLIER, Outcome, called_here};
-use crate::others::{Batched, Filling, Rooted, change, fill, join, run, run_batch, sort, tree};
-use crate::sources::{FEW, Given, OTHERS, make_over};
+use crate::others::{
+    Batched, Filling, Rooted, Sorted, change, fill, join, run, run_batch, sort, tree,
+};
+use crate::ready::{READY, Ready};
+use crate::sources::{FEW, Given, OTHERS, TWO, make_over};
 use crate::steps::Gives;
 use crate::visits::Visitor;
 use commonware_parallel::{Call, Fault, Kind, Runtime, Strategy, Trouble};
@@ -19,8 +22,8 @@ impl<Rt: Runtime + AllocGlobal + Copy + Send + 'static> Host for Rt {}
 pub enum Act {
     /// A list call over one of the sources.
     List(Called, Given),
-    /// A sort of numbers, which keeps the order of those that tie or needn't.
-    Sort(bool),
+    /// A sort of numbers.
+    Sort(Sorted),
     /// A change of numbers in place, one by one or in chunks of that size.
     Change(usize),
     Join,
@@ -39,9 +42,11 @@ pub enum Act {
 }
 
 // Those that aren't list calls. Rows of ten columns are too short to be cut.
-const ASIDE: [Act; 16] = [
-    Act::Sort(true),
-    Act::Sort(false),
+const ASIDE: [Act; 18] = [
+    Act::Sort(Sorted::Stable),
+    Act::Sort(Sorted::Unstable),
+    Act::Sort(Sorted::StableByKey),
+    Act::Sort(Sorted::UnstableByKey),
     Act::Change(1),
     Act::Change(2),
     Act::Join,
@@ -58,6 +63,25 @@ const ASIDE: [Act; 16] = [
     Act::Run(true),
 ];
 
+// The calls that stand on a strategy's, each over two sources, or the one that it is for.
+fn add_ready(acts: &mut Vec<Act>) -> Result<(), Fault> {
+    for ready in READY {
+        let called = Called::Ready(ready);
+        match ready {
+            Ready::IsSortedBy => acts.push(Act::List(called, Given::Slice))?,
+            Ready::PositionFirst | Ready::Sum | Ready::Product | Ready::CheckedSum => {
+                acts.push(Act::List(called, Given::OwnProducer))?;
+            }
+            _ => {
+                for given in TWO {
+                    acts.push(Act::List(called, given))?;
+                }
+            }
+        }
+    }
+    Ok(())
+}
+
 /// All calls: each list call over those few sources, the fallible map and fold over each source,
 /// and the others.
 pub fn acts(alloc: Global) -> Result<Vec<Act>, Fault> {
@@ -71,18 +95,30 @@ pub fn acts(alloc: Global) -> Result<Vec<Act>, Fault> {
         acts.push(Act::List(Called::TryMap, given))?;
         acts.push(Act::List(Called::TryFold, given))?;
     }
+    add_ready(&mut acts)?;
     Ok(acts)
 }
 
 impl Act {
-    /// Whether its closures may fail.
+    /// Whether its closures may fail, or a closure that fails ends it.
     pub fn may_fail(self) -> bool {
-        matches!(
-            self,
-            Act::List(Called::TryMap | Called::TryFold, _)
-                | Act::Batch(Batched::TryMap | Batched::TryBatch, _)
-                | Act::Run(true)
-        )
+        match self {
+            Act::List(Called::Ready(ready), _) => ready.stops(),
+            Act::List(called, _) => matches!(called, Called::TryMap | Called::TryFold),
+            Act::Batch(batched, _) => matches!(batched, Batched::TryMap | Batched::TryBatch),
+            Act::Run(may_fail) => may_fail,
+            _ => false,
+        }
+    }
+
+    /// Whether its closure is called with pairs of neighbours.
+    pub fn is_of_pairs(self) -> bool {
+        matches!(self, Act::List(Called::Ready(ready), _) if ready.is_of_pairs())
+    }
+
+    /// Whether it calls no closure.
+    pub fn is_silent(self) -> bool {
+        matches!(self, Act::List(Called::Ready(ready), _) if ready.is_silent())
     }
 
     /// Whether it is over no list or over the producer of one's own: how many threads start depends
@@ -142,7 +178,7 @@ pub fn does<Rt: Host, S: Strategy>(
     let on = &called_here(rt, strategy);
     match act {
         Act::List(called, given) => make_over(on, called, given, len, visited),
-        Act::Sort(is_stable) => sort(on, is_stable, len, visited),
+        Act::Sort(sorted) => sort(on, sorted, len, visited),
         Act::Change(size) => change(on, size, len, visited),
         Act::Join => join(on, visited),
         Act::Batch(batched, minimum) => run_batch(on, batched, minimum, len, visited),

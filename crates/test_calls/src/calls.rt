@@ -1,12 +1,13 @@
 //! The list calls, each over any source, with closures that visit a probe.
 use crate::acts::Host;
+use crate::ready::{Ready, make_ready};
 use crate::steps::{add_counts, no_count};
 use crate::visits::Visitor;
 use commonware_parallel::{Fault, Runtime, Site, Source, Strategy, Trouble};
 use std::alloc::Global;
 use test_strategies::SITE;
 
-/// A list call of one place, which is the strategy's of that name; and those of a strategy alone.
+/// A list call of one place, which is the strategy's of that name, or one that stands on these.
 #[derive(Clone, Copy, Debug)]
 pub enum Called {
     Map,
@@ -18,9 +19,10 @@ pub enum Called {
     FoldInit,
     TryFold,
     Partition,
+    Ready(Ready),
 }
 
-/// All of them.
+/// All of a strategy.
 pub const CALLS: [Called; 9] = [
     Called::Map,
     Called::MultipliedMap,
@@ -231,6 +233,7 @@ pub fn make<Rt: Runtime, S: Strategy, M, I: Source<M>>(
         Called::FoldInit => fold_init(on, source, visited),
         Called::TryFold => try_fold(on, source, visited),
         Called::Partition => partition(on, source, visited),
+        Called::Ready(ready) => make_ready(on, ready, source, visited),
     };
     drop(held);
     made

@@ -10,6 +10,7 @@ pub mod meetings;
 pub mod noting;
 pub mod others;
 pub mod own_part;
+pub mod ready;
 pub mod sources;
 pub mod steps;
 pub mod visits;

@@ -5,6 +5,7 @@ ghost use Rattle.parallel_shares.specs.Cut.{BalancedCut};
 ghost use Rattle.commonware_parallel.specs.Batches.{ranges_of};
 
 use crate::calls::{Here, Outcome, done, tried};
+use crate::ready::calls_of;
 use crate::sources::{LOST, zeros};
 use crate::steps::{cells_counted, no_count};
 use crate::visits::Visitor;
@@ -37,11 +38,20 @@ pub fn numbers(alloc: Global, count: usize) -> Result<Vec<u32>, Fault> {
     Ok(numbers)
 }
 
+/// How numbers are sorted: by themselves or by a key, and those that tie in their order or not.
+#[derive(Clone, Copy, Debug, PartialEq, Eq)]
+pub enum Sorted {
+    Stable,
+    Unstable,
+    StableByKey,
+    UnstableByKey,
+}
+
 /// A sort of numbers, of which each comparison visits: a meeting by level, where the two are of two
-/// parts.
+/// parts. A key visits no level.
 pub fn sort<Rt: Runtime, S: Strategy>(
     on: &Here<'_, Rt, S>,
-    is_stable: bool,
+    sorted: Sorted,
     count: usize,
     visited: Visitor<'_>,
 ) -> Outcome {
@@ -51,13 +61,21 @@ pub fn sort<Rt: Runtime, S: Strategy>(
         visited.visit_level(usize::from(*left / 8192 == *right / 8192));
         left.cmp(right)
     };
+    let key = |number: &u32| -> u32 {
+        visited.visit_level(usize::MAX);
+        *number
+    };
+    let calls = calls_of(on);
     let held = visited.holds(on.alloc);
-    let sorted = if is_stable {
-        on.strategy
-            .sort_by(on.rt, on.alloc, on.site, numbers, compare)
-    } else {
-        on.strategy
-            .sort_unstable_by(on.rt, on.alloc, on.site, numbers, compare)
+    let sorted = match sorted {
+        Sorted::Stable => on
+            .strategy
+            .sort_by(on.rt, on.alloc, on.site, numbers, compare),
+        Sorted::Unstable => on
+            .strategy
+            .sort_unstable_by(on.rt, on.alloc, on.site, numbers, compare),
+        Sorted::StableByKey => calls.sort_by_key(numbers, key),
+        Sorted::UnstableByKey => calls.sort_unstable_by_key(numbers, key),
     };
     drop(held);
     done(sorted)

@@ -2,6 +2,7 @@
 ghost use Rattle.std.specs.Prelude.{⊤};
 
 use crate::calls::{Called, Here, Outcome, make, make_fallible};
+use crate::ready::{Ready, add_up, is_sorted, position};
 use crate::visits::Visitor;
 use commonware_parallel::bridge::DrainProducer;
 use commonware_parallel::{
@@ -52,6 +53,9 @@ pub const OTHERS: [Given; 8] = [
     Given::Counted,
     Given::OwnSource,
 ];
+
+/// Those of the calls that stand on a strategy's, whose bodies differ by no source.
+pub const TWO: [Given; 2] = [Given::Iterator, Given::OwnProducer];
 
 // A producer of one's own, of which each cut is told.
 #[derive(Drop)]
@@ -236,6 +240,36 @@ fn over_counted<Rt: Runtime, S: Strategy>(
     made
 }
 
+// The call over the producer of one's own.
+fn over_own<Rt: Runtime, S: Strategy>(
+    on: &Here<'_, Rt, S>,
+    called: Called,
+    list: Indices,
+    visited: Visitor<'_>,
+) -> Outcome {
+    let list = Cut { list, visited };
+    match called {
+        Called::Ready(Ready::PositionFirst) => position(on, list, visited),
+        Called::Ready(ready) if ready.is_silent() => add_up(on, ready, list, visited),
+        _ => make(on, called, list, visited),
+    }
+}
+
+// The call over a slice.
+fn over_slice<Rt: Runtime, S: Strategy>(
+    on: &Here<'_, Rt, S>,
+    called: Called,
+    len: usize,
+    visited: Visitor<'_>,
+) -> Outcome {
+    if let Called::Ready(Ready::IsSortedBy) = called {
+        let numbers = zeros(on.alloc, len.saturating_add(1))?;
+        return is_sorted(on, numbers.as_slice(), visited);
+    }
+    let items = zeros(on.alloc, len)?;
+    make(on, called, items.as_slice(), visited)
+}
+
 /// The error of a call that doesn't let each item go once.
 pub const LOST: u32 = 1000;
 
@@ -256,18 +290,9 @@ pub fn make_over<Rt: Runtime, S: Strategy>(
         Given::Vector | Given::Iterator => over_counted(on, called, given, len, visited),
         Given::Pairs => over_counted(on, called, given, twice, visited),
         Given::Indices => over_list(on, called, indices, visited),
-        Given::OwnProducer => {
-            let list = Cut {
-                list: indices,
-                visited,
-            };
-            make(on, called, list, visited)
-        }
+        Given::OwnProducer => over_own(on, called, indices, visited),
         Given::Counted => make_fallible(on, called, Counted { iter: 0..len }, visited),
-        Given::Slice => {
-            let items = zeros(on.alloc, len)?;
-            make(on, called, items.as_slice(), visited)
-        }
+        Given::Slice => over_slice(on, called, len, visited),
         Given::Chunks | Given::Zipped => {
             let items = zeros(on.alloc, twice)?;
             over_parts(on, called, given, items.as_slice(), visited)

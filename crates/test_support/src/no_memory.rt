@@ -34,17 +34,25 @@ pub fn all_places(alloc: Global) -> Option<Vec<Vec<u8>>> {
 /// All memory that is left, in blocks of all sizes: while they are held, each request is refused.
 /// None where memory has no end.
 pub fn all_memory(alloc: Global) -> Option<Vec<Vec<u8>>> {
-    let mut held = Vec::with_capacity(alloc, 70_000).ok()?;
-    for halvings in 0..43u32 {
-        let most = if halvings < 26 { 60_000 } else { 1000 };
-        if !take_all(alloc, (1usize << 46) >> halvings, most, &mut held) {
-            return None;
+    let mut held = all_places(alloc)?;
+    if hold_rest(alloc, &mut held) {
+        Some(held)
+    } else {
+        None
+    }
+}
+
+/// Holds all that is left below 1 MiB too, in blocks of all sizes: whether it has an end.
+pub fn hold_rest(alloc: Global, held: &mut Vec<Vec<u8>>) -> bool {
+    for halvings in 27..43u32 {
+        if !take_all(alloc, (1usize << 46) >> halvings, 1000, held) {
+            return false;
         }
     }
     for sixteens in 1..70usize {
-        if !take_all(alloc, sixteens.wrapping_mul(16), 1000, &mut held) {
-            return None;
+        if !take_all(alloc, sixteens.wrapping_mul(16), 1000, held) {
+            return false;
         }
     }
-    Some(held)
+    true
 }

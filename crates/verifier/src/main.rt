@@ -7,7 +7,7 @@ ghost use Rattle.parallel_bridge.specs.Outcomes.{UnlessRefused, listed};
 ghost use Rattle.parallel_bridge.specs.Tries.{TryMapOf};
 
 use commonware_parallel::{Indices, Place, Rayon, Runtime, Site, Strategy, Trouble};
-use std::alloc::Global;
+use parallel_calls::On;
 use std::io;
 use std::num::NonZeroUsize;
 use std::process::ExitCode;
@@ -29,14 +29,7 @@ fn first_failing<
     P: Place,
     S: Strategy,
     F: Fn(usize) -> Result<(), usize> + Send + Sync + Drop,
->(
-    rt: &Rt,
-    alloc: Global,
-    strategy: &S,
-    site: P,
-    count: usize,
-    check: F,
-) -> Result<Vec<()>, Trouble<usize>>
+>(on: &On<'_, Rt, S, P>, count: usize, check: F) -> Result<Vec<()>, Trouble<usize>>
     requires accepts { (index : ℕ) → index < count → F.pre check index }
     ensures first { UnlessRefused result (λ out. (xs : List ℕ)
         × (xs ≡ range_with_len 0 (count - 0)) × TryMapOf (F.post check) xs (listed out)) }
@@ -45,14 +38,12 @@ fn first_failing<
         start: 0,
         end: count,
     };
-    strategy.try_map_collect_vec(rt, alloc, site, indices, check)
+    on.try_map(indices, check)
 }
 
 /// Checks that no number is above the limit.
-fn verify<Rt: Runtime, S: Strategy>(
-    rt: &Rt,
-    alloc: Global,
-    strategy: &S,
+fn verify<Rt: Runtime, S: Strategy, P: Place>(
+    on: &On<'_, Rt, S, P>,
     numbers: &[u64],
 ) -> Result<Vec<()>, Trouble<usize>> {
     let check = move |index: usize| -> Result<(), usize>
@@ -65,13 +56,19 @@ fn verify<Rt: Runtime, S: Strategy>(
             Err(index)
         }
     };
-    first_failing(rt, alloc, strategy, SITE, numbers.len(), check)
+    first_failing(on, numbers.len(), check)
 }
 
 fn main(rt: HostRuntime) -> io::Result<ExitCode> {
-    let alloc = rt.alloc();
-    let strategy = Rayon::of_machine(&rt, alloc, NonZeroUsize::MIN)?;
-    match verify(&rt, alloc, &strategy, &[3, 1, 4, 1, 5, 9, 2, 6]) {
+    let (rt, alloc) = (&rt, rt.alloc());
+    let strategy = &Rayon::of_machine(rt, alloc, NonZeroUsize::MIN)?;
+    let on = On {
+        rt,
+        alloc,
+        strategy,
+        site: SITE,
+    };
+    match verify(&on, &[3, 1, 4, 1, 5, 9, 2, 6]) {
         Ok(_) => println!(rt; "all are good")?,
         Err(Trouble::Closure(index)) => println!(rt; "the first bad one is number {index}")?,
         Err(Trouble::Fault(fault)) => {

@@ -5,5 +5,5 @@ use Rattle.uses.proofs.squares.squares.Goals as goal
 
 pub returns-clause-squares : goal.returns-clause-squares
 returns-clause-squares g c = map_of_list _ _
-    (λ (x : ℕ). x * x) c.map_collect_vec.result c.map_collect_vec.ensures.answers
+    (λ (x : ℕ). x * x) c.map.result c.map.ensures.answers
     (λ x y within k. search rules)
