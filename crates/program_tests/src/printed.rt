@@ -5,6 +5,7 @@ use commonware_parallel::{Fault, Trouble};
 use parallel_pool::rayon::{ThreadPoolBuildError, ThreadPoolBuilder};
 use std::alloc::{AllocError, Global};
 use std::error::Error;
+use std::io;
 use std::process::Abort;
 use test_strategies::pool;
 
@@ -27,6 +28,7 @@ fn refusals_print_their_reason(rt: HostRuntime) {
         errs(&rt, alloc, &fault, text);
         let trouble: Trouble<u32> = Trouble::Fault(fault);
         says(&rt, alloc, &trouble, text);
+        says(&rt, alloc, &io::Error::from(fault), text);
     }
     let trouble: Trouble<u32> = Trouble::Closure(57);
     says(&rt, alloc, &trouble, "57");
