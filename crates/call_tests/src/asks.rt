@@ -75,6 +75,11 @@ fn asks(rt: &impl Test, act: Act, fails: bool) {
     let parts = match act {
         Act::Batch(Batched::Change, _) | Act::Fill(..) => 4,
         Act::Batch(..) => 12,
+        act if act.asks_twice() => {
+            let lines = [begun[0], begun[1], TOLD, begun[0], begun[1], RAN, told];
+            has(rt, log, of, &lines);
+            return;
+        }
         act if act.is_silent() => {
             has(rt, log, of, &[begun[0], begun[1], told]);
             return;

@@ -7,6 +7,7 @@ use test_calls::acts::Act;
 use test_calls::calls::Called;
 use test_calls::meetings::Meeting;
 use test_calls::others::{Batched, Filling, PART, Rooted, Sorted};
+use test_calls::ready::Ready;
 use test_calls::sources::Given;
 use test_calls::visits::{Times, Visitor};
 use test_calls::ways::{Row, THREADS, Through, Way, threads_between};
@@ -234,7 +235,7 @@ fn group_of(act: Act) -> (Group, usize) {
     match act {
         _ if act.is_silent() => (Group::None, 0),
         Act::List(Called::Ready(_), Given::Iterator) => (Group::None, 0),
-        Act::List(Called::Ready(_), _) => (Group::Ready, 300_001),
+        Act::List(Called::Ready(_), _) | Act::Scan(_) => (Group::Ready, 300_001),
         Act::List(Called::Map, Given::OwnProducer) => (Group::Maps, 1_000_001),
         Act::List(Called::Fold, Given::OwnProducer) => (Group::Folds, 1_000_001),
         Act::List(Called::FoldInit | Called::TryFold | Called::Partition, Given::OwnProducer) => {
@@ -314,6 +315,7 @@ pub fn closures(act: Act, len: usize, planned: usize) -> Option<usize> {
         Act::Sort(_) => None,
         act if act.is_of_pairs() => None,
         act if act.is_silent() => Some(0),
+        Act::List(Called::Ready(Ready::DedupBy), _) => Some(len.saturating_sub(1)),
         Act::Join => Some(2),
         Act::Run(_) => Some(1),
         Act::Change(2) => Some(len.div_ceil(2)),

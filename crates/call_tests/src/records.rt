@@ -120,11 +120,12 @@ fn records(rt: &impl Test, act: Act) {
     row(rt, of, readings, 6);
 }
 
-// A join has nothing to choose, and a tree an entry for each level.
+// A join has nothing to choose, a tree has an entry for each level, and a scan over a source is
+// recorded twice.
 #[test]
 fn each_call_records_one_time_at_its_key(rt: HostRuntime) {
     for act in all_acts(&rt) {
-        if !matches!(act, Act::Join | Act::Tree(_)) {
+        if !matches!(act, Act::Join | Act::Tree(_)) && !act.asks_twice() {
             records(&rt, act);
         }
     }

@@ -44,6 +44,11 @@ pub enum Fate {
     RefusedUnasked,
 }
 
+// Whether it needs a place for each item of a source.
+fn gathers(ready: Ready) -> bool {
+    ready == Ready::FlatMap || ready.is_scan()
+}
+
 /// The fate of each call. Maps need a block for their results, and a partition that all items pass,
 /// with values that take no place, needs none, nor one that keeps nothing.
 pub fn fate_of(act: Act, path: Path) -> Fate {
@@ -54,7 +59,7 @@ pub fn fate_of(act: Act, path: Path) -> Fate {
         (Act::List(_, Given::Counted), Path::Parallel) => Fate::Refused,
         (Act::List(Called::Fold | Called::FoldInit | Called::TryFold, _), _) => Fate::Succeeds,
         (Act::List(Called::Partition, _), _) => Fate::Succeeds,
-        (Act::List(Called::Ready(ready), _), _) if ready != Ready::FlatMap => Fate::Succeeds,
+        (Act::List(Called::Ready(ready), _), _) if !gathers(ready) => Fate::Succeeds,
         (Act::List(..) | Act::Sort(_) | Act::Fill(..), _) => Fate::Refused,
         (Act::Tree(Rooted::ByLevels), _) => Fate::Refused,
         _ => Fate::Succeeds,

@@ -39,6 +39,9 @@ fn most_of(way: Way, act: Act, others: u64) -> (usize, u64) {
         Act::Join => (100, others.min(1)),
         // Numbers that are three parts.
         Act::Sort(_) => (24_576, others.min(2)),
+        // It goes over its items twice, and has to gather those of a source.
+        Act::Scan(_) => (100, others.saturating_mul(2)),
+        act if act.asks_twice() => (100, others.saturating_mul(3)),
         // A tree of 128 leaves has seven levels.
         Act::Tree(_) => (128, others.saturating_mul(7)),
         _ => (100, others),

@@ -3,7 +3,7 @@ use crate::calls::{CALLS, Called, MULTIPLIER, Outcome, called_here};
 use crate::others::{
     Batched, Filling, Rooted, Sorted, change, fill, join, run, run_batch, sort, tree,
 };
-use crate::ready::{READY, Ready};
+use crate::ready::{READY, Ready, scan_in_place};
 use crate::sources::{FEW, Given, OTHERS, TWO, make_over};
 use crate::steps::Gives;
 use crate::visits::Visitor;
@@ -26,6 +26,8 @@ pub enum Act {
     Sort(Sorted),
     /// A change of numbers in place, one by one or in chunks of that size.
     Change(usize),
+    /// A scan of numbers in place, from the first one or from a start.
+    Scan(bool),
     Join,
     /// A batch of indices, in ranges of at least that length.
     Batch(Batched, usize),
@@ -42,13 +44,15 @@ pub enum Act {
 }
 
 // Those that aren't list calls. Rows of ten columns are too short to be cut.
-const ASIDE: [Act; 18] = [
+const ASIDE: [Act; 20] = [
     Act::Sort(Sorted::Stable),
     Act::Sort(Sorted::Unstable),
     Act::Sort(Sorted::StableByKey),
     Act::Sort(Sorted::UnstableByKey),
     Act::Change(1),
     Act::Change(2),
+    Act::Scan(true),
+    Act::Scan(false),
     Act::Join,
     Act::Batch(Batched::Map, 1),
     Act::Batch(Batched::TryMap, 1),
@@ -68,8 +72,8 @@ fn add_ready(acts: &mut Vec<Act>) -> Result<(), Fault> {
     for ready in READY {
         let called = Called::Ready(ready);
         match ready {
-            Ready::IsSortedBy => acts.push(Act::List(called, Given::Slice))?,
-            Ready::PositionFirst | Ready::Sum | Ready::Product | Ready::CheckedSum => {
+            Ready::IsSortedBy | Ready::DedupBy => acts.push(Act::List(called, Given::Slice))?,
+            _ if ready.is_silent() || ready.is_scan() || ready == Ready::PositionFirst => {
                 acts.push(Act::List(called, Given::OwnProducer))?;
             }
             _ => {
@@ -113,7 +117,16 @@ impl Act {
 
     /// Whether its closure is called with pairs of neighbours.
     pub fn is_of_pairs(self) -> bool {
-        matches!(self, Act::List(Called::Ready(ready), _) if ready.is_of_pairs())
+        match self {
+            Act::List(Called::Ready(ready), _) => ready.is_of_pairs(),
+            Act::Scan(_) => true,
+            _ => false,
+        }
+    }
+
+    /// Whether its strategy is asked twice: about the items that are gathered, and about a scan.
+    pub fn asks_twice(self) -> bool {
+        matches!(self, Act::List(Called::Ready(ready), _) if ready.is_scan())
     }
 
     /// Whether it calls no closure.
@@ -180,6 +193,7 @@ pub fn does<Rt: Host, S: Strategy>(
         Act::List(called, given) => make_over(on, called, given, len, visited),
         Act::Sort(sorted) => sort(on, sorted, len, visited),
         Act::Change(size) => change(on, size, len, visited),
+        Act::Scan(is_inclusive) => scan_in_place(on, is_inclusive, len, visited),
         Act::Join => join(on, visited),
         Act::Batch(batched, minimum) => run_batch(on, batched, minimum, len, visited),
         Act::Fill(filling, columns) => fill(on, filling, columns, len, visited),

@@ -1,6 +1,7 @@
 //! The calls of `On` that no strategy has by their name, over any source, with closures that visit
 //! a probe. One that looks for an item finds the one whose visit fails.
 use crate::calls::{Here, Outcome, done};
+use crate::sources::zeros;
 use crate::visits::Visitor;
 use commonware_parallel::bridge::Segment;
 use commonware_parallel::{Parts, Producer, Runtime, Site, Source, Strategy, Trouble};
@@ -16,6 +17,7 @@ pub enum Ready {
     FindMapFirst,
     PositionFirst,
     IsSortedBy,
+    DedupBy,
     Count,
     ForEach,
     Filter,
@@ -29,16 +31,19 @@ pub enum Ready {
     Sum,
     Product,
     CheckedSum,
+    InclusiveScan,
+    ExclusiveScan,
 }
 
 /// All of them.
-pub const READY: [Ready; 19] = [
+pub const READY: [Ready; 22] = [
     Ready::Any,
     Ready::All,
     Ready::FindFirst,
     Ready::FindMapFirst,
     Ready::PositionFirst,
     Ready::IsSortedBy,
+    Ready::DedupBy,
     Ready::Count,
     Ready::ForEach,
     Ready::Filter,
@@ -52,6 +57,8 @@ pub const READY: [Ready; 19] = [
     Ready::Sum,
     Ready::Product,
     Ready::CheckedSum,
+    Ready::InclusiveScan,
+    Ready::ExclusiveScan,
 ];
 
 impl Ready {
@@ -71,10 +78,16 @@ impl Ready {
     /// Whether its closure is called with two items, or with each of two that are compared, so that
     /// nobody has counted how often.
     pub fn is_of_pairs(self) -> bool {
-        matches!(
-            self,
-            Ready::MinBy | Ready::MaxBy | Ready::MinByKey | Ready::MaxByKey | Ready::Reduce
-        )
+        self.is_scan()
+            || matches!(
+                self,
+                Ready::MinBy | Ready::MaxBy | Ready::MinByKey | Ready::MaxByKey | Ready::Reduce
+            )
+    }
+
+    /// Whether it is a scan over a source, which gathers the items before it scans them.
+    pub fn is_scan(self) -> bool {
+        matches!(self, Ready::InclusiveScan | Ready::ExclusiveScan)
     }
 
     /// Whether it calls no closure.
@@ -233,6 +246,66 @@ pub fn add_up<
     };
     drop(held);
     made
+}
+
+/// Scans numbers.
+pub fn scan<Rt: Runtime, S: Strategy, M, I: Source<M, Item = usize>>(
+    here: &Here<'_, Rt, S>,
+    ready: Ready,
+    numbers: I,
+    visited: Visitor<'_>,
+) -> Outcome
+    requires { I.can numbers }
+{
+    let on = &calls_of(here);
+    let held = visited.holds(on.alloc);
+    let op = |left: usize, right: usize| -> usize {
+        let _ = visited.visit();
+        left.wrapping_add(right)
+    };
+    let made = if matches!(ready, Ready::InclusiveScan) {
+        done(on.inclusive_scan(numbers, op))
+    } else {
+        done(on.exclusive_scan(numbers, 0, op))
+    };
+    drop(held);
+    made
+}
+
+/// Scans that many numbers in place, from the first one or from a start.
+pub fn scan_in_place<Rt: Runtime, S: Strategy>(
+    here: &Here<'_, Rt, S>,
+    is_inclusive: bool,
+    count: usize,
+    visited: Visitor<'_>,
+) -> Outcome {
+    let on = &calls_of(here);
+    let mut numbers = zeros(on.alloc, count)?;
+    let held = visited.holds(on.alloc);
+    let op = |left: usize, right: usize| -> usize {
+        let _ = visited.visit();
+        left.wrapping_add(right)
+    };
+    let made = if is_inclusive {
+        done(on.inclusive_scan_in_place(numbers.as_mut_slice(), op))
+    } else {
+        done(on.exclusive_scan_in_place(numbers.as_mut_slice(), 0, op))
+    };
+    drop(held);
+    made
+}
+
+/// Goes over each item and the one before it.
+pub fn dedup<Rt: Runtime, S: Strategy>(
+    here: &Here<'_, Rt, S>,
+    numbers: &[usize],
+    visited: Visitor<'_>,
+) -> Outcome {
+    let on = &calls_of(here);
+    let held = visited.holds(on.alloc);
+    let kept = on.dedup_by(numbers, |_: &usize, _: &usize| visited.visit().is_ok());
+    drop(held);
+    done(kept)
 }
 
 /// Goes over each item and the next one of numbers, of which there is one more than pairs.

@@ -2,7 +2,7 @@
 ghost use Rattle.std.specs.Prelude.{⊤};
 
 use crate::calls::{Called, Here, Outcome, make, make_fallible};
-use crate::ready::{Ready, add_up, is_sorted, position};
+use crate::ready::{Ready, add_up, dedup, is_sorted, position, scan};
 use crate::visits::Visitor;
 use commonware_parallel::bridge::DrainProducer;
 use commonware_parallel::{
@@ -251,6 +251,7 @@ fn over_own<Rt: Runtime, S: Strategy>(
     match called {
         Called::Ready(Ready::PositionFirst) => position(on, list, visited),
         Called::Ready(ready) if ready.is_silent() => add_up(on, ready, list, visited),
+        Called::Ready(ready) if ready.is_scan() => scan(on, ready, list, visited),
         _ => make(on, called, list, visited),
     }
 }
@@ -267,7 +268,10 @@ fn over_slice<Rt: Runtime, S: Strategy>(
         return is_sorted(on, numbers.as_slice(), visited);
     }
     let items = zeros(on.alloc, len)?;
-    make(on, called, items.as_slice(), visited)
+    match called {
+        Called::Ready(Ready::DedupBy) => dedup(on, items.as_slice(), visited),
+        _ => make(on, called, items.as_slice(), visited),
+    }
 }
 
 /// The error of a call that doesn't let each item go once.
