@@ -8,4 +8,6 @@ mod lists;
 #[cfg(test)]
 mod random;
 #[cfg(test)]
+mod scans;
+#[cfg(test)]
 mod stops;

@@ -50,8 +50,8 @@ fn looking_stops_at_the_first(rt: HostRuntime) {
     holds!(&rt, looks(&on).is_ok_and(|calls| calls < 150_000));
 }
 
-// Says that one of two came, and waits for the other one, or for a bounded time.
-fn meet(own: &AtomicBool, other: &AtomicBool) -> bool {
+/// Says that one of two came, and waits for the other one, or for a bounded time.
+pub fn meet(own: &AtomicBool, other: &AtomicBool) -> bool {
     own.store(true, Ordering::SeqCst);
     for _ in 0..1_000_000u32 {
         if other.load(Ordering::SeqCst) {
