@@ -1,6 +1,6 @@
 -- Scans by an operation that doesn't mind where brackets stand.
-use Rattle.std.proofs.Common.{◌≡◌, ℕ, zero, suc, ◌+◌, ◌<◌, ◌∙◌, List, [], ◌∷◌, length, get_or, take, Some, refl, sym, ap, add-one, arith, fold}
-use Rattle.std.proofs.lemmas.List.{ext_get_or, nil_from_length}
+use Rattle.std.proofs.Common.{◌≡◌, ℕ, zero, suc, ◌+◌, ◌<◌, ◌∙◌, List, [], ◌∷◌, length, get_or, take, Some, refl, sym, ap, subst, add-one, arith, fold, map, ◌++◌}
+use Rattle.std.proofs.lemmas.List.{ext_get_or, map-id, nil_from_length, take_at}
 use Rattle.std.specs.List.{scan}
 use Rattle.parallel_calls.specs.Reductions.{IsAssociative, Reduces}
 use Rattle.parallel_calls.specs.Scans.{IsExclusiveScan, IsInclusiveScan, exclusive_scan_of, inclusive_scan_of}
@@ -47,3 +47,10 @@ module _ {X : Type 0} (g : X → X → X) where
         folded x (take k xs) (get_or ys k x)
         (subst (λ zs. Reduces op zs (get_or ys k x)) take_in (h.1 k x inside))
         ∙ inclusive_at x xs k x inside)
+
+-- items that were gathered, and then scanned where they lie
+pub gathered_scan : {X : Type 0} (scan_of : List X → List X) (xs items scanned rest : List X)
+    (len : ℕ) → items ≡ map (λ x. x) xs → length scanned ≡ len → scanned ≡ scan_of items
+    → take len (scanned ++ rest) ≡ scan_of xs
+gathered_scan scan_of xs items scanned rest len is long plain =
+    take_at scanned rest len long ∙ plain ∙ ap scan_of (is ∙ map-id xs)
