@@ -1,5 +1,5 @@
 -- Scans by an operation that doesn't mind where brackets stand.
-use Rattle.std.proofs.Common.{◌≡◌, ℕ, zero, suc, ◌+◌, ◌<◌, ◌∙◌, List, [], ◌∷◌, length, get_or, take, Some, refl, sym, ap, subst, add-one, arith, fold, map, ◌++◌}
+use Rattle.std.proofs.Common.{◌≡◌, ℕ, zero, suc, ◌+◌, ◌<◌, ◌∙◌, List, [], ◌∷◌, length, get_or, take, refl, sym, ap, subst, add-one, arith, fold, map, ◌++◌}
 use Rattle.std.proofs.lemmas.List.{ext_get_or, map-id, nil_from_length, take_at}
 use Rattle.std.specs.List.{scan}
 use Rattle.parallel_calls.specs.Reductions.{IsAssociative, Reduces}

@@ -1,5 +1,5 @@
 -- What the passes of a scan come to.
-use Rattle.std.proofs.Common.{◌≡◌, ℕ, zero, suc, ◌+◌, ◌*◌, ◌/◌, ◌%◌, ◌<◌, ◌≤◌, ◌∙◌, min, List, [], ◌∷◌, ◌++◌, length, get_or, set, take, drop, refl, sym, ap, subst, arith}
+use Rattle.std.proofs.Common.{◌≡◌, ℕ, zero, suc, ◌+◌, ◌*◌, ◌/◌, ◌%◌, ◌<◌, ◌≤◌, ◌∙◌, List, [], ◌∷◌, ◌++◌, length, get_or, set, take, drop, refl, sym, ap, subst, arith}
 use Rattle.std.proofs.Common.{append-nil, append_assoc, div-add-mod', get_or-set_other, get_or-take, length-take}
 use Rattle.std.proofs.Math.Nat.{mul-div_cancel, zero-mul}
 use Rattle.std.proofs.Math.Seq.{take-add}
@@ -176,15 +176,18 @@ module _ {X : Type 0} (op : X → X → X → Type 0) where
     pub fronts_scanned : (start : X) (ts xs fs : List X) (count : ℕ)
         → ReducesEach op (slice_chunk xs size) count ts → IsScanFrom op start Exclusive ts fs
         → ReducesEach op (λ n. start ∷ take (n * size) xs) count fs
-    fronts_scanned start ts xs fs count totals scan = (scan.0 ∙ totals.0, λ n d l.
-        let inside : n < length ts = omega (arith, totals.0) in
-        reduced_again (scan.1 n d inside) (start ∷ take (n * size) xs) (
-          start ∷ [],
-          take (n * size) xs,
-          refl,
-          of_one refl,
-          fronts_made ts xs n (omega arith) (λ k e l'. totals.1 k e (omega (arith, totals.0))),
-        ))
+    fronts_scanned start ts xs fs count totals scan = (
+      scan.0 ∙ totals.0,
+      λ n d l.
+          let inside : n < length ts = omega (arith, totals.0) in
+          reduced_again (scan.1 n d inside) (start ∷ take (n * size) xs) (
+            start ∷ [],
+            take (n * size) xs,
+            refl,
+            of_one refl,
+            fronts_made ts xs n (omega arith) (λ k e l'. totals.1 k e (omega (arith, totals.0))),
+          ),
+    )
 
     -- what a value of a chunk takes in, after all before the chunk
     taken_in_chunk : (form : Form) (xs : List X) (n k : ℕ) → k < size
@@ -227,16 +230,19 @@ module _ {X : Type 0} (op : X → X → X → Type 0) where
         → ((n : ℕ) (d : X) → n * size < length xs
         → IsScanFrom op (get_or fs n d) form (slice_chunk xs size n) (slice_chunk ys size n))
         → IsScanFrom op start form xs ys
-    chunks_scanned form start xs ys fs some same fronts each = (same, λ i d l.
-        let n : ℕ = i / size in
-        let k : ℕ = i % size in
-        let is : n * size + k ≡ i = div-add-mod' i size in
-        let short : k < size = omega arith in
-        let begins : n * size < length xs = omega arith in
-        let count : n < div_ceil (length xs) size =
-        even_counts size (length xs) (div_ceil (length xs) size) n some refl begins in
-        let within : k < length (slice_chunk xs size n) =
-        omega (arith, length_of_chunk xs size n) in
-        subst (λ m. Reduces op (start ∷ take (taken_at form m) xs) (get_or ys m d)) is
-        (scanned_at form start xs ys (get_or fs n d) n k d short (fronts.1 n d count)
-        ((each n d begins).1 k d within)))
+    chunks_scanned form start xs ys fs some same fronts each = (
+      same,
+      λ i d l.
+          let n : ℕ = i / size in
+          let k : ℕ = i % size in
+          let is : n * size + k ≡ i = div-add-mod' i size in
+          let short : k < size = omega arith in
+          let begins : n * size < length xs = omega arith in
+          let count : n < div_ceil (length xs) size =
+          even_counts size (length xs) (div_ceil (length xs) size) n some refl begins in
+          let within : k < length (slice_chunk xs size n) =
+          omega (arith, length_of_chunk xs size n) in
+          subst (λ m. Reduces op (start ∷ take (taken_at form m) xs) (get_or ys m d)) is
+          (scanned_at form start xs ys (get_or fs n d) n k d short (fronts.1 n d count)
+          ((each n d begins).1 k d within)),
+    )
