@@ -8,5 +8,7 @@ pub mod Folded
 pub mod Functions
 pub mod Neighbours
 pub mod Picks
+pub mod PlainScans
 pub mod Reductions
+pub mod Scans
 pub mod Sums

@@ -46,7 +46,7 @@ module _ {X : Type 0} (op : X → X → X → Type 0) where
         ap (λ v. Some v) (fold-append g x xs (y ∷ ys)
         ∙ sym (taken_in (fold g x xs) y ys) ∙ ap (λ v. g v (fold g y ys)) front ∙ ap (g p) back)
 
-    reduced_plain : {xs : List X} {r : X} → Reduces op xs r → reduced_by g xs ≡ Some r
+    pub reduced_plain : {xs : List X} {r : X} → Reduces op xs r → reduced_by g xs ≡ Some r
     reduced_plain (of_one one) = ap (reduced_by g) one
     reduced_plain (of_two {xs = xs} {ys = ys} {p = p} {q = q} {r = r} split left right one) =
         ap (reduced_by g) split

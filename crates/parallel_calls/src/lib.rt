@@ -1,6 +1,6 @@
 //! Ready calls through any strategy, by the names that std's and rayon's iterators give them: what
 //! some item satisfies, which is the first or the least one, how many there are, what a list is
-//! filtered to, and what it adds up to.
+//! filtered to, and what it adds up to, at its end and at each place.
 //!
 //! All are methods of `On`, which has what the calls of a place have in common.
 #![tactic(auto)]
@@ -16,7 +16,9 @@ mod flat_map;
 mod for_each;
 mod on;
 mod order;
+mod passes;
 mod reduce;
+mod scan;
 mod sorts;
 mod sum;
 mod whole;

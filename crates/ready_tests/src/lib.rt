@@ -5,3 +5,5 @@
 mod lists;
 #[cfg(test)]
 mod random;
+#[cfg(test)]
+mod scans;

@@ -1,0 +1,8 @@
+-- the items before the turn's are scanned
+use Rattle.parallel_calls.proofs.Scans.{ScannedBelow}
+use Rattle.parallel_calls.specs.declared.passes.Form.TheVariants.{Exclusive}
+use Rattle.parallel_calls.proofs.passes.exclusive_in_turn.Given as goal
+
+abbrev pub invariant-loop-k : goal.invariant-loop-k
+invariant-loop-k g l =
+    ScannedBelow (goal.G-post g l.op) Exclusive l.fn.start l.k l.fn.items l.items l.so_far

@@ -1,0 +1,209 @@
+//! The scans of random lists through each strategy, against plain loops, and that chunks are
+//! scanned side by side.
+use crate::random::Random;
+use commonware_parallel::mocks::{Explorer, Rule};
+use commonware_parallel::{Copies, Fault, Sequential, Site, Strategy};
+use parallel_calls::On;
+use std::alloc::Global;
+use std::sync::Wait;
+use std::sync::atomic::{AtomicBool, AtomicU64, Ordering};
+use std::test::Fail;
+use std::thread::{Threads, yield_now};
+use test_strategies::{SITE, pool};
+use test_support::holds;
+
+// What a number is multiplied by, and what is added then.
+#[derive(Clone, Copy, Debug, PartialEq, Eq)]
+struct Line {
+    slope: u64,
+    offset: u64,
+}
+
+const START: Line = Line {
+    slope: 3,
+    offset: 1,
+};
+
+// First the one and then the other: it matters which is first, and not where brackets stand.
+fn then(first: Line, second: Line) -> Line {
+    Line {
+        slope: first.slope.wrapping_mul(second.slope),
+        offset: first
+            .offset
+            .wrapping_mul(second.slope)
+            .wrapping_add(second.offset),
+    }
+}
+
+// A line for each number.
+fn lines_of(alloc: Global, numbers: &[u64]) -> Result<Vec<Line>, Fault> {
+    let mut lines = Vec::new(alloc);
+    for number in numbers {
+        lines.push(Line {
+            slope: number.wrapping_add(2),
+            offset: *number,
+        })?;
+    }
+    Ok(lines)
+}
+
+// The inclusive scan from the left, in a plain loop.
+fn inclusive_of(alloc: Global, lines: &[Line]) -> Result<Vec<Line>, Fault> {
+    let mut so_far = None;
+    let mut expected = Vec::new(alloc);
+    for line in lines {
+        let next = match so_far {
+            Some(before) => then(before, *line),
+            None => *line,
+        };
+        expected.push(next)?;
+        so_far = Some(next);
+    }
+    Ok(expected)
+}
+
+// The exclusive one.
+fn exclusive_of(alloc: Global, lines: &[Line]) -> Result<Vec<Line>, Fault> {
+    let mut so_far = START;
+    let mut expected = Vec::new(alloc);
+    for line in lines {
+        expected.push(so_far)?;
+        so_far = then(so_far, *line);
+    }
+    Ok(expected)
+}
+
+// Whether both scans agree with the loops, over a source and in place.
+fn scans<Rt: Threads + Wait + Sync, S: Strategy>(
+    on: &On<'_, Rt, S, Site>,
+    numbers: &[u64],
+) -> Result<bool, Fault> {
+    let mut through = lines_of(on.alloc, numbers)?;
+    let mut before = lines_of(on.alloc, numbers)?;
+    let inclusive = inclusive_of(on.alloc, through.as_slice())?;
+    let exclusive = exclusive_of(on.alloc, before.as_slice())?;
+    let lines = Copies {
+        slice: through.as_slice(),
+    };
+    let found = on.inclusive_scan(lines, then)?;
+    let is_inclusive = found.as_slice() == inclusive.as_slice();
+    let found = on.exclusive_scan(lines, START, then)?;
+    let is_exclusive = found.as_slice() == exclusive.as_slice();
+    on.inclusive_scan_in_place(&mut through, then)?;
+    on.exclusive_scan_in_place(&mut before, START, then)?;
+    let in_place = through.as_slice() == inclusive.as_slice();
+    Ok(is_inclusive && is_exclusive && in_place && before.as_slice() == exclusive.as_slice())
+}
+
+// Whether they do for lists of each length below 20, and for 1,000 random lists.
+fn agrees<Rt: Threads + Wait + Sync, S: Strategy>(
+    rt: &Rt,
+    alloc: Global,
+    strategy: &S,
+) -> Result<bool, Fault> {
+    let on = On {
+        rt,
+        alloc,
+        strategy,
+        site: SITE,
+    };
+    let mut random = Random::new(88172645463325252);
+    let mut numbers = Vec::new(alloc);
+    for _ in 0..20 {
+        if !scans(&on, numbers.as_slice())? {
+            return Ok(false);
+        }
+        numbers.push(random.below(50))?;
+    }
+    for _ in 0..1000 {
+        let numbers = random.list(alloc, 40, 50)?;
+        if !scans(&on, numbers.as_slice())? {
+            return Ok(false);
+        }
+    }
+    Ok(true)
+}
+
+#[test]
+fn serial_scans_agree_with_loops(rt: HostRuntime) {
+    holds!(&rt, agrees(&rt, rt.alloc(), &Sequential) == Ok(true));
+}
+
+#[test]
+fn an_explorers_scans_agree_with_loops(rt: HostRuntime) {
+    let strategy = pool(&rt, rt.alloc(), 4, 4).expect(&rt, "a pool");
+    let explorer = Explorer::by_rule(&strategy, Rule::Seeded(1)).expect(&rt, "an explorer");
+    holds!(&rt, agrees(&rt, rt.alloc(), &explorer) == Ok(true));
+}
+
+#[test]
+fn scans_on_one_thread_agree_with_loops(rt: HostRuntime) {
+    let strategy = pool(&rt, rt.alloc(), 1, 1).expect(&rt, "a pool");
+    holds!(&rt, agrees(&rt, rt.alloc(), &strategy) == Ok(true));
+}
+
+#[test]
+fn scans_on_two_threads_agree_with_loops(rt: HostRuntime) {
+    let strategy = pool(&rt, rt.alloc(), 2, 2).expect(&rt, "a pool");
+    holds!(&rt, agrees(&rt, rt.alloc(), &strategy) == Ok(true));
+}
+
+#[test]
+fn scans_on_four_threads_agree_with_loops(rt: HostRuntime) {
+    let strategy = pool(&rt, rt.alloc(), 4, 4).expect(&rt, "a pool");
+    holds!(&rt, agrees(&rt, rt.alloc(), &strategy) == Ok(true));
+}
+
+// Says that one of two came, and waits for the other one, or for a bounded time.
+fn meet(own: &AtomicBool, other: &AtomicBool) -> bool {
+    own.store(true, Ordering::SeqCst);
+    for _ in 0..1_000_000u32 {
+        if other.load(Ordering::SeqCst) {
+            return true;
+        }
+        yield_now();
+    }
+    false
+}
+
+// How many of the first steps in two chunks of two items met the other one: four, two in the pass
+// that puts the items of each chunk together, and two in the one that scans each chunk.
+fn met<Rt: Threads + Wait + Sync, S: Strategy>(on: &On<'_, Rt, S, Site>) -> Result<u64, Fault> {
+    let totals = [AtomicBool::new(false), AtomicBool::new(false)];
+    let scans = [AtomicBool::new(false), AtomicBool::new(false)];
+    let meetings = AtomicU64::new(0);
+    let comes = |own: &AtomicBool, other: &AtomicBool| {
+        if meet(own, other) {
+            meetings.fetch_add(1, Ordering::SeqCst);
+        }
+    };
+    let add = |left: u64, right: u64| -> u64 {
+        match (left, right) {
+            (1, 2) => comes(&totals[0], &totals[1]),
+            (4, 8) => comes(&totals[1], &totals[0]),
+            (16, 1) => comes(&scans[0], &scans[1]),
+            (19, 4) => comes(&scans[1], &scans[0]),
+            _ => {}
+        }
+        left.wrapping_add(right)
+    };
+    let mut numbers = Vec::new(on.alloc);
+    numbers.extend_from_slice(&[1, 2, 4, 8])?;
+    on.exclusive_scan_in_place(&mut numbers, 16, add)?;
+    if numbers.as_slice() != [16, 17, 19, 23].as_slice() {
+        return Ok(0);
+    }
+    Ok(meetings.load(Ordering::SeqCst))
+}
+
+#[test]
+fn two_chunks_meet(rt: HostRuntime) {
+    let strategy = pool(&rt, rt.alloc(), 2, 2).expect(&rt, "a pool");
+    let on = On {
+        rt: &rt,
+        alloc: rt.alloc(),
+        strategy: &strategy,
+        site: SITE,
+    };
+    holds!(&rt, met(&on) == Ok(4));
+}
