@@ -9,4 +9,5 @@ pub mod Functions
 pub mod Neighbours
 pub mod Picks
 pub mod Reductions
+pub mod Runs
 pub mod Sums

@@ -8,6 +8,7 @@ pub mod Keys
 pub mod Neighbours
 pub mod OnePlace
 pub mod Reductions
+pub mod Runs
 pub mod Stops
 pub mod Sums
 pub mod Verdicts
