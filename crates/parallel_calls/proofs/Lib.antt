@@ -11,4 +11,5 @@ pub mod Picks
 pub mod PlainScans
 pub mod Reductions
 pub mod Scans
+pub mod Runs
 pub mod Sums

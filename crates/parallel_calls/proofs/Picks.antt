@@ -1,12 +1,13 @@
 -- The item that takes the place of each before it, and whose place none after it takes.
 use Rattle.std.proofs.Common.{◌≡◌, List, [], ◌∷◌, ◌++◌, append_assoc, append-nil, Option, Some, None, Bool, true, false, not, cond}
-use Rattle.std.proofs.Common.{refl, sym, ◌∙◌, ap, subst}
+use Rattle.std.proofs.Common.{refl, sym, ◌∙◌, ap, subst, inl, inr, Bor}
 use Rattle.std.specs.List.{All}
+use Rattle.parallel_bridge.specs.Comes.{Comes, comes_within}
 use Rattle.parallel_bridge.specs.Lists.{Bracketing}
 use Rattle.std.specs.Cmp.{IsStrictWeakOrder}
 use Rattle.std.proofs.lemmas.Bool.{cond_both, cond-true, cond-false, false≢true, false_from_ne_true, true_from_ne_false}
 use Rattle.std.proofs.lemmas.List.Elements.{All-nil, All-cons, All-append, All-weaker}
-use Rattle.parallel_calls.specs.Extremes.{GreatestOf, LeastOf, PickOf, beats, picked}
+use Rattle.parallel_calls.specs.Extremes.{AcceptsTwo, GreatestOf, IsOneOf, LeastOf, PickOf, beats, picked}
 use Rattle.parallel_calls.proofs.Folded.{fold_has}
 
 -- what taking places has to keep
@@ -121,6 +122,39 @@ module _ {X : Type 0} (wins : X → X → Bool) (laws : Wins wins) where
       (pick_joins ys (x ∷ []) a (Some x) h (pick_of_one x)))
       (λ ys zs p q s h h' one. subst (PickOf wins (ys ++ zs)) (sym (reduces p q s one))
       (pick_joins ys zs p q h h')) brackets
+
+-- what a pick of items that may come may meet
+module _ {X : Type 0} (may : X → Type 0) where
+  abbrev MayMeet : Option X → Type 0
+  MayMeet found = (x : X) → found ≡ Some x → may x
+
+  one_may : (a b r : Option X) → MayMeet a → MayMeet b → IsOneOf a b r → MayMeet r
+  one_may a b r first second (inl same) = λ x is. first x (sym same ∙ is)
+  one_may a b r first second (inr same) = λ x is. second x (sym same ∙ is)
+
+  pub item_may : (x : X) → may x → MayMeet (Some x)
+  item_may x h = λ y is. let same : x ≡ y = cc in subst may same h
+
+  -- so that a closure which takes such items takes these
+  pub accepts_items : (accepts : Bor X → Bor X → Type 0)
+      → ((left right : Bor X) → may left.now → may right.now → accepts left right)
+      → (first second : Option X) → MayMeet first → MayMeet second → AcceptsTwo accepts first second
+  accepts_items accepts items first second one other = λ earlier later is is'.
+      let front = one earlier.now is in
+      let back = other later.now is' in
+      (items earlier later front back, items later earlier back front)
+
+  -- each value that a pick may meet holds such an item, or none
+  pub pick_may : (identity : Option X → Type 0) (step : Option X → X → Option X → Type 0)
+      (reduce : Option X → Option X → Option X → Type 0)
+      → ((e : Option X) → identity e → e ≡ None)
+      → ((a : Option X) (x : X) (b : Option X) → step a x b → IsOneOf a (Some x) b)
+      → ((a b r : Option X) → reduce a b r → IsOneOf a b r)
+      → (found : Option X) → Comes identity step reduce may found → MayMeet found
+  pick_may identity step reduce starts steps reduces found comes =
+      comes_within MayMeet (λ e i x is. let no : None ≡ Some x = sym (starts e i) ∙ is in absurd cc)
+      (λ a x b h within one. one_may a (Some x) b h (item_may x within) (steps a x b one))
+      (λ a b r h k one. one_may a b r h k (reduces a b r one)) found comes
 
 -- in the words of the two
 pub least_of : {X : Type 0} (lt : X → X → Bool) (xs : List X) (found : Option X)

@@ -1,5 +1,5 @@
 -- The first least item of a list and the last greatest one.
-use Rattle.std.specs.Prelude.{◌≡◌, Bool, true, false, not, cond, List, [], ◌∷◌, ◌++◌, All, Option, Some, None, MatchOption}
+use Rattle.std.specs.Prelude.{◌≡◌, ◌⊎◌, Bool, true, false, not, cond, List, [], ◌∷◌, ◌++◌, All, Option, Some, None, MatchOption}
 use Rattle.std.specs.Fn.{FnReturnsAtPair, Shared}
 use Rattle.std.specs.Borrow.{Bor}
 use Rattle.std.specs.Ordering.{is_lt}
@@ -39,6 +39,15 @@ abbrev pub picked : {X : Type 0} → (X → X → Bool) → Option X → Option 
 picked wins None second = second
 picked wins (Some a) None = Some a
 picked wins (Some a) (Some b) = cond (wins b a) (Some b) (Some a)
+
+-- a closure may be called at the two, in either order, where both are there
+abbrev pub AcceptsTwo : {X : Type 0} → (Bor X → Bor X → Type 0) → Option X → Option X → Type 0
+AcceptsTwo {X = X} accepts first second = (earlier later : Bor X) → first ≡ Some earlier.now
+    → second ≡ Some later.now → accepts earlier later × accepts later earlier
+
+-- the first or the second
+abbrev pub IsOneOf : {X : Type 0} → Option X → Option X → Option X → Type 0
+IsOneOf first second found = (found ≡ first) ⊎ (found ≡ second)
 
 -- none of an empty list, and of another an item that takes the place of each before it, and whose
 -- place none after it takes

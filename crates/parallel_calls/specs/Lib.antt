@@ -9,6 +9,7 @@ pub mod Neighbours
 pub mod OnePlace
 pub mod Reductions
 pub mod Scans
+pub mod Runs
 pub mod Stops
 pub mod Sums
 pub mod Verdicts

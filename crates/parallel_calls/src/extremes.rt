@@ -1,8 +1,9 @@
 //! The first least item and the last greatest one, by an order and by keys.
 ghost use Rattle.std.specs.Prelude.{◌≡◌, Bool, Some, IfOk, cond, not};
+ghost use Rattle.std.specs.Borrow.{Bor};
 ghost use Rattle.std.specs.Cmp.{IsStrictWeakOrder};
 ghost use Rattle.commonware_parallel.specs.Words.{GivesSome, IsMemoryOnErr};
-ghost use Rattle.parallel_calls.specs.Extremes.{GreatestOf, LeastOf, OrdersBy, PickOf, beats, picked};
+ghost use Rattle.parallel_calls.specs.Extremes.{AcceptsTwo, GreatestOf, IsOneOf, LeastOf, OrdersBy, PickOf, beats, picked};
 
 use crate::on::On;
 use commonware_parallel::{Fault, Place, Source, Strategy};
@@ -23,7 +24,8 @@ impl<'s, Rt: Threads + Wait + Sync, S: Strategy, P: Place> On<'s, Rt, S, P> {
         compare: C,
     ) -> Result<Option<I::Item>, Fault>
         requires can { I.can source }
-        requires accepts { C.IsAlwaysCallable compare }
+        requires accepts { (left right : Bor I.Item) → I.may source left.now
+            → I.may source right.now → C.pre compare left right }
         ensures least { (lt : I.Item → I.Item → Bool) → IsStrictWeakOrder lt
             → OrdersBy C.Fn compare lt → IfOk result (λ least. GivesSome I.gives source
             (λ xs. LeastOf lt xs least)) }
@@ -44,7 +46,8 @@ impl<'s, Rt: Threads + Wait + Sync, S: Strategy, P: Place> On<'s, Rt, S, P> {
         compare: C,
     ) -> Result<Option<I::Item>, Fault>
         requires can { I.can source }
-        requires accepts { C.IsAlwaysCallable compare }
+        requires accepts { (left right : Bor I.Item) → I.may source left.now
+            → I.may source right.now → C.pre compare left right }
         ensures greatest { (lt : I.Item → I.Item → Bool) → IsStrictWeakOrder lt
             → OrdersBy C.Fn compare lt → IfOk result (λ greatest. GivesSome I.gives source
             (λ xs. GreatestOf lt xs greatest)) }
@@ -61,20 +64,23 @@ impl<'s, Rt: Threads + Wait + Sync, S: Strategy, P: Place> On<'s, Rt, S, P> {
         is_least: bool,
     ) -> Result<Option<I::Item>, Fault>
         requires can { I.can source }
-        requires accepts { C.IsAlwaysCallable compare }
+        requires accepts { (left right : Bor I.Item) → I.may source left.now
+            → I.may source right.now → C.pre compare left right }
         ensures pick { (lt : I.Item → I.Item → Bool) → IsStrictWeakOrder lt
             → OrdersBy C.Fn compare lt → IfOk result (λ found. GivesSome I.gives source
             (λ xs. PickOf (beats is_least lt) xs found)) }
         ensures fault { IsMemoryOnErr result }
     {
         let step = |best: Option<I::Item>, item: I::Item| -> Option<I::Item>
-            requires { C.IsAlwaysCallable compare }
-            ensures { (lt : I.Item → I.Item → Bool) → OrdersBy C.Fn compare lt
+            requires { AcceptsTwo (C.pre compare) best (Some item) }
+            ensures one { IsOneOf best (Some item) result }
+            ensures picks { (lt : I.Item → I.Item → Bool) → OrdersBy C.Fn compare lt
                 → result ≡ picked (beats is_least lt) best (Some item) }
         { of_two(&compare, is_least, best, Some(item)) };
         let reduce = |left: Option<I::Item>, right: Option<I::Item>| -> Option<I::Item>
-            requires { C.IsAlwaysCallable compare }
-            ensures { (lt : I.Item → I.Item → Bool) → OrdersBy C.Fn compare lt
+            requires { AcceptsTwo (C.pre compare) left right }
+            ensures one { IsOneOf left right result }
+            ensures picks { (lt : I.Item → I.Item → Bool) → OrdersBy C.Fn compare lt
                 → result ≡ picked (beats is_least lt) left right }
         { of_two(&compare, is_least, left, right) };
         self.fold(source, || None, step, reduce)
@@ -88,8 +94,9 @@ fn of_two<T: Drop, C: Fn(&T, &T) -> Ordering>(
     first: Option<T>,
     second: Option<T>,
 ) -> Option<T>
-    requires { C.IsAlwaysCallable compare.now }
-    ensures { (lt : T → T → Bool) → OrdersBy C.Fn compare.now lt
+    requires { AcceptsTwo (C.pre compare.now) first second }
+    ensures one { IsOneOf first second result }
+    ensures picks { (lt : T → T → Bool) → OrdersBy C.Fn compare.now lt
         → result ≡ picked (beats is_least lt) first second }
 {
     let Some(earlier) = first else {

@@ -8,6 +8,7 @@
 mod any;
 mod by_key;
 mod count;
+mod dedup;
 mod extremes;
 mod filter;
 mod find;

@@ -1,5 +1,6 @@
 //! The calls of one place, with what they have in common written once.
-ghost use Rattle.std.specs.Prelude.{◌≡◌, IfErr, IfOk, OnOk, Option, Result, length, map};
+ghost use Rattle.std.specs.Prelude.{◌≡◌, Bool, IfErr, IfOk, List, OnOk, Option, Result, fold, length, map};
+ghost use Rattle.parallel_bridge.specs.Folds.{FoldLaws};
 ghost use Rattle.parallel_bridge.specs.Parts.{keys_of, values_of};
 ghost use Rattle.commonware_parallel.specs.Words.{AnyState, Asked, Bracketing, Brackets, Comes, FoldInitSegment, FoldStep, FoldedAs, FoldedInitAs, GivesSome, IsMemoryOnErr, IsMemoryOnFault, IsPermutation};
 ghost use Rattle.commonware_parallel.specs.Words.{IsSortedByClosure, IsStableByClosure, MapOf, MapStep, MappedInitAs, MutBor, OkStep, PartitionOf, Stateful, TryBracketing, TryFoldedAs, TryMapOf};
@@ -163,7 +164,8 @@ impl<'s, Rt: Threads + Wait + Sync, S: Strategy, P: Place> On<'s, Rt, S, P> {
             .map_collect_vec(self.rt, self.alloc, self.site, source, map_op)
     }
 
-    /// The items folded: `Strategy::fold`.
+    /// The items folded: `Strategy::fold`. Where the closures keep the laws that `FoldLaws` names,
+    /// over each list that the source may give, it is the plain fold from the left.
     ///
     /// # Errors
     ///
@@ -190,6 +192,10 @@ impl<'s, Rt: Threads + Wait + Sync, S: Strategy, P: Place> On<'s, Rt, S, P> {
         ensures along { IfOk result
             (GoesOn I.gives source S.takes S.threads P.site_of self.now
             (FoldedAs (ID.post identity) (F.post fold_op) (G.post reduce_op))) }
+        ensures plain { (unit : R) (f : R → I.Item → R) (g : R → R → R) (good : R → Bool)
+            → ((xs : List I.Item) → I.gives source xs → FoldLaws (ID.post identity)
+            (F.post fold_op) (G.post reduce_op) unit f g good xs)
+            → IfOk result (λ r. GivesSome I.gives source (λ xs. r ≡ fold f unit xs)) }
         ensures fault { IsMemoryOnErr result }
     {
         self.strategy.fold(

@@ -55,7 +55,7 @@ impl<'s, Rt: Threads + Wait + Sync, S: Strategy, P: Place> On<'s, Rt, S, P> {
 }
 
 // What the closure answers at an item and the next one.
-fn at_next<T, C: Fn(&T, &T) -> bool>(compare: &C, items: &[T], place: usize) -> bool
+pub(crate) fn at_next<T, C: Fn(&T, &T) -> bool>(compare: &C, items: &[T], place: usize) -> bool
     requires accepts { C.IsAlwaysCallable compare.now }
     requires inside { place + 1 < length items.now }
     ensures { HoldsAtNext (λ x y b. FnReturnsAtPair C.Fn compare.now x y b) items.now place result }

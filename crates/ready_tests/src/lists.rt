@@ -77,6 +77,22 @@ fn finds<Rt: Threads + Wait + Sync, S: Strategy>(
     Ok(any && all && first && place && value)
 }
 
+fn has_same_tens(left: &u64, right: &u64) -> bool {
+    tens(left) == tens(right)
+}
+
+// Whether the first of each run stays, as a vector's own call leaves it.
+fn dedups<Rt: Threads + Wait + Sync, S: Strategy>(
+    on: &On<'_, Rt, S, Site>,
+    numbers: &[u64],
+) -> Result<bool, Fault> {
+    let kept = on.dedup_by(numbers, has_same_tens)?;
+    let mut expected = Vec::new(on.alloc);
+    expected.extend_from_slice(numbers)?;
+    expected.dedup_by(|item, before| has_same_tens(before, item));
+    Ok(kept.iter().copied().eq(expected.iter()))
+}
+
 // Whether the calls that gather items agree with std's.
 fn gathers<Rt: Threads + Wait + Sync, S: Strategy>(
     on: &On<'_, Rt, S, Site>,
@@ -94,7 +110,7 @@ fn gathers<Rt: Threads + Wait + Sync, S: Strategy>(
         .iter()
         .copied()
         .eq(numbers.iter().filter_map(half_at));
-    Ok(count && kept && halves)
+    Ok(count && kept && halves && dedups(on, numbers)?)
 }
 
 // Whether the calls that put items together agree with std's.

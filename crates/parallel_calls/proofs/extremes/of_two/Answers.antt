@@ -3,8 +3,11 @@ use Rattle.std.proofs.Common.{◌∙◌, refl}
 use Rattle.parallel_calls.proofs.Picks.{picks_earlier, picks_later}
 use Rattle.parallel_calls.proofs.extremes.of_two.Goals as goal
 
-pub returns-then-wins : goal.returns-then-wins
-returns-then-wins g c lt says = picks_later c.args.is_least lt _ _ c.in-Some.earlier
+pub compare-requires : goal.compare-requires
+compare-requires g c = (c.requires _ _ c.in-Some.is c.in-Some-second.is).1
+
+pub returns-then-wins-clause-picks : goal.returns-then-wins-clause-picks
+returns-then-wins-clause-picks g c lt says = picks_later c.args.is_least lt _ _ c.in-Some.earlier
     c.in-Some-second.later c.is_lt.result c.wins.result c.in-Some.is c.in-Some-second.is
     (c.is_lt.ensures ∙ says c.in-Some-second.later c.in-Some.earlier c.compare.result
     (record {
@@ -14,8 +17,8 @@ returns-then-wins g c lt says = picks_later c.args.is_least lt _ _ c.in-Some.ear
       says = record { met = c.compare.ensures };
     })) c.wins.ensures c.if-wins.true
 
-pub returns-else-wins : goal.returns-else-wins
-returns-else-wins g c lt says = picks_earlier c.args.is_least lt _ _ c.in-Some.earlier
+pub returns-else-wins-clause-picks : goal.returns-else-wins-clause-picks
+returns-else-wins-clause-picks g c lt says = picks_earlier c.args.is_least lt _ _ c.in-Some.earlier
     c.in-Some-second.later c.is_lt.result c.wins.result c.in-Some.is c.in-Some-second.is
     (c.is_lt.ensures ∙ says c.in-Some-second.later c.in-Some.earlier c.compare.result
     (record {
