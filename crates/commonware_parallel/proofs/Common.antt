@@ -5,7 +5,7 @@ pub use Rattle.commonware_parallel.specs.Batches.{IsBatch, OnSomeBatch, place_of
 pub use Rattle.commonware_parallel.specs.Calls.{AtSomePath, IsInnerOf, batches_call, body_call, multiplied_call, nth_path, tiles_call}
 pub use Rattle.commonware_parallel.specs.Chains.{Chains, WholeRows, more_chains, no_chain}
 pub use Rattle.commonware_parallel.specs.MergedRows.{FillsSome, FillsStretches, Follows, IsThere, IsValueOf, Joins, MergesRows, MergesTo, Names, Placed, RespectsCuts, RowValues, TilesRow, results_in, stretches_in, wrapped_place}
-pub use Rattle.commonware_parallel.specs.Merkle.{IsDetermined, MerkleRoot, NextLevel, of_level, of_none, of_one}
+pub use Rattle.commonware_parallel.specs.Merkle.{IsDetermined, MerkleRoot, NextLevel, RootOf, of_level, of_none, of_one}
 pub use Rattle.commonware_parallel.specs.Mixes.{mixed_all, mixed_in}
 pub use Rattle.commonware_parallel.specs.Rectangles.{CutsRectangle, IsWholeRow, has_cell, whole_row, whole_rows}
 pub use Rattle.commonware_parallel.specs.Seated.{AllResults, WorksFrom, seat_of}
@@ -56,7 +56,7 @@ pub use Rattle.std.specs.Prelude.{MatchOption, MatchResult, if◌then◌else◌,
 pub use Rattle.std.specs.Vec.Iter.{into_iter_items, into_iter_len}
 pub use Rattle.std.specs.declared.ops.Range.{Range}
 pub use Rattle.std.specs.Fork.{AcceptsAt, ChangesAt}
-pub use Rattle.commonware_parallel.specs.MerkleBlocks.{AreBlocks, AreTops, IsBlockSize, Levels, leaves_below}
+pub use Rattle.commonware_parallel.specs.MerkleBlocks.{AreBlocks, AreTops, AreTopsOf, ComesDown, HasGiven, HasItems, IsBlockSize, Levels, leaves_below}
 pub use Rattle.parallel_bridge.specs.Fills.{SamePlaces}
 pub use Rattle.parallel_bridge.specs.Windows.{part}
 pub use Rattle.parallel_bridge.proofs.Halves.{halved_room}

@@ -1,7 +1,12 @@
 -- Levels of a tree by blocks of its leaves.
-use Rattle.commonware_parallel.proofs.Common.{ℕ, zero, suc, ◌+◌, ◌-◌, ◌*◌, ◌/◌, ◌<◌, ◌≤◌, ◌≡◌, ◌++◌, ◌∷◌, [], List, Option, length, take, drop, refl, sym, ◌∙◌, ap, subst, arith}
-use Rattle.commonware_parallel.proofs.Common.{drop-drop, length-take-le, take-add, take-append-drop, take_all, drop_all, append_assoc, append-nil, add-mul, mul-add, one-mul, zero-mul, cases_lt, inl, inr}
-use Rattle.commonware_parallel.proofs.Common.{AreBlocks, AreTops, Levels, MerkleRoot, NextLevel, leaves_below, of_level}
+use Rattle.commonware_parallel.proofs.Common.{ℕ, zero, suc, IfOk, Ok, Err, Result, ◌+◌, ◌-◌, ◌*◌, ◌/◌, ◌<◌, ◌≤◌, ◌≡◌, ◌++◌, ◌∷◌, [], List, Option, length, refl, sym, ◌∙◌, ap, subst, arith}
+use Rattle.commonware_parallel.proofs.Common.{append_assoc, length-append, add-mul, mul-add, one-mul, zero-mul, MapOf}
+use Rattle.commonware_parallel.proofs.Common.{AreBlocks, AreTops, AreTopsOf, ComesDown, HasGiven, Levels, MerkleRoot, NextLevel, leaves_below, of_level}
+use denote.RattleType.{RattleType}
+use Rattle.parallel_bridge.proofs.Shapes.{MapOf-append}
+use Rattle.std.proofs.lemmas.Slice.Zip.{AllZip-long}
+use Rattle.std.specs.Mem.{type_size}
+use Rattle.std.specs.Vec.Ownership.{FitsInBlock}
 
 -- a node is above some leaf
 pub leaves_some : (levels : ℕ) → 0 < leaves_below levels
@@ -17,19 +22,29 @@ half_below size half (suc lower) more is at =
     let same : half ≡ leaves_below lower = omega (arith, is, at) in
     (lower, refl, same, omega (arith, same, at))
 
-module _ {T : Type 0} where
-  -- what is left after one leaf, and after two halves
-  pub leaf_rest : (size : ℕ) (xs ys : List T) (l : T) → size < 2 → 0 < size → xs ≡ l ∷ ys
-      → ys ≡ drop size xs
-  leaf_rest size xs ys l few some is =
-      let one : size ≡ 1 = omega (arith, few, some) in
-      sym (ap (λ n. drop n xs) one ∙ ap (drop 1) is)
+-- each item is its own leaf where a leaf is the item
+pub same_leaves : {T : Type 0} (same : T → T → Type 0)
+    → ((x y : T) → same x y → y ≡ x) → (xs ys : List T) → MapOf same xs ys → ys ≡ xs
+same_leaves same told [] [] h = refl
+same_leaves same told [] (y ∷ ys) h = absurd h
+same_leaves same told (x ∷ xs) [] h = absurd h
+same_leaves same told (x ∷ xs) (y ∷ ys) h =
+    ap (λ v. v ∷ ys) (told x y h.0) ∙ ap (λ l. x ∷ l) (same_leaves same told xs ys h.1)
 
-  pub two_rests : (size half levels : ℕ) (xs ys zs : List T) → size ≡ leaves_below levels
-      → 1 < size → half ≡ size / 2 → ys ≡ drop half xs → zs ≡ drop half ys → zs ≡ drop size xs
-  two_rests size half levels xs ys zs at more is rest left =
-      left ∙ ap (drop half) rest ∙ drop-drop half half xs
-      ∙ ap (λ n. drop n xs) (sym (half_below size half levels more is at).3)
+-- fewer places fit where more do
+pub fits_fewer : (R : RattleType) (all few : ℕ) → few ≤ all → FitsInBlock R all
+    → FitsInBlock R few
+fits_fewer R all few less fits =
+    let more = all - few in let both : all ≡ few + more = omega (arith, less) in
+    let cut : all * type_size R ≡ few * type_size R + more * type_size R =
+    ap (λ n. n * type_size R) both ∙ add-mul few more (type_size R) in
+    (omega (arith, cut, fits.0), omega (arith, less, fits.1))
+
+-- what holds of a result's value and of something else holds of its value
+pub ok_first : {R E : Type 0} (r : Result R E) (P Q : Type 0) → IfOk r (λ _. P × Q)
+    → IfOk r (λ _. P)
+ok_first (Ok v) P Q h = h.0
+ok_first (Err e) P Q h = tt
 
 module _ {T : Type 0} (combine : T → T → T → Type 0) where
   -- the next level of two lists, of which the front one has an even number of nodes
@@ -59,14 +74,9 @@ module _ {T : Type 0} (combine : T → T → T → Type 0) where
       (h.0 ++ k.0, both.1, levels_append levels count h.0 k.0 ms ns both.0 h.2 k.2)
 
   -- no leaves have no nodes
-  levels_none : (levels : ℕ) → Levels combine levels [] []
+  pub levels_none : (levels : ℕ) → Levels combine levels [] []
   levels_none zero = refl
   levels_none (suc levels) = ([], refl, levels_none levels)
-
-  levels_of_none : (levels : ℕ) (ms : List T) → Levels combine levels [] ms → ms ≡ []
-  levels_of_none zero ms h = h
-  levels_of_none (suc levels) ms h =
-      levels_of_none levels ms (subst (λ l. Levels combine levels l ms) h.1 h.2)
 
   -- one level more, above the others
   levels_more : (levels : ℕ) (xs ms ns : List T) → Levels combine levels xs ms
@@ -88,44 +98,32 @@ module _ {T : Type 0} (combine : T → T → T → Type 0) where
       (root_of_levels levels h.0 ms root h.2 r)
 
   -- the top of two halves of a block, of which the front one is full
-  pub two_tops : (size half : ℕ) (xs ys : List T) (l r node : T) → 1 < size → half ≡ size / 2
-      → half ≤ length xs → ys ≡ drop half xs → AreTops combine half (take half xs) (l ∷ [])
-      → AreTops combine half (take half ys) (r ∷ []) → combine l r node
-      → AreTops combine size (take size xs) (node ∷ [])
-  two_tops size half xs ys l r node more is full rest left right made levels at =
+  two_halves : (size half : ℕ) (xs ys : List T) (l r node : T) → 1 < size → half ≡ size / 2
+      → length xs ≡ half → AreTops combine half xs (l ∷ []) → AreTops combine half ys (r ∷ [])
+      → combine l r node → AreTops combine size (xs ++ ys) (node ∷ [])
+  two_halves size half xs ys l r node more is full left right made levels at =
       let halves = half_below size half levels more is at in
       let below : half ≡ leaves_below halves.0 = halves.2 in
-      let long : length (take half xs) ≡ 1 * leaves_below halves.0 =
-      length-take-le half xs full ∙ below ∙ sym (one-mul (leaves_below halves.0)) in
-      let both = levels_append halves.0 1 (take half xs) (take half ys) (l ∷ []) (r ∷ []) long
+      let long : length xs ≡ 1 * leaves_below halves.0 =
+      full ∙ below ∙ sym (one-mul (leaves_below halves.0)) in
+      let both = levels_append halves.0 1 xs ys (l ∷ []) (r ∷ []) long
       (left halves.0 below) (right halves.0 below) in
-      let all : take half xs ++ take half ys ≡ take size xs =
-      ap (λ l. take half xs ++ take half l) rest ∙ sym (take-add half half xs)
-      ∙ ap (λ n. take n xs) (sym halves.3) in
-      subst (λ n. Levels combine n (take size xs) (node ∷ [])) (sym halves.1)
-      (subst (λ l. Levels combine (suc halves.0) l (node ∷ [])) all
-      (levels_more halves.0 (take half xs ++ take half ys) (l ∷ (r ∷ [])) (node ∷ []) both
-      (made, refl)))
+      subst (λ n. Levels combine n (xs ++ ys) (node ∷ [])) (sym halves.1)
+      (levels_more halves.0 (xs ++ ys) (l ∷ (r ∷ [])) (node ∷ []) both (made, refl))
 
   -- the top of the front half is that of the block where there are no more leaves
-  pub one_top : (size half : ℕ) (xs : List T) (l : T) → 1 < size → half ≡ size / 2
-      → length xs ≤ half → AreTops combine half (take half xs) (l ∷ [])
-      → AreTops combine size (take size xs) (l ∷ [])
-  one_top size half xs l more is few left levels at =
+  one_half : (size half : ℕ) (xs : List T) (l : T) → 1 < size → half ≡ size / 2
+      → AreTops combine half xs (l ∷ []) → AreTops combine size xs (l ∷ [])
+  one_half size half xs l more is left levels at =
       let halves = half_below size half levels more is at in
-      let some : length xs ≤ size = omega (arith, halves.3, few) in
-      let all : take half xs ≡ take size xs = take_all half xs few ∙ sym (take_all size xs some) in
-      subst (λ n. Levels combine n (take size xs) (l ∷ [])) (sym halves.1)
-      (subst (λ k. Levels combine (suc halves.0) k (l ∷ [])) all
-      (levels_more halves.0 (take half xs) (l ∷ []) (l ∷ []) (left halves.0 halves.2) refl))
+      subst (λ n. Levels combine n xs (l ∷ [])) (sym halves.1)
+      (levels_more halves.0 xs (l ∷ []) (l ∷ []) (left halves.0 halves.2) refl)
 
   -- one leaf is its own top
-  pub leaf_top : (size : ℕ) (xs ys : List T) (l : T) → size < 2 → 0 < size → xs ≡ l ∷ ys
-      → AreTops combine size (take size xs) (l ∷ [])
-  leaf_top size xs ys l few some is zero at =
-      sym (ap (λ n. take n xs) at ∙ ap (take 1) is)
-  leaf_top size xs ys l few some is (suc levels) at =
-      let lower = leaves_some levels in absurd (omega (arith, few, at, lower))
+  pub leaf_top : (l : T) → AreTops combine 1 (l ∷ []) (l ∷ [])
+  leaf_top l zero at = refl
+  leaf_top l (suc levels) at =
+      let lower = leaves_some levels in absurd (omega (arith, at, lower))
 
   -- the tops of two parts of the leaves, of which the front one has whole blocks
   pub tops_append : (size count : ℕ) (xs ys zs ms ns all : List T) → zs ≡ xs ++ ys
@@ -137,44 +135,136 @@ module _ {T : Type 0} (combine : T → T → T → Type 0) where
       (levels_append levels count xs ys ms ns (whole ∙ ap (λ n. count * n) at) (h levels at)
       (k levels at)))
 
-  -- Tops that were pushed after those that are done are tops of all leaves: whatever tops the rest
-  -- has, after what is done they are those of all.
-  abbrev pub LeadsToTops : ℕ → List T → List T → List T → Type 0
-  LeadsToTops size all done left = (levels : ℕ) → size ≡ leaves_below levels → (more : List T)
-      → Levels combine levels left more → Levels combine levels all (done ++ more)
+-- The tops of neighbours' items.
+module _ {X T : Type 0} (leaf : X → T → Type 0) (combine : T → T → T → Type 0) where
+  -- what two neighbours came to, as what both came to where neither was refused
+  pub tops_together : {E : Type 0} (first second both : List X → Type 0) (size count : ℕ)
+      (a b c : Result (Unit {0}) E) (FullA FullB FullC : Type 0) (ms ns all : List T)
+      → ((xs ys : List X) → first xs → second ys → both (xs ++ ys))
+      → ((xs : List X) → first xs → length xs ≡ count * size)
+      → IfOk a (λ _. FullA
+      × ((xs : List X) × first xs × AreTopsOf leaf combine size xs ms))
+      → IfOk b (λ _. FullB
+      × ((xs : List X) × second xs × AreTopsOf leaf combine size xs ns))
+      → IfOk c (λ _. (a ≡ Ok tt) × (b ≡ Ok tt) × FullC × (all ≡ ms ++ ns))
+      → IfOk c (λ _. FullC
+      × ((xs : List X) × both xs × AreTopsOf leaf combine size xs all))
+  tops_together first second both size count a b (Err e) FullA FullB FullC ms ns all joined whole
+      left right at = tt
+  tops_together first second both size count a b (Ok done) FullA FullB FullC ms ns all joined whole
+      left right at =
+      let front = subst (λ r. IfOk r (λ _. FullA
+      × ((xs : List X) × first xs × AreTopsOf leaf combine size xs ms))) at.0 left in
+      let back = subst (λ r. IfOk r (λ _. FullB
+      × ((xs : List X) × second xs × AreTopsOf leaf combine size xs ns))) at.1 right in
+      let xs = front.1.0 in let ys = back.1.0 in let ls = front.1.2.0 in let rs = back.1.2.0 in (
+        at.2,
+        (
+          xs ++ ys,
+          joined xs ys front.1.1 back.1.1,
+          (
+            ls ++ rs,
+            MapOf-append leaf xs ys ls rs front.1.2.1 back.1.2.1,
+            tops_append combine size count ls rs (ls ++ rs) ms ns all refl at.3
+                (AllZip-long leaf xs ls front.1.2.1 ∙ whole xs front.1.1) front.1.2.2 back.1.2.2,
+          ),
+        ),
+      )
 
-  -- the tops of the first block, and those of the rest
-  first_block : (size levels : ℕ) (left : List T) (top : T) (more : List T)
-      → size ≡ leaves_below levels → AreTops combine size (take size left) (top ∷ [])
-      → Levels combine levels (drop size left) more → Levels combine levels left (top ∷ more)
-  first_block size levels left top more at first rest =
-      elim (cases_lt (length left) size) [
-        | inl few ↦ subst (λ m. Levels combine levels left (top ∷ m))
-            (sym (levels_of_none levels more (subst (λ l. Levels combine levels l more)
-            (drop_all size left (omega (arith, few))) rest)))
-            (subst (λ l. Levels combine levels l (top ∷ []))
-            (take_all size left (omega (arith, few))) (first levels at))
-        | inr full ↦ subst (λ l. Levels combine levels l (top ∷ more)) (take-append-drop size left)
-            (levels_append levels 1 (take size left) (drop size left) (top ∷ []) more
-            (length-take-le size left full ∙ at ∙ sym (one-mul (leaves_below levels)))
-            (first levels at) rest)
-      ]
+-- Items that come of a cursor, and those that come after them.
+module _ {C X R : Type 0} (ready : C → Type 0) (gives : C → List X → Type 0)
+    (may : C → X → Type 0) (leaves : C → R → Type 0) where
+  pub given_more : (a b c : C) (xs ys : List X) → HasGiven ready gives may leaves a xs b
+      → HasGiven ready gives may leaves b ys c → HasGiven ready gives may leaves a (xs ++ ys) c
+  given_more a b c xs ys first then = (
+    then.0,
+    λ more h. subst (gives a) (sym (append_assoc xs ys more))
+        (first.1 (ys ++ more) (then.1 more h)),
+    λ x h. first.2 x (then.2 x h),
+    λ rest h. first.3 rest (then.3 rest h),
+  )
 
-  pub leads_top : (size : ℕ) (all done then left rest : List T) (top : T)
-      → LeadsToTops size all done left → AreTops combine size (take size left) (top ∷ [])
-      → rest ≡ drop size left → then ≡ done ++ top ∷ [] → LeadsToTops size all then rest
-  leads_top size all done then left rest top leads first behind grown levels at more h =
-      subst (λ l. Levels combine levels all l)
-      (sym (ap (λ l. l ++ more) grown ∙ append_assoc done (top ∷ []) more))
-      (leads levels at (top ∷ more) (first_block size levels left top more at first
-      (subst (λ l. Levels combine levels l more) behind h)))
+  module _ {T : Type 0} (leaf : X → T → Type 0) (combine : T → T → T → Type 0) where
+    -- the top of a full block and then of a block beside it that may have fewer items
+    pub two_down : (a b c : C) (size half count total : ℕ) (l r node : T) → 1 < size
+        → half ≡ size / 2 → total ≡ half + count
+        → ComesDown (λ xs. HasGiven ready gives may leaves a xs b) leaf combine half half (l ∷ [])
+        → ComesDown (λ xs. HasGiven ready gives may leaves b xs c) leaf combine half count (r ∷ [])
+        → combine l r node
+        → ComesDown (λ xs. HasGiven ready gives may leaves a xs c) leaf combine size total
+        (node ∷ [])
+    two_down a b c size half count total l r node more is all (xs, long, came, (ls, maps, tops))
+        (ys, long_y, came_y, (rs, maps_y, tops_y)) made = (
+          xs ++ ys,
+          omega (arith, length-append xs ys, long, long_y, all),
+          given_more a b c xs ys came came_y,
+          (
+            ls ++ rs,
+            MapOf-append leaf xs ys ls rs maps maps_y,
+            two_halves combine size half ls rs l r node more is (AllZip-long leaf xs ls maps ∙ long)
+                tops tops_y made,
+          ),
+        )
 
-  pub leads_end : (size : ℕ) (all done left : List T) → LeadsToTops size all done left
-      → left ≡ [] → AreTops combine size all done
-  leads_end size all done left leads none levels at =
-      subst (Levels combine levels all) (append-nil done)
-      (leads levels at [] (subst (λ l. Levels combine levels l []) (sym none)
-      (levels_none levels)))
+    -- the top of the front half is that of the block where no more items come
+    pub one_down : (a b : C) (size half count : ℕ) (l : T) → 1 < size → half ≡ size / 2
+        → ComesDown (λ xs. HasGiven ready gives may leaves a xs b) leaf combine half count (l ∷ [])
+        → ComesDown (λ xs. HasGiven ready gives may leaves a xs b) leaf combine size count (l ∷ [])
+    one_down a b size half count l more is (xs, long, came, (ls, maps, tops)) =
+        (xs, long, came, (ls, maps, one_half combine size half ls l more is tops))
+
+    -- The tops of the blocks of the items that came so far, which are full where more are to come.
+    abbrev pub SoFar : C → C → ℕ → ℕ → ℕ → List T → Type 0
+    SoFar a b size count left tops = (xs : List X) × (length xs + left ≡ count)
+        × HasGiven ready gives may leaves a xs b × AreTopsOf leaf combine size xs tops
+        × (0 < left → length xs ≡ length tops * size)
+
+    pub none_so_far : (a : C) (size count : ℕ) (tops : List T) → ready a → tops ≡ []
+        → SoFar a a size count count tops
+    none_so_far a size count tops at none = (
+      [],
+      omega arith,
+      (at, λ more h. h, λ x h. h, λ rest h. h),
+      (
+        [],
+        tt,
+        λ levels below. subst (Levels combine levels []) (sym none)
+            (levels_none combine levels),
+      ),
+      λ some. sym (ap (λ l. length l * size) none ∙ zero-mul size),
+    )
+
+    -- one block more
+    pub block_more : (a b c : C) (size count left block rest : ℕ) (tops then : List T) (top : T)
+        → 0 < left → block ≤ left → (0 < left - block → block ≡ size) → rest ≡ left - block
+        → then ≡ tops ++ top ∷ [] → SoFar a b size count left tops
+        → ComesDown (λ xs. HasGiven ready gives may leaves b xs c) leaf combine size block
+        (top ∷ []) → SoFar a c size count rest then
+    block_more a b c size count left block rest tops then top some within full less grown
+        (xs, long, came, (ls, maps, are), whole) (ys, long_y, came_y, (rs, maps_y, are_y)) = (
+          xs ++ ys,
+          omega (arith, length-append xs ys, long, long_y, within, less),
+          given_more a b c xs ys came came_y,
+          (
+            ls ++ rs,
+            MapOf-append leaf xs ys ls rs maps maps_y,
+            tops_append combine size (length tops) ls rs (ls ++ rs) tops (top ∷ []) then refl grown
+                (AllZip-long leaf xs ls maps ∙ whole some) are are_y,
+          ),
+          λ more. length-append xs ys
+              ∙ (λ i. whole some i + (long_y ∙ full (subst (λ n. 0 < n) less more)) i)
+              ∙ ap (λ n. length tops * size + n) (sym (one-mul size))
+              ∙ sym (add-mul (length tops) 1 size)
+              ∙ sym (ap (λ l. length l * size) grown
+              ∙ ap (λ n. n * size) (length-append tops (top ∷ []))),
+        )
+
+    -- all items came
+    pub all_down : (a b : C) (size count left : ℕ) (tops : List T) → left ≡ 0
+        → SoFar a b size count left tops
+        → ComesDown (λ xs. HasGiven ready gives may leaves a xs b) leaf combine size count tops
+    all_down a b size count left tops none (xs, long, came, are, whole) =
+        (xs, omega (arith, long, none), came, are)
 
 -- there is no leaf where there is no block
 pub block_none : (size len count : ℕ) → AreBlocks size len count → count ≡ 0 → len ≡ 0
@@ -202,3 +292,11 @@ blocks_after size len count front blocks fewer =
       omega (arith, blocks.1, all, behind),
       (omega (arith, blocks.0, all, behind), omega (arith, blocks.1, all, behind)),
     )
+
+-- there is some leaf where there is a block
+pub block_some : (size len count : ℕ) → AreBlocks size len count → 0 < count → 0 < len
+block_some size len count blocks some =
+    let last = count - 1 in let back : count ≡ last + 1 = omega (arith, some) in
+    let all : count * size ≡ last * size + size =
+    ap (λ n. n * size) back ∙ add-mul last 1 size ∙ ap (λ n. last * size + n) (one-mul size) in
+    omega (arith, blocks.1, all)

@@ -1,6 +1,7 @@
 -- The root of a tree over leaves, level by level. The closure that combines two neighbours enters
 -- by the relation of the two to the nodes that it may return.
 use Rattle.std.specs.Prelude.{◌≡◌, List, [], ◌∷◌, Option, Some, None}
+use Rattle.parallel_bridge.specs.Lists.{MapOf}
 
 -- the next level: neighbours combined in pairs, left before right, an odd last one unchanged
 abbrev pub NextLevel : {T : Type 0} → (T → T → T → Type 0) → List T → List T → Type 0
@@ -18,6 +19,12 @@ pub data MerkleRoot {T : Type 0} (combine : T → T → T → Type 0) : List T �
   of_level : {x y : T} {xs nodes : List T} {root : Option T}
       → NextLevel combine (x ∷ (y ∷ xs)) nodes → MerkleRoot combine nodes root
       → MerkleRoot combine (x ∷ (y ∷ xs)) root
+
+-- the root of leaves that leaf may give of the items, one for each
+abbrev pub RootOf : {X T : Type 0} → (X → T → Type 0) → (T → T → T → Type 0) → List X → Option T
+    → Type 0
+RootOf {T = T} leaf combine items root =
+    (leaves : List T) × MapOf leaf items leaves × MerkleRoot combine leaves root
 
 -- of two nodes there is one result at most
 abbrev pub IsDetermined : {T : Type 0} → (T → T → T → Type 0) → Type 0

@@ -1,5 +1,6 @@
 -- Several levels of a tree at once, over blocks of leaves that need nothing of one another.
-use Rattle.std.specs.Prelude.{◌≡◌, ℕ, zero, suc, ◌+◌, ◌*◌, ◌<◌, ◌≤◌, List}
+use Rattle.std.specs.Prelude.{◌≡◌, ℕ, zero, suc, ◌+◌, ◌*◌, ◌<◌, ◌≤◌, List, ◌++◌, length}
+use Rattle.parallel_bridge.specs.Lists.{MapOf}
 use Rattle.commonware_parallel.specs.Merkle.{NextLevel}
 
 -- the nodes that many levels above the leaves
@@ -27,3 +28,28 @@ AreTops combine size leaves tops = (levels : ℕ) → size ≡ leaves_below leve
 -- len leaves are that many blocks, of which the last one may have fewer leaves
 abbrev pub AreBlocks : ℕ → ℕ → ℕ → Type 0
 AreBlocks size len count = (len ≤ count * size) × (count * size < len + size)
+
+-- the tops of blocks of that size of leaves that leaf may give of the items, one for each
+abbrev pub AreTopsOf : {X T : Type 0} → (X → T → Type 0) → (T → T → T → Type 0) → ℕ → List X
+    → List T → Type 0
+AreTopsOf {T = T} leaf combine size items tops =
+    (leaves : List T) × MapOf leaf items leaves × AreTops combine size leaves tops
+
+-- of a cursor that many items come at least, each of which a leaf can be made of
+abbrev pub HasItems : {C X : Type 0} → (C → Type 0) → (C → List X → Type 0) → (C → X → Type 0)
+    → (X → Type 0) → ℕ → C → Type 0
+HasItems {X = X} ready gives may makes count cursor = ready cursor
+    × ((x : X) → may cursor x → makes x) × ((xs : List X) → gives cursor xs → count ≤ length xs)
+
+-- the cursor gave xs, and what it gives then, and leaves, is after those what it would have before
+abbrev pub HasGiven : {C X R : Type 0} → (C → Type 0) → (C → List X → Type 0) → (C → X → Type 0)
+    → (C → R → Type 0) → C → List X → C → Type 0
+HasGiven {X = X} {R = R} ready gives may leaves before xs after = ready after
+    × ((more : List X) → gives after more → gives before (xs ++ more))
+    × ((x : X) → may after x → may before x) × ((rest : R) → leaves after rest → leaves before rest)
+
+-- that many items came, and these are the tops of their leaves' blocks
+abbrev pub ComesDown : {X T : Type 0} → (List X → Type 0) → (X → T → Type 0)
+    → (T → T → T → Type 0) → ℕ → ℕ → List T → Type 0
+ComesDown {X = X} came leaf combine size count tops = (xs : List X) × (length xs ≡ count)
+    × came xs × AreTopsOf leaf combine size xs tops

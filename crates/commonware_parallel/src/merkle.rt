@@ -17,7 +17,7 @@ mod plain;
 mod tops;
 
 use crate::strategy::Strategy;
-pub use blocks::root_by_blocks;
+pub use blocks::{root_by_blocks, root_of_leaves};
 pub use law::root_law;
 use parallel_bridge::Pairs;
 use parallel_fault::Fault;

@@ -1,15 +1,18 @@
 //! The root of a tree by blocks of its leaves, which need nothing of one another.
-ghost use Rattle.std.specs.Prelude.{◌<◌, IfOk};
+ghost use Rattle.std.specs.Prelude.{◌≡◌, IfOk};
+ghost use Rattle.parallel_bridge.specs.Sources.{GivesSome};
 ghost use Rattle.parallel_fault.specs.Trouble.{IsMemoryOnErr};
-ghost use Rattle.commonware_parallel.specs.Merkle.{MerkleRoot};
-ghost use Rattle.commonware_parallel.specs.MerkleBlocks.{AreTops, IsBlockSize};
+ghost use Rattle.commonware_parallel.specs.Merkle.{MerkleRoot, RootOf};
+ghost use Rattle.commonware_parallel.specs.MerkleBlocks.{AreTopsOf, IsBlockSize};
 
 use crate::call::Call;
 use crate::chosen::{begin_path, threads_by};
+use crate::list::map_iter;
 use crate::merkle::descent::{block_size, descend};
 use crate::merkle::{plain_root, root};
 use crate::running::end_run;
 use crate::strategy::Strategy;
+use parallel_bridge::{DrainProducer, Parts, Source};
 use parallel_fault::Fault;
 use parallel_policy::Place;
 use std::alloc::Global;
@@ -59,16 +62,116 @@ pub fn root_by_blocks<
     if size < 2 {
         return root(rt, alloc, strategy, site, leaves, combine);
     }
-    let tops = tops_through(rt, alloc, strategy, site, size, leaves, &combine)?;
-    if size / FEW >= strategy.thread_number().get() {
-        return plain_root(alloc, tops, &combine);
-    }
-    root(rt, alloc, strategy, site, tops, combine)
+    let same = |leaf: T| -> T
+        ensures { result ≡ leaf }
+    { leaf };
+    let parts = DrainProducer::from_vec(leaves);
+    let tops = tops_through(rt, alloc, strategy, site, size, parts, &same, &combine)?;
+    root_of_tops(rt, alloc, strategy, site, size, tops, combine)
 }
 
-// The tops of the leaves' blocks, by the path that the strategy takes for as many blocks, each of
-// which stands for the work of its leaves.
+/// The root of the leaves that `leaf` makes of the items (`RootOf`), through a strategy, by blocks
+/// as `root_by_blocks`.
+///
+/// Each thread makes its leaves as it brings them down: nothing is copied of a list that is one
+/// already, and no list of the leaves is made. An iterator's items are gathered where the strategy
+/// has to be asked by their number. Serially the items are gone over as they come, and their
+/// leaves are then a list.
+///
+/// ```text
+/// let root = root_of_leaves(
+///     rt,
+///     alloc,
+///     strategy,
+///     SITE,
+///     texts.as_slice(),
+///     |text: &Vec<u8>| digest(text),
+///     |left, right| node(left, right),
+/// )?;
+/// ```
+///
+/// # Errors
+///
+/// `Fault::Memory` alone; the items are then gone.
+pub fn root_of_leaves<
+    Rt: Threads + Wait + Sync,
+    P: Place,
+    S: Strategy,
+    M,
+    I: Source<M>,
+    T: Send + Drop,
+    L: Fn(I::Item) -> T + Send + Sync + Drop,
+    F: Fn(T, T) -> T + Send + Sync + Drop,
+>(
+    rt: &Rt,
+    alloc: Global,
+    strategy: &S,
+    site: P,
+    source: I,
+    leaf: L,
+    combine: F,
+) -> Result<Option<T>, Fault>
+    requires can { I.can source }
+    requires makes { (x : I.Item) → I.may source x → L.pre leaf x }
+    requires accepts { F.IsAlwaysCallable combine }
+    ensures root { IfOk result (λ root. GivesSome I.gives source (λ xs. RootOf (L.post leaf)
+        (F.post combine) xs root)) }
+    ensures fault { IsMemoryOnErr result }
+{
+    if strategy.is_serial() {
+        let leaves = map_iter(alloc, source.into_items(), &leaf)?;
+        return plain_root(alloc, leaves, &combine);
+    }
+    let parts = source.into_parts(alloc)?;
+    let size = block_size(parts.len(), strategy.thread_number());
+    let tops = tops_through(rt, alloc, strategy, site, size, parts, &leaf, &combine)?;
+    root_of_tops(rt, alloc, strategy, site, size, tops, combine)
+}
+
+// The tops of the blocks, by the path that the strategy takes for as many blocks, each of which
+// stands for the work of its leaves.
 fn tops_through<
+    Rt: Threads + Wait + Sync,
+    P: Place,
+    S: Strategy,
+    Q: Parts,
+    T: Send + Drop,
+    L: Fn(Q::Item) -> T + Send + Sync,
+    F: Fn(T, T) -> T + Send + Sync,
+>(
+    rt: &Rt,
+    alloc: Global,
+    strategy: &S,
+    site: P,
+    size: usize,
+    parts: Q,
+    leaf: &L,
+    combine: &F,
+) -> Result<Vec<T>, Fault>
+    requires makes { (x : Q.Item) → Q.may parts x → L.pre leaf.now x }
+    requires accepts { F.IsAlwaysCallable combine.now }
+    requires size { IsBlockSize size }
+    ensures tops { IfOk result (λ tops. GivesSome Q.gives parts (λ xs. AreTopsOf
+        (L.post leaf.now) (F.post combine.now) size xs tops.items)) }
+    ensures fault { IsMemoryOnErr result }
+{
+    let call = Call::body_with_multiplier(parts.len().div_ceil(size), size);
+    let (path, running) = begin_path(strategy, rt, alloc, site, call)?;
+    let tops = descend(
+        rt,
+        alloc,
+        threads_by(strategy, path),
+        size,
+        parts,
+        leaf,
+        combine,
+    );
+    end_run(strategy, rt, running, tops.is_ok());
+    tops
+}
+
+// The root of the tops of blocks, through the strategy or on the caller's thread.
+fn root_of_tops<
     Rt: Threads + Wait + Sync,
     P: Place,
     S: Strategy,
@@ -80,19 +183,15 @@ fn tops_through<
     strategy: &S,
     site: P,
     size: usize,
-    leaves: Vec<T>,
-    combine: &F,
-) -> Result<Vec<T>, Fault>
-    requires accepts { F.IsAlwaysCallable combine.now }
-    requires size { IsBlockSize size }
-    requires some { 0 < size }
-    ensures tops { IfOk result (λ tops. AreTops (F.post combine.now) size
-        leaves.items tops.items) }
+    tops: Vec<T>,
+    combine: F,
+) -> Result<Option<T>, Fault>
+    requires accepts { F.IsAlwaysCallable combine }
+    ensures root { IfOk result (MerkleRoot (F.post combine) tops.items) }
     ensures fault { IsMemoryOnErr result }
 {
-    let call = Call::body_with_multiplier(leaves.len().div_ceil(size), size);
-    let (path, running) = begin_path(strategy, rt, alloc, site, call)?;
-    let tops = descend(rt, alloc, threads_by(strategy, path), size, leaves, combine);
-    end_run(strategy, rt, running, tops.is_ok());
-    tops
+    if size / FEW >= strategy.thread_number().get() {
+        return plain_root(alloc, tops, &combine);
+    }
+    root(rt, alloc, strategy, site, tops, combine)
 }

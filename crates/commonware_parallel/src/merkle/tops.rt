@@ -1,78 +1,124 @@
-//! The top of one block of leaves: the node that it comes down to.
-ghost use Rattle.std.specs.Prelude.{◌≡◌, ◌≤◌, ◌<◌, ◌∷◌, [], drop, length, take};
-ghost use Rattle.parallel_bridge.specs.Fills.{SamePlaces};
-ghost use Rattle.commonware_parallel.specs.MerkleBlocks.{AreTops, IsBlockSize};
+//! The top of one block: the node that the leaves of its items come down to.
+ghost use Rattle.std.specs.Prelude.{◌<◌, ◌≤◌, ◌∷◌, [], ℕ, suc};
+ghost use Rattle.commonware_parallel.specs.MerkleBlocks.{ComesDown, HasGiven, HasItems, IsBlockSize, leaves_below};
 
-use parallel_bridge::Window;
+use parallel_bridge::Cursor;
+use std::marker::PhantomData;
 
-/// The top of the first `size` leaves, or of those that are left, which are moved out. A node
-/// without a partner goes up unchanged. It takes no memory.
-pub(crate) fn first_top<T, F: Fn(T, T) -> T>(leaves: &mut Window<T>, size: usize, combine: &F) -> T
+/// The top of the leaves of the next `count` items, in a block of `size`. A node without a partner
+/// goes up unchanged. It takes no memory.
+pub(crate) fn next_top<X: Drop, R, C: Cursor<X, R>, T, L: Fn(X) -> T, F: Fn(T, T) -> T>(
+    items: &mut C,
+    size: usize,
+    count: usize,
+    leaf: &L,
+    combine: &F,
+) -> T
+    requires items { HasItems C.ready C.gives C.may (L.pre leaf.now) count items.old }
     requires accepts { F.IsAlwaysCallable combine.now }
     requires size { IsBlockSize size }
-    requires some { 0 < length leaves.old.items }
-    ensures top { AreTops (F.post combine.now) size (take size leaves.old.items) (result ∷ []) }
-    ensures rest { leaves.new.items ≡ drop size leaves.old.items }
-    ensures place { SamePlaces leaves.old leaves.new }
+    requires some { 0 < count }
+    requires within { count ≤ size }
+    ensures top { ComesDown
+        (λ xs. HasGiven C.ready C.gives C.may C.leaves items.old xs items.new)
+        (L.post leaf.now) (F.post combine.now) size count (result ∷ []) }
 {
-    if size <= leaves.len() {
-        return full_top(leaves, size, combine);
+    if count == size {
+        return full_top(items, size, leaf, combine);
     }
     let half = size / 2;
-    let left = first_top(leaves, half, combine);
-    if leaves.len() == 0 {
-        return left;
+    if count <= half {
+        return next_top(items, half, count, leaf, combine);
     }
-    let right = first_top(leaves, half, combine);
+    let left = full_top(items, half, leaf, combine);
+    let right = next_top(items, half, count - half, leaf, combine);
     combine(left, right)
 }
 
-// The top of the first `size` leaves, which are moved out. Four of them are combined with no further
-// call, since a call takes as long as a light node.
-fn full_top<T, F: Fn(T, T) -> T>(leaves: &mut Window<T>, size: usize, combine: &F) -> T
+// The top of a full block.
+fn full_top<X: Drop, R, C: Cursor<X, R>, T, L: Fn(X) -> T, F: Fn(T, T) -> T>(
+    items: &mut C,
+    size: usize,
+    leaf: &L,
+    combine: &F,
+) -> T
+    requires items { HasItems C.ready C.gives C.may (L.pre leaf.now) size items.old }
     requires accepts { F.IsAlwaysCallable combine.now }
     requires size { IsBlockSize size }
-    requires enough { size ≤ length leaves.old.items }
-    ensures top { AreTops (F.post combine.now) size (take size leaves.old.items) (result ∷ []) }
-    ensures rest { leaves.new.items ≡ drop size leaves.old.items }
-    ensures place { SamePlaces leaves.old leaves.new }
+    ensures top { ComesDown
+        (λ xs. HasGiven C.ready C.gives C.may C.leaves items.old xs items.new)
+        (L.post leaf.now) (F.post combine.now) size size (result ∷ []) }
 {
-    if size == 4 {
-        return top_of_four(leaves, combine);
+    if size == 16 {
+        return Sixteen::top(items, leaf, combine);
     }
     if size < 2 {
-        return leaves.take();
+        return One::top(items, leaf, combine);
     }
     let half = size / 2;
-    let left = full_top(leaves, half, combine);
-    let right = full_top(leaves, half, combine);
+    let left = full_top(items, half, leaf, combine);
+    let right = full_top(items, half, leaf, combine);
     combine(left, right)
 }
 
-// The top of the first four leaves, which are moved out.
-#[inline(always)]
-fn top_of_four<T, F: Fn(T, T) -> T>(leaves: &mut Window<T>, combine: &F) -> T
-    requires accepts { F.IsAlwaysCallable combine.now }
-    requires enough { 4 ≤ length leaves.old.items }
-    ensures top { AreTops (F.post combine.now) 4 (take 4 leaves.old.items) (result ∷ []) }
-    ensures rest { leaves.new.items ≡ drop 4 leaves.old.items }
-    ensures place { SamePlaces leaves.old leaves.new }
-{
-    let left = top_of_two(leaves, combine);
-    let right = top_of_two(leaves, combine);
-    combine(left, right)
+// A full block whose size the compiler knows: it is brought down with no call of its own, since a
+// call takes as long as a light node.
+trait KnownBlock {
+    // How many levels its top is above the leaves.
+    ghost levels: { ℕ };
+
+    // The top of the block.
+    fn top<X: Drop, R, C: Cursor<X, R>, T, L: Fn(X) -> T, F: Fn(T, T) -> T>(
+        items: &mut C,
+        leaf: &L,
+        combine: &F,
+    ) -> T
+        requires items { HasItems C.ready C.gives C.may (L.pre leaf.now) (leaves_below levels)
+            items.old }
+        requires accepts { F.IsAlwaysCallable combine.now }
+        ensures top { ComesDown
+            (λ xs. HasGiven C.ready C.gives C.may C.leaves items.old xs items.new)
+            (L.post leaf.now) (F.post combine.now) (leaves_below levels) (leaves_below levels)
+            (result ∷ []) };
 }
 
-// The node above the first two leaves, which are moved out.
-#[inline(always)]
-fn top_of_two<T, F: Fn(T, T) -> T>(leaves: &mut Window<T>, combine: &F) -> T
-    requires accepts { F.IsAlwaysCallable combine.now }
-    requires enough { 2 ≤ length leaves.old.items }
-    ensures top { AreTops (F.post combine.now) 2 (take 2 leaves.old.items) (result ∷ []) }
-    ensures rest { leaves.new.items ≡ drop 2 leaves.old.items }
-    ensures place { SamePlaces leaves.old leaves.new }
-{
-    let left = leaves.take();
-    let right = leaves.take();
-    combine(left, right)
+// One item.
+struct One;
+
+// Two blocks side by side.
+struct Twice<B> {
+    half: PhantomData<B>,
+}
+
+type Sixteen = Twice<Twice<Twice<Twice<One>>>>;
+
+impl KnownBlock for One {
+    ghost levels = { 0 };
+
+    #[inline(always)]
+    fn top<X: Drop, R, C: Cursor<X, R>, T, L: Fn(X) -> T, F: Fn(T, T) -> T>(
+        items: &mut C,
+        leaf: &L,
+        _combine: &F,
+    ) -> T {
+        match items.next() {
+            Some(item) => leaf(item),
+            None => unreachable!(),
+        }
+    }
+}
+
+impl<B: KnownBlock> KnownBlock for Twice<B> {
+    ghost levels = { suc B.levels };
+
+    #[inline(always)]
+    fn top<X: Drop, R, C: Cursor<X, R>, T, L: Fn(X) -> T, F: Fn(T, T) -> T>(
+        items: &mut C,
+        leaf: &L,
+        combine: &F,
+    ) -> T {
+        let left = B::top(items, leaf, combine);
+        let right = B::top(items, leaf, combine);
+        combine(left, right)
+    }
 }

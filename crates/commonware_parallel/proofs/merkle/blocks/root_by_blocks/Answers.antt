@@ -1,23 +1,15 @@
--- A root of the tops is one of the leaves.
-use Rattle.commonware_parallel.proofs.{IfOk-weaker, MerkleRoot, root_of_levels}
+-- Each item is its own leaf, and a root of the tops is one of the leaves.
+use Rattle.commonware_parallel.proofs.{◌∙◌, rules, subst, IfOk-weaker, MerkleRoot, root_of_levels, same_leaves}
 use Rattle.commonware_parallel.proofs.merkle.blocks.root_by_blocks.Goals as goal
-
-pub returns-then-size-get-clause-root : goal.returns-then-size-get-clause-root
-returns-then-size-get-clause-root g c =
-    let size = c.block_size-size.ensures.size in
-    IfOk-weaker c.plain_root.result
-    (MerkleRoot (λ a b n. g.F.Fn.post c.args.combine (a, (b, tt)) n) c.in_ok-tops.tops.items)
-    (MerkleRoot (λ a b n. g.F.Fn.post c.args.combine (a, (b, tt)) n) c.args.leaves.items)
-    (λ root h. root_of_levels (λ a b n. g.F.Fn.post c.args.combine (a, (b, tt)) n) size.0
-    c.args.leaves.items c.in_ok-tops.tops.items root (c.in_ok-tops.ensures.tops size.0 size.1) h)
-    c.plain_root.ensures.root
 
 pub returns-clause-root : goal.returns-clause-root
 returns-clause-root g c =
-    let size = c.block_size-size.ensures.size in
-    IfOk-weaker c.root-2.result
-    (MerkleRoot (λ a b n. g.F.Fn.post c.args.combine (a, (b, tt)) n) c.in_ok-tops.tops.items)
-    (MerkleRoot (λ a b n. g.F.Fn.post c.args.combine (a, (b, tt)) n) c.args.leaves.items)
-    (λ root h. root_of_levels (λ a b n. g.F.Fn.post c.args.combine (a, (b, tt)) n) size.0
-    c.args.leaves.items c.in_ok-tops.tops.items root (c.in_ok-tops.ensures.tops size.0 size.1) h)
-    c.root-2.ensures.root
+    let size = c.block_size-size.ensures.size in let came = c.in_ok-tops.ensures.tops in
+    let above = goal.F-post g c.args.combine in let tops = c.in_ok-tops.tops.items in
+    IfOk-weaker c.root_of_tops.result (MerkleRoot above tops)
+    (MerkleRoot above c.args.leaves.items)
+    (λ root h. subst (λ l. MerkleRoot above l root)
+    (same_leaves _ (λ x y k. search rules) came.0 came.2.0 came.2.1 ∙ came.1
+    ∙ c.from_vec-parts.ensures)
+    (root_of_levels above size.0 came.2.0 tops root (came.2.2 size.0 size.1) h))
+    c.root_of_tops.ensures.root
