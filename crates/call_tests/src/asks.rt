@@ -210,7 +210,9 @@ fn a_tree_asks_about_its_blocks_and_the_pairs_of_each_level(rt: HostRuntime) {
     let few = [(31, 1), (16, 1), (8, 1), (4, 1), (2, 1), (1, 1)];
     tree_asks(&rt, Rooted::ByBlocks, 63, &few);
     let some = [(32, 2), (16, 1), (8, 1), (4, 1), (2, 1), (1, 1)];
-    tree_asks(&rt, Rooted::ByBlocks, 64, &some);
     let more = [(33, 4), (16, 1), (8, 1), (4, 1), (2, 1), (1, 1), (1, 1)];
-    tree_asks(&rt, Rooted::ByBlocks, 130, &more);
+    for rooted in [Rooted::ByBlocks, Rooted::OfLeaves] {
+        tree_asks(&rt, rooted, 64, &some);
+        tree_asks(&rt, rooted, 130, &more);
+    }
 }

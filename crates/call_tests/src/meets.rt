@@ -247,8 +247,8 @@ fn group_of(act: Act) -> (Group, usize) {
         Act::Sort(_) => (Group::Sorts, 300_001),
         Act::Fill(Filling::Stretches, _) => (Group::Tiles, 300_001),
         Act::Fill(..) => (Group::Tiles, 10_001),
-        Act::Tree(Rooted::ByBlocks) => (Group::Trees, 300_001),
-        Act::Tree(_) => (Group::Trees, 10_001),
+        Act::Tree(Rooted::ByLevels) => (Group::Trees, 10_001),
+        Act::Tree(_) => (Group::Trees, 300_001),
         _ => (Group::Changes, 1_000_001),
     }
 }

@@ -192,7 +192,9 @@ fn a_tree_records_one_time_of_its_blocks_and_of_each_level(rt: HostRuntime) {
     let levels = [(4, 4), (2, 2), (1, 1)];
     tree_records(&rt, Rooted::ByLevels, 8, &levels);
     let blocks = [(32, 64), (16, 16), (8, 8), (4, 4), (2, 2), (1, 1)];
-    tree_records(&rt, Rooted::ByBlocks, 64, &blocks);
+    for rooted in [Rooted::ByBlocks, Rooted::OfLeaves] {
+        tree_records(&rt, rooted, 64, &blocks);
+    }
 }
 
 impl Asked {

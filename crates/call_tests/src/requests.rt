@@ -62,6 +62,8 @@ pub fn fate_of(act: Act, path: Path) -> Fate {
         (Act::List(Called::Ready(ready), _), _) if !gathers(ready) => Fate::Succeeds,
         (Act::List(..) | Act::Sort(_) | Act::Fill(..), _) => Fate::Refused,
         (Act::Tree(Rooted::ByLevels), _) => Fate::Refused,
+        // Its leaves are then a list.
+        (Act::Tree(Rooted::OfLeaves), Path::Unasked) => Fate::Refused,
         _ => Fate::Succeeds,
     }
 }

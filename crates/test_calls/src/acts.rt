@@ -44,7 +44,7 @@ pub enum Act {
 }
 
 // Those that aren't list calls. Rows of ten columns are too short to be cut.
-const ASIDE: [Act; 20] = [
+const ASIDE: [Act; 21] = [
     Act::Sort(Sorted::Stable),
     Act::Sort(Sorted::Unstable),
     Act::Sort(Sorted::StableByKey),
@@ -63,6 +63,7 @@ const ASIDE: [Act; 20] = [
     Act::Fill(Filling::Kernel, 10),
     Act::Tree(Rooted::ByLevels),
     Act::Tree(Rooted::ByBlocks),
+    Act::Tree(Rooted::OfLeaves),
     Act::Run(false),
     Act::Run(true),
 ];

@@ -9,7 +9,7 @@ use crate::ready::calls_of;
 use crate::sources::{LOST, zeros};
 use crate::steps::{cells_counted, no_count};
 use crate::visits::Visitor;
-use commonware_parallel::merkle::{root, root_by_blocks};
+use commonware_parallel::merkle::{root, root_by_blocks, root_of_leaves};
 use commonware_parallel::{Batches, Fault, Grid, Runtime, Site, Strategy, Tiles, Trouble};
 use std::alloc::Global;
 use std::cmp::Ordering;
@@ -314,6 +314,7 @@ pub fn fill<Rt: Runtime, S: Strategy>(
 pub enum Rooted {
     ByLevels,
     ByBlocks,
+    OfLeaves,
 }
 
 // A node of a tree.
@@ -351,6 +352,9 @@ fn combine<Rt: Runtime, S: Strategy, T: Node>(
     let found = match rooted {
         Rooted::ByLevels => root(rt, alloc, on.strategy, site, leaves, node),
         Rooted::ByBlocks => root_by_blocks(rt, alloc, on.strategy, site, leaves, node),
+        Rooted::OfLeaves => {
+            root_of_leaves(rt, alloc, on.strategy, site, leaves, |leaf: T| leaf, node)
+        }
     };
     drop(held);
     done(found)
