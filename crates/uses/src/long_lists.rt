@@ -9,6 +9,7 @@ ghost use Rattle.uses.specs.LongLists.{from_of, shape_of};
 
 use crate::squares::squares;
 use commonware_parallel::{Call, Chooser, Fault, Pick, Place, Source, Strategy, Unmeasured};
+use parallel_calls::On;
 use std::alloc::Global;
 use std::num::NonZeroUsize;
 use std::sync::Wait;
@@ -115,7 +116,13 @@ pub fn squares_by_length<Rt: Threads + Wait + Sync, P: Place>(
     ensures squares { IfOk result (λ answers. answers.items ≡ map (λ x. x * x) numbers.now) }
     ensures fault { IsMemoryOnErr result }
 {
-    squares(rt, alloc, strategy, site, numbers)
+    let on = On {
+        rt,
+        alloc,
+        strategy,
+        site,
+    };
+    squares(&on, numbers)
 }
 
 /// A fold that goes in one segment where the list is short, and along the list's shape for the
