@@ -249,12 +249,12 @@ pub fn add_up<
 }
 
 /// Scans numbers.
-pub fn scan<Rt: Runtime, S: Strategy, M, I: Source<M, Item = usize>>(
-    here: &Here<'_, Rt, S>,
-    ready: Ready,
-    numbers: I,
-    visited: Visitor<'_>,
-) -> Outcome
+pub fn scan<
+    Rt: Runtime,
+    S: Strategy,
+    M,
+    I: Source<M, Item = usize, Parts: Parts<Segment: Segment<usize>>>,
+>(here: &Here<'_, Rt, S>, ready: Ready, numbers: I, visited: Visitor<'_>) -> Outcome
     requires { I.can numbers }
 {
     let on = &calls_of(here);
