@@ -112,40 +112,36 @@ fn refusals(rt: &impl Test, through: &Through, of: Row) -> u64 {
     panic!(rt; "{of:?} doesn't succeed")
 }
 
-// The same while nothing but a room is left: what calls before it let go is taken too.
-fn refusals_in_a_room(rt: &impl Test, held: &mut Vec<Vec<u8>>, through: &Through, of: Row) -> u64 {
-    let room = Vec::<u8>::with_capacity(rt.alloc(), ROOM).expect(rt, "a room");
-    let before = held.len();
-    if before > 0 {
-        hold_rest(rt.alloc(), held);
-    }
-    drop(room);
-    let refused = refusals(rt, through, of);
-    held.truncate(before);
-    refused
-}
-
-// A search stands in the place of a rest.
+// A search stands in the place of a rest. Each call has a room of its own, and what it leaves of
+// that the next one hasn't: as glibc keeps small blocks at hand where they lie, a room that was used
+// isn't whole any more. So the lists are short, and a tree has just enough leaves for blocks.
 #[test]
 fn each_growth_is_refused_in_turn(rt: HostRuntime) {
     let (acts, alloc) = (all_acts(&rt), rt.alloc());
     let mut standing = Vec::new(alloc);
+    let mut rooms = Vec::new(alloc);
     for way in WAYS {
         let one = (way, through(&rt, way));
         standing.push(one).expect(&rt, "memory");
+        for _ in 0..acts.len().saturating_add(2) {
+            let room = Vec::<u8>::with_capacity(alloc, ROOM).expect(&rt, "memory");
+            rooms.push(room).expect(&rt, "memory");
+        }
     }
-    let rooms = Vec::<u8>::with_capacity(alloc, ROOM * 6).expect(&rt, "memory");
     let mut held = all_memory(alloc).unwrap_or(Vec::new(alloc));
-    drop(rooms);
+    let has_end = held.len() > 0;
     let mut total = 0u64;
     for (way, through) in standing.iter() {
         for act in acts.iter().chain(&[Act::Job, Act::Rest]) {
-            let of = Row::of(*way, *act, 30);
-            let refused = refusals_in_a_room(&rt, &mut held, through, of);
-            total = total.saturating_add(refused);
+            drop(rooms.pop());
+            let len = if matches!(*act, Act::Tree(_)) { 17 } else { 9 };
+            total = total.saturating_add(refusals(&rt, through, Row::of(*way, *act, len)));
+            if has_end {
+                hold_rest(alloc, &mut held);
+            }
         }
     }
-    equal(&rt, "some are refused", total > 0, held.len() > 0);
+    equal(&rt, "some are refused", total > 0, has_end);
     drop(held);
     let _told = eprintln!(&rt; "{total} calls were refused");
 }
