@@ -2,6 +2,7 @@ pub mod Counts
 pub mod FilledParts
 pub mod Finished
 pub mod Layers
+pub mod LeastPlaces
 pub mod LongestWords
 pub mod Parts
 pub mod Repeats

@@ -1,5 +1,6 @@
 pub mod Batches
 pub mod Joins
+pub mod LeastPlaces
 pub mod LongLists
 pub mod Repeats
 pub mod Tiles

@@ -7,6 +7,7 @@ pub mod explored;
 pub mod folds;
 pub mod in_place;
 pub mod joins;
+pub mod least;
 pub mod long_lists;
 pub mod maps;
 pub mod one_place;

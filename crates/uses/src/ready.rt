@@ -1,5 +1,5 @@
 //! Ready calls: what each comes to, in std's own word for it.
-ghost use Rattle.std.specs.Prelude.{◌≡◌, ◌==◌, ◌%◌, IfOk, count_by, nat_lt};
+ghost use Rattle.std.specs.Prelude.{◌≡◌, ◌==◌, ◌%◌, IfOk, count_by, fold, max, nat_lt};
 ghost use Rattle.std.specs.List.{filter, find};
 ghost use Rattle.parallel_fault.specs.Trouble.{IsMemoryOnErr};
 ghost use Rattle.parallel_calls.specs.Extremes.{LeastOf};
@@ -54,6 +54,26 @@ pub fn least<Rt: Threads + Wait + Sync, S: Strategy, P: Place>(
     on.min_by(
         Copies { slice: numbers },
         |left: &u64, right: &u64| left.cmp(right),
+    )
+}
+
+/// The greatest number, and 0 where there is no number.
+///
+/// # Errors
+///
+/// `Fault::Memory` if an allocation fails.
+pub fn greatest<Rt: Threads + Wait + Sync, S: Strategy, P: Place>(
+    on: &On<'_, Rt, S, P>,
+    numbers: &[u64],
+) -> Result<u64, Fault>
+    ensures greatest { IfOk result (λ greatest. greatest ≡ fold max 0 numbers.now) }
+    ensures fault { IsMemoryOnErr result }
+{
+    on.fold(
+        Copies { slice: numbers },
+        || 0,
+        |so_far: u64, number: u64| so_far.max(number),
+        |left: u64, right: u64| left.max(right),
     )
 }
 
