@@ -13,12 +13,13 @@ use test_calls::ways::{Through, ways};
 use test_strategies::SITE;
 use uses::folds::sum_of_squares;
 use uses::in_place::double_each;
+use uses::least::least_of_table;
 use uses::long_lists::LongLists;
 use uses::maps::{borrowed_squares, first_squares};
 use uses::one_place::squares_and_sum;
 use uses::outputs::square_in_place;
 use uses::own_lists::{squares_backwards, squares_of_wrapped};
-use uses::ready::{count_even, even_numbers, first_even, least};
+use uses::ready::{count_even, even_numbers, first_even, greatest, least};
 use uses::squares::squares;
 use uses::stateful::leave_out_repeats;
 use uses::words::longest_word;
@@ -27,7 +28,7 @@ use uses::words::longest_word;
 type Here<'a, Rt, S> = On<'a, Rt, S, Site>;
 
 // The callers, each by its place here.
-const CALLERS: [&str; 21] = [
+const CALLERS: [&str; 23] = [
     "sum_of_squares",
     "borrowed_squares",
     "first_squares",
@@ -49,6 +50,8 @@ const CALLERS: [&str; 21] = [
     "count_even",
     "least",
     "even_numbers",
+    "greatest",
+    "least_of_table",
 ];
 
 const NUMBERS: [u32; 8] = [3, 1, 4, 1, 5, 9, 2, 6];
@@ -114,7 +117,9 @@ fn by_ready_calls<Rt: Runtime, S: Strategy>(on: &Here<'_, Rt, S>, caller: usize)
         17 => first_even(on, &[3, 1, 7, 1, 5, 9, 3, 5]).is_ok(),
         18 => count_even(on, &numbers).is_ok(),
         19 => least(on, &numbers).is_ok(),
-        _ => even_numbers(on, &numbers).is_ok(),
+        20 => even_numbers(on, &numbers).is_ok(),
+        21 => greatest(on, &numbers) == Ok(9),
+        _ => least_of_table(on, &numbers) == Ok(Some(1)),
     }
 }
 
