@@ -35,13 +35,14 @@ abbrev pub AreTopsOf : {X T : Type 0} → (X → T → Type 0) → (T → T → 
 AreTopsOf {T = T} leaf combine size items tops =
     (leaves : List T) × MapOf leaf items leaves × AreTops combine size leaves tops
 
--- of a cursor that many items come at least, each of which a leaf can be made of
+-- at least that many items come of the cursor, and of each that may come a leaf can be made
 abbrev pub HasItems : {C X : Type 0} → (C → Type 0) → (C → List X → Type 0) → (C → X → Type 0)
     → (X → Type 0) → ℕ → C → Type 0
 HasItems {X = X} ready gives may makes count cursor = ready cursor
     × ((x : X) → may cursor x → makes x) × ((xs : List X) → gives cursor xs → count ≤ length xs)
 
--- the cursor gave xs, and what it gives then, and leaves, is after those what it would have before
+-- The cursor gave xs and is then `after`: it may be asked again, what comes then comes behind xs,
+-- and what may come or be left then might have before.
 abbrev pub HasGiven : {C X R : Type 0} → (C → Type 0) → (C → List X → Type 0) → (C → X → Type 0)
     → (C → R → Type 0) → C → List X → C → Type 0
 HasGiven {X = X} {R = R} ready gives may leaves before xs after = ready after

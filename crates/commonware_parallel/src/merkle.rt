@@ -1,5 +1,8 @@
 //! The root of a Merkle tree: neighbours combined level by level, through any strategy.
 //!
+//! `root` goes level by level over all threads, `root_by_blocks` gives each thread subtrees of its
+//! own, and `root_of_leaves` does so over a source, whose items a closure makes leaves of.
+//!
 //! An odd last node goes up unchanged, one leaf is its own root, and no leaf gives None
 //! (`MerkleRoot`).
 //!

@@ -74,9 +74,12 @@ pub fn root_by_blocks<
 /// as `root_by_blocks`.
 ///
 /// Each thread makes its leaves as it brings them down: nothing is copied of a list that is one
-/// already, and no list of the leaves is made. An iterator's items are gathered where the strategy
-/// has to be asked by their number. Serially the items are gone over as they come, and their
-/// leaves are then a list.
+/// already, and there is memory for the tops, and none for the leaves. An iterator's items are
+/// gathered where the strategy has to be asked by their number. Fewer than 16 items a thread are
+/// blocks of one leaf each. A strategy that runs every such call serially isn't asked: the items
+/// are then gone over as they come, and their leaves are gathered for the levels of a plain loop.
+///
+/// `root_law` says when leaves have one root.
 ///
 /// ```text
 /// let root = root_of_leaves(
@@ -112,7 +115,7 @@ pub fn root_of_leaves<
     combine: F,
 ) -> Result<Option<T>, Fault>
     requires can { I.can source }
-    requires makes { (x : I.Item) → I.may source x → L.pre leaf x }
+    requires leaf_accepts { (x : I.Item) → I.may source x → L.pre leaf x }
     requires accepts { F.IsAlwaysCallable combine }
     ensures root { IfOk result (λ root. GivesSome I.gives source (λ xs. RootOf (L.post leaf)
         (F.post combine) xs root)) }
@@ -148,7 +151,7 @@ fn tops_through<
     leaf: &L,
     combine: &F,
 ) -> Result<Vec<T>, Fault>
-    requires makes { (x : Q.Item) → Q.may parts x → L.pre leaf.now x }
+    requires leaf_accepts { (x : Q.Item) → Q.may parts x → L.pre leaf.now x }
     requires accepts { F.IsAlwaysCallable combine.now }
     requires size { IsBlockSize size }
     ensures tops { IfOk result (λ tops. GivesSome Q.gives parts (λ xs. AreTopsOf

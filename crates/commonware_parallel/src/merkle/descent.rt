@@ -59,7 +59,7 @@ pub(crate) fn descend<
     leaf: &L,
     combine: &F,
 ) -> Result<Vec<T>, Fault>
-    requires makes { (x : P.Item) → P.may parts x → L.pre leaf.now x }
+    requires leaf_accepts { (x : P.Item) → P.may parts x → L.pre leaf.now x }
     requires accepts { F.IsAlwaysCallable combine.now }
     requires size { IsBlockSize size }
     ensures tops { IfOk result (λ tops. GivesSome P.gives parts (λ xs. AreTopsOf
@@ -95,7 +95,7 @@ fn descend_into<
     combine: &F,
     room: Window<T>,
 ) -> (Window<T>, Result<(), Fault>)
-    requires makes { (x : P.Item) → P.may parts x → L.pre leaf.now x }
+    requires leaf_accepts { (x : P.Item) → P.may parts x → L.pre leaf.now x }
     requires accepts { F.IsAlwaysCallable combine.now }
     requires size { IsBlockSize size }
     requires room { IsRoom room }
