@@ -3,22 +3,14 @@ ghost use Rattle.std.specs.Prelude.{◌≡◌, ℕ, ⊤, count_by, IfOk};
 ghost use Rattle.commonware_parallel.specs.Spawned.{gives_answer};
 
 use crate::runs::count_in_one;
-use commonware_parallel::{Closure, Fault, Job, Place, Spawned, Strategy};
+use commonware_parallel::{Closure, Job, Place, Spawned, Strategy};
 use futures::executor::block_on;
 use futures::future::join;
-use std::alloc::{AllocError, AllocGlobal};
+use std::alloc::AllocGlobal;
 use std::io;
 use std::random::RandomSource;
 use std::sync::Wait;
 use std::thread::Threads;
-
-// A refused start, as an error of input and output, which is what a wait returns.
-fn refused(fault: Fault) -> io::Error {
-    match fault {
-        Fault::Memory => io::Error::from(AllocError),
-        Fault::Worker | Fault::HandOff => io::Error::other("a job could not be started"),
-    }
-}
 
 /// The result of a job that is handed over while this thread goes on with `meanwhile`, and waited
 /// for.
@@ -44,9 +36,7 @@ pub fn answer_beside<
         × F.may_answer job clone both.0) }
     ensures meanwhile { IfOk result (λ both. G.post meanwhile both.1) }
 {
-    let spawned = strategy
-        .spawn(rt, rt.alloc(), site, len, job)
-        .map_err(refused)?;
+    let spawned = strategy.spawn(rt, rt.alloc(), site, len, job)?;
     let here = meanwhile();
     let there = block_on(rt, spawned)?;
     Ok((there, here))
@@ -124,7 +114,7 @@ pub fn begin_count<Rt: Threads + Wait + AllocGlobal + Copy + Send + 'static, P: 
     let len = flags.len();
     match strategy.spawn(rt, rt.alloc(), site, len, CountSet { flags }) {
         Ok(spawned) => Ok(spawned),
-        Err(fault) => Err(refused(fault)),
+        Err(fault) => Err(io::Error::from(fault)),
     }
 }
 
