@@ -5,6 +5,7 @@ pub mod FirstItems
 pub mod FirstPlaces
 pub mod FlatItems
 pub mod Folded
+pub mod Forks
 pub mod Functions
 pub mod Neighbours
 pub mod Picks

@@ -1,11 +1,14 @@
 -- the clauses of the calls of one place
-use Rattle.std.specs.Prelude.{ℕ, List}
+use Rattle.std.specs.Prelude.{ℕ, ◌⊎◌, List}
 use Rattle.parallel_bridge.specs.declared.path.Path.{Path}
+use Rattle.parallel_bridge.specs.declared.path.Path.TheVariants.{Parallel}
+use Rattle.parallel_fault.specs.declared.fault.Fault.{Fault}
 use Rattle.parallel_policy.specs.declared.Site.{Site}
 use Rattle.commonware_parallel.specs.Calls.{body_call}
 use Rattle.commonware_parallel.specs.ListCalls.{AskedOver, GoesByLength}
 use Rattle.commonware_parallel.specs.declared.call.Call.{Call}
 use Rattle.commonware_parallel.specs.declared.call.Pick.{Pick}
+use Rattle.commonware_parallel.specs.declared.call.Pick.TheVariants.{By}
 use Rattle.parallel_calls.specs.declared.on.On.{On}
 
 module _ {I X Rt S P : Type 0} (gives : I → List X → Type 0) (source : I)
@@ -20,3 +23,7 @@ module _ {I X Rt S P : Type 0} (gives : I → List X → Type 0) (source : I)
       → (ℕ → Path → List X → R → Type 0) → R → Type 0
   GoesOn threads site_of on way answer = GoesByLength gives source takes threads on.strategy.now
       (site_of on.site) body_call way answer
+
+-- the strategy may refuse by that fault, or may take the parallel path, on which memory is needed
+abbrev pub RefusesOrForks : (Fault → Type 0) → (Pick → Type 0) → Fault → Type 0
+RefusesOrForks refuses takes fault = refuses fault ⊎ takes (By Parallel)

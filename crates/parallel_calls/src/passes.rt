@@ -13,7 +13,7 @@ use std::num::NonZeroUsize;
 use std::thread::Threads;
 
 /// Which items a value of a scan takes in.
-#[derive(Clone, Copy, Debug, PartialEq, Eq)]
+#[derive(Clone, Copy)]
 pub enum Form {
     /// Those up to its place.
     Inclusive,
@@ -25,7 +25,8 @@ pub enum Form {
 ///
 /// # Errors
 ///
-/// `Fault::Memory` if an allocation fails; the items are then as they were.
+/// `Fault::Memory` if an allocation fails, of which one thread makes none; the items are then as
+/// they were.
 pub fn scan_items<Rt: Threads + Sync, T: Copy + Send + Sync, G: Fn(T, T) -> T + Sync>(
     rt: &Rt,
     alloc: Global,
@@ -36,6 +37,7 @@ pub fn scan_items<Rt: Threads + Sync, T: Copy + Send + Sync, G: Fn(T, T) -> T + 
     requires { G.IsAlwaysCallable op.now }
     ensures scanned { OnOk result (IsInclusiveScan (G.post op.now) items.old items.new) }
     ensures unchanged { IfErr result (λ _. items.new ≡ items.old) }
+    ensures several { IfErr result (λ _. 1 < non_zero_usize_get threads) }
     ensures fault { IsMemoryOnErr result }
 {
     if items.is_empty() {
@@ -51,7 +53,8 @@ pub fn scan_items<Rt: Threads + Sync, T: Copy + Send + Sync, G: Fn(T, T) -> T + 
 ///
 /// # Errors
 ///
-/// `Fault::Memory` if an allocation fails; the items are then as they were.
+/// `Fault::Memory` if an allocation fails, of which one thread makes none; the items are then as
+/// they were.
 pub fn scan_from<Rt: Threads + Sync, T: Copy + Send + Sync, G: Fn(T, T) -> T + Sync>(
     rt: &Rt,
     alloc: Global,
@@ -64,13 +67,14 @@ pub fn scan_from<Rt: Threads + Sync, T: Copy + Send + Sync, G: Fn(T, T) -> T + S
     requires { G.IsAlwaysCallable op.now }
     ensures scanned { OnOk result (IsScanFrom (G.post op.now) start form items.old items.new) }
     ensures unchanged { IfErr result (λ _. items.new ≡ items.old) }
+    ensures several { IfErr result (λ _. 1 < non_zero_usize_get threads) }
     ensures fault { IsMemoryOnErr result }
 {
     let Some(len) = NonZeroUsize::new(items.len()) else {
         return Ok(());
     };
     let size = len.div_ceil(threads);
-    if size >= len {
+    if size.get() >= items.len() {
         in_turn(form, start, items, op);
         return Ok(());
     }

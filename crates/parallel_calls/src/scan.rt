@@ -1,6 +1,7 @@
 //! Scans: the items up to each place, or before each place, put together.
 ghost use Rattle.std.specs.Prelude.{◌≡◌, IfErr, IfOk, OnOk, length};
-ghost use Rattle.commonware_parallel.specs.Words.{Asked, GivesSome, IsMemoryOnErr, body_call};
+ghost use Rattle.commonware_parallel.specs.Words.{Asked, GivesSome, IsMemoryOnErr, body_call, non_zero_usize_get};
+ghost use Rattle.parallel_calls.specs.OnePlace.{RefusesOrForks};
 ghost use Rattle.parallel_calls.specs.Reductions.{IsAssociative};
 ghost use Rattle.parallel_calls.specs.Scans.{IsExclusiveScan, IsInclusiveScan, exclusive_scan_of, inclusive_scan_of};
 
@@ -22,7 +23,8 @@ impl<'s, Rt: Threads + Wait + Sync, S: Strategy, P: Place> On<'s, Rt, S, P> {
     ///
     /// # Errors
     ///
-    /// `Fault::Memory` if an allocation fails; the items are then as they were.
+    /// `Fault::Memory`, where the strategy refuses the call, or where it may go in parallel and the
+    /// chunks' totals find no memory (`RefusesOrForks`); the items are then as they were.
     pub fn inclusive_scan_in_place<T: Copy + Send + Sync, G: Fn(T, T) -> T + Send + Sync + Drop>(
         &self,
         items: &mut [T],
@@ -35,6 +37,11 @@ impl<'s, Rt: Threads + Wait + Sync, S: Strategy, P: Place> On<'s, Rt, S, P> {
         ensures unchanged { IfErr result (λ _. items.new ≡ items.old) }
         ensures asked { OnOk result (Asked (S.takes self.now.strategy.now
             (P.site_of self.now.site) (body_call (length items.old)))) }
+        ensures refused { IfErr result (RefusesOrForks
+            (S.refuses self.now.strategy.now (P.site_of self.now.site)
+            (body_call (length items.old)))
+            (S.takes self.now.strategy.now (P.site_of self.now.site)
+            (body_call (length items.old)))) }
         ensures fault { IsMemoryOnErr result }
     {
         let call = Call::body(items.len());
@@ -51,7 +58,8 @@ impl<'s, Rt: Threads + Wait + Sync, S: Strategy, P: Place> On<'s, Rt, S, P> {
     ///
     /// # Errors
     ///
-    /// `Fault::Memory` if an allocation fails; the items are then as they were.
+    /// `Fault::Memory`, where the strategy refuses the call, or where it may go in parallel and the
+    /// chunks' totals find no memory (`RefusesOrForks`); the items are then as they were.
     pub fn exclusive_scan_in_place<T: Copy + Send + Sync, G: Fn(T, T) -> T + Send + Sync + Drop>(
         &self,
         items: &mut [T],
@@ -65,6 +73,11 @@ impl<'s, Rt: Threads + Wait + Sync, S: Strategy, P: Place> On<'s, Rt, S, P> {
         ensures unchanged { IfErr result (λ _. items.new ≡ items.old) }
         ensures asked { OnOk result (Asked (S.takes self.now.strategy.now
             (P.site_of self.now.site) (body_call (length items.old)))) }
+        ensures refused { IfErr result (RefusesOrForks
+            (S.refuses self.now.strategy.now (P.site_of self.now.site)
+            (body_call (length items.old)))
+            (S.takes self.now.strategy.now (P.site_of self.now.site)
+            (body_call (length items.old)))) }
         ensures fault { IsMemoryOnErr result }
     {
         let call = Call::body(items.len());
@@ -140,7 +153,9 @@ impl<'s, Rt: Threads + Wait + Sync, S: Strategy, P: Place> On<'s, Rt, S, P> {
 }
 
 // How many threads a scan has by that path.
-fn threads_by<S: Strategy>(strategy: &S, path: Path) -> NonZeroUsize {
+fn threads_by<S: Strategy>(strategy: &S, path: Path) -> NonZeroUsize
+    ensures { path ≡ Path.Serial → non_zero_usize_get result ≡ 1 }
+{
     match path {
         Path::Serial => NonZeroUsize::MIN,
         Path::Parallel => strategy.thread_number(),
