@@ -6,7 +6,7 @@ use crate::tiles::{Tiling, sum_of_tiles};
 use crate::ways::{Answer, Items};
 use crate::work::{
     add, add_counted, add_heavy, add_rising, ascending, combined, combined_heavily, heavy, light,
-    parted_heavily, parted_lightly, rising, try_heavy, try_light, zero,
+    parted_heavily, parted_lightly, rising, same, try_heavy, try_light, zero,
 };
 use commonware_parallel::{
     Copies, Counted, Fault, Runtime, Site, Source, Strategy, Trouble, merkle,
@@ -73,13 +73,12 @@ fn by_slice<Rt: Runtime, S: Strategy>(
             merkle::root(rt, alloc, strategy, SITE, leaves, combined_heavily)?.unwrap_or(0)
         }
         Case::BlocksLight => {
-            let leaves = items.iter().copied().collect(alloc)?;
-            merkle::root_by_blocks(rt, alloc, strategy, SITE, leaves, combined)?.unwrap_or(0)
+            let leaves = Copies { slice: items };
+            merkle::root_of_leaves(rt, alloc, strategy, SITE, leaves, same, combined)?.unwrap_or(0)
         }
         Case::BlocksHeavy => {
-            let leaves = items.iter().copied().collect(alloc)?;
-            let node = combined_heavily;
-            merkle::root_by_blocks(rt, alloc, strategy, SITE, leaves, node)?.unwrap_or(0)
+            let (leaves, node) = (Copies { slice: items }, combined_heavily);
+            merkle::root_of_leaves(rt, alloc, strategy, SITE, leaves, same, node)?.unwrap_or(0)
         }
         Case::RowsAbove => bytes_above(rt, alloc, strategy, extras.bytes)?,
         Case::Digests => first_mismatch(rt, alloc, strategy, extras)? as u64,

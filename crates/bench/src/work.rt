@@ -136,6 +136,11 @@ pub fn is_even_at(item: &u64) -> bool {
     is_even(*item)
 }
 
+/// The leaf of an item.
+pub fn same(item: u64) -> u64 {
+    item
+}
+
 /// The node above two neighbours of a tree, in a few nanoseconds.
 pub fn combined(left: u64, right: u64) -> u64 {
     (2 * (left % MODULUS) + 3 * (right % MODULUS)) % MODULUS
