@@ -1,6 +1,6 @@
 //! A scan from a start, in one pass on the caller's thread, or in three of which the long ones go
 //! side by side: the total of each chunk, what stands before each chunk, and the chunks.
-ghost use Rattle.std.specs.Prelude.{◌≡◌, ◌*◌, ◌+◌, ◌/◌, ◌<◌, ◌^◌, ◌∷◌, ℕ, IfErr, IfOk, OnOk, length, slice_index_or, take};
+ghost use Rattle.std.specs.Prelude.{◌≡◌, ◌*◌, ◌/◌, ◌<◌, ◌∷◌, ℕ, IfErr, IfOk, OnOk, length, slice_index_or, take};
 ghost use Rattle.std.specs.Fork.{slice_chunk};
 ghost use Rattle.commonware_parallel.specs.Words.{IsMemoryOnErr, div_ceil, non_zero_usize_get};
 ghost use Rattle.parallel_calls.specs.Reductions.{Reduces};
