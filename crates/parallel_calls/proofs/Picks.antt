@@ -1,6 +1,6 @@
 -- The item that takes the place of each before it, and whose place none after it takes.
 use Rattle.std.proofs.Common.{◌≡◌, List, [], ◌∷◌, ◌++◌, append_assoc, append-nil, Option, Some, None, Bool, true, false, not, cond}
-use Rattle.std.proofs.Common.{refl, sym, ◌∙◌, ap, subst, inl, inr, Bor}
+use Rattle.std.proofs.Common.{refl, sym, ◌∙◌, ap, subst, ◌⊎◌, inl, inr, Bor}
 use Rattle.std.specs.List.{All}
 use Rattle.parallel_bridge.specs.Comes.{Comes, comes_within}
 use Rattle.parallel_bridge.specs.Lists.{Bracketing}
@@ -122,6 +122,14 @@ module _ {X : Type 0} (wins : X → X → Bool) (laws : Wins wins) where
       (pick_joins ys (x ∷ []) a (Some x) h (pick_of_one x)))
       (λ ys zs p q s h h' one. subst (PickOf wins (ys ++ zs)) (sym (reduces p q s one))
       (pick_joins ys zs p q h h')) brackets
+
+-- a closure that takes two, in either order, takes them so
+pub accepts_either : {X : Type 0} (accepts : Bor X → Bor X → Type 0) (first second : Option X)
+    → AcceptsTwo accepts first second → (one other : Bor X)
+    → ((first ≡ Some one.now) × (second ≡ Some other.now))
+    ⊎ ((first ≡ Some other.now) × (second ≡ Some one.now)) → accepts one other
+accepts_either accepts first second takes one other (inl are) = (takes one other are.0 are.1).0
+accepts_either accepts first second takes one other (inr are) = (takes other one are.0 are.1).1
 
 -- what a pick of items that may come may meet
 module _ {X : Type 0} (may : X → Type 0) where

@@ -1,10 +1,11 @@
 -- The test says which of two wins.
-use Rattle.std.proofs.Common.{◌∙◌, refl}
-use Rattle.parallel_calls.proofs.Picks.{picks_earlier, picks_later}
+use Rattle.std.proofs.Common.{rules, ◌∙◌, refl}
+use Rattle.parallel_calls.proofs.Picks.{accepts_either, picks_earlier, picks_later}
 use Rattle.parallel_calls.proofs.extremes.of_two.Goals as goal
 
 pub compare-requires : goal.compare-requires
-compare-requires g c = (c.requires _ _ c.in-Some.is c.in-Some-second.is).1
+compare-requires g c = accepts_either (λ a b. goal.C-pre g c.args.compare.now a b) c.args.first
+    c.args.second c.requires _ _ (search rules)
 
 pub returns-then-wins-clause-picks : goal.returns-then-wins-clause-picks
 returns-then-wins-clause-picks g c lt says = picks_later c.args.is_least lt _ _ c.in-Some.earlier

@@ -1,5 +1,5 @@
 -- The test answers whether its number is even, and a slice has fewer than 2 to the power of 64.
-use Rattle.std.proofs.Common.{rules, ℕ, ◌≡◌, ◌%◌, ◌<◌, ◌^◌, length, IfOk}
+use Rattle.std.proofs.Common.{rules, ℕ, ◌≡◌, ◌%◌, ◌<◌, ◌^◌, length}
 use Rattle.std.specs.Prelude.{◌==◌, count_by}
 use Rattle.std.proofs.lemmas.Result.{IfOk-weaker}
 use Rattle.parallel_bridge.proofs.OverLists.{fact_of_list}

@@ -1,5 +1,5 @@
 -- The greater of two numbers, of which 0 is the least.
-use Rattle.std.proofs.Common.{rules, arith, ℕ, ◌≡◌, max, fold}
+use Rattle.std.proofs.Common.{rules, arith, ◌≡◌, max, fold}
 use Rattle.std.specs.Prelude.{true}
 use Rattle.parallel_bridge.proofs.OverLists.{fact_of_list}
 use Rattle.uses.proofs.ready.greatest.Goals as goal
