@@ -4,7 +4,7 @@ pub use Rattle.commonware_parallel.specs.Answers.{UnlessFaulty, flat_outcome}
 pub use Rattle.commonware_parallel.specs.Batches.{IsBatch, OnSomeBatch, place_of, ranges_of, strategy_of}
 pub use Rattle.commonware_parallel.specs.Calls.{AtSomePath, IsInnerOf, batches_call, body_call, multiplied_call, nth_path, tiles_call}
 pub use Rattle.commonware_parallel.specs.Chains.{Chains, WholeRows, more_chains, no_chain}
-pub use Rattle.commonware_parallel.specs.MergedRows.{FillsSome, FillsStretches, Follows, IsThere, IsValueOf, Joins, MergesRows, MergesTo, Names, Placed, RespectsCuts, RowValues, TilesRow, results_in, stretches_in, wrapped_place}
+pub use Rattle.commonware_parallel.specs.MergedRows.{FillsSome, FillsStretches, Follows, IsThere, Joins, MergesRows, MergesTo, Names, Placed, RowValues, TilesRow, results_in, stretches_in, wrapped_place}
 pub use Rattle.commonware_parallel.specs.Merkle.{IsDetermined, MerkleRoot, NextLevel, RootOf, of_level, of_none, of_one}
 pub use Rattle.commonware_parallel.specs.Mixes.{mixed_all, mixed_in}
 pub use Rattle.commonware_parallel.specs.Rectangles.{CutsRectangle, IsWholeRow, has_cell, whole_row, whole_rows}

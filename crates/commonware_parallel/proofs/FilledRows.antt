@@ -1,5 +1,5 @@
 -- Chains of fills and finishes, one after another.
-use Rattle.commonware_parallel.proofs.Common.{◌≡◌, ◌≢◌, ℕ, zero, suc, ◌+◌, ◌<◌, List, [], ◌∷◌, ◌++◌, refl, sym, ap, subst, ◌∙◌, add-one, arith, Range, Stretch, Filled, no_fill, last_fill, Finished, WholeRows}
+use Rattle.commonware_parallel.proofs.Common.{◌≡◌, ◌≢◌, ℕ, zero, suc, ◌<◌, List, [], ◌∷◌, ◌++◌, refl, sym, ap, subst, ◌∙◌, add-one, arith, Range, Stretch, Filled, no_fill, last_fill, Finished, WholeRows}
 use Rattle.commonware_parallel.proofs.Common.{whole_row, whole_rows, finished_append}
 use Rattle.std.proofs.lemmas.List.FromFn.{map-range_with_len_more}
 

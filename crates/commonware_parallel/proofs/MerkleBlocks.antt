@@ -1,6 +1,6 @@
 -- Levels of a tree by blocks of its leaves.
 use Rattle.commonware_parallel.proofs.Common.{ℕ, zero, suc, IfOk, Ok, Err, Result, ◌+◌, ◌-◌, ◌*◌, ◌/◌, ◌<◌, ◌≤◌, ◌≡◌, ◌++◌, ◌∷◌, [], List, Option, length, refl, sym, ◌∙◌, ap, subst, arith}
-use Rattle.commonware_parallel.proofs.Common.{append_assoc, length-append, add-mul, mul-add, one-mul, zero-mul, MapOf}
+use Rattle.commonware_parallel.proofs.Common.{append_assoc, length-append, add-mul, mul-add, one-mul, zero-mul}
 use Rattle.commonware_parallel.proofs.Common.{AreBlocks, AreTops, AreTopsOf, ComesDown, HasGiven, Levels, MerkleRoot, NextLevel, leaves_below, of_level}
 use denote.RattleType.{RattleType}
 use Rattle.parallel_bridge.proofs.Shapes.{MapOf-append}
@@ -21,15 +21,6 @@ half_below size half zero more is at = absurd (omega (arith, more, at))
 half_below size half (suc lower) more is at =
     let same : half ≡ leaves_below lower = omega (arith, is, at) in
     (lower, refl, same, omega (arith, same, at))
-
--- each item is its own leaf where a leaf is the item
-pub same_leaves : {T : Type 0} (same : T → T → Type 0)
-    → ((x y : T) → same x y → y ≡ x) → (xs ys : List T) → MapOf same xs ys → ys ≡ xs
-same_leaves same told [] [] h = refl
-same_leaves same told [] (y ∷ ys) h = absurd h
-same_leaves same told (x ∷ xs) [] h = absurd h
-same_leaves same told (x ∷ xs) (y ∷ ys) h =
-    ap (λ v. v ∷ ys) (told x y h.0) ∙ ap (λ l. x ∷ l) (same_leaves same told xs ys h.1)
 
 -- fewer places fit where more do
 pub fits_fewer : (R : RattleType) (all few : ℕ) → few ≤ all → FitsInBlock R all

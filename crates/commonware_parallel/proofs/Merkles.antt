@@ -1,7 +1,22 @@
 -- Levels of a tree and their root.
 use Rattle.commonware_parallel.proofs.Common.{◌≡◌, ℕ, ◌+◌, ◌<◌, ◌≤◌, List, [], ◌∷◌, ◌++◌, length, Option, Some, None, refl, sym, ◌∙◌, ap, subst, arith, append_assoc, append-nil, length-append}
 use Rattle.commonware_parallel.proofs.Common.{nil_from_length, MatchOption, option_to_list, MapOf, IsDetermined, MerkleRoot, NextLevel, of_none, of_one, of_level}
+use Rattle.commonware_parallel.proofs.Common.{into_iter_items, into_iter_len}
+use Rattle.parallel_bridge.proofs.IteratorItems.{came_as_it_is}
+use Rattle.parallel_bridge.proofs.Shapes.{MapOf-append}
+use Rattle.std.proofs.lemmas.Iterator.Adapters.{YieldsList-from_vec}
+use Rattle.std.specs.Iterator.{Drains}
+use Rattle.std.specs.Vec.Iter.{into_iter_steps}
 use Rattle.parallel_bridge.specs.Pairs.{odd_of, pairs_of}
+
+-- each item is its own leaf where a leaf is the item
+pub same_leaves : {T : Type 0} (same : T → T → Type 0)
+    → ((x y : T) → same x y → y ≡ x) → (xs ys : List T) → MapOf same xs ys → ys ≡ xs
+same_leaves same told [] [] h = refl
+same_leaves same told [] (y ∷ ys) h = absurd h
+same_leaves same told (x ∷ xs) [] h = absurd h
+same_leaves same told (x ∷ xs) (y ∷ ys) h =
+    ap (λ v. v ∷ ys) (told x y h.0) ∙ ap (λ l. x ∷ l) (same_leaves same told xs ys h.1)
 
 module _ {T : Type 0} (combine : T → T → T → Type 0) where
   -- the next level is no longer, and of two nodes and more it is shorter
@@ -37,33 +52,6 @@ module _ {T : Type 0} (combine : T → T → T → Type 0) where
       let none : length rest ≡ 0 = omega (arith, long, few, long_of) in
       subst (λ l. MerkleRoot combine l (Some x))
       (sym (split ∙ ap (λ l. l ++ x ∷ []) (nil_from_length rest none))) of_one
-
-  -- whatever next level what is left has, after what is done it is that of all
-  abbrev pub Leads : List T → List T → List T → Type 0
-  Leads all done left = (more : List T) → NextLevel combine left more
-      → NextLevel combine all (done ++ more)
-
-  pub leads_start : (all done xs : List T) → done ≡ [] → xs ≡ all → Leads all done xs
-  leads_start all done xs none same more h = subst (λ l. NextLevel combine all (l ++ more))
-      (sym none) (subst (λ l. NextLevel combine l more) same h)
-
-  pub leads_pair : (all done xs ys zs : List T) (x y node : T) → Leads all done xs → xs ≡ x ∷ ys
-      → ys ≡ y ∷ zs → combine x y node → Leads all (done ++ node ∷ []) zs
-  leads_pair all done xs ys zs x y node leads first second made more h =
-      subst (NextLevel combine all) (sym (append_assoc done (node ∷ []) more))
-      (leads (node ∷ more) (subst (λ l. NextLevel combine l (node ∷ more))
-      (sym (first ∙ ap (λ l. x ∷ l) second)) (made, h)))
-
-  pub leads_odd : (all done xs ys : List T) (x : T) → Leads all done xs → xs ≡ x ∷ ys
-      → length ys ≡ 0 → NextLevel combine all (done ++ x ∷ [])
-  leads_odd all done xs ys x leads first none =
-      leads (x ∷ []) (subst (λ l. NextLevel combine l (x ∷ []))
-      (sym (first ∙ ap (λ l. x ∷ l) (nil_from_length ys none))) refl)
-
-  pub leads_none : (all done xs : List T) → Leads all done xs → length xs ≡ 0
-      → NextLevel combine all done
-  leads_none all done xs leads none = subst (NextLevel combine all) (append-nil done)
-      (leads [] (subst (λ l. NextLevel combine l []) (sym (nil_from_length xs none)) refl))
 
   -- results for the pairs, and after them the odd last one, are the next level
   pub level_of_pairs : (allowed : T × T → T → Type 0)
@@ -109,3 +97,72 @@ module _ {T : Type 0} (combine : T → T → T → Type 0) where
         (of_level {nodes = ns} k q) =
         one_root ms one other p
         (subst (λ l. MerkleRoot combine l other) (one_next (x ∷ (y ∷ rest)) ns ms k h) q)
+
+-- The level above the leaves of items that come one by one.
+module _ {X T : Type 0} (leaf : X → T → Type 0) (combine : T → T → T → Type 0) where
+  -- Of the items so far all leaves are below the nodes but an odd last one: whatever next level
+  -- that has with the leaves to come, after the nodes it is that of all leaves.
+  abbrev pub LevelSoFar : List X → List T → Option T → Type 0
+  LevelSoFar xs nodes odd = (leaves : List T) × MapOf leaf xs leaves
+      × ((more above : List T) → NextLevel combine (option_to_list odd ++ more) above
+      → NextLevel combine (leaves ++ more) (nodes ++ above))
+
+  pub level_start : (nodes : List T) → nodes ≡ [] → LevelSoFar [] nodes None
+  level_start nodes none = (
+    [],
+    tt,
+    λ more above h. subst (λ l. NextLevel combine more (l ++ above)) (sym none) h,
+  )
+
+  -- one more leaf, without a partner
+  pub level_odd : (xs : List X) (x : X) (nodes : List T) (y : T) → leaf x y
+      → LevelSoFar xs nodes None → LevelSoFar (xs ++ x ∷ []) nodes (Some y)
+  level_odd xs x nodes y made (ls, maps, leads) = (
+    ls ++ y ∷ [],
+    MapOf-append leaf xs (x ∷ []) ls (y ∷ []) maps (made, tt),
+    λ more above h. subst (λ l. NextLevel combine l (nodes ++ above))
+        (sym (append_assoc ls (y ∷ []) more)) (leads (y ∷ more) above h),
+  )
+
+  -- one more leaf, the partner of the odd one
+  pub level_pair : (xs : List X) (x : X) (nodes then : List T) (l y node : T) → leaf x y
+      → combine l y node → then ≡ nodes ++ node ∷ [] → LevelSoFar xs nodes (Some l)
+      → LevelSoFar (xs ++ x ∷ []) then None
+  level_pair xs x nodes then l y node made combined grown (ls, maps, leads) = (
+    ls ++ y ∷ [],
+    MapOf-append leaf xs (x ∷ []) ls (y ∷ []) maps (made, tt),
+    λ more above h. subst (λ t. NextLevel combine ((ls ++ y ∷ []) ++ more) (t ++ above))
+        (sym grown)
+        (subst (λ t. NextLevel combine t ((nodes ++ node ∷ []) ++ above))
+        (sym (append_assoc ls (y ∷ []) more))
+        (subst (NextLevel combine (ls ++ y ∷ more)) (sym (append_assoc nodes (node ∷ []) above))
+        (leads (y ∷ more) (node ∷ above) (combined, h)))),
+  )
+
+  -- all items came
+  pub level_done : (xs : List X) (nodes all : List T) (odd : Option T)
+      → all ≡ nodes ++ option_to_list odd → LevelSoFar xs nodes odd
+      → (leaves : List T) × MapOf leaf xs leaves × NextLevel combine leaves all
+  level_done xs nodes all None grown (ls, maps, leads) = (
+    ls,
+    maps,
+    subst (NextLevel combine ls) (sym grown)
+        (subst (λ l. NextLevel combine l (nodes ++ [])) (append-nil ls) (leads [] [] refl)),
+  )
+  level_done xs nodes all (Some l) grown (ls, maps, leads) = (
+    ls,
+    maps,
+    subst (NextLevel combine ls) (sym grown)
+        (subst (λ t. NextLevel combine t (nodes ++ l ∷ [])) (append-nil ls)
+        (leads [] (l ∷ []) refl)),
+  )
+
+-- the level above the items of a list, which are their own leaves
+pub level_of_vec : {T Z : Type 0} (same : T → T → Type 0) (combine : T → T → T → Type 0)
+    (level nodes : List T) (s : _) → ((x y : T) → same x y → y ≡ x)
+    → into_iter_items s ≡ level → into_iter_len s ≡ length level
+    → ((xs : List T) × Drains (into_iter_steps {X = T} {Z = Z}) s xs × ((leaves : List T) × MapOf same xs leaves
+    × NextLevel combine leaves nodes)) → NextLevel combine level nodes
+level_of_vec same combine level nodes s told rest long (xs, came, (ls, maps, next)) =
+    subst (λ l. NextLevel combine l nodes) (same_leaves same told xs ls maps
+    ∙ came_as_it_is xs came (YieldsList-from_vec level rest long)) next

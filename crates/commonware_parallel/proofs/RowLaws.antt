@@ -1,11 +1,10 @@
 -- What holds of the results of a row's stretches, and of results that are merged, holds of the
 -- row's value.
-use Rattle.commonware_parallel.proofs.Common.{◌≡◌, ℕ, zero, suc, ◌+◌, ◌<◌, ◌≤◌, List, [], ◌∷◌, ◌++◌, All, map, add-one, ap, subst, ◌∙◌, arith, AllZip, FoldsTo, range_with_len, All-head, All-tail}
-use Rattle.commonware_parallel.proofs.Common.{All-permutation, Stretch, stretches_in, results_in, MergesTo, TilesRow, RowValues, MergesRows, RespectsCuts, IsValueOf}
+use Rattle.commonware_parallel.proofs.Common.{◌≡◌, ℕ, zero, suc, ◌+◌, ◌<◌, ◌≤◌, List, [], ◌∷◌, ◌++◌, All, add-one, ap, subst, ◌∙◌, arith, AllZip, FoldsTo, range_with_len, All-head, All-tail}
+use Rattle.commonware_parallel.proofs.Common.{All-permutation, Stretch, stretches_in, results_in, MergesTo, TilesRow, RowValues, MergesRows}
 use Rattle.commonware_parallel.proofs.NamedResults.{All-front, All-back}
 use Rattle.parallel_bridge.proofs.Shapes.{MapOf-append}
 use Rattle.parallel_shares.proofs.Stretching.{numbers_cut}
-use Rattle.std.proofs.lemmas.Slice.Zip.{AllZip-map}
 
 -- stretches that tile columns don't end before they begin
 tiles_up : (row a b : ℕ) (ss : List Stretch) → TilesRow row a b ss → a ≤ b
@@ -80,16 +79,3 @@ module _ {R : Type 0} (merge : R → R → R → Type 0) (rows len : ℕ) (holds
   merged_hold parts values all (ordered, moved, done) =
       rows_values rows ordered values (omega arith)
       (All-permutation Holds parts ordered moved all) done
-
--- where merge respects cuts, each row has one value
-pub one_value : {R : Type 0} (merge : R → R → R → Type 0) (rows len : ℕ) (value : ℕ → ℕ → ℕ → R)
-    → RespectsCuts merge rows len value → (parts : List (Stretch × R)) (values : List R)
-    → All (IsValueOf value) parts → MergesRows merge rows len parts values
-    → values ≡ map (λ row. value row 0 len) (range_with_len 0 rows)
-one_value {R} merge rows len value respects parts values all merged =
-    AllZip-map (λ row. value row 0 len) (range_with_len 0 rows) values
-    (merged_hold merge rows len (λ row a b v. v ≡ value row a b)
-    (λ row a b c left right v there low high below one two is. respects row a b c v there low high
-    below (subst (λ l. merge l (value row b c) v) one
-    (subst (λ r. merge left r v) two is)))
-    parts values all merged)

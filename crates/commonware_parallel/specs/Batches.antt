@@ -25,14 +25,14 @@ abbrev pub IsBatch : ℕ → ℕ → ℕ → List (Range ℕ) → Type 0
 IsBatch len count minimum ranges = BalancedCut len ranges × (length ranges ≡ count)
     × (2 ≤ length ranges → All (λ range. minimum ≤ range_length range) ranges)
 
--- the strategy that the parts of a batch go through, and the place of its call
+-- the strategy that the parts of a batch go through, and its call site
 abbrev pub strategy_of : {S P : Type 0} → Batches S P → S
 strategy_of batches = batches.strategy.now
 
 abbrev pub place_of : {S P : Type 0} → Batches S P → P
 place_of batches = batches.site
 
--- the batch of one range that has all indices below len, through the strategy and with the place
+-- the batch of one range that has all indices below len, through the strategy and with the site
 abbrev pub IsWholeBatch : {S P : Type 0} → S → P → ℕ → Batches S P → Type 0
 IsWholeBatch strategy place len batches =
     (ranges_of batches ≡ record { start = 0; end = len } ∷ [])
@@ -40,7 +40,7 @@ IsWholeBatch strategy place len batches =
 
 -- What a batch call may return: for some number of parts that the strategy may take for its
 -- `batches_call`, `allowed` holds of a batch of that many ranges (`IsBatch`), over an inner
--- strategy (`IsInnerOf`) and with the call's place.
+-- strategy (`IsInnerOf`) and with the call's site.
 abbrev pub OnSomeBatch : {S P : Type 0} (takes : S → Site → Call → Pick → Type 0)
     (refuses : S → Site → Call → Fault → Type 0) (plans threads : S → ℕ) (starts : S → Bool)
     (site_of : P → Site) (strategy : S) (place : P) (len : ℕ) (minimum : NonZeroUsize)
@@ -56,7 +56,7 @@ OnSomeBatch takes refuses plans threads starts site_of strategy place len minimu
     × IsInnerOf takes refuses plans threads starts strategy (strategy_of batches)
     × (place_of batches ≡ place) × allowed batches
 
--- a refusal of what prepares the items, or want of memory after items that were prepared
+-- a refusal of what prepares the items, or no memory after items that were prepared
 abbrev pub FailsPrepared : {X : Type 0} → (Result X Fault → Type 0) → Fault → Type 0
 FailsPrepared {X = X} prepares fault = ((fault ≡ Memory) × (items : X) × prepares (Ok items))
     ⊎ prepares (Err fault)

@@ -1,6 +1,6 @@
 -- results of stretches that are merged row by row
-use Rattle.std.specs.Prelude.{◌≡◌, ◌≢◌, ℕ, zero, suc, ◌+◌, ◌*◌, ◌%◌, ◌^◌, ◌<◌, ◌≤◌, Bool, true, List, [], ◌∷◌, ◌++◌, Option, Some, None, All, map}
-use Rattle.std.specs.List.{FoldsTo, range_with_len}
+use Rattle.std.specs.Prelude.{◌≡◌, ◌≢◌, ℕ, zero, suc, ◌+◌, ◌*◌, ◌%◌, ◌^◌, ◌<◌, Bool, true, List, [], ◌∷◌, ◌++◌, Option, Some, None, All, map}
+use Rattle.std.specs.List.{FoldsTo}
 use Rattle.std.specs.List.Sorted.{IsPermutation}
 use Rattle.std.specs.declared.ops.Range.{Range}
 use Rattle.parallel_shares.specs.declared.shares.stretch.Stretch.{Stretch}
@@ -61,16 +61,6 @@ abbrev pub FillsCut : {T R : Type 0} → (T → Type 0) → (T → ℕ → Range
     → (T → ℕ → R → T → Type 0) → ℕ → ℕ → Bool → List R → Type 0
 FillsCut init fill finish = FillsSome init fill (λ s x. finish s x.row)
 
--- There are stretches with their results. The stretches cut the grid, into whole rows if rows stay
--- whole, and the results come from chains over them; and the values are the results merged row by
--- row: in order, the stretches tile each row from left to right, and a row's value is its results
--- merged (`MergesTo`).
-abbrev pub FillsRows : {T R : Type 0} → (T → Type 0) → (T → ℕ → Range ℕ → T → Type 0)
-    → (T → ℕ → R → T → Type 0) → (R → R → R → Type 0) → ℕ → ℕ → Bool → List R → Type 0
-FillsRows {R = R} init fill finish merge rows len whole values = (parts : List (Stretch × R))
-    × FillsStretches init fill (λ s x. finish s x.row) rows len whole (stretches_in parts)
-    (results_in parts) × MergesRows merge rows len parts values
-
 -- what ends a stretch gives it with its result
 abbrev pub Names : {T R : Type 0} → (T → Stretch → R → T → Type 0) → T → Stretch → Stretch × R → T
     → Type 0
@@ -106,21 +96,3 @@ abbrev pub Placed : {R : Type 0} → ℕ → ℕ → R → List R → List R →
 Placed len end value before after held =
     (end ≡ len → (after ≡ before ++ value ∷ []) × (held ≡ None))
     × (end ≢ len → (after ≡ before) × (held ≡ Some value))
-
--- ---- one value for each row
-
--- merge makes of the values of neighbouring columns the value of both
-abbrev pub RespectsCuts : {R : Type 0} → (R → R → R → Type 0) → ℕ → ℕ → (ℕ → ℕ → ℕ → R) → Type 0
-RespectsCuts {R = R} merge rows len value = (row a b c : ℕ) (r : R) → row < rows → a < b → b < c
-    → c ≤ len → merge (value row a b) (value row b c) r → r ≡ value row a c
-
--- a result is the value of the columns of its stretch
-abbrev pub IsValueOf : {R : Type 0} → (ℕ → ℕ → ℕ → R) → Stretch × R → Type 0
-IsValueOf value part = part.1 ≡ value part.0.row part.0.columns.start part.0.columns.end
-
--- where each result is the value of its stretch's columns, each row's merged value is that of all
--- its columns
-abbrev pub MergesToValues : {R : Type 0} → (R → R → R → Type 0) → ℕ → ℕ → (ℕ → ℕ → ℕ → R) → Type 0
-MergesToValues {R = R} merge rows len value = (parts : List (Stretch × R)) (values : List R)
-    → All (IsValueOf value) parts → MergesRows merge rows len parts values
-    → values ≡ map (λ row. value row 0 len) (range_with_len 0 rows)

@@ -1,19 +1,17 @@
 -- what tiles are planned for
 use Rattle.std.specs.Prelude.{◌≡◌, ◌≢◌, ℕ, ◌<◌, ◌≤◌, Bool, List, HoldsAt}
-use Rattle.std.specs.declared.ops.Range.{Range}
 use Rattle.std.specs.Int.NonZero.{non_zero_usize_get}
 use Rattle.parallel_shares.specs.declared.grid.Grid.{Grid}
 use Rattle.parallel_shares.specs.Grid.{IsChosenGrid, critical_cost, stays_whole}
 use Rattle.parallel_fault.specs.declared.fault.Fault.{Fault}
 use Rattle.parallel_policy.specs.declared.Site.{Site}
 use Rattle.commonware_parallel.specs.Calls.{IsInnerOf, tiles_call}
-use Rattle.commonware_parallel.specs.MergedRows.{FillsRows}
 use Rattle.commonware_parallel.specs.declared.call.Call.{Call}
 use Rattle.commonware_parallel.specs.declared.call.Pick.{Pick}
 use Rattle.commonware_parallel.specs.declared.call.Pick.TheVariants.{Into}
 use Rattle.commonware_parallel.specs.declared.tiles.Tiles.{Tiles}
 
--- the place of the grid in the list that was handed in
+-- the index of the grid in the list that was handed in
 abbrev pub grid_of : {S P : Type 0} → Tiles S P → ℕ
 grid_of tiles = tiles.grid
 
@@ -32,7 +30,7 @@ workers_of tiles = non_zero_usize_get tiles.workers
 abbrev pub keeps_rows : {S P : Type 0} → Tiles S P → Bool
 keeps_rows tiles = tiles.whole
 
--- the strategy that the tiles go through, and the place of their call
+-- the strategy that the tiles go through, and their call site
 abbrev pub tiles_strategy : {S P : Type 0} → Tiles S P → S
 tiles_strategy tiles = tiles.strategy.now
 
@@ -54,7 +52,7 @@ abbrev pub IsSerialCost : List Grid → ℕ → ℕ → Type 0
 IsSerialCost grids len cost = (index : ℕ) × IsChosenGrid grids len 1 index
     × HoldsAt (λ grid. cost ≡ critical_cost grid len 1) grids index
 
--- tiles of the grid of least cost for one worker, through the strategy and with the place
+-- tiles of the grid of least cost for one worker, through the strategy and with the site
 abbrev pub IsSerialTiling : {S P : Type 0} → S → P → List Grid → ℕ → Tiles S P → Type 0
 IsSerialTiling strategy place grids len tiles = IsTiling grids len 1 tiles
     × (tiles_strategy tiles ≡ strategy) × (tiles_place tiles ≡ place)
@@ -78,9 +76,3 @@ OnSomeTiles takes refuses plans threads starts site_of strategy place grids len 
 -- a fact, where the tiles are planned for one worker and have cells
 abbrev pub IfSerialTiles : {S P : Type 0} → Tiles S P → Type 0 → Type 0
 IfSerialTiles tiles fact = workers_of tiles ≡ 1 → rows_of tiles ≢ 0 → columns_of tiles ≢ 0 → fact
-
--- the values of the rows of the tiles' grid
-abbrev pub FillsTiles : {S P T R : Type 0} → (T → Type 0) → (T → ℕ → Range ℕ → T → Type 0)
-    → (T → ℕ → R → T → Type 0) → (R → R → R → Type 0) → Tiles S P → List R → Type 0
-FillsTiles init fill finish merge tiles values = FillsRows init fill finish merge (rows_of tiles)
-    (columns_of tiles) (keeps_rows tiles) values

@@ -101,7 +101,7 @@ impl<'scope, S: Strategy, P: Place> Batches<'scope, S, P> {
         self.strategy
     }
 
-    /// The place of the call that made the batch.
+    /// The site of the call that made the batch.
     pub fn site(&self) -> P
         ensures { result ≡ place_of self.now }
     {
@@ -124,7 +124,7 @@ impl<'scope, S: Strategy, P: Place> Batches<'scope, S, P> {
 
     /// The results of `map_op` for the items that `prepare` makes of the ranges, in the items'
     /// order (`MapOf`). A whole batch is mapped on the caller's thread, and any other is handed to
-    /// the batch's strategy with the batch's place. By which of the two it went no clause says: a
+    /// the batch's strategy with the batch's site. By which of the two it went no clause says: a
     /// test counts how often the strategy is asked.
     ///
     /// # Errors
@@ -184,8 +184,8 @@ impl<'scope, S: Strategy, P: Place> Batches<'scope, S, P> {
 
     /// Changes each range's part of the items where it lies: `op` is called with the index at which
     /// it begins and the part (`ChangesParts`). The items are as many as the batch's indices. A
-    /// whole batch is changed on the caller's thread; the parts of any other are split among at
-    /// most as many threads as the strategy has, which is asked by their number (`asked`).
+    /// whole batch is changed on the caller's thread. Of any other the strategy is asked by the
+    /// number of ranges (`asked`); in parallel its parts are split among the strategy's threads.
     ///
     /// ```text
     /// let batch = |batches: Batches<'_, S, P>| {
@@ -196,8 +196,8 @@ impl<'scope, S: Strategy, P: Place> Batches<'scope, S, P> {
     ///
     /// # Errors
     ///
-    /// `Fault::Memory` alone, and only what `refuses` allows; `op` was called with no part then,
-    /// and the list is as it was.
+    /// `Fault::Memory` alone, and only what `refuses` allows, before `op` is called; the list is as
+    /// it was.
     pub fn for_each_mut<
         Rt: Threads + Wait + Sync,
         T: Send,

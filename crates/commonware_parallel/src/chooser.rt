@@ -15,7 +15,8 @@ use std::num::NonZeroUsize;
 use std::sync::Wait;
 
 /// What a strategy writes: `choose`, readers of its numbers, `inner`, the type `Measure`, and six
-/// ghost members, in which it says what it may pick. One that learns by measuring writes `tell` too.
+/// ghost members, in which it says what it may pick. One that learns by measuring writes `tell`
+/// too.
 ///
 /// A strategy is asked before a run, and told how long it went where it has returned; the run
 /// itself is the trait's. Whatever chooses is a `Strategy`, so bounds name that trait.
@@ -61,9 +62,8 @@ pub trait Chooser: Clone + Send + Sync + Debug + 'static {
     fn starts_workers(&self) -> bool
         ensures { result ≡ starts self.now };
 
-    /// Whether any call of the kind `Body` may run serially without the strategy being asked, as
-    /// where it has no other pick and measures nothing. A list call then goes over its source as it
-    /// comes.
+    /// That, as where the strategy has no other pick and measures nothing. A list call then goes
+    /// over its source as it comes.
     fn is_serial(&self) -> bool
         ensures unasked { result ≡ unasked self.now }
         ensures first { IsTrue result → (site : Site) (call : Call) → call.kind ≡ Body
@@ -105,8 +105,8 @@ pub trait Chooser: Clone + Send + Sync + Debug + 'static {
     /// Is told that a run for which it chose has returned. Of one that failed, or was refused,
     /// nothing is told. A job ends away from its strategy, so its measure alone is told of its end.
     ///
-    /// Nothing is claimed of what is learnt. Where it isn't written the measure is ended, and where it
-    /// is it has to end the run, or take its measure: a `Running` can't be dropped.
+    /// Nothing is claimed of what is learnt. Where it isn't written the measure is ended, and where
+    /// it is it has to end the run, or take its measure: a `Running` can't be dropped.
     fn tell<Rt: Wait>(&self, rt: &Rt, running: Running<Self::Measure>) {
         running.ended(rt);
     }

@@ -2,9 +2,9 @@
 //!
 //! A program is written over `S: Strategy` and run through `Sequential`, on the caller's thread, or
 //! through `Rayon`, on several threads. Whatever the strategy, the number of its threads and the
-//! order in which they end, a call that returns and isn't refused gives the list's own result: a
-//! map the results in input order, a fallible one the first failing item's error, a fold a
-//! reduction of neighbouring segments, a batch each index once.
+//! order in which they end, a call that returns and isn't refused gives a result that its contract
+//! allows: a map the results in input order, a fallible one the first failing item's error, a fold
+//! a reduction of neighbouring segments, a batch each index once.
 #![tactic(auto)]
 
 mod batches;
@@ -48,4 +48,4 @@ pub use runtime::Runtime;
 pub use sequential::Sequential;
 pub use spawned::{Closure, Job, Spawned};
 pub use strategy::Strategy;
-pub use tiles::{Tiles, merge_law};
+pub use tiles::Tiles;

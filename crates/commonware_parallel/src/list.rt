@@ -1,18 +1,18 @@
-//! What the list calls of a strategy stand on: what it is asked about a list, and the calls by a
-//! path and over a list as it comes.
+//! What the list calls of a strategy stand on: what it is asked about a list, and the calls over a
+//! list as it comes and in parallel.
 ghost use Rattle.std.specs.Prelude.{◌≡◌, All, List, length};
 ghost use Rattle.commonware_parallel.specs.Words.{Body, ComesSerially, Drains, GivesSome, HoldsAlong, IsFinite, MayCome, OkStep, TryFoldSegment, UnlessRefused, body_call, multiplied_call};
 
 use crate::call::Call;
 use parallel_bridge::Parts;
-pub(crate) use parallel_bridge::list::fold::{fold_by, fold_iter};
-pub(crate) use parallel_bridge::list::fold_init::{fold_init_by, fold_init_iter};
-pub(crate) use parallel_bridge::list::map::{map_by, map_iter};
-pub(crate) use parallel_bridge::list::map_init::{map_init_by, map_init_iter};
-pub(crate) use parallel_bridge::list::partition::{partition_by, partition_iter};
-pub(crate) use parallel_bridge::list::try_fold::try_fold_by;
+pub(crate) use parallel_bridge::list::fold::{fold_iter, fold_parallel};
+pub(crate) use parallel_bridge::list::fold_init::{fold_init_iter, fold_init_parallel};
+pub(crate) use parallel_bridge::list::map::{map_iter, map_parallel};
+pub(crate) use parallel_bridge::list::map_init::{map_init_iter, map_init_parallel};
+pub(crate) use parallel_bridge::list::partition::{partition_iter, partition_parallel};
 use parallel_bridge::list::try_fold::try_fold_iter;
-pub(crate) use parallel_bridge::list::try_map::{try_map_by, try_map_iter};
+pub(crate) use parallel_bridge::list::try_fold::try_fold_parallel;
+pub(crate) use parallel_bridge::list::try_map::{try_map_iter, try_map_parallel};
 use parallel_fault::Trouble;
 
 /// The choice between a serial and a parallel body over a list.

@@ -1,7 +1,8 @@
 //! The root of a Merkle tree: neighbours combined level by level, through any strategy.
 //!
-//! `root` goes level by level over all threads, `root_by_blocks` gives each thread subtrees of its
-//! own, and `root_of_leaves` does so over a source, whose items a closure makes leaves of.
+//! `root` goes level by level over all threads, and `root_by_blocks` gives each thread subtrees of
+//! its own. `root_of_leaves_by_levels` and `root_of_leaves` do so over a source, of whose items a
+//! closure makes the leaves.
 //!
 //! An odd last node goes up unchanged, one leaf is its own root, and no leaf gives None
 //! (`MerkleRoot`).
@@ -20,7 +21,7 @@ mod plain;
 mod tops;
 
 use crate::strategy::Strategy;
-pub use blocks::{root_by_blocks, root_of_leaves};
+pub use blocks::{root_by_blocks, root_of_leaves, root_of_leaves_by_levels};
 pub use law::root_law;
 use parallel_bridge::Pairs;
 use parallel_fault::Fault;
@@ -62,7 +63,7 @@ pub fn root<
 }
 
 // The next level: the results for the pairs, and after them an odd last node, for which a map's
-// results mostly have a place to spare.
+// results mostly have a slot to spare.
 fn next_level<
     Rt: Threads + Wait + Sync,
     P: Place,

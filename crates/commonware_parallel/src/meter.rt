@@ -35,8 +35,8 @@ impl Meter for Unmeasured {
 ///
 /// A run's time is from its choice until the strategy is told that it has ended, and takes no
 /// memory. A job ends away from its strategy, so its meter has handles of its own, and its time is
-/// from `begin` to `end`. Either is 0 where the clock went back. What can't be recorded for want of
-/// memory is left out.
+/// from `begin` to `end`. Either is 0 where the clock went back. What there is no memory to
+/// record is left out.
 #[derive(Debug, Drop)]
 pub struct Measured<C> {
     pub(crate) sample: Sample<C>,

@@ -22,13 +22,13 @@ use std::num::NonZeroUsize;
 use std::sync::{Arc, Wait};
 use std::thread::Threads;
 
-/// Runs each call in as many parts as its pool's thread number asks, on scoped threads.
+/// Runs calls serially or on scoped threads, as its policy has learnt (`RayonTakes`).
 ///
-/// Beside the pool it has a planning number and a policy. Planned for one it runs a call serially.
-/// Planned for more the policy chooses between serial and parallel, by what the clock told of
-/// earlier calls at the same site with as many items; without a policy the call runs in parallel. A
-/// join asks no policy and is always parallel. A clone has the same pool, the same numbers and the
-/// same policy. A contract sees it as these and whether jobs get workers (`RayonView`).
+/// Planned for one it runs all but joins and jobs serially. Planned for more the policy chooses, by
+/// the times of earlier calls at the same site whose length and work have as many binary digits;
+/// without a policy the call runs in parallel. A job goes by the thread number in the same way, and
+/// a join is always parallel. A clone has the same pool, the same numbers and the same policy. A
+/// contract sees it as these and whether jobs get workers (`RayonView`).
 #[derive(Clone, Debug, Drop)]
 pub struct Rayon<C> {
     pub(crate) pool: Arc<ThreadPool, Global>,

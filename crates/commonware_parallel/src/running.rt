@@ -52,6 +52,19 @@ pub fn end_run<S: Chooser, Rt: Wait>(
     }
 }
 
+/// The run has ended with that outcome.
+pub(crate) fn end_as<S: Chooser, Rt: Wait, R, E>(
+    strategy: &S,
+    rt: &Rt,
+    running: Running<S::Measure>,
+    outcome: Result<R, E>,
+) -> Result<R, E>
+    ensures { result ≡ outcome }
+{
+    end_run(strategy, rt, running, outcome.is_ok());
+    outcome
+}
+
 /// The run has ended with the outcome of a body that may fail, whose error is the closure's.
 ///
 /// # Errors

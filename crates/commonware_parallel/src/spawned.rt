@@ -107,9 +107,8 @@ impl<R: Threads + Wait, S: Drop, F: Job<S, T> + Drop, T: Drop> Spawned<R, S, F, 
 
     /// The result, once it is here.
     ///
-    /// A pending poll has left its task's waker, and so the task is polled again once the job has
-    /// ended; a poll that sees the end joins the worker. After the result was taken every poll is
-    /// pending and leaves nothing.
+    /// A pending poll has left its task's waker, which the job's end wakes; a poll that sees the
+    /// end joins the worker. After the result was taken every poll is pending and leaves nothing.
     pub fn poll(&mut self, cx: &mut Context<'_>) -> Poll<T>
         ensures value { IfReady result (gives_answer F.may_answer self.old) }
         ensures taken { IfReady result (λ _. is_taken self.new ≡ true) }

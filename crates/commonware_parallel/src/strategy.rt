@@ -13,16 +13,16 @@ use crate::call::Call;
 use crate::chooser::Chooser;
 use crate::chosen::{begin_path, choose_parts, choose_path, threads_by};
 use crate::list::{
-    body_over, fold_by, fold_init_by, fold_init_iter, fold_iter, map_by, map_init_by,
-    map_init_iter, map_iter, multiplied_body_over, partition_by, partition_iter,
-    try_fold_as_it_comes, try_fold_by, try_map_by, try_map_iter,
+    body_over, fold_init_iter, fold_init_parallel, fold_iter, fold_parallel, map_init_iter,
+    map_init_parallel, map_iter, map_parallel, multiplied_body_over, partition_iter,
+    partition_parallel, try_fold_as_it_comes, try_fold_parallel, try_map_iter, try_map_parallel,
 };
 use crate::outcome::flat;
-use crate::running::{Running, end_run, end_with};
+use crate::running::{Running, end_as, end_run, end_with};
 use crate::spawned::{Job, Spawned, begin};
 use crate::tiles::{Tiles, fold_tiles, serial_cost};
 use parallel_bridge::list::sort::sort_parallel;
-use parallel_bridge::{Path, Source};
+use parallel_bridge::{Parts, Path, Source};
 use parallel_fault::{Fault, Trouble};
 use parallel_policy::Place;
 use parallel_row::{each_chunk, each_item};
@@ -37,29 +37,23 @@ use std::thread::{self, Threads};
 /// Runs a program's folds, maps, joins, sorts, batches and tiles, which are written once for all
 /// strategies.
 ///
-/// A strategy chooses and does nothing else: it implements `Chooser`, and is a `Strategy` by that.
-/// It is asked about a `Call`, and returns a `Pick`, one that the call has: a path, serial or
-/// parallel, or a number of ranges or workers. What the call then does is one of the `final`
-/// functions below, proved here once for every strategy: an implementation can't break what they
-/// say.
+/// A strategy implements `Chooser`, and is a `Strategy` by that: asked about a `Call`, it returns a
+/// `Pick` that the call has. What the call then does is one of the `final` functions below, which
+/// no implementation can break. Code that is generic over `S: Strategy` may rest on the clauses
+/// here alone; code at one strategy sees through its ghost members, and so learns from a clause
+/// `along` in which segments a call went.
 ///
-/// Code that is generic over `S: Strategy` may rest on the clauses here alone; code at one strategy
-/// sees through its ghost members, and so learns from a clause `along` in which segments a call
-/// went.
+/// A clause `asked` says that the strategy may take some path for a call of that length and work.
+/// It makes code that is generic in the strategy ask, as the functions here do. Of a strategy that
+/// has a pick for every call it says nothing: what a policy is asked, and told, is tested.
 ///
-/// A clause `asked` says that the strategy may take some path for a call of that length and that
-/// work. It binds where `takes` goes by them, as an explorer's does. A `Rayon` takes by the kind of
-/// the call alone, so at a `Rayon` it holds of any call and says nothing: what its policy is asked,
-/// and told, is shown by tests.
-///
-/// Every call takes the runtime, then the allocator, then the place of the call. A list call takes
-/// a source: a slice, a vector, indices, a list of the user's own, or any iterator that ends. Its
-/// list is one that the source gives (`Source::gives`). A list that is one already is neither
-/// gathered nor copied; an iterator's items are gathered where the strategy has to be asked by
-/// their number. A map's closure and a fold's step have to accept the items that may come
-/// (`Source::may`), at every state where they have one, and no other; a step and `reduce_op` have
-/// to accept the values that the fold's own closures may return for such items (`Comes`), and no
-/// other; `identity`, `init` and `compare` have to accept every value of their arguments' types.
+/// Every call takes the runtime, then the allocator, then the call site. A list call takes a
+/// source, and its list is one that the source gives (`Source::gives`). A list that is one already
+/// is neither gathered nor copied; an iterator's items are gathered where the strategy has to be
+/// asked by their number. A map's closure and a fold's step have to accept the items that may come
+/// (`Source::may`), at every state where they have one; a step and `reduce_op` also the values that
+/// the fold's own closures may return for such items (`Comes`); `identity`, `init` and `compare`
+/// every value of their arguments' types.
 pub trait Strategy: Chooser {
     /// A result of one of two bodies, by the path that the strategy takes. `len` is the number of
     /// items that the bodies stand for, by which a policy tells calls apart. A run that returns is
@@ -215,12 +209,11 @@ pub trait Strategy: Chooser {
     }
 
     /// Sorts the items by an order; items that tie keep their order. Serially the caller's thread
-    /// sorts them; in parallel, where there are enough of them to gain, the pool's thread number of
-    /// parts is sorted side by side first.
+    /// sorts them; in parallel at most as many parts as the pool has threads are sorted first, at
+    /// the same time, if they are long enough to gain.
     ///
-    /// The order has to be lawful: a strict weak order that `compare` follows. Whatever
-    /// `compare` returns, the items are those that were there before. The strategy is asked as for
-    /// a body over the items, and may measure the sort (`asked`).
+    /// `compare` has to follow a strict weak order; whatever it returns, the items are those that
+    /// were there before. The strategy is asked as for a body over the items (`asked`).
     ///
     /// ```text
     /// strategy.sort_by(rt, alloc, SITE, items, |a: &u32, b: &u32| a.cmp(b))?;
@@ -282,8 +275,8 @@ pub trait Strategy: Chooser {
     ///
     /// # Errors
     ///
-    /// `Fault::Memory` alone, and only what `refuses` allows; `op` was called with no item then,
-    /// and the list is as it was. The call itself takes no memory.
+    /// `Fault::Memory` alone, and only what `refuses` allows, before `op` is called; the list is as
+    /// it was. The call itself takes no memory.
     final fn for_each_mut<
         Rt: Threads + Wait + Sync,
         P: Place,
@@ -377,10 +370,18 @@ pub trait Strategy: Chooser {
         }
         let parts = source.into_parts(alloc)?;
         let (path, running) = begin_path(self, rt, alloc, site, body_over(&parts))?;
-        let threads = self.thread_number();
-        let answers = map_by(rt, alloc, threads, path, parts, &map_op);
-        end_run(self, rt, running, answers.is_ok());
-        answers
+        match path {
+            Path::Serial => end_as(
+                self,
+                rt,
+                running,
+                map_iter(alloc, parts.into_items(), &map_op),
+            ),
+            Path::Parallel => {
+                let answers = map_parallel(rt, alloc, self.thread_number(), parts, &map_op);
+                end_as(self, rt, running, answers)
+            }
+        }
     }
 
     /// As `map_collect_vec`, for items that each stand for the work of `multiplier`: a policy tells
@@ -421,10 +422,18 @@ pub trait Strategy: Chooser {
         let parts = source.into_parts(alloc)?;
         let call = multiplied_body_over(&parts, multiplier);
         let (path, running) = begin_path(self, rt, alloc, site, call)?;
-        let threads = self.thread_number();
-        let answers = map_by(rt, alloc, threads, path, parts, &map_op);
-        end_run(self, rt, running, answers.is_ok());
-        answers
+        match path {
+            Path::Serial => end_as(
+                self,
+                rt,
+                running,
+                map_iter(alloc, parts.into_items(), &map_op),
+            ),
+            Path::Parallel => {
+                let answers = map_parallel(rt, alloc, self.thread_number(), parts, &map_op);
+                end_as(self, rt, running, answers)
+            }
+        }
     }
 
     /// The items folded in neighbouring segments, each from an identity of its own, and the
@@ -436,15 +445,8 @@ pub trait Strategy: Chooser {
     /// fold from the left.
     ///
     /// ```text
-    /// let sum = strategy.fold(
-    ///     rt,
-    ///     alloc,
-    ///     SITE,
-    ///     Copies { slice: numbers },
-    ///     || 0,
-    ///     |sum: u64, x: u64| sum.wrapping_add(x),
-    ///     |left: u64, right: u64| left.wrapping_add(right),
-    /// )?;
+    /// let add = |left: u64, right: u64| left.wrapping_add(right);
+    /// let sum = strategy.fold(rt, alloc, SITE, Copies { slice: numbers }, || 0, add, add)?;
     /// ```
     ///
     /// # Errors
@@ -484,30 +486,31 @@ pub trait Strategy: Chooser {
             return Ok(fold_iter(source.into_items(), &identity, &fold_op));
         }
         let parts = source.into_parts(alloc)?;
-        let call = body_over(&parts);
-        let (path, running) = begin_path(self, rt, alloc, site, call)?;
-        let threads = self.thread_number();
-        let answer = fold_by(
-            rt, alloc, threads, path, parts, &identity, &fold_op, &reduce_op,
-        );
-        end_run(self, rt, running, answer.is_ok());
-        answer
+        let (path, running) = begin_path(self, rt, alloc, site, body_over(&parts))?;
+        let folded = match path {
+            Path::Serial => Ok(fold_iter(parts.into_items(), &identity, &fold_op)),
+            Path::Parallel => fold_parallel(
+                rt,
+                alloc,
+                self.thread_number(),
+                parts,
+                &identity,
+                &fold_op,
+                &reduce_op,
+            ),
+        };
+        end_run(self, rt, running, folded.is_ok());
+        folded
     }
 
     /// The items folded as by `fold`, with a state at hand that goes from item to item of a segment
     /// and begins there as a value of `init` (`FoldInitSegment`).
     ///
     /// ```text
-    /// let sum = strategy.fold_init(
-    ///     rt,
-    ///     alloc,
-    ///     SITE,
-    ///     items,
-    ///     || Scratch::new(),
-    ///     || 0,
-    ///     |sum: u64, scratch: &mut Scratch, x: u64| sum.wrapping_add(scratch.weigh(x)),
-    ///     |left: u64, right: u64| left.wrapping_add(right),
-    /// )?;
+    /// let begin = || Scratch::new();
+    /// let weigh = |sum: u64, it: &mut Scratch, x: u64| sum.wrapping_add(it.weigh(x));
+    /// let add = |left: u64, right: u64| left.wrapping_add(right);
+    /// let sum = strategy.fold_init(rt, alloc, SITE, items, begin, || 0, weigh, add)?;
     /// ```
     ///
     /// # Errors
@@ -555,14 +558,22 @@ pub trait Strategy: Chooser {
             return Ok(fold_init_iter(source.into_items(), &init, &identity, &fold_op));
         }
         let parts = source.into_parts(alloc)?;
-        let call = body_over(&parts);
-        let (path, running) = begin_path(self, rt, alloc, site, call)?;
-        let threads = self.thread_number();
-        let answer = fold_init_by(
-            rt, alloc, threads, path, parts, &init, &identity, &fold_op, &reduce_op,
-        );
-        end_run(self, rt, running, answer.is_ok());
-        answer
+        let (path, running) = begin_path(self, rt, alloc, site, body_over(&parts))?;
+        let folded = match path {
+            Path::Serial => Ok(fold_init_iter(parts.into_items(), &init, &identity, &fold_op)),
+            Path::Parallel => fold_init_parallel(
+                rt,
+                alloc,
+                self.thread_number(),
+                parts,
+                &init,
+                &identity,
+                &fold_op,
+                &reduce_op,
+            ),
+        };
+        end_run(self, rt, running, folded.is_ok());
+        folded
     }
 
     /// The items folded up to the first step that fails, in neighbouring segments, each from an
@@ -573,15 +584,9 @@ pub trait Strategy: Chooser {
     /// to the right of it. The forms of the segments are those of `fold` (`TryFoldedAs`).
     ///
     /// ```text
-    /// let sum = strategy.try_fold(
-    ///     rt,
-    ///     alloc,
-    ///     SITE,
-    ///     Copies { slice: numbers },
-    ///     || 0,
-    ///     |sum: u64, x: u64| if x <= LIMIT { Ok(sum.wrapping_add(x)) } else { Err(x) },
-    ///     |left: u64, right: u64| left.wrapping_add(right),
-    /// )?;
+    /// let check = |sum: u64, x: u64| if x <= LIMIT { Ok(sum.wrapping_add(x)) } else { Err(x) };
+    /// let add = |left: u64, right: u64| left.wrapping_add(right);
+    /// let sum = strategy.try_fold(rt, alloc, SITE, numbers, || 0, check, add)?;
     /// ```
     ///
     /// # Errors
@@ -624,12 +629,19 @@ pub trait Strategy: Chooser {
             return try_fold_as_it_comes(source.into_items(), &identity, &fold_op);
         }
         let parts = source.into_parts(alloc)?;
-        let call = body_over(&parts);
-        let (path, running) = begin_path(self, rt, alloc, site, call)?;
-        let threads = self.thread_number();
-        let outcome = try_fold_by(
-            rt, alloc, threads, path, parts, &identity, &fold_op, &reduce_op,
-        );
+        let (path, running) = begin_path(self, rt, alloc, site, body_over(&parts))?;
+        let outcome = match path {
+            Path::Serial => try_fold_as_it_comes(parts.into_items(), &identity, &fold_op),
+            Path::Parallel => try_fold_parallel(
+                rt,
+                alloc,
+                self.thread_number(),
+                parts,
+                &identity,
+                &fold_op,
+                &reduce_op,
+            ),
+        };
         end_run(self, rt, running, outcome.is_ok());
         outcome
     }
@@ -670,10 +682,16 @@ pub trait Strategy: Chooser {
         }
         let parts = source.into_parts(alloc)?;
         let (path, running) = begin_path(self, rt, alloc, site, body_over(&parts))?;
-        let threads = self.thread_number();
-        let outcome = try_map_by(rt, alloc, threads, path, parts, &map_op);
-        end_run(self, rt, running, outcome.is_ok());
-        outcome
+        match path {
+            Path::Serial => {
+                let outcome = try_map_iter(alloc, parts.into_items(), &map_op);
+                end_as(self, rt, running, outcome)
+            }
+            Path::Parallel => {
+                let outcome = try_map_parallel(rt, alloc, self.thread_number(), parts, &map_op);
+                end_as(self, rt, running, outcome)
+            }
+        }
     }
 
     /// The results of `map_op` for the items, in the items' order, with a state at hand that goes
@@ -683,14 +701,9 @@ pub trait Strategy: Chooser {
     /// segments of the list's shape for the pool's thread number (`MappedInitAs`).
     ///
     /// ```text
-    /// let hashes = strategy.map_init_collect_vec(
-    ///     rt,
-    ///     alloc,
-    ///     SITE,
-    ///     messages,
-    ///     || Scratch::new(),
-    ///     |scratch: &mut Scratch, message: &[u8]| scratch.hash(message),
-    /// )?;
+    /// let begin = || Scratch::new();
+    /// let hash = |scratch: &mut Scratch, message: &[u8]| scratch.hash(message);
+    /// let hashes = strategy.map_init_collect_vec(rt, alloc, SITE, messages, begin, hash)?;
     /// ```
     ///
     /// # Errors
@@ -725,22 +738,18 @@ pub trait Strategy: Chooser {
             return map_init_iter(alloc, source.into_items(), &init, &map_op);
         }
         let parts = source.into_parts(alloc)?;
-        let call = body_over(&parts);
-        let (path, running) = begin_path(self, rt, alloc, site, call)?;
+        let (path, running) = begin_path(self, rt, alloc, site, body_over(&parts))?;
         let threads = self.thread_number();
-        let answers = map_init_by(rt, alloc, threads, path, parts, &init, &map_op);
-        end_run(self, rt, running, answers.is_ok());
-        answers
+        let results = match path {
+            Path::Serial => map_init_iter(alloc, parts.into_items(), &init, &map_op),
+            Path::Parallel => map_init_parallel(rt, alloc, threads, parts, &init, &map_op),
+        };
+        end_run(self, rt, running, results.is_ok());
+        results
     }
 
     /// As `map_init_collect_vec`, for items that each stand for the work of `multiplier`: a policy
     /// tells calls apart by `len * multiplier`, which stops at the greatest `usize`.
-    ///
-    /// ```text
-    /// // as `map_init_collect_vec`, with the multiplier after the source
-    /// let hashes = strategy
-    ///     .map_init_collect_vec_with_multiplier(rt, alloc, SITE, messages, 64, init, hash)?;
-    /// ```
     ///
     /// # Errors
     ///
@@ -780,7 +789,10 @@ pub trait Strategy: Chooser {
         let call = multiplied_body_over(&parts, multiplier);
         let (path, running) = begin_path(self, rt, alloc, site, call)?;
         let threads = self.thread_number();
-        let mapped = map_init_by(rt, alloc, threads, path, parts, &init, &map_op);
+        let mapped = match path {
+            Path::Serial => map_init_iter(alloc, parts.into_items(), &init, &map_op),
+            Path::Parallel => map_init_parallel(rt, alloc, threads, parts, &init, &map_op),
+        };
         end_run(self, rt, running, mapped.is_ok());
         mapped
     }
@@ -822,20 +834,25 @@ pub trait Strategy: Chooser {
         }
         let parts = source.into_parts(alloc)?;
         let (path, running) = begin_path(self, rt, alloc, site, body_over(&parts))?;
-        let threads = self.thread_number();
-        let sides = partition_by(rt, alloc, threads, path, parts, &map_op);
-        end_run(self, rt, running, sides.is_ok());
-        sides
+        match path {
+            Path::Serial => {
+                let sides = partition_iter(alloc, parts.into_items(), &map_op);
+                end_as(self, rt, running, sides)
+            }
+            Path::Parallel => {
+                let sides = partition_parallel(rt, alloc, self.thread_number(), parts, &map_op);
+                end_as(self, rt, running, sides)
+            }
+        }
     }
 
     /// A result of `run` over a batch of `0..len`: balanced ranges, as many as the strategy picks.
     /// Of two or more none is shorter than `minimum` (`IsBatch`); a whole one may be.
     ///
-    /// There are at most as many ranges as the strategy is planned for. The work, by which a policy
-    /// tells calls apart, is `len * multiplier`, which stops at the greatest `usize`. The batch
-    /// goes through the strategy's `inner` and has the call's place. The closure has to accept each
-    /// batch that is one, and no other. Whatever it returns, an `Err` too, its run is told as a
-    /// success: a closure that may fail goes by `try_run_batches`.
+    /// The work, by which a policy tells calls apart, is `len * multiplier`, which stops at the
+    /// greatest `usize`. The batch goes through the strategy's `inner` and has the call's site.
+    /// Whatever the closure returns, its run is told as a success: one that may fail goes by
+    /// `try_run_batches`.
     ///
     /// ```text
     /// let count = strategy.run_batches(rt, alloc, SITE, len, minimum, 1, |batches| {
@@ -915,13 +932,10 @@ pub trait Strategy: Chooser {
     /// A result of `run` over tiles of one of `grids`, on rows of `len` columns: of the first one
     /// of least cost for as many workers as the strategy picks (`IsTiling`).
     ///
-    /// There are at most as many workers as the strategy is planned for. The work, by which a
-    /// policy tells calls apart, is the least cost for one worker times `multiplier`, which stops
-    /// at the greatest `usize`. The tiles go through the strategy's `inner` and have the call's
-    /// place. There has to be a grid, and the cells of each have to be countable (`Grid::fits`).
-    /// The closure has to accept all tiles of the grids, and no other. Whatever it returns, an `Err`
-    /// too, its run is told as a success: a kernel that may fail, as one that fills the tiles, goes
-    /// by `try_run_tiles`.
+    /// The work, by which a policy tells calls apart, is the least cost for one worker times
+    /// `multiplier`, which stops at the greatest `usize`. The tiles go through the strategy's
+    /// `inner` and have the call's site. Whatever the closure returns, its run is told as a
+    /// success: a kernel that may fail goes by `try_run_tiles`.
     ///
     /// ```text
     /// let planned = |tiles: Tiles<'_, S, P>| (tiles.workers(), tiles.is_cut());
@@ -1006,14 +1020,13 @@ pub trait Strategy: Chooser {
     /// neighbouring columns of it, and `merge` with the values of neighbouring columns, left before
     /// right (`FoldsRows`). A row of no columns has the value of none, `0..0`.
     ///
-    /// Where merged values are values of all their columns (`IsAdditive`), each is one that `kernel`
-    /// may give of its whole row, however rows were cut (`whole`): sums, counts, the least column.
+    /// Where merged values are values of all their columns (`IsAdditive`), each is one that
+    /// `kernel` may give of its whole row (`whole`): sums, counts, the least column.
     ///
     /// `tile_cost` is what a part of a row costs besides its columns, counted in columns. A kernel
     /// that takes 2 ns a column, and 100 ns to begin, has 50. Rows of fewer than twice as many
-    /// columns stay whole; others are cut if the longest chain of work gets shorter by it. The work,
-    /// by which a policy tells calls apart, is `rows * (len + tile_cost)`, in columns too. The cells
-    /// have to be countable.
+    /// columns stay whole; others are cut if the longest chain of work gets shorter by it. The
+    /// work, by which a policy tells calls apart, is `rows * (len + tile_cost)`.
     ///
     /// ```text
     /// // how many cells of each row are set

@@ -7,12 +7,11 @@ ghost use Rattle.parallel_fault.specs.Trouble.{IsMemoryOnErr};
 ghost use Rattle.parallel_shares.specs.Fillings.{Ends, Fills, Gives};
 ghost use Rattle.parallel_shares.specs.Grid.{Fits};
 ghost use Rattle.commonware_parallel.specs.Chains.{OneChain, WholeRows};
-ghost use Rattle.commonware_parallel.specs.MergedRows.{FillsCut, FillsSome, Names};
+ghost use Rattle.commonware_parallel.specs.MergedRows.{FillsCut, FillsSome};
 ghost use Rattle.commonware_parallel.specs.Rectangles.{IsInGrid};
 
 mod cost;
 mod folded;
-mod law;
 mod merged;
 mod rows;
 mod seats;
@@ -20,8 +19,6 @@ mod seats;
 use crate::strategy::Strategy;
 pub(crate) use cost::serial_cost;
 pub(crate) use folded::fold_tiles;
-pub use law::merge_law;
-use merged::{merge_sorted, named};
 use parallel_fault::Fault;
 use parallel_policy::Place;
 use parallel_shares::{Grid, Part, Shares, Stretch};
@@ -54,9 +51,9 @@ pub struct Tiles<'scope, S, P> {
 }
 
 impl<'scope, S: Strategy, P: Place> Tiles<'scope, S, P> {
-    ghost use Rattle.commonware_parallel.specs.Tiles.{FillsTiles, IfSerialTiles, IsTiling, columns_of, grid_of, keeps_rows, rows_of, tiles_place, tiles_strategy, workers_of};
+    ghost use Rattle.commonware_parallel.specs.Tiles.{IfSerialTiles, IsTiling, columns_of, grid_of, keeps_rows, rows_of, tiles_place, tiles_strategy, workers_of};
 
-    /// The place of the grid that was chosen in the list that was handed in.
+    /// The index of the grid that was chosen in the list that was handed in.
     pub fn grid(&self) -> usize
         ensures { result ≡ grid_of self.now }
     {
@@ -125,12 +122,10 @@ impl<'scope, S: Strategy, P: Place> Tiles<'scope, S, P> {
     /// A result for each stretch of the grid: `fill` is lent a state with a row and neighbouring
     /// columns of it, until the stretch is filled, and then `finish` gives its result.
     ///
-    /// The stretches cut the grid (`CutsRectangle`): each cell is in just one. Where rows aren't
-    /// cut each is a whole row. Stretches and results fall into chains (`Chains`), each from a
-    /// state that `init` makes and that goes from stretch to stretch; their order is open. A serial
-    /// plan has one chain, over the rows in order, and fills each row by one call (`OneChain`). A
-    /// grid of no cells has no results, and `init` isn't called. `fill` is asked for rows of the
-    /// grid and columns within it, at least one (`IsInGrid`), and `finish` for rows of the grid.
+    /// Each cell is in just one stretch (`CutsRectangle`); where rows aren't cut each stretch is a
+    /// whole row. Stretches and results fall into chains (`Chains`), each from a state that `init`
+    /// makes; their order is open. A serial plan has one chain, over the rows in order, and fills
+    /// each row by one call (`OneChain`). A grid of no cells has no results; `init` isn't called.
     ///
     /// # Errors
     ///
@@ -222,58 +217,5 @@ impl<'scope, S: Strategy, P: Place> Tiles<'scope, S, P> {
             &finish,
         )?;
         Ok(results)
-    }
-
-    /// A value for each row of the grid, in the rows' order: stretches are filled and finished as
-    /// by `fill_collect_vec`, and then the results of each row's stretches are merged from left to
-    /// right.
-    ///
-    /// How the stretches cut the grid, and their chains, are as there. A row of one stretch has its
-    /// result. Else `merge` is given what came so far of the row and the result of the next
-    /// columns, in this order (`FillsRows`), by the caller's thread, after all cells are filled.
-    /// Where rows aren't cut it isn't called. Where `merge` makes of the values of neighbouring
-    /// columns the value of both, each row has one value, however it was cut (`merge_law`). A grid
-    /// of no cells has no values, and no closure is called.
-    ///
-    /// # Errors
-    ///
-    /// `Fault::Memory` alone. Any number of the closures may have been called then.
-    pub fn fill_merge_collect_vec<
-        Rt: Threads + Wait + Sync,
-        T: Send + Drop,
-        R: Send + Drop,
-        N: Fn() -> T + Send + Sync + Drop,
-        L: Fn(&mut T, usize, Range<usize>) + Send + Sync + Drop,
-        F: Fn(&mut T, usize) -> R + Send + Sync + Drop,
-        M: Fn(R, R) -> R + Send + Sync + Drop,
-    >(self, rt: &Rt, alloc: Global, init: N, fill: L, finish: F, merge: M) -> Result<Vec<R>, Fault>
-        requires init_accepts { N.IsAlwaysCallable init }
-        requires fill_accepts { (state : MutBor T) (row : ℕ) (columns : Range ℕ)
-            → IsInGrid (rows_of self) (columns_of self) row columns
-            → L.pre fill state row columns }
-        requires finish_accepts { (state : MutBor T) (row : ℕ) → row < rows_of self
-            → F.pre finish state row }
-        requires merge_accepts { M.IsAlwaysCallable merge }
-        ensures merges { columns_of self.entry ≢ 0 → IfOk result
-            (λ values. FillsTiles (N.post init) (Fills (L.post fill)) (Gives (F.post finish))
-            (M.post merge) self.entry values.items) }
-        ensures count { columns_of self.entry ≢ 0
-            → IfOk result (λ values. length values.items ≡ rows_of self.entry) }
-        ensures empty { (rows_of self.entry ≡ 0) ⊎ (columns_of self.entry ≡ 0)
-            → MatchResult result (λ values. values.items ≡ []) (λ _. ⊥) }
-        ensures fault { IsMemoryOnErr result }
-    {
-        if self.is_empty() {
-            return Ok(Vec::new(alloc));
-        }
-        let (rows, len) = (self.rows, self.len);
-        let name = move |state: &mut T, stretch: Stretch| -> (Stretch, R)
-            requires { (lent : MutBor T) → F.pre finish lent stretch.row }
-            ensures { Names (λ s x. Gives (F.post finish) s x.row) state.old stretch result
-                state.new }
-        { named(state, stretch, &finish) };
-        let parts = self.fill_stretches(rt, alloc, init, fill, name)?;
-        let values = merge_sorted(alloc, rows, len, parts, &merge)?;
-        Ok(values)
     }
 }

@@ -1,4 +1,4 @@
--- A vector's block is a row of places and the right to free it, and back. Assumes `Logic`.
+-- A vector's block is its slots and the right to free it, and back. Assumes `Logic`.
 use Rattle.parallel_bridge.proofs.Walks.{◌≡◌, refl, sym, ap, ◌∙◌, ℕ, suc, ◌+◌, ◌-◌, ◌*◌, ◌≤◌, arith, List, [], ◌∷◌, ◌++◌, map, T, length, replicate, length-append, length-replicate, Ura, full_share}
 use Rattle.parallel_bridge.proofs.Walks.{ty_array, bare, ent, sep, Fml, ftrue, froom, Logic, sem, ‵, ◌⊛◌, given, ◌$◌, ◌∵◌, !, qed, move, keep, use1, use2, split, learn, rewrite, fsplit, fjoin, done}
 use Rattle.parallel_bridge.proofs.Walks.{part_at, row, block_ptr, nothing, Option, Some, None, token, owns_if, as_raw, as_written, slots}
@@ -15,7 +15,7 @@ module _ {X : Type 0} where
   abbrev vacant : Option X
   vacant = None
 
-  -- the items, and empty places up to the c-th
+  -- the items, and empty slots up to the c-th
   abbrev pub stored : ℕ → ℕ → List X → List (Option X)
   stored n c xs = map Some xs ++ replicate (c - n) None
 

@@ -1,7 +1,6 @@
 -- Which values come to a fold that is under way, and what a serial one asks of its closures.
-use Rattle.parallel_bridge.proofs.Common.{List, [], ◌∷◌, inl, inr, Option, Some, Result, Ok, Err, IfOk, subst, All, AllByRecursion, All-weaker, recursion_from_All, HoldsAlong, Yields, MayCome, Chain, StateChain, AnyState, TryChain}
+use Rattle.parallel_bridge.proofs.Common.{List, [], ◌∷◌, inl, inr, Option, Result, Ok, Err, IfOk, subst, All, AllByRecursion, All-weaker, recursion_from_All, HoldsAlong, MayCome, Chain, StateChain, AnyState, TryChain}
 use Rattle.parallel_bridge.proofs.CollectChains.{next_has}
-use Rattle.parallel_bridge.proofs.IteratorItems.{may_along}
 use Rattle.parallel_bridge.specs.Comes.{Comes, ComesSerially, OkStep, of_identity, of_step, of_reduction}
 
 module _ {X R : Type 0} (identity : R → Type 0) (step : R → X → R → Type 0)

@@ -10,6 +10,7 @@ pub use Rattle.parallel_bridge.specs.Gates.{IsAtMost, IsGateSeatOf, IsWatching, 
 pub use Rattle.parallel_bridge.specs.Halting.{IsUnhalted, NotStopped, halting, unstopped}
 pub use Rattle.parallel_bridge.specs.Lists.{Bracketing, Brackets, Chain, FoldSegment, IsFront, MapOf, of_parts, of_segment}
 pub use Rattle.parallel_bridge.specs.Loads.{LoadCameTo, steps_left, steps_of}
+pub use Rattle.parallel_bridge.specs.Moves.{IsRoomFor, Joinable, holding, side_by_side}
 pub use Rattle.parallel_bridge.specs.Onto.{PartitionOnto, ReducesTo, TryContinues, TryMapBehind, TryMapOnto}
 pub use Rattle.parallel_bridge.specs.Outcomes.{IsListed, PutTogether, UnlessRefused, ended, joined, listed}
 pub use Rattle.parallel_bridge.specs.Pairs.{odd_of, pair_items, pair_rest, pairs_of}

@@ -1,5 +1,5 @@
--- For the loop that feeds a folder: one look more, and what is said of a part where a stop may stand
--- in the place of anything, or of nothing.
+-- For the loop that feeds a folder: one look more, and what is said of a part where a stop may
+-- stand in the place of anything, or of nothing.
 use Rattle.parallel_bridge.proofs.Common.{ℕ, ◌+◌, List, [], ◌∷◌, ◌++◌, length, Result, Ok, Err, subst, arith, length-append}
 use Rattle.parallel_bridge.proofs.Common.{Halt, Failed, Stopped, halting, unstopped}
 use Rattle.parallel_bridge.specs.Endings.{LooksMore, LooksOnce}

@@ -172,14 +172,3 @@ lists_joined all left right same = (
   ap (λ l. values_in l) same ∙ values_in-append left right,
   ap (λ l. keys_in l) same ∙ keys_in-append left right,
 )
-
--- with one pair of lists more come its values
-pub values_pushed : {K U : Type 0} (ps : List (Vec U Global × Vec K Global))
-    (p : Vec U Global × Vec K Global) → values_in (ps ++ p ∷ []) ≡ values_in ps ++ p.0.items
-values_pushed ps p = values_in-append ps (p ∷ [])
-    ∙ ap (λ l. values_in ps ++ l) (append-nil p.0.items)
-
--- and its keys
-pub keys_pushed : {K U : Type 0} (ps : List (Vec U Global × Vec K Global))
-    (p : Vec U Global × Vec K Global) → keys_in (ps ++ p ∷ []) ≡ keys_in ps ++ p.1.items
-keys_pushed ps p = keys_in-append ps (p ∷ []) ∙ ap (λ l. keys_in ps ++ l) (append-nil p.1.items)

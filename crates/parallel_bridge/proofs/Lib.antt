@@ -18,9 +18,12 @@ pub mod TryBracketings
 pub mod Drivers
 pub mod Paths
 mod Loads
+pub mod Moves
 pub mod Sorting
 pub mod OverLists
+pub mod Firsts
 pub mod FirstFailing
+pub mod Folded
 pub mod WrappingSums
 pub mod SendSync
 pub mod RowMemory
@@ -56,6 +59,7 @@ pub use Halves.*
 pub use IteratorItems.*
 pub use Laws.*
 pub use Loads.*
+pub use Moves.*
 pub use Neighbours.*
 pub use Outcomes.*
 pub use OverLists.*

@@ -1,6 +1,6 @@
 -- What the clause of a list call says where its source gives one list alone: a fact of that list.
-use Rattle.parallel_bridge.proofs.Common.{◌≡◌, ℕ, Bool, List, Option, Result, Ok, Err, Vec, Global, subst, map, fold, MatchResult, IfOk, IfErr, Contains, Drains, Bor, YieldsList, IfOk-weaker, Path}
-use Rattle.parallel_bridge.proofs.Common.{Serial, Trouble, Closure, OfFault, MapOf, Bracketing, FoldLaws, UnlessRefused, FoldsAs}
+use Rattle.parallel_bridge.proofs.Common.{◌≡◌, ℕ, Bool, List, [], ◌∷◌, Option, Result, Ok, Err, Vec, Global, subst, map, fold, MatchResult, IfOk, IfErr, Contains, Drains, Bor, YieldsList, IfOk-weaker, Path}
+use Rattle.parallel_bridge.proofs.Common.{Serial, Trouble, Closure, OfFault, MapOf, Bracketing, FoldLaws, UnlessRefused, FoldsAs, TryMapOf, listed}
 use Rattle.parallel_bridge.proofs.IteratorItems.{came_as_it_is}
 use Rattle.parallel_bridge.proofs.OverViews.{map_of_shown}
 use Rattle.parallel_bridge.proofs.Laws.{map_is_function, plain_from_bracketing}
@@ -18,6 +18,35 @@ pub outcome_of_list : {A T E : Type 0} (all : List A) (P : List A → Result T E
 outcome_of_list all P (Ok r) gave = subst (λ xs. P xs (Ok r)) gave.1 gave.2
 outcome_of_list all P (Err (Closure e)) gave = subst (λ xs. P xs (Err e)) gave.1 gave.2
 outcome_of_list all P (Err (OfFault f)) gave = gave
+
+-- a map whose closure says more of each result
+pub map_weaker : {X Y : Type 0} (allowed works : X → Y → Type 0)
+    → ((x : X) (y : Y) → allowed x y → works x y) → (xs : List X) (ys : List Y)
+    → MapOf allowed xs ys → MapOf works xs ys
+map_weaker allowed works one [] [] h = h
+map_weaker allowed works one [] (y ∷ ys) h = absurd h
+map_weaker allowed works one (x ∷ xs) [] h = absurd h
+map_weaker allowed works one (x ∷ xs) (y ∷ ys) h =
+    (one x y h.0, map_weaker allowed works one xs ys h.1)
+
+-- the same over a list
+pub mapped : {X Y E : Type 0} (all : List X) (allowed works : X → Y → Type 0)
+    (result : Result (Vec Y Global) E)
+    → IfOk result (λ ys. (xs : List X) × (xs ≡ all) × MapOf allowed xs ys.items)
+    → ((x : X) (y : Y) → allowed x y → works x y) → IfOk result (λ ys. MapOf works all ys.items)
+mapped all allowed works result gave one = IfOk-weaker result _ (λ ys. MapOf works all ys.items)
+    (λ ys h. map_weaker allowed works one all ys.items h)
+    (fact_of_list all (λ xs ys. MapOf allowed xs ys.items) result gave)
+
+-- the values of a map that may fail, where it didn't
+pub finished : {X Y E : Type 0} (all : List X) (allowed : X → Result Y E → Type 0)
+    (works : X → Y → Type 0) (result : Result (Vec Y Global) (Trouble E)) → UnlessRefused result
+    (λ out. (xs : List X) × (xs ≡ all) × TryMapOf allowed xs (listed out))
+    → ((x : X) (y : Y) → allowed x (Ok y) → works x y)
+    → IfOk result (λ ys. MapOf works all ys.items)
+finished all allowed works (Ok ys) gave one = subst (λ l. MapOf works l ys.items) gave.1
+    (map_weaker (λ x y. allowed x (Ok y)) works one gave.0 ys.items gave.2)
+finished all allowed works (Err e) gave one = tt
 
 -- a map by a function, over a list
 pub map_of_list : {A B E : Type 0} (all : List A) (allowed : A → B → Type 0) (f : A → B)

@@ -1,4 +1,4 @@
--- The memory of a row of places: cut and glued, with one place taken out and put back, and made of
+-- The memory of slots: cut and put together, with one taken out and put back, and made of
 -- room. Assumes `Logic`.
 use Rattle.parallel_bridge.proofs.Walks.{◌≡◌, refl, sym, ap, subst, ℕ, zero, suc, ◌+◌, ◌*◌, ◌<◌, ◌≤◌, arith, zero-mul, suc-mul, List, [], ◌∷◌, ◌++◌, map, length, take, from as drop, set, get_or}
 use Rattle.parallel_bridge.proofs.Walks.{replicate, take-append-drop, length-take, Ura, full_share, Ty, ty_array, Val, vstruct, vcons, vnil, of_list, SProp, ent, sep, emp, ex, guard, via, id⊢, mono_r}
@@ -20,15 +20,15 @@ abbrev pub ◌⊗◌ {ℓ κ} : {A : Type ℓ} {B : Type κ} → A → B → A �
 a ⊗ b = (a, b)
 
 module _ (E : El) where
-  -- a row of places
+  -- slots side by side
   abbrev pub Places : RattleType
   Places = cells.the_row (R E)
 
-  -- where a row begins
+  -- where they begin
   abbrev pub Start : RattleType
   Start = begins.the_row (R E)
 
-  -- the one field of a row of places, which takes no bytes
+  -- the one field of `Cells`, which takes no bytes
   abbrev pub Mark : RattleType
   Mark = Struct (shape (cells.the_type (R E)))
 
@@ -160,7 +160,7 @@ module _ (E : El) {M : Type 1} {𝓤 : Ura M} (𝓛 : Logic 𝓤) (b : ℕ) wher
       (sem 𝓛 (slot (R E) b o (Some x)))
   item_in x o v = part_in 𝓛 (R E) refl full_share x b o v
 
-  -- a row is cut in two, and two rows side by side are one
+  -- slots are cut in two, and two that are neighbours are put together
   pub cut : (xs ys : List (Place E)) (o at : ℕ) → at ≡ length xs * s + o
       → ent 𝓤 (sem 𝓛 (At o (xs ++ ys))) (sep 𝓤 (sem 𝓛 (At o xs)) (sem 𝓛 (At at ys)))
   cut [] ys o at e = qed 𝓛 (‵ (At o ys) ∷ []) ∵ rewrite ! 0 (λ (k : ℕ). ‵ (At k ys)) {x = at}
@@ -189,14 +189,14 @@ module _ (E : El) {M : Type 1} {𝓤 : Ura M} (𝓛 : Logic 𝓤) (b : ℕ) wher
         let long : i ≡ length (take i cs) = omega (arith, length-take i cs) in
         ap (λ k. k * s + o) long
 
-    -- a row is cut at an index
+    -- slots are cut at an index
     pub cut_at : i ≤ length cs → ent 𝓤 (sem 𝓛 (At o cs))
         (sep 𝓤 (sem 𝓛 (At o (take i cs))) (sem 𝓛 (At (i * s + o) (drop i cs))))
     cut_at le = qed 𝓛 (‵ (At o cs) ∷ []) ∵ rewrite ! 0 (λ (l : List (Place E)). ‵ (At o l))
         (sym (take-append-drop i cs)) refl $
         by ! (cut (take i cs) (drop i cs) o (i * s + o) (middle le))
 
-    -- all places but the i-th
+    -- all slots but the i-th
     abbrev pub Others : Fml
     Others = fsep (At o (take i cs)) (At (i * s + o + s) (drop (suc i) cs))
 
@@ -217,7 +217,7 @@ module _ (E : El) {M : Type 1} {𝓤 : Ura M} (𝓛 : Logic 𝓤) (b : ℕ) wher
         (glue (take i cs) (c ∷ drop (suc i) cs) o (i * s + o) (middle (omega arith))) $
         rewrite ! 0 (λ (l : List (Place E)). ‵ (At o l)) (sym (set_split cs i c lt)) refl $ done !
 
-  -- items side by side are a row of full places
+  -- items side by side are full slots
   pub of_items : (xs : List (el_x E)) (o : ℕ)
       → ent 𝓤 (sem 𝓛 (row (R E) full_share xs b o)) (sem 𝓛 (At o (map Some xs)))
   of_items [] o = id⊢ 𝓤 (emp 𝓤)
@@ -228,7 +228,7 @@ module _ (E : El) {M : Type 1} {𝓤 : Ura M} (𝓛 : Logic 𝓤) (b : ℕ) wher
   to_items [] o = id⊢ 𝓤 (emp 𝓤)
   to_items (x ∷ xs) o = mono_r 𝓤 (sem 𝓛 (part_at (R E) full_share x b o)) (to_items xs (o + s))
 
-  -- room for an array is a row of empty places
+  -- room for an array is empty slots
   pub of_room : (n o : ℕ) → ent 𝓤 (H.room (ty_array (elτ E) n) b o)
       (sem 𝓛 (At o (replicate n None)))
   of_room zero o = qed 𝓛 (‵ (froom (ty_array (elτ E) 0) b o) ∷ []) ∵ keep ! [] $ done !

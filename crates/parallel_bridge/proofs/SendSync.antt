@@ -1,4 +1,4 @@
--- A row of places may go to another thread where its items may, and the right to free a block where
+-- Slots may go to another thread where their items may, and the right to free a block where
 -- its allocator may.
 use Rattle.parallel_bridge.proofs.Walks.{ℕ, ◌+◌, List, [], ◌∷◌, Option, Some, None, type_size, full_share, Fml, RattleType, Ptr, block_ptr, null_ptr, exits_of, shape, fields, to, IsSend, AllSend}
 use Rattle.parallel_bridge.proofs.Walks.{part_keyless, owning_send, struct_send, sendable, Ghosts, Bool, true, false, has_block, owns_if, slots, cells_own}

@@ -1,4 +1,4 @@
--- How two halves of a part end together, and what the seats of their watches then say, joined.
+-- How two halves of a part end together, and what the seats of their watches then say together.
 use Rattle.parallel_bridge.proofs.Common.{◌≡◌, ℕ, ◌+◌, ◌-◌, ◌/◌, ◌≤◌, ◌<◌, List, [], ◌++◌, All, Contains, IfOk, Result, Ok, Err, refl, sym, subst, ◌∙◌, arith, ◌⊎◌, inl, inr, All-append, All-weaker, All-contains, Contains-append_left, Contains-append_right}
 use Rattle.parallel_bridge.proofs.Common.{Trouble, Closure, OfFault, PutTogether, UnlessRefused, Halt, Failed, Stopped, GateSeat, GateView, GateWatch, greatest, gathered, newcomer, IsGateSeatOf, All-nil, front_half, back_half, known, stands_for}
 use Rattle.parallel_bridge.proofs.Common.{IsFull, OneAfterAnother, View, written, IsUnhalted, NotStopped, halting}
@@ -70,7 +70,7 @@ module _ (start half count seats : ℕ) (within : half ≤ count) (positive : 0 
     told_together x y z left.2 right.2 right.1 is,
   )
 
--- the watches of both halves, joined, say of the whole what the one that was halved may come to
+-- the watches of both halves, together, say of the whole what the one that was halved may come to
 pub watches_joined : (self left right : GateWatch) (len : ℕ) → 2 ≤ len → left.gate ≡ self.gate
     → left.start ≡ self.start → right.start ≡ self.start + len / 2
     → known left.seat ≡ front_half (known self.seat)

@@ -1,4 +1,4 @@
--- Empty places, items and empty places in a row, and what each step makes of them.
+-- Empty slots, items and empty slots side by side, and what each step makes of them.
 use Rattle.parallel_bridge.proofs.Common.{◌≡◌, ℕ, zero, suc, ◌+◌, ◌-◌, ◌<◌, ◌≤◌, List, [], ◌∷◌, ◌++◌, map, length, take, drop, set, replicate, refl, sym, ap, ◌∙◌, arith, ◌⊎◌, inl, inr, append-nil}
 use Rattle.parallel_bridge.proofs.Common.{Option, Some, None, get_or, length-append, length-replicate, length-take, length-drop, length-map, map-append, append_assoc, get_or-append_seam}
 use Rattle.parallel_bridge.proofs.Common.{set-append_seam, replicate-append-replicate, take-replicate, drop-replicate, take_all, drop_all, nil_from_length, laid, values, subst, View, part, IsRow}
@@ -23,7 +23,7 @@ module _ {X : Type 0} where
   pub length_laid : (b : ℕ) (xs : List X) (r : ℕ) → length (laid b xs r) ≡ b + (length xs + r)
   length_laid b xs r = simp (length-append, length-replicate, length-map)
 
-  -- the places up to the last item of those in front
+  -- the slots up to the last item of those in front
   abbrev front : ℕ → List X → List (Option X)
   front b xs = empty b ++ map Some xs
 
@@ -31,7 +31,7 @@ module _ {X : Type 0} where
       → laid b (xs ++ ys) r ≡ front b xs ++ (map Some ys ++ empty r)
   then_on b xs ys r = simp (map-append, append_assoc)
 
-  -- the place after those is read, and written
+  -- the slot after those is read, and written
   next_place : (b : ℕ) (xs : List X) (y z : Option X) (l slots : List (Option X)) (i : ℕ)
       → slots ≡ front b xs ++ y ∷ l → i ≡ b + length xs
       → (get_or slots i None ≡ y) × (set slots i z ≡ front b xs ++ z ∷ l)
@@ -42,12 +42,12 @@ module _ {X : Type 0} where
         (λ k. set (is k) (at k) z) ∙ set-append_seam (front b xs) y l z,
       )
 
-  -- a place that is empty in front of the items
+  -- a slot that is empty in front of the items
   pub first_out : (b : ℕ) (l : List (Option X)) → front b [] ++ None ∷ l ≡ empty (suc b) ++ l
   first_out zero l = refl
   first_out (suc b) l = ap (λ m. None ∷ m) (first_out b l)
 
-  -- a row that begins with its items is cut at an index
+  -- slots that begin with their items are cut at an index
   pub front_of : (i : ℕ) (xs : List X) (r k : ℕ) → k ≡ i - length xs → i ≤ length xs + r
       → take i (laid 0 xs r) ≡ laid 0 (take i xs) k
   front_of zero xs r k e le = let none : 0 ≡ k = omega arith in ap empty none
@@ -69,7 +69,7 @@ module _ {X : Type 0} where
       let more : k ≡ r - (suc i - suc (length xs)) = e in
       back_of i xs r k (omega arith)
 
-  -- a row without items goes on a row
+  -- slots without items go on others
   pub then_none : (b : ℕ) (xs : List X) (r c s k : ℕ) → k ≡ r + (c + s)
       → laid b xs r ++ laid c [] s ≡ laid b xs k
   then_none b xs r c s k e =
@@ -77,11 +77,11 @@ module _ {X : Type 0} where
       rw (e, ← replicate-append-replicate r (c + s) none, ← replicate-append-replicate c s none)
       (simp append_assoc)
 
-  -- a row that begins with its items goes on a row that ends with its items
+  -- slots that begin with their items go on others that end with theirs
   then_more : (b : ℕ) (xs ys : List X) (s : ℕ) → laid b xs 0 ++ laid 0 ys s ≡ laid b (xs ++ ys) s
   then_more b xs ys s = simp (append_assoc, append-nil, map-append)
 
-  -- what is laid out so is a row of these items
+  -- what is laid out so has these items
   pub is_row : (at start : Ptr) (slots : List (Option X)) (room b n : ℕ) (xs : List X) (r : ℕ)
       → at ≡ start → slots ≡ laid b xs r → n ≡ length xs → room ≡ b + (n + r)
       → IsRow at start slots room b n × (values slots ≡ xs)
@@ -90,7 +90,7 @@ module _ {X : Type 0} where
       let rest : r ≡ room - (b + n) = omega arith in
       ((a, long ∙ sym (ap length is), omega arith, e ∙ (λ i. laid b (sym is i) (rest i))), is)
 
--- a row that is named anew
+-- slots that are named anew
 pub moved : {X : Type 0} {at start p : Ptr} {slots cs : List (Option X)} {room n : ℕ} (b : ℕ) → p ≡ at
     → cs ≡ slots → IsRow at start slots room b n → IsRow p start cs room b n
 moved {X = X} {start = start} {room = room} {n = n} b e f row = subst
@@ -126,7 +126,7 @@ module _ {X : Type 0} {at start : Ptr} {slots : List (Option X)} {room n : ℕ} 
       let same : length slots ≡ length (laid b items left) = ap length row.3 in
       omega arith
 
-  -- one more item, in the place after the others
+  -- one more item, in the slot after the others
   pub put_row : {v : View X} (x : X) → part start room b items ≡ v
       → v.before + length v.items < v.room → (b + n < length slots) × (get_or slots (b + n) None ≡ None)
       × IsRow at start (set slots (b + n) (Some x)) room b (n + 1)
@@ -176,7 +176,7 @@ module _ {X : Type 0} {at start : Ptr} {slots : List (Option X)} {room n : ℕ} 
       (omega arith) in
       (x, (out.0, is.0, last.1.1 ∙ ap (λ zs. zs ++ x ∷ []) (sym is.1)))
 
-  -- the first i places of a row that begins with its items, and the rest
+  -- the first i of slots that begin with their items, and the rest
   module _ (i : ℕ) (none : b ≡ 0) (le : i ≤ room) where
     from_items : slots ≡ laid 0 items left
     from_items = row.3 ∙ ap (λ k. laid k items left) none
@@ -205,7 +205,7 @@ module _ {X : Type 0} {at start : Ptr} {slots : List (Option X)} {room n : ℕ} 
         (ap (drop i) from_items ∙ back_of i items left (left - (i - length items)) refl) count
         (omega arith)
 
-  -- two rows side by side
+  -- two neighbours
   pub two_rows : {at' start' : Ptr} {slots' : List (Option X)} {room' b' n' : ℕ}
       → IsRow at' start' slots' room' b' n' → ((b + n ≡ room) × (b' ≡ 0)) ⊎ (n' ≡ 0)
       → IsRow at start (slots ++ slots') (room + room') b (n + n')
@@ -232,7 +232,7 @@ module _ {X : Type 0} {at start : Ptr} {slots : List (Option X)} {room n : ℕ} 
       is_row at start (slots ++ slots') (room + room') b (n + n') (items ++ xs)
       (left + (b' + rest)) row.0 (now ∙ here) (omega arith) (omega arith)
 
-  -- a row without items is all room
+  -- slots without items are all room
   pub rewound_row : n ≡ 0 → IsRow at start slots room 0 0 × (items ≡ [])
   rewound_row none =
       let no : items ≡ [] = nil_from_length items (omega arith) in
@@ -241,7 +241,7 @@ module _ {X : Type 0} {at start : Ptr} {slots : List (Option X)} {room n : ℕ} 
       ∙ replicate-append-replicate b left None ∙ ap empty all in
       ((is_row at start slots room 0 0 [] room row.0 now refl (omega arith)).0, no)
 
--- a block that begins with its items is one row
+-- a block that begins with its items, as slots
 pub whole_row : {X : Type 0} {at start : Ptr} {slots : List (Option X)} (c n : ℕ) (xs : List X)
     → at ≡ start → slots ≡ laid 0 xs (c - length xs) → n ≡ length xs → n ≤ c
     → IsRow at start slots c 0 n × (values slots ≡ xs)
@@ -261,7 +261,7 @@ opened_rows c i n xs a e long le lc =
           ∙ ap (λ l. laid 0 l (c - i)) (drop_all i xs (omega arith)),
     )
 
--- a row of items with the empty places after it is a block
+-- the slots of items with the empty ones after them are a block
 pub closed_rows : {X : Type 0} {at start : Ptr} {slots tail : List (Option X)} {room n : ℕ} (c : ℕ)
     → IsRow at start slots room 0 n → tail ≡ replicate (c - room) None → room ≤ c
     → (length (slots ++ tail) ≡ c) × (length (values (slots ++ tail)) ≡ n)

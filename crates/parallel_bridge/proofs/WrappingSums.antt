@@ -1,7 +1,8 @@
 -- Folds that add up and wrap around at m.
 use Rattle.parallel_bridge.proofs.Common.{◌≡◌, ℕ, ◌+◌, ◌%◌, ◌<◌, List, [], ◌∷◌, Result, nat_lt, sym, ◌∙◌, ap, fold, sum_by, arith, IfOk, ltb-true, lt-ltb, mod_below, sum_by-cons, IfOk-weaker}
 use Rattle.parallel_bridge.proofs.Common.{mod-add-mod, add-mod-mod, mod-eq_of_lt, Bracketing, FoldLaws}
-use Rattle.parallel_bridge.proofs.OverLists.{fold_of_list}
+use Rattle.parallel_bridge.proofs.Laws.{plain_from_bracketing}
+use Rattle.parallel_bridge.proofs.OverLists.{fact_of_list}
 
 -- a sum and what the next item adds
 abbrev pub add_next : {A : Type 0} → ℕ → (A → ℕ) → ℕ → A → ℕ
@@ -44,14 +45,24 @@ pub fold_of_sums : {A : Type 0} (m : ℕ) (f : A → ℕ) (xs : List A) → 0 < 
 fold_of_sums m f xs some = ap (λ n. fold (add_next m f) n xs) (sym (mod-eq_of_lt some))
     ∙ fold_from m f 0 xs ∙ ap (λ n. n % m) (omega arith)
 
--- a fold that adds so, over a list
+-- a fold that adds so
+pub sum_of_brackets : {A : Type 0} (m : ℕ) (f : A → ℕ) (identity : ℕ → Type 0)
+    (step : ℕ → A → ℕ → Type 0) (reduce : ℕ → ℕ → ℕ → Type 0) (xs : List A) (r : ℕ)
+    → Bracketing identity step reduce xs r → 0 < m → ((e : ℕ) → identity e → e ≡ 0)
+    → ((a : ℕ) (x : A) (b : ℕ) → step a x b → b ≡ (a + f x) % m)
+    → ((a b r : ℕ) → reduce a b r → r ≡ (a + b) % m) → r ≡ sum_by f xs % m
+sum_of_brackets m f identity step reduce xs r brackets some starts steps reduces =
+    plain_from_bracketing identity step reduce xs r brackets 0 (add_next m f) (add_sums m)
+    (λ a. nat_lt a m) (sums_keep_laws m f identity step reduce xs some starts steps reduces)
+    ∙ fold_of_sums m f xs some
+
+-- the same over a list
 pub sum_of_list : {A E : Type 0} (all : List A) (m : ℕ) (f : A → ℕ) (identity : ℕ → Type 0)
     (step : ℕ → A → ℕ → Type 0) (reduce : ℕ → ℕ → ℕ → Type 0) (result : Result ℕ E)
     → IfOk result (λ r. (xs : List A) × (xs ≡ all) × Bracketing identity step reduce xs r) → 0 < m
     → ((e : ℕ) → identity e → e ≡ 0) → ((a : ℕ) (x : A) (b : ℕ) → step a x b → b ≡ (a + f x) % m)
     → ((a b r : ℕ) → reduce a b r → r ≡ (a + b) % m) → IfOk result (λ r. r ≡ sum_by f all % m)
 sum_of_list all m f identity step reduce result gave some starts steps reduces =
-    IfOk-weaker result _ (λ r. r ≡ sum_by f all % m) (λ r h. h ∙ fold_of_sums m f all some)
-    (fold_of_list all identity step reduce 0 (add_next m f) (add_sums m)
-    (λ a. nat_lt a m) result gave (sums_keep_laws m f identity step reduce all some starts steps
-    reduces))
+    IfOk-weaker result _ (λ r. r ≡ sum_by f all % m)
+    (λ r h. sum_of_brackets m f identity step reduce all r h some starts steps reduces)
+    (fact_of_list all (Bracketing identity step reduce) result gave)

@@ -94,8 +94,8 @@ abbrev pub ToldWithin : ℕ → ℕ → GateView → Type 0
 ToldWithin start count v = (at : ℕ) × (start ≤ at) × (at ≤ start + count) × Contains v.told at
     × All (λ told. at ≤ told) v.told
 
--- what the joined seats of a part have told at its end: nothing where it ended well, a segment's
--- start where one failed; and a refusal isn't told
+-- what the seats of a part, put together, have told at its end: nothing where it ended well, a
+-- segment's start where one failed; and a refusal isn't told
 abbrev pub ToldAfter : ℕ → ℕ → GateView → Ending → Type 0
 ToldAfter start count v well = v.told ≡ []
 ToldAfter start count v failing = ToldWithin start count v

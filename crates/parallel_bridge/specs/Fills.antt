@@ -7,15 +7,15 @@ use Rattle.parallel_bridge.specs.Sources.{Driven}
 use Rattle.parallel_bridge.specs.Tries.{OnlyOk}
 use Rattle.parallel_bridge.specs.Windows.{View}
 
--- it begins where the other one does, and has as many places
+-- it begins where the other one does, and has as many slots
 abbrev pub SamePlaces : {T : Type 0} → View T → View T → Type 0
 SamePlaces old new = (new.start ≡ old.start) × (new.room ≡ old.room)
 
--- each place has an item
+-- each slot has an item
 abbrev pub IsFull : {T : Type 0} → View T → Type 0
 IsFull window = (window.before ≡ 0) × (length window.items ≡ window.room)
 
--- no place has one
+-- no slot has one
 abbrev pub IsRoom : {T : Type 0} → View T → Type 0
 IsRoom window = (window.before ≡ 0) × (window.items ≡ [])
 
@@ -40,13 +40,13 @@ Answered so_far fails xs (Err e) = fails xs e
 abbrev pub OneAfterAnother : {T E : Type 0} → List T → List T → Result (List T) E → Type 0
 OneAfterAnother a b out = OnlyOk (λ c. c ≡ a ++ b) out
 
--- there is a place for each result to a list, and each item that may come is taken
+-- there is a slot for each result to a list, and each item that may come is taken
 abbrev pub Fillable : {P X T : Type 0} → RattleType → (P → ℕ) → (P → X → Type 0) → (X → Type 0) → P
     → View T → Type 0
 Fillable {X = X} R count may takes parts room = IsRoom room × (room.room ≡ count parts)
     × FitsInBlock R room.room × ((x : X) → may parts x → takes x)
 
--- the places are those of the room; unless there is trouble they are full, and the results go along
+-- the slots are those of the room; unless there is trouble they are full, and the results go along
 -- the shape of the list
 abbrev pub Filled : {P X T E : Type 0} → (P → List X → Type 0) → P
     → (List X → Result (List T) E → Type 0) → ℕ → View T → View T → Result (Unit {0}) (Trouble E)

@@ -1,5 +1,6 @@
 pub mod Lists
 pub mod Shapes
+pub mod Firsts
 pub mod Folds
 pub mod Comes
 pub mod Outcomes
@@ -23,6 +24,6 @@ pub mod WatchLaws
 pub mod Watched
 pub mod Zips
 pub mod ExactSizes
-pub mod Serials
 pub mod Chunks
 pub mod Loads
+pub mod Moves

@@ -48,7 +48,7 @@ Rejoins {D = D} together (Some seam) front back whole = (a b c : D) × (front �
     × (back ≡ Done b) × (whole ≡ Done c) × together seam a b c
 Rejoins together None front back whole = whole ≡ front
 
--- whatever a front and a back come to can be joined, and is then what the whole came to
+-- whatever a front and a back come to can be put together, and is then what the whole came to
 abbrev pub IsCutOf : {T D S : Type 0} → (ℕ → T → D → Type 0) → (S → D → D → Type 0)
     → (S → D → D → D → Type 0) → Slot T D → Slot T D → Slot T D → Option S → Type 0
 IsCutOf {T = T} {D = D} ends meet together slot front back seam = (u v : Slot T D)

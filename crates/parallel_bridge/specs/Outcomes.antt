@@ -8,7 +8,7 @@ use Rattle.parallel_fault.specs.declared.fault.Trouble.TheVariants.{Closure}
 use Rattle.parallel_fault.specs.declared.fault.Trouble.TheVariants.{Fault as OfFault}
 
 -- For a call whose closure has an error of its own: allowed holds of the result, or of the
--- closure's error; a refusal is want of memory.
+-- closure's error; a refusal is `Memory`.
 abbrev pub UnlessRefused : {R E : Type 0} → Result R (Trouble E) → (Result R E → Type 0) → Type 0
 UnlessRefused (Ok r) allowed = allowed (Ok r)
 UnlessRefused (Err (Closure e)) allowed = allowed (Err e)

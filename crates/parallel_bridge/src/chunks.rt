@@ -1,4 +1,4 @@
-//! A slice in neighbouring pieces of one length.
+//! A slice in neighbouring chunks of one length.
 ghost use Rattle.std.specs.Prelude.{◌≡◌, ◌*◌, ◌<◌, length, map, min};
 ghost use Rattle.std.specs.Int.{div_ceil};
 ghost use Rattle.std.specs.Int.NonZero.{non_zero_usize_get};
@@ -10,14 +10,14 @@ use parallel_fault::Fault;
 use std::alloc::Global;
 use std::num::NonZeroUsize;
 
-/// A slice in neighbouring pieces of `size` items, in order: what comes are the pieces, as by
+/// A slice in neighbouring chunks of `size` items, in order: what comes are the chunks, as by
 /// `slice::chunks`. The last one has what is left, which may be fewer items. An empty slice has no
-/// pieces.
+/// chunks.
 #[derive(Clone, Copy, Debug)]
 pub struct Chunks<'a, T> {
     /// The items.
     pub slice: &'a [T],
-    /// How many items a piece has, but for the last one.
+    /// How many items a chunk has, but for the last one.
     pub size: NonZeroUsize,
 }
 
@@ -67,7 +67,7 @@ impl<'a, T: Sync> Producer for Chunks<'a, T> {
     }
 }
 
-// Where a list of that many items is cut after that many whole pieces, or at its end.
+// Where a list of that many items is cut after that many whole chunks, or at its end.
 fn middle_of(len: usize, size: NonZeroUsize, index: usize) -> usize
     ensures cut { result ≡ min (index * non_zero_usize_get size) len }
     ensures some { 0 < non_zero_usize_get size }

@@ -21,7 +21,8 @@ use std::ops::Range;
 /// An iterator that may be called, ends, and gives just as many items as its `len` says. Of any
 /// other `ExactSizeIterator` its clauses say only that no more items come.
 pub trait ExactSize: ExactSizeIterator {
-    /// No run of calls gives more items than are left, and each that comes to its end gives as many.
+    /// No run of calls gives more items than are left, and each that comes to its end gives as
+    /// many.
     ghost exact: { (s : Self) → Self.can_next s × IsFinite (Self.remaining s)
         × GivesExactly Self.next_gives s (size (Self.remaining s)) };
 }

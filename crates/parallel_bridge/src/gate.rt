@@ -152,7 +152,7 @@ impl Gate {
         self.close_joined(all)
     }
 
-    /// The same with one seat that the others were joined into.
+    /// The same with one seat, with which the others were put together.
     ///
     /// Whoever saw a word less than its own start, and so was stopped, has a start that is greater
     /// than the result, and the result is a start that was told.

@@ -1,9 +1,10 @@
 //! What a list call does with its list: a file for each call, with its forms over an iterator as it
-//! comes, in parallel, and by a path.
+//! comes and in parallel.
 pub mod fold;
 pub mod fold_init;
 pub mod map;
 pub mod map_init;
+mod moving;
 pub mod partition;
 pub mod sort;
 pub mod try_fold;

@@ -79,10 +79,10 @@ impl<T: Send + Drop> Parts for Pairs<T> {
     }
 }
 
-/// Owned items, two neighbours at a time, where they lie. Their places are left.
+/// Owned items, two neighbours at a time, where they lie. Their slots are left.
 #[derive(Drop)]
 pub struct PairSegment<T: Drop> {
-    /// The items, one in each place.
+    /// The items, one in each slot.
     pub window: Window<T>,
 }
 

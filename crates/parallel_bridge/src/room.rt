@@ -1,19 +1,22 @@
-//! Lists that are given their places at once.
+//! Lists that are given their slots at once.
 ghost use Rattle.std.specs.Prelude.{◌≡◌, []};
 
 use std::alloc::Global;
 
-// A list of that many items, or of more, is given places to spare.
+// A list of that many items, or of more, is given slots to spare.
 const LONG: usize = 4_096;
 
-// How many places to spare it has, beside an eighth of its items.
+// How many slots to spare it has, beside an eighth of its items.
 const SPARE: usize = 34_816;
 
-/// How many places a list is given that is said to have that many items.
+// As much for lists that are counted in bytes.
+const SPARE_BYTES: usize = 262_144;
+
+/// How many slots a list is given that is said to have that many items.
 ///
 /// glibc gives the free memory at the end of its heap back once that is more than twice the
 /// greatest block that was freed. Two lists, as a gathered one and its results, with the 128 KiB
-/// that the heap keeps, would be more, and each call would get all their pages anew. The places to
+/// that the heap keeps, would be more, and each call would get all their pages anew. The slots to
 /// spare, which are never touched, make the greatest block great enough.
 pub(crate) fn places_for(hint: usize) -> usize {
     if hint < LONG {
@@ -23,7 +26,7 @@ pub(crate) fn places_for(hint: usize) -> usize {
     }
 }
 
-/// How many places a second list is given beside one that has `places_for(hint)`: none to spare but
+/// How many slots a second list is given beside one that has `places_for(hint)`: none to spare but
 /// an eighth.
 pub(crate) fn second_places_for(hint: usize) -> usize {
     if hint < LONG {
@@ -33,8 +36,8 @@ pub(crate) fn second_places_for(hint: usize) -> usize {
     }
 }
 
-/// An empty list with that many places, or with none where they are refused: a hint may be too
-/// high, so that a refusal of its places is no want of memory yet.
+/// An empty list with that many slots, or with none where they are refused: a hint may be too
+/// high, so that without its slots the list may still be made.
 pub(crate) fn with_places<T: Drop>(alloc: Global, places: usize) -> Vec<T>
     ensures { result.items ≡ [] }
 {
@@ -44,13 +47,20 @@ pub(crate) fn with_places<T: Drop>(alloc: Global, places: usize) -> Vec<T>
     }
 }
 
-/// Makes glibc keep the pages of lists that are let go later, where all of them together have no
+/// Makes glibc keep the pages of lists that are dropped later, where all of them together have no
 /// more than twice the memory of that many items.
-///
-/// glibc gives the free memory at the end of its heap back once that is more than twice the
-/// greatest block that was freed. So this takes a block of that many places, never touched, and
-/// lets it go.
 pub(crate) fn keep_pages_of<T: Drop>(alloc: Global, items: usize) {
     let block: Vec<T> = with_places(alloc, places_for(items));
     drop(block);
+}
+
+/// The same of lists that together have no more than twice that many bytes.
+///
+/// glibc gives the free memory at the end of its heap back once that is more than twice the
+/// greatest block that was freed. So this takes a block of that many bytes and an eighth more,
+/// never touched, and frees it; from then on the process holds back up to twice as much of what
+/// was freed at the end. A block of more than 32 MiB is mapped by itself and changes nothing, so
+/// that no more than 64 MiB are held back, and lists of more than some 28 MiB aren't kept.
+pub(crate) fn keep_pages(alloc: Global, bytes: usize) {
+    keep_pages_of::<u8>(alloc, bytes.saturating_add(SPARE_BYTES));
 }

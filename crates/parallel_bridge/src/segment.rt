@@ -120,10 +120,10 @@ impl<P: Producer> Segment<P::Item> for ProducerSegment<P> {
     }
 }
 
-/// Owned items, where they lie. Their places are left.
+/// Owned items, where they lie. Their slots are left.
 #[derive(Drop)]
 pub struct WindowSegment<T: Drop> {
-    /// The items, one in each place.
+    /// The items, one in each slot.
     pub window: Window<T>,
 }
 

@@ -12,8 +12,8 @@ use crate::watch::Watch;
 use parallel_fault::{Fault, Trouble};
 use std::convert::Infallible;
 
-/// The results of two neighbouring parts put together, and their watches joined. The watch of both
-/// is told where the reducer fails.
+/// The results of two neighbouring parts put together, and so are their watches. The watch of
+/// both is told where the reducer fails.
 ///
 /// # Errors
 ///

@@ -5,6 +5,7 @@ use Rattle.std.specs.List.{cons_option, filter, filter_map}
 use Rattle.std.proofs.lemmas.Bool.{cond-true, cond-false}
 use Rattle.parallel_bridge.specs.Lists.{MapOf}
 use Rattle.parallel_bridge.specs.Parts.{PartitionOf, values_of}
+use Rattle.parallel_bridge.proofs.OverLists.{map_weaker}
 use Rattle.parallel_calls.specs.Filters.{FilterOf, KeptBy, ValuesOf, somes}
 use Rattle.parallel_calls.specs.Functions.{GoesBy}
 
@@ -28,17 +29,11 @@ module _ {X Y : Type 0} (gives : X → Option Y → Type 0) (allowed : X → (�
       let (answers, all, is) = values_among xs ps each in (answers, all, values ∙ is)
 
 -- of answers that say more
-module _ {X Y : Type 0} (allowed gives : X → Option Y → Type 0)
-    (says : (x : X) (o : Option Y) → allowed x o → gives x o) where
-  answers_weaker : (xs : List X) (answers : List (Option Y)) → MapOf allowed xs answers
-      → MapOf gives xs answers
-  answers_weaker [] [] h = h
-  answers_weaker [] (o ∷ answers) h = absurd h
-  answers_weaker (x ∷ xs) [] h = absurd h
-  answers_weaker (x ∷ xs) (o ∷ answers) h = (says x o h.0, answers_weaker xs answers h.1)
-
-  pub values_weaker : (xs : List X) (ys : List Y) → ValuesOf allowed xs ys → ValuesOf gives xs ys
-  values_weaker xs ys (answers, each, is) = (answers, answers_weaker xs answers each, is)
+pub values_weaker : {X Y : Type 0} (allowed gives : X → Option Y → Type 0)
+    → ((x : X) (o : Option Y) → allowed x o → gives x o) → (xs : List X) (ys : List Y)
+    → ValuesOf allowed xs ys → ValuesOf gives xs ys
+values_weaker allowed gives says xs ys (answers, each, is) =
+    (answers, map_weaker allowed gives says xs answers each, is)
 
 -- answers that go by a function
 module _ {X Y : Type 0} (gives : X → Option Y → Type 0) (f : X → Option Y)

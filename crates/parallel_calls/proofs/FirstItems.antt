@@ -4,50 +4,45 @@ use Rattle.std.proofs.Common.{refl, sym, ◌∙◌, ap, subst, arith, length-app
 use Rattle.std.specs.Prelude.{◌||◌, ◌&&◌, nat_lt, ⊤}
 use Rattle.std.specs.Option.{is_some, option_or}
 use Rattle.std.specs.List.{All, find, list_all, list_any, position, position_or_len}
-use Rattle.std.proofs.lemmas.List.Elements.{All-nil, All-cons, All-head, All-tail, All-weaker}
+use Rattle.std.proofs.lemmas.List.Elements.{All-head, All-tail, All-weaker}
 use Rattle.std.proofs.lemmas.Bool.{cond-true, cond-false, false≢true, lt-ltb, le-ltb, or_left, or_from, and_left, and_from}
+use Rattle.parallel_fault.specs.Trouble.{IsStop}
 use Rattle.parallel_fault.specs.declared.fault.Fault.{Fault}
 use Rattle.parallel_fault.specs.declared.fault.Trouble.{Trouble}
 use Rattle.parallel_fault.specs.declared.fault.Trouble.TheVariants.{Closure}
 use Rattle.parallel_fault.specs.declared.fault.Trouble.TheVariants.{Fault as OfFault}
 use Rattle.parallel_bridge.specs.Outcomes.{UnlessRefused, listed}
-use Rattle.parallel_bridge.specs.Tries.{TryMapOf, EachOk}
-use Rattle.parallel_calls.specs.Firsts.{IsFirst, StopsAt, FirstOf, FirstPlaceOf, FirstValueOf, find_map}
+use Rattle.parallel_bridge.specs.Tries.{TryMapOf}
+use Rattle.parallel_bridge.proofs.Firsts.{first_judged, first_weaker}
+use Rattle.parallel_calls.specs.Firsts.{StopsAt, FirstOf, FirstPlaceOf, FirstValueOf, find_map}
 use Rattle.parallel_calls.specs.Functions.{GoesBy}
-use Rattle.parallel_calls.specs.Stops.{IsStop}
 use Rattle.parallel_calls.specs.Verdicts.{AllOf, AnyOf, LooksFor, LooksForValue, StopsUnless}
 
--- results that are all there say that each item went on
-each_went_on : {X E : Type 0} (allowed : X → Result ⊤ E → Type 0) (xs : List X) (ys : List ⊤)
-    → EachOk allowed xs ys → All (λ x. allowed x (Ok tt)) xs
-each_went_on allowed [] ys h = All-nil (λ x. allowed x (Ok tt))
-each_went_on allowed (x ∷ xs) [] h = absurd h
-each_went_on allowed (x ∷ xs) (y ∷ ys) h =
-    All-cons (λ z. allowed z (Ok tt)) x xs h.0 (each_went_on allowed xs ys h.1)
-
 -- what stopped a fallible map without results is what its first failing item stopped with
-pub stop_of_map : {X E : Type 0} (gives : List X → Type 0) (allowed : X → Result ⊤ E → Type 0)
-    (told : Result (Vec ⊤ Global) (Trouble E)) (result : Result (Option E) Fault)
-    → UnlessRefused told (λ out. (xs : List X) × gives xs × TryMapOf allowed xs (listed out))
-    → IsStop told result → IfOk result (λ stop. (xs : List X) × gives xs × StopsAt allowed xs stop)
-stop_of_map {X = X} gives allowed (Ok ys) result (xs, came, each) is =
-    subst (λ r. IfOk r (λ stop. (zs : List X) × gives zs × StopsAt allowed zs stop)) (sym is)
-    (xs, came, record { stops = each_went_on allowed xs ys.items each })
-stop_of_map {X = X} gives allowed (Err (Closure e)) result
-    (xs, came, (before, x, after, ys, split, each, fails)) is =
-    let first : IsFirst (λ y. allowed y (Err e)) (λ y. allowed y (Ok tt)) xs x (length before) =
-    (before, after, split, each_went_on allowed before ys each, fails, refl) in
-    subst (λ r. IfOk r (λ stop. (zs : List X) × gives zs × StopsAt allowed zs stop)) (sym is)
-    (xs, came, record { stops = (x, length before, first) })
-stop_of_map {X = X} gives allowed (Err (OfFault f)) result told is =
-    subst (λ r. IfOk r (λ stop. (zs : List X) × gives zs × StopsAt allowed zs stop)) (sym is) tt
+module _ {X E : Type 0} (gives : List X → Type 0) (allowed : X → Result ⊤ E → Type 0) where
+  abbrev Stops : Result (Option E) Fault → Type 0
+  Stops result = IfOk result (λ stop. (xs : List X) × gives xs × StopsAt allowed xs stop)
 
--- of another pair of properties
-first_weaker : {X : Type 0} (P Q P' Q' : X → Type 0) → ((x : X) → P x → P' x)
-    → ((x : X) → Q x → Q' x) → (xs : List X) (x : X) (place : ℕ) → IsFirst P Q xs x place
-    → IsFirst P' Q' xs x place
-first_weaker P Q P' Q' one other xs x place (before, after, split, fails, holds, at) =
-    (before, after, split, All-weaker Q Q' other before fails, one x holds, at)
+  pub stop_of_map : (told : Result (Vec ⊤ Global) (Trouble E)) (result : Result (Option E) Fault)
+      → UnlessRefused told (λ out. (xs : List X) × gives xs × TryMapOf allowed xs (listed out))
+      → IsStop told result → Stops result
+  stop_of_map (Ok ys) result (xs, came, each) is = subst Stops (sym is) (
+    xs,
+    came,
+    record {
+      stops = first_judged allowed (λ x. allowed x (Ok tt)) (λ e x. allowed x (Err e))
+          (λ x y h. h) (λ x e h. h) xs (Ok ys.items) each;
+    },
+  )
+  stop_of_map (Err (Closure e)) result (xs, came, failed) is = subst Stops (sym is) (
+    xs,
+    came,
+    record {
+      stops = first_judged allowed (λ x. allowed x (Ok tt)) (λ e' x. allowed x (Err e'))
+          (λ x y h. h) (λ x e' h. h) xs (Err e) failed;
+    },
+  )
+  stop_of_map (Err (OfFault f)) result told is = subst Stops (sym is) tt
 
 module _ {X : Type 0} (verdict : X → Bool → Type 0) (allowed : X → Result ⊤ X → Type 0)
     (looks : (x : X) (out : Result ⊤ X) → allowed x out → LooksFor verdict x out) where

@@ -1,16 +1,9 @@
-pub mod CountedItems
-pub mod EachCalled
 pub mod FilteredItems
 pub mod FirstItems
-pub mod FirstPlaces
-pub mod FlatItems
-pub mod Folded
 pub mod Forks
 pub mod Functions
-pub mod Neighbours
 pub mod Picks
 pub mod PlainScans
 pub mod Reductions
 pub mod Scans
-pub mod Runs
 pub mod Sums

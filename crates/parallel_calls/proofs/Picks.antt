@@ -8,7 +8,7 @@ use Rattle.std.specs.Cmp.{IsStrictWeakOrder}
 use Rattle.std.proofs.lemmas.Bool.{cond_both, cond-true, cond-false, false≢true, false_from_ne_true, true_from_ne_false}
 use Rattle.std.proofs.lemmas.List.Elements.{All-nil, All-cons, All-append, All-weaker}
 use Rattle.parallel_calls.specs.Extremes.{AcceptsTwo, GreatestOf, IsOneOf, LeastOf, PickOf, beats, picked}
-use Rattle.parallel_calls.proofs.Folded.{fold_has}
+use Rattle.parallel_bridge.proofs.Folded.{fold_has}
 
 -- what taking places has to keep
 pub record Wins {X : Type 0} (wins : X → X → Bool) : Type 0 where

@@ -3,7 +3,7 @@ use Rattle.std.proofs.Common.{◌≡◌, List, [], ◌∷◌, ◌++◌, append-n
 use Rattle.std.proofs.lemmas.List.Sums.{fold-append}
 use Rattle.parallel_bridge.specs.Lists.{Bracketing}
 use Rattle.parallel_calls.specs.Reductions.{IsAssociative, ReducedTwo, ReductionOf, Reduces, of_one, of_two, reduced_by}
-use Rattle.parallel_calls.proofs.Folded.{fold_has}
+use Rattle.parallel_bridge.proofs.Folded.{fold_has}
 
 module _ {X : Type 0} (op : X → X → X → Type 0) where
   joined_two : (xs ys : List X) (p q r : Option X) → ReductionOf op xs p → ReductionOf op ys q

@@ -6,7 +6,7 @@ use Rattle.std.proofs.lemmas.Nat.{mul-mod, mul-mod_first}
 use Rattle.std.proofs.Math.Nat.{mul_assoc}
 use Rattle.parallel_bridge.specs.Lists.{Bracketing}
 use Rattle.parallel_calls.specs.Sums.{CheckedSumOf, ChecksTwo, product_by}
-use Rattle.parallel_calls.proofs.Folded.{fold_has}
+use Rattle.parallel_bridge.proofs.Folded.{fold_has}
 
 module _ {N : Type 0} (value : N → ℕ) (identity : N → Type 0) (step : N → N → N → Type 0)
     (reduce : N → N → N → Type 0) where

@@ -1,11 +1,7 @@
 -- The first item of a list at which something holds.
-use Rattle.std.specs.Prelude.{◌≡◌, ℕ, Bool, true, false, List, [], ◌∷◌, ◌++◌, All, length, Option, Some, None, MatchOption, Result, Ok, Err, ⊤}
+use Rattle.std.specs.Prelude.{ℕ, Bool, true, false, List, [], ◌∷◌, All, Option, Some, None, MatchOption, Result, Ok, Err, ⊤}
 use Rattle.std.specs.Option.{option_or}
-
--- it holds at the item, which has that many others before it, at each of which it fails
-abbrev pub IsFirst : {X : Type 0} → (holds fails : X → Type 0) → List X → X → ℕ → Type 0
-IsFirst {X = X} holds fails xs x place = (before : List X) × (after : List X)
-    × (xs ≡ before ++ (x ∷ after)) × All fails before × holds x × (place ≡ length before)
+use Rattle.parallel_bridge.specs.Firsts.{IsFirst}
 
 -- the error of the first item that stops, or none, and then no item stops
 pub record StopsAt {X E : Type 0} (allowed : X → Result ⊤ E → Type 0) (xs : List X)

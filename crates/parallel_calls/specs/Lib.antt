@@ -10,6 +10,5 @@ pub mod OnePlace
 pub mod Reductions
 pub mod Scans
 pub mod Runs
-pub mod Stops
 pub mod Sums
 pub mod Verdicts

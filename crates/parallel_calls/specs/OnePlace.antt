@@ -1,4 +1,4 @@
--- the clauses of the calls of one place
+-- the clauses of the calls at one site
 use Rattle.std.specs.Prelude.{ℕ, ◌⊎◌, List}
 use Rattle.parallel_bridge.specs.declared.path.Path.{Path}
 use Rattle.parallel_bridge.specs.declared.path.Path.TheVariants.{Parallel}

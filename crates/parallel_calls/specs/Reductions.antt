@@ -8,7 +8,7 @@ pub data Reduces {X : Type 0} (op : X → X → X → Type 0) : List X → X →
   of_two : {xs ys zs : List X} {p q r : X} → zs ≡ xs ++ ys → Reduces op xs p → Reduces op ys q
       → op p q r → Reduces op zs r
 
--- none of an empty list
+-- none of an empty list, and a reduction of another
 abbrev pub ReductionOf : {X : Type 0} → (X → X → X → Type 0) → List X → Option X → Type 0
 ReductionOf op xs found = MatchOption found (xs ≡ []) (Reduces op xs)
 

@@ -1,5 +1,5 @@
 -- The first item of each run of neighbours that are the same.
-use Rattle.std.specs.Prelude.{◌≡◌, ℕ, ◌+◌, Bool, true, false, cond, List, [], ◌∷◌, Option, MatchOption, slice_index_or}
+use Rattle.std.specs.Prelude.{◌≡◌, ℕ, ◌-◌, ◌<◌, Bool, true, false, cond, List, [], ◌∷◌, Option, MatchOption, slice_index_or}
 use Rattle.std.specs.Borrow.{Bor}
 use Rattle.parallel_calls.specs.Neighbours.{HoldsAtNext}
 
@@ -30,11 +30,11 @@ dedup_of same (x ∷ xs) = x ∷ dedup_after same x xs
 
 -- what may be answered of the item at a place and the one before it; false of the first one
 abbrev pub RepeatsAt : {X : Type 0} → (X → X → Bool → Type 0) → List X → ℕ → Bool → Type 0
-RepeatsAt verdict xs place same = (place ≡ 0 → same ≡ false)
-    × ((before : ℕ) → place ≡ before + 1 → HoldsAtNext verdict xs before same)
+RepeatsAt verdict xs place same =
+    (place ≡ 0 → same ≡ false) × (0 < place → HoldsAtNext verdict xs (place - 1) same)
 
 -- a borrow of the item at a place where that may be answered false, and nothing where it may be
 -- answered true
 abbrev pub KeptAt : {X : Type 0} → (X → X → Bool → Type 0) → List X → ℕ → Option (Bor X) → Type 0
-KeptAt {X = X} verdict xs place kept = MatchOption kept (RepeatsAt verdict xs place true)
-    (λ item. ((d : X) → item.now ≡ slice_index_or xs place d) × RepeatsAt verdict xs place false)
+KeptAt verdict xs place kept = MatchOption kept (RepeatsAt verdict xs place true)
+    (λ item. (item.now ≡ slice_index_or xs place item.now) × RepeatsAt verdict xs place false)

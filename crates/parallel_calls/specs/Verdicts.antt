@@ -1,6 +1,7 @@
 -- What a test says of an item, as the result of a step that stops, and of a list's items together.
 use Rattle.std.specs.Prelude.{◌≡◌, ℕ, Bool, true, false, List, Option, Some, None, Result, MatchResult, All, ⊤}
-use Rattle.parallel_calls.specs.Firsts.{IsFirst, FirstOf}
+use Rattle.parallel_bridge.specs.Firsts.{IsFirst}
+use Rattle.parallel_calls.specs.Firsts.{FirstOf}
 
 -- the step goes on where the item may be answered so, and stops where it may be answered otherwise
 abbrev pub StopsUnless : {X : Type 0} → Bool → (X → Bool → Type 0) → X → Result ⊤ ⊤ → Type 0

@@ -1,4 +1,5 @@
 //! The first least item and the last greatest one, by keys.
+ghost use Rattle.std.specs.Borrow.{Bor};
 ghost use Rattle.std.specs.Prelude.{◌≡◌, IfOk};
 ghost use Rattle.std.specs.Cmp.{IsTotalOrder};
 ghost use Rattle.std.specs.Fn.{FnReturnsAt};
@@ -27,14 +28,15 @@ impl<'s, Rt: Threads + Wait + Sync, S: Strategy, P: Place> On<'s, Rt, S, P> {
         F: Fn(&I::Item) -> K + Send + Sync + Drop,
     >(&self, source: I, key: F) -> Result<Option<I::Item>, Fault>
         requires can { I.can source }
-        requires accepts { F.IsAlwaysCallable key }
+        requires accepts { (x : Bor I.Item) → I.may source x.now → F.pre key x }
         ensures least { (key_of : I.Item → K) → GoesBy (λ x k. FnReturnsAt F.Fn key x k) key_of
             → IfOk result (λ least. GivesSome I.gives source
             (λ xs. LeastOf (less_by K.cmp key_of) xs least)) }
         ensures fault { IsMemoryOnErr result }
     {
         let compare = |left: &I::Item, right: &I::Item| -> Ordering
-            requires { F.IsAlwaysCallable key }
+            requires left { F.pre key left }
+            requires right { F.pre key right }
             ensures { (key_of : I.Item → K) → GoesBy (λ x k. FnReturnsAt F.Fn key x k) key_of
                 → result ≡ K.cmp (key_of left.now) (key_of right.now) }
         { by_key(&key, left, right) };
@@ -55,14 +57,15 @@ impl<'s, Rt: Threads + Wait + Sync, S: Strategy, P: Place> On<'s, Rt, S, P> {
         F: Fn(&I::Item) -> K + Send + Sync + Drop,
     >(&self, source: I, key: F) -> Result<Option<I::Item>, Fault>
         requires can { I.can source }
-        requires accepts { F.IsAlwaysCallable key }
+        requires accepts { (x : Bor I.Item) → I.may source x.now → F.pre key x }
         ensures greatest { (key_of : I.Item → K) → GoesBy (λ x k. FnReturnsAt F.Fn key x k) key_of
             → IfOk result (λ greatest. GivesSome I.gives source
             (λ xs. GreatestOf (less_by K.cmp key_of) xs greatest)) }
         ensures fault { IsMemoryOnErr result }
     {
         let compare = |left: &I::Item, right: &I::Item| -> Ordering
-            requires { F.IsAlwaysCallable key }
+            requires left { F.pre key left }
+            requires right { F.pre key right }
             ensures { (key_of : I.Item → K) → GoesBy (λ x k. FnReturnsAt F.Fn key x k) key_of
                 → result ≡ K.cmp (key_of left.now) (key_of right.now) }
         { by_key(&key, left, right) };
@@ -73,7 +76,8 @@ impl<'s, Rt: Threads + Wait + Sync, S: Strategy, P: Place> On<'s, Rt, S, P> {
 
 // The order of two items' keys.
 pub(crate) fn by_key<T, K: Ord + Drop, F: Fn(&T) -> K>(key: &F, left: &T, right: &T) -> Ordering
-    requires { F.IsAlwaysCallable key.now }
+    requires left { F.pre key.now left }
+    requires right { F.pre key.now right }
     ensures { (key_of : T → K) → GoesBy (λ x k. FnReturnsAt F.Fn key.now x k) key_of
         → result ≡ K.cmp (key_of left.now) (key_of right.now) }
 {

@@ -5,6 +5,7 @@ ghost use Rattle.std.specs.Fn.{FnReturnsAtPair};
 ghost use Rattle.std.specs.List.{dedup};
 ghost use Rattle.commonware_parallel.specs.Words.{IsMemoryOnErr};
 ghost use Rattle.parallel_calls.specs.Functions.{GoesByPair};
+ghost use Rattle.parallel_calls.specs.Neighbours.{AcceptsNext};
 ghost use Rattle.parallel_calls.specs.Runs.{DedupOf, KeptAt, RepeatsAt, dedup_of};
 
 use crate::on::On;
@@ -26,7 +27,7 @@ impl<'s, Rt: Threads + Wait + Sync, S: Strategy, P: Place> On<'s, Rt, S, P> {
         items: &'a [T],
         same: F,
     ) -> Result<Vec<&'a T>, Fault>
-        requires accepts { F.IsAlwaysCallable same }
+        requires accepts { AcceptsNext (F.pre same) items.now }
         ensures kept { IfOk result (λ kept. DedupOf (λ x y b. FnReturnsAtPair F.Fn same x y b)
             items.now (map (λ item. item.now) kept.items)) }
         ensures plain { (f : T → T → Bool) → GoesByPair (λ x y b. FnReturnsAtPair F.Fn same x y b) f
@@ -37,7 +38,7 @@ impl<'s, Rt: Threads + Wait + Sync, S: Strategy, P: Place> On<'s, Rt, S, P> {
         ensures fault { IsMemoryOnErr result }
     {
         let keep = |place: usize| -> Option<&T>
-            requires accepts { F.IsAlwaysCallable same }
+            requires accepts { AcceptsNext (F.pre same) items.now }
             requires inside { place < length items.now }
             ensures { KeptAt (λ x y b. FnReturnsAtPair F.Fn same x y b) items.entry.now place
                 result }
@@ -58,7 +59,7 @@ impl<'s, Rt: Threads + Wait + Sync, S: Strategy, P: Place> On<'s, Rt, S, P> {
 
 // Whether the item at a place is the same as the one before it.
 fn repeats<T, F: Fn(&T, &T) -> bool>(same: &F, items: &[T], place: usize) -> bool
-    requires accepts { F.IsAlwaysCallable same.now }
+    requires accepts { AcceptsNext (F.pre same.now) items.now }
     requires inside { place < length items.now }
     ensures { RepeatsAt (λ x y b. FnReturnsAtPair F.Fn same.now x y b) items.now place result }
 {

@@ -1,10 +1,11 @@
 //! The items that satisfy a test, and the values that the items give, in their order.
+ghost use Rattle.std.specs.Borrow.{Bor};
 ghost use Rattle.std.specs.Prelude.{◌≡◌, Bool, Option, IfOk};
 ghost use Rattle.std.specs.Fn.{FnReturnsAt};
 ghost use Rattle.std.specs.List.{filter, filter_map};
 ghost use Rattle.commonware_parallel.specs.Words.{GivesSome, IsMemoryOnErr};
 ghost use Rattle.parallel_calls.specs.Filters.{FilterOf, KeptBy, ValuesOf};
-ghost use Rattle.parallel_calls.specs.Functions.{GoesBy};
+ghost use Rattle.parallel_calls.specs.Functions.{AcceptsAt, GoesBy};
 
 use crate::on::On;
 use commonware_parallel::{Fault, Place, Source, Strategy};
@@ -23,7 +24,7 @@ impl<'s, Rt: Threads + Wait + Sync, S: Strategy, P: Place> On<'s, Rt, S, P> {
         test: F,
     ) -> Result<Vec<I::Item>, Fault>
         requires can { I.can source }
-        requires accepts { F.IsAlwaysCallable test }
+        requires accepts { (x : Bor I.Item) → I.may source x.now → F.pre test x }
         ensures kept { IfOk result (λ kept. GivesSome I.gives source
             (λ xs. FilterOf (λ x b. FnReturnsAt F.Fn test x b) xs kept.items)) }
         ensures plain { (passes : I.Item → Bool)
@@ -33,7 +34,7 @@ impl<'s, Rt: Threads + Wait + Sync, S: Strategy, P: Place> On<'s, Rt, S, P> {
         ensures fault { IsMemoryOnErr result }
     {
         let keep = |item: I::Item| -> Option<I::Item>
-            requires { F.IsAlwaysCallable test }
+            requires { AcceptsAt (F.pre test) item }
             ensures { KeptBy (λ x b. FnReturnsAt F.Fn test x b) item result }
         { if test(&item) { Some(item) } else { None } };
         self.filter_map(source, keep)

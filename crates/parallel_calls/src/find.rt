@@ -1,10 +1,11 @@
 //! The first item that satisfies a test, its place, and the first value that an item gives.
+ghost use Rattle.std.specs.Borrow.{Bor};
 ghost use Rattle.std.specs.Prelude.{◌≡◌, Bool, Option, IfOk};
 ghost use Rattle.std.specs.Fn.{FnReturnsAt};
 ghost use Rattle.std.specs.List.{find, position};
 ghost use Rattle.commonware_parallel.specs.Words.{GivesSome, IsMemoryOnErr};
 ghost use Rattle.parallel_calls.specs.Firsts.{FirstOf, FirstPlaceOf, FirstValueOf, find_map};
-ghost use Rattle.parallel_calls.specs.Functions.{GoesBy};
+ghost use Rattle.parallel_calls.specs.Functions.{AcceptsAt, GoesBy};
 ghost use Rattle.parallel_calls.specs.Verdicts.{LooksFor, LooksForPlace, LooksForValue};
 
 use crate::on::On;
@@ -25,7 +26,7 @@ impl<'s, Rt: Threads + Wait + Sync, S: Strategy, P: Place> On<'s, Rt, S, P> {
         test: F,
     ) -> Result<Option<I::Item>, Fault>
         requires can { I.can source }
-        requires accepts { F.IsAlwaysCallable test }
+        requires accepts { (x : Bor I.Item) → I.may source x.now → F.pre test x }
         ensures first { IfOk result (λ found. GivesSome I.gives source
             (λ xs. FirstOf (λ x b. FnReturnsAt F.Fn test x b) xs found)) }
         ensures plain { (passes : I.Item → Bool)
@@ -33,11 +34,11 @@ impl<'s, Rt: Threads + Wait + Sync, S: Strategy, P: Place> On<'s, Rt, S, P> {
             → IfOk result (λ found. GivesSome I.gives source (λ xs. found ≡ find passes xs)) }
         ensures fault { IsMemoryOnErr result }
     {
-        let step = |item: I::Item| -> Result<(), I::Item>
-            requires { F.IsAlwaysCallable test }
+        let look = |item: I::Item| -> Result<(), I::Item>
+            requires { AcceptsAt (F.pre test) item }
             ensures { LooksFor (λ x b. FnReturnsAt F.Fn test x b) item result }
         { if test(&item) { Err(item) } else { Ok(()) } };
-        self.first_stop(source, step)
+        self.first_stop(source, look)
     }
 
     /// The place of the first item of a list that satisfies the test, from 0 on; and none, where no

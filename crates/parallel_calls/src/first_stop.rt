@@ -1,11 +1,11 @@
 //! The first item at which a step stops.
-ghost use Rattle.std.specs.Prelude.{◌≡◌, IfOk};
-ghost use Rattle.commonware_parallel.specs.Words.{GivesSome, IsMemoryOnErr, IsMemoryOnFault};
+ghost use Rattle.std.specs.Prelude.{IfOk};
+ghost use Rattle.commonware_parallel.specs.Words.{GivesSome, IsMemoryOnErr};
 ghost use Rattle.parallel_calls.specs.Firsts.{StopsAt};
-ghost use Rattle.parallel_calls.specs.Stops.{IsStop};
 
 use crate::on::On;
-use commonware_parallel::{Fault, Place, Source, Strategy, Trouble};
+use commonware_parallel::{Fault, Place, Source, Strategy};
+use parallel_fault::stopped;
 use std::sync::Wait;
 use std::thread::Threads;
 
@@ -25,17 +25,5 @@ impl<'s, Rt: Threads + Wait + Sync, S: Strategy, P: Place> On<'s, Rt, S, P> {
     {
         let told = self.try_map(source, step);
         stopped(told)
-    }
-}
-
-// The closure's error, where that stopped a call, or the refusal.
-fn stopped<E: Drop>(told: Result<Vec<()>, Trouble<E>>) -> Result<Option<E>, Fault>
-    ensures stop { IsStop told result }
-    ensures fault { IsMemoryOnFault told → IsMemoryOnErr result }
-{
-    match told {
-        Ok(_) => Ok(None),
-        Err(Trouble::Closure(error)) => Ok(Some(error)),
-        Err(Trouble::Fault(fault)) => Err(fault),
     }
 }

@@ -2,7 +2,7 @@
 //! some item satisfies, which is the first or the least one, how many there are, what a list is
 //! filtered to, and what it adds up to, at its end and at each place.
 //!
-//! All are methods of `On`, which has what the calls of a place have in common.
+//! All are methods of `On`, which has what the calls at a site have in common.
 #![tactic(auto)]
 
 mod any;

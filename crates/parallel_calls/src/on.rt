@@ -1,4 +1,4 @@
-//! The calls of one place, with what they have in common written once.
+//! The calls at one site, with what they have in common written once.
 ghost use Rattle.std.specs.Prelude.{◌≡◌, Bool, IfErr, IfOk, List, OnOk, Option, Result, fold, length, map};
 ghost use Rattle.parallel_bridge.specs.Folds.{FoldLaws};
 ghost use Rattle.parallel_bridge.specs.Parts.{keys_of, values_of};
@@ -15,7 +15,7 @@ use std::num::NonZeroUsize;
 use std::sync::Wait;
 use std::thread::Threads;
 
-/// What the calls of a place have in common: the runtime, the allocator, the strategy and the
+/// What the calls at a site have in common: the runtime, the allocator, the strategy and the
 /// place.
 ///
 /// A function makes one at its beginning, `let on = On { rt, alloc, strategy, site };`, and then
@@ -30,7 +30,7 @@ pub struct On<'s, Rt, S, P> {
     pub alloc: Global,
     /// The strategy that the calls go through.
     pub strategy: &'s S,
-    /// The place of the calls, by which a policy tells them apart.
+    /// The call site, by which a policy tells them apart.
     pub site: P,
 }
 

@@ -4,7 +4,7 @@ ghost use Rattle.std.specs.Fn.{FnReturnsAtPair};
 ghost use Rattle.std.specs.List.{IsAllAdjacentAnswer};
 ghost use Rattle.commonware_parallel.specs.Words.{IsMemoryOnErr};
 ghost use Rattle.parallel_calls.specs.Functions.{GoesByPair};
-ghost use Rattle.parallel_calls.specs.Neighbours.{HoldsAtNext};
+ghost use Rattle.parallel_calls.specs.Neighbours.{AcceptsNext, HoldsAtNext};
 ghost use Rattle.parallel_calls.specs.Verdicts.{StopsUnless};
 
 use crate::on::On;
@@ -25,7 +25,7 @@ impl<'s, Rt: Threads + Wait + Sync, S: Strategy, P: Place> On<'s, Rt, S, P> {
         items: &[T],
         compare: C,
     ) -> Result<bool, Fault>
-        requires accepts { C.IsAlwaysCallable compare }
+        requires accepts { AcceptsNext (C.pre compare) items.now }
         ensures sorted { IfOk result
             (IsAllAdjacentAnswer (λ x y b. FnReturnsAtPair C.Fn compare x y b) items.now) }
         ensures plain { (fits : T → T → Bool)
@@ -34,7 +34,7 @@ impl<'s, Rt: Threads + Wait + Sync, S: Strategy, P: Place> On<'s, Rt, S, P> {
         ensures fault { IsMemoryOnErr result }
     {
         let step = |place: usize| -> Result<(), ()>
-            requires accepts { C.IsAlwaysCallable compare }
+            requires accepts { AcceptsNext (C.pre compare) items.now }
             requires inside { place + 1 < length items.now }
             ensures { StopsUnless true (HoldsAtNext
                 (λ x y b. FnReturnsAtPair C.Fn compare x y b) items.entry.now) place result }
@@ -56,7 +56,7 @@ impl<'s, Rt: Threads + Wait + Sync, S: Strategy, P: Place> On<'s, Rt, S, P> {
 
 // What the closure answers at an item and the next one.
 pub(crate) fn at_next<T, C: Fn(&T, &T) -> bool>(compare: &C, items: &[T], place: usize) -> bool
-    requires accepts { C.IsAlwaysCallable compare.now }
+    requires accepts { AcceptsNext (C.pre compare.now) items.now }
     requires inside { place + 1 < length items.now }
     ensures { HoldsAtNext (λ x y b. FnReturnsAtPair C.Fn compare.now x y b) items.now place result }
 {

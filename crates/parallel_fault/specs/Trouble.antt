@@ -1,5 +1,5 @@
 -- What is said of a refusal, and of an error that a closure has of its own.
-use Rattle.std.specs.Prelude.{◌≡◌, Result, Err, Ok, IfErr}
+use Rattle.std.specs.Prelude.{◌≡◌, Option, Some, None, Result, Err, Ok, IfErr}
 use Rattle.parallel_fault.specs.declared.fault.Fault.{Fault}
 use Rattle.parallel_fault.specs.declared.fault.Trouble.{Trouble}
 use Rattle.std.specs.declared.io.ErrorKind.{ErrorKind}
@@ -18,14 +18,21 @@ abbrev pub IfFault : {E : Type 0} → Trouble E → (Fault → Type 0) → Type 
 IfFault (Closure e) P = Unit {0}
 IfFault (OfFault f) P = P f
 
--- no fault but want of memory
+-- no fault but `Memory`
 abbrev pub IsMemoryOnErr : {T : Type 0} → Result T Fault → Type 0
 IsMemoryOnErr (Ok _) = Unit {0}
 IsMemoryOnErr (Err f) = f ≡ Memory
 
--- no fault but want of memory, where the closure may have an error of its own
+-- no fault but `Memory`, where the closure may have an error of its own
 abbrev pub IsMemoryOnFault : {T E : Type 0} → Result T (Trouble E) → Type 0
 IsMemoryOnFault result = IfErr result (λ trouble. IfFault trouble (λ fault. fault ≡ Memory))
+
+-- nothing where a call has a result, the closure's error where that stopped it, and otherwise the
+-- refusal
+abbrev pub IsStop : {R E : Type 0} → Result R (Trouble E) → Result (Option E) Fault → Type 0
+IsStop (Ok _) stop = stop ≡ Ok None
+IsStop (Err (Closure e)) stop = stop ≡ Ok (Some e)
+IsStop (Err (OfFault f)) stop = stop ≡ Err f
 
 -- the kind of the `io::Error` that a fault becomes
 abbrev pub fault_kind : Fault → ErrorKind

@@ -1,7 +1,7 @@
 //! Why a call could not be carried out, and why a call whose closures may fail has no result.
 ghost use Rattle.std.specs.Prelude.{◌≡◌};
 ghost use Rattle.std.specs.IoError.{error_kind};
-ghost use Rattle.parallel_fault.specs.Trouble.{fault_kind};
+ghost use Rattle.parallel_fault.specs.Trouble.{IsMemoryOnErr, IsMemoryOnFault, IsStop, fault_kind};
 ghost use Rattle.parallel_fault.specs.declared.fault.Fault.TheVariants.{Memory};
 ghost use Rattle.parallel_fault.specs.declared.fault.Trouble.TheVariants.{Fault as OfFault};
 
@@ -10,10 +10,10 @@ use std::fmt::Display;
 use std::io;
 use thiserror::Error;
 
-/// Why a call could not be carried out, for a reason that is none of its caller's closures.
+/// Why a call could not be carried out, where that is no error of its caller's closures.
 ///
-/// Each call that returns one says what it leaves behind. `Memory` and `Worker` come only where a
-/// growth or a start was really refused.
+/// A closure that returns a `Fault` itself, such as the `prepare` of a batch's map, or a strategy of
+/// one's own may give `Memory` where no allocation failed.
 #[derive(Clone, Copy, Debug, PartialEq, Eq, Error)]
 pub enum Fault {
     /// A growth of a list, a table or a queue was refused.
@@ -37,6 +37,23 @@ pub enum Trouble<E> {
     /// A refusal of the call itself.
     #[error(transparent)]
     Fault(Fault),
+}
+
+/// What stopped a call: nothing where it has a result, which is dropped, and otherwise the error of
+/// the caller's closure.
+///
+/// # Errors
+///
+/// The refusal of the call itself.
+pub fn stopped<T: Drop, E>(told: Result<T, Trouble<E>>) -> Result<Option<E>, Fault>
+    ensures stop { IsStop told result }
+    ensures fault { IsMemoryOnFault told → IsMemoryOnErr result }
+{
+    match told {
+        Ok(_) => Ok(None),
+        Err(Trouble::Closure(error)) => Ok(Some(error)),
+        Err(Trouble::Fault(fault)) => Err(fault),
+    }
 }
 
 /// A refused growth is `Fault::Memory`.

@@ -3,4 +3,4 @@
 
 pub mod fault;
 
-pub use fault::{Fault, Trouble};
+pub use fault::{Fault, Trouble, stopped};

@@ -17,7 +17,7 @@ AnswersOn allowed path (Ok r) = allowed path (Ok r)
 AnswersOn allowed path (Err (Closure e)) = allowed path (Err e)
 AnswersOn allowed path (Err (OfFault f)) = ⊥
 
--- the result is one that a body allows on one of the two paths, or a want of memory
+-- the result is one that a body allows on one of the two paths, or `Memory`
 abbrev pub DecidesAs : {R E : Type 0} → (RunExecution → Result R E → Type 0) → Result R (Trouble E)
     → Type 0
 DecidesAs allowed (Ok r) = (path : RunExecution) × allowed path (Ok r)
@@ -83,7 +83,7 @@ module _ {S Q C R E : Type 0} (chooses : S → Q → ℕ → RunExecution × Boo
     pub fails : runs started path (Err e) later
 
   -- the choices went on by one choice, on whose path the body ran, and where it was measured and
-  -- returned by one sample, and by nothing else; a refused choice is a want of memory, and nothing
+  -- returned by one sample, and by nothing else; a refused choice is `Memory`, and nothing
   -- ran
   abbrev pub Decides : S → Q → ℕ → C → Result R (Trouble E) → S → C → Type 0
   Decides old key parallelism earlier (Ok r) new later = (path : RunExecution) × (measured : Bool)
@@ -104,7 +104,7 @@ module _ {S Q C : Type 0} (chooses : S → Q → ℕ → RunExecution × Bool �
   Begins measured None earlier later = (measured ≡ false) × (later ≡ earlier)
 
   -- the choices went on by one choice, which the ticket has, and the run has begun; a refused
-  -- choice is a want of memory, and the clock wasn't read
+  -- choice is `Memory`, and the clock wasn't read
   abbrev pub Asks : S → Q → ℕ → C → Result Ticket Fault → S → C → Type 0
   Asks old key parallelism earlier (Ok ticket) new later = (measured : Bool)
       × chooses old key parallelism (ticket.execution, measured) new

@@ -16,7 +16,8 @@ MeasuresOne (Sampled _ _ ∷ recent) history = MeasuresOne recent history
 MeasuresOne (Chosen parallelism ∷ recent) history =
     ((run_choice (recent ++ history) parallelism).1 ≡ true) ⊎ MeasuresOne recent history
 
--- whatever came before, and whatever samples come between, one of ten choices in a row is measured
+-- whatever came before, and whatever samples come between, of ten consecutive choices one is
+-- measured
 abbrev pub MeasuresOneOfTen : Type 0
 MeasuresOneOfTen = (recent history : RunHistory) → 10 ≤ choices_of recent
     → MeasuresOne recent history

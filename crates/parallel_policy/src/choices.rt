@@ -98,11 +98,10 @@ pub fn tell<Rt: Wait, Q: Copy, C: Choices<Q>, N: FnMut() -> u64>(
 }
 
 /// Runs `body` as `choices` chooses for `key`, and records how long it took where it was to be
-/// measured and returned `Ok`.
+/// measured and returned `Ok`; planned for one thread it runs serially, and nothing is recorded.
 ///
-/// Planned for one thread the body runs serially and the choices stay as they are. The time is the
-/// reading of the clock `now` after the body less the reading before it, and 0 where the clock went
-/// back. The body is lent the clock: what it reads, it reads between the two.
+/// The time is the reading of the clock `now` after the body less the reading before it, and 0
+/// where the clock went back. The body is lent the clock: what it reads, it reads between the two.
 ///
 /// # Errors
 ///

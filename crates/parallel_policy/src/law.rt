@@ -1,7 +1,7 @@
 //! What holds of every history.
 ghost use Rattle.parallel_policy.specs.Laws.{MeasuresOneOfTen};
 
-/// The law of measuring: of any ten choices in a row of a `RunEntry`, whatever it was recorded
+/// The law of measuring: of any ten consecutive choices of a `RunEntry`, whatever it was recorded
 /// before and between them, one is measured. It does nothing.
 pub fn measuring_law()
     ensures { MeasuresOneOfTen }

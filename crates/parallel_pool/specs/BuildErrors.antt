@@ -5,7 +5,7 @@ use Rattle.parallel_fault.specs.declared.fault.Fault.TheVariants.{Memory as Want
 use Rattle.parallel_pool.specs.declared.rayon.build_error.ThreadPoolBuildError.{ThreadPoolBuildError}
 use Rattle.parallel_pool.specs.declared.rayon.build_error.ThreadPoolBuildError.TheVariants.{Memory, Spawn}
 
--- want of memory, or a worker that could not be started
+-- `Memory`, or a worker that could not be started
 abbrev pub fault_of : ThreadPoolBuildError → Fault
 fault_of Memory = WantOfMemory
 fault_of Spawn = Worker

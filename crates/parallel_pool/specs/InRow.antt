@@ -1,14 +1,14 @@
--- What is said of the places in which items wait for their calls.
+-- What is said of the slots in which items wait for their calls.
 use Rattle.std.specs.Prelude.{◌≡◌, ℕ, ◌<◌, List, length, slice_index_or, Option, Some, None}
 use denote.Param.Members.{Shared}
 use Rattle.std.specs.Fn.{FnReturns}
 use Rattle.parallel_pool.specs.declared.rayon.in_row.Place.{Place}
 
--- the place of an item before its call
+-- the slot of an item before its call
 abbrev pub waits : {X T : Type 0} → X → Place X T
 waits x = record { item = Some x; answer = None }
 
--- the result in a place, where there is one
+-- the result in a slot, where there is one
 abbrev pub answer_of : {X T : Type 0} → Place X T → Option T
 answer_of p = p.answer
 

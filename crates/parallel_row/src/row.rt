@@ -12,7 +12,7 @@ ghost use Rattle.parallel_row.specs.Cut.{AcceptsCut, ChangesCut, Rises, part_of_
 use crate::cuts::Cuts;
 use std::thread::{Threads, join_mut};
 
-/// One thread starts fewer than that many others in a row, since each takes some of its stack.
+/// One thread starts fewer than that many others, since each start takes some of its stack.
 pub const ROW: usize = 64;
 
 /// Calls `op` with each of the first `count` parts, which the items are, and the index at which it

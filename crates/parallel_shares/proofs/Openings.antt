@@ -78,7 +78,7 @@ opening_word sizes (suc n) k h =
           ∙ ap (λ i. packed (opening_start sizes i) (opening_start sizes (suc i))) e
     ]
 
--- the row of a seat that a plan opens with is fresh
+-- the record of a seat that a plan opens with is fresh
 opening_seat_row : (n i : ℕ) → get_or (replicate n fresh) i fresh ≡ fresh
 opening_seat_row n i =
     elim (cases_lt i n) [

@@ -82,7 +82,7 @@ GoesOn {T = T} fill ends len more opened results state opened_after results_afte
     → Underway fill ends len first cells opened results state
     → Underway fill ends len first (cells ++ more) opened_after results_after state_after
 
--- the same by a piece, on rows of any length that it is a piece of
+-- the same by a tile, on rows of any length that it is a tile of
 abbrev pub GoesOnByPiece : {T R : Type 0} → (T → ℕ → Range ℕ → T → Type 0)
     → (T → Stretch → R → T → Type 0) → Piece → Option Piece → List R → T → Option Piece → List R → T
     → Type 0

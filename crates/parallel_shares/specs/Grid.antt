@@ -9,7 +9,7 @@ use Rattle.parallel_shares.specs.declared.grid.Grid.{Grid}
 abbrev pub stopping : ℕ → ℕ
 stopping n = min n (2 ^ 64 - 1)
 
--- the cost of a tile, in indices
+-- the cost of a tile, in columns
 abbrev pub tile_cost_of : Grid → ℕ
 tile_cost_of grid = non_zero_usize_get grid.tile_cost
 
@@ -21,7 +21,7 @@ row_cost grid len = stopping (len + tile_cost_of grid)
 abbrev pub whole_cost : Grid → ℕ → ℕ → ℕ
 whole_cost grid len workers = stopping (div_ceil grid.rows workers * row_cost grid len)
 
--- where rows are cut: an even share of all rows, and three tiles' cost for the pieces
+-- where rows are cut: an even share of all rows, and three tiles' cost
 abbrev pub cut_cost : Grid → ℕ → ℕ → ℕ
 cut_cost grid len workers =
     stopping (stopping (grid.rows * row_cost grid len) / workers + stopping (3 * tile_cost_of grid))
@@ -51,6 +51,6 @@ IsCheapest grids len workers count index =
 abbrev pub IsChosenGrid : List Grid → ℕ → ℕ → ℕ → Type 0
 IsChosenGrid grids len workers index = IsCheapest grids len workers (length grids) index
 
--- there is a grid, and the number of indices of each is at most the greatest usize
+-- there is a grid, and the number of cells of each is at most the greatest usize
 abbrev pub Fits : List Grid → ℕ → Type 0
 Fits grids len = (0 < length grids) × All (λ grid. grid.rows * len < 2 ^ 64) grids

@@ -6,14 +6,14 @@ use Rattle.parallel_shares.specs.declared.machine.rows.Remembered.{Remembered}
 use Rattle.parallel_shares.specs.Words.{packed, IsWithin}
 use Rattle.parallel_shares.specs.Sizes.{Sizes, shares_of, opening_start, IsSound}
 
--- a plan, the words of all its shares, and the rows of all its seats: what each remembers, carries
--- and has claimed
+-- a plan, the words of all its shares, and the records of all its seats: what each remembers,
+-- carries and has claimed
 pub record Machine : Type 0 where
   pub plan : Sizes
   pub words : List ℕ
   pub seat_rows : List SeatRow
 
--- the row of a seat for which nothing was loaded, taken or claimed
+-- the record of a seat for which nothing was loaded, taken or claimed
 abbrev pub fresh : SeatRow
 fresh = record { remembered = None; transit = None; claims = [] }
 
@@ -21,7 +21,7 @@ fresh = record { remembered = None; transit = None; claims = [] }
 abbrev pub word_at : Machine → ℕ → ℕ
 word_at machine share = slice_index machine.words share
 
--- the row of a seat, and a fresh one for a seat that does not exist
+-- the record of a seat, and a fresh one for a seat that does not exist
 abbrev pub row_at : Machine → ℕ → SeatRow
 row_at machine seat = slice_index_or machine.seat_rows seat fresh
 
@@ -29,7 +29,7 @@ row_at machine seat = slice_index_or machine.seat_rows seat fresh
 abbrev pub with_word : Machine → ℕ → ℕ → Machine
 with_word machine share word = record machine { words = slice_set machine.words share word }
 
--- the machine with another row for a seat
+-- the machine with another record for a seat
 abbrev pub with_seat_row : Machine → ℕ → SeatRow → Machine
 with_seat_row machine seat row = record machine { seat_rows = slice_set machine.seat_rows seat row }
 
@@ -69,7 +69,7 @@ opening sizes = record {
   seat_rows = replicate sizes.workers fresh;
 }
 
--- what the row of a plan's seat may remember and carry: a word of a share that exists, and units
+-- what the record of a plan's seat may remember and carry: a word of a share that exists, and units
 -- that do
 pub record IsSeatRowOf (sizes : Sizes) (row : SeatRow) : Type 0 where
   pub load : IfSome row.remembered (λ l. (l.share < shares_of sizes)

@@ -69,7 +69,7 @@ abbrev pub stretches_of : Option Piece → List Stretch
 stretches_of None = []
 stretches_of (Some p) = stretch_of p ∷ []
 
--- a piece of a row, and its cells
+-- a tile of a row, and its cells
 abbrev pub IsPiece : ℕ → Piece → Type 0
 IsPiece len p = (p.start < p.end) × (p.end ≤ len)
 
@@ -82,7 +82,7 @@ abbrev pub Parted : ℕ → List ℕ → List Stretch → Option Piece → Type 
 Parted len cells found None = (found ≡ []) × (cells ≡ [])
 Parted len cells found (Some p) = CutsCells len cells (found ++ stretch_of p ∷ [])
 
--- a piece goes on where the open stretch ends, and the stretch grows by it; or it does not
+-- a tile goes on where the open stretch ends, and the stretch grows by it; or it does not
 abbrev pub Grown : Option Piece → Piece → Option Piece → Type 0
 Grown None piece None = Unit {0}
 Grown (Some p) piece None = p.row ≡ piece.row → piece.start ≢ p.end

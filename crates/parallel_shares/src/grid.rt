@@ -4,26 +4,26 @@ ghost use Rattle.std.specs.Int.NonZero.{non_zero_usize_get};
 
 use std::num::NonZeroUsize;
 
-/// A way to lay work out as rows of equal length, on which workers fill tiles.
+/// A way to lay work out as rows of columns, as many in each, of which workers fill tiles.
 ///
-/// A tile is a run of indices of one row. Beginning one costs as much as `tile_cost` indices.
+/// A tile is some neighbouring columns of one row. To begin one costs `tile_cost` columns.
 #[derive(Clone, Copy, Debug, PartialEq, Eq)]
 pub struct Grid {
     /// The number of rows.
     pub rows: usize,
-    /// What a tile costs besides its indices, counted in indices.
+    /// What a tile costs besides its columns, in columns.
     pub tile_cost: NonZeroUsize,
 }
 
 impl Grid {
     ghost use Rattle.parallel_shares.specs.Grid.{critical_cost, stays_whole, Fits, IsChosenGrid};
 
-    /// What the longest chain of work costs on rows of `len` indices among `workers` workers, and
+    /// What the longest chain of work costs on rows of `len` columns among `workers` workers, and
     /// whether rows stay whole.
     ///
-    /// Costs are counted in indices, and each sum and product stops at the greatest `usize`. The
+    /// Costs are counted in columns, and each sum and product stops at the greatest `usize`. The
     /// number is `critical_cost` and the flag `stays_whole`. Rows are cut only where that is
-    /// cheaper, and only where a row has at least twice as many indices as a tile costs.
+    /// cheaper, and only where a row has at least twice as many columns as a tile costs.
     pub fn critical_path(&self, len: usize, workers: NonZeroUsize) -> (usize, bool)
         ensures cost { result.0 ≡ critical_cost self.now len (non_zero_usize_get workers) }
         ensures whole { result.1 ≡ stays_whole self.now len (non_zero_usize_get workers) }
@@ -44,7 +44,7 @@ impl Grid {
         }
     }
 
-    /// The first grid of least cost for rows of `len` indices and `workers` workers: its index, and
+    /// The first grid of least cost for rows of `len` columns and `workers` workers: its index, and
     /// the number and the flag of its `critical_path`.
     ///
     /// `IsChosenGrid` says which one that is. There has to be a grid.
@@ -71,8 +71,8 @@ impl Grid {
         (chosen, cost, whole)
     }
 
-    /// Whether there is a grid, and all indices of each grid can be counted on rows of `len`
-    /// indices: `rows * len` is at most the greatest `usize`, as `Fits` says.
+    /// Whether there is a grid, and the cells of each can be counted, on rows of `len` columns:
+    /// `rows * len` is at most the greatest `usize`, as `Fits` says.
     pub fn fits(grids: &[Grid], len: usize) -> bool
         ensures { IsTrue result ↔ Fits grids.now len }
     {

@@ -60,9 +60,8 @@ impl Shares {
     /// Shares out `rows` rows of `len` cells each, where a tile costs `tile_cost` cells and there
     /// are at most `workers` workers, and returns a seat for each worker, in order.
     ///
-    /// The numbers are those of `Plan::new`, which asks for the same. Whole rows have one word for
-    /// all seats. Where rows are cut there is a word a seat, and the words are a balanced cut of
-    /// the units. The seats have claimed nothing and have nothing in transit.
+    /// Whole rows have one word for all seats. Where rows are cut there is a word a seat, and the
+    /// words are a balanced cut of the units. The numbers are those of `Plan::new`.
     ///
     /// # Errors
     ///
@@ -159,14 +158,8 @@ impl Shares {
     }
 
     /// Tries once to claim the front of the share that the seat claims from: one load of its word,
-    /// and at most one exchange there.
-    ///
-    /// `TriesClaim` says what the result tells of the word that was loaded. `Claimed` has the cells
-    /// that the seat's claims gained, and the exchange met the word that was loaded. `Lost` comes
-    /// only where the exchange met another word (`met`) at that share (`met_at`). `Empty` comes
-    /// only where the loaded word was empty, and the seat's `own_empty` holds from then on. No
-    /// other share is loaded (`OthersStay`), so none was loaded since the seat's own (`since`). No
-    /// memory is taken, and nothing is waited for.
+    /// at most one exchange there, and no load of another share's word (`TriesClaim`). `Claimed`
+    /// has the cells that the seat's claims gained. No memory is taken, and nothing is waited for.
     #[inline(always)]
     pub fn try_claim(&self, seat: &mut Seat) -> Tried
         requires { IsSeatOf self.now seat.old }
@@ -190,13 +183,11 @@ impl Shares {
         }
     }
 
-    /// Ends the shares with all of their seats, and returns the words that are left.
+    /// Ends the shares with all of their seats, and returns the words that are left: each cell is
+    /// once in a unit of a word, in transit or in a claim (`IsPartition`).
     ///
-    /// `IsPartition` says that each cell is once in a unit of a word, in transit or in a claim.
-    /// Where each seat has seen its own word empty and has nothing in transit, every word is empty,
-    /// and each cell is in just one claim. Where no seat has changed a word, the words are those of
-    /// the opening. The list is one that `new` reserved: no memory is taken, and nothing is waited
-    /// for.
+    /// Where each seat has seen its own word empty and has nothing in transit, each cell is in just
+    /// one claim. No memory is taken, and nothing is waited for.
     pub fn close(self, seats: Vec<Seat>) -> Vec<u64>
         requires { AreSeatsOf self seats.items }
         ensures count { vec_len result ≡ shares_of (plan_of self) }

@@ -7,8 +7,8 @@ ghost use Rattle.commonware_parallel.specs.MerkleBlocks.{AreTopsOf, IsBlockSize}
 
 use crate::call::Call;
 use crate::chosen::{begin_path, threads_by};
-use crate::list::map_iter;
 use crate::merkle::descent::{block_size, descend};
+use crate::merkle::plain::plain_root_of;
 use crate::merkle::{plain_root, root};
 use crate::running::end_run;
 use crate::strategy::Strategy;
@@ -22,6 +22,9 @@ use std::thread::Threads;
 // Tops that are so few beside the leaves are combined on the caller's thread: that is at most a
 // 64th of what each thread did for the leaves, and less than threads that are started for it.
 const FEW: usize = 128;
+
+// The block of a first level.
+const PAIR: usize = 2;
 
 /// The root of the leaves (`MerkleRoot`), through a strategy: it is the root that
 /// `merkle::root` gives, for any `combine`.
@@ -66,8 +69,7 @@ pub fn root_by_blocks<
         ensures { result ≡ leaf }
     { leaf };
     let parts = DrainProducer::from_vec(leaves);
-    let tops = tops_through(rt, alloc, strategy, site, size, parts, &same, &combine)?;
-    root_of_tops(rt, alloc, strategy, site, size, tops, combine)
+    root_of_parts(rt, alloc, strategy, site, size, parts, &same, combine)
 }
 
 /// The root of the leaves that `leaf` makes of the items (`RootOf`), through a strategy, by blocks
@@ -77,7 +79,7 @@ pub fn root_by_blocks<
 /// already, and there is memory for the tops, and none for the leaves. An iterator's items are
 /// gathered where the strategy has to be asked by their number. Fewer than 16 items a thread are
 /// blocks of one leaf each. A strategy that runs every such call serially isn't asked: the items
-/// are then gone over as they come, and their leaves are gathered for the levels of a plain loop.
+/// are then gone over as they come, and there is memory for the nodes of their leaves' pairs.
 ///
 /// `root_law` says when leaves have one root.
 ///
@@ -122,12 +124,84 @@ pub fn root_of_leaves<
     ensures fault { IsMemoryOnErr result }
 {
     if strategy.is_serial() {
-        let leaves = map_iter(alloc, source.into_items(), &leaf)?;
-        return plain_root(alloc, leaves, &combine);
+        return plain_root_of(alloc, source.into_items(), &leaf, &combine);
     }
     let parts = source.into_parts(alloc)?;
     let size = block_size(parts.len(), strategy.thread_number());
-    let tops = tops_through(rt, alloc, strategy, site, size, parts, &leaf, &combine)?;
+    root_of_parts(rt, alloc, strategy, site, size, parts, &leaf, combine)
+}
+
+/// The root of the leaves that `leaf` makes of the items (`RootOf`), through a strategy, by levels
+/// as `merkle::root`.
+///
+/// The first level is one call that makes the leaves of each pair of items and combines them, and
+/// which a policy knows by about the number of leaves. So nothing is copied of a list that is one
+/// already, and there is memory for the levels above the leaves, and none for the leaves. Each
+/// further level is one map over pairs, as of `merkle::root`. Of an iterator's items, and of a
+/// strategy that runs every such call serially, the same holds as of `root_of_leaves`.
+///
+/// # Errors
+///
+/// `Fault::Memory` alone; the items are then gone.
+pub fn root_of_leaves_by_levels<
+    Rt: Threads + Wait + Sync,
+    P: Place,
+    S: Strategy,
+    M,
+    I: Source<M>,
+    T: Send + Drop,
+    L: Fn(I::Item) -> T + Send + Sync + Drop,
+    F: Fn(T, T) -> T + Send + Sync + Drop,
+>(
+    rt: &Rt,
+    alloc: Global,
+    strategy: &S,
+    site: P,
+    source: I,
+    leaf: L,
+    combine: F,
+) -> Result<Option<T>, Fault>
+    requires can { I.can source }
+    requires leaf_accepts { (x : I.Item) → I.may source x → L.pre leaf x }
+    requires accepts { F.IsAlwaysCallable combine }
+    ensures root { IfOk result (λ root. GivesSome I.gives source (λ xs. RootOf (L.post leaf)
+        (F.post combine) xs root)) }
+    ensures fault { IsMemoryOnErr result }
+{
+    if strategy.is_serial() {
+        return plain_root_of(alloc, source.into_items(), &leaf, &combine);
+    }
+    let parts = source.into_parts(alloc)?;
+    root_of_parts(rt, alloc, strategy, site, PAIR, parts, &leaf, combine)
+}
+
+// The root of the items' leaves by blocks of `size`, through the strategy.
+fn root_of_parts<
+    Rt: Threads + Wait + Sync,
+    P: Place,
+    S: Strategy,
+    Q: Parts,
+    T: Send + Drop,
+    L: Fn(Q::Item) -> T + Send + Sync,
+    F: Fn(T, T) -> T + Send + Sync + Drop,
+>(
+    rt: &Rt,
+    alloc: Global,
+    strategy: &S,
+    site: P,
+    size: usize,
+    parts: Q,
+    leaf: &L,
+    combine: F,
+) -> Result<Option<T>, Fault>
+    requires leaf_accepts { (x : Q.Item) → Q.may parts x → L.pre leaf.now x }
+    requires accepts { F.IsAlwaysCallable combine }
+    requires size { IsBlockSize size }
+    ensures root { IfOk result (λ root. GivesSome Q.gives parts (λ xs. RootOf (L.post leaf.now)
+        (F.post combine) xs root)) }
+    ensures fault { IsMemoryOnErr result }
+{
+    let tops = tops_through(rt, alloc, strategy, site, size, parts, leaf, &combine)?;
     root_of_tops(rt, alloc, strategy, site, size, tops, combine)
 }
 

@@ -123,7 +123,7 @@ fn descend_into<
     (tops, done)
 }
 
-// A part of the items, with a place for the top of each block of their leaves.
+// A part of the items, with a slot for the top of each block of their leaves.
 #[derive(Drop)]
 struct Descent<'f, X: Send + Drop, S: Segment<X>, T, L, F> {
     parts: S,

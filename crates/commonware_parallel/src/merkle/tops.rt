@@ -52,6 +52,9 @@ fn full_top<X: Drop, R, C: Cursor<X, R>, T, L: Fn(X) -> T, F: Fn(T, T) -> T>(
     if size == 16 {
         return Sixteen::top(items, leaf, combine);
     }
+    if size == 2 {
+        return Pair::top(items, leaf, combine);
+    }
     if size < 2 {
         return One::top(items, leaf, combine);
     }
@@ -90,7 +93,9 @@ struct Twice<B> {
     half: PhantomData<B>,
 }
 
-type Sixteen = Twice<Twice<Twice<Twice<One>>>>;
+type Pair = Twice<One>;
+
+type Sixteen = Twice<Twice<Twice<Pair>>>;
 
 impl KnownBlock for One {
     ghost levels = { 0 };

@@ -17,7 +17,7 @@ pub enum ExploreError {
     Build(ThreadPoolBuildError),
 }
 
-/// A refused growth is the pool's want of memory.
+/// A failed allocation is the pool's `Memory`.
 impl From<AllocError> for ExploreError {
     ghost use Rattle.commonware_parallel.specs.declared.mocks.explore_error.ExploreError.TheVariants.{Build};
     ghost use Rattle.parallel_pool.specs.declared.rayon.build_error.ThreadPoolBuildError.TheVariants.{Memory};
@@ -29,7 +29,7 @@ impl From<AllocError> for ExploreError {
     }
 }
 
-/// A refused growth that hands a value back is the pool's want of memory, and the value is dropped.
+/// One that hands a value back is the pool's `Memory`, and the value is dropped.
 impl<T: Drop> From<AllocFailed<T>> for ExploreError {
     ghost use Rattle.commonware_parallel.specs.declared.mocks.explore_error.ExploreError.TheVariants.{Build};
     ghost use Rattle.parallel_pool.specs.declared.rayon.build_error.ThreadPoolBuildError.TheVariants.{Memory};

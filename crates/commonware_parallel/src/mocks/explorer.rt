@@ -18,7 +18,7 @@ use std::num::NonZeroUsize;
 use std::sync::{Arc, Wait};
 
 /// A strategy that picks by a rule, for tests: the same call at the same site over as many items
-/// goes the same way in every run.
+/// goes the same way each time.
 ///
 /// It has a pool's thread number and a planning number, and no policy. Planned for one it runs
 /// every body serially; joins and jobs go by the rule alone. A clone has the same pool, number and
@@ -95,7 +95,7 @@ impl Explorer {
         Explorer::by_rule(strategy, Rule::Seeded(seed))
     }
 
-    /// By what it picks.
+    /// The rule by which it picks, but for bodies that are planned for one.
     pub fn rule(&self) -> Rule
         ensures { result ≡ self.now.rule }
     {

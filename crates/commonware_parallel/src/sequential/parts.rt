@@ -20,7 +20,7 @@ impl Sequential {
     ghost use Rattle.commonware_parallel.specs.Tiles.{IsSerialTiling};
 
     /// A result of `run` over the whole batch of `0..len`, which is one range, whatever the
-    /// minimum and the multiplier. The batch goes through this strategy and has the call's place
+    /// minimum and the multiplier. The batch goes through this strategy and has the call's site
     /// (`IsWholeBatch`), and the closure has to accept that batch alone.
     ///
     /// # Errors
@@ -79,7 +79,7 @@ impl Sequential {
 
     /// A result of `run` over tiles of the first one of `grids` of least cost for one worker, on
     /// rows of `len` columns: a serial plan, which fills its rows whole and in order, whatever the
-    /// multiplier. The tiles go through this strategy and have the call's place (`IsSerialTiling`),
+    /// multiplier. The tiles go through this strategy and have the call's site (`IsSerialTiling`),
     /// and the closure has to accept such tiles alone. Takes no memory.
     ///
     /// There has to be a grid, and the cells of each have to be countable (`Grid::fits`).

@@ -1,27 +1,12 @@
 //! Results that name their stretches, put in order and merged row by row.
 ghost use Rattle.std.specs.Prelude.{◌≡◌, ◌*◌, ◌^◌, ◌<◌, All, IfOk};
-ghost use Rattle.std.specs.Borrow.{MutBor};
 ghost use Rattle.parallel_fault.specs.Trouble.{IsMemoryOnErr};
-ghost use Rattle.parallel_shares.specs.Fillings.{Gives};
-ghost use Rattle.commonware_parallel.specs.MergedRows.{Follows, IsThere, Joins, MergesRows, Names, Placed, RowValues, stretches_in, wrapped_place};
+ghost use Rattle.commonware_parallel.specs.MergedRows.{Follows, IsThere, Joins, MergesRows, Placed, RowValues, stretches_in, wrapped_place};
 ghost use Rattle.commonware_parallel.specs.Rectangles.{CutsRectangle};
 
 use parallel_fault::Fault;
 use parallel_shares::Stretch;
 use std::alloc::Global;
-
-/// A stretch with its result.
-pub(crate) fn named<T, R, F: Fn(&mut T, usize) -> R>(
-    state: &mut T,
-    stretch: Stretch,
-    finish: &F,
-) -> (Stretch, R)
-    requires { (lent : MutBor T) → F.pre finish.now lent stretch.row }
-    ensures { Names (λ s x. Gives (F.post finish.now) s x.row) state.old stretch result state.new }
-{
-    let result = finish(state, stretch.row);
-    (stretch, result)
-}
 
 /// The results of each row's stretches, merged from left to right.
 ///

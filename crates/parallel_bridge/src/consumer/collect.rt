@@ -19,7 +19,7 @@ pub struct CollectResult<T> {
     ghost first: { items.before ≡ 0 },
 }
 
-/// Joins two lists, the left one first.
+/// Appends the right list to the left one.
 #[derive(Drop)]
 pub struct CollectReducer;
 

@@ -10,7 +10,7 @@ use std::collections::LinkedList;
 use std::convert::Infallible;
 
 /// Gives a list of lists, one for each segment that has items, whose items are those of all
-/// segments in order. Nothing is copied where two parts are joined.
+/// segments in order. Nothing is copied where two parts are put together.
 #[derive(Drop)]
 pub struct ListVecConsumer;
 
@@ -21,7 +21,7 @@ pub struct ListVecFolder<T> {
     pub vec: Vec<T>,
 }
 
-/// Joins two lists of lists, the left one first.
+/// Appends the right list of lists to the left one.
 #[derive(Drop)]
 pub struct ListReducer;
 

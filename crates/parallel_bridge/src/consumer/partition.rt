@@ -212,7 +212,7 @@ fn first_lists<U: Drop, K: Drop>(
     }
 }
 
-/// Spare lists for segments of such lengths, the first ones with that many places more.
+/// Spare lists for segments of such lengths.
 ///
 /// # Errors
 ///
@@ -220,60 +220,12 @@ fn first_lists<U: Drop, K: Drop>(
 pub(crate) fn spare_lists<U: Drop, K: Drop>(
     alloc: Global,
     lengths: Vec<usize>,
-    first_values: usize,
-    first_keys: usize,
 ) -> Result<Vec<(Vec<U>, Vec<K>)>, Fault>
     ensures fault { IsMemoryOnErr result }
 {
     let mut spares = Vec::new(alloc);
-    let mut value_places = first_values;
-    let mut key_places = first_keys;
     for length in lengths {
-        let values = with_places(alloc, length.max(value_places));
-        let keys = with_places(alloc, length.max(key_places));
-        spares.push((values, keys))?;
-        value_places = 0;
-        key_places = 0;
+        spares.push((with_places(alloc, length), with_places(alloc, length)))?;
     }
     Ok(spares)
-}
-
-/// The values and the keys of all segments, one after another, in the first lists' places where
-/// there is room.
-///
-/// # Errors
-///
-/// `Fault::Memory` if an allocation fails.
-#[tactic(auto, using(crate::proofs::FoldersAppend::values_pushed, crate::proofs::FoldersAppend::keys_pushed))]
-pub(crate) fn put_in_one<U: Drop, K: Drop>(
-    alloc: Global,
-    lists: Vec<(Vec<U>, Vec<K>)>,
-) -> Result<(Vec<U>, Vec<K>), Fault>
-    ensures values { IfOk result (λ r. r.0.items ≡ values_in lists.items) }
-    ensures keys { IfOk result (λ r. r.1.items ≡ keys_in lists.items) }
-    ensures fault { IsMemoryOnErr result }
-{
-    let mut values = Vec::new(alloc);
-    let mut keys = Vec::new(alloc);
-    for (more_values, more_keys) in lists {
-        values = put_after(values, more_values)?;
-        keys = put_after(keys, more_keys)?;
-    }
-    Ok((values, keys))
-}
-
-/// The items of two lists one after another.
-///
-/// # Errors
-///
-/// `Fault::Memory` if an allocation fails.
-fn put_after<T: Drop>(mut list: Vec<T>, mut more: Vec<T>) -> Result<Vec<T>, Fault>
-    ensures items { IfOk result (λ all. all.items ≡ list.items ++ more.items) }
-    ensures fault { IsMemoryOnErr result }
-{
-    if list.is_empty() && list.capacity() < more.capacity() {
-        return Ok(more);
-    }
-    list.append(&mut more)?;
-    Ok(list)
 }

@@ -90,7 +90,7 @@ fn drive_load<Rt: Threads + Sync, T: Task>(
     loads.take_last()
 }
 
-// Two lists with that many places, both empty.
+// Two empty lists with memory for that many.
 fn lists<L: Drop>(alloc: Global, places: usize) -> Result<(Vec<L>, Vec<L>), AllocError>
     ensures loads { IfOk result (λ r. r.0.items ≡ []) }
     ensures ready { IfOk result (λ r. r.1.items ≡ []) }

@@ -12,8 +12,8 @@ use crate::watch::Watch;
 use crate::watched::Watched;
 use crate::window::part::Window;
 
-/// Gives the results for the items of a segment one by one, with a state that goes from item to item
-/// and is fresh for each segment.
+/// Gives the results for the items of a segment one by one, with a state that goes from item to
+/// item and is fresh for each segment.
 pub trait Writer<Item: Drop>: Sized + Drop {
     /// The result for an item.
     type Answer: Drop;
@@ -53,7 +53,7 @@ pub trait Writer<Item: Drop>: Sized + Drop {
 }
 
 /// Writes the results for the items that come, in their order, up to the first item that fails,
-/// whose error it returns, or to the look that stops it. There is a place for each item. It looks
+/// whose error it returns, or to the look that stops it. There is a slot for each item. It looks
 /// before each item and after the last, and the watch was told of an error before the items after
 /// it are dropped. It takes no memory.
 pub fn write_items<X: Drop, L, C: Cursor<X, L>, W: Writer<X>, G: Watch>(

@@ -5,17 +5,14 @@ ghost use Rattle.std.specs.List.{All};
 ghost use Rattle.parallel_fault.specs.Trouble.{IsMemoryOnErr};
 ghost use Rattle.parallel_bridge.specs.Comes.{Comes, ComesSerially};
 ghost use Rattle.parallel_bridge.specs.Lists.{FoldSegment};
-ghost use Rattle.parallel_bridge.specs.Serials.{AnsweredSerially};
 ghost use Rattle.parallel_bridge.specs.Shapes.{Along, Shape, levels};
 ghost use Rattle.parallel_bridge.specs.Sources.{GivesSome, MayCome};
-ghost use Rattle.parallel_bridge.specs.Ways.{FoldedAs};
 
 use crate::bridge::bridge;
 use crate::consumer::fold::FoldConsumer;
 use crate::consumer::reduce::ReduceConsumer;
 use crate::domain::Domain;
 use crate::parts::Parts;
-use crate::path::Path;
 use crate::troubles::unfailing;
 use parallel_fault::Fault;
 use std::alloc::Global;
@@ -125,51 +122,4 @@ fn fold_among<
         domain: PhantomData,
     };
     unfailing(bridge(rt, alloc, threads, parts, folding))
-}
-
-/// The items of a list folded: serially as they come and in one segment, in parallel along the
-/// list's shape.
-///
-/// # Errors
-///
-/// `Fault::Memory` if an allocation fails.
-pub fn fold_by<
-    Rt: Threads + Sync,
-    P: Parts,
-    R: Send + Drop,
-    ID: Fn() -> R + Send + Sync,
-    F: Fn(R, P::Item) -> R + Send + Sync,
-    G: Fn(R, R) -> R + Send + Sync,
->(
-    rt: &Rt,
-    alloc: Global,
-    threads: NonZeroUsize,
-    path: Path,
-    parts: P,
-    identity: &ID,
-    fold_op: &F,
-    reduce_op: &G,
-) -> Result<R, Fault>
-    requires identity_accepts { ID.IsAlwaysCallable identity.now }
-    requires fold_accepts { (x : P.Item) → P.may parts x → (value : R)
-        → Comes (ID.post identity.now) (F.post fold_op.now) (G.post reduce_op.now) (P.may parts)
-        value → F.pre fold_op.now value x }
-    requires reduce_accepts { (a b : R)
-        → Comes (ID.post identity.now) (F.post fold_op.now) (G.post reduce_op.now) (P.may parts) a
-        → Comes (ID.post identity.now) (F.post fold_op.now) (G.post reduce_op.now) (P.may parts) b
-        → G.pre reduce_op.now a b }
-    ensures folds { IfOk result (λ r. GivesSome P.gives parts
-        (λ xs. FoldedAs (ID.post identity.now) (F.post fold_op.now) (G.post reduce_op.now)
-        (levels threads) path xs r)) }
-    ensures serial { AnsweredSerially path result }
-    ensures fault { IsMemoryOnErr result }
-{
-    match path {
-        Path::Serial => Ok(fold_iter(parts.into_items(), identity, fold_op)),
-        Path::Parallel => {
-            // (bound before it is returned, so that its facts have a name in the proof)
-            let answer = fold_parallel(rt, alloc, threads, parts, identity, fold_op, reduce_op)?;
-            Ok(answer)
-        }
-    }
 }

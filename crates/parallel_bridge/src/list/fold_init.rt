@@ -5,18 +5,15 @@ ghost use Rattle.std.specs.Iterator.{Drains, HoldsAlong, IsFinite};
 ghost use Rattle.std.specs.List.{All};
 ghost use Rattle.parallel_fault.specs.Trouble.{IsMemoryOnErr};
 ghost use Rattle.parallel_bridge.specs.Comes.{Comes, ComesSerially};
-ghost use Rattle.parallel_bridge.specs.Serials.{AnsweredSerially};
 ghost use Rattle.parallel_bridge.specs.Shapes.{Shape, levels};
 ghost use Rattle.parallel_bridge.specs.Sources.{GivesSome, MayCome};
 ghost use Rattle.parallel_bridge.specs.States.{AlongInit, AnyState, FoldInitSegment, FoldStep};
-ghost use Rattle.parallel_bridge.specs.Ways.{FoldedInitAs};
 
 use crate::bridge::bridge;
 use crate::consumer::fold_init::FoldInitConsumer;
 use crate::consumer::reduce::ReduceConsumer;
 use crate::domain::Domain;
 use crate::parts::Parts;
-use crate::path::Path;
 use crate::troubles::unfailing;
 use parallel_fault::Fault;
 use std::alloc::Global;
@@ -150,59 +147,4 @@ fn fold_init_among<
         domain: PhantomData,
     };
     unfailing(bridge(rt, alloc, threads, parts, folding))
-}
-
-/// The items of a list folded with a state: serially as they come, in one segment and with one
-/// state, in parallel along the list's shape.
-///
-/// # Errors
-///
-/// `Fault::Memory` if an allocation fails.
-pub fn fold_init_by<
-    Rt: Threads + Sync,
-    P: Parts,
-    S: Send + Drop,
-    R: Send + Drop,
-    N: Fn() -> S + Send + Sync,
-    ID: Fn() -> R + Send + Sync,
-    F: Fn(R, &mut S, P::Item) -> R + Send + Sync,
-    G: Fn(R, R) -> R + Send + Sync,
->(
-    rt: &Rt,
-    alloc: Global,
-    threads: NonZeroUsize,
-    path: Path,
-    parts: P,
-    init: &N,
-    identity: &ID,
-    fold_op: &F,
-    reduce_op: &G,
-) -> Result<R, Fault>
-    requires init_accepts { N.IsAlwaysCallable init.now }
-    requires identity_accepts { ID.IsAlwaysCallable identity.now }
-    requires fold_accepts { (x : P.Item) → P.may parts x → (value : R)
-        → Comes (ID.post identity.now) (AnyState (FoldStep (F.post fold_op.now)))
-        (G.post reduce_op.now) (P.may parts) value
-        → (state : MutBor S) → F.pre fold_op.now value state x }
-    requires reduce_accepts { (a b : R)
-        → Comes (ID.post identity.now) (AnyState (FoldStep (F.post fold_op.now)))
-        (G.post reduce_op.now) (P.may parts) a
-        → Comes (ID.post identity.now) (AnyState (FoldStep (F.post fold_op.now)))
-        (G.post reduce_op.now) (P.may parts) b → G.pre reduce_op.now a b }
-    ensures folds { IfOk result (λ r. GivesSome P.gives parts
-        (λ xs. FoldedInitAs (N.post init.now) (ID.post identity.now)
-        (FoldStep (F.post fold_op.now)) (G.post reduce_op.now) (levels threads) path xs r)) }
-    ensures serial { AnsweredSerially path result }
-    ensures fault { IsMemoryOnErr result }
-{
-    match path {
-        Path::Serial => Ok(fold_init_iter(parts.into_items(), init, identity, fold_op)),
-        Path::Parallel => {
-            // (bound before it is returned, so that its facts have a name in the proof)
-            let answer = fold_init_parallel(
-                rt, alloc, threads, parts, init, identity, fold_op, reduce_op,
-            )?;
-            Ok(answer)
-        }
-    }
 }

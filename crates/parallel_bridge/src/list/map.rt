@@ -9,7 +9,6 @@ ghost use Rattle.parallel_bridge.specs.Sources.{GivesSome};
 use crate::fill::fill;
 use crate::fill::map::MapWriter;
 use crate::parts::Parts;
-use crate::path::Path;
 use crate::segments::depth_of;
 use crate::troubles::unfailing;
 use crate::window::home::Home;
@@ -72,30 +71,5 @@ pub fn map_parallel<
             home.free(answers);
             Err(fault)
         }
-    }
-}
-
-/// The results of `map_op` for the items of a list, in their order: serially as they come, in
-/// parallel side by side.
-///
-/// # Errors
-///
-/// `Fault::Memory` if an allocation fails.
-pub fn map_by<Rt: Threads + Sync, P: Parts, T: Send + Drop, F: Fn(P::Item) -> T + Send + Sync>(
-    rt: &Rt,
-    alloc: Global,
-    threads: NonZeroUsize,
-    path: Path,
-    parts: P,
-    map_op: &F,
-) -> Result<Vec<T>, Fault>
-    requires accepts { (x : P.Item) → P.may parts x → F.pre map_op.now x }
-    ensures maps { IfOk result (λ ys. GivesSome P.gives parts
-        (λ xs. MapOf (F.post map_op.now) xs ys.items)) }
-    ensures fault { IsMemoryOnErr result }
-{
-    match path {
-        Path::Serial => map_iter(alloc, parts.into_items(), map_op),
-        Path::Parallel => map_parallel(rt, alloc, threads, parts, map_op),
     }
 }

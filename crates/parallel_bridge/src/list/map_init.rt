@@ -7,12 +7,10 @@ ghost use Rattle.parallel_fault.specs.Trouble.{IsMemoryOnErr};
 ghost use Rattle.parallel_bridge.specs.Shapes.{Shape, levels};
 ghost use Rattle.parallel_bridge.specs.Sources.{GivesSome};
 ghost use Rattle.parallel_bridge.specs.States.{MapStep, StateSegment, StatesAlong};
-ghost use Rattle.parallel_bridge.specs.Ways.{MappedInitAs};
 
 use crate::fill::fill;
 use crate::fill::map_init::MapInitWriter;
 use crate::parts::Parts;
-use crate::path::Path;
 use crate::room::with_places;
 use crate::segments::depth_of;
 use crate::troubles::unfailing;
@@ -93,49 +91,6 @@ pub fn map_init_parallel<
         Err(fault) => {
             home.free(answers);
             Err(fault)
-        }
-    }
-}
-
-/// The results of `map_op` for the items of a list, in their order: serially as they come and with
-/// one state, in parallel side by side and with a state for each segment.
-///
-/// # Errors
-///
-/// `Fault::Memory` if an allocation fails.
-pub fn map_init_by<
-    Rt: Threads + Sync,
-    P: Parts,
-    S: Send + Drop,
-    T: Send + Drop,
-    N: Fn() -> S + Send + Sync,
-    F: Fn(&mut S, P::Item) -> T + Send + Sync,
->(
-    rt: &Rt,
-    alloc: Global,
-    threads: NonZeroUsize,
-    path: Path,
-    parts: P,
-    init: &N,
-    map_op: &F,
-) -> Result<Vec<T>, Fault>
-    requires init_accepts { N.IsAlwaysCallable init.now }
-    requires map_accepts { (x : P.Item) → P.may parts x
-        → (state : MutBor S) → F.pre map_op.now state x }
-    ensures maps { IfOk result (λ ys. GivesSome P.gives parts
-        (λ xs. MappedInitAs (N.post init.now) (MapStep (λ p x y q. F.post map_op.now p x y q))
-        (levels threads) path xs ys.items)) }
-    ensures fault { IsMemoryOnErr result }
-{
-    // (each bound before it is returned, so that its facts have a name in the proof)
-    match path {
-        Path::Serial => {
-            let answers = map_init_iter(alloc, parts.into_items(), init, map_op)?;
-            Ok(answers)
-        }
-        Path::Parallel => {
-            let answers = map_init_parallel(rt, alloc, threads, parts, init, map_op)?;
-            Ok(answers)
         }
     }
 }

@@ -7,9 +7,9 @@ ghost use Rattle.parallel_bridge.specs.Parts.{PartitionOf};
 ghost use Rattle.parallel_bridge.specs.Sources.{GivesSome};
 
 use crate::bridge::bridge;
-use crate::consumer::partition::{PartitionConsumer, put_in_one, spare_lists};
+use crate::consumer::partition::{PartitionConsumer, spare_lists};
+use crate::list::moving::put_in_lists;
 use crate::parts::Parts;
-use crate::path::Path;
 use crate::room::{keep_pages_of, places_for, second_places_for, with_places};
 use crate::segments::segments;
 use crate::troubles::unfailing;
@@ -76,43 +76,12 @@ pub fn partition_parallel<
     let items = parts.len();
     let lengths = segments(alloc, threads, items)?;
     keep_pages_of::<(U, K)>(alloc, items);
-    let spares = spare_lists(alloc, lengths, places_for(items), second_places_for(items))?;
+    let spares = spare_lists(alloc, lengths)?;
     let consumer = PartitionConsumer {
         map_op,
         items,
         spares,
     };
     let lists = unfailing(bridge(rt, alloc, threads, parts, consumer))?;
-    put_in_one(alloc, lists)
-}
-
-/// The values and the keys of the items of a list, in their order: serially as they come, in
-/// parallel side by side.
-///
-/// # Errors
-///
-/// `Fault::Memory` if an allocation fails.
-pub fn partition_by<
-    Rt: Threads + Sync,
-    P: Parts,
-    K: Send + Drop,
-    U: Send + Drop,
-    F: Fn(P::Item) -> (K, Option<U>) + Send + Sync,
->(
-    rt: &Rt,
-    alloc: Global,
-    threads: NonZeroUsize,
-    path: Path,
-    parts: P,
-    map_op: &F,
-) -> Result<(Vec<U>, Vec<K>), Fault>
-    requires accepts { (x : P.Item) → P.may parts x → F.pre map_op.now x }
-    ensures parts { IfOk result (λ r. GivesSome P.gives parts
-        (λ xs. PartitionOf (F.post map_op.now) xs r.0.items r.1.items)) }
-    ensures fault { IsMemoryOnErr result }
-{
-    match path {
-        Path::Serial => partition_iter(alloc, parts.into_items(), map_op),
-        Path::Parallel => partition_parallel(rt, alloc, threads, parts, map_op),
-    }
+    put_in_lists(rt, alloc, threads, items, lists)
 }

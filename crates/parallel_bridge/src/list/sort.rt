@@ -3,10 +3,12 @@ ghost use Rattle.std.specs.Prelude.{◌<◌, OnOk};
 ghost use Rattle.std.specs.List.Sorted.{IsPermutation, IsSortedByClosure, IsStableByClosure};
 ghost use Rattle.parallel_fault.specs.Trouble.{IsMemoryOnErr};
 
+use crate::room::keep_pages;
 use parallel_fault::Fault;
 use parallel_row::{Even, parts_in_row};
 use std::alloc::Global;
 use std::cmp::Ordering;
+use std::mem::size_of_val;
 use std::num::NonZeroUsize;
 use std::thread::Threads;
 
@@ -40,6 +42,9 @@ pub fn sort_parallel<Rt: Threads + Sync, T: Send, C: Fn(&T, &T) -> Ordering + Se
         ensures { C.step compare.entry.now x.entry y.entry result compare.entry.now }
     { compare(x, y) };
     let parts = threads.get().min(items.len() / PART);
+    if parts > 1 {
+        keep_pages(alloc, size_of_val(&*items));
+    }
     sort_rounds(rt, alloc, parts, items, by_reference)
 }
 

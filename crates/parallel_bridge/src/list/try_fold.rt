@@ -4,11 +4,9 @@ ghost use Rattle.std.specs.Iterator.{Drains, HoldsAlong, IsFinite};
 ghost use Rattle.std.specs.List.{All};
 ghost use Rattle.parallel_bridge.specs.Comes.{Comes, ComesSerially, OkStep};
 ghost use Rattle.parallel_bridge.specs.Outcomes.{UnlessRefused};
-ghost use Rattle.parallel_bridge.specs.Serials.{UnrefusedSerially};
 ghost use Rattle.parallel_bridge.specs.Shapes.{Shape, levels};
 ghost use Rattle.parallel_bridge.specs.Sources.{GivesSome, MayCome};
 ghost use Rattle.parallel_bridge.specs.Tries.{TryAlong, TryFoldSegment};
-ghost use Rattle.parallel_bridge.specs.Ways.{TryFoldedAs};
 
 use crate::bridge::bridge_watched;
 use crate::consumer::try_fold::{TryFoldConsumer, try_fold_step};
@@ -17,7 +15,6 @@ use crate::domain::Domain;
 use crate::gate::watch::seats_for;
 use crate::gate::{Gate, GateWatch};
 use crate::parts::Parts;
-use crate::path::Path;
 use crate::segments::depth_of;
 use crate::troubles::unhalt;
 use parallel_fault::Trouble;
@@ -153,54 +150,4 @@ fn try_fold_among<
     let seat = watch.seat;
     gate.close_joined(seat);
     unhalt(done)
-}
-
-/// The items of a list folded up to the first step that fails: serially as they come and in one
-/// segment, in parallel along the list's shape.
-///
-/// # Errors
-///
-/// `Trouble::Closure` with the closure's error; `Trouble::Fault` with `Fault::Memory` if an
-/// allocation fails.
-pub fn try_fold_by<
-    Rt: Threads + Sync,
-    P: Parts,
-    R: Send + Drop,
-    E: Send + Drop,
-    ID: Fn() -> R + Send + Sync,
-    F: Fn(R, P::Item) -> Result<R, E> + Send + Sync,
-    G: Fn(R, R) -> R + Send + Sync,
->(
-    rt: &Rt,
-    alloc: Global,
-    threads: NonZeroUsize,
-    path: Path,
-    parts: P,
-    identity: &ID,
-    fold_op: &F,
-    reduce_op: &G,
-) -> Result<R, Trouble<E>>
-    requires identity_accepts { ID.IsAlwaysCallable identity.now }
-    requires fold_accepts { (x : P.Item) → P.may parts x → (value : R)
-        → Comes (ID.post identity.now) (OkStep (F.post fold_op.now)) (G.post reduce_op.now)
-        (P.may parts) value → F.pre fold_op.now value x }
-    requires reduce_accepts { (a b : R)
-        → Comes (ID.post identity.now) (OkStep (F.post fold_op.now)) (G.post reduce_op.now)
-        (P.may parts) a
-        → Comes (ID.post identity.now) (OkStep (F.post fold_op.now)) (G.post reduce_op.now)
-        (P.may parts) b → G.pre reduce_op.now a b }
-    ensures folds { UnlessRefused result (λ out. GivesSome P.gives parts
-        (λ xs. TryFoldedAs (ID.post identity.now) (F.post fold_op.now) (G.post reduce_op.now)
-        (levels threads) path xs out)) }
-    ensures serial { UnrefusedSerially path result }
-{
-    match path {
-        Path::Serial => match try_fold_iter(parts.into_items(), identity, fold_op) {
-            Ok(value) => Ok(value),
-            Err(error) => Err(Trouble::Closure(error)),
-        },
-        Path::Parallel => {
-            try_fold_parallel(rt, alloc, threads, parts, identity, fold_op, reduce_op)
-        }
-    }
 }

@@ -13,7 +13,6 @@ use crate::fill::try_map::TryMapWriter;
 use crate::gate::watch::seats_for;
 use crate::gate::{Gate, GateWatch};
 use crate::parts::Parts;
-use crate::path::Path;
 use crate::room::with_places;
 use crate::segments::depth_of;
 use crate::troubles::unhalt;
@@ -104,37 +103,6 @@ pub fn try_map_parallel<
             home.free(values);
             Err(trouble)
         }
-    }
-}
-
-/// The values, or the first failing item's error: serially as the items come, in parallel side by
-/// side.
-///
-/// # Errors
-///
-/// `Trouble::Closure` with the closure's error; `Trouble::Fault` with `Fault::Memory` if an
-/// allocation fails.
-pub fn try_map_by<
-    Rt: Threads + Sync,
-    P: Parts,
-    T: Send + Drop,
-    E: Send + Drop,
-    F: Fn(P::Item) -> Result<T, E> + Send + Sync,
->(
-    rt: &Rt,
-    alloc: Global,
-    threads: NonZeroUsize,
-    path: Path,
-    parts: P,
-    map_op: &F,
-) -> Result<Vec<T>, Trouble<E>>
-    requires accepts { (x : P.Item) → P.may parts x → F.pre map_op.now x }
-    ensures maps { UnlessRefused result (λ out. GivesSome P.gives parts
-        (λ xs. TryMapOf (F.post map_op.now) xs (listed out))) }
-{
-    match path {
-        Path::Serial => try_map_iter(alloc, parts.into_items(), map_op),
-        Path::Parallel => try_map_parallel(rt, alloc, threads, parts, map_op),
     }
 }
 

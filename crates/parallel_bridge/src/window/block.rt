@@ -1,4 +1,4 @@
-//! A whole block with its items, which may be let go at any place.
+//! A whole block with its items, which may be dropped anywhere.
 ghost use Rattle.std.specs.Prelude.{◌≡◌, ◌+◌, ◌<◌, ◌≤◌, ◌++◌, ◌∷◌, [], IfOk, drop, length, take};
 ghost use Rattle.parallel_bridge.specs.Windows.{part};
 
@@ -8,7 +8,7 @@ use crate::window::vector::{close, open};
 use std::alloc::{AllocError, Allocator};
 use std::marker::Model;
 
-/// A window over all places of a block, with the right to free it. A block that is let go drops its
+/// A window over all slots of a block, with the right to free it. A block that is dropped drops its
 /// items and is freed. A clause sees it as it sees its window.
 pub struct Block<T, A: Allocator> {
     window: Window<T>,
@@ -32,7 +32,7 @@ impl<T, A: Allocator> Model for Block<T, A> {
 }
 
 impl<T, A: Allocator> Block<T, A> {
-    /// A vector's own block, with its items where they lie and its spare places after them.
+    /// A vector's own block, with its items where they lie and its spare slots after them.
     /// Nothing is copied.
     pub fn from_vec(mut vec: Vec<T, A>) -> Self
         ensures { result ≡ part result.start vec.cap 0 vec.items }
@@ -105,7 +105,7 @@ impl<T: Drop, A: Allocator> Block<T, A> {
     ///
     /// # Errors
     ///
-    /// `AllocError` where memory for a bigger block is refused; the items are then gone.
+    /// `AllocError` where a bigger block can't be allocated; the items are then gone.
     pub fn push(mut self, item: T) -> Result<Self, AllocError>
         requires { self.before ≡ 0 }
         ensures { IfOk result (λ b. (b.items ≡ self.items ++ item ∷ []) × (b.before ≡ 0)) }
@@ -123,7 +123,7 @@ impl<T: Drop, A: Allocator> Block<T, A> {
     ///
     /// # Errors
     ///
-    /// `AllocError` where memory for the second block is refused; the items are then gone.
+    /// `AllocError` where the second block can't be allocated; the items are then gone.
     pub fn split_off(self, index: usize) -> Result<(Self, Self), AllocError>
     where
         A: Clone,

@@ -1,4 +1,4 @@
-//! A row of places in memory, each empty or with a value.
+//! Slots side by side in memory, each empty or with a value.
 ghost use Rattle.std.specs.Prelude.{◌≡◌, ◌<◌, ◌≤◌, ◌+◌, ◌++◌, ℕ, List, Option, Some, None, ⊤, drop, get_or, length, slice_set, take};
 ghost use Rattle.std.specs.Vec.Ownership.{FitsInBlock};
 ghost use base.Fml.{ftrue};
@@ -8,7 +8,7 @@ ghost use Rattle.parallel_bridge.specs.Places.{IsFilled, cells_own, deed_owns, s
 use std::alloc::{AllocError, Allocator};
 use std::marker::{Model, PhantomData, Send};
 
-/// Where a row begins. It owns nothing.
+/// Where slots begin. It owns nothing.
 pub struct Base<T> {
     pub(crate) ptr: *mut T,
 }
@@ -27,8 +27,8 @@ impl<T> Copy for Base<T> {}
 
 unsafe impl<T> Send for Base<T> {}
 
-/// The owner of a row of places, which says what each of them holds. It takes no space. Let go, it
-/// forgets what they hold.
+/// The owner of slots, which says what each of them holds. It takes no space. Dropped, it forgets
+/// what they hold.
 #[derive(Drop)]
 pub struct Cells<T> {
     pub(crate) mark: PhantomData<*const T>,
@@ -44,7 +44,7 @@ impl<T> Model for Cells<T> {
 
 unsafe impl<T: Send> Send for Cells<T> {}
 
-/// The right to give a block of `len` places at `at` back to its allocator. It takes no space.
+/// The right to give a block of `len` slots at `at` back to its allocator. It takes no space.
 pub struct Deed<T, A: Allocator> {
     pub(crate) mark: PhantomData<*const (T, A)>,
     ghost at: { Ptr },
@@ -61,7 +61,7 @@ impl<T, A: Allocator> Model for Deed<T, A> {
 unsafe impl<T, A: Allocator + Send> Send for Deed<T, A> {}
 
 impl<T> Cells<T> {
-    /// Puts an item into an empty place.
+    /// Puts an item into an empty slot.
     pub(crate) fn write(&mut self, base: Base<T>, index: usize, item: T)
         requires { (base.ptr ≡ self.old.at) × (index < length self.old.slots)
             × (get_or self.old.slots index None ≡ None) }
@@ -71,7 +71,7 @@ impl<T> Cells<T> {
         unsafe { base.ptr.add(index).write(item) }
     }
 
-    /// Moves the item of a place out, which is empty then.
+    /// Moves the item of a slot out, which is empty then.
     pub(crate) fn read(&mut self, base: Base<T>, index: usize) -> T
         requires { (base.ptr ≡ self.old.at) × IsFilled self.old.slots index }
         ensures value { get_or self.old.slots index None ≡ Some result }
@@ -81,7 +81,7 @@ impl<T> Cells<T> {
         unsafe { base.ptr.add(index).read() }
     }
 
-    /// The first `index` places, and the rest with where it begins.
+    /// The first `index` slots, and the rest with where they begin.
     pub(crate) fn split(self, base: Base<T>, index: usize) -> (Cells<T>, Base<T>, Cells<T>)
         requires { (base.ptr ≡ self.at) × (index ≤ length self.slots) }
         ensures { (result.0.at ≡ self.at) × (result.0.slots ≡ take index self.slots)
@@ -97,7 +97,7 @@ impl<T> Cells<T> {
         (front, rest, back)
     }
 
-    /// Two rows side by side as one.
+    /// These and the neighbours to their right, as one.
     pub(crate) fn join(self, right: Cells<T>) -> Cells<T>
         requires { (right.at ≡ shifted T.row self.at (length self.slots))
             × FitsInBlock T.row (length self.slots + length right.slots) }

@@ -8,8 +8,8 @@ use crate::window::vector::{close, open};
 use std::alloc::{AllocError, Allocator};
 use std::marker::Model;
 
-/// The block that a window is over, with the right to free it. It can't be let go: a window over
-/// all its places is handed over with it as a vector, or freed with it.
+/// The block that a window is over, with the right to free it. It can't be dropped: a window over
+/// all its slots is handed over with it as a vector, or freed with it.
 pub struct Home<T, A: Allocator> {
     base: Base<T>,
     room: usize,
@@ -45,7 +45,7 @@ impl<T, A: Allocator> Home<T, A> {
     ///
     /// # Errors
     ///
-    /// `AllocError` where memory is refused.
+    /// `AllocError` where it can't be allocated.
     pub fn reserve(alloc: A, room: usize) -> Result<(Window<T>, Self), AllocError>
         ensures window { IfOk result (λ r. (r.0 ≡ part r.1.start room 0 []) × (r.1.room ≡ room)) }
         ensures site { IfOk result (λ r. IsSite T.row r.1) }
@@ -54,6 +54,19 @@ impl<T, A: Allocator> Home<T, A> {
         // that was freed. A list that was gathered and its results, as long, would be just as much,
         // and each call would get all their pages anew; an eighth more keeps them.
         let vec = Vec::with_capacity(alloc, room.saturating_add(room / 8))?;
+        Ok(Home::over(vec, room))
+    }
+
+    /// Reserves a block for `room` items and none to spare, of which the window has none yet.
+    ///
+    /// # Errors
+    ///
+    /// `AllocError` where it can't be allocated.
+    pub(crate) fn reserve_exact(alloc: A, room: usize) -> Result<(Window<T>, Self), AllocError>
+        ensures window { IfOk result (λ r. (r.0 ≡ part r.1.start room 0 []) × (r.1.room ≡ room)) }
+        ensures site { IfOk result (λ r. IsSite T.row r.1) }
+    {
+        let vec = Vec::with_capacity(alloc, room)?;
         Ok(Home::over(vec, room))
     }
 
@@ -67,7 +80,7 @@ impl<T, A: Allocator> Home<T, A> {
         Home::over(vec, room)
     }
 
-    // A window over the first places of a vector's block.
+    // A window over the first slots of a vector's block.
     fn over(mut vec: Vec<T, A>, room: usize) -> (Window<T>, Self)
         requires fits { (length vec.items ≤ room) × (room ≤ vec.cap) }
         ensures window { (result.0 ≡ part result.1.start room 0 vec.items)

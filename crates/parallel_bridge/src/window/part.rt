@@ -7,8 +7,8 @@ ghost use Rattle.parallel_bridge.specs.Windows.{Adjoins, Follows, IsRow, part};
 use crate::window::cells::{Base, Cells};
 use std::marker::Model;
 
-/// Places side by side, of which a run has items and the others are empty. Whoever has the window
-/// has its places, and nobody else does. A window that is let go drops its items; its places are
+/// Slots side by side, of which a run has items and the others are empty. Whoever has the window
+/// has its slots, and nobody else does. A window that is dropped drops its items; its slots are
 /// given back through its [`Home`](crate::window::home::Home) alone.
 pub struct Window<T> {
     pub(crate) base: Base<T>,
@@ -39,7 +39,7 @@ impl<T> Window<T> {
         self.len
     }
 
-    /// The number of places.
+    /// The number of slots.
     pub fn room(&self) -> usize
         ensures { result ≡ self.now.room }
     {
@@ -84,7 +84,7 @@ impl<T> Window<T> {
         item
     }
 
-    /// A window over the first `index` places, and one over the rest.
+    /// A window over the first `index` slots, and one over the rest.
     pub fn split(self, index: usize) -> (Self, Self)
         requires { (self.before ≡ 0) × (index ≤ self.room) }
         ensures left { result.0 ≡ part self.start index 0 (take index self.items) }
@@ -117,8 +117,8 @@ impl<T> Window<T> {
         (left, right)
     }
 
-    // Where the row begins, its places, those in front of the items, the number of items, and the
-    // row.
+    // Where the slots begin, how many they are, how many are in front of the items, the number of
+    // items, and the slots.
     pub(crate) fn into_parts(self) -> (Base<T>, usize, usize, usize, Cells<T>)
         ensures view { self ≡ part result.0.ptr result.1 result.2 (values result.4.slots) }
         ensures row { IsRow result.4.at result.0.ptr result.4.slots result.1 result.2 result.3 }
@@ -133,7 +133,7 @@ impl<T> Window<T> {
         (base, room, before, len, cells)
     }
 
-    /// One window over the places of two neighbours, the left one first.
+    /// One window over the slots of two neighbours, the left one first.
     pub fn join(self, right: Self) -> Self
         requires follows { Follows T.row self right }
         requires fits { FitsInBlock T.row (self.room + right.room) }
@@ -160,7 +160,7 @@ impl<T> Window<T> {
 }
 
 impl<T: Drop> Window<T> {
-    /// Drops the items, each one once, and keeps the places.
+    /// Drops the items, each one once, and keeps the slots.
     pub fn clear(&mut self)
         ensures { self.new ≡ part self.old.start self.old.room 0 [] }
     {

@@ -1,4 +1,4 @@
-//! A vector's own block, taken out as a row of places and put back.
+//! A vector's own block, taken out as slots and put back.
 ghost use Rattle.std.specs.Prelude.{◌≡◌, ◌-◌, ◌^◌, ◌<◌, ◌++◌, [], None, Some, length, map, replicate};
 ghost use Rattle.parallel_bridge.specs.Places.{values};
 
@@ -37,7 +37,7 @@ pub(crate) fn open<T, A: Allocator>(vec: &mut Vec<T, A>) -> (Base<T>, Cells<T>, 
     }
 }
 
-/// Gives a vector without a block the row as its block, with the first `len` places as its items.
+/// Gives a vector without a block the slots as its block, with the first `len` as its items.
 pub(crate) fn close<T, A: Allocator>(
     vec: &mut Vec<T, A>,
     base: Base<T>,

@@ -22,7 +22,7 @@ pub struct Environment {
 ///
 /// A number that is set, above 0, wins. Else the first text's number is taken, where 0 stands for
 /// the machine's number. Where that text writes none, the second text's number is taken if it is
-/// above 0. Else it is the machine's number, or 1 without one. A text that `parse` refuses counts
+/// above 0. Else it is the machine's number, or 1 without one. A text that `parse` rejects counts
 /// as none.
 pub fn planned_threads(
     set: usize,

@@ -20,12 +20,8 @@ pub(crate) struct Place<X: Drop, T: Drop> {
 }
 
 /// Calls `op` with each of the items, all at the same time, and lists the results in the order of
-/// the items.
-///
-/// Each call but one has a thread of its own, where one can be made; the others run on the caller's
-/// thread. The threads are started as `parts_in_row` says, up to 63 by the caller's one after
-/// another. All memory is taken before any call: what gathers the results can't be refused, as it
-/// requires room for them (`answers_of`).
+/// the items. Each call has a thread of its own (`parts_in_row`), of which the caller's is one; it
+/// makes those for which no thread can be started.
 ///
 /// # Errors
 ///
@@ -47,7 +43,7 @@ pub fn map_in_row<R: Threads + Sync, X: Send + Drop, T: Send + Drop, F: Fn(X) ->
     Ok(answers_of(places, answers))
 }
 
-// A place for each item.
+// A slot for each item.
 fn waiting<X: Drop, T: Drop>(alloc: Global, items: Vec<X>) -> Result<Vec<Place<X, T>>, AllocError>
     ensures { IfOk result (λ places. places.items ≡ map waits items.items) }
 {
@@ -61,7 +57,7 @@ fn waiting<X: Drop, T: Drop>(alloc: Global, items: Vec<X>) -> Result<Vec<Place<X
     Ok(places)
 }
 
-// The results in the places, in a list that has room for them: of calls that were made nothing is
+// The results in the slots, in a list that has room for them: of calls that were made nothing is
 // refused.
 fn answers_of<X: Drop, T: Drop>(places: Vec<Place<X, T>>, mut answers: Vec<T>) -> Vec<T>
     requires empty { answers.items ≡ [] }
@@ -86,7 +82,7 @@ fn add_answer<X: Drop, T: Drop>(answers: &mut Vec<T>, place: Place<X, T>)
     }
 }
 
-// The items that wait in the places get their results there, all at the same time.
+// The items that wait in the slots get their results there, all at the same time.
 fn answer_all<R: Threads + Sync, X: Send + Drop, T: Send + Drop, F: Fn(X) -> T + Sync>(
     rt: &R,
     op: &F,
@@ -95,7 +91,7 @@ fn answer_all<R: Threads + Sync, X: Send + Drop, T: Send + Drop, F: Fn(X) -> T +
     requires { AcceptsPlaces F.Fn op.now places.old }
     ensures { AnswersPlaces F.Fn op.now places.old places.new }
 {
-    // (one for each place; no more are used than there are)
+    // (one for each slot; no more are used than there are)
     let threads = NonZeroUsize::MIN.saturating_add(places.len());
     each_item(
         rt,
@@ -108,7 +104,7 @@ fn answer_all<R: Threads + Sync, X: Send + Drop, T: Send + Drop, F: Fn(X) -> T +
     );
 }
 
-// The item that waits in the place, if one does, gets its result there.
+// The item that waits in the slot, if one does, gets its result there.
 fn answer<X: Drop, T: Drop, F: Fn(X) -> T>(op: &F, place: &mut Place<X, T>)
     requires { AcceptsPlace F.Fn op.now place.old }
     ensures { AnswersPlace F.Fn op.now place.old place.new }

@@ -12,16 +12,12 @@ use std::marker::Model;
 use std::sync::{Arc, Wait};
 
 /// One thread's views of a pool's queues: what it has seen pushed and taken there, and what it
-/// pushed and took itself.
+/// pushed and took itself (`injected`, `broadcasts` and `deques`).
 ///
-/// Contracts see it as `injected`, `broadcasts` and `deques`: what it knows of each queue. A call
-/// says of one queue that its history, as far as this seat had seen it, goes on and ends with the
-/// call; in that history each job that was taken was pushed, under the same number, and none was
-/// taken twice.
-///
-/// A seat of a pool's queues counts: a job that is pushed by it has come to the pool, whose workers
+/// A call says of one queue that its history, as far as this seat had seen it, goes on and ends
+/// with the call. A job that is pushed by the seat of a pool has come to the pool, whose workers
 /// don't end before it was called or taken by a seat, and wakes a worker as `ThreadPool::spawn`
-/// does. A job that is taken by it has left the pool, and whoever took it calls it or doesn't.
+/// does.
 #[derive(Drop)]
 pub struct JobSeat<T: Drop = OwnedJob> {
     pub(crate) injected: InletPort<T>,

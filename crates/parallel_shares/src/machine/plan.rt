@@ -209,8 +209,8 @@ impl Plan {
         cells.end - cells.start
     }
 
-    /// The cells that a claim takes of a word, and the word that it leaves, or None where no unit is
-    /// left.
+    /// The cells that a claim takes of a word, and the word that it leaves, or None where no unit
+    /// is left.
     pub(crate) fn claim_from(&self, word: u64) -> Option<(Range<usize>, u64)>
         requires { IsWithin self.now.units word }
         ensures some { IfSome result (λ taken. (¬ IsEmptyWord word)
@@ -225,8 +225,8 @@ impl Plan {
         Some((self.cells_of(units.start, units.end), left))
     }
 
-    /// The units that a steal takes of a word, and the word that it leaves, or None where the word's
-    /// split does not pay.
+    /// The units that a steal takes of a word, and the word that it leaves, or None where the
+    /// word's split does not pay.
     pub(crate) fn steal_from(&self, word: u64) -> Option<(Range<usize>, u64)>
         requires { IsWithin self.now.units word }
         ensures some { IfSome result (λ taken. Pays self.now word

@@ -12,12 +12,11 @@ use super::steps::step;
 use parallel_fault::Fault;
 use std::alloc::Global;
 
-/// Takes a list of events, in order, from the opening state of a plan.
+/// Takes a list of events, in order, from the opening state of a plan: the state after them and an
+/// outcome for each (`Replays`).
 ///
-/// It returns the state after them and an outcome for each, as `Replays` says. Any list of events
-/// may be handed in. Whatever they are, the state shows holders that a run of moves leads to from
-/// the opening, as `Reached` says. So each unit has exactly one holder: a share where it is
-/// pending, a seat that carries it, or a seat that has claimed its cells.
+/// Each unit has exactly one holder then: a share where it is pending, a seat that carries it, or a
+/// seat that has claimed its cells (`Reached`).
 ///
 /// # Errors
 ///

@@ -94,7 +94,7 @@ impl Model for Rows {
 impl Rows {
     ghost use Rattle.parallel_shares.specs.Machine.{word_at, row_at, with_word, remembers, forgets, gains, carries, opening};
 
-    /// The rows of a plan before any event.
+    /// The words and the seats of a plan before any event.
     ///
     /// # Errors
     ///
@@ -113,7 +113,7 @@ impl Rows {
         })
     }
 
-    /// Whether these are the rows of the plan.
+    /// Whether these are the plan's.
     pub(super) fn is_of(&self, plan: &Plan) -> bool
         ensures { IsTrue result ↔ self.now.plan ≡ plan.now }
     {
@@ -257,7 +257,7 @@ pub(crate) fn opening_words(alloc: Global, plan: &Plan) -> Result<Vec<u64>, Faul
     Ok(words)
 }
 
-/// The rows of `seats` seats for which nothing was loaded, taken or claimed.
+/// The records of `seats` seats for which nothing was loaded, taken or claimed.
 ///
 /// # Errors
 ///

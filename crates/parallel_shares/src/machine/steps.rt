@@ -14,18 +14,14 @@ use super::state::State;
 use crate::word::{is_empty, pack};
 use parallel_fault::Fault;
 
-/// Takes one event on a state, which keeps the plan that it was made for.
-///
-/// The outcome and the change are those of `Answers`: what the event needs, what it found, and what
-/// it leaves. Where its need is not met it is `Refused` and changes nothing, and so is every event
-/// on a state of another plan, one whose numbers are not those of `plan`. `StepsByMoves` says that
-/// the units go from holder to holder by a claim, a steal or a refill, or not at all.
+/// Takes one event on a state, which keeps the plan that it was made for (`Answers`,
+/// `StepsByMoves`). Where its need is not met it is `Refused` and changes nothing, and so is every
+/// event on a state of another plan.
 ///
 /// # Errors
 ///
-/// `Fault::Memory` where the list of a seat's claims could not be grown; the state is then as it
-/// was. It comes only of an event as `AddsClaim` says: a claim whose remembered word is still there
-/// and isn't empty.
+/// `Fault::Memory` where the list of a seat's claims could not be grown (`AddsClaim`); the state is
+/// then as it was.
 pub fn step(plan: &Plan, state: &mut State, event: Event) -> Result<Outcome, Fault>
     ensures answers { IsStateOf plan.now state.old
         → IfOk result (λ outcome. Answers plan.now state.old event outcome state.new) }
@@ -43,7 +39,7 @@ pub fn step(plan: &Plan, state: &mut State, event: Event) -> Result<Outcome, Fau
     take(plan, &mut state.rows, event)
 }
 
-/// Takes one event on the rows of this plan.
+/// Takes one event on the words and the seats of this plan.
 ///
 /// # Errors
 ///

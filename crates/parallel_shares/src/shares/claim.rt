@@ -13,12 +13,10 @@ impl Shares {
     /// Claims the front of the share that the seat claims from; where that is empty, takes the back
     /// half of another share and goes on there.
     ///
-    /// It tries until an exchange wins a claim, or the seat has loaded its own word and found it
-    /// empty, and then loaded each other word once and found none whose split pays
-    /// (`FoundNothing`). `Some` has the cells that the seat's claims gained: the front of its own
-    /// word as it loaded it last, and as its last exchange met it there (`GainsClaim`). After
-    /// `None` the claims are as they were, and `own_empty` holds. Either way nothing is in transit.
-    /// `rt` is the right to go on trying; no memory is taken.
+    /// It tries until an exchange wins a claim (`GainsClaim`), or the seat has loaded its own word
+    /// and found it empty, and then loaded each other word once and found none whose split pays
+    /// (`FoundNothing`). `Some` has the cells that the seat's claims gained. `rt` is the right to
+    /// go on trying; no memory is taken.
     #[inline(always)]
     pub fn claim<R: Wait>(&self, rt: &R, seat: &mut Seat) -> Option<Range<usize>>
         requires { IsSeatOf self.now seat.old }

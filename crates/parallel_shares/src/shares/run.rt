@@ -20,15 +20,12 @@ impl Shares {
     ghost use Rattle.parallel_shares.specs.Steals.{FoundNothing};
 
     /// Claims until nothing is left that pays, on rows of `len` cells, and returns a result for
-    /// each stretch of what it claimed, in order.
+    /// each stretch of what it claimed, in order (`Worked`).
     ///
-    /// The claims that the seat gained are fronts of words (`IsFront`), and are cut into stretches
-    /// as `Cutting` says (`Worked`). Each stretch is filled by calls of `fill` with its row and
-    /// neighbouring columns, and then `finish`, which is handed its row or all of it, as its
-    /// closure takes (`Part`), returns its result; all calls are lent one state, which begins as
-    /// the one handed in (`Finished`). `fill` is asked for columns of cells that are there alone,
-    /// at least one, and `finish` for rows that have such cells. The seat ends as after a `claim`
-    /// that returns `None`. `rt` is the right to go on trying.
+    /// Each stretch is filled by calls of `fill` with its row and neighbouring columns, and then
+    /// `finish`, which is handed its row or all of it (`Part`), returns its result; all calls are
+    /// lent one state, which begins as the one handed in (`Finished`). The seat ends as after a
+    /// `claim` that returns `None`. `rt` is the right to go on trying.
     ///
     /// # Errors
     ///
@@ -148,7 +145,7 @@ pub(super) fn fill_claim<
     Ok(opened)
 }
 
-// Fills a piece, and returns the stretch that is open then: the one that was, where the piece goes
+// Fills a tile, and returns the stretch that is open then: the one that was, where the tile goes
 // on there; else that one is finished first.
 fn fill_piece<T, P: Part, R: Drop, L: Fn(&mut T, usize, Range<usize>), N: Fn(&mut T, P) -> R>(
     results: &mut Vec<R>,
@@ -177,8 +174,8 @@ fn fill_piece<T, P: Part, R: Drop, L: Fn(&mut T, usize, Range<usize>), N: Fn(&mu
     Ok(piece)
 }
 
-// Finishes the stretch that is open, if one is. Out of line, as are a steal and a refill, so that the
-// loop over claims keeps its numbers in registers.
+// Finishes the stretch that is open, if one is. Out of line, as are a steal and a refill, so that
+// the loop over claims keeps its numbers in registers.
 #[cold]
 #[inline(never)]
 pub(super) fn finish_open<T, P: Part, R: Drop, N: Fn(&mut T, P) -> R>(

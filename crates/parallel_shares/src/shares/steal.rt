@@ -27,15 +27,11 @@ impl Shares {
     ghost use Rattle.parallel_shares.specs.declared.shares.seat.Tried.TheVariants.{Nothing};
 
     /// Tries once to take the back half of another share into transit: one load of each other
-    /// share's word, and at most one exchange.
+    /// share's word, and at most one exchange, on the loaded word with the most cells of those
+    /// whose split pays, the last of equals (`TriesSteal`).
     ///
-    /// The exchange is on the loaded word with the most cells of those whose split pays, the last
-    /// of equals; `TriesSteal` says so. After `Taken` its back half is `in_transit`, and a front is
-    /// left that isn't empty. `Lost` comes only where the exchange met another word (`met`) at that
-    /// share (`met_at`). `Nothing` comes only where no loaded word's split pays: so always in a
-    /// plan of whole rows, which has no other share, and in one in which no opening word's split
-    /// pays. The seat has seen its own word empty, and has nothing in transit. No memory is taken,
-    /// and nothing is waited for.
+    /// The seat has seen its own word empty, and has nothing in transit. A plan of whole rows has
+    /// no other share. No memory is taken, and nothing is waited for.
     #[cold]
     #[inline(never)]
     pub fn try_steal(&self, seat: &mut Seat) -> Tried

@@ -9,7 +9,7 @@ use parallel_fault::Fault;
 use std::alloc::Global;
 use std::ops::Range;
 
-/// Neighbouring cells of one row.
+/// A tile: neighbouring cells of one row.
 #[derive(Clone, Debug, PartialEq, Eq, Drop)]
 pub struct Stretch {
     /// The row.
@@ -88,7 +88,8 @@ pub(super) fn front(opened: Option<Piece>, start: usize, end: usize, len: usize)
     }
 }
 
-// The row and the column of a cell: where the open stretch ends, if that is there, else by division.
+// The row and the column of a cell: where the open stretch ends, if that is there, else by
+// division.
 fn row_and_column(opened: Option<Piece>, cell: usize, len: usize) -> (usize, usize)
     requires { len ≢ 0 }
     ensures column { result.1 < len }
@@ -104,7 +105,7 @@ fn row_and_column(opened: Option<Piece>, cell: usize, len: usize) -> (usize, usi
     (cell / len, cell % len)
 }
 
-/// The open stretch with the piece after it, where the piece goes on in the row and column at which
+/// The open stretch with the tile after it, where the tile goes on in the row and column at which
 /// the stretch ends.
 pub(super) fn grown(opened: Option<Piece>, piece: Piece) -> Option<Piece>
     ensures { Grown opened piece result }

@@ -1,4 +1,4 @@
-//! Whether a job has ended, under a lock that is let go before a task is woken.
+//! Whether a job has ended, under a lock that is released before a task is woken.
 ghost use Rattle.std.specs.Prelude.{◌≡◌, ◌⊎◌, true, None, IsSomeAnd};
 ghost use Rattle.std.specs.Sync.Mutex.{mutex_guard_value};
 ghost use Rattle.futures.specs.Poll.{OnPending};
@@ -40,7 +40,7 @@ impl Flag {
         cx.register(ended, &mut self.waker)
     }
 
-    /// The job has ended, and the lock is let go: the waker of the task that waits.
+    /// The job has ended, and the lock is released: the waker of the task that waits.
     pub(super) fn end(flag: MutexGuard<'_, Flag>) -> Option<Waker>
         ensures { result ≡ (mutex_guard_value flag.entry).waker }
     {

@@ -1,15 +1,11 @@
--- Each item is its own leaf, and a root of the tops is one of the leaves.
-use Rattle.commonware_parallel.proofs.{◌∙◌, rules, subst, IfOk-weaker, MerkleRoot, root_of_levels, same_leaves}
+-- Each item is its own leaf.
+use Rattle.commonware_parallel.proofs.{◌∙◌, rules, subst, IfOk-weaker, MerkleRoot, same_leaves}
 use Rattle.commonware_parallel.proofs.merkle.blocks.root_by_blocks.Goals as goal
 
 pub returns-clause-root : goal.returns-clause-root
 returns-clause-root g c =
-    let size = c.block_size-size.ensures.size in let came = c.in_ok-tops.ensures.tops in
-    let above = goal.F-post g c.args.combine in let tops = c.in_ok-tops.tops.items in
-    IfOk-weaker c.root_of_tops.result (MerkleRoot above tops)
-    (MerkleRoot above c.args.leaves.items)
+    let above = goal.F-post g c.args.combine in
+    IfOk-weaker c.root_of_parts.result _ (MerkleRoot above c.args.leaves.items)
     (λ root h. subst (λ l. MerkleRoot above l root)
-    (same_leaves _ (λ x y k. search rules) came.0 came.2.0 came.2.1 ∙ came.1
-    ∙ c.from_vec-parts.ensures)
-    (root_of_levels above size.0 came.2.0 tops root (came.2.2 size.0 size.1) h))
-    c.root_of_tops.ensures.root
+    (same_leaves _ (λ x y k. search rules) h.0 h.2.0 h.2.1 ∙ h.1 ∙ c.from_vec-parts.ensures)
+    h.2.2) c.root_of_parts.ensures.root

@@ -1,21 +1,11 @@
--- A root of the tops is one of the leaves.
-use Rattle.commonware_parallel.proofs.{IfOk-weaker, MerkleRoot, RootOf, root_of_levels}
+-- What the parts give the source may give.
+use Rattle.commonware_parallel.proofs.{IfOk-weaker, RootOf}
 use Rattle.parallel_bridge.specs.Sources.{GivesSome}
 use Rattle.commonware_parallel.proofs.merkle.blocks.root_of_leaves.Goals as goal
 
 pub returns-clause-root : goal.returns-clause-root
 returns-clause-root g c =
-    let size = c.block_size-size.ensures.size in let came = c.in_ok-tops.ensures.tops in
-    let above = goal.F-post g c.args.combine in let tops = c.in_ok-tops.tops.items in
-    IfOk-weaker c.root_of_tops.result (MerkleRoot above tops)
+    IfOk-weaker c.root_of_parts.result _
     (λ root. GivesSome g.I.Source.gives c.args.source
-    (λ xs. RootOf (goal.L-post g c.args.leaf) above xs root))
-    (λ root h. (
-      came.0,
-      c.in_ok-parts.ensures.gives came.0 came.1,
-      (
-        came.2.0,
-        came.2.1,
-        root_of_levels above size.0 came.2.0 tops root (came.2.2 size.0 size.1) h,
-      ),
-    )) c.root_of_tops.ensures.root
+    (λ xs. RootOf (goal.L-post g c.args.leaf) (goal.F-post g c.args.combine) xs root))
+    (λ root h. (h.0, c.in_ok-parts.ensures.gives h.0 h.1, h.2)) c.root_of_parts.ensures.root

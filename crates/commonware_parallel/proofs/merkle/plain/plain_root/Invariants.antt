@@ -2,10 +2,10 @@
 use Rattle.commonware_parallel.proofs.{Option, length, MerkleRoot}
 use Rattle.commonware_parallel.proofs.merkle.plain.plain_root.Given as goal
 
-abbrev pub invariant-loop-alloc : goal.invariant-loop-alloc
-invariant-loop-alloc g l = (root : Option g.row.T.Denot)
+abbrev pub invariant-levels : goal.invariant-levels
+invariant-levels g l = (root : Option g.row.T.Denot)
     → MerkleRoot (λ a b n. g.F.Fn.post l.combine (a, (b, tt)) n) l.level.items root
     → MerkleRoot (λ a b n. g.F.Fn.post l.combine (a, (b, tt)) n) l.fn.leaves.items root
 
-abbrev pub decreases-loop-alloc : goal.decreases-loop-alloc
-decreases-loop-alloc g l = length l.level.items
+abbrev pub decreases-levels : goal.decreases-levels
+decreases-levels g l = length l.level.items

@@ -1,9 +1,13 @@
--- Over the source as it comes the list is one segment; by a path it goes as the strategy's thread
--- number says.
-use Rattle.commonware_parallel.proofs.{rules, refl, length, of_segment, Serial, body_call, MutBor, Call, Pick, FoldStep, FoldedInitAs, along_source}
+-- Serially the list is one segment; in parallel it goes as the strategy's thread number says.
+use Rattle.commonware_parallel.proofs.{rules, refl, length, subst, Ok, of_segment, body_call, MutBor, FoldStep, FoldedInitAs, along_source, over_source}
 use Rattle.parallel_bridge.proofs.Comes.{accepts_serially, comes_wider}
-use Rattle.parallel_bridge.specs.States.{AnyState}
+use Rattle.parallel_bridge.proofs.Paths.{folded_init_by}
+use Rattle.parallel_bridge.specs.Shapes.{AlongLeaves, Shape, cutdepth}
+use Rattle.parallel_bridge.specs.States.{AnyState, FoldInitSegment}
+use Rattle.parallel_bridge.specs.declared.path.Path.TheVariants.{Serial, Parallel}
+use Rattle.parallel_fault.specs.declared.fault.Fault.{Fault}
 use Rattle.commonware_parallel.proofs.strategy.Strategy.fold_init.Goals as goal
+use Rattle.commonware_parallel.proofs.strategy.Strategy.fold_init.Goals.{in-Serial, in-Parallel}
 
 pub returns-then-is_serial-clause-brackets : goal.returns-then-is_serial-clause-brackets
 returns-then-is_serial-clause-brackets g c =
@@ -20,47 +24,60 @@ returns-then-is_serial-clause-along g c =
 
 pub returns-clause-along : goal.returns-clause-along
 returns-clause-along g c =
-    let site = g.P.Place.site_of c.args.site in
-    let init = λ (s : g.row.S.Denot). g.N.Fn.post c.args.init tt s in
-    let identity = λ (e : g.row.R.Denot). g.ID.Fn.post c.args.identity tt e in
-    let step =
-    FoldStep (λ (a : g.row.R.Denot) (p : MutBor g.row.S.Denot) (x : g.row.I-Item.Denot)
-    (b : g.row.R.Denot) (q : MutBor g.row.S.Denot). g.F.Fn.post c.args.fold_op
-    (a, (p, (x, tt))) (b, (q, tt))) in
-    let reduce =
-    λ (a : g.row.R.Denot) (b : g.row.R.Denot) (r : g.row.R.Denot). g.G.Fn.post
-    c.args.reduce_op (a, (b, tt)) r in
-    along_source body_call _
-    (λ (call : Call) (pick : Pick). g.Self.Chooser.takes c.args.self.now site call pick) _ _ _
-    (λ depth path xs r. FoldedInitAs init identity step reduce depth path xs r)
-    c.fold_init_by-answer.result c.thread_number-threads.ensures.number c.in_ok-path.ensures.takes
-    c.body_over-call.ensures.counted c.in_ok-parts.ensures.gives
-    c.fold_init_by-answer.ensures.folds
+    let takes = g.Self.Chooser.takes c.args.self.now (g.P.Place.site_of c.args.site) in
+    let path = c.in_ok-path.path in let chosen = c.in_ok-path.ensures.takes in
+    let counted = c.body_over.ensures.counted in let gives = c.in_ok-parts.ensures.gives in
+    let init = goal.N-post g c.args.init in let identity = goal.ID-post g c.args.identity in
+    let step = FoldStep (goal.F-post g c.args.fold_op) in
+    let reduce = goal.G-post g c.args.reduce_op in
+    let depth = cutdepth (g.Self.Chooser.threads c.args.self.now) in
+    elim c.match-path.branch [
+      | in-Serial w ↦ rw w.folded-is (along_source body_call _ takes path chosen
+          (λ xs h. let came = w.into_items-in-Serial.ensures.gives xs h in
+          (counted xs came, gives xs came)) {E = Fault}
+          (FoldedInitAs init identity step reduce depth) (Ok w.fold_init_iter-in-Serial.result)
+          (λ xs r h. folded_init_by path Serial w.in-Serial.is depth init identity step reduce xs r
+          h) w.fold_init_iter-in-Serial.ensures)
+      | in-Parallel w ↦ rw w.folded-is (along_source body_call _ takes path chosen
+          (λ xs h. (counted xs h, gives xs h))
+          (FoldedInitAs init identity step reduce depth) w.fold_init_parallel-folded.result
+          (λ xs r h. folded_init_by path Parallel w.in-Parallel.is depth init identity step reduce
+          xs r (subst (λ n. AlongLeaves identity (FoldInitSegment init identity step) reduce
+          (Shape (cutdepth n) xs) r) w.thread_number.ensures.number h))
+          w.fold_init_parallel-folded.ensures.along)
+    ]
+
+pub returns-clause-brackets : goal.returns-clause-brackets
+returns-clause-brackets g c =
+    over_source c.match-path.folded (returns-clause-along g c) (λ xs h. h) (λ xs r h. h.2.0)
 
 pub fold_init_iter-requires-clause-fold_accepts : goal.fold_init_iter-requires-clause-fold_accepts
 fold_init_iter-requires-clause-fold_accepts g c =
-    let identity = λ (e : g.row.R.Denot). g.ID.Fn.post c.args.identity tt e in
-    let step =
-    AnyState (FoldStep (λ (a : g.row.R.Denot) (p : MutBor g.row.S.Denot) (x : g.row.I-Item.Denot)
-    (b : g.row.R.Denot) (q : MutBor g.row.S.Denot). g.F.Fn.post c.args.fold_op
-    (a, (p, (x, tt))) (b, (q, tt)))) in
-    let reduce =
-    λ (a : g.row.R.Denot) (b : g.row.R.Denot) (r : g.row.R.Denot). g.G.Fn.post
-    c.args.reduce_op (a, (b, tt)) r in
     accepts_serially g.I.Iter.Iterator.next_gives c.into_items.result
-    (g.I.Source.may c.args.source) identity step reduce
-    (λ r x. (p : MutBor g.row.S.Denot) → g.F.Fn.pre c.args.fold_op (r, (p, (x, tt))))
-    c.into_items.ensures.may
-    c.requires.fold_accepts
+    (g.I.Source.may c.args.source) (goal.ID-post g c.args.identity)
+    (AnyState (FoldStep (goal.F-post g c.args.fold_op))) (goal.G-post g c.args.reduce_op)
+    (λ r x. (p : MutBor g.row.S.Denot) → goal.F-pre g c.args.fold_op r p x)
+    c.into_items.ensures.may c.requires.fold_accepts
 
-pub fold_init_by-answer-requires-clause-fold_accepts : goal.fold_init_by-answer-requires-clause-fold_accepts
-fold_init_by-answer-requires-clause-fold_accepts g c κs within x may r comes =
+pub fold_init_iter-requires-in-Serial-clause-fold_accepts : goal.fold_init_iter-requires-in-Serial-clause-fold_accepts
+fold_init_iter-requires-in-Serial-clause-fold_accepts g c =
+    let from = c.in_ok-parts.ensures.may in
+    accepts_serially g.I.Parts.Iter.Iterator.next_gives c.into_items-in-Serial.result
+    (g.I.Parts.Parts.may c.in_ok-parts.parts) (goal.ID-post g c.args.identity)
+    (AnyState (FoldStep (goal.F-post g c.args.fold_op))) (goal.G-post g c.args.reduce_op)
+    (λ r x. (p : MutBor g.row.S.Denot) → goal.F-pre g c.args.fold_op r p x)
+    c.into_items-in-Serial.ensures.may
+    (λ x may r comes. c.requires.fold_accepts x (from x may) r
+    (comes_wider _ _ _ _ _ _ (λ a b r reduced. reduced) from comes))
+
+pub fold_init_parallel-folded-requires-clause-fold_accepts : goal.fold_init_parallel-folded-requires-clause-fold_accepts
+fold_init_parallel-folded-requires-clause-fold_accepts g c κs within x may r comes =
     let from = c.in_ok-parts.ensures.may in
     c.requires.fold_accepts x (from x may) r
     (comes_wider _ _ _ _ _ _ (λ a b r reduced. reduced) from comes)
 
-pub fold_init_by-answer-requires-clause-reduce_accepts : goal.fold_init_by-answer-requires-clause-reduce_accepts
-fold_init_by-answer-requires-clause-reduce_accepts g c κs within a b one other =
+pub fold_init_parallel-folded-requires-clause-reduce_accepts : goal.fold_init_parallel-folded-requires-clause-reduce_accepts
+fold_init_parallel-folded-requires-clause-reduce_accepts g c κs within a b one other =
     let from = c.in_ok-parts.ensures.may in
     c.requires.reduce_accepts a b
     (comes_wider _ _ _ _ _ _ (λ a b r reduced. reduced) from one)

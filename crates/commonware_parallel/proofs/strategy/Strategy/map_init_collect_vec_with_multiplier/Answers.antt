@@ -1,7 +1,11 @@
--- Over the source as it comes there is one state; by a path they change as the strategy's thread
--- number says.
-use Rattle.commonware_parallel.proofs.{rules, refl, length, ℕ, Serial, stateful_from_segment, MutBor, multiplied_call, Call, Pick, MapStep, MappedInitAs, along_source, over_source}
+-- Serially there is one state; in parallel they change as the strategy's thread number says.
+use Rattle.commonware_parallel.proofs.{rules, refl, length, subst, ℕ, stateful_from_segment, multiplied_call, Call, MapStep, MappedInitAs, along_source, over_source}
+use Rattle.parallel_bridge.proofs.Paths.{mapped_init_by}
+use Rattle.parallel_bridge.specs.Shapes.{Shape, cutdepth}
+use Rattle.parallel_bridge.specs.States.{StatesAlong}
+use Rattle.parallel_bridge.specs.declared.path.Path.TheVariants.{Serial, Parallel}
 use Rattle.commonware_parallel.proofs.strategy.Strategy.map_init_collect_vec_with_multiplier.Goals as goal
+use Rattle.commonware_parallel.proofs.strategy.Strategy.map_init_collect_vec_with_multiplier.Goals.{in-Serial, in-Parallel}
 
 pub returns-then-is_serial-clause-stateful : goal.returns-then-is_serial-clause-stateful
 returns-then-is_serial-clause-stateful g c =
@@ -21,15 +25,28 @@ returns-then-is_serial-clause-along g c =
 
 pub returns-clause-along : goal.returns-clause-along
 returns-clause-along g c =
-    let site = g.P.Place.site_of c.args.site in
+    let takes = g.Self.Chooser.takes c.args.self.now (g.P.Place.site_of c.args.site) in
     let call_of : ℕ → Call = λ n. multiplied_call n c.args.multiplier in
-    let init = λ (s : g.row.S.Denot). g.N.Fn.post c.args.init tt s in
-    let step =
-    MapStep (λ (p : MutBor g.row.S.Denot) (x : g.row.I-Item.Denot) (y : g.row.T.Denot)
-    (q : MutBor g.row.S.Denot). g.F.Fn.post c.args.map_op (p, (x, tt)) (y, (q, tt))) in
-    along_source call_of _
-    (λ (call : Call) (pick : Pick). g.Self.Chooser.takes c.args.self.now site call pick) _ _ _
-    (λ depth path xs ys. MappedInitAs init step depth path xs ys.items)
-    c.map_init_by-mapped.result c.thread_number-threads.ensures.number c.in_ok-path.ensures.takes
-    c.multiplied_body_over-call.ensures.counted c.in_ok-parts.ensures.gives
-    c.map_init_by-mapped.ensures.maps
+    let path = c.in_ok-path.path in let chosen = c.in_ok-path.ensures.takes in
+    let counted = c.multiplied_body_over-call.ensures.counted in
+    let gives = c.in_ok-parts.ensures.gives in
+    let init = goal.N-post g c.args.init in let step = MapStep (goal.F-post g c.args.map_op) in
+    let depth = cutdepth (g.Self.Chooser.threads c.args.self.now) in
+    elim c.match-path.branch [
+      | in-Serial w ↦ rw w.mapped-is (along_source call_of _ takes path chosen
+          (λ xs h. let came = w.into_items-in-Serial.ensures.gives xs h in
+          (counted xs came, gives xs came))
+          (λ p xs ys. MappedInitAs init step depth p xs ys.items) w.map_init_iter-mapped.result
+          (λ xs ys h. mapped_init_by path Serial w.in-Serial.is depth init step xs ys.items h)
+          w.map_init_iter-mapped.ensures.one_state)
+      | in-Parallel w ↦ rw w.mapped-is (along_source call_of _ takes path chosen
+          (λ xs h. (counted xs h, gives xs h))
+          (λ p xs ys. MappedInitAs init step depth p xs ys.items) w.map_init_parallel-mapped.result
+          (λ xs ys h. mapped_init_by path Parallel w.in-Parallel.is depth init step xs ys.items
+          (subst (λ n. StatesAlong init step (Shape (cutdepth n) xs) ys.items)
+          c.thread_number-threads.ensures.number h)) w.map_init_parallel-mapped.ensures.along)
+    ]
+
+pub returns-clause-stateful : goal.returns-clause-stateful
+returns-clause-stateful g c =
+    over_source c.match-path.mapped (returns-clause-along g c) (λ xs h. h) (λ xs ys h. h.2.0)

@@ -1,10 +1,13 @@
--- Over the source as it comes the list is one segment; by a path it goes as the strategy's thread
--- number says.
-use Rattle.commonware_parallel.proofs.{rules, refl, length, Result, Serial, body_call, Call, Pick, TryFoldedAs, outcome_along_source, outcome_over_source}
+-- Serially the list is one segment; in parallel it goes as the strategy's thread number says.
+use Rattle.commonware_parallel.proofs.{rules, refl, length, subst, body_call, TryFoldedAs, outcome_along_source, outcome_over_source}
 use Rattle.parallel_bridge.proofs.Comes.{accepts_serially, comes_wider}
+use Rattle.parallel_bridge.proofs.Paths.{try_folded_by}
 use Rattle.parallel_bridge.specs.Comes.{OkStep}
-use Rattle.parallel_bridge.specs.Tries.{of_try_segment}
+use Rattle.parallel_bridge.specs.Shapes.{Shape, cutdepth}
+use Rattle.parallel_bridge.specs.Tries.{TryAlong, of_try_segment}
+use Rattle.parallel_bridge.specs.declared.path.Path.TheVariants.{Serial, Parallel}
 use Rattle.commonware_parallel.proofs.strategy.Strategy.try_fold.Goals as goal
+use Rattle.commonware_parallel.proofs.strategy.Strategy.try_fold.Goals.{in-Serial, in-Parallel}
 
 pub returns-then-is_serial-clause-brackets : goal.returns-then-is_serial-clause-brackets
 returns-then-is_serial-clause-brackets g c =
@@ -23,43 +26,56 @@ returns-then-is_serial-clause-along g c =
 
 pub returns-clause-along : goal.returns-clause-along
 returns-clause-along g c =
-    let site = g.P.Place.site_of c.args.site in
-    let identity = λ (e : g.row.R.Denot). g.ID.Fn.post c.args.identity tt e in
-    let step =
-    λ (a : g.row.R.Denot) (x : g.row.I-Item.Denot)
-    (o : Result g.row.R.Denot g.row.E.Denot). g.F.Fn.post c.args.fold_op (a, (x, tt)) o in
-    let reduce =
-    λ (a : g.row.R.Denot) (b : g.row.R.Denot) (r : g.row.R.Denot). g.G.Fn.post
-    c.args.reduce_op (a, (b, tt)) r in
-    outcome_along_source body_call _
-    (λ (call : Call) (pick : Pick). g.Self.Chooser.takes c.args.self.now site call pick) _ _ _
-    (λ depth path xs out. TryFoldedAs identity step reduce depth path xs out)
-    c.try_fold_by-outcome.result c.thread_number-threads.ensures.number c.in_ok-path.ensures.takes
-    c.body_over-call.ensures.counted c.in_ok-parts.ensures.gives
-    c.try_fold_by-outcome.ensures.folds
+    let takes = g.Self.Chooser.takes c.args.self.now (g.P.Place.site_of c.args.site) in
+    let path = c.in_ok-path.path in let chosen = c.in_ok-path.ensures.takes in
+    let counted = c.body_over.ensures.counted in let gives = c.in_ok-parts.ensures.gives in
+    let identity = goal.ID-post g c.args.identity in let step = goal.F-post g c.args.fold_op in
+    let reduce = goal.G-post g c.args.reduce_op in
+    let depth = cutdepth (g.Self.Chooser.threads c.args.self.now) in
+    elim c.match-path.branch [
+      | in-Serial w ↦ rw w.outcome-is (outcome_along_source body_call _ takes path chosen
+          (λ xs h. let came = w.into_items-in-Serial.ensures.gives xs h in
+          (counted xs came, gives xs came))
+          (TryFoldedAs identity step reduce depth) w.try_fold_as_it_comes-outcome.result
+          (λ xs out h. try_folded_by path Serial w.in-Serial.is depth identity step reduce xs out h)
+          w.try_fold_as_it_comes-outcome.ensures)
+      | in-Parallel w ↦ rw w.outcome-is (outcome_along_source body_call _ takes path chosen
+          (λ xs h. (counted xs h, gives xs h))
+          (TryFoldedAs identity step reduce depth) w.try_fold_parallel-outcome.result
+          (λ xs out h. try_folded_by path Parallel w.in-Parallel.is depth identity step reduce xs
+          out (subst (λ n. TryAlong identity step reduce (Shape (cutdepth n) xs) out)
+          w.thread_number.ensures.number h)) w.try_fold_parallel-outcome.ensures.along)
+    ]
+
+pub returns-clause-brackets : goal.returns-clause-brackets
+returns-clause-brackets g c = outcome_over_source c.match-path.outcome (returns-clause-along g c)
+    (λ xs h. h) (λ xs out h. h.2.0)
 
 pub try_fold_as_it_comes-requires-clause-fold_accepts : goal.try_fold_as_it_comes-requires-clause-fold_accepts
 try_fold_as_it_comes-requires-clause-fold_accepts g c =
-    let identity = λ (e : g.row.R.Denot). g.ID.Fn.post c.args.identity tt e in
-    let step =
-    OkStep (λ (a : g.row.R.Denot) (x : g.row.I-Item.Denot)
-    (o : Result g.row.R.Denot g.row.E.Denot). g.F.Fn.post c.args.fold_op (a, (x, tt)) o) in
-    let reduce =
-    λ (a : g.row.R.Denot) (b : g.row.R.Denot) (r : g.row.R.Denot). g.G.Fn.post
-    c.args.reduce_op (a, (b, tt)) r in
     accepts_serially g.I.Iter.Iterator.next_gives c.into_items.result
-    (g.I.Source.may c.args.source) identity step reduce
-    (λ r x. g.F.Fn.pre c.args.fold_op (r, (x, tt))) c.into_items.ensures.may
-    c.requires.fold_accepts
+    (g.I.Source.may c.args.source) (goal.ID-post g c.args.identity)
+    (OkStep (goal.F-post g c.args.fold_op)) (goal.G-post g c.args.reduce_op)
+    (λ r x. goal.F-pre g c.args.fold_op r x) c.into_items.ensures.may c.requires.fold_accepts
 
-pub try_fold_by-outcome-requires-clause-fold_accepts : goal.try_fold_by-outcome-requires-clause-fold_accepts
-try_fold_by-outcome-requires-clause-fold_accepts g c κs within x may r comes =
+pub try_fold_as_it_comes-outcome-requires-clause-fold_accepts : goal.try_fold_as_it_comes-outcome-requires-clause-fold_accepts
+try_fold_as_it_comes-outcome-requires-clause-fold_accepts g c =
+    let from = c.in_ok-parts.ensures.may in
+    accepts_serially g.I.Parts.Iter.Iterator.next_gives c.into_items-in-Serial.result
+    (g.I.Parts.Parts.may c.in_ok-parts.parts) (goal.ID-post g c.args.identity)
+    (OkStep (goal.F-post g c.args.fold_op)) (goal.G-post g c.args.reduce_op)
+    (λ r x. goal.F-pre g c.args.fold_op r x) c.into_items-in-Serial.ensures.may
+    (λ x may r comes. c.requires.fold_accepts x (from x may) r
+    (comes_wider _ _ _ _ _ _ (λ a b r reduced. reduced) from comes))
+
+pub try_fold_parallel-outcome-requires-clause-fold_accepts : goal.try_fold_parallel-outcome-requires-clause-fold_accepts
+try_fold_parallel-outcome-requires-clause-fold_accepts g c κs within x may r comes =
     let from = c.in_ok-parts.ensures.may in
     c.requires.fold_accepts x (from x may) r
     (comes_wider _ _ _ _ _ _ (λ a b r reduced. reduced) from comes)
 
-pub try_fold_by-outcome-requires-clause-reduce_accepts : goal.try_fold_by-outcome-requires-clause-reduce_accepts
-try_fold_by-outcome-requires-clause-reduce_accepts g c κs within a b one other =
+pub try_fold_parallel-outcome-requires-clause-reduce_accepts : goal.try_fold_parallel-outcome-requires-clause-reduce_accepts
+try_fold_parallel-outcome-requires-clause-reduce_accepts g c κs within a b one other =
     let from = c.in_ok-parts.ensures.may in
     c.requires.reduce_accepts a b
     (comes_wider _ _ _ _ _ _ (λ a b r reduced. reduced) from one)

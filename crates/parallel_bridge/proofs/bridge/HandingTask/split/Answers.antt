@@ -1,5 +1,5 @@
 -- The outcomes of the halves go along the shape, of two errors the left one stands, and their
--- watches are joined.
+-- watches are put together.
 use Rattle.parallel_bridge.proofs.{◌≡◌, ◌-◌, ◌/◌, Driven, arith, given_along, inl, refl, subst, sym, driven_node, halting, unstopped, Shape}
 use Rattle.parallel_bridge.proofs.Feeds.{halting_weaker, unstopped_weaker}
 use Rattle.parallel_bridge.specs.Endings.{EndTogether, Ending, ending_of, well}

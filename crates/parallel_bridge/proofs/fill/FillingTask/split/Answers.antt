@@ -1,5 +1,5 @@
--- The halves' places follow one another, their outcomes go along the shape, of two errors the left
--- one stands, and their watches are joined.
+-- The halves' slots follow one another, their outcomes go along the shape, of two errors the left
+-- one stands, and their watches are put together.
 use Rattle.parallel_bridge.proofs.{◌≡◌, ◌-◌, ◌/◌, arith, refl, rules, sym, subst, ◌∙◌, FitsInBlock, halting, Answered, OneAfterAnother, written, driven_node, halved_room}
 use Rattle.parallel_bridge.proofs.Watches.{windows_together}
 use Rattle.parallel_bridge.specs.Endings.{ending_of}

@@ -1,4 +1,4 @@
--- `close` gives a vector a row of places as its block. Assumes `Logic`.
+-- `close` gives a vector slots as its block. Assumes `Logic`.
 use Rattle.parallel_bridge.proofs.{◌⊗◌, Places, Start, mark, mark_had, start_had, plainly, stored_within, block_in}
 use Rattle.parallel_bridge.proofs.Walks.{proved_at, ◌≡◌, refl, sym, ap, subst, ◌∙◌, ℕ, ◌-◌, ◌*◌, ◌≤◌, ◌<◌, ◌^◌, List, [], ◌∷◌, ◌++◌, map, length, replicate, Ura, full_share, Fn, w64, inst_fn, Val}
 use Rattle.parallel_bridge.proofs.Walks.{vunit, vint, vptr, SProp, ent, never, id⊢, ftrue, fat, flft, Memory, Routine, Env, WpFn, Tables, Logic, ◌⊑◌, Fun, fact, tables, tables_of, ‵, raw, ◌⊛◌, at_ret}

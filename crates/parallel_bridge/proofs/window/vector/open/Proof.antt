@@ -1,4 +1,4 @@
--- `open` takes a vector's block out as a row of places with the right to free it. Assumes `Logic`.
+-- `open` takes a vector's block out as slots with the right to free it. Assumes `Logic`.
 use Rattle.parallel_bridge.proofs.{Places, Start, Mark, mark, mark_from, start_made, says_three, triple, triple_made, plainly, stored, stored_length, block_out}
 use Rattle.parallel_bridge.proofs.Walks.{proved_at, ◌≡◌, refl, sym, ap, subst, ℕ, ◌-◌, ◌*◌, ◌<◌, ◌^◌, zero-mul, arith, List, [], ◌∷◌, ◌++◌, map, lit<, length, replicate, Ura, Fn, ty_array, inst_fn}
 use Rattle.parallel_bridge.proofs.Walks.{bare, Val, vptr, SProp, ent, id⊢, ftrue, flft, Memory, Routine, Env, WpFn, Tables, Logic, Fun, tables, tables_of, ‵, raw, ◌⊛◌, at_ret, ◌$◌, ◌∵◌, !, qed, move}

@@ -14,10 +14,5 @@ returns-clause-all g c =
 
 pub returns-clause-plain : goal.returns-clause-plain
 returns-clause-plain g c passes goes =
-    let w = c.in_ok-stop.ensures.stops in (
-      w.0,
-      w.1,
-      plain_all (λ x b. goal.F-post g c.args.test x b) passes goes w.0 c.is_none.result
-          (all_of (λ x b. goal.F-post g c.args.test x b) _ (λ x out k. search rules) w.0
-          c.in_ok-stop.stop c.is_none.result (search rules) w.2),
-    )
+    let w = returns-clause-all g c in
+    (w.0, w.1, plain_all (λ x b. goal.F-post g c.args.test x b) passes goes w.0 c.is_none.result w.2)

@@ -14,10 +14,9 @@ returns-clause-values g c =
 
 pub returns-clause-plain : goal.returns-clause-plain
 returns-clause-plain g c f goes =
-    let w = c.in_ok-parts.ensures.answers in (
+    let w = returns-clause-values g c in (
       w.0,
       w.1,
       plain_values (λ x o. goal.F-post g c.args.map_op x o) f goes w.0
-          c.in_ok-parts.parts.0.items (values_of_parts (λ x o. goal.F-post g c.args.map_op x o) _
-          (λ x p k. search rules) w.0 c.in_ok-parts.parts.0.items c.in_ok-parts.parts.1.items w.2),
+          c.in_ok-parts.parts.0.items w.2,
     )

@@ -13,9 +13,6 @@ returns-clause-first g c = IfOk-weaker c.first_stop.result _ _ (λ r w. (
 )) c.first_stop.ensures.stops
 
 pub returns-clause-plain : goal.returns-clause-plain
-returns-clause-plain g c passes goes = IfOk-weaker c.first_stop.result _ _ (λ r w. (
-  w.0,
-  w.1,
-  plain_first (λ x b. FnReturnsAt g.F.Fn c.args.test x b) passes goes w.0 r
-      (first_of (λ x b. FnReturnsAt g.F.Fn c.args.test x b) _ (λ x out k. search rules) w.0 r w.2),
-)) c.first_stop.ensures.stops
+returns-clause-plain g c passes goes = IfOk-weaker c.first_stop.result _ _
+    (λ r w. (w.0, w.1, plain_first (λ x b. FnReturnsAt g.F.Fn c.args.test x b) passes goes w.0 r w.2))
+    (returns-clause-first g c)

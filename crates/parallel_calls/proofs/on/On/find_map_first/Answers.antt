@@ -12,9 +12,6 @@ returns-clause-first g c = IfOk-weaker c.first_stop.result _ _ (λ r w. (
 )) c.first_stop.ensures.stops
 
 pub returns-clause-plain : goal.returns-clause-plain
-returns-clause-plain g c f goes = IfOk-weaker c.first_stop.result _ _ (λ r w. (
-  w.0,
-  w.1,
-  plain_value (λ x o. goal.F-post g c.args.map_op x o) f goes w.0 r (first_value_of
-      (λ x o. goal.F-post g c.args.map_op x o) _ (λ x out k. search rules) w.0 r w.2),
-)) c.first_stop.ensures.stops
+returns-clause-plain g c f goes = IfOk-weaker c.first_stop.result _ _
+    (λ r w. (w.0, w.1, plain_value (λ x o. goal.F-post g c.args.map_op x o) f goes w.0 r w.2))
+    (returns-clause-first g c)

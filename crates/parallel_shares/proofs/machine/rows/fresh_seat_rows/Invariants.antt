@@ -1,4 +1,4 @@
--- As many fresh rows as seats so far.
+-- As many fresh records as seats so far.
 use Rattle.parallel_shares.proofs.{◌≡◌, replicate, fresh}
 use Rattle.parallel_shares.proofs.machine.rows.fresh_seat_rows.Given as goal
 

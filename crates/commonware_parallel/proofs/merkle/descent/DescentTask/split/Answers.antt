@@ -1,6 +1,6 @@
 -- Whole blocks in front, and the others after them: their tops, one after the other, are those of
 -- all.
-use Rattle.commonware_parallel.proofs.{◌≡◌, ◌-◌, ◌*◌, ◌/◌, ◌∙◌, arith, ap, sym, subst, drop, drop-nil, AreBlocks, blocks_after, fits_fewer, halved_room, ok_first, tops_together}
+use Rattle.commonware_parallel.proofs.{◌-◌, ◌*◌, ◌/◌, ◌∙◌, arith, ap, sym, subst, drop, drop-nil, AreBlocks, blocks_after, fits_fewer, halved_room, ok_first, tops_together}
 use denote.Param.{param}
 use Rattle.std.specs.Vec.Ownership.{FitsInBlock}
 use Rattle.parallel_bridge.specs.Fills.{IsFull}

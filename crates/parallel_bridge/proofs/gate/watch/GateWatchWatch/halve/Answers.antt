@@ -1,4 +1,4 @@
--- What the halves' seats say, joined.
+-- What the halves' seats say, put together.
 use Rattle.parallel_bridge.proofs.Watches.{watches_joined}
 use Rattle.parallel_bridge.proofs.gate.watch.GateWatchWatch.halve.Goals as goal
 

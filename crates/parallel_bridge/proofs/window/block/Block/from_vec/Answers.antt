@@ -1,4 +1,4 @@
--- The whole block is one row.
+-- The whole block is the window's slots.
 use Rattle.parallel_bridge.proofs.{rules, sym, subst, ◌∙◌, IsRow, part, whole_row}
 use Rattle.parallel_bridge.proofs.window.block.Block.from_vec.Goals as goal
 

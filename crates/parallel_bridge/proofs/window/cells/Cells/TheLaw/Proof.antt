@@ -1,4 +1,4 @@
--- A `&` to a row of places says nothing of them. Assumes `Logic`.
+-- A `&` to slots says nothing of them. Assumes `Logic`.
 use Rattle.parallel_bridge.proofs.Walks.{RattleType, RawPtr, Laws, copy_shared, nothing_shr_laws, field_copy, of_Lends, Lends-nothing}
 use Rattle.core.specs.contracts.marker.PhantomData as marker
 use Rattle.parallel_bridge.specs.contracts.window.cells.Cells as cells

@@ -1,4 +1,4 @@
--- A row of places may go to another thread where its items may.
+-- Slots may go to another thread where their items may.
 use Rattle.parallel_bridge.proofs.{cells_send}
 use Rattle.parallel_bridge.proofs.Walks.{RattleType, IsSend}
 use Rattle.parallel_bridge.specs.contracts.window.cells.Cells.{the_row}

@@ -1,4 +1,4 @@
--- `join` makes one row of two that lie side by side. Assumes `Logic`.
+-- `join` puts neighbouring slots together. Assumes `Logic`.
 use Rattle.parallel_bridge.proofs.{◌⊗◌, FitsInBlock, Places, Mark, Place, sz, mark, mark_from, mark_had, glue}
 use Rattle.parallel_bridge.proofs.Walks.{proved_at, ◌≡◌, refl, sym, ap, subst, ◌∙◌, ℕ, ◌+◌, ◌*◌, ◌<◌, ◌^◌, List, [], ◌∷◌, ◌++◌, length, length-append, Ura, Fn, inst_fn, Val, SProp, ent, never, id⊢}
 use Rattle.parallel_bridge.proofs.Walks.{ftrue, flft, Memory, Routine, WpFn, Tables, Logic, ◌⊑◌, Fun, fact, tables, tables_of, ‵, raw, ◌⊛◌, ◌$◌, ◌∵◌, !, qed, move, keep, drop, use0, use2, split, join}

@@ -1,4 +1,4 @@
--- `split` cuts a row in two. Assumes `Logic`.
+-- `split` cuts slots in two. Assumes `Logic`.
 use Rattle.parallel_bridge.proofs.{◌⊗◌, Places, Start, Mark, Place, sz, mark, mark_from, mark_had, start_had, start_made, triple, triple_made, cut_at}
 use Rattle.parallel_bridge.proofs.Walks.{proved_at, ◌≡◌, refl, sym, ap, subst, ◌∙◌, ℕ, ◌+◌, ◌*◌, ◌<◌, ◌≤◌, ◌^◌, arith, List, [], ◌∷◌, ◌++◌, length, take, from, length-take, length-drop, Ura}
 use Rattle.parallel_bridge.proofs.Walks.{full_share, Fn, w64, inst_fn, Val, vint, SProp, ent, never, id⊢, ftrue, fat, flft, Memory, Routine, Env, WpFn, Tables, Logic, ◌⊑◌, Fun, fact, tables}

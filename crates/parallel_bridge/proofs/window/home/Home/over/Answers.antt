@@ -4,7 +4,7 @@ use Rattle.parallel_bridge.proofs.window.home.Home.over.Goals as goal
 use Rattle.parallel_bridge.proofs.window.home.Home.over.Given.{Over}
 use Rattle.parallel_bridge.proofs.window.home.Home.over.Goals.{After-split-cells}
 
--- the front of the block is the row of the items, and the rest is empty
+-- the front of the block is the slots of the items, and the rest is empty
 cut_row : (g : Over) (c : After-split-cells g)
     → (IsRow c.open-all.result.1.at c.open-all.result.0.ptr
     (take c.args.room c.open-all.result.1.slots) c.args.room 0 c.len-len.result

@@ -1,10 +1,10 @@
--- The row of the items with the empty places after it is the whole block.
+-- The slots of the items with the empty ones after them are the whole block.
 use Rattle.parallel_bridge.proofs.{laid, values, IsRow, ◌≡◌, ◌≤◌, ◌-◌, ◌++◌, length, sym, ap, subst, ◌∙◌, closed_rows}
 use Rattle.parallel_bridge.proofs.window.part.Window.into_vec.Goals as goal
 use Rattle.parallel_bridge.proofs.window.part.Window.into_vec.Given.{Over}
 use Rattle.parallel_bridge.proofs.window.part.Window.into_vec.Goals.{After-join-all}
 
--- the whole block is the row of the items with the empty places after it
+-- the whole block is the slots of the items with the empty ones after them
 as_block : (g : Over) (c : After-join-all g)
     → (length (c.into_parts-len.result.4.slots ++ c.home.inside.tail.slots)
     ≡ c.home.inside.capacity)

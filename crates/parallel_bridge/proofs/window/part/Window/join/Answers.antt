@@ -1,4 +1,4 @@
--- Two rows side by side as one.
+-- Neighbouring slots as one window's.
 use Rattle.parallel_bridge.proofs.{◌≡◌, ◌+◌, ◌++◌, length, sym, ap, subst, ◌∙◌, ◌⊎◌, inl, inr, FitsInBlock, param, shifted, values, Adjoins, IsRow, part, row_length, two_rows, moved}
 use Rattle.parallel_bridge.proofs.window.part.Window.join.Goals as goal
 use Rattle.parallel_bridge.proofs.window.part.Window.join.Given.{Over}
@@ -20,7 +20,7 @@ join-requires g c =
       subst (λ n. FitsInBlock R n) (λ i. sym long i + sym more i) fits,
     )
 
--- the two rows as one
+-- both as one
 as_one : (g : Over) (c : After-join g) → IsRow c.self.inside.cells.at c.self.inside.base.ptr
     (c.self.inside.cells.slots ++ c.into_parts-more_room.result.4.slots)
     (c.self.inside.room + c.into_parts-more_room.result.1) c.self.inside.before

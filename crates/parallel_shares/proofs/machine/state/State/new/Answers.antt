@@ -1,4 +1,4 @@
--- The rows are those of the opening, which belongs to the plan.
+-- The words and the seats are those of the opening, which belongs to the plan.
 use Rattle.parallel_shares.proofs.{map, sym, subst, Machine, BalancedCut, range_of, IsStateOf, Shows, opening_balanced, first, first_is_opening, opening_is_state, opening_shows}
 use Rattle.parallel_shares.proofs.machine.state.State.new.Goals as goal
 
