@@ -1,2 +1,1 @@
-pub mod FirstNumbered
 pub mod Verdicts

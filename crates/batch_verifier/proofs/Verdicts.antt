@@ -22,7 +22,7 @@ use Rattle.parallel_bridge.specs.Zips.{PairsOf}
 use Rattle.parallel_bridge.specs.declared.producer.Copies.{Copies}
 use Rattle.parallel_bridge.specs.declared.zipped.Zipped.{Zipped}
 use Rattle.std.proofs.lemmas.Slice.Zip.{length-zip}
-use Rattle.batch_verifier.proofs.FirstNumbered.{first_of_numbered}
+use Rattle.parallel_bridge.proofs.Firsts.{first_of_numbered}
 use Rattle.parallel_bridge.proofs.OverViews.{zip_of_lists}
 use Rattle.batch_verifier.specs.Verdicts.{HasItsDigest, IsFirstFailing, IsFirstMismatch, IsFirstOver, IsSortedOut, Judges, JudgesDigest, AddsWithin}
 

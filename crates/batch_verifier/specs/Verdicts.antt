@@ -3,7 +3,7 @@ use Rattle.std.specs.Prelude.{◌≡◌, ℕ, ◌<◌, ◌≤◌, List, ◌∷�
 use Rattle.std.specs.Borrow.{Bor}
 use Rattle.std.specs.List.{AllWithin, HoldsAt}
 use Rattle.sha2.specs.Sha256.{sha256}
-use Rattle.batch_verifier.specs.Firsts.{FailsFirstAt}
+use Rattle.parallel_bridge.specs.Firsts.{IsFirst}
 
 -- the item at the index may fail, and each item before it may pass
 abbrev pub IsFirstFailing : {X : Type 0} → (X → Bool → Type 0) → List X → ℕ → Type 0
@@ -51,4 +51,5 @@ JudgesDigest item out =
 
 -- the digest of the pair at the index isn't its message's, and that of each pair before it is
 abbrev pub IsFirstMismatch : List (Bor (List ℕ) × List ℕ) → ℕ → Type 0
-IsFirstMismatch pairs index = FailsFirstAt HasItsDigest (λ pair. ¬ HasItsDigest pair) pairs index
+IsFirstMismatch pairs index = (pair : Bor (List ℕ) × List ℕ)
+    × IsFirst (λ other. ¬ HasItsDigest other) HasItsDigest pairs pair index

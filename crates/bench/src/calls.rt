@@ -14,7 +14,7 @@ use commonware_parallel::{
 use parallel_bridge::{Parts, Segment};
 use std::alloc::Global;
 
-/// The place of every call.
+/// The site of every call.
 pub const SITE: Site = Site {
     file: "bench",
     line: 1,
@@ -64,27 +64,45 @@ fn by_slice<Rt: Runtime, S: Strategy>(
             let tiling = Tiling::of(rows, cost, items.len());
             sum_of_tiles(rt, alloc, strategy, tiling, items)?
         }
-        Case::TreeLight => {
-            let leaves = items.iter().copied().collect(alloc)?;
-            merkle::root(rt, alloc, strategy, SITE, leaves, combined)?.unwrap_or(0)
-        }
-        Case::TreeHeavy => {
-            let leaves = items.iter().copied().collect(alloc)?;
-            merkle::root(rt, alloc, strategy, SITE, leaves, combined_heavily)?.unwrap_or(0)
-        }
-        Case::BlocksLight => {
-            let leaves = Copies { slice: items };
-            merkle::root_of_leaves(rt, alloc, strategy, SITE, leaves, same, combined)?.unwrap_or(0)
-        }
-        Case::BlocksHeavy => {
-            let (leaves, node) = (Copies { slice: items }, combined_heavily);
-            merkle::root_of_leaves(rt, alloc, strategy, SITE, leaves, same, node)?.unwrap_or(0)
-        }
+        Case::TreeLight => by_levels(rt, alloc, strategy, items, combined)?,
+        Case::TreeHeavy => by_levels(rt, alloc, strategy, items, combined_heavily)?,
+        Case::BlocksLight => by_blocks(rt, alloc, strategy, items, combined)?,
+        Case::BlocksHeavy => by_blocks(rt, alloc, strategy, items, combined_heavily)?,
         Case::RowsAbove => bytes_above(rt, alloc, strategy, extras.bytes)?,
         Case::Digests => first_mismatch(rt, alloc, strategy, extras)? as u64,
         _ => 0,
     };
     Ok(Answer::Number(number))
+}
+
+// The root of a tree level by level, and 0 where there is none.
+fn by_levels<Rt: Runtime, S: Strategy, F: Fn(u64, u64) -> u64 + Send + Sync + Drop>(
+    rt: &Rt,
+    alloc: Global,
+    strategy: &S,
+    slice: &[u64],
+    node: F,
+) -> Result<u64, Fault>
+    requires { F.IsAlwaysCallable node }
+{
+    let leaves = Copies { slice };
+    let root = merkle::root_of_leaves_by_levels(rt, alloc, strategy, SITE, leaves, same, node)?;
+    Ok(root.unwrap_or(0))
+}
+
+// The same by blocks of leaves.
+fn by_blocks<Rt: Runtime, S: Strategy, F: Fn(u64, u64) -> u64 + Send + Sync + Drop>(
+    rt: &Rt,
+    alloc: Global,
+    strategy: &S,
+    slice: &[u64],
+    node: F,
+) -> Result<u64, Fault>
+    requires { F.IsAlwaysCallable node }
+{
+    let leaves = Copies { slice };
+    let root = merkle::root_of_leaves(rt, alloc, strategy, SITE, leaves, same, node)?;
+    Ok(root.unwrap_or(0))
 }
 
 fn sorted<Rt: Runtime, S: Strategy>(

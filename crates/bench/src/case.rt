@@ -54,7 +54,7 @@ pub enum Rows {
 }
 
 /// Every case with the name by which the command line asks for it.
-pub const CASES: [(&str, Case); 31] = [
+pub const CASES: [(&str, Case); 32] = [
     ("map-light", Case::Map(Cost::Light)),
     ("map-heavy", Case::Map(Cost::Heavy)),
     ("map-rising", Case::Map(Cost::Rising)),
@@ -85,7 +85,8 @@ pub const CASES: [(&str, Case); 31] = [
     ("count", Case::Ready(Ready::Count)),
     ("sum", Case::Ready(Ready::Sum)),
     ("scan", Case::Ready(Ready::Scan)),
-    ("min-heavy", Case::Ready(Ready::Least)),
+    ("min-light", Case::Ready(Ready::Least)),
+    ("min-heavy", Case::Ready(Ready::LeastHeavy)),
 ];
 
 impl Case {

@@ -2,7 +2,7 @@
 use crate::calls::SITE;
 use crate::loops::folded;
 use crate::ways::Answer;
-use crate::work::{add, heavier, is_even, is_even_at};
+use crate::work::{add, ascending, heavier, is_even, is_even_at};
 use commonware_parallel::{Copies, Fault, Runtime, Strategy};
 use parallel_calls::On;
 use rayon::prelude::*;
@@ -21,8 +21,10 @@ pub enum Ready {
     Sum,
     /// The sums up to each item.
     Scan,
-    /// The item of which the heavy function makes the least.
+    /// The least item.
     Least,
+    /// The item of which the heavy function makes the least.
+    LeastHeavy,
 }
 
 impl Ready {
@@ -60,7 +62,8 @@ pub fn ready_by_loop(alloc: Global, ready: Ready, items: &[u64]) -> Result<Answe
         }
         Ready::Sum => Ok(Answer::Number(folded(items, add))),
         Ready::Scan => Ok(Answer::Numbers(scanned(alloc, items)?)),
-        Ready::Least => Ok(number(items.iter().copied().min_by(heavier))),
+        Ready::Least => Ok(number(items.iter().copied().min_by(ascending))),
+        Ready::LeastHeavy => Ok(number(items.iter().copied().min_by(heavier))),
     }
 }
 
@@ -99,7 +102,8 @@ pub fn ready_by_strategy<Rt: Runtime, S: Strategy>(
         Ready::Count => Ok(Answer::Number(on.count(items, is_even)? as u64)),
         Ready::Sum => Ok(Answer::Number(on.sum(items)?)),
         Ready::Scan => Ok(Answer::Numbers(on.inclusive_scan(items, add)?)),
-        Ready::Least => Ok(number(on.min_by(items, heavier)?)),
+        Ready::Least => Ok(number(on.min_by(items, ascending)?)),
+        Ready::LeastHeavy => Ok(number(on.min_by(items, heavier)?)),
     }
 }
 
@@ -121,6 +125,7 @@ pub fn ready_by_kit<Rt: Threads + Sync>(
         Ready::Count => Ok(Answer::Number(all.filter(is_even_at).count(rt) as u64)),
         Ready::Sum => Ok(Answer::Number(all.reduce(rt, || 0, add))),
         Ready::Scan => Ok(Answer::Number(0)),
-        Ready::Least => Ok(number(all.min_by(rt, heavier))),
+        Ready::Least => Ok(number(all.min_by(rt, ascending))),
+        Ready::LeastHeavy => Ok(number(all.min_by(rt, heavier))),
     }
 }

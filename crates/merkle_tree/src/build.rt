@@ -9,8 +9,8 @@ use std::alloc::Global;
 use std::sync::Wait;
 use std::thread::Threads;
 
-/// The commitment to the tree over the leaves, of which no level but the one below the next is
-/// kept. It is what a proof is checked against, and what is published of a tree.
+/// The commitment to the tree over the leaves, of which no level is kept, nor a list of their
+/// digests. It is what a proof is checked against, and what is published of a tree.
 ///
 /// # Errors
 ///
@@ -30,8 +30,9 @@ pub fn commitment<Rt: Threads + Wait + Sync, P: Place, S: Strategy>(
     Ok(commitment_digest(leaves.len(), &root))
 }
 
-/// The root of the leaves, in which no level but the one below the next is kept; None where there
-/// is no leaf. It says nothing of how many leaves there are: what is published is `commitment`.
+/// The root of the leaves; None where there is no leaf. Each leaf is hashed as the block that it is
+/// in is brought down (`merkle::root_of_leaves`), so that no list of digests is kept of the leaves.
+/// A root says nothing of how many leaves there are: what is published is `commitment`.
 ///
 /// # Errors
 ///
@@ -46,11 +47,14 @@ pub fn root<Rt: Threads + Wait + Sync, P: Place, S: Strategy>(
     ensures root { IfOk result (λ root. root ≡ merkle_root node_digest (leaf_digests leaves.now)) }
     ensures fault { IsMemoryOnErr result }
 {
-    let digests = leaf_digests(rt, alloc, strategy, site, leaves)?;
+    let leaf = |leaf: &[u8]| -> Digest
+        ensures { result ≡ leaf_digest leaf.now }
+    { leaf_digest(leaf) };
     let node = |left: Digest, right: Digest| -> Digest
         ensures { result ≡ node_digest left right }
     { node_digest(&left, &right) };
-    merkle::root(rt, alloc, strategy, site, digests, node)
+    let leaves = Copies { slice: leaves };
+    merkle::root_of_leaves(rt, alloc, strategy, site, leaves, leaf, node)
 }
 
 /// The digests of the leaves, in their order.

@@ -2,10 +2,10 @@
 -- place. Declares nothing.
 pub use Rattle.commonware_parallel.proofs.Picks.{one_path}
 pub use Rattle.commonware_parallel.specs.Explorers.{ExplorerTakes, picked}
-pub use Rattle.commonware_parallel.specs.Merkle.{MerkleRoot, NextLevel, of_level, of_none, of_one}
+pub use Rattle.commonware_parallel.specs.Merkle.{MerkleRoot, NextLevel, RootOf, of_level, of_none, of_one}
 pub use Rattle.commonware_parallel.specs.declared.mocks.explorer.Explorer.{Explorer}
 pub use Rattle.commonware_parallel.specs.declared.mocks.rule.Rule.TheVariants.{Serial}
-pub use Rattle.parallel_bridge.specs.Lists.{Chain, FoldSegment}
+pub use Rattle.parallel_bridge.specs.Lists.{Chain, FoldSegment, MapOf}
 pub use Rattle.parallel_bridge.specs.Shapes.{Along, AlongLeaves, FoldsAs, ReducedSegment, Shape, cutdepth}
 pub use Rattle.parallel_bridge.specs.declared.path.Path.TheVariants.{Parallel}
 pub use Rattle.parallel_shares.proofs.Counts.{after, before, inside_after, inside_nothing, inside_within, side, within}

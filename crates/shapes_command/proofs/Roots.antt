@@ -1,6 +1,9 @@
--- A root by a relation is one by any that it implies; and the leaves, one more at a time.
-use Rattle.shapes_command.proofs.Common.{◌≡◌, ◌+◌, ◌<◌, ◌∙◌, ℕ, List, [], ◌∷◌, ◌++◌, length, map, take, slice_index_or, Option, String, Global, ap, sym, subst, map-append, take_more, All-get_or}
-use Rattle.shapes_command.proofs.Common.{MerkleRoot, NextLevel, of_level, of_none, of_one, AreItems, IsItem, number_of}
+-- A root by a relation is one by any that it implies, and the root over the numbers of words.
+use Rattle.shapes_command.proofs.Common.{◌≡◌, ℕ, List, [], ◌∷◌, map, Bor, Option, String, Global, subst, MapOf}
+use Rattle.shapes_command.proofs.Common.{MerkleRoot, NextLevel, RootOf, of_level, of_none, of_one, AreItems, IsItem, number_of}
+use Rattle.parallel_bridge.proofs.Laws.{map_is_function}
+use Rattle.parallel_bridge.proofs.OverViews.{map_shown}
+use Rattle.std.proofs.lemmas.List.Elements.{All-contains}
 
 module _ {T : Type 0} (told known : T → T → T → Type 0)
     (so : (a b c : T) → told a b c → known a b c) where
@@ -17,17 +20,19 @@ module _ {T : Type 0} (told known : T → T → T → Type 0)
   root_weaker (x ∷ (y ∷ xs)) root (of_level {nodes = ns} next above) =
       of_level (next_weaker (x ∷ (y ∷ xs)) ns next) (root_weaker ns root above)
 
--- the number of one more word
-pub one_more_leaf : (words : List (String Global)) (i : ℕ) (word : String Global) (value : ℕ)
-    (before after : List ℕ) → i < length words → word ≡ slice_index_or words i word
-    → AreItems words → (IsItem word → value ≡ number_of word)
-    → before ≡ map number_of (take i words) → after ≡ before ++ value ∷ []
-    → after ≡ map number_of (take (i + 1) words)
-one_more_leaf words i word value before after below is items writes so_far pushed =
-    let so : List ℕ = map number_of (take i words) in
-    let item : IsItem word = subst IsItem (sym is)
-    (All-get_or IsItem words i word below items.1) in
-    pushed ∙ ap (λ l. l ++ value ∷ []) so_far ∙ ap (λ v. so ++ v ∷ []) (writes item)
-    ∙ ap (λ w. so ++ number_of w ∷ []) is
-    ∙ sym (map-append number_of (take i words) (slice_index_or words i word ∷ []))
-    ∙ ap (map number_of) (sym (take_more words i word below))
+-- the root of the leaves that are the numbers of the words
+pub root_of_words : (told : ℕ → ℕ → ℕ → Type 0) (known : ℕ → ℕ → ℕ → Type 0)
+    (leaf : Bor (String Global) → ℕ → Type 0) (words : List (String Global)) (root : Option ℕ)
+    → ((a b c : ℕ) → told a b c → known a b c)
+    → ((word : Bor (String Global)) (value : ℕ) → leaf word value → IsItem word.now
+    → value ≡ number_of word.now) → AreItems words
+    → ((xs : List (Bor (String Global))) × (map (λ (x : Bor (String Global)). x.now) xs ≡ words)
+    × RootOf leaf told xs root) → MerkleRoot known (map number_of words) root
+root_of_words told known leaf words root so number items (xs, came, (leaves, maps, above)) =
+    let writes = λ (word : String Global) (value : ℕ). IsItem word → value ≡ number_of word in
+    let view = λ (x : Bor (String Global)). x.now in
+    let shown = subst (λ l. MapOf writes l leaves) came
+    (map_shown view leaf writes number xs leaves maps) in
+    let each = map_is_function writes words leaves shown number_of
+    (λ word value within told_of. told_of (All-contains IsItem words word items.1 within)) in
+    subst (λ l. MerkleRoot known l root) each (root_weaker told known so leaves root above)

@@ -52,7 +52,7 @@ pub enum Request<'a> {
     Grid {
         /// The grid, of that many rows and such a tile cost.
         grid: Grid,
-        /// The number of indices in a row.
+        /// The number of columns of each row.
         len: usize,
         /// The number of workers.
         workers: NonZeroUsize,

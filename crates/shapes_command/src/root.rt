@@ -1,7 +1,7 @@
 //! The root of a tree over a command line's items, by each rule of a search.
-ghost use Rattle.std.specs.Prelude.{◌≡◌, IfOk, IfErr, map};
+ghost use Rattle.std.specs.Prelude.{◌≡◌, IfOk, IfErr};
 ghost use Rattle.shapes_command.specs.Answer.{IsRootOf, combined};
-ghost use Rattle.shapes_command.specs.Request.{AreItems, number_of};
+ghost use Rattle.shapes_command.specs.Request.{AreItems, IsItem, number_of};
 
 use crate::number::number;
 use crate::request::MOST_NUMBER;
@@ -13,7 +13,7 @@ use std::alloc::Global;
 use std::sync::Wait;
 use std::thread::Threads;
 
-// The place of the levels' maps, by which a strategy tells calls apart.
+// The call site of the levels' maps, by which a strategy tells calls apart.
 const SITE: Site = Site {
     file: "shapes_command/src/root.rt",
     line: 17,
@@ -74,11 +74,13 @@ fn root_through<R: Threads + Wait + Sync>(
     requires items { AreItems items.now }
     ensures { IfOk result (IsRootOf items.now) }
 {
-    let leaves = leaves_of(alloc, items)?;
+    let leaf = |item: &String| -> usize
+        ensures { IsItem item.now → result ≡ number_of item.now }
+    { number(item, MOST_NUMBER).unwrap_or(0) };
     let node = |left: usize, right: usize| -> usize
         ensures { result ≡ combined left right }
     { combined(left, right) };
-    merkle::root(rt, alloc, explorer, SITE, leaves, node)
+    merkle::root_of_leaves_by_levels(rt, alloc, explorer, SITE, items, leaf, node)
 }
 
 // The node above two neighbours.
@@ -86,17 +88,4 @@ fn combined(left: usize, right: usize) -> usize
     ensures { result ≡ combined left right }
 {
     (2 * (left % MODULUS) + 3 * (right % MODULUS)) % MODULUS
-}
-
-// The numbers that the words write.
-fn leaves_of(alloc: Global, items: &[String]) -> Result<Vec<usize>, Fault>
-    requires items { AreItems items.now }
-    ensures numbers { IfOk result (λ leaves. leaves.items ≡ map number_of items.now) }
-    ensures fault { IfErr result (λ refusal. refusal ≡ Fault.Memory) }
-{
-    let mut leaves = Vec::new(alloc);
-    for item in items {
-        leaves.push(number(item, MOST_NUMBER).unwrap_or(0))?;
-    }
-    Ok(leaves)
 }

@@ -11,7 +11,7 @@ use std::alloc::Global;
 use std::sync::Wait;
 use std::thread::Threads;
 
-// The place that both searches call from.
+// The call site of both searches.
 const SITE: Site = Site {
     file: "shapes_command/src/search.rt",
     line: 15,

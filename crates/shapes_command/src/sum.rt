@@ -15,7 +15,7 @@ use std::num::NonZeroUsize;
 use std::sync::Wait;
 use std::thread::Threads;
 
-// The place of the fold, by which a strategy tells calls apart.
+// The call site of the fold, by which a strategy tells calls apart.
 const SITE: Site = Site {
     file: "shapes_command/src/sum.rt",
     line: 37,

@@ -1,6 +1,5 @@
 pub mod Counts
 pub mod FilledParts
-pub mod Finished
 pub mod Layers
 pub mod LeastPlaces
 pub mod LongestWords

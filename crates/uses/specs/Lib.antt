@@ -2,6 +2,7 @@ pub mod Batches
 pub mod Joins
 pub mod LeastPlaces
 pub mod LongLists
+pub mod Ready
 pub mod Repeats
 pub mod Tiles
 pub mod Transforms

@@ -1,5 +1,5 @@
-//! Batches: a closure that is handed balanced ranges, and looks into a list by them, and one that is
-//! handed the ranges' parts of a list that the caller lends.
+//! Batches: a closure that is handed balanced ranges, and looks into a list by them, and one that
+//! is handed the ranges' parts of a list that the caller lends.
 ghost use Rattle.std.specs.Prelude.{◌≡◌, ◌≤◌, ◌+◌, All, count_by, length, max, slice_range, IfErr, IfOk, OnOk};
 ghost use Rattle.std.specs.Int.NonZero.{non_zero_usize_get};
 ghost use Rattle.parallel_fault.specs.Trouble.{IsMemoryOnErr};
@@ -81,8 +81,8 @@ fn count_ranges(flags: &[bool], ranges: &[Range<usize>]) -> usize
     count
 }
 
-/// The SHA-256 digests of the messages (`digests_of`), written into a list that the caller lends, by
-/// as many ranges as the strategy is planned for.
+/// The SHA-256 digests of the messages (`digests_of`), written into a list that the caller lends,
+/// by as many ranges as the strategy is planned for.
 ///
 /// # Errors
 ///

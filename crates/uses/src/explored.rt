@@ -10,7 +10,7 @@ use std::alloc::Global;
 use std::sync::Wait;
 use std::thread::Threads;
 
-// The place that the sums are called from.
+// The call site of the sums.
 const SITE: Site = Site {
     file: "uses/src/explored.rt",
     line: 14,

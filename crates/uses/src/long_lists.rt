@@ -19,8 +19,8 @@ use std::thread::Threads;
 ///
 /// It shows all that a strategy of one's own takes. `choose` chooses a pick, which is a path or a
 /// number of parts, and the other functions hand out two numbers; the ghost members say which picks
-/// are taken. Maps, folds, runs and batches come from the trait, with their contracts proved once for
-/// every strategy, so nothing here can break them.
+/// are taken. Maps, folds, runs and batches come from the trait, with their contracts proved once
+/// for every strategy, so nothing here can break them.
 #[derive(Clone, Copy, Debug, PartialEq, Eq)]
 pub struct LongLists {
     threads: NonZeroUsize,

@@ -1,4 +1,4 @@
-//! Several calls of one place: what they have in common is written once.
+//! Several calls at one site: what they have in common is written once.
 ghost use Rattle.std.specs.Prelude.{◌≡◌, ◌*◌, map, IfOk};
 ghost use Rattle.parallel_fault.specs.Trouble.{IsMemoryOnErr};
 

@@ -11,9 +11,9 @@ use std::thread;
 use std::thread::Threads;
 use std::time::Duration;
 
-/// What the closure returns for each item, in the items' order. Meanwhile a thread calls `tell` with
-/// how many items are done, each time that the pause is over and there are more, and once more at
-/// the end. Where the system starts no thread for it, it is called at the end alone.
+/// What the closure returns for each item, in the items' order. Meanwhile a thread calls `tell`
+/// with how many items are done, each time that the pause is over and there are more, and once more
+/// at the end. Where the system starts no thread for it, it is called at the end alone.
 ///
 /// # Errors
 ///

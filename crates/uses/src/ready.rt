@@ -1,10 +1,14 @@
 //! Ready calls: what each comes to, in std's own word for it.
-ghost use Rattle.std.specs.Prelude.{◌≡◌, ◌==◌, ◌%◌, IfOk, count_by, fold, max, nat_lt};
+ghost use Rattle.std.specs.Prelude.{◌≡◌, ◌==◌, ◌%◌, IfOk, count_by, fold, map, max, nat_lt};
 ghost use Rattle.std.specs.List.{filter, find};
-ghost use Rattle.parallel_fault.specs.Trouble.{IsMemoryOnErr};
+ghost use Rattle.parallel_fault.specs.Trouble.{IsMemoryOnErr, IsMemoryOnFault};
+ghost use Rattle.parallel_bridge.specs.Outcomes.{UnlessRefused, listed};
+ghost use Rattle.parallel_bridge.specs.Parts.{keys_of, values_of};
 ghost use Rattle.parallel_calls.specs.Extremes.{LeastOf};
+ghost use Rattle.parallel_calls.specs.Functions.{try_map};
+ghost use Rattle.uses.specs.Ready.{even_of, half_of};
 
-use commonware_parallel::{Copies, Fault, Place, Strategy};
+use commonware_parallel::{Copies, Fault, Place, Strategy, Trouble};
 use parallel_calls::On;
 use std::sync::Wait;
 use std::thread::Threads;
@@ -90,4 +94,54 @@ pub fn even_numbers<Rt: Threads + Wait + Sync, S: Strategy, P: Place>(
     ensures fault { IsMemoryOnErr result }
 {
     on.filter(Copies { slice: numbers }, |number: &u64| *number % 2 == 0)
+}
+
+/// Half of each number, or the first odd one.
+///
+/// # Errors
+///
+/// `Trouble::Closure` with an odd number, before which each is even; `Trouble::Fault` with
+/// `Fault::Memory` if an allocation fails.
+pub fn halves<Rt: Threads + Wait + Sync, S: Strategy, P: Place>(
+    on: &On<'_, Rt, S, P>,
+    numbers: &[u64],
+) -> Result<Vec<u64>, Trouble<u64>>
+    ensures halves { UnlessRefused result (λ out. listed out ≡ try_map half_of numbers.now) }
+    ensures fault { IsMemoryOnFault result }
+{
+    let half = |number: u64| -> Result<u64, u64>
+        ensures { result ≡ half_of number }
+    {
+        if number % 2 == 0 {
+            Ok(number / 2)
+        } else {
+            Err(number)
+        }
+    };
+    on.try_map(Copies { slice: numbers }, half)
+}
+
+/// The even numbers and the odd ones, each in their order.
+///
+/// # Errors
+///
+/// `Fault::Memory` if an allocation fails.
+pub fn evens_and_odds<Rt: Threads + Wait + Sync, S: Strategy, P: Place>(
+    on: &On<'_, Rt, S, P>,
+    numbers: &[u64],
+) -> Result<(Vec<u64>, Vec<u64>), Fault>
+    ensures evens { IfOk result (λ parts. parts.0.items ≡ values_of (map even_of numbers.now)) }
+    ensures odds { IfOk result (λ parts. parts.1.items ≡ keys_of (map even_of numbers.now)) }
+    ensures fault { IsMemoryOnErr result }
+{
+    let even = |number: u64| -> (u64, Option<u64>)
+        ensures { result ≡ even_of number }
+    {
+        if number % 2 == 0 {
+            (number, Some(number))
+        } else {
+            (number, None)
+        }
+    };
+    on.map_partition(Copies { slice: numbers }, even)
 }

@@ -13,9 +13,9 @@ use std::thread::Threads;
 #[derive(Clone, Copy, Debug, PartialEq, Eq)]
 pub struct Stopped;
 
-/// What the closure returns for each item, in the items' order, unless the flag is raised meanwhile.
-/// An item that was begun is finished, so a stop comes as soon as the closure has returned on each
-/// thread.
+/// What the closure returns for each item, in the items' order, unless the flag is raised
+/// meanwhile. An item that was begun is finished, so a stop comes as soon as the closure has
+/// returned on each thread.
 ///
 /// # Errors
 ///

@@ -1,5 +1,5 @@
-//! A kernel over the rows of a matrix, which a strategy cuts as it likes, and one whose rows have to
-//! stay whole.
+//! A kernel over the rows of a matrix, which a strategy cuts as it likes, and one whose rows have
+//! to stay whole.
 ghost use Rattle.std.specs.Prelude.{◌≡◌, ◌+◌, ◌*◌, ◌<◌, ◌≤◌, ◌%◌, ◌^◌, IfOk, length};
 ghost use Rattle.parallel_fault.specs.Trouble.{IsMemoryOnErr, IsMemoryOnFault};
 ghost use Rattle.commonware_parallel.specs.Tiles.{workers_of};

@@ -12,7 +12,7 @@ use std::io;
 use std::num::NonZeroUsize;
 use std::process::ExitCode;
 
-/// The place of the call, by which a policy tells calls apart.
+/// The call site, by which a policy tells calls apart.
 const SITE: Site = Site {
     file: "verifier/src/main.rt",
     line: 1,

@@ -1,10 +1,10 @@
--- The closure's one result is the node above the two.
-use Rattle.shapes_command.proofs.{rules, ◌≡◌, subst, IfOk-weaker, MerkleRoot, combined, root_weaker}
+-- The closure's one result is the node above the two, and each leaf its word's number.
+use Rattle.shapes_command.proofs.{◌≡◌, rules, IfOk-weaker, combined, root_of_words}
 use Rattle.shapes_command.proofs.root.root_through.Goals as goal
 
 pub returns : goal.returns
 returns g c =
-    IfOk-weaker c.root.result _ _
-    (λ root h. subst (λ leaves. MerkleRoot (λ a b c'. c' ≡ combined a b) leaves root)
-    c.in_ok-leaves.ensures.numbers
-    (root_weaker _ _ (λ x y z k. search rules) _ root h)) c.root.ensures.root
+    IfOk-weaker c.root_of_leaves_by_levels.result _ _
+    (λ root h. root_of_words _ (λ a b c'. c' ≡ combined a b) _ c.args.items.now root
+    (λ x y z k. search rules) (λ word value k. search rules) c.requires.items h)
+    c.root_of_leaves_by_levels.ensures.root

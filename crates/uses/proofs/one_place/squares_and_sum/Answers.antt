@@ -1,13 +1,13 @@
 -- Each result is the square of its item.
-use Rattle.std.proofs.Common.{rules, ◌*◌, ℕ, Result, Ok}
+use Rattle.std.proofs.Common.{rules, ◌≡◌, ◌*◌, ℕ, Result, Ok, map}
 use Rattle.std.specs.declared.vec.Vec.{Vec}
 use Rattle.std.specs.declared.alloc.Global.{Global}
 use Rattle.parallel_fault.specs.declared.fault.Fault.{Fault}
-use Rattle.parallel_bridge.proofs.OverLists.{map_of_list}
+use Rattle.parallel_bridge.proofs.OverLists.{fact_of_list}
 use Rattle.uses.proofs.one_place.squares_and_sum.Goals as goal
 
 pub returns-clause-squares : goal.returns-clause-squares
 returns-clause-squares g c =
     let answer : Result (Vec ℕ Global) Fault = Ok c.in_ok-squares.squares in
-    map_of_list _ _ (λ (x : ℕ). x * x) answer c.in_ok-squares.ensures.answers
-    (λ x y within k. search rules)
+    fact_of_list c.args.numbers.now (λ xs ys. ys.items ≡ map (λ (x : ℕ). x * x) xs) answer
+    (c.in_ok-squares.ensures.plain (λ (x : ℕ). x * x) (λ x y k. search rules))

@@ -1,6 +1,6 @@
 -- Each result is one that the closure returned.
 use Rattle.std.proofs.Common.{rules}
-use Rattle.uses.proofs.Finished.{mapped}
+use Rattle.parallel_bridge.proofs.OverLists.{mapped}
 use Rattle.uses.proofs.progress.map_counted.Goals as goal
 
 pub returns-clause-answers : goal.returns-clause-answers

@@ -1,6 +1,6 @@
 -- A value is one that the closure returned.
 use Rattle.std.proofs.Common.{IfOk}
-use Rattle.uses.proofs.Finished.{finished}
+use Rattle.parallel_bridge.proofs.OverLists.{finished}
 use Rattle.uses.proofs.stopping.map_unless_stopped.Goals as goal
 
 pub returns-clause-answers : goal.returns-clause-answers

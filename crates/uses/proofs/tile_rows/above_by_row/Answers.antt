@@ -1,5 +1,5 @@
--- A part of a row lies in the matrix, and counts of neighbouring columns add up. A call of the kernel
--- leaves its columns besides, of which nothing is said.
+-- A part of a row lies in the matrix, and counts of neighbouring columns add up. A call of the
+-- kernel leaves its columns besides, of which nothing is said.
 use Rattle.std.proofs.Common.{rules, ◌≡◌, ℕ, ◌+◌, ◌%◌, ◌^◌}
 use Rattle.std.specs.List.{range_with_len}
 use Rattle.std.proofs.lemmas.Result.{IfOk-weaker}
