@@ -1,4 +1,4 @@
-//! What a strategy is asked and told of each call: asked once, at the call's own place, by the
+//! What a strategy is asked and told of each call: asked once, at the call's own site, by the
 //! call's own numbers, and told once that the run has succeeded, or never where it failed.
 use crate::checks::{Test, all_acts, equal, has, row};
 use commonware_parallel::{Call, Fault, Grid, Kind, Strategy, Trouble};
@@ -207,6 +207,8 @@ fn tree_asks(rt: &impl Test, rooted: Rooted, count: usize, calls: &[(usize, usiz
 fn a_tree_asks_about_its_blocks_and_the_pairs_of_each_level(rt: HostRuntime) {
     let levels = [(6, 1), (3, 1), (2, 1), (1, 1)];
     tree_asks(&rt, Rooted::ByLevels, 13, &levels);
+    let of_leaves = [(7, 2), (3, 1), (2, 1), (1, 1)];
+    tree_asks(&rt, Rooted::OfLeavesByLevels, 13, &of_leaves);
     let few = [(31, 1), (16, 1), (8, 1), (4, 1), (2, 1), (1, 1)];
     tree_asks(&rt, Rooted::ByBlocks, 63, &few);
     let some = [(32, 2), (16, 1), (8, 1), (4, 1), (2, 1), (1, 1)];

@@ -1,14 +1,14 @@
 //! That blocks of memory are given back: of a home by the count of a heap; of calls by the size of
 //! the process. Where allocations are checked, as by `rt try`, small blocks stay with the process
-//! once they are let go, and large ones don't.
-use crate::checks::{Test, all_acts, equal, held, row, through};
+//! once they are freed, and large ones don't.
+use crate::checks::{Test, all_acts, equal, row, through};
+use crate::requests::{Fate, Path, bare_acts, fate_of, len_of};
 use commonware_parallel::mocks::explore;
 use commonware_parallel::rayon::ThreadPoolBuilder;
 use commonware_parallel::{Chooser, Clock, Fault, Rayon, Strategy, Trouble};
 use futures::executor::block_on;
 use linked_list_allocator::LocalHeap;
 use parallel_bridge::window::home::Home;
-use std::fs;
 use std::sync::Arc;
 use test_calls::acts::Act;
 use test_calls::calls::Called;
@@ -18,7 +18,8 @@ use test_calls::steps::Gives;
 use test_calls::visits::{Times, Visitor};
 use test_calls::ways::{Row, Through, Way};
 use test_strategies::{SITE, learning, pool};
-use test_support::{holds, same};
+use test_support::no_memory::all_places;
+use test_support::{holds, processes, same};
 
 #[test]
 fn a_home_gives_its_block_back(rt: HostRuntime) {
@@ -41,14 +42,9 @@ fn a_home_gives_its_block_back(rt: HostRuntime) {
     equal(&rt, "handed over", heap.used(), 0);
 }
 
-// How many KiB this process has of that, by Linux's own counts: of addresses, now or at most, or of
-// memory.
+// How many KiB this process has of that: of addresses, now or at most, or of memory.
 fn kibibytes(rt: &impl Test, name: &str) -> u64 {
-    let status = fs::read_to_string(rt, "/proc/self/status").expect(rt, "the counts");
-    let line = status.lines().find(|line| line.starts_with(name));
-    let count = line.expect(rt, "a count").trim_start_matches(name);
-    let count = count.trim_end_matches("kB").trim();
-    count.parse::<u64>().expect(rt, "a number")
+    processes::kibibytes(rt, name).expect(rt, "a count")
 }
 
 // Makes a call some times, each closure of which does that. It fails where it says so.
@@ -56,12 +52,12 @@ fn make(rt: &impl Test, through: &Through, of: Row, turns: u32, fails: usize, ki
     for _ in 0..turns {
         let times = Times::new();
         let visited = match kind {
-            Block::Small => Visitor::FailsAt(&times, fails),
+            Block::Small | Block::Refused => Visitor::FailsAt(&times, fails),
             Block::Large => Visitor::Roams(&times, fails, false),
             Block::Starved => Visitor::Roams(&times, fails, true),
         };
         let wanted = match kind {
-            Block::Starved => Err(Trouble::Fault(Fault::Memory)),
+            Block::Starved | Block::Refused => Err(Trouble::Fault(Fault::Memory)),
             _ if of.act.may_fail() && fails < of.len => Err(Trouble::Closure(7)),
             _ => Ok(()),
         };
@@ -69,21 +65,22 @@ fn make(rt: &impl Test, through: &Through, of: Row, turns: u32, fails: usize, ki
     }
 }
 
-// What the owned items of a call lie in: a small block; a large one; or one while no other is to be
-// had, so that a map is refused its results.
+// What the items of a call lie in: small blocks; a large one; or one while no other is to be had, so
+// that a map is refused its results. Or none is to be had meanwhile, and the call is refused.
 #[derive(Clone, Copy)]
 enum Block {
     Small,
     Large,
     Starved,
+    Refused,
 }
 
 // Stops the test where the process grows by a block for each call, in each of some tries: in one of
-// them no thread has got a store of its own. A small one is seen in a thousand calls by the memory,
-// and a large one at once by the addresses.
+// them no thread has got a store of its own. A small one is seen in a thousand calls by the
+// memory, and a large one at once by the addresses.
 fn gives_back(rt: &impl Test, through: &Through, of: Row, fails: usize, kind: Block) {
     let (name, enough, turns) = match kind {
-        Block::Small => ("RssAnon:", 24, 1000),
+        Block::Small | Block::Refused => ("RssAnon:", 24, 1000),
         _ => ("VmSize:", 40_000, 1),
     };
     let mut least = u64::MAX;
@@ -95,7 +92,8 @@ fn gives_back(rt: &impl Test, through: &Through, of: Row, fails: usize, kind: Bl
             return;
         }
     }
-    row(rt, of, (fails, least), (fails, 0));
+    let kept = ("KiB that are kept", fails, least);
+    row(rt, of, kept, ("KiB that are kept", fails, 0));
 }
 
 // Whether a call owns its items.
@@ -139,7 +137,7 @@ fn a_call_that_is_refused_gives_the_block_of_its_items_back(rt: HostRuntime) {
     }
 }
 
-// What is made and let go: a block of 64 bytes, a search, a job that is waited for, one that a
+// What is made and dropped: a block of 64 bytes, a search, a job that is waited for, one that a
 // policy has measured and that goes with it, and a pool.
 #[derive(Clone, Copy, Debug, PartialEq, Eq)]
 enum Made {
@@ -181,7 +179,7 @@ fn make_one(rt: &impl Test, made: Made) {
     }
 }
 
-// By how many KiB the process grows while as many are made again, of which each is let go.
+// By how many KiB the process grows while as many are made again, of which each is dropped.
 fn growth_by(rt: &impl Test, made: Made, many: u32) -> u64 {
     let mut before = 0u64;
     for turn in 0..many.saturating_mul(2) {
@@ -193,11 +191,19 @@ fn growth_by(rt: &impl Test, made: Made, many: u32) -> u64 {
     kibibytes(rt, "RssAnon:").saturating_sub(before)
 }
 
-// One block more for each would be two MiB at least, and 32 KiB of a call.
+// Whether each block that is freed stays with the process.
+fn stays(rt: &impl Test) -> bool {
+    let stays = growth_by(rt, Made::Block, 40_000) >= 1_024;
+    if stays {
+        let _told = eprintln!(rt; "nothing is seen: blocks stay with the process");
+    }
+    stays
+}
+
+// One block more for each would be two MiB at least.
 #[test]
 fn what_is_made_and_let_go_leaves_no_block(rt: HostRuntime) {
-    if growth_by(&rt, Made::Block, 40_000) >= 1_024 {
-        // (whatever is let go stays with the process)
+    if stays(&rt) {
         return;
     }
     for (made, many) in [
@@ -210,16 +216,66 @@ fn what_is_made_and_let_go_leaves_no_block(rt: HostRuntime) {
         let of = (made, grown);
         equal(&rt, "growth", (of, grown < 1_024), (of, true));
     }
-    for way in [Way::Sequential, Way::Learning(2, 0)] {
-        let through = through(&rt, way);
-        for act in all_acts(&rt) {
-            let of = Row { way, act, len: 40 };
-            gives_back(&rt, &through, of, usize::MAX, Block::Small);
-            if act.may_fail() {
-                gives_back(&rt, &through, of, 0, Block::Small);
+}
+
+// The same of a thousand calls through such a strategy, which end well or fail.
+fn calls_leave_none(rt: &impl Test, way: Way) {
+    if stays(rt) {
+        return;
+    }
+    let through = through(rt, way);
+    for act in all_acts(rt) {
+        // (fewer numbers are sorted by the caller alone)
+        let len = if matches!(act, Act::Sort(_)) {
+            16_384
+        } else {
+            40
+        };
+        let of = Row { way, act, len };
+        gives_back(rt, &through, of, usize::MAX, Block::Small);
+        if act.may_fail() {
+            gives_back(rt, &through, of, 0, Block::Small);
+        }
+    }
+}
+
+#[test]
+fn a_thousand_serial_calls_leave_no_block(rt: HostRuntime) {
+    calls_leave_none(&rt, Way::Sequential);
+}
+
+#[test]
+fn a_thousand_measured_calls_leave_no_block(rt: HostRuntime) {
+    calls_leave_none(&rt, Way::Learning(2, 0));
+}
+
+#[test]
+fn a_thousand_calls_on_two_threads_leave_no_block(rt: HostRuntime) {
+    calls_leave_none(&rt, Way::Pool(2, 2));
+}
+
+// Each call that is refused its results, over items that take no memory.
+#[test]
+fn a_thousand_refused_calls_leave_no_block(rt: HostRuntime) {
+    if stays(&rt) {
+        return;
+    }
+    let (serial, pool) = (Way::Sequential, Way::Pool(2, 2));
+    let (by_none, by_two) = (through(&rt, serial), through(&rt, pool));
+    let acts = bare_acts(&rt);
+    let held = all_places(rt.alloc()).expect(&rt, "places that have an end");
+    for act in acts.iter() {
+        for (way, through, path) in [
+            (serial, &by_none, Path::Unasked),
+            (pool, &by_two, Path::Parallel),
+        ] {
+            let of = Row::of(way, *act, len_of(*act));
+            if fate_of(*act, path) == Fate::Refused && matches!(act, Act::List(..)) {
+                gives_back(&rt, through, of, usize::MAX, Block::Refused);
             }
         }
     }
+    drop(held);
 }
 
 #[test]

@@ -1,18 +1,20 @@
 //! Functions that stop a test. A call of these costs a tenth of an `assert_eq!` or an `assert!` in
 //! its place to prove.
 use std::fmt::Debug;
+use std::io::Eprint;
 use std::num::NonZeroUsize;
 use std::process::Abort;
 use std::random::RandomSource;
 use std::rt::Files;
 use test_calls::acts::{Act, Host, acts};
 use test_calls::logs::{Line, Log};
+use test_calls::sources::LOST;
 use test_calls::ways::{Row, Through, Way};
 
 /// The runtime of a test.
-pub trait Test: Host + Files + RandomSource + Abort {}
+pub trait Test: Host + Files + RandomSource + Eprint + Abort {}
 
-impl<Rt: Host + Files + RandomSource + Abort> Test for Rt {}
+impl<Rt: Host + Files + RandomSource + Eprint + Abort> Test for Rt {}
 
 /// Stops the test where that doesn't hold, and prints its text.
 pub fn held(rt: &impl Test, text: &str, is_so: bool) {
@@ -26,7 +28,11 @@ pub fn equal<T: PartialEq + Debug + Drop>(rt: &impl Test, text: &str, found: T, 
 
 /// Stops the test where the two differ, and prints both and their row.
 pub fn row<T: PartialEq + Debug + Drop>(rt: &impl Test, row: Row, found: T, wanted: T) {
-    assert_eq!(rt; found, wanted, "{row:?}");
+    assert_eq!(rt;
+        found,
+        wanted,
+        "{row:?} (Closure(7): a closure failed, Closure({LOST}): an item wasn't let go once)"
+    );
 }
 
 /// Stops the test where a log has other lines than these.

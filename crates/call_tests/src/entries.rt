@@ -17,7 +17,7 @@ use test_support::no_memory::{all_memory, all_places};
 /// The times of runs in parallel and of serial ones, where there is an entry.
 pub type Times = Option<(Option<u64>, Option<u64>)>;
 
-/// What a policy keeps of a place, for a length and a work, planned for four threads.
+/// What a policy keeps of a call site, for a length and a work, planned for four threads.
 pub fn times(rt: &impl Test, policy: &Policy, site: Site, len: usize, work: usize) -> Times {
     let entry = policy.run_entry(rt, Key::new(site, len, work, 4))?;
     let parallel = entry.estimate(RunExecution::Parallel);

@@ -1,5 +1,5 @@
 //! What becomes of a list once an item has failed: right of an error that is known nothing is
-//! called, and an error is known before what is left of its segment is let go.
+//! called, and an error is known before what is left of its segment is dropped.
 use crate::checks::{Test, all_acts, equal, row, through};
 use commonware_parallel::mocks::Rule;
 use commonware_parallel::{Fault, Runtime, Source, Strategy, Trouble};
@@ -61,14 +61,14 @@ struct Known {
     fails: usize,
     // How many other items were handed over.
     calls: AtomicUsize,
-    // Whether what is left of the failing item's segment is being let go, and of another one.
+    // Whether what is left of the failing item's segment is being dropped, and of another one.
     first: AtomicBool,
     others: AtomicBool,
 }
 
 // Waits for the flag, for some seconds at most.
 fn await_flag(flag: &AtomicBool) {
-    for _ in 0..10_000_000u32 {
+    for _ in 0..3_000_000u32 {
         if flag.load(Ordering::SeqCst) {
             return;
         }
@@ -88,10 +88,10 @@ impl Known {
         }
     }
 
-    // Waits until that many other items were handed over, or one of them is let go, for some
+    // Waits until that many other items were handed over, or one of them is dropped, for some
     // seconds at most.
     fn await_calls(&self, calls: usize) {
-        for _ in 0..10_000_000u32 {
+        for _ in 0..3_000_000u32 {
             if self.calls.load(Ordering::SeqCst) >= calls || self.others.load(Ordering::SeqCst) {
                 return;
             }
@@ -100,7 +100,7 @@ impl Known {
     }
 
     // The item fails once one after it was handed over, and those wait until what is left after it
-    // is let go.
+    // is dropped.
     fn hand_over(&self, at: usize) -> Result<usize, u32> {
         if at < self.fails {
             return Ok(at);
@@ -114,7 +114,7 @@ impl Known {
         Ok(at)
     }
 
-    // An item is let go that wasn't handed over. Before this ends others have time to be.
+    // An item is dropped that wasn't handed over. Before this ends others have time to be.
     fn let_go(&self, at: usize) {
         if at < self.segment {
             self.first.store(true, Ordering::SeqCst);

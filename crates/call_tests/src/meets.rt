@@ -161,7 +161,7 @@ fn all_meet(rt: &impl Test, (way, threads): (Way, usize), is_whole: bool, parts:
             }
         }
     }
-    for filling in [Filling::Stretches, Filling::Rows, Filling::Kernel] {
+    for filling in [Filling::Stretches, Filling::Kernel] {
         let act = Act::Fill(filling, 20_000);
         let bounds = (power_within(threads), threads);
         meet(rt, &through, Row::of(way, act, 1), bounds);
@@ -229,25 +229,22 @@ enum Group {
 }
 
 // The group of a call, and how many items it is over: a million, but of those that take long for
-// each. The other list calls, the other tiles and a tree by levels have bodies that these stand
-// for.
+// each. A source that isn't one's own has the fallible map and fold alone.
 fn group_of(act: Act) -> (Group, usize) {
     match act {
         _ if act.is_silent() => (Group::None, 0),
         Act::List(Called::Ready(_), Given::Iterator) => (Group::None, 0),
-        Act::List(Called::Ready(_), _) | Act::Scan(_) => (Group::Ready, 300_001),
-        Act::List(Called::Map, Given::OwnProducer) => (Group::Maps, 1_000_001),
-        Act::List(Called::Fold, Given::OwnProducer) => (Group::Folds, 1_000_001),
-        Act::List(Called::FoldInit | Called::TryFold | Called::Partition, Given::OwnProducer) => {
-            (Group::Folds, 300_001)
-        }
-        Act::List(_, Given::OwnProducer) => (Group::Maps, 300_001),
+        Act::List(Called::Ready(_), _) | Act::Scan(_) => (Group::Ready, 1_000_001),
+        Act::List(
+            Called::Fold | Called::FoldInit | Called::TryFold | Called::Partition,
+            Given::OwnProducer,
+        ) => (Group::Folds, 1_000_001),
+        Act::List(_, Given::OwnProducer) => (Group::Maps, 1_000_001),
         Act::List(..) if act.may_fail() => (Group::Sources, 100_001),
         Act::List(..) | Act::Run(_) => (Group::None, 0),
         Act::Sort(_) => (Group::Sorts, 300_001),
-        Act::Fill(Filling::Stretches, _) => (Group::Tiles, 300_001),
-        Act::Fill(..) => (Group::Tiles, 10_001),
-        Act::Tree(Rooted::ByLevels) => (Group::Trees, 10_001),
+        Act::Fill(..) => (Group::Tiles, 300_001),
+        Act::Tree(Rooted::ByLevels | Rooted::OfLeavesByLevels) => (Group::Trees, 10_001),
         Act::Tree(_) => (Group::Trees, 300_001),
         _ => (Group::Changes, 1_000_001),
     }
@@ -342,7 +339,7 @@ fn segments(threads: usize) -> usize {
 fn states(act: Act, segments: usize, workers: usize) -> usize {
     match act {
         Act::List(Called::MapInit | Called::MultipliedMapInit | Called::FoldInit, _) => segments,
-        Act::Fill(Filling::Stretches | Filling::Rows, _) => workers,
+        Act::Fill(Filling::Stretches, _) => workers,
         _ => 0,
     }
 }
@@ -375,7 +372,7 @@ fn each_list_call_cuts_a_list_into_segments_and_begins_a_state_for_each(rt: Host
         let of = (threads, segments(threads));
         cuts(&rt, Way::Noting(threads), of, 1000);
     }
-    cuts(&rt, Way::Noting(4), (4, 8), 100_000);
+    cuts(&rt, Way::Noting(4), (4, 8), 1_000_001);
     // What goes serially is one segment.
     cuts(&rt, Way::Explorer(Rule::Serial, 4, 4), (1, 1), 1000);
     cuts(&rt, Way::Explorer(Rule::Parallel, 4, 1), (1, 1), 1000);

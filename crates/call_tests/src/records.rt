@@ -191,6 +191,8 @@ fn tree_records(rt: &impl Test, rooted: Rooted, count: usize, calls: &[(usize, u
 fn a_tree_records_one_time_of_its_blocks_and_of_each_level(rt: HostRuntime) {
     let levels = [(4, 4), (2, 2), (1, 1)];
     tree_records(&rt, Rooted::ByLevels, 8, &levels);
+    let of_leaves = [(4, 8), (2, 2), (1, 1)];
+    tree_records(&rt, Rooted::OfLeavesByLevels, 8, &of_leaves);
     let blocks = [(32, 64), (16, 16), (8, 8), (4, 4), (2, 2), (1, 1)];
     for rooted in [Rooted::ByBlocks, Rooted::OfLeaves] {
         tree_records(&rt, rooted, 64, &blocks);

@@ -1,5 +1,5 @@
 //! That each call succeeds through each strategy; and requests of memory that are refused, each in
-//! its turn: the result is the right one or want of memory, each item is let go once, and the call
+//! its turn: the result is the right one or `Memory`, each item is dropped once, and the call
 //! succeeds in the end.
 //!
 //! All memory is taken before each call but for a room, of which each further try is left 16 bytes
@@ -10,12 +10,11 @@ use crate::checks::{Test, all_acts, equal, row, through};
 use commonware_parallel::mocks::{ExploreError, Rule, explore};
 use commonware_parallel::rayon::ThreadPoolBuildError;
 use commonware_parallel::{Chooser, Fault, Trouble};
-use std::alloc::Global;
 use test_calls::acts::{Act, acts};
 use test_calls::calls::Outcome;
 use test_calls::visits::Visitor;
 use test_calls::ways::{Row, Through, Way, ways};
-use test_support::no_memory::{all_memory, hold_rest};
+use test_support::no_memory::{ROOM, all_memory, greatest_block, hold_rest};
 
 // The strategies, one of each kind.
 const WAYS: [Way; 6] = [
@@ -79,25 +78,11 @@ fn each_call_succeeds_or_is_refused(rt: HostRuntime) {
     equal(&rt, "refused, but for one", refused.saturating_sub(1), 0);
 }
 
-// The bytes that a call is left at most.
-const ROOM: usize = 16_384;
-
-// The greatest block, up to a size, that is still to be had.
-fn greatest(alloc: Global, most: usize) -> Vec<u8> {
-    for step in 0..1200usize {
-        let size = most.saturating_sub(step.saturating_mul(16));
-        if let Ok(block) = Vec::with_capacity(alloc, size) {
-            return block;
-        }
-    }
-    Vec::new(alloc)
-}
-
 // Tries a call with more and more memory, until it succeeds: how often it was refused.
 fn refusals(rt: &impl Test, through: &Through, of: Row) -> u64 {
     for step in 0..1000u64 {
         let taken = (step as usize).saturating_mul(16);
-        let plug = greatest(rt.alloc(), ROOM.saturating_sub(taken));
+        let plug = greatest_block(rt.alloc(), ROOM.saturating_sub(taken));
         let made = if matches!(of.act, Act::Rest) {
             search(rt)
         } else {

@@ -14,7 +14,7 @@ use test_calls::sources::Given;
 use test_calls::visits::{Times, Visitor};
 use test_calls::ways::{Row, Through, Way};
 use test_strategies::pool;
-use test_support::no_memory::all_places;
+use test_support::no_memory::{all_places, hold_places};
 
 // How many items each call has: their results take more than 1 MiB.
 const LEN: usize = 140_000;
@@ -61,8 +61,8 @@ pub fn fate_of(act: Act, path: Path) -> Fate {
         (Act::List(Called::Partition, _), _) => Fate::Succeeds,
         (Act::List(Called::Ready(ready), _), _) if !gathers(ready) => Fate::Succeeds,
         (Act::List(..) | Act::Sort(_) | Act::Fill(..), _) => Fate::Refused,
-        (Act::Tree(Rooted::ByLevels), _) => Fate::Refused,
-        // Its leaves are then a list.
+        (Act::Tree(Rooted::ByLevels | Rooted::OfLeavesByLevels), _) => Fate::Refused,
+        // The nodes of its pairs are then a list.
         (Act::Tree(Rooted::OfLeaves), Path::Unasked) => Fate::Refused,
         _ => Fate::Succeeds,
     }
@@ -72,8 +72,7 @@ pub fn fate_of(act: Act, path: Path) -> Fate {
 /// those by stretches alone, as each row takes long.
 pub fn bare_acts(rt: &impl Test) -> Vec<Act> {
     let mut acts = all_acts(rt);
-    acts.retain(|act| act.is_bare()
-        && !matches!(act, Act::Fill(Filling::Rows | Filling::Kernel, _)));
+    acts.retain(|act| act.is_bare() && !matches!(act, Act::Fill(Filling::Kernel, _)));
     acts
 }
 
@@ -132,8 +131,9 @@ pub fn all_but_one(held: Vec<Vec<u8>>) -> Vec<Vec<u8>> {
 fn all_take(rt: &impl Test, path: Path, (bare, laden): ((Way, usize), (Way, usize))) {
     let (through_bare, through_laden) = (through(rt, bare.0), through(rt, laden.0));
     let (bare_acts, laden_acts) = (bare_acts(rt), laden_acts(rt));
-    let held = all_places(rt.alloc()).expect(rt, "places that have an end");
+    let mut held = all_places(rt.alloc()).expect(rt, "places that have an end");
     for act in bare_acts.iter() {
+        hold_places(rt.alloc(), &mut held);
         let of = Row::of(bare.0, *act, len_of(*act));
         takes(rt, &through_bare, of, path, (bare.1, false));
     }
@@ -213,6 +213,7 @@ fn a_call_that_is_refused_tells_nothing(rt: HostRuntime) {
     let blocks = Call::body_with_multiplier(LEN / 2, 2);
     is_untold(&rt, Act::Tree(Rooted::ByBlocks), LEN / 16, blocks);
     is_untold(&rt, Act::Tree(Rooted::ByLevels), 4, Call::body(LEN / 2));
+    is_untold(&rt, Act::Tree(Rooted::OfLeavesByLevels), 4, blocks);
     for called in CALLS {
         let act = Act::List(called, Given::OwnProducer);
         if fate_of(act, Path::Parallel) == Fate::Refused {

@@ -7,9 +7,10 @@ use crate::meets::power_within;
 use commonware_parallel::mocks::Rule;
 use parallel_pool::rayon::map_in_row;
 use test_calls::acts::Act;
+use test_calls::calls::Called;
 use test_calls::others::{PART, Sorted};
 use test_calls::own_part::OwnPart;
-use test_calls::sources::zeros;
+use test_calls::sources::{Given, zeros};
 use test_calls::visits::Visitor;
 use test_calls::ways::{Row, THREADS, Through, Way, threads_between};
 use test_support::processes::last_number;
@@ -66,6 +67,7 @@ fn all_start(rt: &impl Test, way: Way, others: u64) {
         if least > most && least_started(rt, &through, rest, 0) == 0 {
             row(rt, of, least, most);
         } else if least > most {
+            let _told = eprintln!(rt; "nothing is seen by {way:?}: others start threads");
             return;
         }
     }
@@ -91,8 +93,24 @@ fn a_serial_call_starts_no_thread(rt: HostRuntime) {
     row(&rt, of, least_started(&rt, &through(&rt, way), of, 0), 0);
 }
 
+// The lists of a long partition's segments are put together by all threads once more.
+#[test]
+fn a_long_partition_starts_its_threads_twice(rt: HostRuntime) {
+    let way = Way::Pool(4, 4);
+    for (len, twice) in [(131_071, 3), (131_072, 6)] {
+        let of = Row::of(way, Act::List(Called::Partition, Given::OwnProducer), len);
+        row(
+            &rt,
+            of,
+            least_started(&rt, &through(&rt, way), of, twice),
+            twice,
+        );
+    }
+}
+
 // How many items a call is over, and how many threads its caller starts of that many; none where
-// nothing is called that sees it. Of a run one body is called, and a sort of 64 parts and more gives each thread that is started two.
+// nothing is called that sees it. Of a run one body is called, and a sort of 64 parts and more gives
+// each thread that is started two.
 fn wanted_of(act: Act, threads: usize) -> (usize, usize) {
     let others = threads.saturating_sub(1);
     let many = threads.saturating_mul(10);

@@ -1,4 +1,4 @@
-//! That each caller that others may read succeeds through each strategy, and asks at its own place.
+//! That each caller that others may read succeeds through each strategy, and asks at its own site.
 //! Each goes over eight items.
 use crate::checks::{equal, number};
 use batch_verifier::{split_by_check, sum_within, verify_all, verify_digests};
@@ -13,13 +13,13 @@ use test_calls::ways::{Through, ways};
 use test_strategies::SITE;
 use uses::folds::sum_of_squares;
 use uses::in_place::double_each;
-use uses::least::least_of_table;
+use uses::least::{least_by_key, least_of_table};
 use uses::long_lists::LongLists;
 use uses::maps::{borrowed_squares, first_squares};
 use uses::one_place::squares_and_sum;
 use uses::outputs::square_in_place;
 use uses::own_lists::{squares_backwards, squares_of_wrapped};
-use uses::ready::{count_even, even_numbers, first_even, greatest, least};
+use uses::ready::{count_even, even_numbers, evens_and_odds, first_even, greatest, halves, least};
 use uses::squares::squares;
 use uses::stateful::leave_out_repeats;
 use uses::words::longest_word;
@@ -28,7 +28,7 @@ use uses::words::longest_word;
 type Here<'a, Rt, S> = On<'a, Rt, S, Site>;
 
 // The callers, each by its place here.
-const CALLERS: [&str; 23] = [
+const CALLERS: [&str; 26] = [
     "sum_of_squares",
     "borrowed_squares",
     "first_squares",
@@ -52,6 +52,9 @@ const CALLERS: [&str; 23] = [
     "even_numbers",
     "greatest",
     "least_of_table",
+    "least_by_key",
+    "halves",
+    "evens_and_odds",
 ];
 
 const NUMBERS: [u32; 8] = [3, 1, 4, 1, 5, 9, 2, 6];
@@ -109,7 +112,7 @@ fn over_texts<Rt: Runtime, S: Strategy>(on: &Here<'_, Rt, S>, caller: usize) -> 
     }
 }
 
-// Those over wide numbers, by what has the calls of one place in common.
+// Those over wide numbers, by what has the calls at one site in common.
 fn by_ready_calls<Rt: Runtime, S: Strategy>(on: &Here<'_, Rt, S>, caller: usize) -> bool {
     let numbers = [3u64, 1, 4, 1, 5, 9, 2, 6];
     match caller {
@@ -119,7 +122,10 @@ fn by_ready_calls<Rt: Runtime, S: Strategy>(on: &Here<'_, Rt, S>, caller: usize)
         19 => least(on, &numbers).is_ok(),
         20 => even_numbers(on, &numbers).is_ok(),
         21 => greatest(on, &numbers) == Ok(9),
-        _ => least_of_table(on, &numbers) == Ok(Some(1)),
+        22 => least_of_table(on, &numbers) == Ok(Some(1)),
+        23 => least_by_key(on, &numbers) == Ok(Some(1)),
+        24 => halves(on, &[2, 4, 6, 8, 2, 4, 6, 8]).is_ok(),
+        _ => evens_and_odds(on, &numbers).is_ok(),
     }
 }
 

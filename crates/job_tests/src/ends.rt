@@ -110,7 +110,7 @@ fn a_job_that_nobody_waits_for_runs_all_the_same(rt: HostRuntime) {
     holds!(&rt, is_raised(&begun));
 }
 
-// Whether a job that is handed off gets no worker: it is pending, and was let go.
+// Whether a job that is handed off gets no worker: it is pending, and was dropped.
 fn is_never_run<
     Rt: Threads + Wait + RandomSource + AllocGlobal + Abort + Copy + Send + 'static,
     S: Strategy,

@@ -3,7 +3,6 @@
 ghost use Rattle.std.specs.Prelude.{◌≡◌};
 ghost use Rattle.std.specs.Int.NonZero.{non_zero_usize_get};
 
-use std::alloc::Global;
 use std::fmt::Debug;
 use std::num::NonZeroUsize;
 use std::process::Abort;
@@ -46,10 +45,4 @@ pub fn number(rt: &impl Abort, value: usize) -> NonZeroUsize
     ensures { non_zero_usize_get result ≡ value }
 {
     NonZeroUsize::new(value).expect(rt, "a number above 0")
-}
-
-/// Stops the test where the value isn't printed as the text.
-pub fn prints<T: Debug>(rt: &impl Abort, alloc: Global, value: &T, text: &str) {
-    let printed = format!(in alloc; "{value:?}").expect(rt, "memory");
-    row(rt, "printed", printed.as_str(), text);
 }

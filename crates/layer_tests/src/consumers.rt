@@ -1,78 +1,21 @@
-//! Consumers, their folders and a splitter at concrete types.
-use crate::checks::{lists, number, row};
+//! Consumers and their folders at concrete types.
+use crate::checks::{number, row};
 use parallel_bridge::bridge::bridge;
-use parallel_bridge::consumer::collect::CollectConsumer;
 use parallel_bridge::consumer::fold::FoldFolder;
 use parallel_bridge::consumer::fold_init::FoldInitFolder;
 use parallel_bridge::consumer::list_vec::{ListVecConsumer, ListVecFolder};
 use parallel_bridge::consumer::map::{MapConsumer, MapFolder};
-use parallel_bridge::consumer::map_init::{MapInitConsumer, MapWithFolder};
+use parallel_bridge::consumer::map_init::MapWithFolder;
 use parallel_bridge::consumer::try_fold::TryFoldFolder;
 use parallel_bridge::consumer::try_reduce::TryReduceFolder;
 use parallel_bridge::consumer::while_some::{WhileSomeConsumer, WhileSomeFolder};
-use parallel_bridge::parts::ProducerParts;
 use parallel_bridge::plumbing::Folder;
-use parallel_bridge::producer::{Copies, DrainProducer};
-use parallel_bridge::splitter::LengthSplitter;
-use parallel_fault::{Fault, Trouble};
+use parallel_bridge::producer::DrainProducer;
+use parallel_fault::Fault;
 use std::alloc::Global;
-use std::convert::Infallible;
 use std::marker::{Brand, PhantomData};
 use std::sync::atomic::{AtomicU64, Ordering};
 use test_support::same;
-
-// Twice a number.
-fn twice(item: u8) -> u8 {
-    item.wrapping_mul(2)
-}
-
-fn no_sum() -> u8 {
-    0
-}
-
-// The number and those before it in its segment, added up.
-fn so_far(sum: &mut u8, item: u8) -> u8 {
-    *sum = sum.wrapping_add(item);
-    *sum
-}
-
-#[test]
-fn consumers_that_map_hand_on_to_another(rt: HostRuntime) {
-    let alloc = rt.alloc();
-    let items = [1u8, 2, 3, 4, 5];
-    let list = Copies { slice: &items };
-    let (two, parts) = (number(&rt, 2), ProducerParts { list });
-    let doubling = MapConsumer {
-        base: CollectConsumer,
-        map_op: &twice,
-    };
-    let doubled = bridge(&rt, alloc, two, parts, doubling);
-    lists::<_, _, Trouble<Infallible>>(&rt, "doubled", doubled, &[2, 4, 6, 8, 10]);
-    let (one, parts) = (number(&rt, 1), ProducerParts { list });
-    let adding = MapInitConsumer {
-        base: CollectConsumer,
-        init: &no_sum,
-        map_op: &so_far,
-    };
-    let sums = bridge(&rt, alloc, one, parts, adding);
-    // (for one thread the list is halved once, and the state begins anew)
-    lists::<_, _, Trouble<Infallible>>(&rt, "sums", sums, &[1, 3, 3, 7, 12]);
-}
-
-#[test]
-fn a_splitter_by_length_leaves_no_part_too_short(rt: HostRuntime) {
-    let mut splitter = LengthSplitter::new(number(&rt, 4), 3);
-    for (len, is_split, left) in [
-        (5, false, 4),
-        (6, true, 2),
-        (6, true, 1),
-        (6, true, 0),
-        (6, false, 0),
-    ] {
-        row(&rt, (len, left), splitter.try_split(len), is_split);
-        row(&rt, (len, left), splitter.inner.splits, left);
-    }
-}
 
 // Whether a folder is full before an item that makes no difference to that, after it, and after
 // one that fails.

@@ -1,11 +1,8 @@
 //! Entries of runs and of spawned jobs, by rows of what happens to a fresh one and what it returns.
 use crate::checks::row;
 use parallel_policy::execution::{RunExecution, SpawnExecution};
-use parallel_policy::history::{RunEvent, SpawnEvent, SpawnSample};
+use parallel_policy::history::SpawnSample;
 use parallel_policy::policy::INLINE_BUDGET;
-use parallel_policy::replay::{
-    replay_run, replay_run_estimate, replay_spawn, replay_spawn_estimate,
-};
 use parallel_policy::run::RunEntry;
 use parallel_policy::spawn::SpawnEntry;
 use std::process::Abort;
@@ -337,19 +334,4 @@ fn an_inline_estimate_recovers_by_its_probes(rt: HostRuntime) {
     }
     // (15 ms less a fifth, 26 times over, is below 50000 ns)
     same!(&rt, probes, 26);
-}
-
-#[test]
-fn the_plain_program_answers_a_history_from_its_last_event_on(rt: HostRuntime) {
-    let history = [RunEvent::Sampled(P, 100_000), RunEvent::Chosen(4)];
-    same!(&rt, replay_run(&history, 4), (S, true));
-    same!(&rt, replay_run_estimate(P, &history), Some(100_000));
-    let (job, overhead) = (SpawnSample::Job, SpawnSample::Overhead);
-    let history = [
-        SpawnEvent::Sampled(overhead, 5_000),
-        SpawnEvent::Sampled(job, 50_000),
-        SpawnEvent::Chosen(INLINE_BUDGET),
-    ];
-    same!(&rt, replay_spawn(&history, INLINE_BUDGET), (INLINE, true));
-    same!(&rt, replay_spawn_estimate(job, &history), Some(50_000));
 }

@@ -19,8 +19,6 @@ mod producers;
 #[cfg(test)]
 mod tables;
 #[cfg(test)]
-mod texts;
-#[cfg(test)]
 mod troubles;
 #[cfg(test)]
 mod windows;

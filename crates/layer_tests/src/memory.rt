@@ -1,22 +1,17 @@
-//! What the layers do with memory, over one list of their calls: each returns its result or want of
-//! memory whichever request is refused, and succeeds in the end; and each gives back what it takes,
-//! which some promise to be nothing.
+//! What the layers do with memory, over one list of their calls: each returns its result or
+//! `Memory` whichever request is refused, and succeeds in the end; and each gives back what it
+//! takes, which some promise to be nothing.
 ghost use Rattle.std.specs.Prelude.{◌≡◌};
 ghost use Rattle.parallel_shares.specs.Seats.{AreSeatsOf};
 ghost use Rattle.parallel_bridge.specs.Gates.{IsGateSeatOf, seats_of, stands_for};
 
 use crate::checks::{number, row};
-use crate::claims::{count_columns, last_claim, opened, refill_at, row_cells_and_calls, steal_at};
-use crate::gate_seats::stops;
+use crate::claims::{last_claim, opened, refill_at, run_of_rows, steal_at};
 use crate::tables::SITE;
 use crate::windows::{Doing, does};
 use parallel_bridge::gate::{Gate, GateSeat};
-use parallel_bridge::list::fold::fold_iter;
-use parallel_bridge::list::fold_init::fold_init_iter;
-use parallel_bridge::list::try_fold::try_fold_iter;
 use parallel_bridge::segments::segments;
 use parallel_bridge::window::home::Home;
-use parallel_policy::choices::decide;
 use parallel_policy::execution::RunExecution;
 use parallel_policy::key::Key;
 use parallel_policy::policy::Policy;
@@ -26,7 +21,6 @@ use parallel_pool::rayon::{BroadcastContext, JobQueues, JobSeat, ThreadPool, map
 use parallel_pool::sleep::{Sleep, SleepState};
 use parallel_shares::{Seat, Shares, cut};
 use std::alloc::{AllocGlobal, Global};
-use std::fs;
 use std::num::NonZeroUsize;
 use std::process::Abort;
 use std::rt::Files;
@@ -34,9 +28,10 @@ use std::sync::Wait;
 use std::sync::atomic::{AtomicU64, Ordering};
 use std::thread::Threads;
 use test_support::counted::{Counted, Counts, counted_items};
-use test_support::no_memory::all_memory;
+use test_support::no_memory::{ROOM, all_memory, greatest_block};
+use test_support::processes::kibibytes;
 
-// How what needs no memory is used: it is made and let go, and closed or used before.
+// How what needs no memory is used: it is made and dropped, and closed or used before.
 #[derive(Clone, Copy, Debug, PartialEq, Eq)]
 enum Used {
     Not,
@@ -49,7 +44,6 @@ enum Used {
 enum Called {
     // On so many threads.
     Over(usize, Doing),
-    Stopping,
     // A row of threads and a broadcast.
     Rows,
     OfPool,
@@ -57,22 +51,16 @@ enum Called {
     OfShares,
     OfPolicy,
     Choice,
-    Decision,
     // These promise to take no memory but for what they are made of.
     Shares(Used),
     Gate(Used),
     CountLatch(Used),
     CoreLatch(Used),
-    Folds(Used),
 }
 
-// Those that take memory, of which the first six start threads.
-const CALLS: [Called; 15] = [
+// Those that take memory, of which the first two start threads.
+const CALLS: [Called; 10] = [
     Called::Over(2, Doing::Map),
-    Called::Over(2, Doing::Fold(1000)),
-    Called::Over(2, Doing::Fold(5)),
-    Called::Over(2, Doing::Pairs),
-    Called::Stopping,
     Called::Rows,
     Called::Over(1, Doing::Split(4)),
     Called::Over(1, Doing::Push),
@@ -82,17 +70,15 @@ const CALLS: [Called; 15] = [
     Called::OfShares,
     Called::OfPolicy,
     Called::Choice,
-    Called::Decision,
 ];
 
 // Those that take none, by how they are used.
-fn unneeding(used: Used) -> [Called; 5] {
+fn unneeding(used: Used) -> [Called; 4] {
     [
         Called::Shares(used),
         Called::Gate(used),
         Called::CountLatch(used),
         Called::CoreLatch(used),
-        Called::Folds(used),
     ]
 }
 
@@ -149,31 +135,6 @@ fn of_bridge(rt: &impl Abort, alloc: Global) -> Option<()> {
     if is_made { Some(()) } else { None }
 }
 
-// The shares of three rows of five cells, and a run over all of them.
-fn of_shares<R: Wait + Abort>(rt: &R, alloc: Global) -> Option<()> {
-    let two = number(rt, 2);
-    let _ranges = cut(alloc, 10, two).ok()?;
-    let Ok((shares, mut seats)) = Shares::new(alloc, 3, 5, two, two, false) else {
-        return None;
-    };
-    let Some(mut seat) = seats.pop() else {
-        return None;
-    };
-    let mut filled = (0usize, 0usize);
-    let run = shares.run(
-        rt,
-        alloc,
-        &mut seat,
-        5,
-        &mut filled,
-        &count_columns,
-        &row_cells_and_calls,
-    );
-    let wanted = [(1, 2, 1), (2, 5, 3), (0, 1, 1), (1, 3, 2)];
-    row(rt, "a run", run.ok()?.as_slice(), wanted.as_slice());
-    Some(())
-}
-
 // Where it is refused the table has no entry.
 fn choice(rt: &impl Abort, alloc: Global) -> Option<()> {
     let mut table = Table::new(alloc);
@@ -183,26 +144,6 @@ fn choice(rt: &impl Abort, alloc: Global) -> Option<()> {
     row(rt, "a choice", is_there, answer.is_ok());
     row(rt, "a choice", answer.ok()?, (RunExecution::Parallel, true));
     table.record_run(key, RunExecution::Parallel, 5).ok()
-}
-
-// Where it is refused no body is called.
-fn decision(rt: &(impl Wait + Abort), alloc: Global) -> Option<()> {
-    let mut table = Table::new(alloc);
-    let key = Key::new(SITE, 64, 64, 4);
-    let calls = AtomicU64::new(0);
-    let mut now = || 0;
-    let called = decide(rt, &mut table, key, 4, &mut now, |_now, path| {
-        calls.fetch_add(1, Ordering::SeqCst);
-        if path == RunExecution::Serial {
-            Err(57)
-        } else {
-            Ok(7)
-        }
-    });
-    let count = u64::from(called.is_ok());
-    row(rt, "a decision", calls.load(Ordering::SeqCst), count);
-    row(rt, "a decision", called.ok()?, 7);
-    Some(())
 }
 
 // A seat claims all, and steals and puts down what it stole, a few times.
@@ -281,56 +222,24 @@ fn core_latch(rt: &impl Abort, alloc: Global, used: Used) {
     }
 }
 
-fn zero() -> usize {
-    0
-}
-
-fn add(sum: usize, item: usize) -> usize {
-    sum.wrapping_add(item)
-}
-
-fn add_or_fail(sum: usize, item: usize) -> Result<usize, usize> {
-    if item < 4 {
-        Ok(add(sum, item))
-    } else {
-        Err(item)
-    }
-}
-
-fn add_with(sum: usize, state: &mut usize, item: usize) -> usize {
-    *state = state.wrapping_add(1);
-    add(add(sum, item), *state)
-}
-
-// The folds of an iterator, by themselves.
-fn folds(rt: &impl Abort, used: Used) {
-    if used != Used::Not {
-        row(rt, "a fold", fold_iter(0..4, &zero, &add), 6);
-        let tried = try_fold_iter(0..6, &zero, &add_or_fail);
-        row(rt, "a fold that fails", tried, Err(4));
-        let folded = fold_init_iter(0..4, &zero, &zero, &add_with);
-        row(rt, "a fold with a state", folded, 16);
-    }
-}
-
 // Makes a call, and stops the test where it returns another result than its own. None where memory
 // is refused.
 fn make<R: Threads + Wait + Sync + Abort>(rt: &R, alloc: Global, called: Called) -> Option<()> {
     match called {
         Called::Over(threads, doing) => does(rt, alloc, doing, (threads, 9)),
-        Called::Stopping => stops(rt, alloc, true, (2, 9)).map(|_made| ()),
         Called::Rows => rows(rt, alloc),
         Called::OfPool => of_pool(rt, alloc),
         Called::OfBridge => of_bridge(rt, alloc),
-        Called::OfShares => of_shares(rt, alloc),
+        Called::OfShares => {
+            let _ranges = cut(alloc, 10, number(rt, 2)).ok()?;
+            run_of_rows(rt, alloc)
+        }
         Called::OfPolicy => Policy::new(alloc).ok().map(drop),
         Called::Choice => choice(rt, alloc),
-        Called::Decision => decision(rt, alloc),
         Called::Shares(used) => Some(shares(rt, alloc, used)),
         Called::Gate(used) => Some(gate(rt, alloc, used)),
         Called::CountLatch(used) => Some(count_latch(rt, alloc, used)),
         Called::CoreLatch(used) => Some(core_latch(rt, alloc, used)),
-        Called::Folds(used) => Some(folds(rt, used)),
     }
 }
 
@@ -347,25 +256,11 @@ fn each_call_of_a_layer_answers_or_is_refused(rt: HostRuntime) {
     row(&rt, "but for one at most", refused.min(1), refused);
 }
 
-// The bytes that a call is left at most.
-const ROOM: usize = 16_384;
-
-// The greatest block, up to a size, that is still to be had.
-fn greatest(alloc: Global, most: usize) -> Vec<u8> {
-    for step in 0..1100usize {
-        let size = most.saturating_sub(step.saturating_mul(16));
-        if let Ok(block) = Vec::with_capacity(alloc, size) {
-            return block;
-        }
-    }
-    Vec::new(alloc)
-}
-
 // Makes a call with more and more memory, until it succeeds: how often it was refused.
 fn refusals<R: Threads + Wait + Sync + Abort>(rt: &R, alloc: Global, called: Called) -> u64 {
     for step in 0..1000u64 {
         let taken = (step as usize).saturating_mul(16);
-        let plug = greatest(alloc, ROOM.saturating_sub(taken));
+        let plug = greatest_block(alloc, ROOM.saturating_sub(taken));
         let made = make(rt, alloc, called);
         drop(plug);
         if made.is_some() {
@@ -376,7 +271,7 @@ fn refusals<R: Threads + Wait + Sync + Abort>(rt: &R, alloc: Global, called: Cal
 }
 
 // All memory is taken first but for that room, of which each further try of a call is left 16 bytes
-// more. Where memory has no end (`no_memory`) each call has to succeed at once. What a call lets go
+// more. Where memory has no end (`no_memory`) each call has to succeed at once. What a call frees
 // stays at hand for later ones, so only the first is surely refused.
 #[test]
 fn each_call_of_a_layer_is_refused_in_turn_and_succeeds_in_the_end(rt: HostRuntime) {
@@ -393,24 +288,11 @@ fn each_call_of_a_layer_is_refused_in_turn_and_succeeds_in_the_end(rt: HostRunti
     let _told = eprintln!(&rt; "{refused} calls were refused");
 }
 
-// One of the counts of pages.
-fn count_at(rt: &impl Abort, counts: &str, place: usize) -> usize {
-    let count = counts.split(' ').nth(place).expect(rt, "a count");
-    count.parse::<usize>().expect(rt, "a number")
-}
-
-// How many pages of this process are in memory and of no file, by Linux's own count.
-fn resident<R: Files + AllocGlobal + Abort>(rt: &R) -> usize {
-    let counts = fs::read_to_string(rt, "/proc/self/statm").expect(rt, "the counts");
-    let of_files = count_at(rt, counts.as_str(), 2);
-    count_at(rt, counts.as_str(), 1).saturating_sub(of_files)
-}
-
-// How often a call is made; and half of the pages by which the process grows where each takes one
+// How often a call is made; and half of the KiB by which the process grows where each takes one
 // block more, at least.
 const MANY: u32 = 8_000;
 
-const GROWTH: usize = 30;
+const GROWTH: u64 = 120;
 
 fn make_many<R: Threads + Wait + Sync + Abort>(rt: &R, alloc: Global, called: Called, many: u32) {
     for _ in 0..many {
@@ -418,24 +300,25 @@ fn make_many<R: Threads + Wait + Sync + Abort>(rt: &R, alloc: Global, called: Ca
     }
 }
 
-// By how many pages the process grows meanwhile, once the stack has its pages.
-fn grows<R: Threads + Wait + Sync + Files + AllocGlobal + Abort>(rt: &R, called: Called) -> usize {
+// By how many KiB the process grows meanwhile, once the stack has its pages.
+fn grows<R: Threads + Wait + Sync + Files + AllocGlobal + Abort>(rt: &R, called: Called) -> u64 {
     make_many(rt, rt.alloc(), called, MANY / 2);
-    let before = resident(rt);
+    let before = kibibytes(rt, "RssAnon:").expect(rt, "a count");
     make_many(rt, rt.alloc(), called, MANY);
-    resident(rt).saturating_sub(before)
+    let after = kibibytes(rt, "RssAnon:").expect(rt, "a count");
+    after.saturating_sub(before)
 }
 
-// Under `rt try` a block that is let go stays with the process, so that it grows by each: there a
+// Under `rt try` a block that is freed stays with the process, so that it grows by each: there a
 // call that takes one is seen, and elsewhere one that doesn't give it back.
 #[test]
 fn a_call_of_a_layer_gives_back_what_it_takes_and_takes_none_where_it_says_so(rt: HostRuntime) {
-    let mut least = [0; 5];
+    let mut least = [0; 4];
     for used in [Used::Not, Used::Closed, Used::InFull] {
         let mut at = 0usize;
         for called in unneeding(used) {
             let found = grows(&rt, called);
-            assert!(rt; at < 5);
+            assert!(rt; at < 4);
             if used == Used::Not {
                 least[at] = found;
             }
@@ -445,7 +328,7 @@ fn a_call_of_a_layer_gives_back_what_it_takes_and_takes_none_where_it_says_so(rt
         }
     }
     if least[0] < GROWTH {
-        for called in &CALLS[6..] {
+        for called in &CALLS[2..] {
             let found = grows(&rt, *called);
             row(&rt, *called, found.min(GROWTH), found);
         }

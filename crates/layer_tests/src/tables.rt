@@ -1,15 +1,13 @@
-//! Tables and policies: which key a result goes by, what each call tells its table, and what a run
-//! that a table decides records of the clock.
+//! Policies and their keys: which key a result goes by, and what each call tells its policy.
 use crate::checks::row;
 use parallel_fault::{Fault, Trouble};
-use parallel_policy::choices::decide;
 use parallel_policy::execution::{RunExecution, SpawnExecution};
 use parallel_policy::history::SpawnSample;
 use parallel_policy::key::Key;
 use parallel_policy::policy::{INLINE_BUDGET, Policy};
 use parallel_policy::site::Site;
-use parallel_policy::table::Table;
 use std::alloc::Global;
+use std::collections::HashSet;
 use std::process::Abort;
 use std::sync::Wait;
 use std::sync::atomic::{AtomicU64, Ordering};
@@ -34,74 +32,10 @@ fn handle(rt: &impl Abort, policy: &Policy) -> Policy {
     policy.clone().expect(rt, "memory")
 }
 
-// What a table's samples of a key's runs in parallel and of its serial ones say.
-fn kept(table: &Table, key: Key) -> Option<[Option<u64>; 2]> {
-    let entry = table.run_entry(key)?;
-    Some([entry.estimate(P), entry.estimate(S)])
-}
-
 // The same of a policy.
 fn estimates_of(rt: &impl Wait, policy: &Policy, key: Key) -> Option<[Option<u64>; 2]> {
     let entry = policy.run_entry(rt, key)?;
     Some([entry.estimate(P), entry.estimate(S)])
-}
-
-#[test]
-fn a_table_keeps_an_entry_for_each_key(rt: HostRuntime) {
-    let mut table = Table::new(rt.alloc());
-    let near = Key::new(SITE, 64, 64, 4);
-    let far = Key::new(Site { column: 2, ..SITE }, 64, 64, 4);
-    for (at, key, path, measured, sample) in [
-        (1, near, P, true, 100_000),
-        (2, far, P, true, 10_000_000),
-        (3, near, S, true, 95_000),
-        (4, far, P, true, 10_000_000),
-        (5, near, S, false, 95_000),
-    ] {
-        row(&rt, at, table.choose_run(key, 4), Ok((path, measured)));
-        row(&rt, at, table.record_run(key, path, sample), Ok(()));
-    }
-    same!(&rt, kept(&table, near), Some([Some(100_000), Some(95_000)]));
-    same!(&rt, kept(&table, far), Some([Some(10_000_000), None]));
-}
-
-// Two runs of a table's entry, by a clock that starts at a time and goes on by a step at each
-// reading, and a body that reads it so often; and what they have recorded.
-fn two_runs<Rt: Wait>(
-    rt: &Rt,
-    alloc: Global,
-    (start, step, readings): (u64, u64, u32),
-) -> (
-    [Result<RunExecution, Trouble<u8>>; 2],
-    Option<[Option<u64>; 2]>,
-) {
-    let mut table = Table::new(alloc);
-    let key = Key::new(SITE, 64, 64, 4);
-    let ticks = AtomicU64::new(start);
-    let mut now = || ticks.fetch_add(step, Ordering::SeqCst);
-    let body = |path: RunExecution| {
-        for _ in 0..readings {
-            ticks.fetch_add(step, Ordering::SeqCst);
-        }
-        Ok(path)
-    };
-    let first = decide(rt, &mut table, key, 4, &mut now, |_now, path| body(path));
-    let second = decide(rt, &mut table, key, 4, &mut now, |_now, path| body(path));
-    ([first, second], kept(&table, key))
-}
-
-// The second clock goes back: it gives no time.
-#[test]
-fn a_decided_run_records_what_it_took(rt: HostRuntime) {
-    for (clock, took) in [
-        ((0, 100_000, 0), 100_000),
-        ((1_000_000, 0u64.wrapping_sub(100_000), 0), 0),
-        ((0, 100, 2), 300),
-    ] {
-        let (paths, estimates) = two_runs(&rt, rt.alloc(), clock);
-        row(&rt, clock, paths, [Ok(P), Ok(S)]);
-        row(&rt, clock, estimates, Some([Some(took), Some(took)]));
-    }
 }
 
 #[test]
@@ -196,17 +130,6 @@ fn run_of_ten<Rt: Wait>(
 }
 
 #[test]
-fn a_run_planned_for_one_asks_no_policy(rt: HostRuntime) {
-    let policy = fresh(&rt, rt.alloc());
-    for planned in [0, 1] {
-        let path = run_of_ten(&rt, &policy, planned, (1, 1), None);
-        row(&rt, planned, path, Ok(S));
-        let entry = policy.run_entry(&rt, Key::new(SITE, 10, 10, planned));
-        row(&rt, planned, entry.is_none(), true);
-    }
-}
-
-#[test]
 fn success_is_recorded_and_errors_are_not(rt: HostRuntime) {
     let policy = fresh(&rt, rt.alloc());
     let key = Key::new(SITE, 10, 10, 4);
@@ -246,4 +169,28 @@ fn a_body_runs_without_the_lock(rt: HostRuntime) {
     same!(&rt, answer, Ok(P));
     let estimates = estimates_of(&rt, &policy, Key::new(SITE, 1, 1, 2));
     same!(&rt, estimates, Some([Some(5), None]));
+}
+
+// How many of the keys differ from the first one and from each other, by their hashes and by `==`.
+#[test]
+fn keys_are_told_apart_by_each_part(rt: HostRuntime) {
+    let mut all = HashSet::new(rt.alloc());
+    for (file, line, column, len, work, parallelism, count) in [
+        ("tests", 3, 5, 64, 64, 4, 1),
+        ("others", 3, 5, 64, 64, 4, 2),
+        ("tests", 4, 5, 64, 64, 4, 3),
+        ("tests", 3, 6, 64, 64, 4, 4),
+        ("tests", 3, 5, 63, 64, 4, 5),
+        ("tests", 3, 5, 64, 128, 4, 6),
+        ("tests", 3, 5, 64, 64, 5, 7),
+        ("tests", 3, 5, 127, 100, 4, 7),
+        ("tests", 3, 5, 1, 1, 4, 8),
+        ("tests", 3, 5, 2, 2, 4, 9),
+        ("tests", 3, 5, 3, 3, 4, 9),
+    ] {
+        let site = Site { file, line, column };
+        let key = Key::new(site, len, work, parallelism);
+        all.insert(key).expect(&rt, "memory");
+        row(&rt, (line, column, len, work), all.len(), count);
+    }
 }

@@ -3,14 +3,10 @@
 use crate::checks::{number, row};
 use linked_list_allocator::LocalHeap;
 use parallel_bridge::list::map::map_parallel;
-use parallel_bridge::list::try_fold::try_fold_parallel;
-use parallel_bridge::list::try_map::try_map_parallel;
 use parallel_bridge::pairs::Pairs;
-use parallel_bridge::parts::ProducerParts;
-use parallel_bridge::producer::{DrainProducer, Indices, Producer};
+use parallel_bridge::producer::{DrainProducer, Producer};
 use parallel_bridge::source::Source;
 use parallel_bridge::window::block::Block;
-use parallel_fault::Trouble;
 use std::alloc::Global;
 use std::process::Abort;
 use std::thread::Threads;
@@ -25,7 +21,7 @@ fn place_of(item: Option<&Counted<'_>>) -> Option<usize> {
     }
 }
 
-// The same of one that was taken, and is let go.
+// The same of one that was taken, and is dropped.
 fn place_taken(item: Option<Counted<'_>>) -> Option<usize> {
     place_of(item.as_ref())
 }
@@ -35,10 +31,6 @@ fn place_taken(item: Option<Counted<'_>>) -> Option<usize> {
 pub(crate) enum Doing {
     /// Each is mapped to another one.
     Map,
-    /// Their places are added up, and that one fails.
-    Fold(usize),
-    /// Their neighbouring pairs are mapped to their places.
-    Pairs,
     /// So many are taken from the front of a drain, and from its back.
     Drain(usize, usize),
     /// They are split there, and the front goes before the back.
@@ -79,8 +71,6 @@ fn does_with<'a, R: Threads + Sync + Abort>(
 ) -> Option<()> {
     match doing {
         Doing::Map => map(rt, alloc, threads, counts, items),
-        Doing::Fold(end) => fold(rt, alloc, threads, end, items),
-        Doing::Pairs => pairs(rt, alloc, threads, counts, items),
         Doing::Drain(front, back) => drain(rt, counts, items, front, back),
         Doing::Split(index) => split(rt, alloc, counts, items, index),
         Doing::Push => {
@@ -113,65 +103,6 @@ fn map<'a, R: Threads + Sync + Abort>(
     row(rt, threads, (answers.len(), counts.left()), (count, count));
     for place in 0..count {
         row(rt, threads, place_of(answers.get(place)), Some(place));
-    }
-    Some(())
-}
-
-fn no_sum() -> usize {
-    0
-}
-
-fn add(left: usize, right: usize) -> usize {
-    left.wrapping_add(right)
-}
-
-fn fold<R: Threads + Sync + Abort>(
-    rt: &R,
-    alloc: Global,
-    threads: usize,
-    end: usize,
-    items: Vec<Counted<'_>>,
-) -> Option<()> {
-    let count = items.len();
-    let step = |sum: usize, item: Counted<'_>| if item.place < end {
-        Ok(sum.wrapping_add(item.place))
-    } else {
-        Err(item.place)
-    };
-    let parts = DrainProducer::from_vec(items);
-    let folded = try_fold_parallel(rt, alloc, number(rt, threads), parts, &no_sum, &step, &add);
-    let twice = count.wrapping_mul(count).wrapping_sub(count);
-    match folded {
-        Ok(sum) => row(rt, (count <= end, end), sum.wrapping_mul(2), twice),
-        Err(Trouble::Closure(place)) => row(rt, (threads, count), place, end),
-        Err(Trouble::Fault(_fault)) => return None,
-    }
-    Some(())
-}
-
-fn pairs<'a, R: Threads + Sync + Abort>(
-    rt: &R,
-    alloc: Global,
-    threads: usize,
-    counts: &'a Counts,
-    items: Vec<Counted<'a>>,
-) -> Option<()> {
-    let count = items.len();
-    let (pairs, odd) = Pairs::new(items);
-    let last = if count % 2 == 1 {
-        count.checked_sub(1)
-    } else {
-        None
-    };
-    row(rt, count, place_of(odd.as_ref()), last);
-    let places = |pair: (Counted<'_>, Counted<'_>)| (pair.0.place, pair.1.place);
-    let answers = map_parallel(rt, alloc, number(rt, threads), pairs, &places).ok()?;
-    let found = (answers.len(), counts.left());
-    row(rt, count, found, (count / 2, count % 2));
-    let mut front = 0usize;
-    for pair in &answers {
-        row(rt, count, *pair, (front, front.wrapping_add(1)));
-        front = front.wrapping_add(2);
     }
     Some(())
 }
@@ -231,21 +162,12 @@ fn a_drain_or_a_part_that_is_let_go_drops_what_is_left(rt: HostRuntime) {
     }
 }
 
-// A fold over all, and one that fails at the first item or in the middle.
 #[test]
-fn each_item_and_each_answer_is_dropped_once(rt: HostRuntime) {
+fn each_item_and_each_answer_of_a_map_is_dropped_once(rt: HostRuntime) {
     for threads in 1..9 {
-        for len in [0, 1, 2, 3, 4, 5, 1000, 1001] {
-            for doing in [
-                Doing::Map,
-                Doing::Fold(2000),
-                Doing::Fold(0),
-                Doing::Fold(500),
-                Doing::Pairs,
-            ] {
-                let done = does(&rt, rt.alloc(), doing, (threads, len));
-                row(&rt, (doing, threads, len), done, Some(()));
-            }
+        for len in [0, 1, 2, 5, 1000] {
+            let done = does(&rt, rt.alloc(), Doing::Map, (threads, len));
+            row(&rt, (threads, len), done, Some(()));
         }
     }
 }
@@ -260,48 +182,6 @@ fn pairs_come_serially_too_and_say_how_many_are_left(rt: HostRuntime) {
     for (pair, left) in [(Some((1, 2)), 1), (Some((3, 4)), 0), (None, 0), (None, 0)] {
         row(&rt, left, drain.next(), pair);
         row(&rt, pair, drain.size_hint(), (left, Some(left)));
-    }
-}
-
-fn let_go(_place: usize) {}
-
-fn one_for_nothing(_nothing: ()) -> u8 {
-    1
-}
-
-#[test]
-fn values_of_size_zero_are_mapped_in_order(rt: HostRuntime) {
-    let (alloc, four) = (rt.alloc(), number(&rt, 4));
-    let all = ProducerParts {
-        list: Indices {
-            start: 0,
-            end: 5000,
-        },
-    };
-    let nothing = map_parallel(&rt, alloc, four, all, &let_go).expect(&rt, "memory");
-    row(&rt, "nothing", nothing.len(), 5000);
-    let parts = DrainProducer::from_vec(nothing);
-    let ones = map_parallel(&rt, alloc, four, parts, &one_for_nothing).expect(&rt, "memory");
-    row(&rt, "ones", ones.as_slice(), [1; 5000].as_slice());
-}
-
-#[test]
-fn texts_before_and_after_the_first_failing_one_are_let_go(rt: HostRuntime) {
-    let alloc = rt.alloc();
-    let mut items = Vec::new(alloc);
-    for place in 0..100usize {
-        let text = format!(in alloc; "text {place}").expect(&rt, "memory");
-        items.push(text).expect(&rt, "memory");
-    }
-    let parts = DrainProducer::from_vec(items);
-    let answer = |text: String| if text.as_str() == "text 57" {
-        Err(text)
-    } else {
-        Ok(text)
-    };
-    match try_map_parallel(&rt, alloc, number(&rt, 4), parts, &answer) {
-        Err(Trouble::Closure(text)) => same!(&rt, text.as_str(), "text 57"),
-        Err(Trouble::Fault(_)) | Ok(_) => holds!(&rt, false),
     }
 }
 

@@ -29,24 +29,6 @@ pub fn batch_ranges<Rt: Wait, S: Strategy>(
 }
 
 #[test]
-fn balanced_ranges_differ_by_one_at_most(rt: HostRuntime) {
-    let alloc = rt.alloc();
-    for (len, count, ranges) in [
-        (10, 4, [0..3, 3..6, 6..8, 8..10].as_slice()),
-        (64, 5, [0..13, 13..26, 26..39, 39..52, 52..64].as_slice()),
-        (10, 1, [0..10].as_slice()),
-        (0, 1, [0..0].as_slice()),
-    ] {
-        let batches = Batches::balanced(alloc, &Sequential, SITE, len, number(&rt, count));
-        let batches = batches.expect(&rt, "memory");
-        let of: Of = ("balanced", "Sequential", len);
-        row(&rt, of, batches.ranges(), ranges);
-        let of: Of = ("is whole", "Sequential", len);
-        row(&rt, of, batches.is_whole(), count == 1);
-    }
-}
-
-#[test]
 fn a_batch_has_as_many_ranges_as_are_planned(rt: HostRuntime) {
     let alloc = rt.alloc();
     let four = pool(&rt, alloc, 1, 4).expect(&rt, "a pool");

@@ -1,7 +1,7 @@
 //! Explorers: what they pick, and what the search through the rules returns.
 use crate::checks::{Of, returns, row};
 use crate::lists::{Called, KNOWN, call};
-use commonware_parallel::mocks::{ExploreError, Rule, explore, mix, pick};
+use commonware_parallel::mocks::{ExploreError, Rule, explore, pick};
 use commonware_parallel::{Chooser, Copies, Fault, Site, Strategy};
 use std::alloc::Global;
 use std::num::NonZeroUsize;
@@ -12,7 +12,7 @@ use std::thread::Threads;
 use test_strategies::{SITE, parallel, serial};
 use test_support::{holds, same};
 
-/// The first place of a file whose name is one byte.
+/// The first call site of a file whose name is one byte.
 pub const PLACE: Site = Site {
     file: "a",
     line: 1,
@@ -24,28 +24,6 @@ const LOWER: Site = Site { line: 2, ..PLACE };
 const FURTHER: Site = Site { column: 2, ..PLACE };
 
 // ---- picks
-
-#[test]
-fn the_hash_is_the_same_everywhere(rt: HostRuntime) {
-    for (seed, none, two, many) in [
-        (0, 2107625261, 2107625262, 2107625324),
-        (1, 1104250544, 1104250545, 1104250607),
-        (2, 100875827, 100875828, 100875890),
-        (3, 1244984757, 1244984758, 1244984820),
-    ] {
-        let found = [1, 2, 64].map(|len: usize| mix(seed, PLACE, len));
-        let of: Of = ("mix", "seed", seed as usize);
-        row(&rt, of, found, [none, two, many]);
-    }
-    let longer = Site {
-        file: "aa",
-        ..PLACE
-    };
-    let other = Site { file: "b", ..PLACE };
-    for site in [LOWER, FURTHER, longer, other] {
-        holds!(&rt, mix(0, site, 64) != 2107625324);
-    }
-}
 
 #[test]
 fn a_rule_picks_the_first_the_last_or_by_the_hash(rt: HostRuntime) {

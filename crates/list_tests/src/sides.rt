@@ -54,10 +54,10 @@ fn sorts_and_joins_return_known_values(rt: HostRuntime) {
     same!(&rt, both, (10, 0));
 }
 
-// Sets the own flag, and returns whether the other one was seen within ten million turns.
+// Sets the own flag, and returns whether the other one was seen within three million turns.
 fn sees(own: &AtomicBool, other: &AtomicBool) -> bool {
     own.store(true, Ordering::SeqCst);
-    for _ in 0..10_000_000u32 {
+    for _ in 0..3_000_000u32 {
         if other.load(Ordering::SeqCst) {
             return true;
         }

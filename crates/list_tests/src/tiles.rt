@@ -98,34 +98,6 @@ fn covers<Rt: Threads + Wait + Abort + Sync, S: Strategy>(
     plan
 }
 
-// Grids of each shape, filled by a strategy.
-fn all_cover<Rt: Threads + Wait + Abort + Sync, S: Strategy>(rt: &Rt, alloc: Global, strategy: &S) {
-    for shape in [
-        (0, 7, 3),
-        (1, 1, 1),
-        (1, 64, 1),
-        (3, 5, 2),
-        (7, 3, 8),
-        (5, 41, 4),
-        (64, 7, 1),
-    ] {
-        covers(rt, alloc, strategy, shape);
-    }
-}
-
-#[test]
-fn each_cell_is_filled_once(rt: HostRuntime) {
-    let alloc = rt.alloc();
-    all_cover(&rt, alloc, &Sequential);
-    for (threads, planned) in [(1, 1), (2, 2), (3, 8), (3, 16), (4, 4)] {
-        all_cover(
-            &rt,
-            alloc,
-            &pool(&rt, alloc, threads, planned).expect(&rt, "a pool"),
-        );
-    }
-}
-
 #[test]
 fn a_serial_plan_fills_each_row_whole(rt: HostRuntime) {
     let alloc = rt.alloc();

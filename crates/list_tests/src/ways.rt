@@ -6,15 +6,14 @@ use crate::checks::{Of, number, returns};
 use crate::explorers::PLACE;
 use crate::lists::{count, zero};
 use crate::sides::parts_see;
-use commonware_parallel::mocks::{Explorer, Rule, explore, pooled};
-use commonware_parallel::{Call, Chooser, Counted, Fault, Grid, Path, Pick, Strategy};
+use commonware_parallel::mocks::{Explorer, explore, pooled};
+use commonware_parallel::{Call, Chooser, Fault, Grid, Path, Pick, Strategy};
 use std::alloc::Global;
 use std::num::NonZeroUsize;
 use std::process::Abort;
 use std::sync::Wait;
 use std::thread::Threads;
 use test_strategies::{Stopped, parallel, pool, serial};
-use test_support::no_memory::all_places;
 use test_support::{holds, same};
 
 // The ways that an explorer takes: how many ranges of 64 indices and how many workers of a grid of
@@ -140,53 +139,4 @@ fn a_seed_repeats_its_ways_and_seeds_take_each_of_them(rt: HostRuntime) {
     }
     // One to eight ranges, as many workers, and both ways of each other call.
     same!(&rt, seen, [510, 510, 255]);
-}
-
-fn no_count() -> usize {
-    0
-}
-
-// How many numbers there are, which are 8 MB as a list, and their sum.
-const MILLION: usize = 1_000_000;
-
-const SUM: usize = 499_999_500_000;
-
-// The sum of the numbers, by an iterator that says how many come.
-fn counted<Rt: Threads + Wait + Sync>(
-    rt: &Rt,
-    alloc: Global,
-    explorer: &Explorer,
-) -> Result<usize, Fault> {
-    let (iter, add) = (0..MILLION, usize::wrapping_add);
-    explorer.fold(rt, alloc, PLACE, Counted { iter }, no_count, add, add)
-}
-
-// The same by an iterator alone.
-fn gathered<Rt: Threads + Wait + Sync>(
-    rt: &Rt,
-    alloc: Global,
-    explorer: &Explorer,
-) -> Result<usize, Fault> {
-    let add = usize::wrapping_add;
-    explorer.fold(rt, alloc, PLACE, 0..MILLION, no_count, add, add)
-}
-
-#[test]
-fn a_counted_iterator_is_gathered_where_it_goes_parallel_alone(rt: HostRuntime) {
-    let alloc = rt.alloc();
-    let pool = pool(&rt, alloc, 2, 2).expect(&rt, "a pool");
-    let serial = Explorer::by_rule(&pool, Rule::Serial).expect(&rt, "memory");
-    let parallel = Explorer::by_rule(&pool, Rule::Parallel).expect(&rt, "memory");
-    let sums = [counted(&rt, alloc, &serial), counted(&rt, alloc, &parallel)];
-    same!(&rt, sums, [Ok(SUM), Ok(SUM)]);
-    let Some(held) = all_places(alloc) else {
-        return;
-    };
-    let sums = [
-        counted(&rt, alloc, &serial),
-        gathered(&rt, alloc, &serial),
-        counted(&rt, alloc, &parallel),
-    ];
-    drop(held);
-    same!(&rt, sums, [Ok(SUM), Err(Fault::Memory), Err(Fault::Memory)]);
 }

@@ -63,7 +63,7 @@ fn first_of<R: Host>(
 }
 
 /// Such a pool of that many workers, the others of which are started. The pool of the stranger is
-/// let go.
+/// dropped.
 pub(crate) fn leads<R: Host>(rt: &R, num_threads: usize) -> Led {
     let tally = empty_tally(rt);
     let builder = told_to(rt.alloc(), num_threads, &tally).expect(rt, "memory");

@@ -29,7 +29,8 @@ fn is_called<R: Host>(rt: &R, led: &mut Led, brought: Brought, target: usize) {
         let before = read(&led.tally.called);
         let came = led.brings(rt, brought, target, Act::AddsAt(target));
         let is_called = becomes(&led.tally.called, before.wrapping_add(1));
-        let at = (led.pool.current_num_threads(), brought, target, is_asleep);
+        let threads = led.pool.current_num_threads();
+        let at = ("came, called", threads, brought, target, is_asleep);
         row(rt, at, (came, is_called), (true, true));
     }
 }
@@ -101,7 +102,7 @@ fn a_worker_calls_its_own_last_job_first(rt: HostRuntime) {
     led.ends(&rt);
 }
 
-// Stops the test where a job that comes to a queue of a pool that was let go isn't called, or its
+// Stops the test where a job that comes to a queue of a pool that was dropped isn't called, or its
 // workers don't end, while one of them has a job that doesn't end yet.
 fn one_is_at_work<R: Host>(rt: &R, queue: Queue) {
     let mut led = leads(rt, 3);
@@ -118,7 +119,8 @@ fn one_is_at_work<R: Host>(rt: &R, queue: Queue) {
         let job = telling(rt, &tally, Act::AddsAt(2));
         let came = push_by(rt, &mut worker, queue, job);
         let is_called = becomes(&tally.called, called);
-        row(rt, (queue, called), (came, is_called), (true, true));
+        let of = ("came, called", queue, called);
+        row(rt, of, (came, is_called), (true, true));
     }
     halted.opens();
     awaits(rt, &tally.ended, 1, "the workers have ended");
@@ -131,7 +133,7 @@ fn a_job_counts_until_it_has_ended(rt: HostRuntime) {
     }
 }
 
-// Stops the test where the workers don't end of a pool that was let go, once a job that came in
+// Stops the test where the workers don't end of a pool that was dropped, once a job that came in
 // some way was taken by the first worker's seat. The other one had a job that didn't end meanwhile.
 fn takes<R: Host>(rt: &R, brought: Brought, queue: Queue) {
     let mut led = leads(rt, 2);

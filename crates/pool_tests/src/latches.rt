@@ -1,7 +1,7 @@
-//! The latches: that of a worker's state, those that say which worker to wake, one of shares, and
-//! one that a thread sleeps at.
-ghost use Rattle.std.specs.Prelude.{◌≡◌, All, IfSome, false, true};
-ghost use Rattle.parallel_pool.specs.CountLatch.{IsShareOf, share_count, unspent};
+//! The latches: that of a worker's state, those that say which worker to wake, and one that a
+//! thread sleeps at.
+ghost use Rattle.std.specs.Prelude.{◌≡◌, All};
+ghost use Rattle.parallel_pool.specs.CountLatch.{IsShareOf, unspent};
 ghost use Rattle.parallel_pool.specs.Latch.{IsLatchSeatOf};
 ghost use Rattle.parallel_pool.specs.WorkerLatch.{core_of};
 
@@ -15,7 +15,6 @@ use std::process::Abort;
 use std::sync::Arc;
 use std::sync::atomic::{AtomicU64, Ordering};
 use std::thread;
-use test_support::{holds, same};
 
 /// A latch with one seat.
 pub(crate) fn core_latch<R: Host>(rt: &R) -> (CoreLatch, LatchSeat)
@@ -41,85 +40,30 @@ fn a_latch_that_is_set_stays_set(rt: HostRuntime) {
     row(&rt, "nobody sleeps", latch.get_sleepy(&mut seat), false);
 }
 
-#[test]
-fn a_woken_worker_may_get_sleepy_again(rt: HostRuntime) {
-    let (latch, mut seat) = core_latch(&rt);
-    holds!(&rt, latch.get_sleepy(&mut seat));
-    holds!(&rt, latch.fall_asleep(&mut seat));
-    latch.wake_up(&mut seat);
-    row(&rt, "again", latch.get_sleepy(&mut seat), true);
-    row(&rt, "only sleepy", latch.set(&mut seat), false);
-}
-
-// Whoever has learnt what the setter has seen, finds the latch set.
-fn set_and_tell(latch: &CoreLatch, setter: &mut LatchSeat, prober: &mut LatchSeat) -> bool
-    requires setter { IsLatchSeatOf latch.now setter.old }
-    requires prober { IsLatchSeatOf latch.now prober.old }
-    ensures { result ≡ true }
-{
-    latch.set(setter);
-    latch.learn(prober, setter);
-    latch.probe(prober)
-}
-
-#[test]
-fn what_one_seat_has_seen_another_may_learn(rt: HostRuntime) {
-    let three = NonZeroUsize::MIN.saturating_add(2);
-    let (latch, mut seats) = CoreLatch::new(rt.alloc(), three).expect(&rt, "memory");
-    same!(&rt, seats.len(), 3);
-    let mut setter = seats.pop().expect(&rt, "a seat");
-    let mut prober = seats.pop().expect(&rt, "a seat");
-    holds!(&rt, set_and_tell(&latch, &mut setter, &mut prober));
-}
-
-// What a latch says that is set, of the worker 7 that slept or not. The worker sleeps where it is
-// to.
-fn sets_spin<R: Host>(rt: &R, sleeps: bool) -> [Option<usize>; 2] {
+// What latches say that are set, of the worker 7 that slept or not: one that is set twice, and one
+// that is set once.
+fn named_by<R: Host>(rt: &R, sleeps: bool) -> [Option<usize>; 3] {
     let made = SpinLatch::new(rt.alloc(), NonZeroUsize::MIN, 7);
-    let (latch, mut seats) = made.expect(rt, "memory");
+    let (spin, mut seats) = made.expect(rt, "memory");
     let mut seat = seats.pop().expect(rt, "a seat");
-    if sleeps {
-        latch.as_core_latch().get_sleepy(&mut seat);
-        latch.as_core_latch().fall_asleep(&mut seat);
-    }
-    holds!(rt, !latch.probe(&mut seat));
-    let first = latch.set(&mut seat);
-    let second = latch.set(&mut seat);
-    holds!(rt, latch.probe(&mut seat));
-    [first, second]
-}
-
-// The same of one that is set once.
-fn sets_once<R: Host>(rt: &R, sleeps: bool) -> Option<usize> {
     let made = OnceLatch::new(rt.alloc(), NonZeroUsize::MIN, 7);
-    let (latch, mut seats) = made.expect(rt, "memory");
-    let mut seat = seats.pop().expect(rt, "a seat");
+    let (once, mut others) = made.expect(rt, "memory");
+    let mut other = others.pop().expect(rt, "a seat");
     if sleeps {
-        latch.as_core_latch().get_sleepy(&mut seat);
-        latch.as_core_latch().fall_asleep(&mut seat);
+        spin.as_core_latch().get_sleepy(&mut seat);
+        spin.as_core_latch().fall_asleep(&mut seat);
+        once.as_core_latch().get_sleepy(&mut other);
+        once.as_core_latch().fall_asleep(&mut other);
     }
-    let named = latch.set(&mut seat);
-    holds!(rt, latch.as_core_latch().probe(&mut seat));
-    named
+    let first = spin.set(&mut seat);
+    [first, spin.set(&mut seat), once.set(&mut other)]
 }
 
 #[test]
 fn a_latch_names_the_worker_that_slept(rt: HostRuntime) {
     for (sleeps, named) in [(true, Some(7)), (false, None)] {
-        row(&rt, sleeps, sets_spin(&rt, sleeps), [named, None]);
-        row(&rt, sleeps, sets_once(&rt, sleeps), named);
+        row(&rt, sleeps, named_by(&rt, sleeps), [named, None, named]);
     }
-}
-
-// The last share of a list.
-fn take_one(latch: &CountLatch, shares: &mut Vec<CountShare>) -> Option<CountShare>
-    requires belong { All (IsShareOf latch.now) shares.old.items }
-    requires unspent { All (λ share. unspent share ≡ 1) shares.old.items }
-    ensures share { IfSome result (λ share. IsShareOf latch.now share × (unspent share ≡ 1)) }
-    ensures belong { All (IsShareOf latch.now) shares.new.items }
-    ensures unspent { All (λ share. unspent share ≡ 1) shares.new.items }
-{
-    shares.pop()
 }
 
 // Gives the last share of a list.
@@ -129,7 +73,7 @@ fn give_one(latch: &CountLatch, shares: &mut Vec<CountShare>)
     ensures belong { All (IsShareOf latch.now) shares.new.items }
     ensures unspent { All (λ share. unspent share ≡ 1) shares.new.items }
 {
-    if let Some(mut share) = take_one(latch, shares) {
+    if let Some(mut share) = shares.pop() {
         latch.give(&mut share);
     }
 }
@@ -142,42 +86,6 @@ pub(crate) fn give_all(latch: &CountLatch, mut shares: Vec<CountShare>)
     for _ in 0..shares.len() {
         give_one(latch, &mut shares);
     }
-}
-
-// Of three shares the third that is given is the last: each share learns which gives the one before
-// it has seen, its own among them.
-fn give_three(
-    latch: &CountLatch,
-    first: &mut CountShare,
-    second: &mut CountShare,
-    third: &mut CountShare,
-) -> (bool, bool, bool)
-    requires three { share_count latch.now ≡ 3 }
-    requires belong { IsShareOf latch.now first.old × IsShareOf latch.now second.old
-        × IsShareOf latch.now third.old }
-    requires unspent { (unspent first.old ≡ 1) × (unspent second.old ≡ 1)
-        × (unspent third.old ≡ 1) }
-    ensures { result ≡ (false, false, true) }
-{
-    let one = latch.give(first);
-    latch.learn(second, first);
-    let two = latch.give(second);
-    latch.learn(third, second);
-    let three = latch.give(third);
-    (one, two, three)
-}
-
-#[test]
-fn the_third_of_three_shares_is_the_last(rt: HostRuntime) {
-    let three = NonZeroUsize::MIN.saturating_add(2);
-    let (latch, mut shares) = CountLatch::with_count(rt.alloc(), three).expect(&rt, "memory");
-    let mut first = take_one(&latch, &mut shares).expect(&rt, "a share");
-    let mut second = take_one(&latch, &mut shares).expect(&rt, "a share");
-    let mut third = take_one(&latch, &mut shares).expect(&rt, "a share");
-    holds!(&rt, take_one(&latch, &mut shares).is_none());
-    let given = give_three(&latch, &mut first, &mut second, &mut third);
-    same!(&rt, given, (false, false, true));
-    let _seen = latch.wait(&rt);
 }
 
 #[test]

@@ -5,8 +5,8 @@ use crate::tally::{
     spawn, told_to,
 };
 use parallel_pool::rayon::{
-    BroadcastContext, Environment, Execute, OwnedJob, Queue, Staff, ThreadPool, ThreadPoolBuilder,
-    WorkerThread, Yield, planned_threads,
+    BroadcastContext, Execute, OwnedJob, Queue, Staff, ThreadPool, ThreadPoolBuilder, WorkerThread,
+    Yield,
 };
 use std::alloc::{AllocError, AllocGlobal};
 use std::fs;
@@ -90,42 +90,6 @@ fn a_builder_prints_its_closures_as_such(rt: HostRuntime) {
         num_cpus: None, machine: None }, label: 0, unstarted_workers: false }";
     let builder = builder.thread_name(names).start_handler(handler);
     prints(&rt, &builder, wanted);
-}
-
-// Where the first text isn't set, the second says 3.
-#[test]
-fn the_environment_says_the_number_that_is_not_set(rt: HostRuntime) {
-    let environment = Environment {
-        num_threads: None,
-        num_cpus: Some(String::from_str(rt.alloc(), "3").expect(&rt, "memory")),
-        machine: NonZeroUsize::new(4),
-    };
-    let builder = ThreadPoolBuilder::default().environment(environment);
-    let wanted = "ThreadPoolBuilder { num_threads: 0, use_current_thread: false, \
-        thread_name: None, stack_size: None, start_handler: None, environment: Environment { \
-        num_threads: None, num_cpus: Some(\"3\"), machine: Some(4) }, label: 0, \
-        unstarted_workers: false }";
-    prints(&rt, &builder, wanted);
-    let pool = built(&rt, builder.unstarted_workers());
-    same!(&rt, pool.current_num_threads(), 3);
-}
-
-#[test]
-fn what_is_set_wins_then_the_first_text_then_the_second(rt: HostRuntime) {
-    let four = NonZeroUsize::new(4);
-    for (at, set, first, second, machine, planned) in [
-        (1, 0, Some("0"), Some("7"), four, 4),
-        (2, 0, None, Some("7"), four, 7),
-        (3, 0, Some("x"), Some("7"), four, 7),
-        (4, 0, None, Some("0"), four, 4),
-        (5, 70_000, None, None, four, 65_535),
-        (6, 0, None, None, None, 1),
-        (7, 0, Some("3"), Some("7"), four, 3),
-        (8, 2, Some("3"), Some("7"), four, 2),
-    ] {
-        let found = planned_threads(set, first, second, machine);
-        row(&rt, at, found, planned);
-    }
 }
 
 fn five() -> u64 {

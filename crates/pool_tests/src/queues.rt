@@ -4,7 +4,6 @@ ghost use Rattle.std.specs.Prelude.{◌≡◌, ◌<◌, length, vec_len};
 use crate::checks::row;
 use parallel_pool::rayon::{JobDeque, JobQueues, JobSeat, Queue};
 use std::alloc::Global;
-use std::collections::VecDeque;
 use std::num::NonZeroUsize;
 use std::process::Abort;
 use test_support::same;
@@ -46,17 +45,4 @@ fn each_queue_has_jobs_of_its_own(rt: HostRuntime) {
     same!(&rt, seat.take(&rt, Queue::Broadcast(1)), Some(3));
     same!(&rt, seat.take(&rt, Queue::Injected), Some(2));
     row(&rt, 5, seat.take(&rt, Queue::Injected), None);
-}
-
-#[test]
-fn each_worker_gets_the_job_of_its_own(rt: HostRuntime) {
-    let (mut seat, _own) = two_workers(&rt, rt.alloc());
-    let mut jobs = VecDeque::new(rt.alloc());
-    jobs.push_back(7).expect(&rt, "memory");
-    jobs.push_back(8).expect(&rt, "memory");
-    assert!(rt; seat.push_each(&rt, jobs).is_ok());
-    same!(&rt, seat.take(&rt, Queue::Broadcast(1)), Some(8));
-    same!(&rt, seat.take(&rt, Queue::Broadcast(0)), Some(7));
-    row(&rt, 1, seat.take(&rt, Queue::Broadcast(0)), None);
-    row(&rt, 2, seat.take(&rt, Queue::Injected), None);
 }

@@ -58,7 +58,7 @@ pub(crate) fn nobody_works<R: Host>(rt: &R, at: &str) {
             break;
         }
     }
-    row(rt, at, is_quiet, true);
+    row(rt, ("others take no time", at), is_quiet, true);
 }
 
 #[test]
@@ -70,7 +70,12 @@ fn idle_workers_take_no_time(rt: HostRuntime) {
         let wanted = read(&led.tally.called).wrapping_add(1);
         let came = led.brings(&rt, brought, 1, Act::Adds(1));
         let is_called = becomes(&led.tally.called, wanted);
-        row(&rt, brought, (came, is_called), (true, true));
+        row(
+            &rt,
+            ("came, called", brought),
+            (came, is_called),
+            (true, true),
+        );
         let_it_sleep(&rt);
         nobody_works(&rt, "after a job");
     }
@@ -138,7 +143,8 @@ fn waits_quietly<R: Host, W: FnOnce() + Send, E: FnOnce() + Send>(rt: &R, at: &s
             let before = own_time(rt);
             wait();
             let is_quiet = own_time(rt).saturating_sub(before) < SHORT;
-            row(rt, at, (is_quiet, read(&passed)), (true, 1));
+            let of = (at, "took no time, ended by how many");
+            row(rt, of, (is_quiet, read(&passed)), (true, 1));
         },
         || {
             works(rt, LONG);

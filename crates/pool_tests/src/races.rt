@@ -50,7 +50,8 @@ fn comes_meanwhile<R: Host>(rt: &R, brought: Brought) -> (u64, u64) {
             soon = soon.wrapping_add(1);
         }
         let is_called = becomes(&led.tally.called, round);
-        row(rt, (brought, round), (came, is_called), (true, true));
+        let of = ("came, called", brought, round);
+        row(rt, of, (came, is_called), (true, true));
         looks_on(rt, &mut led, round % 48);
     }
     led.ends(rt);
@@ -75,7 +76,8 @@ fn each_of_many_sleepers_is_woken_once_its_job_is_there(rt: HostRuntime) {
             let came = led.brings(&rt, brought, target, Act::AddsAt(target));
             called = called.wrapping_add(1);
             let is_called = becomes(&led.tally.called, called);
-            row(&rt, (brought, target), (came, is_called), (true, true));
+            let of = ("came, called", brought, target);
+            row(&rt, of, (came, is_called), (true, true));
         }
     }
     led.ends(&rt);

@@ -1,17 +1,9 @@
 //! The state of the workers' sleep, by known words.
 use crate::checks::row;
-use parallel_pool::sleep::{Block, Counters, IdleState, SleepState};
+use parallel_pool::sleep::{Block, IdleState, SleepState};
 use std::num::NonZeroUsize;
 use std::process::Abort;
 use test_support::same;
-
-#[test]
-fn a_word_of_three_counts(rt: HostRuntime) {
-    let counters = Counters::new(1, 2, 3);
-    same!(&rt, counters.word(), 12_885_032_961);
-    let counts = (counters.sleeping(), counters.inactive(), counters.events());
-    same!(&rt, counts, (1, 2, 3));
-}
 
 // A worker that had work looks for more, and announces that it is sleepy.
 fn gets_sleepy(rt: &impl Abort, state: &mut SleepState, worker: usize) -> IdleState {
@@ -22,10 +14,10 @@ fn gets_sleepy(rt: &impl Abort, state: &mut SleepState, worker: usize) -> IdleSt
 }
 
 // A worker that looks for work tries to sleep.
-fn blocks(rt: &impl Abort, state: &mut SleepState, idle: &mut IdleState, injected: bool) -> Block {
+fn blocks(rt: &impl Abort, state: &mut SleepState, idle: &mut IdleState) -> Block {
     let worker = idle.worker_index();
     assert!(rt; state.is_inactive(worker) && !state.is_blocked(worker));
-    state.try_block(idle, injected)
+    state.try_block(idle, false)
 }
 
 // A worker that looks for work finds some.
@@ -44,41 +36,20 @@ fn workers_sleep_and_are_woken_from_the_lowest(rt: HostRuntime) {
     let mut first = gets_sleepy(&rt, &mut state, 0);
     let mut second = gets_sleepy(&rt, &mut state, 1);
     let mut third = gets_sleepy(&rt, &mut state, 2);
-    let blocked = blocks(&rt, &mut state, &mut first, false);
+    let blocked = blocks(&rt, &mut state, &mut first);
     row(&rt, "first", blocked, Block::Blocked);
-    let blocked = blocks(&rt, &mut state, &mut second, false);
+    let blocked = blocks(&rt, &mut state, &mut second);
     row(&rt, "second", blocked, Block::Blocked);
     row(&rt, "two sleep", state.counters().word(), 196_610);
     state.new_jobs(2, true);
     // (one worker looks for work already)
     row(&rt, "one is woken", state.woken(), [0].as_slice());
     row(&rt, "one sleeps", state.counters().word(), 4_295_163_905);
-    let blocked = blocks(&rt, &mut state, &mut third, false);
+    let blocked = blocks(&rt, &mut state, &mut third);
     row(&rt, "third", blocked, Block::Changed);
     same!(&rt, (third.rounds(), third.recorded()), (32, None));
     finds(&rt, &mut state, third);
     row(&rt, "the other is woken", state.woken(), [1].as_slice());
     row(&rt, "no one sleeps", state.counters().word(), 4_295_098_368);
     row(&rt, "it is awake", state.wake(1), false);
-}
-
-// One worker, with the greatest count of events: a job keeps it awake, and then it sleeps until it
-// is woken by its index.
-#[test]
-fn one_worker_stays_awake_for_a_job_and_is_woken_by_its_index(rt: HostRuntime) {
-    let most = 4_294_967_295;
-    let mut state = SleepState::new(rt.alloc(), NonZeroUsize::MIN, most).expect(&rt, "memory");
-    let mut idle = gets_sleepy(&rt, &mut state, 0);
-    let found = (idle.recorded(), state.counters().events());
-    same!(&rt, found, (Some(0), 0));
-    let kept = blocks(&rt, &mut state, &mut idle, true);
-    row(&rt, "a job", kept, Block::Injected);
-    same!(&rt, (state.is_blocked(0), state.wake(0)), (false, false));
-    row(&rt, "anew", state.announce_sleepy(&mut idle), 0);
-    let blocked = blocks(&rt, &mut state, &mut idle, false);
-    row(&rt, "no job", blocked, Block::Blocked);
-    // (there is no worker 1)
-    let woken = [state.wake(0), state.wake(0), state.wake(1)];
-    same!(&rt, woken, [true, false, false]);
-    same!(&rt, state.counters().word(), 65_536);
 }

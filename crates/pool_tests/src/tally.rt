@@ -33,7 +33,7 @@ where
 
 /// How many turns a test waits for another thread at most, each of which lets the others go on: so
 /// that a busy machine takes longer, and no test fails by that.
-pub(crate) const TURNS: u32 = 10_000_000;
+pub(crate) const TURNS: u32 = 3_000_000;
 
 /// Waits until a word is that much, for so many turns at most, and returns whether it is.
 pub(crate) fn becomes(word: &AtomicU64, wanted: u64) -> bool {
@@ -48,7 +48,12 @@ pub(crate) fn becomes(word: &AtomicU64, wanted: u64) -> bool {
 
 /// Stops the test where a word isn't that much in time.
 pub(crate) fn awaits(rt: &impl Abort, word: &AtomicU64, wanted: u64, what: &str) {
-    row(rt, what, becomes(word, wanted), true);
+    let found = if becomes(word, wanted) {
+        wanted
+    } else {
+        read(word)
+    };
+    row(rt, what, found, wanted);
 }
 
 /// By then a thread that was started sleeps where it is to wait: a worker yields 33 times before.

@@ -1,7 +1,6 @@
-//! Grids, packed words, and the pure machine of shares on whole plans.
+//! Grids, and the pure machine of shares on whole plans.
 use crate::checks::number;
 use commonware_parallel::shares::machine::{Event, Outcome, Plan, State, replay, step};
-use commonware_parallel::shares::{pack, unpack};
 use commonware_parallel::{Fault, Grid};
 use std::alloc::Global;
 use std::num::NonZeroUsize;
@@ -15,24 +14,6 @@ fn grid_of(rows: usize) -> Grid {
         rows,
         tile_cost: NonZeroUsize::MIN,
     }
-}
-
-#[test]
-fn grids_cost_their_longest_chain(rt: HostRuntime) {
-    let grid = grid_of(4);
-    let found = [1, 3, 5, 8].map(|workers: usize| {
-        grid.critical_path(
-            64,
-            NonZeroUsize::MIN.saturating_add(workers.saturating_sub(1)),
-        )
-    });
-    same!(
-        &rt,
-        found,
-        [(260, true), (89, false), (55, false), (35, false)]
-    );
-    let (index, cost, whole) = Grid::choose(&[grid, grid], 64, number(&rt, 8));
-    same!(&rt, (index, cost, whole), (0, 35, false));
 }
 
 #[test]
@@ -63,14 +44,6 @@ const EVENTS: [Event; 13] = [
     LOOK_0, LOOK_1, CLAIM_0, CLAIM_1, CLAIM_1, LOOK_1, CLAIM_1, LOOK_0, CLAIM_0, LOOK_1, CLAIM_1,
     STEAL_0, LOOK_2,
 ];
-
-#[test]
-fn words_pack_a_range(rt: HostRuntime) {
-    same!(&rt, pack(3, 9), 196_617);
-    same!(&rt, unpack(196_617), (3, 9));
-    same!(&rt, unpack(0), (0, 0));
-    same!(&rt, unpack(4_294_967_295), (65_535, 65_535));
-}
 
 #[test]
 fn a_stale_claim_is_lost(rt: HostRuntime) {
@@ -107,7 +80,7 @@ fn a_stale_claim_is_lost(rt: HostRuntime) {
     same!(&rt, state.in_transit(1), None);
 }
 
-// A replay, and one claim by steps, return what they always do, or want of memory. Run with each
+// A replay, and one claim by steps, return what they always do, or `Memory`. Run with each
 // allocation failing in turn.
 fn replay_or_refusal(rt: &impl Abort, alloc: Global) {
     let plan = Plan::new(3, 2, number(rt, 1), number(rt, 2), true);

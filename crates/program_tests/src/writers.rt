@@ -7,7 +7,7 @@ use std::io;
 use std::io::{ErrorKind, Write};
 use std::process::Abort;
 
-// A writer that refuses each write.
+// A writer that fails at each write.
 #[derive(Drop)]
 struct Closed;
 

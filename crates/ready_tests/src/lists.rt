@@ -6,6 +6,7 @@ use parallel_calls::On;
 use std::alloc::Global;
 use std::cmp::Ordering;
 use std::sync::Wait;
+use std::sync::atomic::{AtomicU64, Ordering as Counting};
 use std::test::Fail;
 use std::thread::Threads;
 use test_strategies::{SITE, pool};
@@ -133,6 +134,25 @@ fn folds<Rt: Threads + Wait + Sync, S: Strategy>(
     Ok(least && most && sums && fits && top)
 }
 
+// Whether the calls by keys do, and whether each item is given to a closure once.
+fn keys<Rt: Threads + Wait + Sync, S: Strategy>(
+    on: &On<'_, Rt, S, Site>,
+    numbers: &[u64],
+) -> Result<bool, Fault> {
+    let items = Copies { slice: numbers };
+    let least = on.min_by_key(items, tens)? == numbers.iter().copied().min_by_key(tens);
+    let most = on.max_by_key(items, tens)? == numbers.iter().copied().max_by_key(tens);
+    let given = AtomicU64::new(0);
+    on.for_each(items, |number: u64| {
+        given.fetch_add(number.wrapping_add(1), Counting::SeqCst);
+    })?;
+    let mut expected = 0u64;
+    for number in numbers {
+        expected = expected.wrapping_add(number.wrapping_add(1));
+    }
+    Ok(least && most && given.load(Counting::SeqCst) == expected)
+}
+
 // Whether the sorts, and what is asked of an order, agree with std's.
 fn sorts<Rt: Threads + Wait + Sync, S: Strategy>(
     on: &On<'_, Rt, S, Site>,
@@ -153,7 +173,7 @@ fn sorts<Rt: Threads + Wait + Sync, S: Strategy>(
     Ok(stable && unstable && before && after)
 }
 
-// Whether the lists that a closure gives are joined in order.
+// Whether the lists that a closure gives are appended in order.
 fn joins<Rt: Threads + Wait + Sync, S: Strategy>(
     on: &On<'_, Rt, S, Site>,
     numbers: &[u64],
@@ -191,7 +211,7 @@ fn agrees<Rt: Threads + Wait + Sync, S: Strategy>(
         let same = match group {
             0 => finds(&on, items)?,
             1 => gathers(&on, items)?,
-            2 => folds(&on, items)?,
+            2 => folds(&on, items)? && keys(&on, items)?,
             3 => sorts(&on, items)?,
             _ => joins(&on, items)?,
         };

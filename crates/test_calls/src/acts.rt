@@ -37,7 +37,7 @@ pub enum Act {
     Tree(Rooted),
     /// A run of two bodies, which may fail or can't.
     Run(bool),
-    /// A job that is let go. It stands in no list, as it goes on aside.
+    /// A job that is dropped. It stands in no list, as it goes on aside.
     Job,
     /// A rest for a while, in which a call would have ended.
     Rest,
@@ -59,11 +59,11 @@ const ASIDE: [Act; 21] = [
     Act::Batch(Batched::TryBatch, 1),
     Act::Batch(Batched::Change, 1),
     Act::Fill(Filling::Stretches, 10),
-    Act::Fill(Filling::Rows, 10),
     Act::Fill(Filling::Kernel, 10),
     Act::Tree(Rooted::ByLevels),
     Act::Tree(Rooted::ByBlocks),
     Act::Tree(Rooted::OfLeaves),
+    Act::Tree(Rooted::OfLeavesByLevels),
     Act::Run(false),
     Act::Run(true),
 ];

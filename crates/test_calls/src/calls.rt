@@ -7,7 +7,7 @@ use commonware_parallel::{Fault, Runtime, Site, Source, Strategy, Trouble};
 use std::alloc::Global;
 use test_strategies::SITE;
 
-/// A list call of one place, which is the strategy's of that name, or one that stands on these.
+/// A list call at one site, which is the strategy's of that name, or one that stands on these.
 #[derive(Clone, Copy, Debug)]
 pub enum Called {
     Map,
@@ -50,11 +50,11 @@ pub struct Here<'a, Rt, S> {
     pub alloc: Global,
     /// The strategy.
     pub strategy: &'a S,
-    /// The place that they are made from.
+    /// Their call site.
     pub site: Site,
 }
 
-/// The same of such a strategy, at the place that the tests call from.
+/// The same of such a strategy, at the tests' call site.
 pub fn called_here<'a, Rt: Host, S>(rt: &'a Rt, strategy: &'a S) -> Here<'a, Rt, S> {
     let (alloc, site) = (rt.alloc(), SITE);
     Here {

@@ -1,5 +1,5 @@
-//! One list of calls, one of sources and one of strategies for the tests, and what the closures of a
-//! call do.
+//! One list of calls, one of sources and one of strategies for the tests, and what the closures of
+//! a call do.
 #![tactic(auto)]
 
 pub mod acts;

@@ -9,7 +9,7 @@ use crate::ready::calls_of;
 use crate::sources::{LOST, zeros};
 use crate::steps::{cells_counted, no_count};
 use crate::visits::Visitor;
-use commonware_parallel::merkle::{root, root_by_blocks, root_of_leaves};
+use commonware_parallel::merkle::{root, root_by_blocks, root_of_leaves, root_of_leaves_by_levels};
 use commonware_parallel::{Batches, Fault, Grid, Runtime, Site, Strategy, Tiles, Trouble};
 use std::alloc::Global;
 use std::cmp::Ordering;
@@ -223,11 +223,10 @@ pub fn run_batch<Rt: Runtime, S: Strategy>(
     }
 }
 
-/// How tiles are filled: with a result for each stretch or for each row, or by a kernel by row.
+/// How tiles are filled: with a result for each stretch, or by a kernel by row.
 #[derive(Clone, Copy, Debug)]
 pub enum Filling {
     Stretches,
-    Rows,
     Kernel,
 }
 
@@ -236,12 +235,11 @@ fn tile_cost() -> NonZeroUsize {
     above_none(8)
 }
 
-// The results of tiles whose fills visit, for each row or not.
+// The results of tiles whose fills visit.
 fn fill_tiles<Rt: Runtime, S: Strategy>(
     rt: &Rt,
     alloc: Global,
     tiles: Tiles<'_, S, Site>,
-    filling: Filling,
     visited: Visitor<'_>,
 ) -> Result<(), Fault> {
     let begin = || {
@@ -252,12 +250,7 @@ fn fill_tiles<Rt: Runtime, S: Strategy>(
         let _ = visited.visit();
         *count = count.saturating_add(columns.len());
     };
-    let filled = if matches!(filling, Filling::Rows) {
-        tiles.fill_merge_collect_vec(rt, alloc, begin, fill, cells_counted, usize::wrapping_add)
-    } else {
-        tiles.fill_collect_vec(rt, alloc, begin, fill, cells_counted)
-    };
-    let _ = filled?;
+    let _ = tiles.fill_collect_vec(rt, alloc, begin, fill, cells_counted)?;
     Ok(())
 }
 
@@ -302,7 +295,7 @@ pub fn fill<Rt: Runtime, S: Strategy>(
         return Err(Trouble::Fault(Fault::Memory));
     }
     let (rt, alloc, site) = (on.rt, on.alloc, on.site);
-    let run = |tiles: Tiles<'_, S, Site>| fill_tiles(rt, alloc, tiles, filling, visited);
+    let run = |tiles: Tiles<'_, S, Site>| fill_tiles(rt, alloc, tiles, visited);
     let held = visited.holds(alloc);
     let filled = on.strategy.run_tiles(rt, alloc, site, len, &grids, 5, run);
     drop(held);
@@ -315,6 +308,7 @@ pub enum Rooted {
     ByLevels,
     ByBlocks,
     OfLeaves,
+    OfLeavesByLevels,
 }
 
 // A node of a tree.
@@ -355,13 +349,16 @@ fn combine<Rt: Runtime, S: Strategy, T: Node>(
         Rooted::OfLeaves => {
             root_of_leaves(rt, alloc, on.strategy, site, leaves, |leaf: T| leaf, node)
         }
+        Rooted::OfLeavesByLevels => {
+            root_of_leaves_by_levels(rt, alloc, on.strategy, site, leaves, |leaf: T| leaf, node)
+        }
     };
     drop(held);
     done(found)
 }
 
 /// The root of a tree of that many leaves. It fails by an error of its own where not each node was
-/// let go once.
+/// dropped once.
 pub fn tree<Rt: Runtime, S: Strategy>(
     on: &Here<'_, Rt, S>,
     rooted: Rooted,

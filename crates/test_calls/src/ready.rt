@@ -96,7 +96,7 @@ impl Ready {
     }
 }
 
-/// The calls of that place.
+/// The calls at that site.
 pub fn calls_of<'a, Rt, S>(here: &Here<'a, Rt, S>) -> On<'a, Rt, S, Site> {
     let Here {
         rt,

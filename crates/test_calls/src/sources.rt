@@ -213,7 +213,7 @@ fn over_parts<Rt: Runtime, S: Strategy>(
 }
 
 // The call over counted items: a vector, its iterator or its pairs. It fails by an error of its own
-// where not each of them was let go once.
+// where not each of them was dropped once.
 fn over_counted<Rt: Runtime, S: Strategy>(
     on: &Here<'_, Rt, S>,
     called: Called,
@@ -274,7 +274,7 @@ fn over_slice<Rt: Runtime, S: Strategy>(
     }
 }
 
-/// The error of a call that doesn't let each item go once.
+/// The error of a call that doesn't drop each item once.
 pub const LOST: u32 = 1000;
 
 /// The call over such a source of that many items: one that the table has.

@@ -6,7 +6,7 @@ use std::alloc::Global;
 use std::num::NonZeroUsize;
 use std::thread::Threads;
 
-/// The place that the tests call from.
+/// The call site of the tests.
 pub const SITE: Site = Site {
     file: "tests",
     line: 1,

@@ -1,37 +1,26 @@
-//! Items that are counted, of which one may fail.
+//! Items that are counted.
 use std::alloc::Global;
 use std::sync::atomic::{AtomicU64, Ordering};
 
-/// Counts those that were made and those that were let go, and says at which place one fails.
+/// Counts those that were made and those that were dropped.
 #[derive(Drop)]
 pub struct Counts {
     made: AtomicU64,
     gone: AtomicU64,
-    pub fails: usize,
 }
 
 impl Counts {
     pub fn new() -> Counts {
-        Counts::failing(usize::MAX)
-    }
-
-    pub fn failing(fails: usize) -> Counts {
         Counts {
             made: AtomicU64::new(0),
             gone: AtomicU64::new(0),
-            fails,
         }
     }
 
-    /// How many were made.
-    pub fn made(&self) -> u64 {
-        self.made.load(Ordering::SeqCst)
-    }
-
-    /// How many are there, or near 2 to the power of 64 where some were let go twice.
+    /// How many are there, or near 2 to the power of 64 where some were dropped twice.
     pub fn left(&self) -> usize {
         let gone = self.gone.load(Ordering::SeqCst);
-        self.made().wrapping_sub(gone) as usize
+        self.made.load(Ordering::SeqCst).wrapping_sub(gone) as usize
     }
 }
 
@@ -71,31 +60,4 @@ pub fn counted_items<'a>(
         items.push(Counted::new(counts, place)).ok()?;
     }
     Some(items)
-}
-
-/// A further value for an item, or the item's place where it is the one that fails.
-pub fn again_of<'a>(item: &Counted<'a>) -> Result<Counted<'a>, usize> {
-    if item.place == item.counts.fails {
-        Err(item.place)
-    } else {
-        Ok(item.at(item.place))
-    }
-}
-
-/// The same, which takes the item.
-pub fn again(item: Counted<'_>) -> Result<Counted<'_>, usize> {
-    again_of(&item)
-}
-
-/// One more, by a further value for the item.
-pub fn count_again(count: usize, item: Counted<'_>) -> Result<usize, usize> {
-    match again(item) {
-        Ok(_) => Ok(count.wrapping_add(1)),
-        Err(place) => Err(place),
-    }
-}
-
-/// A further value for two, of the greater one's place.
-pub fn greater<'a>(left: Counted<'a>, right: Counted<'a>) -> Counted<'a> {
-    left.at(left.place.max(right.place))
 }

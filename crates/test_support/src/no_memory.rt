@@ -1,5 +1,5 @@
 //! A machine without memory, as a test makes it: it takes all the addresses that the process may
-//! have, untouched, and then each request is refused until some of them are let go.
+//! have, untouched, and then each request is refused until some of them are given back.
 //!
 //! Where allocations are checked, as by `rt try`, small requests are granted from a store without
 //! end: there is no such machine then, but one that has no place for large blocks.
@@ -31,6 +31,11 @@ pub fn all_places(alloc: Global) -> Option<Vec<Vec<u8>>> {
     Some(held)
 }
 
+/// Holds the places for blocks of 1 MiB and more that were given back meanwhile.
+pub fn hold_places(alloc: Global, held: &mut Vec<Vec<u8>>) {
+    let _is_end = take_all(alloc, 1 << 20, 60_000, held);
+}
+
 /// All memory that is left, in blocks of all sizes: while they are held, each request is refused.
 /// None where memory has no end.
 pub fn all_memory(alloc: Global) -> Option<Vec<Vec<u8>>> {
@@ -55,4 +60,18 @@ pub fn hold_rest(alloc: Global, held: &mut Vec<Vec<u8>>) -> bool {
         }
     }
     true
+}
+
+/// The bytes that a call is left at most, of which each try that was refused gives it some more.
+pub const ROOM: usize = 16_384;
+
+/// The greatest block, of up to a size, that is still to be had.
+pub fn greatest_block(alloc: Global, most: usize) -> Vec<u8> {
+    for step in 0..1200usize {
+        let size = most.saturating_sub(step.saturating_mul(16));
+        if let Ok(block) = Vec::with_capacity(alloc, size) {
+            return block;
+        }
+    }
+    Vec::new(alloc)
 }

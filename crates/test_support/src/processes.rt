@@ -1,4 +1,4 @@
-//! The numbers that Linux gives to processes and threads.
+//! The numbers that Linux gives to processes and threads, and its counts of this process.
 use std::alloc::AllocGlobal;
 use std::fs;
 use std::rt::Files;
@@ -29,4 +29,13 @@ pub fn last_number<Rt: Files + AllocGlobal>(rt: &Rt) -> u64 {
 /// That of this thread.
 pub fn own_number<Rt: Files + AllocGlobal>(rt: &Rt) -> u64 {
     number_in(rt, "/proc/thread-self/stat", false)
+}
+
+/// How many KiB this process has of that, by Linux's own counts: of addresses, now (`VmSize:`) or at
+/// most (`VmPeak:`), or of memory that is of no file (`RssAnon:`).
+pub fn kibibytes<Rt: Files + AllocGlobal>(rt: &Rt, name: &str) -> Option<u64> {
+    let status = fs::read_to_string(rt, "/proc/self/status").ok()?;
+    let line = status.lines().find(|line| line.starts_with(name))?;
+    let count = line.trim_start_matches(name).trim_end_matches("kB");
+    count.trim().parse::<u64>().ok()
 }
