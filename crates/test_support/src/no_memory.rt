@@ -31,11 +31,6 @@ pub fn all_places(alloc: Global) -> Option<Vec<Vec<u8>>> {
     Some(held)
 }
 
-/// Holds the places for blocks of 1 MiB and more that were given back meanwhile.
-pub fn hold_places(alloc: Global, held: &mut Vec<Vec<u8>>) {
-    let _is_end = take_all(alloc, 1 << 20, 60_000, held);
-}
-
 /// All memory that is left, in blocks of all sizes: while they are held, each request is refused.
 /// None where memory has no end.
 pub fn all_memory(alloc: Global) -> Option<Vec<Vec<u8>>> {
