@@ -89,8 +89,8 @@ const ROWS: [(usize, usize, usize, Option<usize>); 8] = [
     (0, 8, 0, None),
 ];
 
-// Which call is asked for the eight items: their results written on that many threads, halved three
-// times over, or one of the calls that gather them.
+// Which call is asked for the eight items, each a segment: their results written on that many threads,
+// four to seven, or one of the calls that gather them.
 #[derive(Clone, Copy, Debug)]
 enum Asked {
     Fill(usize),
@@ -128,7 +128,7 @@ fn trouble<Rt: Threads + Sync + Abort>(
         Asked::Fill(threads) => {
             let (room, home) = Home::reserve(alloc, 8).expect(rt, "memory");
             let writer = TryMapWriter { map_op: &answer };
-            let (room, done) = fill(rt, alloc, 3, threads, parts, &writer, room);
+            let (room, done) = fill(rt, alloc, number(rt, threads), parts, &writer, room);
             home.free(room);
             done.err()
         }
@@ -153,9 +153,9 @@ fn trouble<Rt: Threads + Sync + Abort>(
 #[test]
 fn the_leftmost_trouble_is_answered_by_each_call_and_on_each_number_of_threads(rt: HostRuntime) {
     for asked in [
-        Asked::Fill(1),
-        Asked::Fill(2),
         Asked::Fill(4),
+        Asked::Fill(5),
+        Asked::Fill(7),
         Asked::Map,
         Asked::Bridge,
         Asked::Fold,

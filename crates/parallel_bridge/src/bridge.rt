@@ -14,7 +14,6 @@ use crate::halt::Halt;
 use crate::parts::Parts;
 use crate::plumbing::{Consumer, Reducer};
 use crate::segment::Segment;
-use crate::segments::depth_of;
 use crate::troubles::{put_together, unhalt};
 use crate::watch::{Unwatched, Watch};
 use crate::watched::Watched;
@@ -51,8 +50,7 @@ pub fn bridge<Rt: Threads + Sync, P: Parts, C: Consumer<P::Item> + Send>(
     ensures by_items { (xs : List P.Item) → 0 < length xs
         → length (leaf_lengths (Shape (cutdepth (non_zero_usize_get threads)) xs)) ≤ length xs }
 {
-    let depth = depth_of(threads);
-    let (done, _) = bridge_watched(rt, alloc, depth, threads.get(), parts, consumer, Unwatched);
+    let (done, _) = bridge_watched(rt, alloc, threads, parts, consumer, Unwatched);
     unhalt(done)
 }
 
@@ -61,8 +59,7 @@ pub fn bridge<Rt: Threads + Sync, P: Parts, C: Consumer<P::Item> + Send>(
 pub fn bridge_watched<Rt: Threads + Sync, P: Parts, C: Consumer<P::Item> + Send, G: Watch + Send>(
     rt: &Rt,
     alloc: Global,
-    depth: usize,
-    threads: usize,
+    threads: NonZeroUsize,
     parts: P,
     consumer: C,
     watch: G,
@@ -71,7 +68,7 @@ pub fn bridge_watched<Rt: Threads + Sync, P: Parts, C: Consumer<P::Item> + Send,
     requires items { (x : P.Item) → P.may parts x → C.takes consumer x }
     requires watch { G.may watch (P.count parts) }
     ensures along { Driven P.gives parts (halting (C.leaf_gives consumer))
-        (λ a. unstopped (C.node_gives consumer a)) depth result.0 }
+        (λ a. unstopped (C.node_gives consumer a)) (cutdepth (non_zero_usize_get threads)) result.0 }
     ensures ends { G.ends watch (P.count parts) result.1 (ending_of result.0) }
 {
     let (segment, home) = match parts.into_segment(alloc) {
@@ -84,7 +81,7 @@ pub fn bridge_watched<Rt: Threads + Sync, P: Parts, C: Consumer<P::Item> + Send,
         watch,
         items: PhantomData,
     };
-    let (answer, rest, watch) = drive(rt, alloc, depth, threads, handing);
+    let (answer, rest, watch) = drive(rt, alloc, threads, handing);
     P::put_away(home, rest);
     (answer, watch)
 }

@@ -1,8 +1,12 @@
 //! What goes along the shape of a list, whatever the parts of the list are and whatever is made of
 //! them: a task is split in two, the halves likewise, and the parts run side by side.
 ghost use Rattle.std.specs.Prelude.{◌≡◌, ◌-◌, ◌<◌, ◌≤◌, ℕ, IfErr, IfOk, IsTrue, false};
+ghost use Rattle.std.specs.Int.NonZero.{non_zero_usize_get};
+ghost use Rattle.parallel_bridge.specs.Shapes.{cutdepth};
 
+use crate::segments::depth_of;
 use std::alloc::Global;
+use std::num::NonZeroUsize;
 use std::thread::Threads;
 
 mod loads;
@@ -64,19 +68,19 @@ pub trait Task: Send + Sized + Drop {
         ensures { together seam left right result };
 }
 
-/// What a task comes to that is halved at most `depth` times over, with that many threads to share,
-/// of which the caller's is one. Where no thread is to be shared, or no memory is there for a list
-/// of what each thread gets, it goes by the caller's thread alone.
+/// What a task comes to that is cut for that many threads, of which the caller's is one. Where that
+/// is the only one, or no memory is there for a list of what each thread gets, it goes by the
+/// caller's thread alone.
 pub fn drive<Rt: Threads + Sync, T: Task>(
     rt: &Rt,
     alloc: Global,
-    depth: usize,
-    threads: usize,
+    threads: NonZeroUsize,
     task: T,
 ) -> T::Done
     requires { T.ready task }
-    ensures { T.ends depth task result }
+    ensures { T.ends (cutdepth (non_zero_usize_get threads)) task result }
 {
+    let (depth, threads) = (depth_of(threads), threads.get());
     if threads < 2 || task.is_leaf(depth) {
         return drive_alone(alloc, depth, task);
     }

@@ -1,12 +1,14 @@
 //! Lists whose results are written where they stay, in memory that is reserved before any segment
 //! starts.
 ghost use Rattle.std.specs.Prelude.{◌≡◌, ◌+◌, ◌<◌, ◌≤◌, ◌⊎◌, List, IfOk, length};
+ghost use Rattle.std.specs.Int.NonZero.{non_zero_usize_get};
 ghost use Rattle.std.specs.List.{Contains};
 ghost use Rattle.std.specs.Vec.Ownership.{FitsInBlock};
 ghost use Rattle.parallel_bridge.specs.Endings.{ending_of};
 ghost use Rattle.parallel_bridge.specs.Fills.{Answered, Fillable, Filled, IsFull, OneAfterAnother, written};
 ghost use Rattle.parallel_bridge.specs.Halting.{halting};
 ghost use Rattle.parallel_bridge.specs.Outcomes.{PutTogether};
+ghost use Rattle.parallel_bridge.specs.Shapes.{cutdepth};
 ghost use Rattle.parallel_bridge.specs.Windows.{Follows};
 
 use crate::drive::{Task, drive};
@@ -21,6 +23,7 @@ use crate::window::part::Window;
 use parallel_fault::Trouble;
 use std::alloc::Global;
 use std::marker::PhantomData;
+use std::num::NonZeroUsize;
 use std::thread::Threads;
 
 pub mod map;
@@ -29,13 +32,12 @@ pub mod try_map;
 pub mod writer;
 
 /// Writes the results for the items of a list into the room for them, where the segments of the
-/// list's shape, halved at most `depth` times over, run side by side. Where several segments fail,
-/// the leftmost one's error is returned; a refusal of memory may stand in its place.
+/// list's shape for that many threads run side by side. Where several segments fail, the leftmost
+/// one's error is returned; a refusal of memory may stand in its place.
 pub fn fill<Rt: Threads + Sync, P: Parts, W: Writer<P::Item> + Sync>(
     rt: &Rt,
     alloc: Global,
-    depth: usize,
-    threads: usize,
+    threads: NonZeroUsize,
     parts: P,
     writer: &W,
     room: Window<W::Answer>,
@@ -46,10 +48,10 @@ where
     W::State: Send,
     requires ready { W.ready writer.now }
     requires fits { Fillable W.Answer.row P.count P.may (W.takes writer.now) parts room }
-    ensures { Filled P.gives parts (Answered (W.so_far writer.now) (W.fails writer.now)) depth room
-        result.0 result.1 }
+    ensures { Filled P.gives parts (Answered (W.so_far writer.now) (W.fails writer.now))
+        (cutdepth (non_zero_usize_get threads)) room result.0 result.1 }
 {
-    let (room, done, _) = fill_watched(rt, alloc, depth, threads, parts, writer, room, Unwatched);
+    let (room, done, _) = fill_watched(rt, alloc, threads, parts, writer, room, Unwatched);
     (room, unhalt(done))
 }
 
@@ -58,8 +60,7 @@ where
 pub fn fill_watched<Rt: Threads + Sync, P: Parts, W: Writer<P::Item> + Sync, G: Watch + Send>(
     rt: &Rt,
     alloc: Global,
-    depth: usize,
-    threads: usize,
+    threads: NonZeroUsize,
     parts: P,
     writer: &W,
     room: Window<W::Answer>,
@@ -73,7 +74,8 @@ where
     requires fits { Fillable W.Answer.row P.count P.may (W.takes writer.now) parts room }
     requires watch { G.may watch (P.count parts) }
     ensures filled { Filled P.gives parts (halting
-        (Answered (W.so_far writer.now) (W.fails writer.now))) depth room result.0 result.1 }
+        (Answered (W.so_far writer.now) (W.fails writer.now))) (cutdepth (non_zero_usize_get threads)) room
+        result.0 result.1 }
     ensures ends { G.ends watch (P.count parts) result.2 (ending_of result.1) }
 {
     let (segment, home) = match parts.into_segment(alloc) {
@@ -87,7 +89,7 @@ where
         watch,
         items: PhantomData,
     };
-    let (room, done, rest, watch) = drive(rt, alloc, depth, threads, filling);
+    let (room, done, rest, watch) = drive(rt, alloc, threads, filling);
     P::put_away(home, rest);
     (room, done, watch)
 }

@@ -10,7 +10,6 @@ ghost use Rattle.commonware_parallel.specs.MerkleBlocks.{AreBlocks, AreTopsOf, C
 
 use crate::merkle::tops::next_top;
 use parallel_bridge::drive::drive;
-use parallel_bridge::segments::depth_of;
 use parallel_bridge::{Cursor, Home, Parts, Segment, Task, Window};
 use parallel_fault::Fault;
 use std::alloc::Global;
@@ -118,7 +117,7 @@ fn descend_into<
         combine,
         items: PhantomData,
     };
-    let (tops, done, rest) = drive(rt, alloc, depth_of(threads), threads.get(), whole);
+    let (tops, done, rest) = drive(rt, alloc, threads, whole);
     P::put_away(site, rest);
     (tops, done)
 }

@@ -9,7 +9,6 @@ ghost use Rattle.parallel_bridge.specs.Sources.{GivesSome};
 use crate::fill::fill;
 use crate::fill::map::MapWriter;
 use crate::parts::Parts;
-use crate::segments::depth_of;
 use crate::troubles::unfailing;
 use crate::window::home::Home;
 use parallel_fault::Fault;
@@ -63,8 +62,7 @@ pub fn map_parallel<
     let len = parts.len();
     let (room, home) = Home::reserve(alloc, len)?;
     let writer = MapWriter { map_op };
-    let depth = depth_of(threads);
-    let (answers, done) = fill(rt, alloc, depth, threads.get(), parts, &writer, room);
+    let (answers, done) = fill(rt, alloc, threads, parts, &writer, room);
     match unfailing(done) {
         Ok(()) => Ok(answers.into_vec(home)),
         Err(fault) => {

@@ -12,7 +12,6 @@ use crate::fill::fill;
 use crate::fill::map_init::MapInitWriter;
 use crate::parts::Parts;
 use crate::room::with_places;
-use crate::segments::depth_of;
 use crate::troubles::unfailing;
 use crate::window::home::Home;
 use parallel_fault::Fault;
@@ -84,8 +83,7 @@ pub fn map_init_parallel<
     let len = parts.len();
     let (room, home) = Home::reserve(alloc, len)?;
     let writer = MapInitWriter { init, map_op };
-    let depth = depth_of(threads);
-    let (answers, done) = fill(rt, alloc, depth, threads.get(), parts, &writer, room);
+    let (answers, done) = fill(rt, alloc, threads, parts, &writer, room);
     match unfailing(done) {
         Ok(()) => Ok(answers.into_vec(home)),
         Err(fault) => {

@@ -6,7 +6,6 @@ ghost use Rattle.parallel_bridge.specs.Parts.{keys_in, values_in};
 ghost use Rattle.parallel_bridge.specs.Windows.{part};
 
 use crate::drive::{Task, drive};
-use crate::segments::depth_of;
 use crate::window::block::Block;
 use crate::window::home::Home;
 use crate::window::part::Window;
@@ -52,17 +51,12 @@ pub(crate) fn put_in_lists<Rt: Threads + Sync, U: Send + Drop, K: Send + Drop>(
         values,
         keys,
     };
-    let (depth, threads) = sharing(threads, items);
-    let (values, keys) = drive(rt, alloc, depth, threads, moving);
+    let (values, keys) = if items < LONG {
+        moving.run(alloc)
+    } else {
+        drive(rt, alloc, threads, moving)
+    };
     Ok((values.into_vec(value_home), keys.into_vec(key_home)))
-}
-
-// How often the segments' lists are halved, and how many threads share them.
-fn sharing(threads: NonZeroUsize, items: usize) -> (usize, usize) {
-    if items < LONG {
-        return (0, 1);
-    }
-    (depth_of(threads), threads.get())
 }
 
 // Lists of segments, with the room for all their values and that for their keys.

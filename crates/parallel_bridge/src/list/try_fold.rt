@@ -15,7 +15,6 @@ use crate::domain::Domain;
 use crate::gate::watch::seats_for;
 use crate::gate::{Gate, GateWatch};
 use crate::parts::Parts;
-use crate::segments::depth_of;
 use crate::troubles::unhalt;
 use parallel_fault::Trouble;
 use std::alloc::Global;
@@ -145,8 +144,7 @@ fn try_fold_among<
         seat,
         start: 0,
     };
-    let depth = depth_of(threads);
-    let (done, watch) = bridge_watched(rt, alloc, depth, threads.get(), parts, folding, watch);
+    let (done, watch) = bridge_watched(rt, alloc, threads, parts, folding, watch);
     let seat = watch.seat;
     gate.close_joined(seat);
     unhalt(done)

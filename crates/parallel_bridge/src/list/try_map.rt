@@ -14,7 +14,6 @@ use crate::gate::watch::seats_for;
 use crate::gate::{Gate, GateWatch};
 use crate::parts::Parts;
 use crate::room::with_places;
-use crate::segments::depth_of;
 use crate::troubles::unhalt;
 use crate::window::home::Home;
 use parallel_fault::{Fault, Trouble};
@@ -79,22 +78,12 @@ pub fn try_map_parallel<
     let (gate, seat) = Gate::open(alloc, seats_for(len))?;
     let (room, home) = Home::reserve(alloc, len)?;
     let writer = TryMapWriter { map_op };
-    let depth = depth_of(threads);
     let watch = GateWatch {
         gate: &gate,
         seat,
         start: 0,
     };
-    let (values, done, watch) = fill_watched(
-        rt,
-        alloc,
-        depth,
-        threads.get(),
-        parts,
-        &writer,
-        room,
-        watch,
-    );
+    let (values, done, watch) = fill_watched(rt, alloc, threads, parts, &writer, room, watch);
     let seat = watch.seat;
     gate.close_joined(seat);
     match unhalt(done) {

@@ -1,5 +1,5 @@
 -- A list that nothing watches isn't stopped.
-use Rattle.parallel_bridge.proofs.{Answered}
+use Rattle.parallel_bridge.proofs.{Answered, cutdepth}
 use Rattle.parallel_bridge.proofs.Watches.{filled_unhalted, not_stopped}
 use Rattle.parallel_bridge.proofs.fill.fill.Goals as goal
 
@@ -11,5 +11,5 @@ pub returns : goal.returns
 returns g c =
     filled_unhalted g.P.Parts.gives c.args.parts
     (Answered (g.W.Writer.so_far c.args.writer.now) (g.W.Writer.fails c.args.writer.now))
-    c.args.depth c.args.room c.fill_watched-room.result.0 c.fill_watched-room.result.1
+    (cutdepth c.args.threads.value) c.args.room c.fill_watched-room.result.0 c.fill_watched-room.result.1
     c.unhalt.result c.unhalt.ensures c.fill_watched-room.ensures.filled

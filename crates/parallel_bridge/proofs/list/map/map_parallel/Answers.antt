@@ -1,12 +1,12 @@
 -- What was written into the segments' rooms, side by side, are the results for the list.
-use Rattle.parallel_bridge.proofs.{Infallible, MapOf, Shape, Driven, GivesSome, TryAlongCut, Ok, subst, sym, Answered, OneAfterAnother, written, filled_shape}
+use Rattle.parallel_bridge.proofs.{Infallible, MapOf, Shape, Driven, GivesSome, TryAlongCut, Ok, cutdepth, subst, sym, Answered, OneAfterAnother, written, filled_shape}
 use Rattle.parallel_bridge.proofs.list.map.map_parallel.Goals as goal
 
 pub returns-in-Ok-clause-maps : goal.returns-in-Ok-clause-maps
 returns-in-Ok-clause-maps g c =
     let allowed = goal.F-post g c.args.map_op.now in
     let leaf = Answered {S = Unit {0}} {E = Infallible} (λ l s ys. MapOf allowed l ys) (λ l e. ⊥) in
-    let gives = g.P.Parts.gives in let depth = c.depth_of-depth.result in
+    let gives = g.P.Parts.gives in let depth = cutdepth c.args.threads.value in
     let answers = c.fill-answers.result.0 in
     let w : GivesSome gives c.args.parts
     (λ xs. TryAlongCut leaf OneAfterAnother (Shape depth xs) (Ok answers.items)) =

@@ -1,5 +1,5 @@
 -- Each segment has a fresh state, and the results of two parts are one after another.
-use Rattle.parallel_bridge.proofs.{List, Ok, [], ◌≡◌, ◌++◌, refl, subst, sym, append-nil, Infallible, Shape, Driven, GivesSome, MapStep, StatesFrom, StateSegment, StatesAlong, TryAlongCut, Answered}
+use Rattle.parallel_bridge.proofs.{List, Ok, [], ◌≡◌, ◌++◌, refl, subst, sym, append-nil, Infallible, cutdepth, Shape, Driven, GivesSome, MapStep, StatesFrom, StateSegment, StatesAlong, TryAlongCut, Answered}
 use Rattle.parallel_bridge.proofs.{OneAfterAnother, written, along_unfailing, answers_along}
 use Rattle.parallel_bridge.proofs.list.map_init.map_init_parallel.Goals as goal
 
@@ -12,7 +12,7 @@ returns-in-Ok-clause-along g c =
     g.row.P-Item.Denot) (zs : List g.row.T.Denot) → StatesFrom step s more zs
     → StateSegment init step (l ++ more) (ys ++ zs) in
     let leaf = Answered {E = Infallible} so_far (λ l e. ⊥) in let gives = g.P.Parts.gives in
-    let depth = c.depth_of-depth.result in let answers = c.fill-answers.result.0 in
+    let depth = cutdepth c.args.threads.value in let answers = c.fill-answers.result.0 in
     let w : GivesSome gives c.args.parts
     (λ xs. TryAlongCut leaf OneAfterAnother (Shape depth xs) (Ok answers.items)) =
     subst (λ d. Driven gives c.args.parts leaf OneAfterAnother depth (written answers d))
@@ -23,9 +23,7 @@ returns-in-Ok-clause-along g c =
     (Ok answers.items) w.2 in (
       w.0,
       w.1,
-      subst (λ k. StatesAlong init step (Shape k w.0) c.into_vec.result.items)
-          c.depth_of-depth.ensures.digits
-          (subst (StatesAlong init step (Shape depth w.0)) (sym c.into_vec.ensures)
+      subst (StatesAlong init step (Shape depth w.0)) (sym c.into_vec.ensures)
           (along_unfailing Infallible (StateSegment init step) (λ a b c. c ≡ a ++ b)
-          (Shape depth w.0) answers.items each)),
+          (Shape depth w.0) answers.items each),
     )

@@ -1,6 +1,6 @@
 -- The outcome of each segment is reduced after an identity, unless it is an error, and no stop
 -- stands.
-use Rattle.parallel_bridge.proofs.{GivesSome, IfOk, List, OnlyOk, ReducesTo, Result, Shape, TryAlong, TryAlongCut, TryFoldSegment, UnlessRefused, [], ◌∷◌, ◌∙◌, ap, arith, stands_for, subst, sym}
+use Rattle.parallel_bridge.proofs.{GivesSome, IfOk, List, OnlyOk, ReducesTo, Result, Shape, TryAlong, TryAlongCut, TryFoldSegment, [], ◌∷◌, ◌∙◌, ap, arith, cutdepth, stands_for, sym}
 use Rattle.parallel_bridge.proofs.{driven_unhalted, try_fold_driven, unless_weaker, unstopped}
 use Rattle.parallel_bridge.proofs.Feeds.{unstopped_halts}
 use Rattle.parallel_bridge.proofs.Watches.{fresh_watch, list_unstopped, not_stopped}
@@ -33,7 +33,7 @@ returns g c =
     let identity = goal.ID-post g c.args.identity.now in
     let step = goal.F-post g c.args.fold_op.now in
     let reduce = goal.G-post g c.args.reduce_op.now in let gives = g.P.Parts.gives in
-    let parts = c.args.parts in let depth = c.depth_of-depth.result in
+    let parts = c.args.parts in let depth = cutdepth c.args.threads.value in
     let result = c.unhalt.result in let has = g.D.Domain.has in
     let leaf =
     λ (xs : List g.row.P-Item.Denot) (out : Result g.row.R.Denot g.row.E.Denot).
@@ -42,9 +42,7 @@ returns g c =
     let node =
     λ (p : g.row.R.Denot) (q : g.row.R.Denot). OnlyOk (λ r. reduce p q r × has r) in
     record {
-      along = subst (λ k. UnlessRefused result (λ out. GivesSome gives parts
-          (λ xs. TryAlong identity step reduce (Shape k xs) out))) c.depth_of-depth.ensures.digits
-          (unless_weaker result
+      along = unless_weaker result
           (λ out. GivesSome gives parts (λ xs. TryAlongCut leaf node (Shape depth xs) out))
           (λ out. GivesSome gives parts
           (λ xs. TryAlong identity step reduce (Shape depth xs) out))
@@ -56,5 +54,5 @@ returns g c =
           ))
           (driven_unhalted leaf node (λ p. unstopped (node p)) (λ p. unstopped_halts (node p))
           gives parts depth c.bridge_watched-done.result.0 result
-          c.bridge_watched-done.ensures.along c.unhalt.ensures));
+          c.bridge_watched-done.ensures.along c.unhalt.ensures);
     }

@@ -1,5 +1,5 @@
 -- What was written into the segments' rooms, side by side, or the leftmost error, which is no stop.
-use Rattle.parallel_bridge.proofs.{Shape, Driven, GivesSome, EachOk, FirstErr, TryAlongCut, TryMapOf, Ok, subst, sym, ap, ◌∙◌, arith, Answered, OneAfterAnother, written, stands_for}
+use Rattle.parallel_bridge.proofs.{Shape, cutdepth, Driven, GivesSome, EachOk, FirstErr, TryAlongCut, TryMapOf, Ok, subst, sym, ap, ◌∙◌, arith, Answered, OneAfterAnother, written, stands_for}
 use Rattle.parallel_bridge.proofs.{tried_error, tried_shape}
 use Rattle.parallel_bridge.proofs.Watches.{filled_unhalted, fresh_watch, list_unstopped, not_stopped}
 use Rattle.parallel_bridge.specs.Endings.{ending_of}
@@ -30,7 +30,7 @@ pub returns-in-Ok : goal.returns-in-Ok
 returns-in-Ok g c =
     let allowed = goal.F-post g c.args.map_op.now in
     let leaf = Answered {S = Unit {0}} (λ l s ys. EachOk allowed l ys) (FirstErr allowed) in
-    let gives = g.P.Parts.gives in let depth = c.depth_of-depth.result in
+    let gives = g.P.Parts.gives in let depth = cutdepth c.args.threads.value in
     let values = c.fill_watched-values.result.0 in let done = c.fill_watched-values.result.1 in
     let after = c.unhalt.result in
     let all : Driven gives c.args.parts leaf OneAfterAnother depth (written values after) =
@@ -53,7 +53,7 @@ pub returns-in-Err : goal.returns-in-Err
 returns-in-Err g c =
     let allowed = goal.F-post g c.args.map_op.now in
     let leaf = Answered {S = Unit {0}} (λ l s ys. EachOk allowed l ys) (FirstErr allowed) in
-    let gives = g.P.Parts.gives in let depth = c.depth_of-depth.result in
+    let gives = g.P.Parts.gives in let depth = cutdepth c.args.threads.value in
     let values = c.fill_watched-values.result.0 in let done = c.fill_watched-values.result.1 in
     let after = c.unhalt.result in
     let all : Driven gives c.args.parts leaf OneAfterAnother depth (written values after) =
