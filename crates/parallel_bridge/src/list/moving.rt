@@ -51,12 +51,17 @@ pub(crate) fn put_in_lists<Rt: Threads + Sync, U: Send + Drop, K: Send + Drop>(
         values,
         keys,
     };
-    let (values, keys) = if items < LONG {
-        moving.run(alloc)
-    } else {
-        drive(rt, alloc, threads, moving)
-    };
+    let (values, keys) = drive(rt, alloc, sharing(threads, items), moving);
     Ok((values.into_vec(value_home), keys.into_vec(key_home)))
+}
+
+// How many threads share the segments' lists.
+fn sharing(threads: NonZeroUsize, items: usize) -> NonZeroUsize {
+    if items < LONG {
+        NonZeroUsize::MIN
+    } else {
+        threads
+    }
 }
 
 // Lists of segments, with the room for all their values and that for their keys.
