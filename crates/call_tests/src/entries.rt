@@ -232,8 +232,8 @@ fn refused_jobs(rt: &impl Test, strategy: &Rayon<Stepping>) -> u64 {
     panic!(rt; "no worker was refused")
 }
 
-// What a policy's samples of a key's jobs, of their hand-offs and of inline runs say.
-fn job_times(rt: &impl Test, policy: &Policy, key: Key) -> Option<[Option<u64>; 3]> {
+/// What a policy's samples of a key's jobs, of their hand-offs and of inline runs say.
+pub fn job_times(rt: &impl Test, policy: &Policy, key: Key) -> Option<[Option<u64>; 3]> {
     let entry = policy.spawn_entry(rt, key)?;
     let job = entry.estimate(SpawnSample::Job);
     let overhead = entry.estimate(SpawnSample::Overhead);

@@ -7,7 +7,8 @@
 ghost use Rattle.std.specs.Prelude.{⊤};
 
 use crate::checks::{Test, all_acts, equal, number, row};
-use commonware_parallel::policy::{Key, RunExecution, SpawnSample};
+use crate::entries::job_times;
+use commonware_parallel::policy::{Key, RunExecution};
 use commonware_parallel::{Job, Policy, Rayon, Strategy, Trouble};
 use futures::executor::block_on;
 use std::alloc::Global;
@@ -95,10 +96,10 @@ impl Asked {
         row(rt, of, written.as_str(), whole.as_str());
     }
 
-    // The time of runs in parallel that is kept at a key.
-    fn parallel_time(&self, rt: &impl Test, key: Key) -> Option<u64> {
-        let entry = self.policy.run_entry(rt, key).expect(rt, "an entry");
-        entry.estimate(RunExecution::Parallel)
+    // The time of runs in parallel that is kept at a key, where there is an entry.
+    fn parallel_time(&self, rt: &impl Test, key: Key) -> Option<Option<u64>> {
+        let entry = self.policy.run_entry(rt, key)?;
+        Some(entry.estimate(RunExecution::Parallel))
     }
 }
 
@@ -113,7 +114,7 @@ fn records(rt: &impl Test, act: Act) {
         let made = asked.make(rt, of, Visitor::Passes);
         readings = asked.follows(rt, key, readings);
         row(rt, of, (made, asked.readings()), (Ok(()), readings));
-        let entry = asked.twin.run_entry(rt, key).expect(rt, "an entry");
+        let entry = asked.twin.run_entry(rt, key).expect(rt, "the twin's entry");
         let alone = format!(in rt.alloc(); "{key:?}: {entry:?}").expect(rt, "memory");
         asked.has_runs(rt, of, alone.as_str());
     }
@@ -167,7 +168,7 @@ fn a_call_that_fails_records_nothing(rt: HostRuntime) {
             let made = asked.make(&rt, of, Visitor::FailsAt(&times, 0));
             let kept = asked.parallel_time(&rt, key_of(act, 16));
             let found = (made, asked.readings(), kept);
-            row(&rt, of, found, (Err(Trouble::Closure(7)), 1, None));
+            row(&rt, of, found, (Err(Trouble::Closure(7)), 1, Some(None)));
         }
     }
 }
@@ -182,7 +183,8 @@ fn tree_records(rt: &impl Test, rooted: Rooted, count: usize, calls: &[(usize, u
     let mut milliseconds = 1u64;
     for (len, work) in calls {
         let kept = asked.parallel_time(rt, Key::new(SITE, *len, *work, 4));
-        row(rt, of, kept, Some(milliseconds.wrapping_mul(MILLISECOND)));
+        let wanted = Some(Some(milliseconds.wrapping_mul(MILLISECOND)));
+        row(rt, of, (len, work, kept), (len, work, wanted));
         milliseconds = milliseconds.wrapping_add(4);
     }
 }
@@ -207,16 +209,6 @@ impl Asked {
         let job = self.policy.record_spawn_job(rt, key, 50 * MILLISECOND);
         let overhead = self.policy.record_spawn_overhead(rt, key, 10 * MILLISECOND);
         equal(rt, "known", (job, overhead), (Ok(()), Ok(())));
-    }
-
-    // The times of a job, its hand-off and an inline run.
-    fn job_times(&self, rt: &impl Test, key: Key) -> [Option<u64>; 3] {
-        let entry = self.policy.spawn_entry(rt, key).expect(rt, "an entry");
-        [
-            entry.estimate(SpawnSample::Job),
-            entry.estimate(SpawnSample::Overhead),
-            entry.estimate(SpawnSample::InlineRun),
-        ]
     }
 }
 
@@ -253,9 +245,9 @@ fn a_job_records_its_own_time_and_its_hand_off_once(rt: HostRuntime) {
     asked.knows_job(&rt, key);
     equal(&rt, "job", read_by_a_job(&rt, &asked), 2);
     // Chosen at 0, begun at 1 and ended at 9 milliseconds: the job took 8, and its hand-off 1.
-    let times = asked.job_times(&rt, key);
+    let times = job_times(&rt, &asked.policy, key);
     let known = [Some(41_600_000), Some(8_200_000), None];
-    equal(&rt, "times", times, known);
+    equal(&rt, "times", times, Some(known));
     equal(&rt, "readings", asked.readings(), 4);
     let of_runs = asked.policy.run_entry(&rt, key);
     equal(&rt, "runs", of_runs.is_none(), true);
@@ -275,12 +267,12 @@ fn a_job_that_runs_inline_records_its_own_time_alone(rt: HostRuntime) {
     }
     equal(&rt, "job", read_by_a_job(&rt, &asked), 2);
     // Begun at 1 and ended at 9 milliseconds.
-    let times = asked.job_times(&rt, key);
+    let times = job_times(&rt, &asked.policy, key);
     let known = [
         Some(50 * MILLISECOND),
         Some(10 * MILLISECOND),
         Some(2 * MILLISECOND),
     ];
-    equal(&rt, "times", times, known);
+    equal(&rt, "times", times, Some(known));
     equal(&rt, "readings", asked.readings(), 4);
 }

@@ -56,9 +56,12 @@ pub(crate) fn awaits(rt: &impl Abort, word: &AtomicU64, wanted: u64, what: &str)
     row(rt, what, found, wanted);
 }
 
-/// By then a thread that was started sleeps where it is to wait: a worker yields 33 times before.
-/// On a machine that is busy it may still be on its way.
+/// By then a thread that was started sleeps where it is to wait: a worker yields 33 times before,
+/// and on a machine that is busy each time takes long, as each one here does.
 pub(crate) fn let_it_sleep(rt: &impl Clock) {
+    for _ in 0..100u32 {
+        thread::yield_now();
+    }
     thread::sleep(rt, Duration::from_millis(30));
 }
 

@@ -1,5 +1,5 @@
 //! That a clock tells the time.
-use crate::checks::held;
+use crate::checks::equal;
 use commonware_parallel::{Clock, MonotonicClock};
 use std::thread;
 use std::time::{Duration, Instant};
@@ -16,7 +16,7 @@ fn a_monotonic_clock_tells_nanoseconds(rt: HostRuntime) {
         let passed = u128::from(clock.now().saturating_sub(first));
         let least = u128::from(waited).wrapping_mul(1_000_000);
         let most = before.elapsed(&rt).expect(&rt, "a time").as_nanos();
-        held(&rt, "at least what was waited", least <= passed);
-        held(&rt, "no more than another clock tells", passed <= most);
+        equal(&rt, "what was waited", passed.min(least), least);
+        equal(&rt, "what another clock tells", passed.max(most), most);
     }
 }

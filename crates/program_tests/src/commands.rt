@@ -325,10 +325,10 @@ fn least_by_command<Rt: Threads + Wait + Files + AllocGlobal + Abort + Sync>(
 fn the_programs_searches_and_its_drain_start_threads(rt: HostRuntime) {
     let alloc = rt.alloc();
     let least = least_by_command(&rt, alloc, "explore sum", "4950\n");
-    held(&rt, "explore sum", least >= 12);
+    equal(&rt, "explore sum: threads of 12", least.min(12), 12);
     let least = least_by_command(&rt, alloc, "drain 4 2", "0 1 2 3\n");
-    held(&rt, "drain", least > 0);
+    equal(&rt, "drain 4 2: threads of 1", least.min(1), 1);
     let line = widest(alloc, "root", 1_000).expect(&rt, "memory");
     let least = least_by_command(&rt, alloc, &line, "890209\n");
-    held(&rt, "root", least >= 75);
+    equal(&rt, "root of 1000: threads of 75", least.min(75), 75);
 }
