@@ -44,7 +44,7 @@ fn a_home_gives_its_block_back(rt: HostRuntime) {
 
 // How many KiB this process has of that: of addresses, now or at most, or of memory.
 fn kibibytes(rt: &impl Test, name: &str) -> u64 {
-    processes::kibibytes(rt, name).expect(rt, "a count")
+    processes::figure(rt, name).expect(rt, "a count")
 }
 
 // Makes a call some times, each closure of which does that. It fails where it says so.
@@ -80,7 +80,7 @@ enum Block {
 // memory, and a large one at once by the addresses.
 fn gives_back(rt: &impl Test, through: &Through, of: Row, fails: usize, kind: Block) {
     let (name, enough, turns) = match kind {
-        Block::Small | Block::Refused => ("RssAnon:", 24, 1000),
+        Block::Small | Block::Refused => ("RssAnon:", 16, 1000),
         _ => ("VmSize:", 40_000, 1),
     };
     let mut least = u64::MAX;
@@ -225,13 +225,7 @@ fn calls_leave_none(rt: &impl Test, way: Way) {
     }
     let through = through(rt, way);
     for act in all_acts(rt) {
-        // (fewer numbers are sorted by the caller alone)
-        let len = if matches!(act, Act::Sort(_)) {
-            16_384
-        } else {
-            40
-        };
-        let of = Row { way, act, len };
+        let of = Row { way, act, len: 40 };
         gives_back(rt, &through, of, usize::MAX, Block::Small);
         if act.may_fail() {
             gives_back(rt, &through, of, 0, Block::Small);
@@ -252,6 +246,20 @@ fn a_thousand_measured_calls_leave_no_block(rt: HostRuntime) {
 #[test]
 fn a_thousand_calls_on_two_threads_leave_no_block(rt: HostRuntime) {
     calls_leave_none(&rt, Way::Pool(2, 2));
+}
+
+// Numbers of two parts, as fewer are sorted by the caller alone. Their blocks leave room for small
+// ones of the calls after them, which aren't seen there.
+#[test]
+fn a_thousand_sorts_leave_no_block(rt: HostRuntime) {
+    for way in [Way::Pool(2, 2), Way::Learning(2, 0)] {
+        for act in all_acts(&rt) {
+            if matches!(act, Act::Sort(_)) && !stays(&rt) {
+                let of = Row::of(way, act, 16_384);
+                gives_back(&rt, &through(&rt, way), of, usize::MAX, Block::Small);
+            }
+        }
+    }
 }
 
 // Each call that is refused its results, over items that take no memory.

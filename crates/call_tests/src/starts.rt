@@ -99,12 +99,11 @@ fn a_long_partition_starts_its_threads_twice(rt: HostRuntime) {
     let way = Way::Pool(4, 4);
     for (len, twice) in [(131_071, 3), (131_072, 6)] {
         let of = Row::of(way, Act::List(Called::Partition, Given::OwnProducer), len);
-        row(
-            &rt,
-            of,
-            least_started(&rt, &through(&rt, way), of, twice),
-            twice,
-        );
+        let (through, mut least) = (through(&rt, way), u64::MAX);
+        for _ in 0..10u32 {
+            least = least.min(least_started(&rt, &through, of, twice));
+        }
+        row(&rt, of, least, twice);
     }
 }
 

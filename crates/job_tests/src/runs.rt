@@ -42,7 +42,7 @@ fn takes<Rt: Wait + Abort, S: Strategy>(
 fn a_run_takes_the_body_of_its_strategy(rt: HostRuntime) {
     let alloc = rt.alloc();
     same!(&rt, Sequential.run(SITE, 4, serial, parallel), "serial");
-    holds!(&rt, Sequential.try_run(SITE, 4, failed, answered) == Err(5));
+    same!(&rt, Sequential.try_run(SITE, 4, failed, answered), Err(5));
     takes(&rt, alloc, &Sequential, ("run", "Sequential", 1), "serial");
     for (threads, planned, body) in [
         (1, 1, "serial"),

@@ -29,7 +29,7 @@ use std::sync::atomic::{AtomicU64, Ordering};
 use std::thread::Threads;
 use test_support::counted::{Counted, Counts, counted_items};
 use test_support::no_memory::{ROOM, all_memory, greatest_block};
-use test_support::processes::kibibytes;
+use test_support::processes::figure;
 
 // How what needs no memory is used: it is made and dropped, and closed or used before.
 #[derive(Clone, Copy, Debug, PartialEq, Eq)]
@@ -303,9 +303,9 @@ fn make_many<R: Threads + Wait + Sync + Abort>(rt: &R, alloc: Global, called: Ca
 // By how many KiB the process grows meanwhile, once the stack has its pages.
 fn grows<R: Threads + Wait + Sync + Files + AllocGlobal + Abort>(rt: &R, called: Called) -> u64 {
     make_many(rt, rt.alloc(), called, MANY / 2);
-    let before = kibibytes(rt, "RssAnon:").expect(rt, "a count");
+    let before = figure(rt, "RssAnon:").expect(rt, "a count");
     make_many(rt, rt.alloc(), called, MANY);
-    let after = kibibytes(rt, "RssAnon:").expect(rt, "a count");
+    let after = figure(rt, "RssAnon:").expect(rt, "a count");
     after.saturating_sub(before)
 }
 

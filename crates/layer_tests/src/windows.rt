@@ -197,7 +197,7 @@ fn a_dropped_block_gives_its_memory_back(rt: HostRuntime) {
         }
         row(&rt, (len, pushes), heap.used() >= least, true);
         drop(block);
-        row(&rt, (len, pushes), heap.used(), 0);
+        row(&rt, ("bytes in use", len, pushes), heap.used(), 0);
     }
     let inner = Vec::from_slice(&heap, &[4u64; 100]).expect(&rt, "memory");
     let block = Block::from_vec(Vec::new(&heap)).push(inner);

@@ -92,10 +92,10 @@ fn what_is_not_prepared_is_not_mapped(rt: HostRuntime) {
     let four = number(&rt, 4);
     let batch = Batches::balanced(alloc, &strategy, SITE, 10, four).expect(&rt, "memory");
     let refused = batch.map_collect_vec(&rt, alloc, unprepared, map_op);
-    holds!(&rt, refused.err() == Some(Fault::Worker));
+    same!(&rt, refused.err(), Some(Fault::Worker));
     let batch = Batches::whole(alloc, &strategy, SITE, 10).expect(&rt, "memory");
     let refused = batch.try_map_collect_vec(&rt, alloc, unprepared, map_op);
-    holds!(&rt, refused.err() == Some(Trouble::Fault(Fault::Worker)));
+    same!(&rt, refused.err(), Some(Trouble::Fault(Fault::Worker)));
     same!(&rt, calls.load(Ordering::SeqCst), 0);
 }
 
@@ -126,11 +126,9 @@ fn ranges_or_second<Rt: Wait, S: Strategy>(
 fn a_batch_returns_its_closures_error(rt: HostRuntime) {
     let alloc = rt.alloc();
     let four = pool(&rt, alloc, 1, 4).expect(&rt, "a pool");
-    holds!(
-        &rt,
-        ranges_or_second(&rt, alloc, &four) == Err(Trouble::Closure(3))
-    );
-    holds!(&rt, ranges_or_second(&rt, alloc, &Sequential) == Ok(1));
+    let second = ranges_or_second(&rt, alloc, &four);
+    same!(&rt, second, Err(Trouble::Closure(3)));
+    same!(&rt, ranges_or_second(&rt, alloc, &Sequential), Ok(1));
     let whole = Sequential.run_batches(alloc, SITE, 16, number(&rt, 5), usize::MAX, |batches| {
         (batches.ranges() == [0..16].as_slice(), batches.site())
     });

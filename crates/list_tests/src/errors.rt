@@ -74,7 +74,7 @@ fn map_unsteadily<Rt: Threads + Wait + Sync, S: Strategy>(
 fn an_unsteady_closure_fails_by_an_error_of_its_own(rt: HostRuntime) {
     let alloc = rt.alloc();
     let serial = map_unsteadily(&rt, alloc, &Sequential, 50);
-    holds!(&rt, serial == (Err(Trouble::Closure(50)), 51));
+    same!(&rt, serial, (Err(Trouble::Closure(50)), 51));
     let four = pool(&rt, alloc, 4, 4).expect(&rt, "a pool");
     let (failed, calls) = map_unsteadily(&rt, alloc, &four, 50);
     let is_own = matches!(failed, Err(Trouble::Closure(call)) if 50 <= call && call < calls);
@@ -126,7 +126,7 @@ fn a_call_ends_at_its_first_error(rt: HostRuntime) {
     let two = pool(&rt, alloc, 2, 2).expect(&rt, "a pool");
     folds_come(&rt, alloc, &two, "a pool of two", Ok(13));
     let own = Sequential.try_fold(SITE, 6..8u32, zero, add_to_ten, add);
-    holds!(&rt, own == Err(7));
+    same!(&rt, own, Err(7));
     let own = Sequential.try_map_collect_vec(alloc, SITE, 0..100u32, square_or_fail);
-    holds!(&rt, own.err() == Some(Trouble::Closure(57)));
+    same!(&rt, own.err(), Some(Trouble::Closure(57)));
 }

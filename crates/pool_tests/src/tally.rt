@@ -8,28 +8,22 @@ use parallel_pool::rayon::{
 };
 use std::alloc::{AllocGlobal, Global};
 use std::process::Abort;
+use std::rt::Files;
 use std::sync::atomic::{AtomicU64, Ordering};
 use std::sync::{Arc, Wait};
 use std::thread::{self, Threads};
 use std::time::{Clock, CpuClock, Duration};
 use test_support::holds;
 
-/// What a test may do.
-pub(crate) trait Host: Threads
-    + Wait
-    + Abort
-    + Clock
-    + CpuClock
-    + AllocGlobal
-    + Copy
-    + Send
-    + Sync
-    + 'static {}
+/// What a thread of a test may do.
+pub(crate) trait Work: Threads + Wait + Abort + Send + Sync + 'static {}
 
-impl<R> Host for R
-where
-    R: Threads + Wait + Abort + Clock + CpuClock + AllocGlobal + Copy + Send + Sync + 'static,
-{}
+impl<R: Threads + Wait + Abort + Send + Sync + 'static> Work for R {}
+
+/// What a test may do.
+pub(crate) trait Host: Work + Clock + CpuClock + Files + AllocGlobal + Copy {}
+
+impl<R: Work + Clock + CpuClock + Files + AllocGlobal + Copy> Host for R {}
 
 /// How many turns a test waits for another thread at most, each of which lets the others go on: so
 /// that a busy machine takes longer, and no test fails by that.
@@ -56,8 +50,7 @@ pub(crate) fn awaits(rt: &impl Abort, word: &AtomicU64, wanted: u64, what: &str)
     row(rt, what, found, wanted);
 }
 
-/// By then a thread that was started sleeps where it is to wait: a worker yields 33 times before,
-/// and on a machine that is busy each time takes long, as each one here does.
+/// By then a thread that was started sleeps where it is to wait: a worker yields 33 times before.
 pub(crate) fn let_it_sleep(rt: &impl Clock) {
     for _ in 0..100u32 {
         thread::yield_now();

@@ -40,7 +40,7 @@ fn run<R: Threads + Wait + Abort + Sync>(rt: &R, alloc: Global, line: &str) -> O
     let Ok(mut err) = Vec::with_capacity(alloc, 64) else {
         return None;
     };
-    let status = command(rt, alloc, &words, &mut out, &mut err).expect(rt, "writers that write");
+    let status = command(rt, alloc, &words, &mut out, &mut err).expect(rt, line);
     Some(Ran {
         status,
         out: text_of(rt, out),

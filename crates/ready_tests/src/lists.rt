@@ -1,16 +1,14 @@
 //! Each call on 1,000 random lists through each strategy, against std's iterator.
+use crate::checks::{Host, row};
 use crate::random::Random;
 use commonware_parallel::mocks::{Explorer, Rule};
 use commonware_parallel::{Copies, Fault, Sequential, Site, Strategy};
 use parallel_calls::On;
 use std::alloc::Global;
 use std::cmp::Ordering;
-use std::sync::Wait;
 use std::sync::atomic::{AtomicU64, Ordering as Counting};
 use std::test::Fail;
-use std::thread::Threads;
 use test_strategies::{SITE, pool};
-use test_support::holds;
 
 // What is asked of a number.
 fn is_seventh(number: u64) -> bool {
@@ -62,86 +60,99 @@ fn with_half(alloc: Global, number: u64) -> Vec<u64> {
     both
 }
 
-// Whether the calls that look for items agree with std's.
-fn finds<Rt: Threads + Wait + Sync, S: Strategy>(
-    on: &On<'_, Rt, S, Site>,
-    numbers: &[u64],
-) -> Result<bool, Fault> {
+// Stops the test where the calls that look for items give others than std's.
+fn finds<Rt: Host, S: Strategy>(on: &On<'_, Rt, S, Site>, numbers: &[u64]) -> Result<(), Fault> {
     let items = Copies { slice: numbers };
-    let any = on.any(items, is_seventh)? == numbers.iter().any(is_seventh_at);
-    let all = on.all(items, is_seventh)? == numbers.iter().all(is_seventh_at);
-    let first = on.find_first(items, is_seventh_at)?;
-    let first = first == numbers.iter().copied().find(is_seventh_at);
-    let place = on.position_first(items, is_seventh)?;
-    let place = place == numbers.iter().position(is_seventh_at);
-    let value = on.find_map_first(items, half)? == numbers.iter().find_map(half_at);
-    Ok(any && all && first && place && value)
+    let is_any = numbers.iter().any(is_seventh_at);
+    row(on.rt, ("any", numbers), on.any(items, is_seventh)?, is_any);
+    let are_all = numbers.iter().all(is_seventh_at);
+    row(on.rt, ("all", numbers), on.all(items, is_seventh)?, are_all);
+    let found = on.find_first(items, is_seventh_at)?;
+    let first = numbers.iter().copied().find(is_seventh_at);
+    row(on.rt, ("find_first", numbers), found, first);
+    let found = on.position_first(items, is_seventh)?;
+    let place = numbers.iter().position(is_seventh_at);
+    row(on.rt, ("position_first", numbers), found, place);
+    let found = on.find_map_first(items, half)?;
+    let value = numbers.iter().find_map(half_at);
+    row(on.rt, ("find_map_first", numbers), found, value);
+    Ok(())
 }
 
 fn has_same_tens(left: &u64, right: &u64) -> bool {
     tens(left) == tens(right)
 }
 
-// Whether the first of each run stays, as a vector's own call leaves it.
-fn dedups<Rt: Threads + Wait + Sync, S: Strategy>(
-    on: &On<'_, Rt, S, Site>,
-    numbers: &[u64],
-) -> Result<bool, Fault> {
-    let kept = on.dedup_by(numbers, has_same_tens)?;
-    let mut expected = Vec::new(on.alloc);
-    expected.extend_from_slice(numbers)?;
-    expected.dedup_by(|item, before| has_same_tens(before, item));
-    Ok(kept.iter().copied().eq(expected.iter()))
+// A list of the same numbers.
+fn list_of(alloc: Global, numbers: &[u64]) -> Result<Vec<u64>, Fault> {
+    let mut list = Vec::new(alloc);
+    list.extend_from_slice(numbers)?;
+    Ok(list)
 }
 
-// Whether the calls that gather items agree with std's.
-fn gathers<Rt: Threads + Wait + Sync, S: Strategy>(
-    on: &On<'_, Rt, S, Site>,
-    numbers: &[u64],
-) -> Result<bool, Fault> {
+// The same of those that gather items; of a run the first one stays, as a vector's own call leaves
+// it.
+fn gathers<Rt: Host, S: Strategy>(on: &On<'_, Rt, S, Site>, numbers: &[u64]) -> Result<(), Fault> {
     let items = Copies { slice: numbers };
+    let (mut sevenths, mut halves) = (Vec::new(on.alloc), Vec::new(on.alloc));
+    for number in numbers {
+        if is_seventh(*number) {
+            sevenths.push(*number)?;
+        }
+        if let Some(half) = half(*number) {
+            halves.push(half)?;
+        }
+    }
     let count = on.count(items, is_seventh)?;
-    let count = count == numbers.iter().filter(|it| is_seventh_at(it)).count();
+    row(on.rt, ("count", numbers), count, sevenths.len());
     let kept = on.filter(items, is_seventh_at)?;
-    let kept = kept
-        .iter()
-        .eq(numbers.iter().filter(|it| is_seventh_at(it)));
-    let halves = on.filter_map(items, half)?;
-    let halves = halves
-        .iter()
-        .copied()
-        .eq(numbers.iter().filter_map(half_at));
-    Ok(count && kept && halves && dedups(on, numbers)?)
+    row(on.rt, ("filter", numbers), kept, sevenths);
+    let found = on.filter_map(items, half)?;
+    row(on.rt, ("filter_map", numbers), found, halves);
+    let kept = on.dedup_by(numbers, has_same_tens)?;
+    let mut firsts = Vec::new(on.alloc);
+    for number in numbers {
+        firsts.push(number)?;
+    }
+    firsts.dedup_by(|item, before| has_same_tens(before, item));
+    row(on.rt, ("dedup_by", numbers), kept, firsts);
+    Ok(())
 }
 
-// Whether the calls that put items together agree with std's.
-fn folds<Rt: Threads + Wait + Sync, S: Strategy>(
-    on: &On<'_, Rt, S, Site>,
-    numbers: &[u64],
-) -> Result<bool, Fault> {
+// The same of those that put items together.
+fn folds<Rt: Host, S: Strategy>(on: &On<'_, Rt, S, Site>, numbers: &[u64]) -> Result<(), Fault> {
     let items = Copies { slice: numbers };
-    let least = on.min_by(items, by_tens)? == numbers.iter().copied().min_by(by_tens);
-    let most = on.max_by(items, by_tens)? == numbers.iter().copied().max_by(by_tens);
+    let least = numbers.iter().copied().min_by(by_tens);
+    row(
+        on.rt,
+        ("min_by", numbers),
+        on.min_by(items, by_tens)?,
+        least,
+    );
+    let most = numbers.iter().copied().max_by(by_tens);
+    row(on.rt, ("max_by", numbers), on.max_by(items, by_tens)?, most);
     let mut sum = 0u64;
     let mut product = 1u64;
     for number in numbers {
         sum = sum.wrapping_add(*number);
         product = product.wrapping_mul(*number);
     }
-    let sums = on.sum(items)? == sum && on.product(items)? == product;
-    let fits = on.checked_sum(items)? == Some(sum);
-    let top = on.reduce(items, greater)? == numbers.iter().copied().max();
-    Ok(least && most && sums && fits && top)
+    let found = (on.sum(items)?, on.product(items)?);
+    row(on.rt, ("sum, product", numbers), found, (sum, product));
+    let found = on.checked_sum(items)?;
+    row(on.rt, ("checked_sum", numbers), found, Some(sum));
+    let top = numbers.iter().copied().max();
+    row(on.rt, ("reduce", numbers), on.reduce(items, greater)?, top);
+    keys(on, numbers)
 }
 
-// Whether the calls by keys do, and whether each item is given to a closure once.
-fn keys<Rt: Threads + Wait + Sync, S: Strategy>(
-    on: &On<'_, Rt, S, Site>,
-    numbers: &[u64],
-) -> Result<bool, Fault> {
+// The same of those by keys, and where an item isn't given to a closure once.
+fn keys<Rt: Host, S: Strategy>(on: &On<'_, Rt, S, Site>, numbers: &[u64]) -> Result<(), Fault> {
     let items = Copies { slice: numbers };
-    let least = on.min_by_key(items, tens)? == numbers.iter().copied().min_by_key(tens);
-    let most = on.max_by_key(items, tens)? == numbers.iter().copied().max_by_key(tens);
+    let found = (on.min_by_key(items, tens)?, on.max_by_key(items, tens)?);
+    let least = numbers.iter().copied().min_by_key(tens);
+    let ends = (least, numbers.iter().copied().max_by_key(tens));
+    row(on.rt, ("min and max by key", numbers), found, ends);
     let given = AtomicU64::new(0);
     on.for_each(items, |number: u64| {
         given.fetch_add(number.wrapping_add(1), Counting::SeqCst);
@@ -150,34 +161,32 @@ fn keys<Rt: Threads + Wait + Sync, S: Strategy>(
     for number in numbers {
         expected = expected.wrapping_add(number.wrapping_add(1));
     }
-    Ok(least && most && given.load(Counting::SeqCst) == expected)
+    let given = given.load(Counting::SeqCst);
+    row(on.rt, ("for_each", numbers), given, expected);
+    Ok(())
 }
 
-// Whether the sorts, and what is asked of an order, agree with std's.
-fn sorts<Rt: Threads + Wait + Sync, S: Strategy>(
-    on: &On<'_, Rt, S, Site>,
-    numbers: &[u64],
-) -> Result<bool, Fault> {
-    let mut sorted = Vec::new(on.alloc);
-    sorted.extend_from_slice(numbers)?;
-    let mut expected = Vec::new(on.alloc);
-    expected.extend_from_slice(numbers)?;
+// The same of the sorts, and of what is asked of an order.
+fn sorts<Rt: Host, S: Strategy>(on: &On<'_, Rt, S, Site>, numbers: &[u64]) -> Result<(), Fault> {
+    let mut sorted = list_of(on.alloc, numbers)?;
+    let mut expected = list_of(on.alloc, numbers)?;
     on.sort_by_key(&mut sorted, tens)?;
     expected.sort_by_key(tens)?;
-    let stable = sorted.as_slice() == expected.as_slice();
+    let (found, wanted) = (sorted.as_slice(), expected.as_slice());
+    row(on.rt, ("sort_by_key", numbers), found, wanted);
+    let found = on.is_sorted_by(numbers, is_at_most)?;
+    let before = numbers.is_sorted_by(is_at_most);
+    row(on.rt, ("is_sorted_by", numbers), found, before);
     on.sort_unstable_by_key(&mut sorted, |number: &u64| *number)?;
     expected.sort_by_key(|number: &u64| *number)?;
-    let unstable = sorted.as_slice() == expected.as_slice();
-    let before = on.is_sorted_by(numbers, is_at_most)? == numbers.is_sorted_by(is_at_most);
-    let after = on.is_sorted_by(sorted.as_slice(), is_at_most)?;
-    Ok(stable && unstable && before && after)
+    let found = on.is_sorted_by(sorted.as_slice(), is_at_most)?;
+    row(on.rt, ("is_sorted_by, sorted", numbers), found, true);
+    row(on.rt, ("sort_unstable_by", numbers), sorted, expected);
+    Ok(())
 }
 
-// Whether the lists that a closure gives are appended in order.
-fn joins<Rt: Threads + Wait + Sync, S: Strategy>(
-    on: &On<'_, Rt, S, Site>,
-    numbers: &[u64],
-) -> Result<bool, Fault> {
+// The same of one that appends the lists that a closure gives.
+fn joins<Rt: Host, S: Strategy>(on: &On<'_, Rt, S, Site>, numbers: &[u64]) -> Result<(), Fault> {
     let alloc = on.alloc;
     let items = Copies { slice: numbers };
     let found = on.flat_map(items, |number: u64| with_half(alloc, number))?;
@@ -188,16 +197,12 @@ fn joins<Rt: Threads + Wait + Sync, S: Strategy>(
             expected.push(half)?;
         }
     }
-    Ok(found.as_slice() == expected.as_slice())
+    row(on.rt, ("flat_map", numbers), found, expected);
+    Ok(())
 }
 
-// Whether the calls of a group do, for 1,000 random lists.
-fn agrees<Rt: Threads + Wait + Sync, S: Strategy>(
-    rt: &Rt,
-    alloc: Global,
-    strategy: &S,
-    group: usize,
-) -> Result<bool, Fault> {
+// The same of the calls of a group, for 1,000 random lists.
+fn agree<Rt: Host, S: Strategy>(rt: &Rt, alloc: Global, strategy: &S, group: usize) {
     let on = On {
         rt,
         alloc,
@@ -206,26 +211,23 @@ fn agrees<Rt: Threads + Wait + Sync, S: Strategy>(
     };
     let mut random = Random::new(88172645463325252);
     for _ in 0..1000 {
-        let numbers = random.list(alloc, 40, 50)?;
+        let numbers = random.list(alloc, 40, 50).expect(rt, "memory");
         let items = numbers.as_slice();
-        let same = match group {
-            0 => finds(&on, items)?,
-            1 => gathers(&on, items)?,
-            2 => folds(&on, items)? && keys(&on, items)?,
-            3 => sorts(&on, items)?,
-            _ => joins(&on, items)?,
+        let made = match group {
+            0 => finds(&on, items),
+            1 => gathers(&on, items),
+            2 => folds(&on, items),
+            3 => sorts(&on, items),
+            _ => joins(&on, items),
         };
-        if !same {
-            return Ok(false);
-        }
+        row(rt, ("a call of a group", items), made, Ok(()));
     }
-    Ok(true)
 }
 
 #[test]
 fn serial_calls_agree_with_those_of_std(rt: HostRuntime) {
     for group in 0..5usize {
-        holds!(&rt, agrees(&rt, rt.alloc(), &Sequential, group) == Ok(true));
+        agree(&rt, rt.alloc(), &Sequential, group);
     }
 }
 
@@ -234,56 +236,44 @@ fn an_explorers_calls_agree_with_those_of_std(rt: HostRuntime) {
     let strategy = pool(&rt, rt.alloc(), 4, 4).expect(&rt, "a pool");
     let explorer = Explorer::by_rule(&strategy, Rule::Seeded(1)).expect(&rt, "an explorer");
     for group in 0..5usize {
-        holds!(&rt, agrees(&rt, rt.alloc(), &explorer, group) == Ok(true));
+        agree(&rt, rt.alloc(), &explorer, group);
     }
 }
 
 #[test]
-fn two_threads_look_for_items_as_std_does(rt: HostRuntime) {
-    let strategy = pool(&rt, rt.alloc(), 2, 2).expect(&rt, "a pool");
-    holds!(&rt, agrees(&rt, rt.alloc(), &strategy, 0) == Ok(true));
+fn threads_look_for_items_as_std_does(rt: HostRuntime) {
+    for threads in [2usize, 4] {
+        let strategy = pool(&rt, rt.alloc(), threads, threads).expect(&rt, "a pool");
+        agree(&rt, rt.alloc(), &strategy, 0);
+    }
 }
 
 #[test]
-fn four_threads_look_for_items_as_std_does(rt: HostRuntime) {
-    let strategy = pool(&rt, rt.alloc(), 4, 4).expect(&rt, "a pool");
-    holds!(&rt, agrees(&rt, rt.alloc(), &strategy, 0) == Ok(true));
+fn threads_gather_items_as_std_does(rt: HostRuntime) {
+    for threads in [2usize, 4] {
+        let strategy = pool(&rt, rt.alloc(), threads, threads).expect(&rt, "a pool");
+        agree(&rt, rt.alloc(), &strategy, 1);
+    }
 }
 
 #[test]
-fn two_threads_gather_items_as_std_does(rt: HostRuntime) {
-    let strategy = pool(&rt, rt.alloc(), 2, 2).expect(&rt, "a pool");
-    holds!(&rt, agrees(&rt, rt.alloc(), &strategy, 1) == Ok(true));
-}
-
-#[test]
-fn four_threads_gather_items_as_std_does(rt: HostRuntime) {
-    let strategy = pool(&rt, rt.alloc(), 4, 4).expect(&rt, "a pool");
-    holds!(&rt, agrees(&rt, rt.alloc(), &strategy, 1) == Ok(true));
-}
-
-#[test]
-fn two_threads_fold_items_as_std_does(rt: HostRuntime) {
-    let strategy = pool(&rt, rt.alloc(), 2, 2).expect(&rt, "a pool");
-    holds!(&rt, agrees(&rt, rt.alloc(), &strategy, 2) == Ok(true));
-}
-
-#[test]
-fn four_threads_fold_items_as_std_does(rt: HostRuntime) {
-    let strategy = pool(&rt, rt.alloc(), 4, 4).expect(&rt, "a pool");
-    holds!(&rt, agrees(&rt, rt.alloc(), &strategy, 2) == Ok(true));
+fn threads_fold_items_as_std_does(rt: HostRuntime) {
+    for threads in [2usize, 4] {
+        let strategy = pool(&rt, rt.alloc(), threads, threads).expect(&rt, "a pool");
+        agree(&rt, rt.alloc(), &strategy, 2);
+    }
 }
 
 #[test]
 fn four_threads_sort_items_as_std_does(rt: HostRuntime) {
     let strategy = pool(&rt, rt.alloc(), 4, 4).expect(&rt, "a pool");
-    holds!(&rt, agrees(&rt, rt.alloc(), &strategy, 3) == Ok(true));
+    agree(&rt, rt.alloc(), &strategy, 3);
 }
 
 #[test]
 fn four_threads_join_lists_in_order(rt: HostRuntime) {
     let strategy = pool(&rt, rt.alloc(), 4, 4).expect(&rt, "a pool");
-    holds!(&rt, agrees(&rt, rt.alloc(), &strategy, 4) == Ok(true));
+    agree(&rt, rt.alloc(), &strategy, 4);
 }
 
 #[test]
@@ -304,7 +294,8 @@ fn sums_that_do_not_fit_are_none(rt: HostRuntime) {
         let items = Copies {
             slice: numbers.as_slice(),
         };
-        holds!(&rt, on.sum(items) == Ok(sum));
-        holds!(&rt, on.checked_sum(items) == Ok(checked));
+        row(&rt, ("sum", items.slice), on.sum(items), Ok(sum));
+        let found = on.checked_sum(items);
+        row(&rt, ("checked_sum", items.slice), found, Ok(checked));
     }
 }

@@ -1,5 +1,6 @@
 //! The scans of random lists through each strategy, against plain loops, and that chunks are
 //! scanned side by side.
+use crate::checks::{Host, row};
 use crate::random::Random;
 use commonware_parallel::mocks::{Explorer, Rule};
 use commonware_parallel::{Copies, Fault, Sequential, Site, Strategy};
@@ -10,7 +11,6 @@ use std::sync::atomic::{AtomicBool, AtomicU64, Ordering};
 use std::test::Fail;
 use std::thread::{Threads, yield_now};
 use test_strategies::{SITE, pool};
-use test_support::holds;
 
 // What a number is multiplied by, and what is added then.
 #[derive(Clone, Copy, Debug, PartialEq, Eq)]
@@ -73,11 +73,8 @@ fn exclusive_of(alloc: Global, lines: &[Line]) -> Result<Vec<Line>, Fault> {
     Ok(expected)
 }
 
-// Whether both scans agree with the loops, over a source and in place.
-fn scans<Rt: Threads + Wait + Sync, S: Strategy>(
-    on: &On<'_, Rt, S, Site>,
-    numbers: &[u64],
-) -> Result<bool, Fault> {
+// Stops the test where a scan differs from its loop, over a source or in place.
+fn scans<Rt: Host, S: Strategy>(on: &On<'_, Rt, S, Site>, numbers: &[u64]) -> Result<(), Fault> {
     let mut through = lines_of(on.alloc, numbers)?;
     let mut before = lines_of(on.alloc, numbers)?;
     let inclusive = inclusive_of(on.alloc, through.as_slice())?;
@@ -85,22 +82,21 @@ fn scans<Rt: Threads + Wait + Sync, S: Strategy>(
     let lines = Copies {
         slice: through.as_slice(),
     };
+    let (ends, starts) = (inclusive.as_slice(), exclusive.as_slice());
     let found = on.inclusive_scan(lines, then)?;
-    let is_inclusive = found.as_slice() == inclusive.as_slice();
+    row(on.rt, ("inclusive", numbers), found.as_slice(), ends);
     let found = on.exclusive_scan(lines, START, then)?;
-    let is_exclusive = found.as_slice() == exclusive.as_slice();
+    row(on.rt, ("exclusive", numbers), found.as_slice(), starts);
     on.inclusive_scan_in_place(&mut through, then)?;
+    row(on.rt, ("in place", numbers), through.as_slice(), ends);
     on.exclusive_scan_in_place(&mut before, START, then)?;
-    let in_place = through.as_slice() == inclusive.as_slice();
-    Ok(is_inclusive && is_exclusive && in_place && before.as_slice() == exclusive.as_slice())
+    let of = ("exclusive, in place", numbers);
+    row(on.rt, of, before.as_slice(), starts);
+    Ok(())
 }
 
-// Whether they do for lists of each length below 20, and for 1,000 random lists.
-fn agrees<Rt: Threads + Wait + Sync, S: Strategy>(
-    rt: &Rt,
-    alloc: Global,
-    strategy: &S,
-) -> Result<bool, Fault> {
+// The same for lists of each length below 20, and for 1,000 random lists.
+fn agree<Rt: Host, S: Strategy>(rt: &Rt, alloc: Global, strategy: &S) {
     let on = On {
         rt,
         alloc,
@@ -110,48 +106,45 @@ fn agrees<Rt: Threads + Wait + Sync, S: Strategy>(
     let mut random = Random::new(88172645463325252);
     let mut numbers = Vec::new(alloc);
     for _ in 0..20 {
-        if !scans(&on, numbers.as_slice())? {
-            return Ok(false);
-        }
-        numbers.push(random.below(50))?;
+        let made = scans(&on, numbers.as_slice());
+        row(rt, ("scans", numbers.as_slice()), made, Ok(()));
+        numbers.push(random.below(50)).expect(rt, "memory");
     }
     for _ in 0..1000 {
-        let numbers = random.list(alloc, 40, 50)?;
-        if !scans(&on, numbers.as_slice())? {
-            return Ok(false);
-        }
+        let numbers = random.list(alloc, 40, 50).expect(rt, "memory");
+        let made = scans(&on, numbers.as_slice());
+        row(rt, ("scans", numbers.as_slice()), made, Ok(()));
     }
-    Ok(true)
 }
 
 #[test]
 fn serial_scans_agree_with_loops(rt: HostRuntime) {
-    holds!(&rt, agrees(&rt, rt.alloc(), &Sequential) == Ok(true));
+    agree(&rt, rt.alloc(), &Sequential);
 }
 
 #[test]
 fn an_explorers_scans_agree_with_loops(rt: HostRuntime) {
     let strategy = pool(&rt, rt.alloc(), 4, 4).expect(&rt, "a pool");
     let explorer = Explorer::by_rule(&strategy, Rule::Seeded(1)).expect(&rt, "an explorer");
-    holds!(&rt, agrees(&rt, rt.alloc(), &explorer) == Ok(true));
+    agree(&rt, rt.alloc(), &explorer);
 }
 
 #[test]
 fn scans_on_one_thread_agree_with_loops(rt: HostRuntime) {
     let strategy = pool(&rt, rt.alloc(), 1, 1).expect(&rt, "a pool");
-    holds!(&rt, agrees(&rt, rt.alloc(), &strategy) == Ok(true));
+    agree(&rt, rt.alloc(), &strategy);
 }
 
 #[test]
 fn scans_on_two_threads_agree_with_loops(rt: HostRuntime) {
     let strategy = pool(&rt, rt.alloc(), 2, 2).expect(&rt, "a pool");
-    holds!(&rt, agrees(&rt, rt.alloc(), &strategy) == Ok(true));
+    agree(&rt, rt.alloc(), &strategy);
 }
 
 #[test]
 fn scans_on_four_threads_agree_with_loops(rt: HostRuntime) {
     let strategy = pool(&rt, rt.alloc(), 4, 4).expect(&rt, "a pool");
-    holds!(&rt, agrees(&rt, rt.alloc(), &strategy) == Ok(true));
+    agree(&rt, rt.alloc(), &strategy);
 }
 
 // Says that one of two came, and waits for the other one, or for a bounded time.
@@ -205,5 +198,5 @@ fn two_chunks_meet(rt: HostRuntime) {
         strategy: &strategy,
         site: SITE,
     };
-    holds!(&rt, met(&on) == Ok(4));
+    row(&rt, ("meetings", &[]), met(&on), Ok(4));
 }

@@ -31,10 +31,11 @@ pub fn own_number<Rt: Files + AllocGlobal>(rt: &Rt) -> u64 {
     number_in(rt, "/proc/thread-self/stat", false)
 }
 
-/// How many KiB this process has of that, by Linux's own counts: of addresses, now (`VmSize:`) or at
-/// most (`VmPeak:`), or of memory that is of no file (`RssAnon:`).
-pub fn kibibytes<Rt: Files + AllocGlobal>(rt: &Rt, name: &str) -> Option<u64> {
-    let status = fs::read_to_string(rt, "/proc/self/status").ok()?;
+/// The figure that Linux keeps by that name. How many KiB this process has: of addresses, now (`VmSize:`) or
+/// at most (`VmPeak:`), or of memory that is of no file (`RssAnon:`). How often this thread left its
+/// processor to another one and would have gone on (`nonvoluntary_ctxt_switches:`).
+pub fn figure<Rt: Files + AllocGlobal>(rt: &Rt, name: &str) -> Option<u64> {
+    let status = fs::read_to_string(rt, "/proc/thread-self/status").ok()?;
     let line = status.lines().find(|line| line.starts_with(name))?;
     let count = line.trim_start_matches(name).trim_end_matches("kB");
     count.trim().parse::<u64>().ok()
