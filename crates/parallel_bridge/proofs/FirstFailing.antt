@@ -27,11 +27,15 @@ module _ {Y E : Type 0} (allowed : ℕ → Result Y E → Type 0) (passes : ℕ 
       let (before, after, split, fails, holds, at) = first in
       (index, omega (arith, is, inside), holds, λ i under. below i (omega (arith, is, under)))
 
-  -- what came of a map over the indices below n
-  pub first_failing : (n : ℕ) (result : Result (Vec Y Global) (Trouble E))
-      → UnlessRefused result (λ out. (xs : List ℕ) × (xs ≡ range_with_len 0 (n - 0))
-      × TryMapOf allowed xs (listed out)) → MatchResult result (λ _. (i : ℕ) → i < n → passes i)
-      (λ trouble. IfClosure trouble (FailsFirst allowed passes n))
-  first_failing n (Ok ys) gave = judged n (Ok ys.items) gave.0 gave.1 gave.2
-  first_failing n (Err (OfFault f)) gave = tt
-  first_failing n (Err (Closure e)) gave = judged n (Err e) gave.0 gave.1 gave.2
+-- what came of a map over the indices below n
+pub first_failing : {Y E : Type 0} (allowed : ℕ → Result Y E → Type 0) (passes : ℕ → Type 0)
+    → ((i : ℕ) (y : Y) → allowed i (Ok y) → passes i)
+    → (n : ℕ) (result : Result (Vec Y Global) (Trouble E))
+    → UnlessRefused result (λ out. (xs : List ℕ) × (xs ≡ range_with_len 0 (n - 0))
+    × TryMapOf allowed xs (listed out)) → MatchResult result (λ _. (i : ℕ) → i < n → passes i)
+    (λ trouble. IfClosure trouble (FailsFirst allowed passes n))
+first_failing allowed passes passing n (Ok ys) gave =
+    judged allowed passes passing n (Ok ys.items) gave.0 gave.1 gave.2
+first_failing allowed passes passing n (Err (OfFault f)) gave = tt
+first_failing allowed passes passing n (Err (Closure e)) gave =
+    judged allowed passes passing n (Err e) gave.0 gave.1 gave.2

@@ -88,24 +88,24 @@ module _ {X : Type 0} (P : ℕ → X → Type 0) (Q : X → Type 0) where
 
 -- A map whose closure may fail: each item passes, or the error is what the first one that doesn't
 -- pass fails with.
-module _ {X Y E : Type 0} (allowed : X → Result Y E → Type 0) (passes : X → Type 0)
-    (fails : E → X → Type 0) (good : (x : X) (y : Y) → allowed x (Ok y) → passes x)
-    (bad : (x : X) (e : E) → allowed x (Err e) → fails e x) where
-  each_passes : (xs : List X) (ys : List Y) → EachOk allowed xs ys → All passes xs
-  each_passes [] ys h = All-nil passes
-  each_passes (x ∷ xs) [] h = absurd h
-  each_passes (x ∷ xs) (y ∷ ys) h =
-      All-cons passes x xs (good x y h.0) (each_passes xs ys h.1)
+module _ {X Y E : Type 0} (allowed : X → Result Y E → Type 0) (passes : X → Type 0) where
+  module _ (fails : E → X → Type 0) (good : (x : X) (y : Y) → allowed x (Ok y) → passes x) where
+    module _ (bad : (x : X) (e : E) → allowed x (Err e) → fails e x) where
+      each_passes : (xs : List X) (ys : List Y) → EachOk allowed xs ys → All passes xs
+      each_passes [] ys h = All-nil passes
+      each_passes (x ∷ xs) [] h = absurd h
+      each_passes (x ∷ xs) (y ∷ ys) h =
+          All-cons passes x xs (good x y h.0) (each_passes xs ys h.1)
 
-  pub first_judged : (xs : List X) (out : Result (List Y) E) → TryMapOf allowed xs out
-      → MatchResult out (λ _. All passes xs)
-      (λ e. (x : X) × (place : ℕ) × IsFirst (fails e) passes xs x place)
-  first_judged xs (Ok ys) h = each_passes xs ys h
-  first_judged xs (Err e) (before, x, after, ys, split, each, failing) = (
-    x,
-    length before,
-    (before, after, split, each_passes before ys each, bad x e failing, refl),
-  )
+      pub first_judged : (xs : List X) (out : Result (List Y) E) → TryMapOf allowed xs out
+          → MatchResult out (λ _. All passes xs)
+          (λ e. (x : X) × (place : ℕ) × IsFirst (fails e) passes xs x place)
+      first_judged xs (Ok ys) h = each_passes xs ys h
+      first_judged xs (Err e) (before, x, after, ys, split, each, failing) = (
+        x,
+        length before,
+        (before, after, split, each_passes before ys each, bad x e failing, refl),
+      )
 
 -- items with their numbers, of a list whose length is known, as it was made and as the caller has it
 pub came_numbered : {L X : Type 0} (gives : L → List X → Type 0) (made list : L)
@@ -124,43 +124,43 @@ came_numbered gives made list start end n is zero whole long zs
 
 -- Such a map over items with their numbers, whose error is the number: each item passes, or the
 -- error is the place of the first one that fails.
-module _ {X Y : Type 0} (allowed : ℕ × X → Result Y ℕ → Type 0) (passes fails : X → Type 0)
-    (good : (z : ℕ × X) (y : Y) → allowed z (Ok y) → passes z.1)
-    (bad : (z : ℕ × X) (e : ℕ) → allowed z (Err e) → (e ≡ z.0) × fails z.1) where
-  judged_by_number : (xs : List X) (out : Result (List Y) ℕ)
-      → TryMapOf allowed (enumerate_from 0 xs) out → MatchResult out (λ _. All passes xs)
-      (λ e. (x : X) × IsFirst fails passes xs x e)
-  judged_by_number xs (Ok ys) h = numbered_all (λ _ x. fails x) passes 0 xs
-      (first_judged allowed (λ z. passes z.1) (λ e z. (e ≡ z.0) × fails z.1) good bad
-      (enumerate_from 0 xs) (Ok ys) h)
-  judged_by_number xs (Err e) h =
-      let (z, place, first) =
-      first_judged allowed (λ z. passes z.1) (λ d z. (d ≡ z.0) × fails z.1) good bad
-      (enumerate_from 0 xs) (Err e) h in
-      let (before, after, split, passed, (same, failing), at) =
-      first_numbered (λ n x. (e ≡ n) × fails x) passes xs z place first in
-      (z.1, (before, after, split, passed, failing, same ∙ at))
+module _ {X Y : Type 0} (allowed : ℕ × X → Result Y ℕ → Type 0) (passes fails : X → Type 0) where
+  module _ (good : (z : ℕ × X) (y : Y) → allowed z (Ok y) → passes z.1) where
+    module _ (bad : (z : ℕ × X) (e : ℕ) → allowed z (Err e) → (e ≡ z.0) × fails z.1) where
+      judged_by_number : (xs : List X) (out : Result (List Y) ℕ)
+          → TryMapOf allowed (enumerate_from 0 xs) out → MatchResult out (λ _. All passes xs)
+          (λ e. (x : X) × IsFirst fails passes xs x e)
+      judged_by_number xs (Ok ys) h = numbered_all (λ _ x. fails x) passes 0 xs
+          (first_judged allowed (λ z. passes z.1) (λ e z. (e ≡ z.0) × fails z.1) good bad
+          (enumerate_from 0 xs) (Ok ys) h)
+      judged_by_number xs (Err e) h =
+          let (z, place, first) =
+          first_judged allowed (λ z. passes z.1) (λ d z. (d ≡ z.0) × fails z.1) good bad
+          (enumerate_from 0 xs) (Err e) h in
+          let (before, after, split, passed, (same, failing), at) =
+          first_numbered (λ n x. (e ≡ n) × fails x) passes xs z place first in
+          (z.1, (before, after, split, passed, failing, same ∙ at))
 
-  -- over a list where nothing else may come
-  pub first_of_numbered : {L : Type 0} (gives : L → List X → Type 0) (made list : L)
-      (start end n : ℕ) → made ≡ list → start ≡ 0 → end ≡ n → (all : List X)
-      → ((xs : List X) → gives list xs → xs ≡ all) → length all ≡ n
-      → (result : Result (Vec Y Global) (Trouble ℕ)) → UnlessRefused result
-      (λ out. (zs : List (ℕ × X)) × PairsOf (λ is. is ≡ range_with_len start (end - start))
-      (gives made) zs × TryMapOf allowed zs (listed out))
-      → MatchResult result (λ _. All passes all)
-      (λ trouble. IfClosure trouble (λ e. (x : X) × IsFirst fails passes all x e))
-  first_of_numbered gives made list start end n is zero whole all only long (Ok ys)
-      (zs, pairs, h) =
-      let (xs, came, numbers) = came_numbered gives made list start end n is zero whole
-      (λ xs k. ap length (only xs k) ∙ long) zs pairs in
-      judged_by_number all (Ok ys.items) (subst (λ l. TryMapOf allowed l (Ok ys.items))
-      (numbers ∙ ap (enumerate_from 0) (only xs came)) h)
-  first_of_numbered gives made list start end n is zero whole all only long
-      (Err (OfFault f)) gave = tt
-  first_of_numbered gives made list start end n is zero whole all only long
-      (Err (Closure e)) (zs, pairs, h) =
-      let (xs, came, numbers) = came_numbered gives made list start end n is zero whole
-      (λ xs k. ap length (only xs k) ∙ long) zs pairs in
-      judged_by_number all (Err e) (subst (λ l. TryMapOf allowed l (Err e))
-      (numbers ∙ ap (enumerate_from 0) (only xs came)) h)
+      -- over a list where nothing else may come
+      pub first_of_numbered : {L : Type 0} (gives : L → List X → Type 0) (made list : L)
+          (start end n : ℕ) → made ≡ list → start ≡ 0 → end ≡ n → (all : List X)
+          → ((xs : List X) → gives list xs → xs ≡ all) → length all ≡ n
+          → (result : Result (Vec Y Global) (Trouble ℕ)) → UnlessRefused result
+          (λ out. (zs : List (ℕ × X)) × PairsOf (λ is. is ≡ range_with_len start (end - start))
+          (gives made) zs × TryMapOf allowed zs (listed out))
+          → MatchResult result (λ _. All passes all)
+          (λ trouble. IfClosure trouble (λ e. (x : X) × IsFirst fails passes all x e))
+      first_of_numbered gives made list start end n is zero whole all only long (Ok ys)
+          (zs, pairs, h) =
+          let (xs, came, numbers) = came_numbered gives made list start end n is zero whole
+          (λ xs k. ap length (only xs k) ∙ long) zs pairs in
+          judged_by_number all (Ok ys.items) (subst (λ l. TryMapOf allowed l (Ok ys.items))
+          (numbers ∙ ap (enumerate_from 0) (only xs came)) h)
+      first_of_numbered gives made list start end n is zero whole all only long
+          (Err (OfFault f)) gave = tt
+      first_of_numbered gives made list start end n is zero whole all only long
+          (Err (Closure e)) (zs, pairs, h) =
+          let (xs, came, numbers) = came_numbered gives made list start end n is zero whole
+          (λ xs k. ap length (only xs k) ∙ long) zs pairs in
+          judged_by_number all (Err e) (subst (λ l. TryMapOf allowed l (Err e))
+          (numbers ∙ ap (enumerate_from 0) (only xs came)) h)

@@ -21,27 +21,27 @@ module _ {X R : Type 0} (identity : R → Type 0) (step : R → X → R → Type
       subst (λ l. P l r) (sym split) (joins xs ys p q r (fold_has left) (fold_has right) reduced)
 
 -- a fold whose step asks something of its item is a fold of the verdicts
-module _ {X V R : Type 0} (verdict : X → V → Type 0) (by : R → V → R → Type 0)
-    (identity : R → Type 0) (step : R → X → R → Type 0) (reduce : R → R → R → Type 0)
-    (asks : (a : R) (x : X) (b : R) → step a x b → (v : V) × verdict x v × by a v b) where
-  chain_of_verdicts : (a : R) (xs : List X) (r : R) → Chain step a xs r
-      → (vs : List V) × MapOf verdict xs vs × Chain by a vs r
-  chain_of_verdicts a [] r h = ([], tt, h)
-  chain_of_verdicts a (x ∷ xs) r (m, one, rest) =
-      let (v, said, stepped) = asks a x m one in
-      let (vs, each, chain) = chain_of_verdicts m xs r rest in
-      (v ∷ vs, (said, each), (m, stepped, chain))
+module _ {X V R : Type 0} (verdict : X → V → Type 0) (by : R → V → R → Type 0) where
+  module _ (identity : R → Type 0) (step : R → X → R → Type 0) (reduce : R → R → R → Type 0) where
+    module _ (asks : (a : R) (x : X) (b : R) → step a x b → (v : V) × verdict x v × by a v b) where
+      chain_of_verdicts : (a : R) (xs : List X) (r : R) → Chain step a xs r
+          → (vs : List V) × MapOf verdict xs vs × Chain by a vs r
+      chain_of_verdicts a [] r h = ([], tt, h)
+      chain_of_verdicts a (x ∷ xs) r (m, one, rest) =
+          let (v, said, stepped) = asks a x m one in
+          let (vs, each, chain) = chain_of_verdicts m xs r rest in
+          (v ∷ vs, (said, each), (m, stepped, chain))
 
-  pub fold_of_verdicts : {xs : List X} {r : R} → Brackets (FoldSegment identity step) reduce xs r
-      → (vs : List V) × MapOf verdict xs vs × Bracketing identity by reduce vs r
-  fold_of_verdicts {xs} {r} (of_segment (a, begun, chain)) =
-      let (vs, each, goes) = chain_of_verdicts a xs r chain in
-      (vs, each, of_segment (a, begun, goes))
-  fold_of_verdicts (of_parts {xs = xs} {ys = ys} split left right reduced) =
-      let (us, front, one) = fold_of_verdicts left in
-      let (vs, back, other) = fold_of_verdicts right in (
-        us ++ vs,
-        subst (λ l. MapOf verdict l (us ++ vs)) (sym split)
-            (MapOf-append verdict xs ys us vs front back),
-        of_parts refl one other reduced,
-      )
+      pub fold_of_verdicts : {xs : List X} {r : R} → Brackets (FoldSegment identity step) reduce xs r
+          → (vs : List V) × MapOf verdict xs vs × Bracketing identity by reduce vs r
+      fold_of_verdicts {xs} {r} (of_segment (a, begun, chain)) =
+          let (vs, each, goes) = chain_of_verdicts a xs r chain in
+          (vs, each, of_segment (a, begun, goes))
+      fold_of_verdicts (of_parts {xs = xs} {ys = ys} split left right reduced) =
+          let (us, front, one) = fold_of_verdicts left in
+          let (vs, back, other) = fold_of_verdicts right in (
+            us ++ vs,
+            subst (λ l. MapOf verdict l (us ++ vs)) (sym split)
+                (MapOf-append verdict xs ys us vs front back),
+            of_parts refl one other reduced,
+          )
