@@ -18,7 +18,7 @@ use test_calls::steps::Gives;
 use test_calls::visits::{Times, Visitor};
 use test_calls::ways::{Row, Through, Way};
 use test_strategies::{SITE, learning, pool};
-use test_support::no_memory::all_places;
+use test_support::no_memory::{all_places, take_all};
 use test_support::{holds, processes, same};
 
 #[test]
@@ -224,6 +224,9 @@ fn calls_leave_none(rt: &impl Test, way: Way) {
         return;
     }
     let through = through(rt, way);
+    // Where blocks were freed before there is no room for those that are kept.
+    let mut held = Vec::new(rt.alloc());
+    let _all = take_all(rt.alloc(), 24, 40_000, &mut held);
     for act in all_acts(rt) {
         let of = Row { way, act, len: 40 };
         gives_back(rt, &through, of, usize::MAX, Block::Small);
@@ -231,6 +234,7 @@ fn calls_leave_none(rt: &impl Test, way: Way) {
             gives_back(rt, &through, of, 0, Block::Small);
         }
     }
+    drop(held);
 }
 
 #[test]

@@ -265,14 +265,9 @@ fn threads_fold_items_as_std_does(rt: HostRuntime) {
 }
 
 #[test]
-fn four_threads_sort_items_as_std_does(rt: HostRuntime) {
+fn four_threads_sort_items_as_std_does_and_join_lists_in_order(rt: HostRuntime) {
     let strategy = pool(&rt, rt.alloc(), 4, 4).expect(&rt, "a pool");
     agree(&rt, rt.alloc(), &strategy, 3);
-}
-
-#[test]
-fn four_threads_join_lists_in_order(rt: HostRuntime) {
-    let strategy = pool(&rt, rt.alloc(), 4, 4).expect(&rt, "a pool");
     agree(&rt, rt.alloc(), &strategy, 4);
 }
 

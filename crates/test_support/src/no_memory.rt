@@ -5,9 +5,9 @@
 //! end: there is no such machine then, but one that has no place for large blocks.
 use std::alloc::Global;
 
-// Asks for blocks of a size until one is refused, and keeps them; for that many at most: whether
-// one was refused.
-fn take_all(alloc: Global, size: usize, most: u32, held: &mut Vec<Vec<u8>>) -> bool {
+/// Asks for blocks of a size until one is refused, and keeps them; for that many at most: whether
+/// one was refused.
+pub fn take_all(alloc: Global, size: usize, most: u32, held: &mut Vec<Vec<u8>>) -> bool {
     for _ in 0..most {
         let Ok(block) = Vec::with_capacity(alloc, size) else {
             return true;
