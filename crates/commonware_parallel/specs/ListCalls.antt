@@ -1,12 +1,13 @@
 -- what a list call says of the list that it went over, the path that it took and the call that the
 -- strategy was asked about
-use Rattle.std.specs.Prelude.{ℕ, List, length, ⊤}
+use Rattle.std.specs.Prelude.{ℕ, List, length, ⊤, Option, None, Some}
 use Rattle.parallel_bridge.specs.Shapes.{cutdepth}
 use Rattle.parallel_bridge.specs.Sources.{GivesSome}
 use Rattle.parallel_bridge.specs.declared.path.Path.{Path}
 use Rattle.parallel_policy.specs.declared.Site.{Site}
-use Rattle.commonware_parallel.specs.Calls.{AtSomePath}
+use Rattle.commonware_parallel.specs.Calls.{AtSomePath, work_of}
 use Rattle.commonware_parallel.specs.declared.call.Call.{Call}
+use Rattle.commonware_parallel.specs.declared.call.Kind.TheVariants.{Body}
 use Rattle.commonware_parallel.specs.declared.call.Pick.{Pick}
 
 -- Some path may be taken: that is, the strategy was asked about the call that `takes` names, with
@@ -30,3 +31,13 @@ module _ {I X S R : Type 0} (gives : I → List X → Type 0) (source : I)
   GoesByLength call_of way answer = GivesSome gives source
       (λ xs. AtSomePath (takes strategy site (call_of (length xs)))
       (λ path. way (cutdepth (threads strategy)) path xs answer))
+
+-- The work of so many items, which stand for as much as the multiplier each, where there is one.
+abbrev pub work_over : Option ℕ → ℕ → ℕ
+work_over None len = len
+work_over (Some multiplier) len = work_of len multiplier
+
+-- A choice between a serial and a parallel body over so many items, which stand for that work.
+abbrev pub call_over : Option ℕ → ℕ → Call
+call_over multiplier len =
+    record { kind = Body; len = len; work = work_over multiplier len; max_parts = 1 }

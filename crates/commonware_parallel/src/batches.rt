@@ -9,17 +9,15 @@ ghost use Rattle.std.specs.Int.NonZero.{non_zero_usize_get};
 ghost use Rattle.parallel_fault.specs.Trouble.{IsMemoryOnErr};
 ghost use Rattle.parallel_shares.specs.Cut.{BalancedCut, CutsFrom, range_length};
 
-mod prepared;
-
 use crate::call::Call;
 use crate::chosen::{begin_path, threads_by};
 use crate::in_place::each_part;
 use crate::running::end_run;
+use crate::sequential::Sequential;
 use crate::strategy::Strategy;
 use parallel_fault::{Fault, Trouble};
 use parallel_policy::Place;
 use parallel_shares::cut;
-use prepared::{map_prepared, try_map_prepared};
 use std::alloc::Global;
 use std::num::NonZeroUsize;
 use std::ops::Range;
@@ -150,8 +148,11 @@ impl<'scope, S: Strategy, P: Place> Batches<'scope, S, P> {
     {
         let is_whole = self.is_whole();
         let items = prepare(self.ranges.as_slice())?;
-        let answers = map_prepared(self.strategy, rt, alloc, self.site, is_whole, items, map_op)?;
-        Ok(answers)
+        if is_whole {
+            Strategy::map_collect_vec(&Sequential, rt, alloc, self.site, items, map_op)
+        } else {
+            Strategy::map_collect_vec(self.strategy, rt, alloc, self.site, items, map_op)
+        }
     }
 
     /// The same with a closure that may fail: the results, or the error of the first item in the
@@ -179,7 +180,11 @@ impl<'scope, S: Strategy, P: Place> Batches<'scope, S, P> {
     {
         let is_whole = self.is_whole();
         let items = prepare(self.ranges.as_slice())?;
-        try_map_prepared(self.strategy, rt, alloc, self.site, is_whole, items, map_op)
+        if is_whole {
+            Strategy::try_map_collect_vec(&Sequential, rt, alloc, self.site, items, map_op)
+        } else {
+            Strategy::try_map_collect_vec(self.strategy, rt, alloc, self.site, items, map_op)
+        }
     }
 
     /// Changes each range's part of the items where it lies: `op` is called with the index at which

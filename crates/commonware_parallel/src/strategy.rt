@@ -13,9 +13,9 @@ use crate::call::Call;
 use crate::chooser::Chooser;
 use crate::chosen::{begin_path, choose_parts, choose_path, threads_by};
 use crate::list::{
-    body_over, fold_init_iter, fold_init_parallel, fold_iter, fold_parallel, map_init_iter,
-    map_init_parallel, map_iter, map_parallel, multiplied_body_over, partition_iter,
-    partition_parallel, try_fold_as_it_comes, try_fold_parallel, try_map_iter, try_map_parallel,
+    body_over, fold_init_iter, fold_init_parallel, fold_iter, fold_parallel, map_init_source,
+    map_source, partition_iter, partition_parallel, try_fold_as_it_comes, try_fold_parallel,
+    try_map_iter, try_map_parallel,
 };
 use crate::outcome::flat;
 use crate::running::{Running, end_as, end_run, end_with};
@@ -365,23 +365,7 @@ pub trait Strategy: Chooser {
             (AskedOver I.gives source (Self.takes self.now (P.site_of site)) body_call) }
         ensures fault { IsMemoryOnErr result }
     {
-        if self.is_serial() {
-            return map_iter(alloc, source.into_items(), &map_op);
-        }
-        let parts = source.into_parts(alloc)?;
-        let (path, running) = begin_path(self, rt, alloc, site, body_over(&parts))?;
-        match path {
-            Path::Serial => end_as(
-                self,
-                rt,
-                running,
-                map_iter(alloc, parts.into_items(), &map_op),
-            ),
-            Path::Parallel => {
-                let answers = map_parallel(rt, alloc, self.thread_number(), parts, &map_op);
-                end_as(self, rt, running, answers)
-            }
-        }
+        map_source(self, rt, alloc, site, source, None, &map_op)
     }
 
     /// As `map_collect_vec`, for items that each stand for the work of `multiplier`: a policy tells
@@ -416,24 +400,7 @@ pub trait Strategy: Chooser {
             (Self.takes self.now (P.site_of site)) (λ n. multiplied_call n multiplier)) }
         ensures fault { IsMemoryOnErr result }
     {
-        if self.is_serial() {
-            return map_iter(alloc, source.into_items(), &map_op);
-        }
-        let parts = source.into_parts(alloc)?;
-        let call = multiplied_body_over(&parts, multiplier);
-        let (path, running) = begin_path(self, rt, alloc, site, call)?;
-        match path {
-            Path::Serial => end_as(
-                self,
-                rt,
-                running,
-                map_iter(alloc, parts.into_items(), &map_op),
-            ),
-            Path::Parallel => {
-                let answers = map_parallel(rt, alloc, self.thread_number(), parts, &map_op);
-                end_as(self, rt, running, answers)
-            }
-        }
+        map_source(self, rt, alloc, site, source, Some(multiplier), &map_op)
     }
 
     /// The items folded in neighbouring segments, each from an identity of its own, and the
@@ -487,20 +454,14 @@ pub trait Strategy: Chooser {
         }
         let parts = source.into_parts(alloc)?;
         let (path, running) = begin_path(self, rt, alloc, site, body_over(&parts))?;
+        let threads = self.thread_number();
         let folded = match path {
             Path::Serial => Ok(fold_iter(parts.into_items(), &identity, &fold_op)),
-            Path::Parallel => fold_parallel(
-                rt,
-                alloc,
-                self.thread_number(),
-                parts,
-                &identity,
-                &fold_op,
-                &reduce_op,
-            ),
+            Path::Parallel => {
+                fold_parallel(rt, alloc, threads, parts, &identity, &fold_op, &reduce_op)
+            }
         };
-        end_run(self, rt, running, folded.is_ok());
-        folded
+        end_as(self, rt, running, folded)
     }
 
     /// The items folded as by `fold`, with a state at hand that goes from item to item of a segment
@@ -572,8 +533,7 @@ pub trait Strategy: Chooser {
                 &reduce_op,
             ),
         };
-        end_run(self, rt, running, folded.is_ok());
-        folded
+        end_as(self, rt, running, folded)
     }
 
     /// The items folded up to the first step that fails, in neighbouring segments, each from an
@@ -630,20 +590,14 @@ pub trait Strategy: Chooser {
         }
         let parts = source.into_parts(alloc)?;
         let (path, running) = begin_path(self, rt, alloc, site, body_over(&parts))?;
+        let threads = self.thread_number();
         let outcome = match path {
             Path::Serial => try_fold_as_it_comes(parts.into_items(), &identity, &fold_op),
-            Path::Parallel => try_fold_parallel(
-                rt,
-                alloc,
-                self.thread_number(),
-                parts,
-                &identity,
-                &fold_op,
-                &reduce_op,
-            ),
+            Path::Parallel => {
+                try_fold_parallel(rt, alloc, threads, parts, &identity, &fold_op, &reduce_op)
+            }
         };
-        end_run(self, rt, running, outcome.is_ok());
-        outcome
+        end_as(self, rt, running, outcome)
     }
 
     /// The values that `map_op` returns for the items, in the items' order, or the error of the
@@ -734,18 +688,7 @@ pub trait Strategy: Chooser {
             (MappedInitAs (N.post init) (MapStep (F.post map_op))) ys.items) }
         ensures fault { IsMemoryOnErr result }
     {
-        if self.is_serial() {
-            return map_init_iter(alloc, source.into_items(), &init, &map_op);
-        }
-        let parts = source.into_parts(alloc)?;
-        let (path, running) = begin_path(self, rt, alloc, site, body_over(&parts))?;
-        let threads = self.thread_number();
-        let results = match path {
-            Path::Serial => map_init_iter(alloc, parts.into_items(), &init, &map_op),
-            Path::Parallel => map_init_parallel(rt, alloc, threads, parts, &init, &map_op),
-        };
-        end_run(self, rt, running, results.is_ok());
-        results
+        map_init_source(self, rt, alloc, site, source, None, &init, &map_op)
     }
 
     /// As `map_init_collect_vec`, for items that each stand for the work of `multiplier`: a policy
@@ -782,19 +725,16 @@ pub trait Strategy: Chooser {
             (MappedInitAs (N.post init) (MapStep (F.post map_op))) ys.items) }
         ensures fault { IsMemoryOnErr result }
     {
-        if self.is_serial() {
-            return map_init_iter(alloc, source.into_items(), &init, &map_op);
-        }
-        let parts = source.into_parts(alloc)?;
-        let call = multiplied_body_over(&parts, multiplier);
-        let (path, running) = begin_path(self, rt, alloc, site, call)?;
-        let threads = self.thread_number();
-        let mapped = match path {
-            Path::Serial => map_init_iter(alloc, parts.into_items(), &init, &map_op),
-            Path::Parallel => map_init_parallel(rt, alloc, threads, parts, &init, &map_op),
-        };
-        end_run(self, rt, running, mapped.is_ok());
-        mapped
+        map_init_source(
+            self,
+            rt,
+            alloc,
+            site,
+            source,
+            Some(multiplier),
+            &init,
+            &map_op,
+        )
     }
 
     /// The values that `map_op` returns, and the keys of the items for which it returns none, both

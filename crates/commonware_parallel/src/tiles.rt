@@ -196,25 +196,11 @@ impl<'scope, S: Strategy, P: Place> Tiles<'scope, S, P> {
             let whole = fill_rows(alloc, self.rows, self.len, &mut state, &fill, &finish)?;
             return Ok(whole);
         }
-        let (shares, seats) = Shares::new(
-            alloc,
-            self.rows,
-            self.len,
-            self.tile_cost,
-            self.workers,
-            self.whole,
-        )?;
+        let (rows, len, workers) = (self.rows, self.len, self.workers);
+        let (shares, seats) = Shares::new(alloc, rows, len, self.tile_cost, workers, self.whole)?;
+        let (strategy, site) = (self.strategy, self.site);
         let results = fill_shared(
-            self.strategy,
-            rt,
-            alloc,
-            self.site,
-            shares,
-            seats,
-            self.len,
-            init,
-            &fill,
-            &finish,
+            strategy, rt, alloc, site, shares, seats, len, init, &fill, &finish,
         )?;
         Ok(results)
     }

@@ -3,7 +3,7 @@ ghost use Rattle.std.specs.Prelude.{◌≡◌, IfOk};
 ghost use Rattle.parallel_bridge.specs.Sources.{GivesSome};
 ghost use Rattle.parallel_fault.specs.Trouble.{IsMemoryOnErr};
 ghost use Rattle.commonware_parallel.specs.Merkle.{MerkleRoot, RootOf};
-ghost use Rattle.commonware_parallel.specs.MerkleBlocks.{AreTopsOf, IsBlockSize};
+ghost use Rattle.commonware_parallel.specs.MerkleBlocks.{IsBlockSize};
 
 use crate::call::Call;
 use crate::chosen::{begin_path, threads_by};
@@ -175,7 +175,9 @@ pub fn root_of_leaves_by_levels<
     root_of_parts(rt, alloc, strategy, site, PAIR, parts, &leaf, combine)
 }
 
-// The root of the items' leaves by blocks of `size`, through the strategy.
+// The root of the items' leaves by blocks of `size`: the tops of the blocks, by the path that the
+// strategy takes for as many, each of which stands for the work of its leaves; then their root,
+// through the strategy or on the caller's thread.
 fn root_of_parts<
     Rt: Threads + Wait + Sync,
     P: Place,
@@ -201,72 +203,12 @@ fn root_of_parts<
         (F.post combine) xs root)) }
     ensures fault { IsMemoryOnErr result }
 {
-    let tops = tops_through(rt, alloc, strategy, site, size, parts, leaf, &combine)?;
-    root_of_tops(rt, alloc, strategy, site, size, tops, combine)
-}
-
-// The tops of the blocks, by the path that the strategy takes for as many blocks, each of which
-// stands for the work of its leaves.
-fn tops_through<
-    Rt: Threads + Wait + Sync,
-    P: Place,
-    S: Strategy,
-    Q: Parts,
-    T: Send + Drop,
-    L: Fn(Q::Item) -> T + Send + Sync,
-    F: Fn(T, T) -> T + Send + Sync,
->(
-    rt: &Rt,
-    alloc: Global,
-    strategy: &S,
-    site: P,
-    size: usize,
-    parts: Q,
-    leaf: &L,
-    combine: &F,
-) -> Result<Vec<T>, Fault>
-    requires leaf_accepts { (x : Q.Item) → Q.may parts x → L.pre leaf.now x }
-    requires accepts { F.IsAlwaysCallable combine.now }
-    requires size { IsBlockSize size }
-    ensures tops { IfOk result (λ tops. GivesSome Q.gives parts (λ xs. AreTopsOf
-        (L.post leaf.now) (F.post combine.now) size xs tops.items)) }
-    ensures fault { IsMemoryOnErr result }
-{
     let call = Call::body_with_multiplier(parts.len().div_ceil(size), size);
     let (path, running) = begin_path(strategy, rt, alloc, site, call)?;
-    let tops = descend(
-        rt,
-        alloc,
-        threads_by(strategy, path),
-        size,
-        parts,
-        leaf,
-        combine,
-    );
+    let threads = threads_by(strategy, path);
+    let tops = descend(rt, alloc, threads, size, parts, leaf, &combine);
     end_run(strategy, rt, running, tops.is_ok());
-    tops
-}
-
-// The root of the tops of blocks, through the strategy or on the caller's thread.
-fn root_of_tops<
-    Rt: Threads + Wait + Sync,
-    P: Place,
-    S: Strategy,
-    T: Send + Drop,
-    F: Fn(T, T) -> T + Send + Sync + Drop,
->(
-    rt: &Rt,
-    alloc: Global,
-    strategy: &S,
-    site: P,
-    size: usize,
-    tops: Vec<T>,
-    combine: F,
-) -> Result<Option<T>, Fault>
-    requires accepts { F.IsAlwaysCallable combine }
-    ensures root { IfOk result (MerkleRoot (F.post combine) tops.items) }
-    ensures fault { IsMemoryOnErr result }
-{
+    let tops = tops?;
     if size / FEW >= strategy.thread_number().get() {
         return plain_root(alloc, tops, &combine);
     }

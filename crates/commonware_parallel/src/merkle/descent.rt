@@ -202,16 +202,10 @@ impl<
 
     fn run(self, _alloc: Global) -> Self::Done {
         let count = self.parts.len();
+        let (size, leaf, combine) = (self.size, self.leaf, self.combine);
         let mut tops = self.tops;
         let mut items = self.parts.into_items();
-        descend_in_turn(
-            &mut items,
-            &mut tops,
-            count,
-            self.size,
-            self.leaf,
-            self.combine,
-        );
+        descend_in_turn(&mut items, &mut tops, count, size, leaf, combine);
         (tops, Ok(()), items.rest())
     }
 

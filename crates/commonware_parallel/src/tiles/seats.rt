@@ -1,5 +1,5 @@
 //! A shared plan: a seat for each worker, which claims cells until nothing is left that pays.
-ghost use Rattle.std.specs.Prelude.{◌≡◌, ◌≢◌, ◌++◌, ℕ, All, IfOk, Ok, map};
+ghost use Rattle.std.specs.Prelude.{◌≡◌, ◌≢◌, ◌++◌, ℕ, IfOk, Ok, map};
 ghost use Rattle.std.specs.Borrow.{MutBor};
 ghost use Rattle.std.specs.declared.alloc.Global.{Global};
 ghost use Rattle.std.specs.declared.ops.Range.{Range};
@@ -9,7 +9,6 @@ ghost use Rattle.parallel_shares.specs.Fillings.{Ends, Fills};
 ghost use Rattle.parallel_shares.specs.Seats.{AreFresh, AreSeatsOf, plan_of};
 ghost use Rattle.parallel_shares.specs.Sizes.{Work, sizes_of};
 ghost use Rattle.parallel_shares.specs.Stretches.{IsPartOfRow, StartsBelow};
-ghost use Rattle.parallel_bridge.specs.States.{Stateful};
 ghost use Rattle.commonware_parallel.specs.Seated.{AcceptsFills, AcceptsFinishes, AllResults, FillsWork, IsReady, WorksFrom, seat_of};
 
 use crate::strategy::Strategy;
@@ -71,60 +70,19 @@ pub(crate) fn fill_shared<
         (Ends Q.part_of (F.post finish.now)) len work results.items) }
     ensures fault { IsMemoryOnErr result }
 {
-    let worked = work_all(
-        strategy, rt, alloc, site, &shares, seats, len, init, fill, finish,
-    )?;
+    let shared = &shares;
+    let run = move |state: &mut T, seat: Seat| -> Worked<R>
+        requires { IsReady shared.now seat × (len ≢ 0)
+            × AcceptsFills (IsPartOfRow (plan_of shared.now).cells len) (L.pre fill.now)
+            × AcceptsFinishes (StartsBelow (plan_of shared.now).cells len) Q.part_of
+            (F.pre finish.now) }
+        ensures { WorksFrom shared.entry.now len (Fills (L.post fill.entry.now))
+            (Ends Q.part_of (F.post finish.entry.now)) state.old seat result state.new }
+    { work(rt, alloc, shared, seat, len, state, fill, finish) };
+    let worked = strategy.map_init_collect_vec(rt, alloc, site, seats, init, run)?;
     let (seats, results) = gather(alloc, worked)?;
     let _words = shares.close(seats);
     Ok(results)
-}
-
-// What each seat came back with.
-fn work_all<
-    S: Strategy,
-    Rt: Threads + Wait + Sync,
-    P: Place,
-    T: Send + Drop,
-    Q: Part + Send,
-    R: Send + Drop,
-    N: Fn() -> T + Send + Sync + Drop,
-    L: Fn(&mut T, usize, Range<usize>) + Send + Sync,
-    F: Fn(&mut T, Q) -> R + Send + Sync,
->(
-    strategy: &S,
-    rt: &Rt,
-    alloc: Global,
-    site: P,
-    shares: &Shares,
-    seats: Vec<Seat>,
-    len: usize,
-    init: N,
-    fill: &L,
-    finish: &F,
-) -> Result<Vec<Worked<R>>, Fault>
-    requires some_columns { len ≢ 0 }
-    requires seats { All (IsReady shares.now) seats.items }
-    requires init_accepts { N.IsAlwaysCallable init }
-    requires fill_accepts { (lent : MutBor T) (row : ℕ) (columns : Range ℕ)
-        → IsPartOfRow (plan_of shares.now).cells len row columns → L.pre fill.now lent row columns }
-    requires finish_accepts { (lent : MutBor T) (stretch : Stretch)
-        → StartsBelow (plan_of shares.now).cells len stretch.row
-        → F.pre finish.now lent (Q.part_of stretch) }
-    ensures stateful { IfOk result (λ worked. Stateful (N.post init)
-        (WorksFrom shares.now len (Fills (L.post fill.now)) (Ends Q.part_of (F.post finish.now)))
-        seats.items worked.items) }
-    ensures fault { IsMemoryOnErr result }
-{
-    let run = move |state: &mut T, seat: Seat| -> Worked<R>
-        requires { IsReady shares.now seat × (len ≢ 0)
-            × AcceptsFills (IsPartOfRow (plan_of shares.now).cells len) (L.pre fill.now)
-            × AcceptsFinishes (StartsBelow (plan_of shares.now).cells len) Q.part_of
-            (F.pre finish.now) }
-        ensures { WorksFrom shares.entry.now len (Fills (L.post fill.entry.now))
-            (Ends Q.part_of (F.post finish.entry.now)) state.old seat result state.new }
-    { work(rt, alloc, shares, seat, len, state, fill, finish) };
-    let worked = strategy.map_init_collect_vec(rt, alloc, site, seats, init, run)?;
-    Ok(worked)
 }
 
 // The run of one seat, with the state of its segment.

@@ -29,7 +29,7 @@ returns-clause-along g c =
     let identity = goal.ID-post g c.args.identity in let step = goal.F-post g c.args.fold_op in
     let reduce = goal.G-post g c.args.reduce_op in
     let depth = cutdepth (g.Self.Chooser.threads c.args.self.now) in
-    elim c.match-path.branch [
+    rw c.end_as.ensures (elim c.match-path.branch [
       | in-Serial w ↦ rw w.folded-is (along_source body_call _ takes path chosen
           (λ xs h. let came = w.into_items-in-Serial.ensures.gives xs h in
           (counted xs came, gives xs came)) {E = Fault}
@@ -41,12 +41,12 @@ returns-clause-along g c =
           (FoldedAs identity step reduce depth) w.fold_parallel-folded.result
           (λ xs r h. folded_by path Parallel w.in-Parallel.is depth identity step reduce xs r
           (subst (λ n. Along identity step reduce (Shape (cutdepth n) xs) r)
-          w.thread_number.ensures.number h)) w.fold_parallel-folded.ensures.along)
-    ]
+          c.thread_number-threads.ensures.number h)) w.fold_parallel-folded.ensures.along)
+    ])
 
 pub returns-clause-brackets : goal.returns-clause-brackets
 returns-clause-brackets g c =
-    over_source c.match-path.folded (returns-clause-along g c) (λ xs h. h) (λ xs r h. h.2.0)
+    over_source c.end_as.result (returns-clause-along g c) (λ xs h. h) (λ xs r h. h.2.0)
 
 pub fold_iter-requires-clause-fold_accepts : goal.fold_iter-requires-clause-fold_accepts
 fold_iter-requires-clause-fold_accepts g c =

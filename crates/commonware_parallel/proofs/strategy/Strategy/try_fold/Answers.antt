@@ -32,7 +32,7 @@ returns-clause-along g c =
     let identity = goal.ID-post g c.args.identity in let step = goal.F-post g c.args.fold_op in
     let reduce = goal.G-post g c.args.reduce_op in
     let depth = cutdepth (g.Self.Chooser.threads c.args.self.now) in
-    elim c.match-path.branch [
+    rw c.end_as.ensures (elim c.match-path.branch [
       | in-Serial w ↦ rw w.outcome-is (outcome_along_source body_call _ takes path chosen
           (λ xs h. let came = w.into_items-in-Serial.ensures.gives xs h in
           (counted xs came, gives xs came))
@@ -44,11 +44,11 @@ returns-clause-along g c =
           (TryFoldedAs identity step reduce depth) w.try_fold_parallel-outcome.result
           (λ xs out h. try_folded_by path Parallel w.in-Parallel.is depth identity step reduce xs
           out (subst (λ n. TryAlong identity step reduce (Shape (cutdepth n) xs) out)
-          w.thread_number.ensures.number h)) w.try_fold_parallel-outcome.ensures.along)
-    ]
+          c.thread_number-threads.ensures.number h)) w.try_fold_parallel-outcome.ensures.along)
+    ])
 
 pub returns-clause-brackets : goal.returns-clause-brackets
-returns-clause-brackets g c = outcome_over_source c.match-path.outcome (returns-clause-along g c)
+returns-clause-brackets g c = outcome_over_source c.end_as.result (returns-clause-along g c)
     (λ xs h. h) (λ xs out h. h.2.0)
 
 pub try_fold_as_it_comes-requires-clause-fold_accepts : goal.try_fold_as_it_comes-requires-clause-fold_accepts
