@@ -243,7 +243,7 @@ fn a_job_records_its_own_time_and_its_hand_off_once(rt: HostRuntime) {
     // A job is keyed by the pool's number of threads, and not by the planning number.
     let key = Key::new(SITE, 1, 1, 4);
     asked.knows_job(&rt, key);
-    equal(&rt, "job", read_by_a_job(&rt, &asked), 2);
+    equal(&rt, "read before a job", read_by_a_job(&rt, &asked), 2);
     // Chosen at 0, begun at 1 and ended at 9 milliseconds: the job took 8, and its hand-off 1.
     let times = job_times(&rt, &asked.policy, key);
     let known = [Some(41_600_000), Some(8_200_000), None];
@@ -265,7 +265,7 @@ fn a_job_that_runs_inline_records_its_own_time_alone(rt: HostRuntime) {
         let chosen = asked.policy.choose_spawn(&rt, key, MILLISECOND);
         equal(&rt, "a choice", (choice, chosen.is_ok()), (choice, true));
     }
-    equal(&rt, "job", read_by_a_job(&rt, &asked), 2);
+    equal(&rt, "read before a job", read_by_a_job(&rt, &asked), 2);
     // Begun at 1 and ended at 9 milliseconds.
     let times = job_times(&rt, &asked.policy, key);
     let known = [

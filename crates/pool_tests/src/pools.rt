@@ -138,8 +138,8 @@ fn a_thousand_jobs_are_called_once_each_and_the_workers_end(rt: HostRuntime) {
     }
     drop(pool);
     awaits(&rt, &tally.ended, 1, "each worker has ended");
-    let found = (read(&tally.called), read(&tally.begun));
-    same!(&rt, found, (1000, 16_843_009));
+    let called_begun = (read(&tally.called), read(&tally.begun));
+    same!(&rt, called_begun, (1000, 16_843_009));
 }
 
 #[test]
