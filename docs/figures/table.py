@@ -19,7 +19,7 @@ ROWS = [
     ("map-light", 10_000_000, "fresh"),
     ("map-heavy", 1000, ""),
     ("map-heavy", 100_000, ""),
-    *((case, 1_000_000, "") for case in ("try-map-light", "each-light", "partition", "sort")),
+    *((case, 1_000_000, "") for case in ("try-map-light", "each-light", "partition", "filter", "find", "sort")),
     *((case, 1_000_000, "") for case in ("merkle-light", "merkle-blocks-light", "tiles-cut-light", "tiles-uneven")),
 ]
 
