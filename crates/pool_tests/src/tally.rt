@@ -15,15 +15,18 @@ use std::thread::{self, Threads};
 use std::time::{Clock, CpuClock, Duration};
 use test_support::holds;
 
-/// What a thread of a test may do.
-pub(crate) trait Work: Threads + Wait + Abort + Send + Sync + 'static {}
+/// What tells a test of times.
+pub(crate) trait Time: Clock + CpuClock + Files {}
 
-impl<R: Threads + Wait + Abort + Send + Sync + 'static> Work for R {}
+impl<R: Clock + CpuClock + Files> Time for R {}
 
 /// What a test may do.
-pub(crate) trait Host: Work + Clock + CpuClock + Files + AllocGlobal + Copy {}
+pub(crate) trait Host: Threads + Wait + Abort + Time + AllocGlobal + Copy + Send + Sync + 'static {}
 
-impl<R: Work + Clock + CpuClock + Files + AllocGlobal + Copy> Host for R {}
+impl<R> Host for R
+where
+    R: Threads + Wait + Abort + Time + AllocGlobal + Copy + Send + Sync + 'static,
+{}
 
 /// How many turns a test waits for another thread at most, each of which lets the others go on: so
 /// that a busy machine takes longer, and no test fails by that.
