@@ -11,16 +11,13 @@ use crate::tally::{
 };
 use parallel_pool::latch::{CountLatch, LockLatch};
 use parallel_pool::rayon::{Execute, Queue, ThreadPool, ThreadPoolBuilder, install};
-use std::alloc::AllocGlobal;
 use std::num::NonZeroUsize;
 use std::process::Abort;
-use std::rt::Files;
 use std::sync::atomic::{AtomicU64, Ordering};
 use std::sync::{Arc, Wait};
 use std::thread::join;
 use std::time::CpuClock;
 use test_support::holds;
-use test_support::processes::figure;
 
 // For how long a wait goes on, and how much of that whoever waits may work, in nanoseconds: both
 // are of a thread's own time, so that on a busy machine a wait is longer.
@@ -28,21 +25,14 @@ const LONG: u128 = 120_000_000;
 
 const SHORT: u128 = 30_000_000;
 
-// How often it may yield its processor to others, and how much threads that sleep may work, but for
-// a try or two: on a busy machine one that polls works but little.
-const FEW: u64 = 10;
-
+// How much threads that sleep may work, but for a try or two: on a busy machine one that polls works
+// but little.
 const LITTLE: u128 = 200_000;
 
 // The time that this thread has worked, in nanoseconds.
 fn own_time(rt: &(impl CpuClock + Abort)) -> u128 {
     let time = rt.thread_cpu_time().expect(rt, "a time");
     time.as_nanos()
-}
-
-// How often it has yielded its processor to another thread, and would have gone on.
-fn yields(rt: &(impl Files + AllocGlobal + Abort)) -> u64 {
-    figure(rt, "nonvoluntary_ctxt_switches:").expect(rt, "a count")
 }
 
 // Works for so long, and leaves the processor to nobody.
@@ -144,8 +134,8 @@ fn idle_workers_take_no_time_while_others_are_at_work(rt: HostRuntime) {
     pool.close(&rt);
 }
 
-// Stops the test where a thread works or yields while it waits, or doesn't wait until another one,
-// which has worked for long, ends that.
+// Stops the test where a thread works while it waits, or doesn't wait until another one, which has
+// worked for long, ends that.
 fn waits_quietly<R: Host, W: FnOnce() + Send, E: FnOnce() + Send>(rt: &R, at: &str, wait: W, end: E)
     requires wait { W.IsAlwaysCallable wait }
     requires end { E.IsAlwaysCallable end }
@@ -154,12 +144,11 @@ fn waits_quietly<R: Host, W: FnOnce() + Send, E: FnOnce() + Send>(rt: &R, at: &s
     join(
         rt,
         || {
-            let (before, first) = (own_time(rt), yields(rt));
+            let before = own_time(rt);
             wait();
             let worked = own_time(rt).saturating_sub(before) / SHORT;
-            let yielded = yields(rt).saturating_sub(first) / FEW;
-            let of = (at, "worked, yielded too often, ended by how many");
-            row(rt, of, (worked, yielded, read(&passed)), (0, 0, 1));
+            let of = (at, "worked too long, ended by how many");
+            row(rt, of, (worked, read(&passed)), (0, 1));
         },
         || {
             works(rt, LONG);

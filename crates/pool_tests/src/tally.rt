@@ -8,24 +8,27 @@ use parallel_pool::rayon::{
 };
 use std::alloc::{AllocGlobal, Global};
 use std::process::Abort;
-use std::rt::Files;
 use std::sync::atomic::{AtomicU64, Ordering};
 use std::sync::{Arc, Wait};
 use std::thread::{self, Threads};
 use std::time::{Clock, CpuClock, Duration};
 use test_support::holds;
 
-/// What tells a test of times.
-pub(crate) trait Time: Clock + CpuClock + Files {}
-
-impl<R: Clock + CpuClock + Files> Time for R {}
-
 /// What a test may do.
-pub(crate) trait Host: Threads + Wait + Abort + Time + AllocGlobal + Copy + Send + Sync + 'static {}
+pub(crate) trait Host: Threads
+    + Wait
+    + Abort
+    + Clock
+    + CpuClock
+    + AllocGlobal
+    + Copy
+    + Send
+    + Sync
+    + 'static {}
 
 impl<R> Host for R
 where
-    R: Threads + Wait + Abort + Time + AllocGlobal + Copy + Send + Sync + 'static,
+    R: Threads + Wait + Abort + Clock + CpuClock + AllocGlobal + Copy + Send + Sync + 'static,
 {}
 
 /// How many turns a test waits for another thread at most, each of which lets the others go on: so
