@@ -6,7 +6,7 @@ use Rattle.parallel_fault.specs.declared.fault.Fault.TheVariants.{Memory}
 use Rattle.parallel_fault.specs.declared.fault.Trouble.{Trouble}
 use Rattle.parallel_fault.specs.declared.fault.Trouble.TheVariants.{Closure, Fault as OfFault}
 use Rattle.parallel_fault.specs.declared.fault.Fault.{Fault}
-use Rattle.parallel_policy.specs.declared.choices.Ticket.{Ticket}
+use Rattle.parallel_policy.specs.declared.policy.Ticket.{Ticket}
 use Rattle.parallel_policy.specs.declared.execution.RunExecution.{RunExecution}
 use Rattle.parallel_policy.specs.declared.execution.RunExecution.TheVariants.{Serial}
 

@@ -1,17 +1,22 @@
-//! What the policy keeps for one key of runs.
-ghost use Rattle.std.specs.Prelude.{◌≡◌, ℕ, ◌*◌, ◌<◌, ◌∷◌, Bool, true, None, Some, IsSomeAnd, nat_lt};
-ghost use Rattle.parallel_policy.specs.Estimates.{blended};
-ghost use Rattle.parallel_policy.specs.Arbitration.{IsCount};
+//! What the policy keeps for one key of runs: how long a run takes by its samples, and how often a
+//! path is measured and the other one is probed.
+ghost use Rattle.std.specs.Prelude.{◌≡◌, ℕ, ◌*◌, ◌<◌, ◌≤◌, ◌∷◌, Bool, true, min, max, Option, None, Some, IfSome, IsSomeAnd, nat_lt};
+ghost use Rattle.parallel_policy.specs.Estimates.{mean, blended};
+ghost use Rattle.parallel_policy.specs.Arbitration.{contest_of, doublings_of, interval_of, arbitrated, count_after, IsCount};
 ghost use Rattle.parallel_policy.specs.Runs.{RunHistory, RunState, HoldsRun, fresh_run, run_choice, run_answer, run_count_after, with_sample, run_time, projection, prefers_parallel};
 ghost use Rattle.parallel_policy.specs.declared.history.RunEvent.{RunEvent};
 
-use crate::cadence::Cadence;
-use crate::estimate::Estimate;
 use crate::execution::RunExecution;
 use std::marker::Model;
 
 // A serial run is tried, or preferred, only where it is known to take less than this.
 const SERIAL_SAMPLE_BUDGET: u64 = 10_000_000;
+// A preferred path is measured this often.
+const PREFERRED_SAMPLE_INTERVAL: u32 = 10;
+// A path that loses by less than twice the time is probed this often.
+const RESAMPLE_INTERVAL: u32 = 100;
+// So often the interval of a slower path is doubled at most.
+const MAX_RESAMPLE_SHIFT: u64 = 5;
 
 /// What a policy keeps for one key of runs: how long a serial and a parallel run take, and how many
 /// choices there were since the last probe.
@@ -128,4 +133,149 @@ fn projected_serial(parallel: u64, parallelism: usize) -> u64
     ensures { result ≡ projection parallel parallelism }
 {
     parallel.saturating_mul(parallelism as u64)
+}
+
+/// How long one kind of run takes, in nanoseconds: none before the first sample.
+///
+/// The first sample is the estimate; each later one moves it by a fifth of the way (`blended`). A
+/// contract sees it as an `Option` of a number.
+#[derive(Clone, Copy, Debug, PartialEq, Eq)]
+pub struct Estimate(Option<u64>);
+
+impl Model for Estimate {
+    ghost Value = { Option ℕ };
+
+    ghost view = { λ e. e.0 };
+
+    ghost inverse = { λ v. record { 0 = v } };
+}
+
+impl Default for Estimate {
+    ghost is_default = { λ e. e ≡ None };
+
+    fn default() -> Estimate {
+        Estimate(None)
+    }
+}
+
+impl Estimate {
+    /// The estimate in nanoseconds, if there was a sample.
+    pub fn get(&self) -> Option<u64>
+        ensures { result ≡ self.now }
+    {
+        self.0
+    }
+
+    /// Blends `sample`, in nanoseconds, into the estimate, which stays between the two.
+    pub fn record(&mut self, sample: u64)
+        ensures blended { self.new ≡ blended self.old sample }
+        ensures between { (old : ℕ) → self.old ≡ Some old
+            → IfSome self.new (λ new. (min old sample ≤ new) × (new ≤ max old sample)) }
+    {
+        self.0 = match self.0 {
+            None => Some(sample),
+            Some(old) => Some(blend(old, sample)),
+        };
+    }
+}
+
+// The old estimate and a sample, weighed four to one. The sum has 128 bits.
+fn blend(old: u64, sample: u64) -> u64
+    ensures value { result ≡ mean old sample }
+    ensures low { min old sample ≤ result }
+    ensures high { result ≤ max old sample }
+{
+    let weighed = 4 * u128::from(old) + u128::from(sample);
+    (weighed / 5) as u64
+}
+
+/// How many choices an entry has made since its last probe.
+///
+/// A contract sees it as that number, which is under 3200 or 4294967295 (`IsCount`).
+#[derive(Clone, Copy, Debug, PartialEq, Eq)]
+pub struct Cadence {
+    since_probe: u32,
+}
+
+impl Model for Cadence {
+    ghost Value = { ℕ };
+
+    ghost view = { λ c. c.since_probe };
+
+    ghost invariant = { λ c. IsCount c.since_probe };
+
+    ghost inverse = { λ n. record { since_probe = n } };
+}
+
+impl Default for Cadence {
+    ghost is_default = { λ c. c ≡ 0 };
+
+    fn default() -> Cadence {
+        Cadence { since_probe: 0 }
+    }
+}
+
+impl Cadence {
+    /// Makes the next choice reach its interval, whatever that is.
+    pub fn saturate(&mut self)
+        ensures count { self.new ≡ 4294967295 }
+        ensures in_range { IsCount self.new }
+    {
+        self.since_probe = u32::MAX;
+    }
+
+    /// Chooses between two paths, and says whether the run is to be measured.
+    ///
+    /// The times are nanoseconds. After a number of choices, which is the greater the slower the
+    /// loser is, the loser runs, measured, where `probe_allowed`, and the count begins anew; where
+    /// it isn't, the preferred path is measured in its place. In between the preferred path runs,
+    /// and each tenth is measured (`arbitrated`, `count_after`).
+    pub fn arbitrate<P: Copy>(
+        &mut self,
+        preferred: P,
+        loser: P,
+        winner_time: u64,
+        loser_time: u64,
+        probe_allowed: bool,
+    ) -> (P, bool)
+        ensures answer { result ≡ arbitrated
+            (contest_of preferred loser winner_time loser_time probe_allowed) self.old }
+        ensures count { self.new ≡ count_after
+            (contest_of preferred loser winner_time loser_time probe_allowed) self.old }
+        ensures in_range { IsCount self.new }
+    {
+        let interval = interval(winner_time, loser_time);
+        let count = self.since_probe.saturating_add(1);
+        if count >= interval {
+            self.since_probe = 0;
+            return (if probe_allowed { loser } else { preferred }, true);
+        }
+        self.since_probe = count;
+        (preferred, count.is_multiple_of(PREFERRED_SAMPLE_INTERVAL))
+    }
+}
+
+// How many choices lie between two probes of the loser.
+fn interval(winner_time: u64, loser_time: u64) -> u32
+    ensures value { result ≡ interval_of winner_time loser_time }
+    ensures most { result ≤ 3200 }
+{
+    RESAMPLE_INTERVAL << doublings(winner_time, loser_time)
+}
+
+// How often the interval is doubled. Both ends, which are what most choices come to, are found by
+// divisions by constants, which are cheaper than one by a time.
+fn doublings(winner_time: u64, loser_time: u64) -> u32
+    ensures value { result ≡ doublings_of winner_time loser_time }
+    ensures most { result ≤ 5 }
+{
+    let winner = winner_time.max(1);
+    if loser_time / 2 < winner {
+        return 0;
+    }
+    if loser_time / (MAX_RESAMPLE_SHIFT + 1) >= winner {
+        return MAX_RESAMPLE_SHIFT as u32;
+    }
+    let slowdown = loser_time / winner;
+    slowdown.saturating_sub(1).min(MAX_RESAMPLE_SHIFT) as u32
 }

@@ -5,10 +5,9 @@ ghost use Rattle.parallel_policy.specs.Spawns.{SpawnHistory, SpawnState, HoldsSp
 ghost use Rattle.parallel_policy.specs.declared.history.SpawnEvent.{SpawnEvent};
 ghost use Rattle.parallel_policy.specs.declared.history.SpawnSample.{SpawnSample};
 
-use crate::cadence::Cadence;
-use crate::estimate::Estimate;
 use crate::execution::SpawnExecution;
 use crate::history::SpawnSample;
+use crate::run::{Cadence, Estimate};
 use std::marker::Model;
 
 /// What a policy keeps for one key of spawned jobs: how long a job takes inline and on a worker,

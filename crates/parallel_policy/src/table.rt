@@ -1,5 +1,8 @@
 //! The entries of a policy, by their keys.
-ghost use Rattle.std.specs.Prelude.{◌≡◌, ◌∷◌, None, IsSome, IfOk, IsOk, OnOk, OnErr};
+ghost use Rattle.std.specs.Prelude.{◌≡◌, ◌∷◌, false, None, Some, IsSome, IfOk, IsOk, OnOk, OnErr};
+ghost use Rattle.std.specs.Fn.{FnOnceReturnsAtMut};
+ghost use Rattle.std.specs.HashMap.{get};
+ghost use Rattle.parallel_policy.specs.Entries.{IsEntryOr};
 ghost use Rattle.parallel_policy.specs.Runs.{RunHistory, run_choice};
 ghost use Rattle.parallel_policy.specs.Spawns.{SpawnHistory, spawn_choice};
 ghost use Rattle.parallel_policy.specs.declared.history.RunEvent.{RunEvent};
@@ -7,8 +10,6 @@ ghost use Rattle.parallel_policy.specs.declared.history.SpawnEvent.{SpawnEvent};
 ghost use Rattle.parallel_policy.specs.declared.history.SpawnSample.{SpawnSample};
 ghost use Rattle.parallel_fault.specs.Trouble.{IsMemoryOnErr};
 
-use crate::choices::Choices;
-use crate::entries::change_entry;
 use crate::execution::{RunExecution, SpawnExecution};
 use crate::key::Key;
 use crate::run::RunEntry;
@@ -16,7 +17,7 @@ use crate::spawn::SpawnEntry;
 use parallel_fault::Fault;
 use std::alloc::Global;
 use std::collections::HashMap;
-use std::sync::Wait;
+use std::hash::Hash;
 
 /// What a policy knows: an entry of runs and an entry of spawned jobs for each key that was chosen
 /// for.
@@ -201,30 +202,32 @@ impl Table {
     }
 }
 
-/// The choices of a table, exactly: each is a choice or a record of its run entries.
-///
-/// A choice for a key that has an entry isn't refused, and a record for one is never left out. A
-/// record for a key without an entry is left out where the new entry was refused memory; a key that
-/// was chosen for has one.
-impl Choices<Key> for Table {
-    ghost use Rattle.parallel_policy.specs.Tables.{ChoosesRun, RecordsRun, RefusesRun};
-
-    ghost chooses = { ChoosesRun };
-
-    ghost records = { RecordsRun };
-
-    ghost refused = { RefusesRun };
-
-    fn choose<Rt: Wait>(
-        &mut self,
-        _rt: &Rt,
-        key: Key,
-        parallelism: usize,
-    ) -> Result<(RunExecution, bool), Fault> {
-        self.choose_run(key, parallelism)
+// Changes the entry at `key` by `change`, a default one where there is none; no other entry
+// changes.
+fn change_entry<K: Eq + Hash + Copy, V: Default + Copy, T, F: FnOnce(&mut V) -> T>(
+    entries: &mut HashMap<K, V>,
+    key: K,
+    change: F,
+) -> Result<T, Fault>
+where
+    T: Drop,
+    requires { F.IsAlwaysCallable change }
+    ensures changed { IfOk result (λ answer. (before after : V)
+        × IsEntryOr V.is_default (get K.eq entries.old key) before
+        × FnOnceReturnsAtMut F.FnOnce change before answer after
+        × (get K.eq entries.new key ≡ Some after)) }
+    ensures others { (other : K) → K.eq key other ≡ false
+        → get K.eq entries.new other ≡ get K.eq entries.old other }
+    ensures fault { IsMemoryOnErr result }
+    ensures err { OnErr result ((other : K)
+        → get K.eq entries.new other ≡ get K.eq entries.old other) }
+    ensures known { IsSome (get K.eq entries.old key) → IsOk result }
+{
+    if let Some(entry) = entries.get_mut(&key) {
+        return Ok(change(entry));
     }
-
-    fn record<Rt: Wait>(&mut self, _rt: &Rt, key: Key, execution: RunExecution, nanoseconds: u64) {
-        let _ = self.record_run(key, execution, nanoseconds);
-    }
+    let mut entry = V::default();
+    let answer = change(&mut entry);
+    let _old = entries.insert(key, entry)?;
+    Ok(answer)
 }

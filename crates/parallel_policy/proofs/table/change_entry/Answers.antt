@@ -1,6 +1,6 @@
 -- What the entry was, and what the change left.
 use Rattle.std.proofs.Common.{rules, refl}
-use Rattle.parallel_policy.proofs.entries.change_entry.Goals as goal
+use Rattle.parallel_policy.proofs.table.change_entry.Goals as goal
 
 pub returns-in-Some-clause-changed : goal.returns-in-Some-clause-changed
 returns-in-Some-clause-changed g c = (
