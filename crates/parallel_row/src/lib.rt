@@ -3,9 +3,9 @@
 #![tactic(auto)]
 
 pub mod cuts;
-pub mod items;
 pub mod row;
 
 pub use cuts::{Along, Cuts, Even};
-pub use items::{each_chunk, each_chunk_in_turn, each_item, each_item_in_turn};
-pub use row::{ROW, parts_in_row, parts_in_turn};
+pub use row::{
+    ROW, each_chunk, each_chunk_in_turn, each_item, each_item_in_turn, parts_in_row, parts_in_turn,
+};

@@ -1,19 +1,79 @@
-//! The parts of a list that is cut, each changed where it lies, in threads that one thread starts
-//! one after another.
+//! The parts of a list that is cut, its items, or its chunks of one size, each changed where it
+//! lies, in threads that one thread starts one after another.
 //!
 //! A thread that was just started may have to share a processor with the one that started it. So
 //! whoever has threads to share starts all others before it works itself: `join_mut` is given a
 //! part for a new thread, and all the others beside it.
 ghost use Rattle.std.specs.Prelude.{◌≡◌, ◌≢◌, ◌≤◌, ◌<◌, ◌+◌, ◌-◌, ◌^◌, ℕ, length};
-ghost use Rattle.std.specs.Fork.{AcceptsAt, ChangesAt};
+ghost use Rattle.std.specs.Fork.{AcceptsAt, AcceptsChunksMut, AcceptsEach, ChangesAt, ChangesChunks, ChangesEach};
+ghost use Rattle.std.specs.Int.NonZero.{non_zero_usize_get};
 ghost use Rattle.std.specs.Thread.{IsSend, IsSync};
-ghost use Rattle.parallel_row.specs.Cut.{AcceptsCut, ChangesCut, Rises, part_of_cut};
+ghost use Rattle.parallel_row.specs.Cut.{AcceptsCut, AcceptsFrom, ChangesCut, ChangesFrom, Rises, part_of_cut};
 
-use crate::cuts::Cuts;
+use crate::cuts::{Cuts, Even};
+use std::num::NonZeroUsize;
 use std::thread::{Threads, join_mut};
 
 /// One thread starts fewer than that many others, since each start takes some of its stack.
 pub const ROW: usize = 64;
+
+/// Calls `op` with each item and its index. The items are split into at most `threads` parts, of
+/// which the caller's thread has one.
+pub fn each_item<Rt: Threads + Sync, T: Send, F: Fn(usize, &mut T) + Sync>(
+    rt: &Rt,
+    threads: NonZeroUsize,
+    items: &mut [T],
+    op: &F,
+)
+    requires { AcceptsEach F.Fn op.now items.old }
+    ensures { ChangesEach F.Fn op.now items.old items.new }
+{
+    let part = move |from: usize, part: &mut [T]|
+        requires room { from + length part.now < 2 ^ 64 }
+        requires accepts { AcceptsFrom F.Fn op.now from part.now }
+        ensures { ChangesFrom F.Fn op.entry.now from part.entry.now part.exit.now }
+    { items_from(op, from, part) };
+    let len = items.len();
+    let size = len.div_ceil(threads.get()).max(1);
+    let count = len.div_ceil(size);
+    parts_in_row(rt, threads.get(), &Even { size, len }, count, items, &part);
+}
+
+/// Calls `op` with each chunk of `size` items, the last one maybe shorter, and the index at which
+/// it begins. The chunks are split among at most `threads` threads, of which the caller's is one.
+pub fn each_chunk<Rt: Threads + Sync, T: Send, F: Fn(usize, &mut [T]) + Sync>(
+    rt: &Rt,
+    threads: NonZeroUsize,
+    size: NonZeroUsize,
+    items: &mut [T],
+    op: &F,
+)
+    requires { AcceptsChunksMut F.Fn op.now (non_zero_usize_get size) items.old }
+    ensures { ChangesChunks F.Fn op.now (non_zero_usize_get size) items.old items.new }
+{
+    let size = size.get();
+    let len = items.len();
+    let count = len.div_ceil(size);
+    parts_in_row(rt, threads.get(), &Even { size, len }, count, items, op);
+}
+
+/// Calls `op` with each item and its index, one after another.
+pub fn each_item_in_turn<T, F: Fn(usize, &mut T)>(items: &mut [T], op: &F)
+    requires { AcceptsEach F.Fn op.now items.old }
+    ensures { ChangesEach F.Fn op.now items.old items.new }
+{
+    items_from(op, 0, items);
+}
+
+/// Calls `op` with each chunk of `size` items and the index at which it begins, one after another.
+pub fn each_chunk_in_turn<T, F: Fn(usize, &mut [T])>(size: NonZeroUsize, items: &mut [T], op: &F)
+    requires { AcceptsChunksMut F.Fn op.now (non_zero_usize_get size) items.old }
+    ensures { ChangesChunks F.Fn op.now (non_zero_usize_get size) items.old items.new }
+{
+    let size = size.get();
+    let len = items.len();
+    parts_in_turn(&Even { size, len }, len.div_ceil(size), items, op);
+}
 
 /// Calls `op` with each of the first `count` parts, which the items are, and the index at which it
 /// begins: side by side on at most `threads` threads, of which the caller's is one, and on no more
@@ -274,4 +334,23 @@ fn length_between<C: Cuts>(cuts: &C, begin: usize, end: usize) -> usize
     ensures { result ≡ C.place cuts.now end - C.place cuts.now begin }
 {
     cuts.place(end) - cuts.place(begin)
+}
+
+// The items of a list whose first one has that index, one after another.
+fn items_from<T, F: Fn(usize, &mut T)>(op: &F, from: usize, items: &mut [T])
+    requires room { from + length items.old < 2 ^ 64 }
+    requires accepts { AcceptsFrom F.Fn op.now from items.old }
+    ensures { ChangesFrom F.Fn op.now from items.old items.new }
+{
+    for k in 0..items.len() {
+        at_item(op, from + k, &mut items[k]);
+    }
+}
+
+// One item.
+fn at_item<T, F: Fn(usize, &mut T)>(op: &F, index: usize, item: &mut T)
+    requires { AcceptsAt F.Fn op.now index item.old }
+    ensures { ChangesAt F.Fn op.now index item.old item.new }
+{
+    op(index, item);
 }

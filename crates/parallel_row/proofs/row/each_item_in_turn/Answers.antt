@@ -1,6 +1,6 @@
 -- The part is the whole list.
 use Rattle.parallel_row.proofs.{◌+◌, arith, refl, ChangesAt, seen_elsewhere}
-use Rattle.parallel_row.proofs.items.each_item_in_turn.Goals as goal
+use Rattle.parallel_row.proofs.row.each_item_in_turn.Goals as goal
 
 pub returns : goal.returns
 returns g c i d l = (

@@ -1,6 +1,6 @@
 -- Each chunk is one of std's.
 use Rattle.parallel_row.proofs.{◌≡◌, ◌<◌, arith, div_ceil, length, rules, AcceptsAt, ChangesAt, chunks_accepted, chunks_from_parts, even_places, even_rises, parts_from_chunks}
-use Rattle.parallel_row.proofs.items.each_chunk_in_turn.Goals as goal
+use Rattle.parallel_row.proofs.row.each_chunk_in_turn.Goals as goal
 
 pub parts_in_turn-requires-after_bounds : goal.parts_in_turn-requires-after_bounds
 parts_in_turn-requires-after_bounds g c κs bounds =

@@ -1,6 +1,6 @@
 -- Each item is in a part.
 use Rattle.parallel_row.proofs.{◌≡◌, ◌+◌, ◌*◌, ◌/◌, ◌%◌, ◌<◌, ◌^◌, ◌∙◌, min, get_or, get_or_default, length, ap, arith, refl, rules, div_ceil, div-add-mod', mod_below, ChangesAt, even_begins, even_counts, even_part, even_places, even_rises, item_of_chunk, length_of_chunk, seen_elsewhere}
-use Rattle.parallel_row.proofs.items.each_item.Goals as goal
+use Rattle.parallel_row.proofs.row.each_item.Goals as goal
 
 pub parts_in_row-requires-after_bounds : goal.parts_in_row-requires-after_bounds
 parts_in_row-requires-after_bounds g c κs bounds =

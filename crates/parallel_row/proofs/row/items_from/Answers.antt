@@ -1,6 +1,6 @@
 -- One more item has changed.
 use Rattle.parallel_row.proofs.{◌+◌, ◌∙◌, arith, get_or-set_other, ChangesAt, one_more_changed}
-use Rattle.parallel_row.proofs.items.items_from.Goals as goal
+use Rattle.parallel_row.proofs.row.items_from.Goals as goal
 
 pub loop-k-preserved : goal.loop-k-preserved
 loop-k-preserved g c =

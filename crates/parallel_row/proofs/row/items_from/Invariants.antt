@@ -1,6 +1,6 @@
 -- the items from the turn's on are as they were, those before it changed
 use Rattle.parallel_row.proofs.{◌≡◌, ℕ, ◌+◌, ◌<◌, ◌≤◌, get_or, ChangesAt}
-use Rattle.parallel_row.proofs.items.items_from.Given as goal
+use Rattle.parallel_row.proofs.row.items_from.Given as goal
 
 abbrev pub invariant-loop-k : goal.invariant-loop-k
 invariant-loop-k g l =
