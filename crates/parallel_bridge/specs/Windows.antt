@@ -32,14 +32,14 @@ IsRow at start slots room before len = (at ≡ start) × (len ≡ length (values
 
 -- the block of a window's slots: where these begin, how many they are and how many the block has,
 -- and where those after them begin
-pub record Site : Type 0 where
+pub record Extent : Type 0 where
   pub start : Ptr
   pub room : ℕ
   pub capacity : ℕ
   pub end : Ptr
 
-abbrev pub site_code : Coded Site
-site_code = code_by (Ptr × (ℕ × (ℕ × Ptr)))
+abbrev pub extent_code : Coded Extent
+extent_code = code_by (Ptr × (ℕ × (ℕ × Ptr)))
     (coded× coded_ptr (coded× coded_ℕ (coded× coded_ℕ coded_ptr)))
     (λ s. (s.start, (s.room, (s.capacity, s.end))))
     (λ p. record { start = p.0; room = p.1.0; capacity = p.1.1.0; end = p.1.1.1 }) (λ _. refl)
@@ -49,8 +49,8 @@ abbrev pub IsTail : {X : Type 0} → Ptr → Ptr → List (Option X) → ℕ →
 IsTail at end slots capacity room = (at ≡ end) × (slots ≡ replicate (capacity - room) None)
 
 -- they lie in the block, and the slots after them follow them
-abbrev pub IsSite : RattleType → Site → Type 0
-IsSite R s = (s.end ≡ shifted R s.start s.room) × FitsInBlock R s.capacity × (s.room ≤ s.capacity)
+abbrev pub IsExtent : RattleType → Extent → Type 0
+IsExtent R s = (s.end ≡ shifted R s.start s.room) × FitsInBlock R s.capacity × (s.room ≤ s.capacity)
 
 -- the right window's slots begin where the left one's end
 abbrev pub Follows : {X Y : Type 0} → RattleType → View X → View Y → Type 0

@@ -6,7 +6,7 @@ ghost use Rattle.parallel_bridge.specs.ExactSizes.{GivesExactly, ends_at_first, 
 ghost use Rattle.std.specs.Iterator.Adapters.{copied_source, zip_first, zip_second};
 ghost use Rattle.std.specs.Slice.Iter.{iter_rest};
 ghost use Rattle.std.proofs.lemmas.Iterator.{YieldsList-from_range, YieldsList-from_slice};
-ghost use Rattle.parallel_bridge.specs.Windows.{IsSite};
+ghost use Rattle.parallel_bridge.specs.Windows.{IsExtent};
 
 use crate::parts::Parts;
 use crate::segment::WindowSegment;
@@ -92,7 +92,7 @@ where
     ghost count = { λ s. size (I.remaining s.iter) };
 
     ghost keeps = { λ home rest. (rest.start ≡ home.start) × (rest.room ≡ home.room)
-        × IsSite I.Item.row home };
+        × IsExtent I.Item.row home };
 
     fn len(&self) -> usize {
         self.iter.len()

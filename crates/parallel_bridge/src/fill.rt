@@ -26,9 +26,6 @@ use std::marker::PhantomData;
 use std::num::NonZeroUsize;
 use std::thread::Threads;
 
-pub mod map;
-pub mod map_init;
-pub mod try_map;
 pub mod writer;
 
 /// Writes the results for the items of a list into the room for them, where the segments of the

@@ -5,7 +5,7 @@ ghost use Rattle.std.specs.List.{Contains};
 ghost use Rattle.std.specs.Vec.Ownership.{FitsInBlock};
 ghost use Rattle.parallel_bridge.specs.Fills.{IsFull, SamePlaces};
 ghost use Rattle.parallel_bridge.specs.Pairs.{odd_of, pair_items, pair_rest, pairs_of};
-ghost use Rattle.parallel_bridge.specs.Windows.{Follows, IsSite};
+ghost use Rattle.parallel_bridge.specs.Windows.{Follows, IsExtent};
 
 use crate::cursor::Cursor;
 use crate::parts::Parts;
@@ -56,7 +56,7 @@ impl<T: Send + Drop> Parts for Pairs<T> {
     ghost count = { λ s. length s.items.items / 2 };
 
     ghost keeps = { λ home rest. (rest.start ≡ home.start) × (rest.room ≡ home.room)
-        × IsSite T.row home };
+        × IsExtent T.row home };
 
     #[tactic(auto, using(crate::proofs::Neighbours::length_pairs))]
     fn len(&self) -> usize {

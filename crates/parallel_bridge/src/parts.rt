@@ -5,7 +5,7 @@ ghost use Rattle.std.specs.Iterator.{Drains, HoldsAlong, IsFinite};
 ghost use Rattle.std.specs.List.{All, Contains};
 ghost use Rattle.parallel_fault.specs.Trouble.{IsMemoryOnErr};
 ghost use Rattle.parallel_bridge.specs.Fills.{SamePlaces};
-ghost use Rattle.parallel_bridge.specs.Windows.{IsSite};
+ghost use Rattle.parallel_bridge.specs.Windows.{IsExtent};
 
 use crate::producer::{DrainProducer, Producer, SliceDrain};
 use crate::segment::{ProducerSegment, Segment, WindowSegment};
@@ -133,7 +133,7 @@ impl<T: Send + Drop> Parts for DrainProducer<T> {
     ghost count = { λ s. length (drain_items s) };
 
     ghost keeps = { λ home rest. (rest.start ≡ home.start) × (rest.room ≡ home.room)
-        × IsSite T.row home };
+        × IsExtent T.row home };
 
     fn len(&self) -> usize {
         Producer::len(self)

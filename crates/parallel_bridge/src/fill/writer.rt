@@ -1,9 +1,14 @@
-//! What gives the results for a list's items one by one, and the loop that writes them.
+//! What gives the results for a list's items one by one, and the loop that writes them: those of a
+//! closure, of one that may fail, and of one with a state at hand.
 ghost use Rattle.std.specs.Prelude.{◌≡◌, ◌++◌, ◌+◌, ◌<◌, ◌∷◌, [], IfErr, IfOk, List, Result, length};
+ghost use Rattle.std.specs.Borrow.{MutBor};
 ghost use Rattle.parallel_bridge.specs.Fills.{Answered, IsFull, IsRoom, SamePlaces, kept};
 ghost use Rattle.parallel_bridge.specs.Endings.{Goes, IsUnderway, ending};
 ghost use Rattle.parallel_bridge.specs.Halting.{halting};
+ghost use Rattle.parallel_bridge.specs.Lists.{MapOf};
 ghost use Rattle.parallel_bridge.specs.Sources.{GivesSome};
+ghost use Rattle.parallel_bridge.specs.States.{MapStep, StateSegment, StatesFrom};
+ghost use Rattle.parallel_bridge.specs.Tries.{EachOk, FirstErr};
 ghost use Rattle.parallel_bridge.specs.Watched.{items_of, watch_of};
 
 use crate::cursor::Cursor;
@@ -11,6 +16,7 @@ use crate::halt::Halt;
 use crate::watch::Watch;
 use crate::watched::Watched;
 use crate::window::part::Window;
+use std::convert::Infallible;
 
 /// Gives the results for the items of a segment one by one, with a state that goes from item to
 /// item and is fresh for each segment.
@@ -107,4 +113,99 @@ pub fn write_items<X: Drop, L, C: Cursor<X, L>, W: Writer<X>, G: Watch>(
         return (Err(Halt::Stopped), rest, watch);
     }
     (Ok(()), rest, watch)
+}
+
+/// Maps each item by a closure.
+#[derive(Drop)]
+pub struct MapWriter<'f, F> {
+    /// The closure that maps an item.
+    pub map_op: &'f F,
+}
+
+impl<'f, X: Drop, T: Drop, F: Fn(X) -> T> Writer<X> for MapWriter<'f, F> {
+    type Answer = T;
+
+    type Error = Infallible;
+
+    type State = ();
+
+    ghost ready = { λ s. Unit {0} };
+
+    ghost takes = { λ s x. F.pre s.map_op.now x };
+
+    ghost so_far = { λ s xs state ys. MapOf (F.post s.map_op.now) xs ys };
+
+    ghost fails = { λ s xs e. ⊥ };
+
+    fn begin(&self) {}
+
+    fn answer(&self, _state: &mut (), item: X) -> Result<T, Infallible> {
+        Ok((self.map_op)(item))
+    }
+}
+
+/// Maps each item by a closure that may fail.
+#[derive(Drop)]
+pub struct TryMapWriter<'f, F> {
+    /// The closure that maps an item.
+    pub map_op: &'f F,
+}
+
+impl<'f, X: Drop, T: Drop, E: Drop, F: Fn(X) -> Result<T, E>> Writer<X> for TryMapWriter<'f, F> {
+    type Answer = T;
+
+    type Error = E;
+
+    type State = ();
+
+    ghost ready = { λ s. Unit {0} };
+
+    ghost takes = { λ s x. F.pre s.map_op.now x };
+
+    ghost so_far = { λ s xs state ys. EachOk (F.post s.map_op.now) xs ys };
+
+    ghost fails = { λ s xs e. FirstErr (F.post s.map_op.now) xs e };
+
+    fn begin(&self) {}
+
+    fn answer(&self, _state: &mut (), item: X) -> Result<T, E> {
+        (self.map_op)(item)
+    }
+}
+
+/// Maps each item by a closure with a state at hand, which is fresh for each segment.
+#[derive(Drop)]
+pub struct MapInitWriter<'f, N, F> {
+    /// The closure that makes a state.
+    pub init: &'f N,
+    /// The closure that maps an item.
+    pub map_op: &'f F,
+}
+
+impl<'f, X: Drop, S: Drop, T: Drop, N: Fn() -> S, F: Fn(&mut S, X) -> T> Writer<X>
+    for MapInitWriter<'f, N, F> {
+    type Answer = T;
+
+    type Error = Infallible;
+
+    type State = S;
+
+    ghost ready = { λ s. N.IsAlwaysCallable s.init.now };
+
+    ghost takes = { λ s x. (p : MutBor S) → F.pre s.map_op.now p x };
+
+    ghost so_far = { λ s xs state ys. (more : List X) (zs : List T)
+        → StatesFrom (MapStep (λ p x y q. F.post s.map_op.now p x y q)) state more zs
+        → StateSegment (N.post s.init.now) (MapStep (λ p x y q. F.post s.map_op.now p x y q))
+        (xs ++ more) (ys ++ zs) };
+
+    ghost fails = { λ s xs e. ⊥ };
+
+    fn begin(&self) -> S {
+        (self.init)()
+    }
+
+    fn answer(&self, state: &mut S, item: X) -> Result<T, Infallible> {
+        Ok((self.map_op)(state, item))
+    }
 }

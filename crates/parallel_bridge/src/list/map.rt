@@ -7,7 +7,7 @@ ghost use Rattle.parallel_bridge.specs.Lists.{MapOf};
 ghost use Rattle.parallel_bridge.specs.Sources.{GivesSome};
 
 use crate::fill::fill;
-use crate::fill::map::MapWriter;
+use crate::fill::writer::MapWriter;
 use crate::parts::Parts;
 use crate::troubles::unfailing;
 use crate::window::home::Home;

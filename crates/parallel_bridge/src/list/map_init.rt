@@ -9,7 +9,7 @@ ghost use Rattle.parallel_bridge.specs.Sources.{GivesSome};
 ghost use Rattle.parallel_bridge.specs.States.{MapStep, StateSegment, StatesAlong};
 
 use crate::fill::fill;
-use crate::fill::map_init::MapInitWriter;
+use crate::fill::writer::MapInitWriter;
 use crate::parts::Parts;
 use crate::room::with_places;
 use crate::troubles::unfailing;

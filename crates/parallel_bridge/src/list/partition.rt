@@ -8,10 +8,10 @@ ghost use Rattle.parallel_bridge.specs.Sources.{GivesSome};
 
 use crate::bridge::bridge;
 use crate::consumer::partition::{PartitionConsumer, spare_lists};
+use crate::drive::segments;
 use crate::list::moving::put_in_lists;
 use crate::parts::Parts;
 use crate::room::{keep_pages_of, places_for, second_places_for, with_places};
-use crate::segments::segments;
 use crate::troubles::unfailing;
 use parallel_fault::Fault;
 use std::alloc::Global;

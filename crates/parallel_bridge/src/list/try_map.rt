@@ -9,7 +9,7 @@ ghost use Rattle.parallel_bridge.specs.Sources.{GivesSome};
 ghost use Rattle.parallel_bridge.specs.Tries.{TryMapOf};
 
 use crate::fill::fill_watched;
-use crate::fill::try_map::TryMapWriter;
+use crate::fill::writer::TryMapWriter;
 use crate::gate::watch::seats_for;
 use crate::gate::{Gate, GateWatch};
 use crate::parts::Parts;

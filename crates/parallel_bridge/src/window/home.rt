@@ -1,6 +1,6 @@
 //! The block that a window is over: reserved, adopted from a vector, and handed over or freed.
 ghost use Rattle.std.specs.Prelude.{◌≡◌, ◌≤◌, ◌<◌, ◌^◌, [], IfOk, length};
-ghost use Rattle.parallel_bridge.specs.Windows.{IsSite, part};
+ghost use Rattle.parallel_bridge.specs.Windows.{IsExtent, part};
 
 use crate::window::cells::{Base, Cells, Deed};
 use crate::window::part::Window;
@@ -22,11 +22,11 @@ pub struct Home<T, A: Allocator> {
 
 impl<T, A: Allocator> Model for Home<T, A> {
     ghost use Rattle.std.specs.Prelude.{◌≡◌, ◌<◌, ◌^◌};
-    ghost use Rattle.parallel_bridge.specs.Windows.{IsTail, Site, site_code};
+    ghost use Rattle.parallel_bridge.specs.Windows.{IsTail, Extent, extent_code};
 
-    ghost Value = { Site };
+    ghost Value = { Extent };
 
-    ghost coded = { site_code };
+    ghost coded = { extent_code };
 
     ghost view = { λ h. record {
       start = h.base.ptr;
@@ -48,7 +48,7 @@ impl<T, A: Allocator> Home<T, A> {
     /// `AllocError` where it can't be allocated.
     pub fn reserve(alloc: A, room: usize) -> Result<(Window<T>, Self), AllocError>
         ensures window { IfOk result (λ r. (r.0 ≡ part r.1.start room 0 []) × (r.1.room ≡ room)) }
-        ensures site { IfOk result (λ r. IsSite T.row r.1) }
+        ensures extent { IfOk result (λ r. IsExtent T.row r.1) }
     {
         // glibc gives free memory at the end of its heap back once that is twice the greatest block
         // that was freed. A list that was gathered and its results, as long, would be just as much,
@@ -64,7 +64,7 @@ impl<T, A: Allocator> Home<T, A> {
     /// `AllocError` where it can't be allocated.
     pub(crate) fn reserve_exact(alloc: A, room: usize) -> Result<(Window<T>, Self), AllocError>
         ensures window { IfOk result (λ r. (r.0 ≡ part r.1.start room 0 []) × (r.1.room ≡ room)) }
-        ensures site { IfOk result (λ r. IsSite T.row r.1) }
+        ensures extent { IfOk result (λ r. IsExtent T.row r.1) }
     {
         let vec = Vec::with_capacity(alloc, room)?;
         Ok(Home::over(vec, room))
@@ -74,7 +74,7 @@ impl<T, A: Allocator> Home<T, A> {
     pub fn adopt(vec: Vec<T, A>) -> (Window<T>, Self)
         ensures window { (result.0 ≡ part result.1.start (length vec.items) 0 vec.items)
             × (result.1.room ≡ length vec.items) }
-        ensures site { IsSite T.row result.1 }
+        ensures extent { IsExtent T.row result.1 }
     {
         let room = vec.len();
         Home::over(vec, room)
@@ -85,7 +85,7 @@ impl<T, A: Allocator> Home<T, A> {
         requires fits { (length vec.items ≤ room) × (room ≤ vec.cap) }
         ensures window { (result.0 ≡ part result.1.start room 0 vec.items)
             × (result.1.room ≡ room) }
-        ensures site { IsSite T.row result.1 }
+        ensures extent { IsExtent T.row result.1 }
     {
         let len = vec.len();
         let capacity = vec.capacity();
@@ -114,7 +114,7 @@ impl<T, A: Allocator> Home<T, A> {
 impl<T> Window<T> {
     /// The items as a vector, which has the window's block. Nothing is copied.
     pub fn into_vec<A: Allocator>(self, home: Home<T, A>) -> Vec<T, A>
-        requires whole { (self.start ≡ home.start) × (self.room ≡ home.room) × IsSite T.row home }
+        requires whole { (self.start ≡ home.start) × (self.room ≡ home.room) × IsExtent T.row home }
         requires first { self.before ≡ 0 }
         ensures { result.items ≡ self.items }
     {
@@ -137,7 +137,7 @@ impl<T> Window<T> {
 impl<T: Drop, A: Allocator> Home<T, A> {
     /// Drops what is left in the window, and frees its block.
     pub fn free(self, mut window: Window<T>)
-        requires { (window.start ≡ self.start) × (window.room ≡ self.room) × IsSite T.row self }
+        requires { (window.start ≡ self.start) × (window.room ≡ self.room) × IsExtent T.row self }
     {
         window.clear();
         drop(window.into_vec(self));

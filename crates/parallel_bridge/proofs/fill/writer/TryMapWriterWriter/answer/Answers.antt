@@ -1,6 +1,6 @@
 -- One value more.
 use Rattle.parallel_bridge.proofs.{one_value}
-use Rattle.parallel_bridge.proofs.fill.try_map.TryMapWriterWriter.answer.Goals as goal
+use Rattle.parallel_bridge.proofs.fill.writer.TryMapWriterWriter.answer.Goals as goal
 
 pub returns-clause-next : goal.returns-clause-next
 returns-clause-next g c = one_value

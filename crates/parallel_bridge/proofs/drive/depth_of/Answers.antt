@@ -1,6 +1,6 @@
 -- The number of digits is the least power of 2 above the number.
 use Rattle.parallel_bridge.proofs.{◌≡◌, arith, rules, cutdepth_bounds}
-use Rattle.parallel_bridge.proofs.segments.depth_of.Goals as goal
+use Rattle.parallel_bridge.proofs.drive.depth_of.Goals as goal
 
 pub returns-clause-enough : goal.returns-clause-enough
 returns-clause-enough c =

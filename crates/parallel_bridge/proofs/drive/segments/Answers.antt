@@ -1,7 +1,7 @@
 -- What was pushed on an empty list are the lengths of the segments.
 use Rattle.parallel_bridge.proofs.{◌≡◌, ◌++◌, ◌∙◌, ◌*◌, ◌^◌, ◌≤◌, length, sum, sym, ap, arith, halved_lengths, cutdepth, shape_lengths, sum-halved, length-halved_depth, length-halved_items}
 use Rattle.parallel_bridge.proofs.{cutdepth_bounds}
-use Rattle.parallel_bridge.proofs.segments.segments.Goals as goal
+use Rattle.parallel_bridge.proofs.drive.segments.Goals as goal
 
 -- what was pushed
 pushed : (c : goal.In_ok-push_halves)

@@ -1,6 +1,6 @@
 -- One step more of the states.
 use Rattle.parallel_bridge.proofs.{rules, ◌++◌, ◌∷◌, [], sym, subst, append_assoc, MapStep, StateSegment}
-use Rattle.parallel_bridge.proofs.fill.map_init.MapInitWriterWriter.answer.Goals as goal
+use Rattle.parallel_bridge.proofs.fill.writer.MapInitWriterWriter.answer.Goals as goal
 
 pub returns-clause-next : goal.returns-clause-next
 returns-clause-next g c xs ys so_far more zs steps =
