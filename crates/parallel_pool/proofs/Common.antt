@@ -2,7 +2,7 @@
 -- place. Declares nothing.
 pub use Rattle.atomic_table.proofs.Lists.{at_set, set_again}
 pub use Rattle.atomic_table.specs.Table.{Allows, Enters, Joins, Me, Splits, State, keeps}
-pub use Rattle.parallel_pool.specs.CountHistory.{CountsAs, CountsFrom, FitsShare, Given, IsCountOf, SameShare, Sees, founder, hearing_gives, one_less, one_share, share_view, stranger, telling_gives}
+pub use Rattle.parallel_pool.specs.CountHistory.{CountsAs, CountsFrom, FitsShare, IsCountOf, SameShare, Sees, founder, hearing_gives, one_less, one_share, share_view, stranger, telling_gives}
 pub use Rattle.parallel_pool.specs.CountHistory.{times_given}
 pub use Rattle.parallel_pool.specs.Histories.{Begins, Longer}
 pub use Rattle.parallel_pool.specs.JobHistory.{DeedMoves, DeedsLead, Extends, FitsJobs, HasPushed, HasTaken, IsEachOnce, IsJobHistoryOf, Lineup, event, events_by, job_view, new_pass, no_jobs}

@@ -1,6 +1,6 @@
 -- A share of a count latch learns which gives another has seen.
-use Rattle.parallel_pool.proofs.Common.{◌≡◌, ℕ, ◌+◌, ◌<◌, ◌≤◌, List, [], ◌∷◌, ◌++◌, length, set, slice_index, refl, sym, ap, ◌∙◌, ⊎_elim, arith, length-set, length-append, some, get_elem?, State, Me}
-use Rattle.parallel_pool.proofs.Common.{Allows, Splits, Joins, keeps, at_set, ShareView, Longer, share_view, telling_gives, hearing_gives, stranger, FitsShare, CountsAs, IsCountOf, Given, SameShare}
+use Rattle.parallel_pool.proofs.Common.{◌≡◌, ℕ, ◌+◌, List, [], ◌∷◌, ◌++◌, length, set, slice_index, refl, sym, ap, ◌∙◌, ⊎_elim, arith, length-set, length-append, some, get_elem?, State, Me}
+use Rattle.parallel_pool.proofs.Common.{Allows, Splits, Joins, keeps, at_set, ShareView, Longer, share_view, telling_gives, hearing_gives, stranger, FitsShare, CountsAs, IsCountOf, SameShare}
 use Rattle.parallel_pool.proofs.HistoryBeginnings.{longest}
 use Rattle.parallel_pool.proofs.CountSteps.{held, held_set, held_more, all_set, all_more}
 
@@ -109,16 +109,3 @@ count_learns n slots id me s h homes at small =
       ),
       ((long.2, long.3, long.4), (refl, refl), refl),
     )
-
--- who has given a share has seen one give more at least
-pub gives_more : (old new : ShareView) → Given old new → length old.seen < length new.seen
-gives_more old new g =
-    let all : length new.seen ≡ length (g.0 ++ g.1 ∷ []) = ap length g.2.ends in
-    let before : length g.0 ≡ length (old.seen ++ g.2.begins.0) = ap length g.2.begins.1 in
-    omega (arith, all, before, length-append g.0 (g.1 ∷ []), length-append old.seen g.2.begins.0)
-
--- who has learnt has seen as many gives as the other at least
-pub learns_more : (one other both : List ℕ) → Longer one other both → length other ≤ length both
-learns_more one other both l =
-    let e : length both ≡ length (other ++ l.1.0) = ap length l.1.1 in
-    omega (arith, e, length-append other l.1.0)

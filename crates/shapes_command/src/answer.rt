@@ -12,7 +12,7 @@ use crate::root::explored_root;
 use crate::search::explored_sum;
 use crate::sum::{parallel_sum, serial_sum};
 use commonware_parallel::mocks::mix;
-use parallel_bridge::segments::segments;
+use parallel_bridge::drive::segments;
 use parallel_fault::Fault;
 use parallel_policy::Site;
 use parallel_pool::rayon::planned_threads;
