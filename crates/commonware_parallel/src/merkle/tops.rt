@@ -7,7 +7,32 @@ use std::marker::PhantomData;
 
 /// The top of the leaves of the next `count` items, in a block of `size`. A node without a partner
 /// goes up unchanged. It takes no memory.
+// (the blocks of a first level are pairs, and a call for each would take as long as its node)
+#[inline(always)]
 pub(crate) fn next_top<X: Drop, R, C: Cursor<X, R>, T, L: Fn(X) -> T, F: Fn(T, T) -> T>(
+    items: &mut C,
+    size: usize,
+    count: usize,
+    leaf: &L,
+    combine: &F,
+) -> T
+    requires items { HasItems C.ready C.gives C.may (L.pre leaf.now) count items.old }
+    requires accepts { F.IsAlwaysCallable combine.now }
+    requires size { IsBlockSize size }
+    requires some { 0 < count }
+    requires within { count ≤ size }
+    ensures top { ComesDown
+        (λ xs. HasGiven C.ready C.gives C.may C.leaves items.old xs items.new)
+        (L.post leaf.now) (F.post combine.now) size count (result ∷ []) }
+{
+    if count == size && size == 2 {
+        return Pair::top(items, leaf, combine);
+    }
+    top_by_halves(items, size, count, leaf, combine)
+}
+
+// The same, by calls for the halves.
+fn top_by_halves<X: Drop, R, C: Cursor<X, R>, T, L: Fn(X) -> T, F: Fn(T, T) -> T>(
     items: &mut C,
     size: usize,
     count: usize,
@@ -28,10 +53,10 @@ pub(crate) fn next_top<X: Drop, R, C: Cursor<X, R>, T, L: Fn(X) -> T, F: Fn(T, T
     }
     let half = size / 2;
     if count <= half {
-        return next_top(items, half, count, leaf, combine);
+        return top_by_halves(items, half, count, leaf, combine);
     }
     let left = full_top(items, half, leaf, combine);
-    let right = next_top(items, half, count - half, leaf, combine);
+    let right = top_by_halves(items, half, count - half, leaf, combine);
     combine(left, right)
 }
 
