@@ -36,7 +36,7 @@ impl<'s, Rt: Threads + Wait + Sync, S: Strategy, P: Place> On<'s, Rt, S, P> {
         let keep = |item: I::Item| -> Option<I::Item>
             requires { AcceptsAt (F.pre test) item }
             ensures { KeptBy (λ x b. FnReturnsAt F.Fn test x b) item result }
-        { if test(&item) { Some(item) } else { None } };
+        { kept(item, &test) };
         self.filter_map(source, keep)
     }
 
@@ -67,4 +67,12 @@ impl<'s, Rt: Threads + Wait + Sync, S: Strategy, P: Place> On<'s, Rt, S, P> {
         let parts = self.map_partition(source, unkeyed)?;
         Ok(parts.0)
     }
+}
+
+/// The item, where it satisfies the test.
+pub(crate) fn kept<T: Drop, F: Fn(&T) -> bool>(item: T, test: &F) -> Option<T>
+    requires { AcceptsAt (F.pre test.now) item }
+    ensures { KeptBy (λ x b. FnReturnsAt F.Fn test.now x b) item result }
+{
+    if test(&item) { Some(item) } else { None }
 }

@@ -8,6 +8,7 @@ ghost use Rattle.parallel_calls.specs.Firsts.{FirstOf, FirstPlaceOf, FirstValueO
 ghost use Rattle.parallel_calls.specs.Functions.{AcceptsAt, GoesBy};
 ghost use Rattle.parallel_calls.specs.Verdicts.{LooksFor, LooksForPlace, LooksForValue};
 
+use crate::filter::kept;
 use crate::on::On;
 use commonware_parallel::{Enumerated, Fault, Place, Producer, Source, Strategy};
 use std::sync::Wait;
@@ -37,7 +38,12 @@ impl<'s, Rt: Threads + Wait + Sync, S: Strategy, P: Place> On<'s, Rt, S, P> {
         let look = |item: I::Item| -> Result<(), I::Item>
             requires { AcceptsAt (F.pre test) item }
             ensures { LooksFor (λ x b. FnReturnsAt F.Fn test x b) item result }
-        { if test(&item) { Err(item) } else { Ok(()) } };
+        {
+            match kept(item, &test) {
+                Some(found) => Err(found),
+                None => Ok(()),
+            }
+        };
         self.first_stop(source, look)
     }
 

@@ -1,7 +1,7 @@
 -- The test was asked of the item.
 use Rattle.std.proofs.Common.{refl}
 use Rattle.std.proofs.lemmas.Fn.{says_at}
-use Rattle.parallel_calls.proofs.on.fn.On.filter.keep.Goals as goal
+use Rattle.parallel_calls.proofs.filter.kept.Goals as goal
 
 pub returns-then-test : goal.returns-then-test
 returns-then-test g c = (refl, says_at g.F.Fn c.test.ensures c.if-test.true)
