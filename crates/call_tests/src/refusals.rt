@@ -26,9 +26,11 @@ const WAYS: [Way; 6] = [
     Way::Explorer(Rule::Seeded(1), 2, 2),
 ];
 
+const REFUSED: Trouble<u32> = Trouble::Fault(Fault::Memory);
+
 // Whether that was refused. It succeeds otherwise.
 fn is_refused(rt: &impl Test, of: Row, found: Outcome) -> bool {
-    if found == Err(Trouble::Fault(Fault::Memory)) {
+    if found == Err(REFUSED) {
         return true;
     }
     row(rt, of, found, Ok(()));
@@ -38,44 +40,46 @@ fn is_refused(rt: &impl Test, of: Row, found: Outcome) -> bool {
 fn search(rt: &impl Test) -> Outcome {
     match explore(rt, rt.alloc(), |explorer| explorer.planning().get()) {
         Ok(8) => Ok(()),
-        Err(ExploreError::Build(ThreadPoolBuildError::Memory)) => Err(Trouble::Fault(
-            Fault::Memory,
-        )),
+        Err(ExploreError::Build(ThreadPoolBuildError::Memory)) => Err(REFUSED),
         _ => Err(Trouble::Closure(8)),
     }
 }
 
-// Makes each call twice with that many items: how many were refused, a strategy's own making among
-// them.
-fn try_twice(rt: &impl Test, way: Way, len: usize) -> u64 {
+// After the first call that is refused each one has to succeed.
+fn succeeds(rt: &impl Test, of: Row, found: Outcome, refused: &mut bool) {
+    if *refused {
+        row(rt, of, found, Ok(()));
+    } else {
+        *refused = is_refused(rt, of, found);
+    }
+}
+
+// Makes each call twice with that many items. A strategy's own making may be what is refused.
+fn try_twice(rt: &impl Test, way: Way, len: usize, refused: &mut bool) {
     let (Ok(through), Ok(acts)) = (Through::of(rt, way), acts(rt.alloc())) else {
-        return 1;
+        return succeeds(rt, Row::of(way, Act::Rest, len), Err(REFUSED), refused);
     };
-    let mut refused = 0u64;
     for act in acts.iter().chain(&[Act::Job]) {
         for _ in 0..2u32 {
-            let act = *act;
-            let made = through.does(rt, act, len, Visitor::Passes);
-            let is_one = is_refused(rt, Row { way, act, len }, made);
-            refused = refused.saturating_add(u64::from(is_one));
+            let of = Row::of(way, *act, len);
+            let made = through.does(rt, *act, len, Visitor::Passes);
+            succeeds(rt, of, made, refused);
         }
     }
-    refused
 }
 
 #[test]
 fn each_call_succeeds_or_is_refused(rt: HostRuntime) {
-    let mut refused = 0u64;
+    let mut refused = false;
     for way in WAYS {
         for len in [0, 1, 2, 9, 1000] {
-            refused = refused.saturating_add(try_twice(&rt, way, len));
+            try_twice(&rt, way, len, &mut refused);
         }
     }
     for _ in 0..2u32 {
         let of = Row::of(Way::Sequential, Act::Rest, 0);
-        refused = refused.saturating_add(u64::from(is_refused(&rt, of, search(&rt))));
+        succeeds(&rt, of, search(&rt), &mut refused);
     }
-    equal(&rt, "refused, but for one", refused.saturating_sub(1), 0);
 }
 
 // Tries a call with more and more memory, until it succeeds: how often it was refused.

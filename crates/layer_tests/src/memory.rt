@@ -9,8 +9,8 @@ use crate::checks::{number, row};
 use crate::claims::{last_claim, opened, refill_at, run_of_rows, steal_at};
 use crate::tables::SITE;
 use crate::windows::{Doing, does};
+use parallel_bridge::drive::segments;
 use parallel_bridge::gate::{Gate, GateSeat};
-use parallel_bridge::segments::segments;
 use parallel_bridge::window::home::Home;
 use parallel_policy::execution::RunExecution;
 use parallel_policy::key::Key;
@@ -246,14 +246,15 @@ fn make<R: Threads + Wait + Sync + Abort>(rt: &R, alloc: Global, called: Called)
 // Each call is made twice: for runs in which one allocation fails.
 #[test]
 fn each_call_of_a_layer_answers_or_is_refused(rt: HostRuntime) {
-    let mut refused = 0u32;
+    let mut refused = false;
     for called in CALLS {
         for _ in 0..2 {
-            let made = make(&rt, rt.alloc(), called);
-            refused = refused.wrapping_add(u32::from(made.is_none()));
+            let is_refused = make(&rt, rt.alloc(), called).is_none();
+            let of = (called, "refused, and another before it");
+            row(&rt, of, refused && is_refused, false);
+            refused = refused || is_refused;
         }
     }
-    row(&rt, "but for one at most", refused.min(1), refused);
 }
 
 // Makes a call with more and more memory, until it succeeds: how often it was refused.

@@ -8,7 +8,7 @@ use parallel_bridge::bridge::bridge;
 use parallel_bridge::consumer::try_fold::TryFoldConsumer;
 use parallel_bridge::consumer::try_reduce::TryReduceConsumer;
 use parallel_bridge::fill::fill;
-use parallel_bridge::fill::try_map::TryMapWriter;
+use parallel_bridge::fill::writer::TryMapWriter;
 use parallel_bridge::list::try_fold::try_fold_parallel;
 use parallel_bridge::list::try_map::try_map_parallel;
 use parallel_bridge::parts::ProducerParts;

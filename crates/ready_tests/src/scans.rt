@@ -36,19 +36,16 @@ fn then(first: Line, second: Line) -> Line {
 }
 
 // A line for each number.
-fn lines_of(alloc: Global, numbers: &[u64]) -> Result<Vec<Line>, Fault> {
-    let mut lines = Vec::new(alloc);
-    for number in numbers {
-        lines.push(Line {
-            slope: number.wrapping_add(2),
-            offset: *number,
-        })?;
-    }
-    Ok(lines)
+fn lines_of<Rt: Host>(rt: &Rt, alloc: Global, numbers: &[u64]) -> Vec<Line> {
+    let lines = numbers.iter().map(|number: &u64| Line {
+        slope: number.wrapping_add(2),
+        offset: *number,
+    });
+    lines.collect::<Vec<Line>>(alloc).expect(rt, "memory")
 }
 
 // The inclusive scan from the left, in a plain loop.
-fn inclusive_of(alloc: Global, lines: &[Line]) -> Result<Vec<Line>, Fault> {
+fn inclusive_of<Rt: Host>(rt: &Rt, alloc: Global, lines: &[Line]) -> Vec<Line> {
     let mut so_far = None;
     let mut expected = Vec::new(alloc);
     for line in lines {
@@ -56,43 +53,52 @@ fn inclusive_of(alloc: Global, lines: &[Line]) -> Result<Vec<Line>, Fault> {
             Some(before) => then(before, *line),
             None => *line,
         };
-        expected.push(next)?;
+        expected.push(next).expect(rt, "memory");
         so_far = Some(next);
     }
-    Ok(expected)
+    expected
 }
 
 // The exclusive one.
-fn exclusive_of(alloc: Global, lines: &[Line]) -> Result<Vec<Line>, Fault> {
+fn exclusive_of<Rt: Host>(rt: &Rt, alloc: Global, lines: &[Line]) -> Vec<Line> {
     let mut so_far = START;
     let mut expected = Vec::new(alloc);
     for line in lines {
-        expected.push(so_far)?;
+        expected.push(so_far).expect(rt, "memory");
         so_far = then(so_far, *line);
     }
-    Ok(expected)
+    expected
 }
 
 // Stops the test where a scan differs from its loop, over a source or in place.
-fn scans<Rt: Host, S: Strategy>(on: &On<'_, Rt, S, Site>, numbers: &[u64]) -> Result<(), Fault> {
-    let mut through = lines_of(on.alloc, numbers)?;
-    let mut before = lines_of(on.alloc, numbers)?;
-    let inclusive = inclusive_of(on.alloc, through.as_slice())?;
-    let exclusive = exclusive_of(on.alloc, before.as_slice())?;
+fn scans<Rt: Host, S: Strategy>(on: &On<'_, Rt, S, Site>, numbers: &[u64]) {
+    let rt = on.rt;
+    let mut through = lines_of(rt, on.alloc, numbers);
+    let mut before = lines_of(rt, on.alloc, numbers);
+    let ends = inclusive_of(rt, on.alloc, through.as_slice());
+    let starts = exclusive_of(rt, on.alloc, before.as_slice());
     let lines = Copies {
         slice: through.as_slice(),
     };
-    let (ends, starts) = (inclusive.as_slice(), exclusive.as_slice());
-    let found = on.inclusive_scan(lines, then)?;
-    row(on.rt, ("inclusive", numbers), found.as_slice(), ends);
-    let found = on.exclusive_scan(lines, START, then)?;
-    row(on.rt, ("exclusive", numbers), found.as_slice(), starts);
-    on.inclusive_scan_in_place(&mut through, then)?;
-    row(on.rt, ("in place", numbers), through.as_slice(), ends);
-    on.exclusive_scan_in_place(&mut before, START, then)?;
+    let found = on.inclusive_scan(lines, then).expect(rt, "memory");
+    row(
+        rt,
+        ("inclusive", numbers),
+        found.as_slice(),
+        ends.as_slice(),
+    );
+    let found = on.exclusive_scan(lines, START, then).expect(rt, "memory");
+    row(
+        rt,
+        ("exclusive", numbers),
+        found.as_slice(),
+        starts.as_slice(),
+    );
+    let made = on.inclusive_scan_in_place(&mut through, then);
+    row(rt, ("in place", numbers), (made, through), (Ok(()), ends));
+    let made = on.exclusive_scan_in_place(&mut before, START, then);
     let of = ("exclusive, in place", numbers);
-    row(on.rt, of, before.as_slice(), starts);
-    Ok(())
+    row(rt, of, (made, before), (Ok(()), starts));
 }
 
 // The same for lists of each length below 20, and for 1,000 random lists.
@@ -106,14 +112,12 @@ fn agree<Rt: Host, S: Strategy>(rt: &Rt, alloc: Global, strategy: &S) {
     let mut random = Random::new(88172645463325252);
     let mut numbers = Vec::new(alloc);
     for _ in 0..20 {
-        let made = scans(&on, numbers.as_slice());
-        row(rt, ("scans", numbers.as_slice()), made, Ok(()));
+        scans(&on, numbers.as_slice());
         numbers.push(random.below(50)).expect(rt, "memory");
     }
     for _ in 0..1000 {
         let numbers = random.list(alloc, 40, 50).expect(rt, "memory");
-        let made = scans(&on, numbers.as_slice());
-        row(rt, ("scans", numbers.as_slice()), made, Ok(()));
+        scans(&on, numbers.as_slice());
     }
 }
 
