@@ -9,6 +9,9 @@ use commonware_parallel::{Chooser, Clock, Fault, Rayon, Strategy, Trouble};
 use futures::executor::block_on;
 use linked_list_allocator::LocalHeap;
 use parallel_bridge::window::home::Home;
+use std::io::Eprint;
+use std::random::RandomSource;
+use std::rt::Files;
 use std::sync::Arc;
 use test_calls::acts::Act;
 use test_calls::calls::Called;
@@ -43,7 +46,7 @@ fn a_home_gives_its_block_back(rt: HostRuntime) {
 }
 
 // How many KiB this process has of that: of addresses, now or at most, or of memory.
-fn kibibytes(rt: &impl Test, name: &str) -> u64 {
+fn kibibytes(rt: &(impl Test + Files), name: &str) -> u64 {
     processes::figure(rt, name).expect(rt, "a count")
 }
 
@@ -78,7 +81,7 @@ enum Block {
 // Stops the test where the process grows by a block for each call, in each of some tries: in one of
 // them no thread has got a store of its own. A small one is seen in a thousand calls by the
 // memory, and a large one at once by the addresses.
-fn gives_back(rt: &impl Test, through: &Through, of: Row, fails: usize, kind: Block) {
+fn gives_back(rt: &(impl Test + Files), through: &Through, of: Row, fails: usize, kind: Block) {
     let (name, enough, turns) = match kind {
         Block::Small | Block::Refused => ("RssAnon:", 16, 1000),
         _ => ("VmSize:", 40_000, 1),
@@ -149,7 +152,7 @@ enum Made {
 }
 
 // Spawns a job and waits for it.
-fn wait_for_job<C: Clock>(rt: &impl Test, strategy: &Rayon<C>) {
+fn wait_for_job<C: Clock>(rt: &(impl Test + RandomSource), strategy: &Rayon<C>) {
     let spawned = strategy.spawn(rt, rt.alloc(), SITE, 1, Gives(7));
     let given = block_on(rt, spawned.expect(rt, "a job"));
     equal(rt, "a job", given.expect(rt, "a queue"), 7);
@@ -161,7 +164,7 @@ fn learning_pool(rt: &impl Test) -> Rayon<Stepping> {
     learning(rt, rt.alloc(), 4, clock).expect(rt, "a pool")
 }
 
-fn make_one(rt: &impl Test, made: Made) {
+fn make_one(rt: &(impl Test + RandomSource), made: Made) {
     let alloc = rt.alloc();
     match made {
         Made::Block => drop(Vec::<u8>::with_capacity(alloc, 64).expect(rt, "memory")),
@@ -180,7 +183,7 @@ fn make_one(rt: &impl Test, made: Made) {
 }
 
 // By how many KiB the process grows while as many are made again, of which each is dropped.
-fn growth_by(rt: &impl Test, made: Made, many: u32) -> u64 {
+fn growth_by(rt: &(impl Test + Files + RandomSource), made: Made, many: u32) -> u64 {
     let mut before = 0u64;
     for turn in 0..many.saturating_mul(2) {
         if turn == many {
@@ -192,7 +195,7 @@ fn growth_by(rt: &impl Test, made: Made, many: u32) -> u64 {
 }
 
 // Whether each block that is freed stays with the process.
-fn stays(rt: &impl Test) -> bool {
+fn stays(rt: &(impl Test + Files + RandomSource + Eprint)) -> bool {
     let stays = growth_by(rt, Made::Block, 40_000) >= 1_024;
     if stays {
         let _told = eprintln!(rt; "nothing is seen: blocks stay with the process");
@@ -219,7 +222,7 @@ fn what_is_made_and_let_go_leaves_no_block(rt: HostRuntime) {
 }
 
 // The same of a thousand calls through such a strategy, which end well or fail.
-fn calls_leave_none(rt: &impl Test, way: Way) {
+fn calls_leave_none(rt: &(impl Test + Files + RandomSource + Eprint), way: Way) {
     if stays(rt) {
         return;
     }

@@ -1,33 +1,31 @@
 //! Functions that stop a test. A call of these costs a tenth of an `assert_eq!` or an `assert!` in
 //! its place to prove.
 use std::fmt::Debug;
-use std::io::Eprint;
 use std::num::NonZeroUsize;
 use std::process::Abort;
-use std::random::RandomSource;
-use std::rt::Files;
 use test_calls::acts::{Act, Host, acts};
 use test_calls::logs::{Line, Log};
 use test_calls::sources::LOST;
 use test_calls::ways::{Row, Through, Way};
 
-/// The runtime of a test.
-pub trait Test: Host + Files + RandomSource + Eprint + Abort {}
+/// The runtime of a test. One that reads files or prints says so beside it: each test proves anew
+/// what its bounds ask for.
+pub trait Test: Host + Abort {}
 
-impl<Rt: Host + Files + RandomSource + Eprint + Abort> Test for Rt {}
+impl<Rt: Host + Abort> Test for Rt {}
 
 /// Stops the test where that doesn't hold, and prints its text.
-pub fn held(rt: &impl Test, text: &str, is_so: bool) {
+pub fn held(rt: &impl Abort, text: &str, is_so: bool) {
     assert!(rt; is_so, "{text}");
 }
 
 /// Stops the test where the two differ, and prints both and what the first one is.
-pub fn equal<T: PartialEq + Debug + Drop>(rt: &impl Test, text: &str, found: T, wanted: T) {
+pub fn equal<T: PartialEq + Debug + Drop>(rt: &impl Abort, text: &str, found: T, wanted: T) {
     assert_eq!(rt; found, wanted, "{text}");
 }
 
 /// Stops the test where the two differ, and prints both and their row.
-pub fn row<T: PartialEq + Debug + Drop>(rt: &impl Test, row: Row, found: T, wanted: T) {
+pub fn row<T: PartialEq + Debug + Drop>(rt: &impl Abort, row: Row, found: T, wanted: T) {
     assert_eq!(rt;
         found,
         wanted,
@@ -41,7 +39,7 @@ pub fn has(rt: &impl Test, log: &Log, of: Row, wanted: &[Line]) {
 }
 
 /// A number that isn't 0.
-pub fn number(rt: &impl Test, value: usize) -> NonZeroUsize {
+pub fn number(rt: &impl Abort, value: usize) -> NonZeroUsize {
     NonZeroUsize::new(value).expect(rt, "a number above 0")
 }
 

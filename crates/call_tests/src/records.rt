@@ -12,6 +12,7 @@ use commonware_parallel::policy::{Key, RunExecution};
 use commonware_parallel::{Job, Policy, Rayon, Strategy, Trouble};
 use futures::executor::block_on;
 use std::alloc::Global;
+use std::random::RandomSource;
 use std::sync::Arc;
 use std::sync::atomic::{AtomicU64, Ordering};
 use test_calls::acts::{Act, does};
@@ -229,7 +230,7 @@ impl<S: Drop> Job<S, u64> for Reads {
 }
 
 // What such a job returns, once it has ended.
-fn read_by_a_job(rt: &impl Test, asked: &Asked) -> u64 {
+fn read_by_a_job(rt: &(impl Test + RandomSource), asked: &Asked) -> u64 {
     let readings = Arc::try_clone(&asked.readings).expect(rt, "a handle");
     let spawned = asked
         .pool

@@ -6,6 +6,8 @@ use crate::checks::{Test, all_acts, equal, row, through};
 use crate::meets::power_within;
 use commonware_parallel::mocks::Rule;
 use parallel_pool::rayon::map_in_row;
+use std::io::Eprint;
+use std::rt::Files;
 use test_calls::acts::Act;
 use test_calls::calls::Called;
 use test_calls::others::{PART, Sorted};
@@ -17,7 +19,7 @@ use test_support::processes::last_number;
 
 // How many threads are started meanwhile, as few as in the best of many tries, as others start
 // threads too; the greatest number is where it never succeeds.
-fn least_started(rt: &impl Test, through: &Through, of: Row, enough: u64) -> u64 {
+fn least_started(rt: &(impl Test + Files), through: &Through, of: Row, enough: u64) -> u64 {
     let mut least = u64::MAX;
     for _ in 0..200u32 {
         let before = last_number(rt);
@@ -51,7 +53,7 @@ fn most_of(way: Way, act: Act, others: u64) -> (usize, u64) {
 
 // Stops the test where a call through a strategy starts more threads than that. Where others start
 // threads all the time there is nothing to be seen.
-fn all_start(rt: &impl Test, way: Way, others: u64) {
+fn all_start(rt: &(impl Test + Files + Eprint), way: Way, others: u64) {
     let through = through(rt, way);
     for act in all_acts(rt) {
         // No call's start depends on its source.
@@ -127,7 +129,13 @@ fn wanted_of(act: Act, threads: usize) -> (usize, usize) {
 
 // Stops the test where the caller of that has begun its own part before so many threads were
 // started, in one of some tries.
-fn starts_first(rt: &impl Test, host: HostRuntime, through: &Through, of: Row, wanted: u64) {
+fn starts_first(
+    rt: &(impl Test + Files),
+    host: HostRuntime,
+    through: &Through,
+    of: Row,
+    wanted: u64,
+) {
     let tries = if wanted > 3 { 1 } else { 5 };
     for _ in 0..tries {
         let own = OwnPart::of(&host);
@@ -139,7 +147,7 @@ fn starts_first(rt: &impl Test, host: HostRuntime, through: &Through, of: Row, w
 }
 
 // The same of each call, by that many threads: no call's start depends on its source.
-fn all_start_first(rt: &impl Test, host: HostRuntime, way: Way, threads: usize) {
+fn all_start_first(rt: &(impl Test + Files), host: HostRuntime, way: Way, threads: usize) {
     let through = through(rt, way);
     for act in all_acts(rt) {
         let (len, others) = wanted_of(act, threads);
@@ -168,7 +176,7 @@ fn a_caller_starts_many_threads_before_its_own_part(rt: HostRuntime) {
 }
 
 // The same of calls side by side, the last of which is the caller's own.
-fn row_starts_first(rt: &impl Test, host: HostRuntime, calls: usize) {
+fn row_starts_first(rt: &(impl Test + Files), host: HostRuntime, calls: usize) {
     let wanted = (calls as u64).saturating_sub(1);
     for _ in 0..10u32 {
         let own = OwnPart::of(&host);
