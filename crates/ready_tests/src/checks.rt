@@ -1,8 +1,12 @@
-//! A function that stops a test.
+//! A function that stops a test, and the calls through a strategy.
+use commonware_parallel::Site;
+use parallel_calls::On;
+use std::alloc::Global;
 use std::fmt::Debug;
 use std::process::Abort;
 use std::sync::Wait;
 use std::thread::Threads;
+use test_strategies::SITE;
 
 /// What a call and its test may do.
 pub trait Host: Threads + Wait + Sync + Abort {}
@@ -15,4 +19,14 @@ pub type Of<'a> = (&'a str, &'a [u64]);
 /// Stops the test where the two differ, and prints both and of which call they are.
 pub fn row<T: PartialEq + Debug + Drop>(rt: &impl Abort, of: Of<'_>, found: T, wanted: T) {
     assert_eq!(rt; found, wanted, "{of:?}");
+}
+
+/// The calls through a strategy.
+pub fn calls_of<'s, Rt, S>(rt: &'s Rt, alloc: Global, strategy: &'s S) -> On<'s, Rt, S, Site> {
+    On {
+        rt,
+        alloc,
+        strategy,
+        site: SITE,
+    }
 }

@@ -1,5 +1,5 @@
 //! Each call on 1,000 random lists through each strategy, against std's iterator.
-use crate::checks::{Host, row};
+use crate::checks::{Host, calls_of, row};
 use crate::random::Random;
 use commonware_parallel::mocks::{Explorer, Rule};
 use commonware_parallel::{Copies, Sequential, Site, Strategy};
@@ -8,7 +8,7 @@ use std::alloc::Global;
 use std::cmp::Ordering;
 use std::sync::atomic::{AtomicU64, Ordering as Counting};
 use std::test::Fail;
-use test_strategies::{SITE, pool};
+use test_strategies::pool;
 
 // What is asked of a number.
 fn is_seventh(number: u64) -> bool {
@@ -202,12 +202,7 @@ fn joins<Rt: Host, S: Strategy>(on: &On<'_, Rt, S, Site>, numbers: &[u64]) {
 
 // The same of the calls of a group, for 1,000 random lists.
 fn agree<Rt: Host, S: Strategy>(rt: &Rt, alloc: Global, strategy: &S, group: usize) {
-    let on = On {
-        rt,
-        alloc,
-        strategy,
-        site: SITE,
-    };
+    let on = calls_of(rt, alloc, strategy);
     let mut random = Random::new(88172645463325252);
     for _ in 0..1000 {
         let numbers = random.list(alloc, 40, 50).expect(rt, "memory");
@@ -275,12 +270,7 @@ fn four_threads_sort_items_as_std_does_and_join_lists_in_order(rt: HostRuntime) 
 fn sums_that_do_not_fit_are_none(rt: HostRuntime) {
     let alloc = rt.alloc();
     let strategy = pool(&rt, alloc, 4, 4).expect(&rt, "a pool");
-    let on = On {
-        rt: &rt,
-        alloc,
-        strategy: &strategy,
-        site: SITE,
-    };
+    let on = calls_of(&rt, alloc, &strategy);
     for (numbers, sum, checked) in [
         ([u64::MAX, 0, 0, 1], 0, None),
         ([u64::MAX - 3, 1, 1, 1], u64::MAX, Some(u64::MAX)),

@@ -1,6 +1,6 @@
 //! The scans of random lists through each strategy, against plain loops, and that chunks are
 //! scanned side by side.
-use crate::checks::{Host, row};
+use crate::checks::{Host, calls_of, row};
 use crate::random::Random;
 use commonware_parallel::mocks::{Explorer, Rule};
 use commonware_parallel::{Copies, Fault, Sequential, Site, Strategy};
@@ -10,7 +10,7 @@ use std::sync::Wait;
 use std::sync::atomic::{AtomicBool, AtomicU64, Ordering};
 use std::test::Fail;
 use std::thread::{Threads, yield_now};
-use test_strategies::{SITE, pool};
+use test_strategies::pool;
 
 // What a number is multiplied by, and what is added then.
 #[derive(Clone, Copy, Debug, PartialEq, Eq)]
@@ -81,19 +81,11 @@ fn scans<Rt: Host, S: Strategy>(on: &On<'_, Rt, S, Site>, numbers: &[u64]) {
         slice: through.as_slice(),
     };
     let found = on.inclusive_scan(lines, then).expect(rt, "memory");
-    row(
-        rt,
-        ("inclusive", numbers),
-        found.as_slice(),
-        ends.as_slice(),
-    );
+    let of = ("inclusive", numbers);
+    row(rt, of, found.as_slice(), ends.as_slice());
     let found = on.exclusive_scan(lines, START, then).expect(rt, "memory");
-    row(
-        rt,
-        ("exclusive", numbers),
-        found.as_slice(),
-        starts.as_slice(),
-    );
+    let of = ("exclusive", numbers);
+    row(rt, of, found.as_slice(), starts.as_slice());
     let made = on.inclusive_scan_in_place(&mut through, then);
     row(rt, ("in place", numbers), (made, through), (Ok(()), ends));
     let made = on.exclusive_scan_in_place(&mut before, START, then);
@@ -103,12 +95,7 @@ fn scans<Rt: Host, S: Strategy>(on: &On<'_, Rt, S, Site>, numbers: &[u64]) {
 
 // The same for lists of each length below 20, and for 1,000 random lists.
 fn agree<Rt: Host, S: Strategy>(rt: &Rt, alloc: Global, strategy: &S) {
-    let on = On {
-        rt,
-        alloc,
-        strategy,
-        site: SITE,
-    };
+    let on = calls_of(rt, alloc, strategy);
     let mut random = Random::new(88172645463325252);
     let mut numbers = Vec::new(alloc);
     for _ in 0..20 {
@@ -196,11 +183,6 @@ fn met<Rt: Threads + Wait + Sync, S: Strategy>(on: &On<'_, Rt, S, Site>) -> Resu
 #[test]
 fn two_chunks_meet(rt: HostRuntime) {
     let strategy = pool(&rt, rt.alloc(), 2, 2).expect(&rt, "a pool");
-    let on = On {
-        rt: &rt,
-        alloc: rt.alloc(),
-        strategy: &strategy,
-        site: SITE,
-    };
+    let on = calls_of(&rt, rt.alloc(), &strategy);
     row(&rt, ("meetings", &[]), met(&on), Ok(4));
 }
