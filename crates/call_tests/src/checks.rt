@@ -3,7 +3,7 @@
 use std::fmt::Debug;
 use std::num::NonZeroUsize;
 use std::process::Abort;
-use test_calls::acts::{Act, Host, acts};
+use test_calls::every_call::{Act, Host, acts};
 use test_calls::logs::{Line, Log};
 use test_calls::sources::LOST;
 use test_calls::ways::{Row, Through, Way};

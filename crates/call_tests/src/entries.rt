@@ -6,8 +6,8 @@ use crate::requests::{Fate, Path, all_but_one, bare_acts, fate_of, laden_acts, l
 use commonware_parallel::policy::{Key, RunExecution, SpawnExecution, SpawnSample};
 use commonware_parallel::{Batches, Clock, Fault, Policy, Rayon, Site, Strategy, Trouble};
 use std::num::NonZeroUsize;
-use test_calls::acts::{Act, does};
 use test_calls::clocks::Stepping;
+use test_calls::every_call::{Act, does};
 use test_calls::steps::Gives;
 use test_calls::visits::{self, Visitor};
 use test_calls::ways::{Row, Way};

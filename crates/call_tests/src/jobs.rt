@@ -6,7 +6,7 @@ use commonware_parallel::mocks::{Explorer, Rule};
 use commonware_parallel::{Call, Strategy};
 use futures::executor::block_on;
 use std::sync::Arc;
-use test_calls::acts::Act;
+use test_calls::every_call::Act;
 use test_calls::logs::{self, OUTER, RAN};
 use test_calls::meetings::Meeting;
 use test_calls::noting::Noting;

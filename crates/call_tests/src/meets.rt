@@ -3,8 +3,8 @@
 //! as many as threads; and how often a call calls its closures and begins a state.
 use crate::checks::{Test, all_acts, row, through};
 use commonware_parallel::mocks::Rule;
-use test_calls::acts::Act;
 use test_calls::calls::Called;
+use test_calls::every_call::Act;
 use test_calls::meetings::Meeting;
 use test_calls::others::{Batched, Filling, PART, Rooted, Sorted};
 use test_calls::ready::Ready;

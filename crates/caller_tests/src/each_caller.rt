@@ -5,7 +5,7 @@ use batch_verifier::{split_by_check, sum_within, verify_all, verify_digests};
 use commonware_parallel::{Call, Runtime, Sequential, Site, Strategy};
 use merkle_tree::{Tree, commitment};
 use parallel_calls::On;
-use test_calls::acts::{Act, Host};
+use test_calls::every_call::{Act, Host};
 use test_calls::logs::{self, INNER, Line, OUTER, asked_at};
 use test_calls::noting::Noting;
 use test_calls::others::Batched;

@@ -12,7 +12,7 @@ mod explorers;
 #[cfg(test)]
 mod lists;
 #[cfg(test)]
-mod sides;
+mod sorts_and_joins;
 #[cfg(test)]
 mod tiles;
 #[cfg(test)]

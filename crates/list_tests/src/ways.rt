@@ -5,7 +5,7 @@ use crate::batches::batch_ranges;
 use crate::checks::{Of, number, returns};
 use crate::explorers::PLACE;
 use crate::lists::{count, zero};
-use crate::sides::parts_see;
+use crate::sorts_and_joins::parts_see;
 use commonware_parallel::mocks::{Explorer, explore, pooled};
 use commonware_parallel::{Call, Chooser, Fault, Grid, Path, Pick, Strategy};
 use std::alloc::Global;

@@ -1,5 +1,5 @@
 //! The list calls, each over any source, with closures that visit a probe.
-use crate::acts::Host;
+use crate::every_call::Host;
 use crate::ready::{Ready, make_ready};
 use crate::steps::{add_counts, no_count};
 use crate::visits::Visitor;

@@ -2,9 +2,9 @@
 //! a call do.
 #![tactic(auto)]
 
-pub mod acts;
 pub mod calls;
 pub mod clocks;
+pub mod every_call;
 pub mod logs;
 pub mod meetings;
 pub mod noting;

@@ -1,7 +1,7 @@
 //! The strategies of the tests' one list of calls, and the numbers of threads.
-use crate::acts::{Act, Host, does};
 use crate::calls::Outcome;
 use crate::clocks::Stepping;
+use crate::every_call::{Act, Host, does};
 use crate::noting::Noting;
 use crate::visits::Visitor;
 use commonware_parallel::mocks::{Explorer, Rule, TASKS, WORKERS};
