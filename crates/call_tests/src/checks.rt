@@ -1,7 +1,6 @@
 //! Functions that stop a test. A call of these costs a tenth of an `assert_eq!` or an `assert!` in
 //! its place to prove.
 use std::fmt::Debug;
-use std::num::NonZeroUsize;
 use std::process::Abort;
 use test_calls::every_call::{Act, Host, acts};
 use test_calls::logs::{Line, Log};
@@ -36,11 +35,6 @@ pub fn row<T: PartialEq + Debug + Drop>(rt: &impl Abort, row: Row, found: T, wan
 /// Stops the test where a log has other lines than these.
 pub fn has(rt: &impl Test, log: &Log, of: Row, wanted: &[Line]) {
     row(rt, of, log.lines(rt).as_slice(), wanted);
-}
-
-/// A number that isn't 0.
-pub fn number(rt: &impl Abort, value: usize) -> NonZeroUsize {
-    NonZeroUsize::new(value).expect(rt, "a number above 0")
 }
 
 /// All calls.

@@ -1,7 +1,7 @@
 //! What a policy has of the calls of strategies that it was handed to: at which keys there are
 //! entries, and the times that they keep; of a call that is refused that it was asked, where it
 //! was, and no time. Each measured run takes as long as the clock goes on by at each reading.
-use crate::checks::{Test, equal, held, number, row};
+use crate::checks::{Test, equal, held, row};
 use crate::requests::{Fate, Path, all_but_one, bare_acts, fate_of, laden_acts, len_of};
 use commonware_parallel::policy::{Key, RunExecution, SpawnExecution, SpawnSample};
 use commonware_parallel::{Batches, Clock, Fault, Policy, Rayon, Site, Strategy, Trouble};
@@ -13,6 +13,7 @@ use test_calls::visits::{self, Visitor};
 use test_calls::ways::{Row, Way};
 use test_strategies::{SITE, learning, parallel, serial};
 use test_support::no_memory::{all_memory, all_places};
+use test_support::number;
 
 /// The times of runs in parallel and of serial ones, where there is an entry.
 pub type Times = Option<(Option<u64>, Option<u64>)>;
@@ -97,7 +98,7 @@ fn ranges(
 fn a_batch_that_is_too_short_to_be_cut_has_no_entry(rt: HostRuntime) {
     let policy = fresh(&rt);
     let strategy = by_policy(&rt, &policy, STEP);
-    let eight = number(&rt, 8);
+    let eight = number(8);
     for len in [0usize, 1, 7, 8, 15] {
         ranges(&rt, &strategy, &policy, (len, eight), (1, None));
     }

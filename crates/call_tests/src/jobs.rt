@@ -1,7 +1,7 @@
 //! Jobs: that they go on beside their caller and each other, and what a strategy is asked and told
 //! of one.
 use crate::asks::asked;
-use crate::checks::{Test, equal, has, number};
+use crate::checks::{Test, equal, has};
 use commonware_parallel::mocks::{Explorer, Rule};
 use commonware_parallel::{Call, Strategy};
 use futures::executor::block_on;

@@ -6,7 +6,7 @@
 //! fifth, so that one recorded twice shows.
 ghost use Rattle.std.specs.Prelude.{⊤};
 
-use crate::checks::{Test, all_acts, equal, number, row};
+use crate::checks::{Test, all_acts, equal, row};
 use crate::entries::job_times;
 use commonware_parallel::policy::{Key, RunExecution};
 use commonware_parallel::{Job, Policy, Rayon, Strategy, Trouble};
@@ -22,6 +22,7 @@ use test_calls::others::Rooted;
 use test_calls::visits::{Times, Visitor};
 use test_calls::ways::{Row, Way};
 use test_strategies::{SITE, learning};
+use test_support::number;
 
 const MILLISECOND: u64 = 1_000_000;
 
@@ -47,7 +48,7 @@ fn planned(rt: &impl Test, planned: usize) -> Asked {
         policy,
         twin: Policy::new(alloc).expect(rt, "memory for a policy"),
         readings,
-        pool: pool.with_parallelism(number(rt, planned)).with_policy(own),
+        pool: pool.with_parallelism(number(planned)).with_policy(own),
     }
 }
 

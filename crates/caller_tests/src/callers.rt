@@ -1,5 +1,5 @@
 //! Known values of callers, through a serial strategy and a pool.
-use crate::checks::{Of, lists, number, returns, row};
+use crate::checks::{Of, lists, row};
 use commonware_parallel::mocks::{ExploreError, Rule};
 use commonware_parallel::{Sequential, Strategy};
 use std::alloc::Global;
@@ -9,7 +9,7 @@ use std::thread::Threads;
 use test_calls::meetings::Meeting;
 use test_calls::steps::Does;
 use test_strategies::{SITE, parallel, pool, serial};
-use test_support::{holds, same};
+use test_support::{holds, number, same};
 use uses::batches::{batch_ranges, count_by_ranges, digests_by_ranges};
 use uses::explored::{explore_from_ten, explore_from_zero};
 use uses::folds::{plain_fold, sum_of_entries};
@@ -60,7 +60,7 @@ fn values_come<Rt: Threads + Wait + Abort + Sync, S: Strategy>(
     through: &'static str,
 ) {
     let sum = sum_of_entries(rt, alloc, strategy, SITE, &[10, 20, 30], &[2, 0, 2]);
-    returns(rt, ("sum_of_entries", through, 3), sum, 70);
+    row(rt, ("sum_of_entries", through, 3), sum, Ok(70));
     let sum = plain_fold(
         rt,
         alloc,
@@ -71,7 +71,7 @@ fn values_come<Rt: Threads + Wait + Abort + Sync, S: Strategy>(
         u32::wrapping_add,
         u32::wrapping_add,
     );
-    returns(rt, ("plain_fold", through, 100), sum, 4950);
+    row(rt, ("plain_fold", through, 100), sum, Ok(4950));
     let numbers = 0..100u32;
     let sum = plain_fold_init(
         rt,
@@ -84,12 +84,12 @@ fn values_come<Rt: Threads + Wait + Abort + Sync, S: Strategy>(
         add_counted,
         u32::wrapping_add,
     );
-    returns(rt, ("plain_fold_init", through, 100), sum, 4950);
+    row(rt, ("plain_fold_init", through, 100), sum, Ok(4950));
     let counts = count_parities(rt, alloc, strategy, SITE, &[1, 2, 3]);
-    returns(rt, ("count_parities", through, 3), counts, (1, 2));
+    row(rt, ("count_parities", through, 3), counts, Ok((1, 2)));
     let mut pairs = [(2, 97), (1, 98), (2, 99), (1, 100)];
     let sorted = sort_by_first(rt, alloc, strategy, SITE, &mut pairs);
-    returns(rt, ("sort_by_first", through, 4), sorted, ());
+    row(rt, ("sort_by_first", through, 4), sorted, Ok(()));
     let wanted = [(1, 98), (1, 100), (2, 97), (2, 99)];
     row(rt, ("sort_by_first", through, 4), pairs, wanted);
 }
@@ -116,11 +116,11 @@ fn digests_come<Rt: Threads + Wait + Abort + Sync, S: Strategy>(
     let messages: [&[u8]; 2] = [b"", b"abc"];
     let mut buffer = [0u8; 64];
     let written = digests_into(rt, alloc, strategy, SITE, &messages, &mut buffer);
-    returns(rt, ("digests_into", through, 2), written, ());
+    row(rt, ("digests_into", through, 2), written, Ok(()));
     same!(rt, buffer.as_slice(), DIGESTS.as_flattened());
     let mut digests = [[9u8; 32]; 2];
     let written = digests_by_ranges(rt, alloc, strategy, SITE, &messages, &mut digests);
-    returns(rt, ("digests_by_ranges", through, 2), written, ());
+    row(rt, ("digests_by_ranges", through, 2), written, Ok(()));
     row(rt, ("digests", through, 2), digests, DIGESTS);
 }
 
@@ -136,7 +136,7 @@ fn callers_return_known_values(rt: HostRuntime) {
     digests_come(&rt, alloc, &four, "a pool");
     let two = pool(&rt, alloc, 2, 2).expect(&rt, "a pool");
     let workers = workers_on_whole_rows(&rt, alloc, &two, SITE, 2, 4);
-    returns(&rt, ("workers_on_whole_rows", "a pool", 2), workers, 2);
+    row(&rt, ("workers_on_whole_rows", "a pool", 2), workers, Ok(2));
 }
 
 // Squares the numbers from 1 to 10 where they are, by ranges of these lengths.
@@ -159,7 +159,7 @@ fn a_batch_changes_the_parts_of_a_list_that_is_lent(rt: HostRuntime) {
     squares_come(&rt, alloc, &Sequential, &[10]);
     let four = pool(&rt, alloc, 4, 4).expect(&rt, "a pool");
     squares_come(&rt, alloc, &four, &[3, 3, 2, 2]);
-    let ranges = batch_ranges(&rt, alloc, &four, SITE, 16, number(&rt, 5));
+    let ranges = batch_ranges(&rt, alloc, &four, SITE, 16, number(5));
     let of: Of = ("batch_ranges", "a pool", 16);
     lists(&rt, of, ranges, &[0..6, 6..11, 11..16]);
 }
@@ -173,12 +173,12 @@ fn runs_come<Rt: Wait + Abort, S: Strategy>(
     body: &'static str,
 ) {
     let taken = one_of(rt, alloc, strategy, SITE, 64, serial(), parallel());
-    returns(rt, ("one_of", through, 64), taken, body);
+    row(rt, ("one_of", through, 64), taken, Ok(body));
     let flags = [true, false, true, true, false];
     let set = count_set(rt, alloc, strategy, SITE, &flags);
-    returns(rt, ("count_set", through, 5), set, 3);
+    row(rt, ("count_set", through, 5), set, Ok(3));
     let set = count_by_ranges(rt, alloc, strategy, SITE, &flags);
-    returns(rt, ("count_by_ranges", through, 5), set, 3);
+    row(rt, ("count_by_ranges", through, 5), set, Ok(3));
 }
 
 #[test]
@@ -188,7 +188,7 @@ fn runs_take_the_body_of_their_strategy(rt: HostRuntime) {
     let four = pool(&rt, alloc, 4, 4).expect(&rt, "a pool");
     runs_come(&rt, alloc, &four, "a pool", "parallel");
     for (from, body) in [(65, "serial"), (64, "parallel")] {
-        let long = LongLists::new(number(&rt, 2), from);
+        let long = LongLists::new(number(2), from);
         runs_come(&rt, alloc, &long, "LongLists", body);
     }
 }
@@ -201,10 +201,10 @@ fn ten() -> u32 {
 fn a_strategy_of_ones_own_goes_by_length(rt: HostRuntime) {
     let alloc = rt.alloc();
     for (from, wanted) in [(3, 66), (4, 16)] {
-        let strategy = LongLists::new(number(&rt, 2), from);
+        let strategy = LongLists::new(number(2), from);
         let add = u32::wrapping_add;
         let sum = fold_by_length(&rt, alloc, &strategy, SITE, 1..4u32, ten, add, add);
-        returns(&rt, ("fold_by_length", "LongLists", from), sum, wanted);
+        row(&rt, ("fold_by_length", "LongLists", from), sum, Ok(wanted));
         let found = squares_by_length(&rt, alloc, &strategy, SITE, &[3, 0, 1]);
         let of: Of = ("squares_by_length", "LongLists", from);
         lists(&rt, of, found, &[9, 0, 1]);
@@ -214,7 +214,8 @@ fn a_strategy_of_ones_own_goes_by_length(rt: HostRuntime) {
 #[test]
 fn two_closures_are_told_apart(rt: HostRuntime) {
     let told = explore_from_zero(&rt, rt.alloc());
-    returns(&rt, ("explore_from_zero", "each rule", 100), told, Ok(4950));
+    let of: Of = ("explore_from_zero", "each rule", 100);
+    row(&rt, of, told.expect(&rt, "equal sums"), Ok(4950));
     let told = explore_from_ten(&rt, rt.alloc());
     holds!(
         &rt,
@@ -230,11 +231,13 @@ fn flags_are_counted_in_jobs(rt: HostRuntime) {
     let flags = vec![in rt.alloc(); true, false, false].expect(&rt, "memory");
     let others = [true, false, true];
     let beside = counts_beside(&rt, &strategy, SITE, flags, &others);
-    returns(&rt, ("counts_beside", "a pool", 3), beside, (1, 2));
+    let of: Of = ("counts_beside", "a pool", 3);
+    row(&rt, of, beside.expect(&rt, "two jobs"), (1, 2));
     let flags = vec![in rt.alloc(); true, true, true].expect(&rt, "memory");
     let more = vec![in rt.alloc(); false, true].expect(&rt, "memory");
     let two = two_counts(&rt, &strategy, SITE, flags, more);
-    returns(&rt, ("two_counts", "a pool", 3), two, (3, 1));
+    let of: Of = ("two_counts", "a pool", 3);
+    row(&rt, of, two.expect(&rt, "two jobs"), (3, 1));
 }
 
 #[test]

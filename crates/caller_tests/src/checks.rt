@@ -1,10 +1,6 @@
 //! Functions that stop a test. A call of these costs a tenth of an `assert_eq!` or an `assert!` in
 //! its place to prove.
-ghost use Rattle.std.specs.Prelude.{◌≡◌};
-ghost use Rattle.std.specs.Int.NonZero.{non_zero_usize_get};
-
 use std::fmt::Debug;
-use std::num::NonZeroUsize;
 use std::process::Abort;
 
 /// What a row is of: the call, the strategy, and a number that tells it from others.
@@ -25,19 +21,6 @@ pub fn row<T: PartialEq + Debug + Drop>(rt: &impl Abort, of: Of, found: T, wante
     assert_eq!(rt; found, wanted, "row {of:?}");
 }
 
-/// The same of a call, which has to return.
-pub fn returns<T: PartialEq + Debug + Drop, E: Debug + Drop>(
-    rt: &impl Abort,
-    of: Of,
-    found: Result<T, E>,
-    wanted: T,
-) {
-    match found {
-        Ok(value) => row(rt, of, value, wanted),
-        Err(error) => panic!(rt; "row {of:?}: {error:?} in the place of {wanted:?}"),
-    }
-}
-
 /// The same of a call that returns a list.
 pub fn lists<T: PartialEq + Debug + Drop, E: Debug + Drop>(
     rt: &impl Abort,
@@ -49,11 +32,4 @@ pub fn lists<T: PartialEq + Debug + Drop, E: Debug + Drop>(
         Ok(list) => row(rt, of, list.as_slice(), wanted),
         Err(error) => panic!(rt; "row {of:?}: {error:?} in the place of {wanted:?}"),
     }
-}
-
-/// A number that isn't 0.
-pub fn number(rt: &impl Abort, value: usize) -> NonZeroUsize
-    ensures { non_zero_usize_get result ≡ value }
-{
-    NonZeroUsize::new(value).expect(rt, "a number above 0")
 }

@@ -1,6 +1,6 @@
 //! That each caller that others may read succeeds through each strategy, and asks at its own site.
 //! Each goes over eight items.
-use crate::checks::{equal, number};
+use crate::checks::equal;
 use batch_verifier::{split_by_check, sum_within, verify_all, verify_digests};
 use commonware_parallel::{Call, Runtime, Sequential, Site, Strategy};
 use merkle_tree::{Tree, commitment};
@@ -11,6 +11,7 @@ use test_calls::noting::Noting;
 use test_calls::others::Batched;
 use test_calls::ways::{Through, ways};
 use test_strategies::SITE;
+use test_support::number;
 use uses::folds::sum_of_squares;
 use uses::in_place::double_each;
 use uses::least::{least_by_key, least_of_table};
@@ -165,7 +166,7 @@ fn each_caller_succeeds_through_each_strategy(rt: HostRuntime) {
             equal(&rt, name, (way, is_right), (way, true));
         }
     }
-    let long = LongLists::new(number(&rt, 4), 3);
+    let long = LongLists::new(number(4), 3);
     for (caller, name) in CALLERS.iter().enumerate() {
         let is_right = call(&rt, &long, SITE, caller);
         equal(&rt, name, ("by length", is_right), ("by length", true));

@@ -1,6 +1,6 @@
 //! The Merkle tree over SHA-256 of `merkle_tree`. Its roots and commitments were computed by
 //! another program, from what the digest of a leaf, of a node and of a whole tree is said to be.
-use crate::checks::{Of, returns, row};
+use crate::checks::{Of, row};
 use commonware_parallel::{Fault, Sequential, Strategy};
 use merkle_tree::{
     Digest, Tree, commitment, commitment_digest, is_member, leaf_digest, node_digest, root,
@@ -105,9 +105,9 @@ fn roots_are_those_of_another_program(rt: HostRuntime) {
     for count in [0usize, 1, 2, 3, 4, 5, 7, 8, 9] {
         let first = leaves.get(..count).expect(&rt, "as many leaves");
         let found = is_known(&rt, alloc, &Sequential, first);
-        returns(&rt, ("SHA-256", "Sequential", count), found, true);
+        row(&rt, ("SHA-256", "Sequential", count), found, Ok(true));
         let found = is_known(&rt, alloc, &four, first);
-        returns(&rt, ("SHA-256", "a pool", count), found, true);
+        row(&rt, ("SHA-256", "a pool", count), found, Ok(true));
     }
 }
 
@@ -170,7 +170,7 @@ fn proofs_hold(rt: &impl Abort, alloc: Global, tree: &Tree, leaves: &[&[u8]]) {
         row(rt, of, is_accepted && tree.has_leaf(at, leaf), true);
         row(rt, of, places(&commitment, leaf, &proof), 1);
         let others = other_steps(alloc, &commitment, (count, at), leaf, &proof);
-        returns(rt, of, others, 0);
+        row(rt, of, others, Ok(0));
         row(rt, of, is_deceived(tree, at, leaf, &proof), false);
     }
 }

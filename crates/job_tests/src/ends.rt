@@ -1,7 +1,6 @@
 //! What the task of a spawned job sees of its end, and jobs that nobody waits for.
 ghost use Rattle.std.specs.Prelude.{◌≡◌, ⊤};
 
-use crate::checks::number;
 use commonware_parallel::mocks::{Explorer, pending};
 use commonware_parallel::{Fault, Job, Sequential, Spawned, Strategy};
 use futures::task::Poll;
@@ -13,7 +12,7 @@ use std::sync::atomic::{AtomicBool, Ordering};
 use std::sync::{Arc, Wait};
 use std::thread::{Threads, yield_now};
 use test_strategies::{SITE, Stopped, pool};
-use test_support::{holds, same};
+use test_support::{holds, number, same};
 
 // Turns to wait for another thread.
 const TURNS: u64 = 10_000_000;
@@ -132,7 +131,7 @@ fn is_never_run<
 #[test]
 fn a_pool_without_workers_leaves_its_jobs_pending(rt: HostRuntime) {
     let alloc = rt.alloc();
-    let idle = pending(&rt, alloc, number(&rt, 2), Stopped).expect(&rt, "memory");
+    let idle = pending(&rt, alloc, number(2), Stopped).expect(&rt, "memory");
     holds!(&rt, is_never_run(&rt, &idle));
     let fixed = idle.without_policy().expect(&rt, "memory");
     holds!(&rt, is_never_run(&rt, &fixed));

@@ -1,5 +1,5 @@
 //! What a policy learns, through the calls of a pool.
-use crate::checks::{number, returns};
+use crate::checks::row;
 use commonware_parallel::{Clock, Rayon, Strategy};
 use std::alloc::Global;
 use std::process::Abort;
@@ -7,6 +7,7 @@ use std::sync::atomic::{AtomicU64, Ordering};
 use std::sync::{Arc, Wait};
 use std::thread::Threads;
 use test_strategies::{SITE, learning, parallel, serial};
+use test_support::number;
 
 // A clock that goes on by `step` at each reading, or back where `step` is near 2 to the power of
 // 64.
@@ -31,7 +32,7 @@ fn takes<Rt: Wait + Abort>(
 ) {
     for (turn, body) in bodies.iter().enumerate() {
         let taken = strategy.run(rt, alloc, SITE, 64, serial, parallel);
-        returns(rt, ("run", "its number", turn), taken, *body);
+        row(rt, ("run", "its number", turn), taken, Ok(*body));
     }
 }
 
@@ -64,8 +65,8 @@ fn a_clone_has_the_same_policy(rt: HostRuntime) {
     takes(&rt, alloc, &clone, &["serial"]);
     let fixed = strategy.without_policy().expect(&rt, "memory");
     takes(&rt, alloc, &fixed, &["parallel"]);
-    let planned = strategy.with_parallelism(number(&rt, 8));
+    let planned = strategy.with_parallelism(number(8));
     takes(&rt, alloc, &planned, &["parallel", "serial"]);
-    let two = planned.with_parallelism(number(&rt, 2));
+    let two = planned.with_parallelism(number(2));
     takes(&rt, alloc, &two, &["parallel", "serial"]);
 }

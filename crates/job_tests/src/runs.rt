@@ -1,5 +1,5 @@
 //! Runs, what a pool picks, and the numbers of a pool.
-use crate::checks::{Of, number, returns, row};
+use crate::checks::{Of, row};
 use commonware_parallel::rayon::ThreadPoolBuilder;
 use commonware_parallel::{
     Call, Chooser, Fault, Kind, Path, Pick, Rayon, Runtime, Sequential, Strategy, Trouble,
@@ -9,7 +9,7 @@ use std::process::Abort;
 use std::sync::Wait;
 use std::thread::available_parallelism;
 use test_strategies::{SITE, Stopped, learning, parallel, pool, serial};
-use test_support::{holds, same};
+use test_support::{holds, number, same};
 
 fn answered() -> Result<u32, u32> {
     Ok(7)
@@ -28,7 +28,7 @@ fn takes<Rt: Wait + Abort, S: Strategy>(
     body: &'static str,
 ) {
     let taken = strategy.run(rt, alloc, SITE, 64, serial, parallel);
-    returns(rt, of, taken, body);
+    row(rt, of, taken, Ok(body));
     let tried = strategy.try_run(rt, alloc, SITE, 64, answered, failed);
     let wanted = if body == "serial" {
         Ok(7)
@@ -60,7 +60,7 @@ fn a_run_takes_the_body_of_its_strategy(rt: HostRuntime) {
 #[test]
 fn a_pool_picks_the_last_way_where_it_is_planned_for_more_than_one(rt: HostRuntime) {
     let alloc = rt.alloc();
-    let call = Call::batches(number(&rt, 8), 17, number(&rt, 5), usize::MAX);
+    let call = Call::batches(number(8), 17, number(5), usize::MAX);
     let wanted = Call {
         kind: Kind::Batches,
         len: 17,
@@ -102,11 +102,11 @@ fn the_planning_number_chooses(rt: HostRuntime) {
     let alloc = rt.alloc();
     let three = learning(&rt, alloc, 3, Stopped).expect(&rt, "a pool");
     same!(&rt, numbers_of(&three), (3, 3));
-    let five = three.with_parallelism(number(&rt, 5)).without_policy();
+    let five = three.with_parallelism(number(5)).without_policy();
     same!(&rt, numbers_of(&five.expect(&rt, "memory")), (5, 3));
     let most = learning(&rt, alloc, usize::MAX, Stopped).expect(&rt, "a pool");
     same!(&rt, numbers_of(&most), (65_535, 65_535));
-    let planned = most.with_parallelism(number(&rt, usize::MAX));
+    let planned = most.with_parallelism(number(usize::MAX));
     same!(&rt, numbers_of(&planned), (usize::MAX, 65_535));
 }
 
@@ -119,7 +119,12 @@ fn a_strategy_has_the_number_of_a_pool_that_was_built(rt: HostRuntime) {
     drop(built);
     same!(&rt, numbers_of(&strategy), (3, 3));
     let taken = strategy.run(&rt, alloc, SITE, 64, serial, parallel);
-    returns(&rt, ("run", "a pool that was built", 64), taken, "parallel");
+    row(
+        &rt,
+        ("run", "a pool that was built", 64),
+        taken,
+        Ok("parallel"),
+    );
 }
 
 // Whether a run is parallel, by whoever has the rights that a call asks for.
@@ -135,7 +140,7 @@ fn is_parallel<Rt: Runtime, S: Strategy>(
 fn a_pool_of_the_machines_size_is_planned_for_all_of_it(rt: HostRuntime) {
     let alloc = rt.alloc();
     let cores = available_parallelism(&rt).expect(&rt, "cores").get();
-    let strategy = Rayon::of_machine(&rt, alloc, number(&rt, 77)).expect(&rt, "memory");
+    let strategy = Rayon::of_machine(&rt, alloc, number(77)).expect(&rt, "memory");
     same!(&rt, numbers_of(&strategy), (cores, cores));
     let is_parallel = is_parallel(&rt, alloc, &strategy).expect(&rt, "memory");
     same!(&rt, is_parallel, cores > 1);

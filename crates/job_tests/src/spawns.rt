@@ -1,5 +1,5 @@
 //! Spawned jobs: where they run, and what a policy learns of them.
-use crate::checks::{Of, number, row};
+use crate::checks::{Of, row};
 use crate::ends::Gives;
 use commonware_parallel::mocks::{Explorer, Rule, inline};
 use commonware_parallel::{Clock, Rayon, Sequential, Site, Strategy};
@@ -11,7 +11,7 @@ use std::sync::atomic::{AtomicU64, Ordering};
 use std::sync::{Arc, Wait};
 use std::thread::Threads;
 use test_strategies::{SITE, learning, pool};
-use test_support::{holds, same};
+use test_support::{holds, number, same};
 
 // Whether a job was handed off. It is waited for, and returns 7.
 fn is_handed_off<
@@ -122,7 +122,7 @@ fn a_pool_of_one_thread_measures_no_job(rt: HostRuntime) {
     let alloc = rt.alloc();
     let clock = Scripted::new(&rt, alloc, 50_000, 5_000);
     let readings = Arc::try_clone(&clock.readings).expect(&rt, "a handle");
-    let one = inline(&rt, alloc, number(&rt, 4), clock).expect(&rt, "memory");
+    let one = inline(&rt, alloc, number(4), clock).expect(&rt, "memory");
     holds!(&rt, !is_handed_off(&rt, &one, SITE));
     same!(&rt, readings.load(Ordering::SeqCst), 0);
 }

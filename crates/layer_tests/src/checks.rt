@@ -1,10 +1,6 @@
 //! Functions that stop a test. A call of these costs a tenth of an `assert_eq!` or an `assert!` in
 //! its place to prove.
-ghost use Rattle.std.specs.Prelude.{◌≡◌};
-ghost use Rattle.std.specs.Int.NonZero.{non_zero_usize_get};
-
 use std::fmt::Debug;
-use std::num::NonZeroUsize;
 use std::process::Abort;
 
 /// Stops the test where that doesn't hold, and prints its text.
@@ -38,11 +34,4 @@ pub fn lists<R: Abort, T: PartialEq + Debug + Drop, E: Debug + Drop>(
         Ok(list) => row(rt, of, list.as_slice(), wanted),
         Err(error) => panic!(rt; "row {of}: {error:?} in the place of {wanted:?}"),
     }
-}
-
-/// A number that isn't 0.
-pub fn number(rt: &impl Abort, value: usize) -> NonZeroUsize
-    ensures { non_zero_usize_get result ≡ value }
-{
-    NonZeroUsize::new(value).expect(rt, "a number above 0")
 }

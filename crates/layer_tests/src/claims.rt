@@ -3,14 +3,14 @@ ghost use Rattle.std.specs.Prelude.{◌≡◌, ◌*◌, ◌^◌, ◌<◌, ◌≤
 ghost use Rattle.std.specs.Int.NonZero.{non_zero_usize_get};
 ghost use Rattle.parallel_shares.specs.Seats.{AreSeatsOf};
 
-use crate::checks::{lists, number, row};
+use crate::checks::{lists, row};
 use parallel_shares::machine::{Event, Outcome, Plan, State, replay};
 use parallel_shares::{Seat, Shares, Stretch, Tried, pack, stretches};
 use std::alloc::Global;
 use std::ops::Range;
 use std::process::Abort;
 use std::sync::Wait;
-use test_support::{holds, same};
+use test_support::{holds, number, same};
 
 // One try of the seat at a place to claim.
 pub(crate) fn claim_at(
@@ -84,20 +84,20 @@ pub(crate) fn opened(rt: &impl Abort, alloc: Global, sizes: Sizes) -> (Shares, V
     ensures { AreSeatsOf result.0 result.1.items }
 {
     let (rows, len, tile_cost, workers, whole) = sizes;
-    assert!(rt; rows != 0 && len != 0);
+    assert!(rt; rows != 0 && len != 0 && tile_cost != 0);
     assert!(rt; whole || tile_cost <= len.saturating_sub(tile_cost));
     assert!(rt; rows.checked_mul(len).is_some());
-    let (tile_cost, workers) = (number(rt, tile_cost), number(rt, workers));
+    let (tile_cost, workers) = (number(tile_cost), number(workers));
     Shares::new(alloc, rows, len, tile_cost, workers, whole).expect(rt, "memory")
 }
 
 // The plan of the same sizes.
 fn planned(rt: &impl Abort, sizes: Sizes) -> Plan {
     let (rows, len, tile_cost, workers, whole) = sizes;
-    assert!(rt; rows != 0 && len != 0);
+    assert!(rt; rows != 0 && len != 0 && tile_cost != 0);
     assert!(rt; whole || tile_cost <= len.saturating_sub(tile_cost));
     assert!(rt; rows.checked_mul(len).is_some());
-    Plan::new(rows, len, number(rt, tile_cost), number(rt, workers), whole)
+    Plan::new(rows, len, number(tile_cost), number(workers), whole)
 }
 
 // The sizes, the cells of a unit and all cells, and the words of a plan that is untouched.
@@ -235,7 +235,7 @@ fn row_cells_and_calls(filled: &mut (usize, usize), row: usize) -> (usize, usize
 
 /// A run over three rows of five cells, by one seat of two, where memory is given.
 pub(crate) fn run_of_rows<R: Wait + Abort>(rt: &R, alloc: Global) -> Option<()> {
-    let two = number(rt, 2);
+    let two = number(2);
     let Ok((shares, mut seats)) = Shares::new(alloc, 3, 5, two, two, false) else {
         return None;
     };

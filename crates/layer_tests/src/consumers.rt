@@ -1,5 +1,5 @@
 //! Consumers and their folders at concrete types.
-use crate::checks::{number, row};
+use crate::checks::row;
 use parallel_bridge::bridge::bridge;
 use parallel_bridge::consumer::fold::FoldFolder;
 use parallel_bridge::consumer::fold_init::FoldInitFolder;
@@ -15,7 +15,7 @@ use parallel_fault::Fault;
 use std::alloc::Global;
 use std::marker::{Brand, PhantomData};
 use std::sync::atomic::{AtomicU64, Ordering};
-use test_support::same;
+use test_support::{number, same};
 
 // Whether a folder is full before an item that makes no difference to that, after it, and after
 // one that fails.
@@ -163,7 +163,7 @@ fn a_map_before_a_full_folder_maps_no_more(rt: HostRuntime) {
         map_op: &map_op,
     };
     let parts = DrainProducer::from_vec(items);
-    let lists = bridge(&rt, alloc, number(&rt, 1), parts, consumer).expect(&rt, "memory");
+    let lists = bridge(&rt, alloc, number(1), parts, consumer).expect(&rt, "memory");
     let mut kept = Vec::new(alloc);
     for list in lists {
         let mut more = list;

@@ -1,12 +1,11 @@
 //! That the segments of a list stop that stand right of a known error.
-use crate::checks::number;
 use parallel_bridge::list::try_map::try_map_parallel;
 use parallel_bridge::parts::ProducerParts;
 use parallel_bridge::producer::Indices;
 use parallel_fault::Trouble;
 use std::sync::atomic::{AtomicU64, Ordering};
 use std::thread;
-use test_support::{holds, same};
+use test_support::{holds, number, same};
 
 // Waits for an error that another segment makes, but not for ever.
 fn await_error(failed: &AtomicU64) {
@@ -39,7 +38,7 @@ fn segments_right_of_a_known_error_stop_early(rt: HostRuntime) {
             end: 64_000,
         },
     };
-    let told = try_map_parallel(&rt, rt.alloc(), number(&rt, 32), parts, &answer);
+    let told = try_map_parallel(&rt, rt.alloc(), number(32), parts, &answer);
     same!(&rt, told.err(), Some(Trouble::Closure(0)));
     holds!(&rt, calls.load(Ordering::SeqCst) < 16_000);
 }

@@ -5,7 +5,7 @@ ghost use Rattle.std.specs.Prelude.{◌≡◌};
 ghost use Rattle.parallel_shares.specs.Seats.{AreSeatsOf};
 ghost use Rattle.parallel_bridge.specs.Gates.{IsGateSeatOf, seats_of, stands_for};
 
-use crate::checks::{number, row};
+use crate::checks::row;
 use crate::claims::{last_claim, opened, refill_at, run_of_rows, steal_at};
 use crate::tables::SITE;
 use crate::windows::{Doing, does};
@@ -29,6 +29,7 @@ use std::sync::atomic::{AtomicU64, Ordering};
 use std::thread::Threads;
 use test_support::counted::{Counted, Counts, counted_items};
 use test_support::no_memory::{ROOM, all_memory, greatest_block};
+use test_support::number;
 use test_support::processes::figure;
 
 // How what needs no memory is used: it is made and dropped, and closed or used before.
@@ -101,7 +102,7 @@ fn rows<R: Threads + Sync + Abort>(rt: &R, alloc: Global) -> Option<()> {
     row(rt, "a row", found, (0, called));
     let places = places.ok()?;
     row(rt, "a row", places.as_slice(), [0, 1, 2, 3].as_slice());
-    let pool = ThreadPool::new(number(rt, 3));
+    let pool = ThreadPool::new(number(3));
     let indices = pool.broadcast(rt, alloc, &index_of).ok()?;
     row(rt, "a broadcast", indices.as_slice(), [0, 1, 2].as_slice());
     Some(())
@@ -113,7 +114,7 @@ fn seats_of_queues(alloc: Global, workers: NonZeroUsize) -> Option<JobSeat<u32>>
 }
 
 fn of_pool(rt: &impl Abort, alloc: Global) -> Option<()> {
-    let three = number(rt, 3);
+    let three = number(3);
     assert!(rt; three.get() <= 65_535);
     let is_made = CoreLatch::new(alloc, three).is_ok()
         && CountLatch::with_count(alloc, three).is_ok()
@@ -126,7 +127,7 @@ fn of_pool(rt: &impl Abort, alloc: Global) -> Option<()> {
 }
 
 fn of_bridge(rt: &impl Abort, alloc: Global) -> Option<()> {
-    let three = number(rt, 3);
+    let three = number(3);
     let (window, home) = Home::<u64, Global>::reserve(alloc, 7).ok()?;
     home.free(window);
     let is_made = Gate::open(alloc, three).is_ok()
@@ -176,7 +177,7 @@ fn shares<R: Wait + Abort>(rt: &R, alloc: Global, used: Used) {
 
 // A gate whose one seat stands for two.
 fn gate(rt: &impl Abort, alloc: Global, used: Used) {
-    let (gate, seat) = Gate::open(alloc, number(rt, 2)).expect(rt, "memory");
+    let (gate, seat) = Gate::open(alloc, number(2)).expect(rt, "memory");
     let mut seats = Vec::with_capacity(alloc, 1).expect(rt, "memory");
     if used == Used::InFull {
         use_gate(gate, seat);
@@ -231,7 +232,7 @@ fn make<R: Threads + Wait + Sync + Abort>(rt: &R, alloc: Global, called: Called)
         Called::OfPool => of_pool(rt, alloc),
         Called::OfBridge => of_bridge(rt, alloc),
         Called::OfShares => {
-            let _ranges = cut(alloc, 10, number(rt, 2)).ok()?;
+            let _ranges = cut(alloc, 10, number(2)).ok()?;
             run_of_rows(rt, alloc)
         }
         Called::OfPolicy => Policy::new(alloc).ok().map(drop),
@@ -339,7 +340,7 @@ fn a_call_of_a_layer_gives_back_what_it_takes_and_takes_none_where_it_says_so(rt
 #[test]
 fn a_gate_has_one_word_for_any_number_of_seats(rt: HostRuntime) {
     for seats in [1usize, 1 << 20, 1 << 60, usize::MAX] {
-        let opened = Gate::open(rt.alloc(), number(&rt, seats));
+        let opened = Gate::open(rt.alloc(), number(seats));
         row(&rt, seats, opened.is_ok(), true);
     }
 }

@@ -3,7 +3,7 @@
 ghost use Rattle.std.specs.Prelude.{◌≡◌, ◌-◌, ◌<◌, ◌≤◌};
 ghost use Rattle.std.specs.List.{range_with_len};
 
-use crate::checks::{number, row};
+use crate::checks::row;
 use parallel_bridge::bridge::bridge;
 use parallel_bridge::consumer::try_fold::TryFoldConsumer;
 use parallel_bridge::consumer::try_reduce::TryReduceConsumer;
@@ -20,6 +20,7 @@ use std::marker::{Brand, PhantomData};
 use std::ops::Range;
 use std::process::Abort;
 use std::thread::Threads;
+use test_support::number;
 
 // Indices of which one part can't be split.
 #[derive(Clone, Copy, Debug)]
@@ -119,7 +120,7 @@ fn trouble<Rt: Threads + Sync + Abort>(
 {
     let answer = |item: usize| if item == bad { Err(item) } else { Ok(item) };
     let step = |_: usize, item: usize| if item == bad { Err(item) } else { Ok(item) };
-    let four = number(rt, 4);
+    let four = number(4);
     match asked {
         Asked::Map => try_map_parallel(rt, alloc, four, parts, &answer).err(),
         Asked::Fold => {
@@ -128,7 +129,7 @@ fn trouble<Rt: Threads + Sync + Abort>(
         Asked::Fill(threads) => {
             let (room, home) = Home::reserve(alloc, 8).expect(rt, "memory");
             let writer = TryMapWriter { map_op: &answer };
-            let (room, done) = fill(rt, alloc, number(rt, threads), parts, &writer, room);
+            let (room, done) = fill(rt, alloc, number(threads), parts, &writer, room);
             home.free(room);
             done.err()
         }

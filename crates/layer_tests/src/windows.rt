@@ -1,6 +1,6 @@
 //! Owned items that are taken from where they lie, and results that are written where they stay:
 //! each is dropped once, or handed out, and a block gives its memory back.
-use crate::checks::{number, row};
+use crate::checks::row;
 use linked_list_allocator::LocalHeap;
 use parallel_bridge::list::map::map_parallel;
 use parallel_bridge::pairs::Pairs;
@@ -11,7 +11,7 @@ use std::alloc::Global;
 use std::process::Abort;
 use std::thread::Threads;
 use test_support::counted::{Counted, Counts, counted_items};
-use test_support::{holds, same};
+use test_support::{holds, number, same};
 
 // The place of an item that is there.
 fn place_of(item: Option<&Counted<'_>>) -> Option<usize> {
@@ -99,7 +99,7 @@ fn map<'a, R: Threads + Sync + Abort>(
     let count = items.len();
     let answer = |item: Counted<'_>| Counted::new(counts, item.place);
     let parts = DrainProducer::from_vec(items);
-    let answers = map_parallel(rt, alloc, number(rt, threads), parts, &answer).ok()?;
+    let answers = map_parallel(rt, alloc, number(threads), parts, &answer).ok()?;
     row(rt, threads, (answers.len(), counts.left()), (count, count));
     for place in 0..count {
         row(rt, threads, place_of(answers.get(place)), Some(place));

@@ -1,6 +1,6 @@
 //! Batches: in which ranges their indices go, and what becomes of a list that is lent to one; and
 //! lists that are changed where they lie.
-use crate::checks::{Of, lists, number, returns, row};
+use crate::checks::{Of, lists, row};
 use commonware_parallel::{Batches, Fault, Sequential, Site, Strategy, Trouble};
 use std::alloc::Global;
 use std::num::NonZeroUsize;
@@ -10,7 +10,7 @@ use std::sync::Wait;
 use std::sync::atomic::{AtomicU64, Ordering};
 use std::thread::Threads;
 use test_strategies::{SITE, pool};
-use test_support::{holds, same};
+use test_support::{holds, number, same};
 
 // ---- ranges
 
@@ -38,7 +38,7 @@ fn a_batch_has_as_many_ranges_as_are_planned(rt: HostRuntime) {
         (16, 9, [0..16].as_slice()),
         (0, 1, [0..0].as_slice()),
     ] {
-        let ranges = batch_ranges(&rt, alloc, &four, SITE, len, number(&rt, minimum));
+        let ranges = batch_ranges(&rt, alloc, &four, SITE, len, number(minimum));
         let of: Of = ("ranges of a minimum", "a pool", minimum);
         lists(&rt, of, ranges, wanted);
     }
@@ -61,7 +61,7 @@ fn a_batch_has_no_range_below_the_minimum(rt: HostRuntime) {
         (usize::MAX, 1, 8),
         (usize::MAX, usize::MAX / 2, 2),
     ] {
-        let ranges = batch_ranges(&rt, rt.alloc(), &eight, SITE, len, number(&rt, minimum));
+        let ranges = batch_ranges(&rt, rt.alloc(), &eight, SITE, len, number(minimum));
         let ranges = ranges.expect(&rt, "memory");
         row(&rt, ("how many ranges", "a pool", len), ranges.len(), count);
     }
@@ -89,7 +89,7 @@ fn what_is_not_prepared_is_not_mapped(rt: HostRuntime) {
     let strategy = pool(&rt, alloc, 2, 4).expect(&rt, "a pool");
     let calls = AtomicU64::new(0);
     let map_op = |_: u32| -> Result<u64, u32> { Ok(calls.fetch_add(1, Ordering::SeqCst)) };
-    let four = number(&rt, 4);
+    let four = number(4);
     let batch = Batches::balanced(alloc, &strategy, SITE, 10, four).expect(&rt, "memory");
     let refused = batch.map_collect_vec(&rt, alloc, unprepared, map_op);
     same!(&rt, refused.err(), Some(Fault::Worker));
@@ -129,11 +129,11 @@ fn a_batch_returns_its_closures_error(rt: HostRuntime) {
     let second = ranges_or_second(&rt, alloc, &four);
     same!(&rt, second, Err(Trouble::Closure(3)));
     same!(&rt, ranges_or_second(&rt, alloc, &Sequential), Ok(1));
-    let whole = Sequential.run_batches(alloc, SITE, 16, number(&rt, 5), usize::MAX, |batches| {
+    let whole = Sequential.run_batches(alloc, SITE, 16, number(5), usize::MAX, |batches| {
         (batches.ranges() == [0..16].as_slice(), batches.site())
     });
     let of: Of = ("whole batch", "Sequential's own", 16);
-    returns(&rt, of, whole, (true, SITE));
+    row(&rt, of, whole, Ok((true, SITE)));
 }
 
 // ---- lent lists
@@ -154,7 +154,7 @@ fn mark_parts<Rt: Threads + Wait + Abort + Sync, S: Strategy>(
     numbers: &mut [u64],
     count: usize,
 ) -> Result<(), Fault> {
-    let count = number(rt, count);
+    let count = number(count);
     let batches = Batches::balanced(alloc, strategy, SITE, numbers.len(), count)?;
     batches.for_each_mut(rt, alloc, numbers, mark)
 }
@@ -176,7 +176,7 @@ fn marks_are_right<Rt: Threads + Wait + Abort + Sync, S: Strategy>(
         numbers.fill(0);
         let of: Of = ("change by parts", through, count);
         let changed = mark_parts(rt, alloc, strategy, numbers.as_mut_slice(), count);
-        returns(rt, of, changed, ());
+        row(rt, of, changed, Ok(()));
         row(rt, of, numbers.as_slice(), marks);
     }
 }
@@ -210,14 +210,14 @@ fn lists_are_right<Rt: Threads + Wait + Abort + Sync, S: Strategy>(
         let mut numbers = Vec::from_slice(alloc, marks).expect(rt, "memory");
         numbers.fill(0);
         let list = numbers.as_mut_slice();
-        let changed = strategy.for_each_chunk_mut(rt, alloc, SITE, list, number(rt, size), mark);
-        returns(rt, ("change by chunks", through, size), changed, ());
+        let changed = strategy.for_each_chunk_mut(rt, alloc, SITE, list, number(size), mark);
+        row(rt, ("change by chunks", through, size), changed, Ok(()));
         let of: Of = ("marks by chunks", through, size);
         row(rt, of, numbers.as_slice(), marks);
     }
     let mut numbers = [7, 8, 9];
     let changed = strategy.for_each_mut(rt, alloc, SITE, &mut numbers, add_index);
-    returns(rt, ("change of items", through, 3), changed, ());
+    row(rt, ("change of items", through, 3), changed, Ok(()));
     let of: Of = ("changed items", through, 3);
     row(rt, of, numbers.as_slice(), &[70, 81, 92]);
 }
@@ -231,6 +231,6 @@ fn a_list_is_changed_where_it_lies(rt: HostRuntime) {
     let mut numbers = [7, 8, 9];
     Sequential.for_each_mut(SITE, &mut numbers, add_index);
     same!(&rt, numbers.as_slice(), [70, 81, 92].as_slice());
-    Sequential.for_each_chunk_mut(SITE, &mut numbers, number(&rt, 2), mark);
+    Sequential.for_each_chunk_mut(SITE, &mut numbers, number(2), mark);
     same!(&rt, numbers.as_slice(), [72, 83, 113].as_slice());
 }

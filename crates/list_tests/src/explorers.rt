@@ -1,5 +1,5 @@
 //! Explorers: what they pick, and what the search through the rules returns.
-use crate::checks::{Of, returns, row};
+use crate::checks::{Of, row};
 use crate::lists::{Called, KNOWN, call};
 use commonware_parallel::mocks::{ExploreError, Rule, explore, pick};
 use commonware_parallel::{Chooser, Copies, Fault, Site, Strategy};

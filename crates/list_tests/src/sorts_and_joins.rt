@@ -1,5 +1,5 @@
 //! Sorts and joins: known values, and which closure of a join comes first.
-use crate::checks::{Of, returns, row};
+use crate::checks::{Of, row};
 use crate::lists::{ten, zero};
 use commonware_parallel::{Fault, Sequential, Strategy};
 use std::alloc::Global;
@@ -28,13 +28,13 @@ fn are_known<Rt: Threads + Wait + Abort + Sync, S: Strategy>(
 ) {
     let mut numbers = [3, 1, 2, 1];
     let sorted = strategy.sort_by(rt, alloc, SITE, &mut numbers, ascending);
-    returns(rt, ("sort", through, 4), sorted, ());
+    row(rt, ("sort", through, 4), sorted, Ok(()));
     row(rt, ("sort", through, 4), numbers, [1, 1, 2, 3]);
     let sorted = strategy.sort_unstable_by(rt, alloc, SITE, &mut numbers, descending);
-    returns(rt, ("unstable sort", through, 4), sorted, ());
+    row(rt, ("unstable sort", through, 4), sorted, Ok(()));
     row(rt, ("unstable sort", through, 4), numbers, [3, 2, 1, 1]);
     let both = strategy.join(rt, alloc, SITE, ten, zero);
-    returns(rt, ("join", through, 2), both, (10, 0));
+    row(rt, ("join", through, 2), both, Ok((10, 0)));
 }
 
 #[test]
@@ -45,7 +45,7 @@ fn sorts_and_joins_return_known_values(rt: HostRuntime) {
     are_known(&rt, alloc, &two, "a pool");
     let mut numbers = [3, 1, 2, 1];
     let sorted = Sequential.sort_by(alloc, SITE, &mut numbers, ascending);
-    returns(&rt, ("sort", "Sequential's own", 4), sorted, ());
+    row(&rt, ("sort", "Sequential's own", 4), sorted, Ok(()));
     row(&rt, ("sort", "Sequential's own", 4), numbers, [1, 1, 2, 3]);
     Sequential.sort_unstable_by(SITE, &mut numbers, descending);
     let of: Of = ("unstable sort", "Sequential's own", 4);
@@ -89,5 +89,5 @@ fn a_serial_join_runs_its_first_closure_first(rt: HostRuntime) {
     let calls = AtomicU32::new(0);
     let next = || calls.fetch_add(1, Ordering::SeqCst);
     let order = Strategy::join(&Sequential, &rt, alloc, SITE, next, next);
-    returns(&rt, ("join", "Sequential", 2), order, (0, 1));
+    row(&rt, ("join", "Sequential", 2), order, Ok((0, 1)));
 }

@@ -1,6 +1,6 @@
 //! Tiles and kernels by row: which cells are filled, for how many workers, and what is returned for
 //! each row.
-use crate::checks::{Of, lists, number, row};
+use crate::checks::{Of, lists, row};
 use commonware_parallel::{Fault, Grid, Sequential, Site, Strategy, Tiles};
 use std::alloc::Global;
 use std::ops::Range;
@@ -9,7 +9,7 @@ use std::sync::Wait;
 use std::sync::atomic::{AtomicU64, Ordering};
 use std::thread::Threads;
 use test_strategies::{SITE, pool};
-use test_support::{holds, same};
+use test_support::{holds, number, same};
 
 // ---- tiles
 
@@ -23,7 +23,7 @@ type Told = ((usize, usize, bool), Vec<(usize, Filled)>);
 fn grid(rt: &impl Abort, rows: usize, tile_cost: usize) -> Grid {
     Grid {
         rows,
-        tile_cost: number(rt, tile_cost),
+        tile_cost: number(tile_cost),
     }
 }
 
@@ -190,7 +190,7 @@ fn both_parts(left: Part, right: Part) -> Part {
 fn rows_of_three_columns_by_hand(rt: HostRuntime) {
     let alloc = rt.alloc();
     let two = pool(&rt, alloc, 2, 2).expect(&rt, "a pool");
-    let cost = number(&rt, 1);
+    let cost = number(1);
     let values = two.fold_rows(&rt, alloc, SITE, 2, 3, cost, part_of, both_parts);
     let of: Of = ("kernel by row", "a pool", 3);
     lists(&rt, of, values, &[(0, 0, 3, 9), (1, 0, 3, 12)]);
@@ -214,7 +214,7 @@ fn parts_of_a_row<Rt: Threads + Wait + Abort + Sync, S: Strategy>(
         called.fetch_add(1, Ordering::SeqCst)
     };
     assert!(rt; 1usize.checked_mul(len).is_some());
-    let cost = number(rt, tile_cost);
+    let cost = number(tile_cost);
     let values = strategy.fold_rows(rt, alloc, SITE, 1, len, cost, kernel, u64::wrapping_add);
     same!(rt, values.expect(rt, "memory").len(), 1);
     same!(rt, cells.load(Ordering::SeqCst), len as u64);

@@ -1,6 +1,6 @@
 //! Roots of trees, by levels, by blocks and of leaves that are made of a source's items: known
 //! values.
-use crate::checks::returns;
+use crate::checks::row;
 use commonware_parallel::merkle::{
     plain_root, root, root_by_blocks, root_of_leaves, root_of_leaves_by_levels,
 };
@@ -73,7 +73,7 @@ fn are_known<Rt: Threads + Wait + Abort + Sync, S: Strategy>(
     ] {
         let leaves = Vec::from_slice(alloc, numbers).expect(rt, "memory for leaves");
         let found = root_of(rt, alloc, strategy, how, leaves);
-        returns(rt, (name, through, numbers.len()), found, known);
+        row(rt, (name, through, numbers.len()), found, Ok(known));
     }
 }
 
@@ -87,5 +87,5 @@ fn roots_are_as_by_hand(rt: HostRuntime) {
     }
     let leaves = Vec::from_slice(alloc, &SEVEN).expect(&rt, "memory for leaves");
     let plain = plain_root(alloc, leaves, &combine);
-    returns(&rt, ("plain root", "nobody", 7), plain, Some(371));
+    row(&rt, ("plain root", "nobody", 7), plain, Ok(Some(371)));
 }

@@ -2,7 +2,7 @@
 ghost use Rattle.std.specs.Prelude.{◌<◌};
 
 use crate::batches::batch_ranges;
-use crate::checks::{Of, number, returns};
+use crate::checks::{Of, row};
 use crate::explorers::PLACE;
 use crate::lists::{count, zero};
 use crate::sorts_and_joins::parts_see;
@@ -14,7 +14,7 @@ use std::process::Abort;
 use std::sync::Wait;
 use std::thread::Threads;
 use test_strategies::{Stopped, parallel, pool, serial};
-use test_support::{holds, same};
+use test_support::{holds, number, same};
 
 // The ways that an explorer takes: how many ranges of 64 indices and how many workers of a grid of
 // 64 rows; and whether a run takes the parallel body, a map of four items is cut, a join goes in
@@ -77,12 +77,12 @@ fn the_parallel_rule_takes_the_most_parallel_ways(rt: HostRuntime) {
         (4, 8, ([8, 8], [true; 4])),
         (2, 1, ([1, 1], [false, false, true, true])),
     ] {
-        let (threads, number) = (number(&rt, threads), number(&rt, planned));
+        let (threads, number) = (number(threads), number(planned));
         let strategy = pooled(&rt, alloc, threads, number, Stopped).expect(&rt, "a pool");
         let explorer = Explorer::parallel(&strategy).expect(&rt, "memory");
         let of: Of = ("ways", "Parallel, planned for", planned);
-        returns(&rt, of, ways_of(&rt, alloc, &explorer), wanted);
-        returns(&rt, of, parts_see(&rt, alloc, &explorer), (true, true));
+        row(&rt, of, ways_of(&rt, alloc, &explorer), Ok(wanted));
+        row(&rt, of, parts_see(&rt, alloc, &explorer), Ok((true, true)));
     }
 }
 
@@ -133,7 +133,7 @@ fn a_seed_repeats_its_ways_and_seeds_take_each_of_them(rt: HostRuntime) {
         let explorer = Explorer::seeded(&strategy, seed).expect(&rt, "memory");
         let first = ways_of(&rt, alloc, &explorer).expect(&rt, "memory");
         let of: Of = ("ways", "seed", seed as usize);
-        returns(&rt, of, ways_of(&rt, alloc, &explorer), first);
+        row(&rt, of, ways_of(&rt, alloc, &explorer), Ok(first));
         let bits = bits_of(first);
         seen = [seen[0] | bits[0], seen[1] | bits[1], seen[2] | bits[2]];
     }

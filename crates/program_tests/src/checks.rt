@@ -1,11 +1,7 @@
 //! Functions that stop a test. A call of these costs a tenth of an `assert_eq!` or an `assert!` in
 //! its place to prove.
-ghost use Rattle.std.specs.Prelude.{◌≡◌};
-ghost use Rattle.std.specs.Int.NonZero.{non_zero_usize_get};
-
 use std::alloc::Global;
 use std::fmt::{Debug, Display};
-use std::num::NonZeroUsize;
 use std::process::Abort;
 
 /// Stops the test where that doesn't hold, and prints its text.
@@ -16,13 +12,6 @@ pub fn held(rt: &impl Abort, text: &str, is_so: bool) {
 /// Stops the test where the two differ, and prints both and what the first one is, or its row.
 pub fn equal<T: PartialEq + Debug + Drop>(rt: &impl Abort, text: &str, found: T, wanted: T) {
     assert_eq!(rt; found, wanted, "{text}");
-}
-
-/// A number that isn't 0.
-pub fn number(rt: &impl Abort, value: usize) -> NonZeroUsize
-    ensures { non_zero_usize_get result ≡ value }
-{
-    NonZeroUsize::new(value).expect(rt, "a number above 0")
 }
 
 /// Stops the test where the value isn't written as the text.

@@ -1,11 +1,10 @@
 //! Grids, and the pure machine of shares on whole plans.
-use crate::checks::number;
 use commonware_parallel::shares::machine::{Event, Outcome, Plan, State, replay, step};
 use commonware_parallel::{Fault, Grid};
 use std::alloc::Global;
 use std::num::NonZeroUsize;
 use std::process::Abort;
-use test_support::{holds, same};
+use test_support::{holds, number, same};
 
 // ---- grids
 
@@ -47,11 +46,11 @@ const EVENTS: [Event; 13] = [
 
 #[test]
 fn a_stale_claim_is_lost(rt: HostRuntime) {
-    let plan = Plan::new(3, 2, number(&rt, 1), number(&rt, 2), true);
+    let plan = Plan::new(3, 2, number(1), number(2), true);
     same!(&rt, (plan.workers(), plan.unit(), plan.claim()), (2, 2, 1));
     same!(&rt, (plan.cells(), plan.units()), (6, 3));
     // A unit has several rows where there are many.
-    let many = Plan::new(65_536, 3, number(&rt, 1), number(&rt, 4), true);
+    let many = Plan::new(65_536, 3, number(1), number(4), true);
     same!(
         &rt,
         (many.unit(), many.workers(), many.units()),
@@ -83,7 +82,7 @@ fn a_stale_claim_is_lost(rt: HostRuntime) {
 // A replay, and one claim by steps, return what they always do, or `Memory`. Run with each
 // allocation failing in turn.
 fn replay_or_refusal(rt: &impl Abort, alloc: Global) {
-    let plan = Plan::new(3, 2, number(rt, 1), number(rt, 2), true);
+    let plan = Plan::new(3, 2, number(1), number(2), true);
     match replay(alloc, &plan, &EVENTS) {
         Ok((state, outcomes)) => {
             same!(rt, state.words(), [196_611].as_slice());

@@ -16,9 +16,16 @@ impl<Rt: Threads + Wait + Sync + Abort> Host for Rt {}
 /// A call, and the numbers that it goes over.
 pub type Of<'a> = (&'a str, &'a [u64]);
 
-/// Stops the test where the two differ, and prints both and of which call they are.
-pub fn row<T: PartialEq + Debug + Drop>(rt: &impl Abort, of: Of<'_>, found: T, wanted: T) {
-    assert_eq!(rt; found, wanted, "{of:?}");
+/// Stops the test where the two differ, and prints both and of which call they are, through which
+/// strategy.
+pub fn row<Rt: Abort, S: Debug, T: PartialEq + Debug + Drop>(
+    on: &On<'_, Rt, S, Site>,
+    of: Of<'_>,
+    found: T,
+    wanted: T,
+) {
+    let through = on.strategy;
+    assert_eq!(on.rt; found, wanted, "{of:?} through {through:?}");
 }
 
 /// The calls through a strategy.

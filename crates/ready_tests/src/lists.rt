@@ -72,18 +72,18 @@ fn with_half(alloc: Global, number: u64) -> Vec<u64> {
 fn finds<Rt: Host, S: Strategy>(on: &On<'_, Rt, S, Site>, numbers: &[u64]) {
     let items = Copies { slice: numbers };
     let is_any = Ok(numbers.iter().any(is_seventh_at));
-    row(on.rt, ("any", numbers), on.any(items, is_seventh), is_any);
+    row(on, ("any", numbers), on.any(items, is_seventh), is_any);
     let are_all = Ok(numbers.iter().all(is_seventh_at));
-    row(on.rt, ("all", numbers), on.all(items, is_seventh), are_all);
+    row(on, ("all", numbers), on.all(items, is_seventh), are_all);
     let found = on.find_first(items, is_seventh_at);
     let first = numbers.iter().copied().find(is_seventh_at);
-    row(on.rt, ("find_first", numbers), found, Ok(first));
+    row(on, ("find_first", numbers), found, Ok(first));
     let found = on.position_first(items, is_seventh);
     let place = numbers.iter().position(is_seventh_at);
-    row(on.rt, ("position_first", numbers), found, Ok(place));
+    row(on, ("position_first", numbers), found, Ok(place));
     let found = on.find_map_first(items, half);
     let value = numbers.iter().find_map(half_at);
-    row(on.rt, ("find_map_first", numbers), found, Ok(value));
+    row(on, ("find_map_first", numbers), found, Ok(value));
 }
 
 fn has_same_tens(left: &u64, right: &u64) -> bool {
@@ -105,20 +105,20 @@ fn gathers<Rt: Host, S: Strategy>(on: &On<'_, Rt, S, Site>, numbers: &[u64]) {
     let sevenths = numbers.iter().copied().filter(is_seventh_at);
     let sevenths = sevenths.collect::<Vec<u64>>(alloc).expect(rt, "memory");
     let count = on.count(items, is_seventh);
-    row(rt, ("count", numbers), count, Ok(sevenths.len()));
+    row(on, ("count", numbers), count, Ok(sevenths.len()));
     let found = on.filter(items, is_seventh_at);
-    row(rt, ("filter", numbers), found, Ok(sevenths));
+    row(on, ("filter", numbers), found, Ok(sevenths));
     let found = on.filter_map(items, half);
     let halves = numbers.iter().copied().filter_map(half);
     let halves = halves.collect::<Vec<u64>>(alloc).expect(rt, "memory");
-    row(rt, ("filter_map", numbers), found, Ok(halves));
+    row(on, ("filter_map", numbers), found, Ok(halves));
     let mut firsts = numbers
         .iter()
         .collect::<Vec<&u64>>(alloc)
         .expect(rt, "memory");
     firsts.dedup_by(|item, before| has_same_tens(before, item));
     let found = on.dedup_by(numbers, has_same_tens);
-    row(rt, ("dedup_by", numbers), found, Ok(firsts));
+    row(on, ("dedup_by", numbers), found, Ok(firsts));
 }
 
 // The same of those that put items together.
@@ -126,10 +126,10 @@ fn folds<Rt: Host, S: Strategy>(on: &On<'_, Rt, S, Site>, numbers: &[u64]) {
     let items = Copies { slice: numbers };
     let least = Ok(numbers.iter().copied().min_by(by_tens));
     let found = on.min_by(items, by_tens);
-    row(on.rt, ("min_by", numbers), found, least);
+    row(on, ("min_by", numbers), found, least);
     let most = Ok(numbers.iter().copied().max_by(by_tens));
     let found = on.max_by(items, by_tens);
-    row(on.rt, ("max_by", numbers), found, most);
+    row(on, ("max_by", numbers), found, most);
     let mut sum = 0u64;
     let mut product = 1u64;
     for number in numbers {
@@ -137,11 +137,11 @@ fn folds<Rt: Host, S: Strategy>(on: &On<'_, Rt, S, Site>, numbers: &[u64]) {
         product = product.wrapping_mul(*number);
     }
     let found = (on.sum(items), on.product(items));
-    row(on.rt, ("sums", numbers), found, (Ok(sum), Ok(product)));
+    row(on, ("sums", numbers), found, (Ok(sum), Ok(product)));
     let found = on.checked_sum(items);
-    row(on.rt, ("checked_sum", numbers), found, Ok(Some(sum)));
+    row(on, ("checked_sum", numbers), found, Ok(Some(sum)));
     let top = Ok(numbers.iter().copied().max());
-    row(on.rt, ("reduce", numbers), on.reduce(items, greater), top);
+    row(on, ("reduce", numbers), on.reduce(items, greater), top);
 }
 
 // The same of those by keys, and where an item isn't given to a closure once.
@@ -150,7 +150,7 @@ fn keys<Rt: Host, S: Strategy>(on: &On<'_, Rt, S, Site>, numbers: &[u64]) {
     let found = (on.min_by_key(items, tens), on.max_by_key(items, tens));
     let least = Ok(numbers.iter().copied().min_by_key(tens));
     let most = Ok(numbers.iter().copied().max_by_key(tens));
-    row(on.rt, ("by key", numbers), found, (least, most));
+    row(on, ("by key", numbers), found, (least, most));
     let given = AtomicU64::new(0);
     let made = on.for_each(items, |number: u64| {
         given.fetch_add(number.wrapping_add(1), Counting::SeqCst);
@@ -161,7 +161,7 @@ fn keys<Rt: Host, S: Strategy>(on: &On<'_, Rt, S, Site>, numbers: &[u64]) {
     }
     let given = given.load(Counting::SeqCst);
     let found = (made, given);
-    row(on.rt, ("for_each", numbers), found, (Ok(()), expected));
+    row(on, ("for_each", numbers), found, (Ok(()), expected));
 }
 
 // The same of the sorts, and of what is asked of an order.
@@ -173,18 +173,18 @@ fn sorts<Rt: Host, S: Strategy>(on: &On<'_, Rt, S, Site>, numbers: &[u64]) {
     expected.sort_by_key(tens).expect(rt, "memory");
     let found = (made, sorted.as_slice());
     let wanted = (Ok(()), expected.as_slice());
-    row(rt, ("sort_by_key", numbers), found, wanted);
+    row(on, ("sort_by_key", numbers), found, wanted);
     let found = on.is_sorted_by(numbers, is_at_most);
     let before = Ok(numbers.is_sorted_by(is_at_most));
-    row(rt, ("is_sorted_by", numbers), found, before);
+    row(on, ("is_sorted_by", numbers), found, before);
     let made = on.sort_unstable_by_key(&mut sorted, |number: &u64| *number);
-    row(rt, ("sort_unstable_by_key", numbers), made, Ok(()));
+    row(on, ("sort_unstable_by_key", numbers), made, Ok(()));
     expected
         .sort_by_key(|number: &u64| *number)
         .expect(rt, "memory");
     let found = on.is_sorted_by(sorted.as_slice(), is_at_most);
-    row(rt, ("is_sorted_by, sorted", numbers), found, Ok(true));
-    row(rt, ("sort_unstable_by", numbers), sorted, expected);
+    row(on, ("is_sorted_by, sorted", numbers), found, Ok(true));
+    row(on, ("sort_unstable_by", numbers), sorted, expected);
 }
 
 // The same of one that appends the lists that a closure gives.
@@ -197,7 +197,7 @@ fn joins<Rt: Host, S: Strategy>(on: &On<'_, Rt, S, Site>, numbers: &[u64]) {
         .copied()
         .flat_map(|number: u64| with_half(alloc, number));
     let joined = lists.collect::<Vec<u64>>(alloc).expect(rt, "memory");
-    row(rt, ("flat_map", numbers), found, Ok(joined));
+    row(on, ("flat_map", numbers), found, Ok(joined));
 }
 
 // The same of the calls of a group, for 1,000 random lists.
@@ -279,8 +279,8 @@ fn sums_that_do_not_fit_are_none(rt: HostRuntime) {
         let items = Copies {
             slice: numbers.as_slice(),
         };
-        row(&rt, ("sum", items.slice), on.sum(items), Ok(sum));
+        row(&on, ("sum", items.slice), on.sum(items), Ok(sum));
         let found = on.checked_sum(items);
-        row(&rt, ("checked_sum", items.slice), found, Ok(checked));
+        row(&on, ("checked_sum", items.slice), found, Ok(checked));
     }
 }

@@ -82,15 +82,15 @@ fn scans<Rt: Host, S: Strategy>(on: &On<'_, Rt, S, Site>, numbers: &[u64]) {
     };
     let found = on.inclusive_scan(lines, then).expect(rt, "memory");
     let of = ("inclusive", numbers);
-    row(rt, of, found.as_slice(), ends.as_slice());
+    row(on, of, found.as_slice(), ends.as_slice());
     let found = on.exclusive_scan(lines, START, then).expect(rt, "memory");
     let of = ("exclusive", numbers);
-    row(rt, of, found.as_slice(), starts.as_slice());
+    row(on, of, found.as_slice(), starts.as_slice());
     let made = on.inclusive_scan_in_place(&mut through, then);
-    row(rt, ("in place", numbers), (made, through), (Ok(()), ends));
+    row(on, ("in place", numbers), (made, through), (Ok(()), ends));
     let made = on.exclusive_scan_in_place(&mut before, START, then);
     let of = ("exclusive, in place", numbers);
-    row(rt, of, (made, before), (Ok(()), starts));
+    row(on, of, (made, before), (Ok(()), starts));
 }
 
 // The same for lists of each length below 20, and for 1,000 random lists.
@@ -184,5 +184,5 @@ fn met<Rt: Threads + Wait + Sync, S: Strategy>(on: &On<'_, Rt, S, Site>) -> Resu
 fn two_chunks_meet(rt: HostRuntime) {
     let strategy = pool(&rt, rt.alloc(), 2, 2).expect(&rt, "a pool");
     let on = calls_of(&rt, rt.alloc(), &strategy);
-    row(&rt, ("meetings", &[]), met(&on), Ok(4));
+    row(&on, ("meetings", &[]), met(&on), Ok(4));
 }

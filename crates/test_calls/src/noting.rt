@@ -8,7 +8,7 @@ use commonware_parallel::{Call, Chooser, Fault, Kind, Learns, Meter, Pick, Place
 use std::alloc::Global;
 use std::num::NonZeroUsize;
 use std::sync::{Arc, Wait};
-use test_strategies::threads_of;
+use test_support::number;
 
 /// Takes the last pick of each call, planned for as many as it has threads. A clone and the
 /// strategy of a batch's parts write to the same log.
@@ -23,7 +23,7 @@ impl Noting {
     /// One of that many threads.
     pub fn new(alloc: Global, threads: usize) -> Result<Noting, Fault> {
         Ok(Noting {
-            threads: threads_of(threads),
+            threads: number(threads),
             log: Arc::new(alloc, Log::new(alloc))?,
             who: OUTER,
         })

@@ -7,7 +7,8 @@ use crate::visits::Visitor;
 use commonware_parallel::mocks::{Explorer, Rule, TASKS, WORKERS};
 use commonware_parallel::{Fault, Rayon, Sequential};
 use std::alloc::Global;
-use test_strategies::{learning, threads_of};
+use test_strategies::learning;
+use test_support::number;
 
 /// The numbers of threads of each probe.
 pub const THREADS: [usize; 12] = [1, 2, 3, 4, 5, 6, 7, 8, 9, 12, 17, 65];
@@ -100,9 +101,7 @@ impl Through {
         if matches!(way, Way::Learning(..)) {
             return Ok(Through::Rayon(learned));
         }
-        let fixed = learned
-            .with_parallelism(threads_of(planned))
-            .without_policy()?;
+        let fixed = learned.with_parallelism(number(planned)).without_policy()?;
         if let Way::Explorer(rule, ..) = way {
             return Ok(Through::Explorer(Explorer::by_rule(&fixed, rule)?));
         }

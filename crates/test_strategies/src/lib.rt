@@ -3,8 +3,8 @@
 
 use commonware_parallel::{Clock, Fault, Rayon, Site};
 use std::alloc::Global;
-use std::num::NonZeroUsize;
 use std::thread::Threads;
+use test_support::number;
 
 /// The call site of the tests.
 pub const SITE: Site = Site {
@@ -23,11 +23,6 @@ impl Clock for Stopped {
     }
 }
 
-/// A number of threads, which isn't 0.
-pub fn threads_of(number: usize) -> NonZeroUsize {
-    NonZeroUsize::MIN.saturating_add(number.saturating_sub(1))
-}
-
 /// A pool of that many threads with a fresh policy, which learns by that clock.
 pub fn learning<Rt: Threads, C: Clock>(
     rt: &Rt,
@@ -35,7 +30,7 @@ pub fn learning<Rt: Threads, C: Clock>(
     threads: usize,
     clock: C,
 ) -> Result<Rayon<C>, Fault> {
-    match Rayon::new(rt, alloc, threads_of(threads), clock) {
+    match Rayon::new(rt, alloc, number(threads), clock) {
         Ok(strategy) => Ok(strategy),
         Err(_) => Err(Fault::Memory),
     }
@@ -49,9 +44,7 @@ pub fn pool<Rt: Threads>(
     planned: usize,
 ) -> Result<Rayon<Stopped>, Fault> {
     let strategy = learning(rt, alloc, threads, Stopped)?;
-    strategy
-        .with_parallelism(threads_of(planned))
-        .without_policy()
+    strategy.with_parallelism(number(planned)).without_policy()
 }
 
 /// The body of a run that goes serially.

@@ -5,9 +5,21 @@
 //! can't take the handle that stops a program, and a macro writes no function.
 #![tactic(auto)]
 
+ghost use Rattle.std.specs.Prelude.{◌≡◌, ◌≢◌};
+ghost use Rattle.std.specs.Int.NonZero.{non_zero_usize_get};
+
+use std::num::NonZeroUsize;
+
 pub mod counted;
 pub mod no_memory;
 pub mod processes;
+
+/// A number that isn't 0: 1 in the place of 0.
+pub fn number(value: usize) -> NonZeroUsize
+    ensures { value ≢ 0 → non_zero_usize_get result ≡ value }
+{
+    NonZeroUsize::MIN.saturating_add(value.saturating_sub(1))
+}
 
 /// Stops the test where that doesn't hold, and prints it with its module.
 #[macro_export]
