@@ -12,7 +12,6 @@ pub mod Rectangles
 pub mod WholeRowCuts
 pub mod StatefulSteps
 pub mod SeatResults
-pub mod NamedResults
 pub mod SortedStretches
 pub mod RowMerges
 pub mod OneGrid
@@ -27,7 +26,6 @@ pub use Hashes.*
 pub use ListCalls.*
 pub use Merkles.*
 pub use MerkleBlocks.*
-pub use NamedResults.*
 pub use Outcomes.*
 pub use Picks.*
 pub use RowLaws.*

@@ -1,11 +1,61 @@
 -- A kernel by row: what it gives of a row's parts is folded, however the rows were cut.
-use Rattle.commonware_parallel.proofs.Common.{◌≡◌, ℕ, zero, suc, ◌+◌, ◌<◌, ◌≤◌, Bool, List, [], ◌∷◌, All, Option, Some, None, sym, subst, arith, MutBor, Range, Stretch, AllZip, range_with_len}
-use Rattle.commonware_parallel.proofs.Common.{All-nil, All-cons, All-head, All-tail, Fills, Filled, no_fill, last_fill, Finished, IsStretch, Chains, no_chain, more_chains}
-use Rattle.commonware_parallel.proofs.Common.{FillsStretches, Joins, MergesRows, results_in, stretches_in}
-use Rattle.commonware_parallel.proofs.NamedResults.{All-back, All-front}
-use Rattle.commonware_parallel.proofs.RowLaws.{merged_hold}
+use Rattle.commonware_parallel.proofs.Common.{◌≡◌, ℕ, zero, suc, ◌+◌, ◌<◌, ◌≤◌, Bool, List, [], ◌∷◌, ◌++◌, All, Option, Some, None, refl, sym, ap, subst, ◌∙◌, map-append, arith, MutBor, Range, Stretch, AllZip, range_with_len}
+use Rattle.commonware_parallel.proofs.Common.{All-nil, All-cons, All-head, All-tail, Fills, Filled, Gives, Names, no_fill, last_fill, Finished, IsStretch, Chains, no_chain, more_chains}
+use Rattle.commonware_parallel.proofs.Common.{FillsSome, FillsStretches, Joins, MergesRows, results_in, stretches_in}
+use Rattle.commonware_parallel.proofs.RowLaws.{All-back, All-front, merged_hold}
 use Rattle.commonware_parallel.specs.RowFolds.{EndsFold, FoldsColumns, FoldsOn, FoldsRows, GivesRows, IsAdditive, columns_between, of_both, of_columns}
 use Rattle.parallel_bridge.proofs.Shapes.{MapOf-append}
+
+-- chains whose results name their stretches
+module _ {T R : Type 0} (init : T → Type 0) (fill : T → ℕ → Range ℕ → T → Type 0)
+    (ends : T → Stretch → R → T → Type 0)
+    (called : MutBor T → Stretch → (Stretch × R) → MutBor T → Type 0)
+    (named : (p q : MutBor T) (x : Stretch) (part : Stretch × R) → called p x part q
+    → Names ends p.now x part q.now) where
+  -- one call
+  once : (s t : T) (x : Stretch) (part : Stretch × R) → Gives called s x part t
+      → Names ends s x part t
+  once s t x part (p, q, from, does, to) =
+      subst (λ v. Names ends s x part v) to
+      (subst (λ v. Names ends v x part q.now) from (named p q x part does))
+
+  -- a chain
+  chain_named : (s : T) (xs : List Stretch) (parts : List (Stretch × R)) (t : T)
+      → Finished fill (Gives called) s xs parts t
+      → (stretches_in parts ≡ xs) × Finished fill ends s xs (results_in parts) t
+  chain_named s [] [] t same = (refl, same)
+  chain_named s [] (part ∷ parts) t wrong = absurd wrong
+  chain_named s (x ∷ xs) [] t wrong = absurd wrong
+  chain_named s (x ∷ xs) (part ∷ parts) t (u, (v, filled, one), later) =
+      let here = once v u x part one in
+      let rest = chain_named u xs parts t later in (
+        ap (λ y. y ∷ stretches_in parts) here.0 ∙ ap (λ ys. x ∷ ys) rest.0,
+        (u, (v, filled, here.1), rest.1),
+      )
+
+  -- and so along all chains
+  chains_named : {xs : List Stretch} {parts : List (Stretch × R)}
+      → Chains init fill (Gives called) xs parts
+      → (stretches_in parts ≡ xs) × Chains init fill ends xs (results_in parts)
+  chains_named no_chain = (refl, no_chain)
+  chains_named (more_chains s t xs more parts rest split joined begun done later) =
+      let here = chain_named s xs parts t done in
+      let there = chains_named later in (
+        ap stretches_in joined ∙ map-append (λ (p : Stretch × R). p.0) parts rest
+            ∙ ap (λ l. l ++ stretches_in rest) here.0 ∙ ap (λ l. xs ++ l) there.0 ∙ sym split,
+        more_chains s t xs more (results_in parts) (results_in rest) split
+            (ap results_in joined ∙ map-append (λ (p : Stretch × R). p.1) parts rest) begun here.1
+            there.1,
+      )
+
+  -- what cuts the grid are the stretches that the results name
+  pub parts_named : (rows len : ℕ) (whole : Bool) (parts : List (Stretch × R))
+      → FillsSome init fill (Gives called) rows len whole parts
+      → FillsStretches init fill ends rows len whole (stretches_in parts) (results_in parts)
+  parts_named rows len whole parts (cut, (cuts, rows_whole, chains)) =
+      let all = chains_named chains in
+      subst (λ l. FillsStretches init fill ends rows len whole l (results_in parts)) (sym all.0)
+      (cuts, rows_whole, all.1)
 
 -- a stretch of the grid
 abbrev Within : ℕ → ℕ → Stretch → Type 0

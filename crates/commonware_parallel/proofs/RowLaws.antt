@@ -1,10 +1,19 @@
 -- What holds of the results of a row's stretches, and of results that are merged, holds of the
 -- row's value.
-use Rattle.commonware_parallel.proofs.Common.{◌≡◌, ℕ, zero, suc, ◌+◌, ◌<◌, ◌≤◌, List, [], ◌∷◌, ◌++◌, All, add-one, ap, subst, ◌∙◌, arith, AllZip, FoldsTo, range_with_len, All-head, All-tail}
+use Rattle.commonware_parallel.proofs.Common.{◌≡◌, ℕ, zero, suc, ◌+◌, ◌<◌, ◌≤◌, List, [], ◌∷◌, ◌++◌, All, add-one, ap, subst, ◌∙◌, arith, AllZip, FoldsTo, range_with_len, All-nil, All-cons, All-head, All-tail}
 use Rattle.commonware_parallel.proofs.Common.{All-permutation, Stretch, stretches_in, results_in, MergesTo, TilesRow, RowValues, MergesRows}
-use Rattle.commonware_parallel.proofs.NamedResults.{All-front, All-back}
 use Rattle.parallel_bridge.proofs.Shapes.{MapOf-append}
 use Rattle.parallel_shares.proofs.Stretching.{numbers_cut}
+
+-- of a list in two parts
+pub All-front : {X : Type 0} (P : X → Type 0) (xs ys : List X) → All P (xs ++ ys) → All P xs
+All-front P [] ys h = All-nil P
+All-front P (x ∷ xs) ys h =
+    All-cons P x xs (All-head P x (xs ++ ys) h) (All-front P xs ys (All-tail P x (xs ++ ys) h))
+
+pub All-back : {X : Type 0} (P : X → Type 0) (xs ys : List X) → All P (xs ++ ys) → All P ys
+All-back P [] ys h = h
+All-back P (x ∷ xs) ys h = All-back P xs ys (All-tail P x (xs ++ ys) h)
 
 -- stretches that tile columns don't end before they begin
 tiles_up : (row a b : ℕ) (ss : List Stretch) → TilesRow row a b ss → a ≤ b

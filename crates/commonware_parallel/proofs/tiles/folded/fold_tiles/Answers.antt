@@ -1,7 +1,7 @@
 -- The state is what came so far of a row. The closures' own clauses go along; a call of `fill`
 -- leaves its columns besides, of which nothing is said.
-use Rattle.commonware_parallel.proofs.{◌≡◌, ℕ, Option, None, arith, MutBor, Range, Fills, parts_named}
-use Rattle.commonware_parallel.proofs.RowFolds.{folds_nothing, rows_folded}
+use Rattle.commonware_parallel.proofs.{◌≡◌, ℕ, Option, None, arith, MutBor, Range, Fills}
+use Rattle.commonware_parallel.proofs.RowFolds.{folds_nothing, parts_named, rows_folded}
 use Rattle.commonware_parallel.specs.RowFolds.{EndsFold, FoldsOn}
 use Rattle.std.proofs.lemmas.Result.{IfOk-weaker}
 use Rattle.commonware_parallel.proofs.tiles.folded.fold_tiles.Goals as goal
