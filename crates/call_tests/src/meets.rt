@@ -196,12 +196,13 @@ fn as_many_meet_whatever_the_strategy(rt: HostRuntime) {
     meet(&rt, &through(&rt, four), chunks, (4, 4));
 }
 
-// The same by each of these numbers of threads: of as many parts, of ten times as many, of three,
-// and of some thousands.
+// The same by each of these numbers of threads: of as many parts, of ten times as many, and by few
+// threads of some thousands, and by others of three.
 fn numbers_meet(rt: &impl Test, least: usize, most: usize) {
     for threads in threads_between(least, most) {
-        let many = threads.saturating_mul(5000).min(50_000);
-        let parts = [*threads, threads.saturating_mul(10), 3, many];
+        let many = threads.saturating_mul(5000);
+        let other = if *threads > 4 { 3 } else { many };
+        let parts = [*threads, threads.saturating_mul(10), other];
         all_meet(rt, (Way::Pool(*threads, *threads), *threads), false, &parts);
     }
 }
