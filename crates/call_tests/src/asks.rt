@@ -77,17 +77,10 @@ fn asks(rt: &impl Test, act: Act, fails: bool) {
         Act::Batch(..) => 12,
         act if act.asks_twice() => {
             let lines = [begun[0], begun[1], TOLD, begun[0], begun[1], RAN, told];
-            has(rt, log, of, &lines);
-            return;
+            return has(rt, log, of, &lines);
         }
-        act if act.is_silent() => {
-            has(rt, log, of, &[begun[0], begun[1], told]);
-            return;
-        }
-        _ => {
-            has(rt, log, of, &[begun[0], begun[1], RAN, told]);
-            return;
-        }
+        act if act.is_silent() => return has(rt, log, of, &[begun[0], begun[1], told]),
+        _ => return has(rt, log, of, &[begun[0], begun[1], RAN, told]),
     };
     let inside = if fails { DROPPED_INSIDE } else { TOLD_INSIDE };
     let lines = [
@@ -121,17 +114,21 @@ fn a_call_that_fails_tells_nothing(rt: HostRuntime) {
     }
 }
 
-// Over the list that takes no memory, as each call asks by the same code, and many items take long.
+// Over the list that takes no memory, as each call asks by the same code, and many items take long;
+// and a batch that is whole.
 #[test]
-fn a_call_over_many_items_asks_once(rt: HostRuntime) {
-    let len = 1_100_000usize;
-    for called in [Called::Map, Called::Fold] {
-        let act = Act::List(called, Given::OwnProducer);
-        let noting = noting(&rt);
-        let made = does(&rt, &noting, act, len, Visitor::Passes);
-        row(&rt, row_of(act, len), made, Ok(()));
-        let lines = [asked(act.question(len, 4)), BEGUN, TOLD];
-        has(&rt, noting.log(), row_of(act, len), &lines);
+fn a_call_over_many_items_or_none_asks_once(rt: HostRuntime) {
+    let map = Act::List(Called::Map, Given::OwnProducer);
+    let fold = Act::List(Called::Fold, Given::OwnProducer);
+    let batch = Act::Batch(Batched::TryBatch, usize::MAX);
+    for act in [map, fold, batch] {
+        for len in [0, 1, 1_100_000] {
+            let (noting, of) = (noting(&rt), row_of(act, len));
+            let made = does(&rt, &noting, act, len, Visitor::Passes);
+            row(&rt, of, made, Ok(()));
+            let lines = [asked(act.question(len, 1)), BEGUN, TOLD];
+            has(&rt, noting.log(), of, &lines);
+        }
     }
 }
 

@@ -99,14 +99,6 @@ fn gives_back(rt: &(impl Test + Files), through: &Through, of: Row, fails: usize
     row(rt, of, kept, ("KiB that are kept", fails, 0));
 }
 
-// Whether a call owns its items.
-fn owns(act: Act) -> bool {
-    matches!(
-        act,
-        Act::List(_, Given::Vector | Given::Iterator | Given::Pairs)
-    )
-}
-
 // Each call over owned items, which ends well or fails; and a map whose results would take as much
 // as such a block, which fails at once.
 #[test]
@@ -114,7 +106,10 @@ fn a_call_gives_the_blocks_of_its_items_and_results_back(rt: HostRuntime) {
     for way in [Way::Sequential, Way::Pool(2, 2)] {
         let through = through(&rt, way);
         for act in all_acts(&rt) {
-            if owns(act) {
+            if matches!(
+                act,
+                Act::List(_, Given::Vector | Given::Iterator | Given::Pairs)
+            ) {
                 let of = Row { way, act, len: 16 };
                 gives_back(&rt, &through, of, usize::MAX, Block::Large);
                 if act.may_fail() {
@@ -151,8 +146,8 @@ enum Made {
     Pool,
 }
 
-// Spawns a job and waits for it.
-fn wait_for_job<C: Clock>(rt: &(impl Test + RandomSource), strategy: &Rayon<C>) {
+/// Spawns a job and waits for it.
+pub fn wait_for_job<C: Clock>(rt: &(impl Test + RandomSource), strategy: &Rayon<C>) {
     let spawned = strategy.spawn(rt, rt.alloc(), SITE, 1, Gives(7));
     let given = block_on(rt, spawned.expect(rt, "a job"));
     equal(rt, "a job", given.expect(rt, "a queue"), 7);
@@ -298,7 +293,9 @@ fn a_measured_job_lets_its_clock_go(rt: HostRuntime) {
     let clock = Stepping::new(rt.alloc(), 1000).expect(&rt, "a clock");
     let mut reading = Arc::try_clone(&clock.reading).expect(&rt, "a handle");
     let strategy = learning(&rt, rt.alloc(), 4, clock).expect(&rt, "a pool");
-    wait_for_job(&rt, &strategy);
+    for _ in 0..12u32 {
+        wait_for_job(&rt, &strategy);
+    }
     drop(strategy);
     holds!(&rt, Arc::get_mut(&mut reading).is_some());
 }

@@ -1,6 +1,7 @@
 //! What a policy has of the calls of strategies that it was handed to: at which keys there are
 //! entries, and the times that they keep; of a call that is refused that it was asked, where it
 //! was, and no time. Each measured run takes as long as the clock goes on by at each reading.
+use crate::blocks::wait_for_job;
 use crate::checks::{Test, equal, held, row};
 use crate::requests::{Fate, Path, all_but_one, bare_acts, fate_of, laden_acts, len_of};
 use commonware_parallel::policy::{Key, RunExecution, SpawnExecution, SpawnSample};
@@ -134,13 +135,20 @@ fn a_run_is_kept_by_its_length_and_its_work(rt: HostRuntime) {
     }
 }
 
+// A job is handed off twice; each tenth time after that it is measured inline, where it is short.
 #[test]
 fn each_time_is_kept_as_it_is(rt: HostRuntime) {
-    for step in [0, 1, 999_999_999, 1_000_000_001, 3_600_000_000_000] {
+    for step in [0, 1, 50, 999_999_999, 1_000_000_001, 3_600_000_000_000] {
         let policy = fresh(&rt);
         let strategy = by_policy(&rt, &policy, step);
         let once = Some((Some(step), None));
         takes(&rt, &strategy, &policy, (1, "parallel", once));
+        for _ in 0..12u32 {
+            wait_for_job(&rt, &strategy);
+        }
+        let jobs = job_times(&rt, &policy, Key::new(SITE, 1, 1, 4));
+        let inline = if step > 50 { None } else { Some(step) };
+        equal(&rt, "jobs", jobs, Some([Some(step), Some(step), inline]));
     }
 }
 

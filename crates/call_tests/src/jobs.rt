@@ -6,13 +6,14 @@ use commonware_parallel::mocks::{Explorer, Rule};
 use commonware_parallel::{Call, Strategy};
 use futures::executor::block_on;
 use std::sync::Arc;
+use test_calls::clocks::Stepping;
 use test_calls::every_call::Act;
 use test_calls::logs::{self, OUTER, RAN};
 use test_calls::meetings::Meeting;
 use test_calls::noting::Noting;
 use test_calls::steps::Does;
 use test_calls::ways::{Row, THREADS, Way};
-use test_strategies::{SITE, pool};
+use test_strategies::{SITE, learning};
 
 // Stops the test where jobs, each handed off after the one before, don't meet their caller.
 fn jobs_meet_their_caller<S: Strategy>(rt: &impl Test, strategy: &S) {
@@ -38,7 +39,9 @@ fn jobs_meet_their_caller_whatever_the_number_of_threads(rt: HostRuntime) {
         let own = Noting::new(alloc, *threads).expect(&rt, "a log");
         own.log().hand_off();
         jobs_meet_their_caller(&rt, &own);
-        let pool = pool(&rt, alloc, *threads, *threads).expect(&rt, "a pool");
+        // By this clock a job takes so long that its policy has it handed off.
+        let clock = Stepping::new(alloc, 2_500_000).expect(&rt, "a clock");
+        let pool = learning(&rt, alloc, *threads, clock).expect(&rt, "a pool");
         jobs_meet_their_caller(&rt, &pool);
         let explorer = Explorer::parallel(&pool).expect(&rt, "memory for a handle");
         jobs_meet_their_caller(&rt, &explorer);

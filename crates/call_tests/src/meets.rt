@@ -48,6 +48,7 @@ fn items(act: Act, parts: usize) -> usize {
     match act {
         Act::Sort(_) => parts.saturating_mul(PART),
         Act::Change(2) => parts.saturating_mul(2),
+        Act::Tree(_) if parts > 5000 => parts / 4,
         Act::Tree(_) => parts.saturating_mul(16).wrapping_add(5),
         _ => parts,
     }
@@ -111,11 +112,11 @@ fn pairs_meet(rt: &impl Test, through: &Through, of: Row, threads: usize) {
 
 // The same of the first round in which parts of a sort are merged: half as many meet, whose
 // comparisons are of numbers of two parts.
-fn merges_meet(rt: &impl Test, through: &Through, of: Row, threads: usize) {
-    let levels = [Meeting::of(threads / 2, 0)];
+fn merges_meet(rt: &impl Test, through: &Through, of: Row, parts: usize) {
+    let levels = [Meeting::of(parts / 2, 0)];
     let made = through.does(rt, of.act, of.len, Visitor::MeetsByLevel(&levels));
     let met = levels[0].most();
-    row(rt, of, (made, met), (Ok(()), met.max(threads / 2)));
+    row(rt, of, (made, met), (Ok(()), met.max(parts / 2)));
 }
 
 // The same of a call over so many parts. Where closures are called with neighbours each segment has
@@ -134,13 +135,15 @@ fn call_meets(rt: &impl Test, through: &Through, of: Row, (threads, parts): (usi
         // One of its bodies runs.
         Act::Run(_) => {}
         act if act.is_silent() => {}
+        // Not each segment of so few has two neighbours.
+        act if act.is_of_pairs() && parts < threads.saturating_mul(4) => {}
         // A batch of one range is whole, and not shared.
         Act::Batch(..) if parts < 2 => {}
-        Act::Sort(_) if parts == threads && threads < 64 => {
-            meet(rt, through, of, (threads, threads));
+        Act::Sort(_) if parts <= threads && parts < 64 => {
+            meet(rt, through, of, (parts, parts));
             // A key is of one number.
             if matches!(of.act, Act::Sort(Sorted::Stable | Sorted::Unstable)) {
-                merges_meet(rt, through, of, threads);
+                merges_meet(rt, through, of, parts);
             }
         }
         // More parts than threads take long, and of 64 each thread that is started gets two.
@@ -151,7 +154,7 @@ fn call_meets(rt: &impl Test, through: &Through, of: Row, (threads, parts): (usi
 }
 
 // The same of each call, over all sources or one's own alone, as the others take long; and of tiles
-// on one row, which is cut.
+// on rows that are cut.
 fn all_meet(rt: &impl Test, (way, threads): (Way, usize), is_whole: bool, parts: &[usize]) {
     let through = through(rt, way);
     for act in all_acts(rt) {
@@ -162,9 +165,10 @@ fn all_meet(rt: &impl Test, (way, threads): (Way, usize), is_whole: bool, parts:
         }
     }
     for filling in [Filling::Stretches, Filling::Kernel] {
-        let act = Act::Fill(filling, 20_000);
-        let bounds = (power_within(threads), threads);
-        meet(rt, &through, Row::of(way, act, 1), bounds);
+        for rows in [1, 3] {
+            let of = Row::of(way, Act::Fill(filling, 20_000), rows);
+            meet(rt, &through, of, (power_within(threads), threads));
+        }
     }
 }
 
@@ -185,15 +189,20 @@ fn as_many_meet_whatever_the_strategy(rt: HostRuntime) {
     ] {
         all_meet(&rt, (way, 4), false, &[4, 40]);
     }
-    // A join goes in parallel whatever its pool is planned for.
-    let way = Way::Pool(2, 1);
-    meet(&rt, &through(&rt, way), Row::of(way, Act::Join, 2), (2, 2));
+    // A join goes in parallel whatever its pool has or is planned for, and chunks of any size do.
+    let (one, four) = (Way::Pool(1, 1), Way::Pool(4, 4));
+    meet(&rt, &through(&rt, one), Row::of(one, Act::Join, 2), (2, 2));
+    let chunks = Row::of(four, Act::Change(10), 40);
+    meet(&rt, &through(&rt, four), chunks, (4, 4));
 }
 
-// The same by each of these numbers of threads, of as many parts and of ten times as many.
+// The same by each of these numbers of threads: of as many parts, of ten times as many, and by few
+// threads of some thousands, and by others of three.
 fn numbers_meet(rt: &impl Test, least: usize, most: usize) {
     for threads in threads_between(least, most) {
-        let parts = [*threads, threads.saturating_mul(10)];
+        let many = threads.saturating_mul(5000);
+        let other = if *threads > 4 { 3 } else { many };
+        let parts = [*threads, threads.saturating_mul(10), other];
         all_meet(rt, (Way::Pool(*threads, *threads), *threads), false, &parts);
     }
 }
@@ -213,46 +222,32 @@ fn many_threads_meet_and_as_many_where_more_are_planned(rt: HostRuntime) {
     numbers_meet(&rt, 17, 65);
 }
 
-// What is tried together of the long calls, each in a test of its own, as it takes long.
-#[derive(Clone, Copy, PartialEq, Eq)]
-enum Group {
-    Maps,
-    Folds,
-    Ready,
-    Sources,
-    Sorts,
-    Changes,
-    Tiles,
-    Trees,
-    // One of its bodies runs, or, as each list call has one body for all sources, another source.
-    None,
-}
-
-// The group of a call, and how many items it is over: a million, but of those that take long for
-// each. A source that isn't one's own has the fallible map and fold alone.
-fn group_of(act: Act) -> (Group, usize) {
+// Which long calls are tried together, in a test of their own, and over how many items: a million,
+// but of those that take long for each. Each list call has one body for all sources, and a source
+// that isn't one's own has the fallible map and fold alone.
+fn group_of(act: Act) -> (&'static str, usize) {
     match act {
-        _ if act.is_silent() => (Group::None, 0),
-        Act::List(Called::Ready(_), Given::Iterator) => (Group::None, 0),
-        Act::List(Called::Ready(_), _) | Act::Scan(_) => (Group::Ready, 1_000_001),
+        _ if act.is_silent() => ("none", 0),
+        Act::List(Called::Ready(_), Given::Iterator) => ("none", 0),
+        Act::List(Called::Ready(_), _) | Act::Scan(_) => ("ready", 1_000_001),
         Act::List(
             Called::Fold | Called::FoldInit | Called::TryFold | Called::Partition,
             Given::OwnProducer,
-        ) => (Group::Folds, 1_000_001),
-        Act::List(_, Given::OwnProducer) => (Group::Maps, 1_000_001),
-        Act::List(..) if act.may_fail() => (Group::Sources, 100_001),
-        Act::List(..) | Act::Run(_) => (Group::None, 0),
-        Act::Sort(_) => (Group::Sorts, 300_001),
-        Act::Fill(..) => (Group::Tiles, 300_001),
-        Act::Tree(Rooted::ByLevels | Rooted::OfLeavesByLevels) => (Group::Trees, 10_001),
-        Act::Tree(_) => (Group::Trees, 300_001),
-        _ => (Group::Changes, 1_000_001),
+        ) => ("folds", 1_000_001),
+        Act::List(_, Given::OwnProducer) => ("maps", 1_000_001),
+        Act::List(..) if act.may_fail() => ("sources", 100_001),
+        Act::List(..) | Act::Run(_) => ("none", 0),
+        Act::Sort(_) => ("sorts", 300_001),
+        Act::Fill(..) => ("tiles", 300_001),
+        Act::Tree(Rooted::ByLevels | Rooted::OfLeavesByLevels) => ("trees", 10_001),
+        Act::Tree(_) => ("trees", 300_001),
+        _ => ("changes", 1_000_001),
     }
 }
 
 // Stops the test where two closures of such a call don't meet, or more. Two threads share it, and a
 // batch has a hundred ranges.
-fn long_calls_meet(rt: &impl Test, group: Group) {
+fn long_calls_meet(rt: &impl Test, group: &str) {
     let way = Way::Pool(2, 100);
     let through = through(rt, way);
     for act in all_acts(rt) {
@@ -268,42 +263,42 @@ fn long_calls_meet(rt: &impl Test, group: Group) {
 
 #[test]
 fn two_closures_of_each_long_map_meet(rt: HostRuntime) {
-    long_calls_meet(&rt, Group::Maps);
+    long_calls_meet(&rt, "maps");
 }
 
 #[test]
 fn two_closures_of_each_long_fold_meet(rt: HostRuntime) {
-    long_calls_meet(&rt, Group::Folds);
+    long_calls_meet(&rt, "folds");
 }
 
 #[test]
 fn two_closures_of_each_long_ready_call_meet(rt: HostRuntime) {
-    long_calls_meet(&rt, Group::Ready);
+    long_calls_meet(&rt, "ready");
 }
 
 #[test]
 fn two_closures_over_each_long_source_meet(rt: HostRuntime) {
-    long_calls_meet(&rt, Group::Sources);
+    long_calls_meet(&rt, "sources");
 }
 
 #[test]
 fn two_closures_of_each_long_sort_meet(rt: HostRuntime) {
-    long_calls_meet(&rt, Group::Sorts);
+    long_calls_meet(&rt, "sorts");
 }
 
 #[test]
 fn two_closures_of_each_long_change_and_batch_meet(rt: HostRuntime) {
-    long_calls_meet(&rt, Group::Changes);
+    long_calls_meet(&rt, "changes");
 }
 
 #[test]
 fn two_closures_of_long_tiles_meet(rt: HostRuntime) {
-    long_calls_meet(&rt, Group::Tiles);
+    long_calls_meet(&rt, "tiles");
 }
 
 #[test]
 fn two_closures_of_long_trees_meet(rt: HostRuntime) {
-    long_calls_meet(&rt, Group::Trees);
+    long_calls_meet(&rt, "trees");
 }
 
 // How often a call calls its closures, but one whose comparisons nobody has counted.
@@ -323,15 +318,31 @@ pub fn closures(act: Act, len: usize, planned: usize) -> Option<usize> {
     }
 }
 
-// Into how many segments a list is cut by that many threads.
-fn segments(threads: usize) -> usize {
-    match threads {
-        1 => 2,
-        2 | 3 => 4,
-        4..8 => 8,
-        8..16 => 16,
-        16..32 => 32,
-        _ => 128,
+// Stops the test where a thread has more of such a call than its share: each of them, in turn, is
+// held up until the others have done so many quarters of it.
+fn shares(rt: &impl Test, act: Act, (threads, quarters): (usize, usize)) {
+    let way = Way::Pool(threads, threads);
+    let (through, of) = (through(rt, way), Row::of(way, act, 32_768));
+    let calls = closures(act, of.len, threads).unwrap_or(0);
+    // (of a tree the tops of its blocks come later)
+    let enough = (calls / 4).saturating_mul(quarters).saturating_sub(64);
+    for held in 0..threads {
+        let times = Times::new();
+        let visited = Visitor::Holds(&times, threads, held, enough);
+        let made = through.does(rt, act, of.len, visited);
+        row(rt, of, (made, held, times.counted()[1]), (Ok(()), held, 0));
+    }
+}
+
+#[test]
+fn no_thread_has_more_than_its_share(rt: HostRuntime) {
+    for act in all_acts(&rt) {
+        let is_list = matches!(act, Act::List(_, Given::OwnProducer) | Act::Change(_));
+        let is_by_blocks = matches!(act, Act::Tree(Rooted::ByBlocks | Rooted::OfLeaves));
+        if is_by_blocks || is_list && !act.is_of_pairs() && !act.is_silent() {
+            shares(&rt, act, (2, 2));
+            shares(&rt, act, (4, 3));
+        }
     }
 }
 
@@ -369,9 +380,15 @@ fn cuts(rt: &impl Test, way: Way, (threads, segments): (usize, usize), len: usiz
 #[test]
 fn each_list_call_cuts_a_list_into_segments_and_begins_a_state_for_each(rt: HostRuntime) {
     for threads in THREADS {
-        let of = (threads, segments(threads));
+        let of = (threads, power_within(threads).saturating_mul(2));
         cuts(&rt, Way::Noting(threads), of, 1000);
+        // By this clock each run takes so long that its policy keeps it parallel.
+        if threads > 1 {
+            cuts(&rt, Way::Learning(threads, 10_000_000), of, 1001);
+        }
     }
+    // Planned for fewer, a list is shared by all threads.
+    cuts(&rt, Way::Pool(4, 2), (4, 8), 1001);
     cuts(&rt, Way::Noting(4), (4, 8), 1_000_001);
     // What goes serially is one segment.
     cuts(&rt, Way::Explorer(Rule::Serial, 4, 4), (1, 1), 1000);

@@ -10,7 +10,7 @@ use crate::checks::{Test, all_acts, equal, row, through};
 use commonware_parallel::mocks::{ExploreError, Rule, explore};
 use commonware_parallel::rayon::ThreadPoolBuildError;
 use commonware_parallel::{Chooser, Fault, Trouble};
-use test_calls::calls::Outcome;
+use test_calls::calls::{Called, Outcome};
 use test_calls::every_call::{Act, acts};
 use test_calls::visits::Visitor;
 use test_calls::ways::{Row, Through, Way, ways};
@@ -26,7 +26,8 @@ const WAYS: [Way; 6] = [
     Way::Explorer(Rule::Seeded(1), 2, 2),
 ];
 
-const REFUSED: Trouble<u32> = Trouble::Fault(Fault::Memory);
+/// Memory was refused.
+pub const REFUSED: Trouble<u32> = Trouble::Fault(Fault::Memory);
 
 // Whether that was refused. It succeeds otherwise.
 fn is_refused(rt: &impl Test, of: Row, found: Outcome) -> bool {
@@ -124,7 +125,14 @@ fn each_growth_is_refused_in_turn(rt: HostRuntime) {
         for act in acts.iter().chain(&[Act::Job, Act::Rest]) {
             drop(rooms.pop());
             let len = if matches!(*act, Act::Tree(_)) { 17 } else { 9 };
-            total = total.saturating_add(refusals(&rt, through, Row::of(*way, *act, len)));
+            let of = Row::of(*way, *act, len);
+            let refused = refusals(&rt, through, of);
+            // A serial fold over items that take none takes no memory.
+            let is_fold = matches!(*act, Act::List(Called::Fold | Called::TryFold, _));
+            if *way == Way::Sequential && is_fold && act.is_bare() {
+                row(&rt, of, refused, 0);
+            }
+            total = total.saturating_add(refused);
             if has_end {
                 hold_rest(alloc, &mut held);
             }

@@ -3,14 +3,16 @@
 use crate::asks::{BEGUN, DROPPED, asked};
 use crate::checks::{Test, all_acts, equal, has, row, through};
 use crate::meets::closures;
+use crate::refusals::REFUSED;
 use commonware_parallel::mocks::{Explorer, Rule};
-use commonware_parallel::{Call, Fault, Strategy, Trouble};
+use commonware_parallel::{Call, Strategy};
 use test_calls::calls::{CALLS, Called, Outcome, called_here};
 use test_calls::every_call::{Act, does};
 use test_calls::noting::Noting;
 use test_calls::others::{Filling, Rooted};
 use test_calls::ready::Ready;
 use test_calls::sources::Given;
+use test_calls::steps::no_count;
 use test_calls::visits::{Times, Visitor};
 use test_calls::ways::{Row, Through, Way};
 use test_strategies::pool;
@@ -89,10 +91,6 @@ pub fn laden_acts(rt: &impl Test) -> Vec<Act> {
     acts
 }
 
-fn refused() -> Outcome {
-    Err(Trouble::Fault(Fault::Memory))
-}
-
 // Stops the test where a call takes a block that it needs not, or calls a closure before the block
 // that it needs is there.
 fn takes(
@@ -111,9 +109,9 @@ fn takes(
     let made = through.does(rt, of.act, of.len, visited);
     let (outcome, calls) = match (fate_of(of.act, path), path) {
         (Fate::Succeeds, _) => (Ok(()), closures(of.act, of.len, planned)),
-        (_, Path::Parallel) if !matches!(of.act, Act::Fill(..)) => (refused(), Some(0)),
+        (_, Path::Parallel) if !matches!(of.act, Act::Fill(..)) => (Err(REFUSED), Some(0)),
         // Its results grow as they come.
-        _ => (refused(), None),
+        _ => (Err(REFUSED), None),
     };
     let calls = calls.unwrap_or(times.items());
     row(rt, of, (made, times.items()), (outcome, calls));
@@ -169,9 +167,7 @@ fn forget_or_fail(_item: usize) -> Result<(), u32> {
     Ok(())
 }
 
-fn nothing() {}
-
-fn forget_by_state(_state: &mut (), _item: usize) {}
+fn forget_by_state(_state: &mut usize, _item: usize) {}
 
 #[test]
 fn a_serial_map_gathers_nothing(rt: HostRuntime) {
@@ -190,7 +186,7 @@ fn a_serial_map_gathers_nothing(rt: HostRuntime) {
         .is_ok();
     let by_state = on
         .strategy
-        .map_init_collect_vec(on.rt, on.alloc, on.site, 0..LEN, nothing, forget_by_state)
+        .map_init_collect_vec(on.rt, on.alloc, on.site, 0..LEN, no_count, forget_by_state)
         .is_ok();
     equal(&rt, "maps", [plain, fallible, by_state], [true; 3]);
     drop(held);
@@ -203,7 +199,7 @@ fn is_untold(rt: &impl Test, act: Act, threads: usize, call: Call) {
     let of = Row { way, act, len: LEN };
     let times = Times::new();
     let made: Outcome = does(rt, &noting, act, LEN, Visitor::Starves(&times));
-    row(rt, of, made, refused());
+    row(rt, of, made, Err(REFUSED));
     has(rt, noting.log(), of, &[asked(call), BEGUN, DROPPED]);
 }
 

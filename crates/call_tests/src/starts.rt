@@ -2,17 +2,17 @@
 //! goes serially; and who starts them: its caller, up to 63 of them, and all before it does a part
 //! of its own. A thread that is started by another one comes later than that by as long as a start
 //! takes, and by then the caller is at work.
-use crate::checks::{Test, all_acts, equal, row, through};
+use crate::checks::{Test, all_acts, equal, number, row, through};
 use crate::meets::power_within;
 use commonware_parallel::mocks::Rule;
-use parallel_pool::rayon::map_in_row;
+use parallel_pool::rayon::ThreadPool;
 use std::io::Eprint;
 use std::rt::Files;
 use test_calls::calls::Called;
 use test_calls::every_call::Act;
 use test_calls::others::{PART, Sorted};
 use test_calls::own_part::OwnPart;
-use test_calls::sources::{Given, zeros};
+use test_calls::sources::Given;
 use test_calls::visits::Visitor;
 use test_calls::ways::{Row, THREADS, Through, Way, threads_between};
 use test_support::processes::last_number;
@@ -89,23 +89,27 @@ fn each_call_starts_at_most_one_thread_fewer_than_there_are(rt: HostRuntime) {
 fn a_serial_call_starts_no_thread(rt: HostRuntime) {
     all_start(&rt, Way::Sequential, 0);
     all_start(&rt, Way::Explorer(Rule::Serial, 4, 4), 0);
-    // Fewer numbers than two parts are sorted by the caller alone.
-    let way = Way::Pool(4, 4);
-    let of = Row::of(way, Act::Sort(Sorted::Stable), 16_383);
-    row(&rt, of, least_started(&rt, &through(&rt, way), of, 0), 0);
 }
 
-// The lists of a long partition's segments are put together by all threads once more.
+// The lists of a long partition's segments are put together by all threads once more, a scan goes
+// over its items twice, and the parts of a sort are merged in rounds.
 #[test]
-fn a_long_partition_starts_its_threads_twice(rt: HostRuntime) {
-    let way = Way::Pool(4, 4);
-    for (len, twice) in [(131_071, 3), (131_072, 6)] {
-        let of = Row::of(way, Act::List(Called::Partition, Given::OwnProducer), len);
-        let (through, mut least) = (through(&rt, way), u64::MAX);
-        for _ in 0..10u32 {
-            least = least.min(least_started(&rt, &through, of, twice));
-        }
-        row(&rt, of, least, twice);
+fn a_call_of_several_rounds_starts_threads_for_each(rt: HostRuntime) {
+    let partition = Act::List(Called::Partition, Given::OwnProducer);
+    for (threads, act, len, wanted) in [
+        (4, partition, 131_071, 3),
+        (4, partition, 131_072, 6),
+        (7, partition, 131_072, 12),
+        (4, Act::Scan(true), 100, 6),
+        (7, Act::Scan(false), 100, 12),
+        // Fewer numbers than two parts are sorted by the caller alone.
+        (4, Act::Sort(Sorted::Stable), 16_383, 0),
+        (8, Act::Sort(Sorted::Stable), 65_536, 11),
+        (12, Act::Sort(Sorted::Unstable), 98_304, 18),
+    ] {
+        let of = Row::of(Way::Pool(threads, threads), act, len);
+        let least = least_started(&rt, &through(&rt, of.way), of, wanted);
+        row(&rt, of, least, wanted);
     }
 }
 
@@ -175,26 +179,23 @@ fn a_caller_starts_many_threads_before_its_own_part(rt: HostRuntime) {
     all_start_first(&rt, rt, Way::Pool(64, 64), 64);
 }
 
-// The same of calls side by side, the last of which is the caller's own.
+// The same of a broadcast's calls side by side, the last of which is the caller's own.
 fn row_starts_first(rt: &(impl Test + Files), host: HostRuntime, calls: usize) {
     let wanted = (calls as u64).saturating_sub(1);
+    let pool = ThreadPool::new(number(rt, calls));
     for _ in 0..10u32 {
         let own = OwnPart::of(&host);
         let before = last_number(rt);
-        let items = zeros(rt.alloc(), calls).expect(rt, "items");
-        let visit = |item: usize| {
-            own.see(&host);
-            item
-        };
-        let made = map_in_row(rt, rt.alloc(), items, &visit);
+        let made = pool.broadcast(rt, rt.alloc(), &|_context| own.see(&host));
         let found = own.started_since(before).min(wanted);
-        equal(rt, "calls in a row", (made.is_ok(), found), (true, wanted));
+        let of = (calls, made.is_ok(), found);
+        equal(rt, "calls in a row", of, (calls, true, wanted));
     }
 }
 
 #[test]
 fn a_caller_starts_all_threads_of_calls_in_a_row(rt: HostRuntime) {
-    for calls in [2usize, 3, 8, 64] {
+    for calls in [2usize, 3, 5, 8, 12, 64] {
         row_starts_first(&rt, rt, calls);
     }
 }

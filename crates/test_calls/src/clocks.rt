@@ -15,8 +15,9 @@ pub struct Stepping {
 }
 
 impl Stepping {
+    /// One whose next nanosecond changes each bit of its reading.
     pub fn new(alloc: Global, step: u64) -> Result<Stepping, Fault> {
-        let start = AtomicU64::new(1_000_000_000_000);
+        let start = AtomicU64::new(u64::MAX / 2);
         Ok(Stepping {
             reading: Arc::new(alloc, start)?,
             step,

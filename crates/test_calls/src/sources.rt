@@ -161,16 +161,6 @@ fn over_zipped<Rt: Runtime, S: Strategy, L: Producer, R: Producer>(
     over_list(on, called, Zipped::new(left, right), visited)
 }
 
-// The same over a list whose items are numbered.
-fn over_enumerated<Rt: Runtime, S: Strategy, P: Producer>(
-    on: &Here<'_, Rt, S>,
-    called: Called,
-    list: P,
-    visited: Visitor<'_>,
-) -> Outcome {
-    over_list(on, called, Enumerated::new(list), visited)
-}
-
 // The same over the chunks of two of a list, alone or zipped with a list that is far longer: that
 // of an even number of chunks is on the right.
 fn over_chunks<Rt: Runtime, S: Strategy>(
@@ -206,7 +196,7 @@ fn over_parts<Rt: Runtime, S: Strategy>(
 ) -> Outcome {
     match given {
         Given::Copies => over_list(on, called, Copies { slice }, visited),
-        Given::Enumerated => over_enumerated(on, called, Copies { slice }, visited),
+        Given::Enumerated => over_list(on, called, Enumerated::new(Copies { slice }), visited),
         Given::OwnSource => make_fallible(on, called, OwnSource { slice }, visited),
         _ => over_chunks(on, called, given, slice, visited),
     }

@@ -4,6 +4,7 @@ use crate::meetings::Meeting;
 use crate::own_part::OwnPart;
 use std::alloc::Global;
 use std::sync::atomic::{AtomicUsize, Ordering};
+use std::thread::yield_now;
 use test_support::no_memory::all_places;
 
 /// How often closures are called, those for items and those that begin a state, and a list is cut.
@@ -38,6 +39,17 @@ impl Times {
     fn count(&self) -> usize {
         self.items.fetch_add(1, Ordering::SeqCst)
     }
+
+    // Waits until so many came, or for a bounded time, which is then counted as a state.
+    fn await_items(&self, wanted: usize) {
+        for _ in 0..1_000_000u32 {
+            if self.items() >= wanted {
+                return;
+            }
+            yield_now();
+        }
+        self.states.fetch_add(1, Ordering::SeqCst);
+    }
 }
 
 /// What each closure of a call does, whatever its item.
@@ -56,7 +68,10 @@ pub enum Visitor<'a> {
     FailsAt(&'a Times, usize),
     /// Counts its calls, the states and the cuts.
     Counts(&'a Times),
-    /// The same while no block of 1 MiB and more is to be had, but for the items.
+    /// Counts its calls. So many first ones wait for each other, and the one of that number then
+    /// waits until so many came.
+    Holds(&'a Times, usize, usize, usize),
+    /// Counts as `Counts` while no block of 1 MiB and more is to be had, but for the items.
     Starves(&'a Times),
     /// As `FailsAt`, over items that lie in a block of 64 MiB; or `Starves` over these.
     Roams(&'a Times, usize, bool),
@@ -71,6 +86,12 @@ impl Visitor<'_> {
             Visitor::Passes | Visitor::MeetsByLevel(_) => {}
             Visitor::Counts(times) | Visitor::Starves(times) => {
                 times.count();
+            }
+            Visitor::Holds(times, first, held, enough) => {
+                let before = times.count();
+                if before < first {
+                    times.await_items(if before == held { enough } else { first });
+                }
             }
             Visitor::Meets(meeting) => meeting.attend(),
             Visitor::Sees(rt, own) => own.see(&rt),
