@@ -59,39 +59,27 @@ fn asks(rt: &impl Test, act: Act, fails: bool) {
     };
     let made = does(rt, &noting, act, 16, visitor);
     let fails = fails && act.may_fail();
-    let outcome = if fails {
-        Err(Trouble::Closure(7))
-    } else {
-        Ok(())
+    // A batch whose map fails has succeeded where its closure can't fail.
+    let (outcome, told) = match act {
+        _ if !fails => (Ok(()), TOLD),
+        Act::Batch(Batched::TryMap, _) => (Err(Trouble::Closure(7)), TOLD),
+        _ => (Err(Trouble::Closure(7)), DROPPED),
     };
     row(rt, of, made, outcome);
-    let begun = [asked(act.question(16, 4)), BEGUN];
-    // A batch whose map fails has succeeded where its closure can't fail.
-    let told = if fails && !matches!(act, Act::Batch(Batched::TryMap, _)) {
-        DROPPED
-    } else {
-        TOLD
-    };
+    let ask = asked(act.question(16, 4));
     let parts = match act {
         Act::Batch(Batched::Change, _) | Act::Fill(..) => 4,
         Act::Batch(..) => 12,
         act if act.asks_twice() => {
-            let lines = [begun[0], begun[1], TOLD, begun[0], begun[1], RAN, told];
+            let lines = [ask, BEGUN, TOLD, ask, BEGUN, RAN, told];
             return has(rt, log, of, &lines);
         }
-        act if act.is_silent() => return has(rt, log, of, &[begun[0], begun[1], told]),
-        _ => return has(rt, log, of, &[begun[0], begun[1], RAN, told]),
+        act if act.is_silent() => return has(rt, log, of, &[ask, BEGUN, told]),
+        _ => return has(rt, log, of, &[ask, BEGUN, RAN, told]),
     };
     let inside = if fails { DROPPED_INSIDE } else { TOLD_INSIDE };
-    let lines = [
-        begun[0],
-        begun[1],
-        asked_inside(parts),
-        BEGUN_INSIDE,
-        RAN,
-        inside,
-        told,
-    ];
+    let within = asked_inside(parts);
+    let lines = [ask, BEGUN, within, BEGUN_INSIDE, RAN, inside, told];
     has(rt, log, of, &lines);
 }
 

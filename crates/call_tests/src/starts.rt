@@ -2,7 +2,7 @@
 //! goes serially; and who starts them: its caller, up to 63 of them, and all before it does a part
 //! of its own. A thread that is started by another one comes later than that by as long as a start
 //! takes, and by then the caller is at work.
-use crate::checks::{Test, all_acts, equal, number, row, through};
+use crate::checks::{Test, all_acts, equal, row, through};
 use crate::meets::power_within;
 use commonware_parallel::mocks::Rule;
 use parallel_pool::rayon::ThreadPool;
@@ -15,6 +15,7 @@ use test_calls::own_part::OwnPart;
 use test_calls::sources::Given;
 use test_calls::visits::Visitor;
 use test_calls::ways::{Row, THREADS, Through, Way, threads_between};
+use test_support::number;
 use test_support::processes::last_number;
 
 // How many threads are started meanwhile, as few as in the best of many tries, as others start
@@ -182,7 +183,7 @@ fn a_caller_starts_many_threads_before_its_own_part(rt: HostRuntime) {
 // The same of a broadcast's calls side by side, the last of which is the caller's own.
 fn row_starts_first(rt: &(impl Test + Files), host: HostRuntime, calls: usize) {
     let wanted = (calls as u64).saturating_sub(1);
-    let pool = ThreadPool::new(number(rt, calls));
+    let pool = ThreadPool::new(number(calls));
     for _ in 0..10u32 {
         let own = OwnPart::of(&host);
         let before = last_number(rt);
