@@ -22,7 +22,7 @@ use test_support::processes::last_number;
 // threads too; the greatest number is where it never succeeds.
 fn least_started(rt: &(impl Test + Files), through: &Through, of: Row, enough: u64) -> u64 {
     let mut least = u64::MAX;
-    for _ in 0..200u32 {
+    for _ in 0..2000u32 {
         let before = last_number(rt);
         if through.does(rt, of.act, of.len, Visitor::Passes).is_ok() {
             least = least.min(last_number(rt).wrapping_sub(before));
