@@ -5,7 +5,7 @@ ghost use Rattle.commonware_parallel.specs.Words.{AnswersAs, AnyState, Asked, As
 ghost use Rattle.commonware_parallel.specs.Words.{Fits, FoldedAs, FoldedInitAs, GivesSome, GoesByLength, IsBatch, IsMemoryOnErr, IsMemoryOnFault, IsPermutation, IsSortedByClosure};
 ghost use Rattle.commonware_parallel.specs.Words.{IsStableByClosure, IsTiling, MapOf, MapStep, MappedInitAs, MutBor, OfOne, OkStep, OnSomeBatch, OnSomeTiles, OneOf, PartitionOf, Stateful, Tiles};
 ghost use Rattle.commonware_parallel.specs.Words.{TryBracketing, TryFoldedAs, TryMapOf, UnlessRefused, body_call, gives_answer, join_call, listed, multiplied_call, non_zero_usize_get};
-ghost use Rattle.commonware_parallel.specs.Words.{AskedByRow, FoldsRows, GivesRows, IsAdditive, IsPartOfRows, columns_of, rows_of};
+ghost use Rattle.commonware_parallel.specs.Words.{AskedByRow, FoldsRows, GivesRows, IsAdditive, IsPartOfRows};
 ghost use Rattle.commonware_parallel.specs.Words.{AcceptsChunksMut, AcceptsEach, ChangesChunks, ChangesEach, div_ceil, ranges_of, spawn_call};
 
 use crate::batches::Batches;
@@ -17,7 +17,6 @@ use crate::list::{
     map_source, partition_iter, partition_parallel, try_fold_as_it_comes, try_fold_parallel,
     try_map_iter, try_map_parallel,
 };
-use crate::outcome::flat;
 use crate::running::{Running, end_as, end_run, end_with};
 use crate::spawned::{Job, Spawned, begin};
 use crate::tiles::{Tiles, fold_tiles, serial_cost};
@@ -1008,17 +1007,14 @@ pub trait Strategy: Chooser {
         ensures fault { IsMemoryOnErr result }
     {
         let grids = [Grid { rows, tile_cost }];
-        let run = |tiles: Tiles<'_, Self, P>| -> Result<Vec<R>, Fault>
-            requires kernel_accepts { (row : ℕ) (columns : Range ℕ)
-                → IsPartOfRows (rows_of tiles) (columns_of tiles) row columns
-                → K.pre kernel row columns }
-            requires merge_accepts { M.IsAlwaysCallable merge }
-            ensures folds { IfOk result (λ values. FoldsRows (K.post kernel) (M.post merge)
-                (rows_of tiles.entry) (columns_of tiles.entry) values.items) }
-            ensures fault { IsMemoryOnErr result }
-        { fold_tiles(tiles, rt, alloc, &kernel, &merge) };
-        let folded = self.try_run_tiles(rt, alloc, site, len, &grids, 1, run);
-        flat(folded)
+        let inner = self.inner()?;
+        let cost = serial_cost(&grids, len);
+        let call = Call::tiles(self.planning(), len, cost, 1);
+        let (workers, measure) = choose_parts(self, rt, alloc, site, call)?;
+        let tiles = Tiles::for_workers(&inner, site, &grids, len, workers);
+        let running = Running::begun(measure);
+        let folded = fold_tiles(tiles, rt, alloc, &kernel, &merge);
+        end_as(self, rt, running, folded)
     }
 }
 
