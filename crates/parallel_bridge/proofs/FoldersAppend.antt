@@ -172,3 +172,29 @@ lists_joined all left right same = (
   ap (λ l. values_in l) same ∙ values_in-append left right,
   ap (λ l. keys_in l) same ∙ keys_in-append left right,
 )
+
+-- a pair of lists more
+pub lists_put : {K U : Type 0} (all ps : List (Vec U Global × Vec K Global))
+    (p : Vec U Global × Vec K Global) → all ≡ ps ++ p ∷ []
+    → (values_in all ≡ values_in ps ++ p.0.items) × (keys_in all ≡ keys_in ps ++ p.1.items)
+lists_put all ps p same =
+    let at = lists_joined all ps (p ∷ []) same in (
+      at.0 ∙ ap (λ l. values_in ps ++ l) (append-nil p.0.items),
+      at.1 ∙ ap (λ l. keys_in ps ++ l) (append-nil p.1.items),
+    )
+
+-- what an item with a value adds, and what one without it adds
+module _ {K U : Type 0} (p : K × Option U) where
+  pub with_value : (u : U) → p.1 ≡ Some u
+      → (values_of (p ∷ []) ≡ u ∷ []) × (keys_of (p ∷ []) ≡ [])
+  with_value u same = (
+    ap (λ o. values_of ((p.0, o) ∷ [])) same,
+    ap (λ o. keys_of ((p.0, o) ∷ [])) same,
+  )
+
+  pub without_value : p.1 ≡ None
+      → (values_of (p ∷ []) ≡ []) × (keys_of (p ∷ []) ≡ p.0 ∷ [])
+  without_value same = (
+    ap (λ o. values_of ((p.0, o) ∷ [])) same,
+    ap (λ o. keys_of ((p.0, o) ∷ [])) same,
+  )

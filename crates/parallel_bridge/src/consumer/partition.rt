@@ -11,25 +11,29 @@ use parallel_fault::{Fault, Trouble};
 use std::alloc::Global;
 use std::convert::Infallible;
 
+// How many places each of a segment's lists has at most.
+const PLACES: usize = 4_096;
+
 /// Maps each item by a closure, and gives a list of the values and one of the keys of the items
 /// without one for each segment, both in the items' order.
 #[derive(Drop)]
-pub struct PartitionConsumer<'f, U, K, F> {
+pub struct PartitionConsumer<'f, F> {
     /// The closure that maps an item.
     pub map_op: &'f F,
     /// How many items are expected.
     pub items: usize,
-    /// Lists for the segments, from left to right, whose places are used and whose items are not. A
-    /// segment for which there are none makes its own.
-    pub spares: Vec<(Vec<U>, Vec<K>)>,
 }
 
-/// The values and the keys of a segment so far, in order.
+/// The values and the keys of a segment so far, in order. A list that is full stays where it lies,
+/// and the next one is as long, so that for what is still to come little more is asked for than it
+/// takes.
 #[derive(Drop)]
 pub struct PartitionFolder<'f, U, K, F> {
-    /// The values.
+    /// The lists that are full.
+    pub filled: Vec<(Vec<U>, Vec<K>)>,
+    /// The values after those.
     pub values: Vec<U>,
-    /// The keys of the items without a value.
+    /// The keys, of the items without a value, after those.
     pub keys: Vec<K>,
     /// The closure that maps an item.
     pub map_op: &'f F,
@@ -67,15 +71,16 @@ impl<'f, X: Drop, U: Drop, K: Drop, F: Fn(X) -> (K, Option<U>)> Folder<
     ghost takes = { λ s x. F.pre s.map_op.now x };
 
     ghost gives = { λ s xs out. OnlyOk
-        (λ r. PartitionOnto (F.post s.map_op.now) s.values.items s.keys.items xs
-        (values_in r.items) (keys_in r.items)) out };
+        (λ r. PartitionOnto (F.post s.map_op.now) (values_in s.filled.items ++ s.values.items)
+        (keys_in s.filled.items ++ s.keys.items) xs (values_in r.items) (keys_in r.items)) out };
 
     ghost may_fill = { false };
 
     // (as a call of its own it would move the folder through memory for each item)
     #[inline(always)]
-    fn consume(self, _alloc: Global, item: X) -> Result<Self, Fault> {
+    fn consume(self, alloc: Global, item: X) -> Result<Self, Fault> {
         let PartitionFolder {
+            filled,
             values,
             keys,
             map_op,
@@ -83,16 +88,18 @@ impl<'f, X: Drop, U: Drop, K: Drop, F: Fn(X) -> (K, Option<U>)> Folder<
         let (key, value) = map_op(item);
         match value {
             Some(value) => {
-                let values = put_item(values, value)?;
+                let (filled, values) = put_value(alloc, filled, values, value)?;
                 Ok(PartitionFolder {
+                    filled,
                     values,
                     keys,
                     map_op,
                 })
             }
             None => {
-                let keys = put_item(keys, key)?;
+                let (filled, keys) = put_key(alloc, filled, keys, key)?;
                 Ok(PartitionFolder {
+                    filled,
                     values,
                     keys,
                     map_op,
@@ -101,8 +108,8 @@ impl<'f, X: Drop, U: Drop, K: Drop, F: Fn(X) -> (K, Option<U>)> Folder<
         }
     }
 
-    fn complete(self, alloc: Global) -> Result<Vec<(Vec<U>, Vec<K>)>, Trouble<Infallible>> {
-        let mut lists = Vec::new(alloc);
+    fn complete(self, _alloc: Global) -> Result<Vec<(Vec<U>, Vec<K>)>, Trouble<Infallible>> {
+        let mut lists = self.filled;
         lists.push((self.values, self.keys))?;
         Ok(lists)
     }
@@ -113,7 +120,7 @@ impl<'f, X: Drop, U: Drop, K: Drop, F: Fn(X) -> (K, Option<U>)> Folder<
 }
 
 impl<'f, X: Drop, U: Send + Drop, K: Send + Drop, F: Fn(X) -> (K, Option<U>) + Sync> Consumer<X>
-    for PartitionConsumer<'f, U, K, F> {
+    for PartitionConsumer<'f, F> {
     type Result = Vec<(Vec<U>, Vec<K>)>;
 
     type Error = Infallible;
@@ -134,98 +141,121 @@ impl<'f, X: Drop, U: Send + Drop, K: Send + Drop, F: Fn(X) -> (K, Option<U>) + S
         × (keys_in all.items ≡ keys_in left.items ++ keys_in right.items)) out };
 
     fn split_at(self, index: usize) -> Result<(Self, Self, PartitionReducer), Fault> {
-        let mut spares = self.spares;
-        let half = spares.len() / 2;
-        let others = spares.split_off(half)?;
         let left = PartitionConsumer {
             map_op: self.map_op,
             items: index,
-            spares,
         };
         let right = PartitionConsumer {
             map_op: self.map_op,
             items: self.items.saturating_sub(index),
-            spares: others,
         };
         Ok((left, right, PartitionReducer))
     }
 
     fn into_folder(self, alloc: Global) -> Result<PartitionFolder<'f, U, K, F>, Fault> {
-        let (values, keys) = first_lists(alloc, self.spares, self.items);
+        let places = self.items.min(PLACES);
         Ok(PartitionFolder {
-            values,
-            keys,
+            filled: Vec::new(alloc),
+            values: with_places(alloc, places),
+            keys: with_places(alloc, places),
             map_op: self.map_op,
         })
     }
 }
 
-/// The list with one item more. One that has room is lent to nothing that is called, so that a loop
-/// has it in registers.
+/// The full lists and the values after them, with one value more. A list that has room is lent to
+/// nothing that is called, so that a loop has it in registers.
 ///
 /// # Errors
 ///
 /// `Fault::Memory` if an allocation fails.
 #[inline(always)]
-fn put_item<T: Drop>(mut list: Vec<T>, item: T) -> Result<Vec<T>, Fault>
-    ensures items { IfOk result (λ all. all.items ≡ list.items ++ item ∷ []) }
+fn put_value<U: Drop, K: Drop>(
+    alloc: Global,
+    filled: Vec<(Vec<U>, Vec<K>)>,
+    mut values: Vec<U>,
+    value: U,
+) -> Result<(Vec<(Vec<U>, Vec<K>)>, Vec<U>), Fault>
+    ensures values { IfOk result (λ r. values_in r.0.items ++ r.1.items
+        ≡ (values_in filled.items ++ values.items) ++ value ∷ []) }
+    ensures keys { IfOk result (λ r. keys_in r.0.items ≡ keys_in filled.items) }
     ensures fault { IsMemoryOnErr result }
 {
-    if list.len() == list.capacity() {
-        return grow_and_put(list, item);
+    if values.len() == values.capacity() {
+        return put_in_next_values(alloc, filled, values, value);
     }
-    list.push(item)?;
-    Ok(list)
+    values.push(value)?;
+    Ok((filled, values))
 }
 
-/// The list with one item more, and with room for others.
+/// The same where the values have no room left: they are full, and those that follow are as many.
 ///
 /// # Errors
 ///
 /// `Fault::Memory` if an allocation fails.
 #[cold]
 #[inline(never)]
-fn grow_and_put<T: Drop>(mut list: Vec<T>, item: T) -> Result<Vec<T>, Fault>
-    ensures items { IfOk result (λ all. all.items ≡ list.items ++ item ∷ []) }
+fn put_in_next_values<U: Drop, K: Drop>(
+    alloc: Global,
+    mut filled: Vec<(Vec<U>, Vec<K>)>,
+    values: Vec<U>,
+    value: U,
+) -> Result<(Vec<(Vec<U>, Vec<K>)>, Vec<U>), Fault>
+    ensures values { IfOk result (λ r. values_in r.0.items ++ r.1.items
+        ≡ (values_in filled.items ++ values.items) ++ value ∷ []) }
+    ensures keys { IfOk result (λ r. keys_in r.0.items ≡ keys_in filled.items) }
     ensures fault { IsMemoryOnErr result }
 {
-    list.push(item)?;
-    Ok(list)
+    filled.push((values, Vec::new(alloc)))?;
+    let mut next = with_places(alloc, PLACES);
+    next.push(value)?;
+    Ok((filled, next))
 }
 
-/// The first pair of spare lists, emptied, or where there is none a pair of new ones for that many
-/// items.
-fn first_lists<U: Drop, K: Drop>(
-    alloc: Global,
-    spares: Vec<(Vec<U>, Vec<K>)>,
-    items: usize,
-) -> (Vec<U>, Vec<K>)
-    ensures { (result.0.items ≡ []) × (result.1.items ≡ []) }
-{
-    match spares.into_iter().next() {
-        Some((mut values, mut keys)) => {
-            values.clear();
-            keys.clear();
-            (values, keys)
-        }
-        None => (with_places(alloc, items), with_places(alloc, items)),
-    }
-}
-
-/// Spare lists for segments of such lengths.
+/// The full lists and the keys after them, with one key more, as `put_value` does it.
 ///
 /// # Errors
 ///
 /// `Fault::Memory` if an allocation fails.
-pub(crate) fn spare_lists<U: Drop, K: Drop>(
+#[inline(always)]
+fn put_key<U: Drop, K: Drop>(
     alloc: Global,
-    lengths: Vec<usize>,
-) -> Result<Vec<(Vec<U>, Vec<K>)>, Fault>
+    filled: Vec<(Vec<U>, Vec<K>)>,
+    mut keys: Vec<K>,
+    key: K,
+) -> Result<(Vec<(Vec<U>, Vec<K>)>, Vec<K>), Fault>
+    ensures values { IfOk result (λ r. values_in r.0.items ≡ values_in filled.items) }
+    ensures keys { IfOk result (λ r. keys_in r.0.items ++ r.1.items
+        ≡ (keys_in filled.items ++ keys.items) ++ key ∷ []) }
     ensures fault { IsMemoryOnErr result }
 {
-    let mut spares = Vec::new(alloc);
-    for length in lengths {
-        spares.push((with_places(alloc, length), with_places(alloc, length)))?;
+    if keys.len() == keys.capacity() {
+        return put_in_next_keys(alloc, filled, keys, key);
     }
-    Ok(spares)
+    keys.push(key)?;
+    Ok((filled, keys))
+}
+
+/// The same where the keys have no room left.
+///
+/// # Errors
+///
+/// `Fault::Memory` if an allocation fails.
+#[cold]
+#[inline(never)]
+fn put_in_next_keys<U: Drop, K: Drop>(
+    alloc: Global,
+    mut filled: Vec<(Vec<U>, Vec<K>)>,
+    keys: Vec<K>,
+    key: K,
+) -> Result<(Vec<(Vec<U>, Vec<K>)>, Vec<K>), Fault>
+    ensures values { IfOk result (λ r. values_in r.0.items ≡ values_in filled.items) }
+    ensures keys { IfOk result (λ r. keys_in r.0.items ++ r.1.items
+        ≡ (keys_in filled.items ++ keys.items) ++ key ∷ []) }
+    ensures fault { IsMemoryOnErr result }
+{
+    filled.push((Vec::new(alloc), keys))?;
+    let mut next = with_places(alloc, PLACES);
+    next.push(key)?;
+    Ok((filled, next))
 }

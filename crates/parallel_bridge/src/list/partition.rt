@@ -7,8 +7,7 @@ ghost use Rattle.parallel_bridge.specs.Parts.{PartitionOf};
 ghost use Rattle.parallel_bridge.specs.Sources.{GivesSome};
 
 use crate::bridge::bridge;
-use crate::consumer::partition::{PartitionConsumer, spare_lists};
-use crate::drive::segments;
+use crate::consumer::partition::PartitionConsumer;
 use crate::list::moving::put_in_lists;
 use crate::parts::Parts;
 use crate::room::{keep_pages_of, places_for, second_places_for, with_places};
@@ -74,14 +73,8 @@ pub fn partition_parallel<
     ensures fault { IsMemoryOnErr result }
 {
     let items = parts.len();
-    let lengths = segments(alloc, threads, items)?;
-    keep_pages_of::<(U, K)>(alloc, items);
-    let spares = spare_lists(alloc, lengths)?;
-    let consumer = PartitionConsumer {
-        map_op,
-        items,
-        spares,
-    };
+    keep_pages_of::<(U, K)>(alloc, items / 2);
+    let consumer = PartitionConsumer { map_op, items };
     let lists = unfailing(bridge(rt, alloc, threads, parts, consumer))?;
     put_in_lists(rt, alloc, threads, items, lists)
 }
