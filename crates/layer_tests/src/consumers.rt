@@ -6,6 +6,7 @@ use parallel_bridge::consumer::fold_init::FoldInitFolder;
 use parallel_bridge::consumer::list_vec::{ListVecConsumer, ListVecFolder};
 use parallel_bridge::consumer::map::{MapConsumer, MapFolder};
 use parallel_bridge::consumer::map_init::MapWithFolder;
+use parallel_bridge::consumer::partition::PartitionConsumer;
 use parallel_bridge::consumer::try_fold::TryFoldFolder;
 use parallel_bridge::consumer::try_reduce::TryReduceFolder;
 use parallel_bridge::consumer::while_some::{WhileSomeConsumer, WhileSomeFolder};
@@ -17,8 +18,7 @@ use std::marker::{Brand, PhantomData};
 use std::sync::atomic::{AtomicU64, Ordering};
 use test_support::{number, same};
 
-// Whether a folder is full before an item that makes no difference to that, after it, and after
-// one that fails.
+// Whether a folder is full at first, after an item that makes no difference, and after a bad one.
 fn fullness<X: Drop, R, F: Folder<X, R, u32>>(
     alloc: Global,
     folder: F,
@@ -105,17 +105,12 @@ fn last_small_with(_before: Option<u32>, _state: &mut u8, item: u32) -> Option<u
 #[test]
 fn a_folder_of_a_map_is_full_where_its_base_is(rt: HostRuntime) {
     let alloc = rt.alloc();
-    let folder = MapFolder {
-        base: options(alloc, false),
-        map_op: &small,
-    };
+    let (base, map_op) = (options(alloc, false), &small);
+    let folder = MapFolder { base, map_op };
     let full = fullness::<u32, _, _>(alloc, folder, 4, 5);
     row(&rt, "map", full, Ok([false, false, true]));
-    let folder = MapWithFolder {
-        base: options(alloc, false),
-        item: 0,
-        map_op: &small_with,
-    };
+    let (base, item, map_op) = (options(alloc, false), 0, &small_with);
+    let folder = MapWithFolder { base, item, map_op };
     let full = fullness::<u32, _, _>(alloc, folder, 4, 5);
     row(&rt, "map with a state", full, Ok([false, false, true]));
 }
@@ -155,20 +150,33 @@ fn a_map_before_a_full_folder_maps_no_more(rt: HostRuntime) {
         small(item)
     };
     let items = Vec::from_slice(alloc, &[1u32, 5, 2, 3, 4, 6, 1]).expect(&rt, "memory");
-    let base = WhileSomeConsumer {
-        base: ListVecConsumer,
-    };
-    let consumer = MapConsumer {
-        base,
-        map_op: &map_op,
-    };
+    let base = ListVecConsumer;
+    let (base, map_op) = (WhileSomeConsumer { base }, &map_op);
+    let consumer = MapConsumer { base, map_op };
     let parts = DrainProducer::from_vec(items);
     let lists = bridge(&rt, alloc, number(1), parts, consumer).expect(&rt, "memory");
     let mut kept = Vec::new(alloc);
-    for list in lists {
-        let mut more = list;
-        kept.append(&mut more).expect(&rt, "memory");
+    for mut list in lists {
+        kept.append(&mut list).expect(&rt, "memory");
     }
     same!(&rt, kept.as_slice(), [1, 3, 4].as_slice());
     row(&rt, "calls", calls.load(Ordering::Relaxed), 5);
+}
+
+// Beside a place for each item fewer than 4,096 of each kind in each of its two segments.
+#[test]
+fn a_partition_asks_for_little_more_than_it_fills(rt: HostRuntime) {
+    let mut items = Vec::new(rt.alloc());
+    items.resize(40_000, 3u32).expect(&rt, "memory");
+    items.resize(100_000, 7).expect(&rt, "memory");
+    let map_op = |item: u32| (item, small(item));
+    let (items, map_op, parts) = (items.len(), &map_op, DrainProducer::from_vec(items));
+    let consumer = PartitionConsumer { map_op, items };
+    let lists = bridge(&rt, rt.alloc(), number(1), parts, consumer).expect(&rt, "memory");
+    let mut room = 0usize;
+    for pair in lists.iter() {
+        room = room.wrapping_add(pair.0.capacity());
+        room = room.wrapping_add(pair.1.capacity());
+    }
+    row(&rt, "places", room.max(116_384), 116_384);
 }

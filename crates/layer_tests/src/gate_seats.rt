@@ -17,8 +17,7 @@ fn await_error(failed: &AtomicU64) {
     }
 }
 
-// 32 threads make 64 segments of 1000 numbers each, of which the first number fails, and the others
-// wait for that.
+// 64 segments of 1000 numbers each, of which the first fails, and the others wait for that.
 #[test]
 fn segments_right_of_a_known_error_stop_early(rt: HostRuntime) {
     let (failed, calls) = (AtomicU64::new(0), AtomicU64::new(0));
@@ -32,12 +31,9 @@ fn segments_right_of_a_known_error_stop_early(rt: HostRuntime) {
         thread::yield_now();
         Ok(place)
     };
-    let parts = ProducerParts {
-        list: Indices {
-            start: 0,
-            end: 64_000,
-        },
-    };
+    let (start, end) = (0, 64_000);
+    let list = Indices { start, end };
+    let parts = ProducerParts { list };
     let told = try_map_parallel(&rt, rt.alloc(), number(32), parts, &answer);
     same!(&rt, told.err(), Some(Trouble::Closure(0)));
     holds!(&rt, calls.load(Ordering::SeqCst) < 16_000);
