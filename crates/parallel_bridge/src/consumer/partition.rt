@@ -10,6 +10,7 @@ use crate::room::with_places;
 use parallel_fault::{Fault, Trouble};
 use std::alloc::Global;
 use std::convert::Infallible;
+use std::mem::replace;
 
 // How many places each of a segment's lists has at most.
 const PLACES: usize = 4_096;
@@ -164,7 +165,8 @@ impl<'f, X: Drop, U: Send + Drop, K: Send + Drop, F: Fn(X) -> (K, Option<U>) + S
 }
 
 /// The full lists and the values after them, with one value more. A list that has room is lent to
-/// nothing that is called, so that a loop has it in registers.
+/// nothing that is called, so that a loop has it in registers. One that is full is lent, and not
+/// handed back with a result, whose place would be cleared for each item.
 ///
 /// # Errors
 ///
@@ -182,34 +184,36 @@ fn put_value<U: Drop, K: Drop>(
     ensures fault { IsMemoryOnErr result }
 {
     if values.len() == values.capacity() {
-        return put_in_next_values(alloc, filled, values, value);
+        let mut lists = (filled, values);
+        begin_values(alloc, &mut lists)?;
+        let (filled, mut next) = lists;
+        next.push(value)?;
+        return Ok((filled, next));
     }
     values.push(value)?;
     Ok((filled, values))
 }
 
-/// The same where the values have no room left: they are full, and those that follow are as many.
+/// Puts the values to the full lists, and begins a list as long.
 ///
 /// # Errors
 ///
 /// `Fault::Memory` if an allocation fails.
 #[cold]
 #[inline(never)]
-fn put_in_next_values<U: Drop, K: Drop>(
+fn begin_values<U: Drop, K: Drop>(
     alloc: Global,
-    mut filled: Vec<(Vec<U>, Vec<K>)>,
-    values: Vec<U>,
-    value: U,
-) -> Result<(Vec<(Vec<U>, Vec<K>)>, Vec<U>), Fault>
-    ensures values { IfOk result (λ r. values_in r.0.items ++ r.1.items
-        ≡ (values_in filled.items ++ values.items) ++ value ∷ []) }
-    ensures keys { IfOk result (λ r. keys_in r.0.items ≡ keys_in filled.items) }
+    lists: &mut (Vec<(Vec<U>, Vec<K>)>, Vec<U>),
+) -> Result<(), Fault>
+    ensures values { IfOk result (λ _. values_in lists.new.0.items
+        ≡ values_in lists.old.0.items ++ lists.old.1.items) }
+    ensures keys { IfOk result (λ _. keys_in lists.new.0.items ≡ keys_in lists.old.0.items) }
+    ensures next { IfOk result (λ _. lists.new.1.items ≡ []) }
     ensures fault { IsMemoryOnErr result }
 {
-    filled.push((values, Vec::new(alloc)))?;
-    let mut next = with_places(alloc, PLACES);
-    next.push(value)?;
-    Ok((filled, next))
+    let values = replace(&mut lists.1, with_places(alloc, PLACES));
+    lists.0.push((values, Vec::new(alloc)))?;
+    Ok(())
 }
 
 /// The full lists and the keys after them, with one key more, as `put_value` does it.
@@ -230,32 +234,34 @@ fn put_key<U: Drop, K: Drop>(
     ensures fault { IsMemoryOnErr result }
 {
     if keys.len() == keys.capacity() {
-        return put_in_next_keys(alloc, filled, keys, key);
+        let mut lists = (filled, keys);
+        begin_keys(alloc, &mut lists)?;
+        let (filled, mut next) = lists;
+        next.push(key)?;
+        return Ok((filled, next));
     }
     keys.push(key)?;
     Ok((filled, keys))
 }
 
-/// The same where the keys have no room left.
+/// The same of the keys.
 ///
 /// # Errors
 ///
 /// `Fault::Memory` if an allocation fails.
 #[cold]
 #[inline(never)]
-fn put_in_next_keys<U: Drop, K: Drop>(
+fn begin_keys<U: Drop, K: Drop>(
     alloc: Global,
-    mut filled: Vec<(Vec<U>, Vec<K>)>,
-    keys: Vec<K>,
-    key: K,
-) -> Result<(Vec<(Vec<U>, Vec<K>)>, Vec<K>), Fault>
-    ensures values { IfOk result (λ r. values_in r.0.items ≡ values_in filled.items) }
-    ensures keys { IfOk result (λ r. keys_in r.0.items ++ r.1.items
-        ≡ (keys_in filled.items ++ keys.items) ++ key ∷ []) }
+    lists: &mut (Vec<(Vec<U>, Vec<K>)>, Vec<K>),
+) -> Result<(), Fault>
+    ensures values { IfOk result (λ _. values_in lists.new.0.items ≡ values_in lists.old.0.items) }
+    ensures keys { IfOk result (λ _. keys_in lists.new.0.items
+        ≡ keys_in lists.old.0.items ++ lists.old.1.items) }
+    ensures next { IfOk result (λ _. lists.new.1.items ≡ []) }
     ensures fault { IsMemoryOnErr result }
 {
-    filled.push((Vec::new(alloc), keys))?;
-    let mut next = with_places(alloc, PLACES);
-    next.push(key)?;
-    Ok((filled, next))
+    let keys = replace(&mut lists.1, with_places(alloc, PLACES));
+    lists.0.push((Vec::new(alloc), keys))?;
+    Ok(())
 }

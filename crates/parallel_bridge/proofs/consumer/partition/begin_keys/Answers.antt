@@ -1,0 +1,15 @@
+-- What is full lies after what was, and no value is new.
+use Rattle.parallel_bridge.proofs.{◌++◌, ap, ◌∙◌, append-nil, keys_in, values_in, lists_put}
+use Rattle.parallel_bridge.proofs.consumer.partition.begin_keys.Goals as goal
+
+pub returns-clause-values : goal.returns-clause-values
+returns-clause-values g c =
+    let filled = c.args.lists.now.0.items in
+    (lists_put _ filled (c.new.result, c.replace-keys.result) c.in_ok-push.ensures.items).0
+    ∙ ap (λ l. values_in filled ++ l) c.new.ensures.items ∙ append-nil (values_in filled)
+
+pub returns-clause-keys : goal.returns-clause-keys
+returns-clause-keys g c =
+    let filled = c.args.lists.now.0.items in
+    (lists_put _ filled (c.new.result, c.replace-keys.result) c.in_ok-push.ensures.items).1
+    ∙ ap (λ list. keys_in filled ++ list.items) c.replace-keys.ensures.value
