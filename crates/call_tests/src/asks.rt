@@ -11,7 +11,7 @@ use test_calls::noting::Noting;
 use test_calls::others::{Batched, Rooted};
 use test_calls::sources::Given;
 use test_calls::visits::Visitor;
-use test_calls::ways::{Row, Way};
+use test_calls::ways::{Row, THREADS, Way};
 use test_strategies::SITE;
 
 pub const BEGUN: Line = (OUTER, logs::BEGUN, None);
@@ -36,12 +36,12 @@ fn asked_inside(len: usize) -> Line {
     asked_at(INNER, SITE.column, Call::body(len))
 }
 
-/// A strategy of four threads that writes all down.
-pub fn noting(rt: &impl Test) -> Noting {
-    Noting::new(rt.alloc(), 4).expect(rt, "a log")
+/// A strategy of that many threads that writes all down.
+pub fn noting(rt: &impl Test, threads: usize) -> Noting {
+    Noting::new(rt.alloc(), threads).expect(rt, "a log")
 }
 
-// A row through it.
+// A row through one of four threads.
 fn row_of(act: Act, len: usize) -> Row {
     Row::of(Way::Noting(4), act, len)
 }
@@ -49,9 +49,9 @@ fn row_of(act: Act, len: usize) -> Row {
 // Stops the test where a call over sixteen items is asked about or told otherwise than once, and
 // the strategy of a batch's or of tiles' parts about their map. Of each range of a batch there are
 // three parts, but for those of a list that is changed.
-fn asks(rt: &impl Test, act: Act, fails: bool) {
-    let noting = noting(rt);
-    let (log, of) = (noting.log(), row_of(act, 16));
+fn asks(rt: &impl Test, act: Act, fails: bool, threads: usize) {
+    let noting = noting(rt, threads);
+    let (log, of) = (noting.log(), Row::of(Way::Noting(threads), act, 16));
     let visitor = if fails {
         Visitor::Fails(log)
     } else {
@@ -66,10 +66,10 @@ fn asks(rt: &impl Test, act: Act, fails: bool) {
         _ => (Err(Trouble::Closure(7)), DROPPED),
     };
     row(rt, of, made, outcome);
-    let ask = asked(act.question(16, 4));
+    let ask = asked(act.question(16, threads));
     let parts = match act {
-        Act::Batch(Batched::Change, _) | Act::Fill(..) => 4,
-        Act::Batch(..) => 12,
+        Act::Batch(Batched::Change, _) | Act::Fill(..) => threads,
+        Act::Batch(..) => threads.wrapping_mul(3),
         act if act.asks_twice() => {
             let lines = [ask, BEGUN, TOLD, ask, BEGUN, RAN, told];
             return has(rt, log, of, &lines);
@@ -88,7 +88,8 @@ fn asks(rt: &impl Test, act: Act, fails: bool) {
 fn each_call_asks_once_and_tells_once(rt: HostRuntime) {
     for act in all_acts(&rt) {
         if !matches!(act, Act::Tree(_)) {
-            asks(&rt, act, false);
+            asks(&rt, act, false, 4);
+            asks(&rt, act, false, 7);
         }
     }
 }
@@ -97,7 +98,7 @@ fn each_call_asks_once_and_tells_once(rt: HostRuntime) {
 fn a_call_that_fails_tells_nothing(rt: HostRuntime) {
     for act in all_acts(&rt) {
         if !matches!(act, Act::Tree(_)) {
-            asks(&rt, act, true);
+            asks(&rt, act, true, 4);
         }
     }
 }
@@ -111,7 +112,7 @@ fn a_call_over_many_items_or_none_asks_once(rt: HostRuntime) {
     let batch = Act::Batch(Batched::TryBatch, usize::MAX);
     for act in [map, fold, batch] {
         for len in [0, 1, 1_100_000] {
-            let (noting, of) = (noting(&rt), row_of(act, len));
+            let (noting, of) = (noting(&rt, 4), row_of(act, len));
             let made = does(&rt, &noting, act, len, Visitor::Passes);
             row(&rt, of, made, Ok(()));
             let lines = [asked(act.question(len, 1)), BEGUN, TOLD];
@@ -128,11 +129,11 @@ fn none_of(_row: usize, _columns: Range<usize>) -> u64 {
 #[test]
 fn a_kernel_that_fails_or_is_refused_tells_nothing(rt: HostRuntime) {
     let (alloc, one) = (rt.alloc(), NonZeroUsize::MIN);
-    let refused = noting(&rt);
+    let refused = noting(&rt, 4);
     let add = u64::wrapping_add;
     let folded = refused.fold_rows(&rt, alloc, SITE, 1 << 60, 0, one, none_of, add);
     equal(&rt, "fold_rows", folded.err(), Some(Fault::Memory));
-    let failed = noting(&rt);
+    let failed = noting(&rt, 4);
     let grids = [Grid {
         rows: 4,
         tile_cost: one,
@@ -159,7 +160,7 @@ fn a_whole_batch_asks_once_and_its_map_asks_nobody(rt: HostRuntime) {
         Batched::TryBatch,
         Batched::Change,
     ] {
-        let noting = noting(&rt);
+        let noting = noting(&rt, 4);
         let act = Act::Batch(batched, 9);
         let of = row_of(act, 16);
         let made = does(&rt, &noting, act, 16, Visitor::Writes(noting.log()));
@@ -172,7 +173,7 @@ fn a_whole_batch_asks_once_and_its_map_asks_nobody(rt: HostRuntime) {
 // Stops the test where a tree asks or tells otherwise than of calls of these lengths, with these
 // multipliers.
 fn tree_asks(rt: &impl Test, rooted: Rooted, count: usize, calls: &[(usize, usize)]) {
-    let noting = noting(rt);
+    let noting = noting(rt, 4);
     let of = row_of(Act::Tree(rooted), count);
     let made = does(rt, &noting, of.act, count, Visitor::Writes(noting.log()));
     row(rt, of, made, Ok(()));
@@ -180,9 +181,8 @@ fn tree_asks(rt: &impl Test, rooted: Rooted, count: usize, calls: &[(usize, usiz
     for (len, multiplier) in calls {
         let call = Call::body_with_multiplier(*len, *multiplier);
         let four = [asked(call), BEGUN, RAN, TOLD];
-        lines
-            .extend_from_slice(&four)
-            .expect(rt, "memory for lines");
+        let added = lines.extend_from_slice(&four);
+        added.expect(rt, "memory for lines");
     }
     has(rt, noting.log(), of, lines.as_slice());
 }
@@ -201,5 +201,21 @@ fn a_tree_asks_about_its_blocks_and_the_pairs_of_each_level(rt: HostRuntime) {
     for rooted in [Rooted::ByBlocks, Rooted::OfLeaves] {
         tree_asks(&rt, rooted, 64, &some);
         tree_asks(&rt, rooted, 130, &more);
+    }
+}
+
+// Of sixteen leaves a thread there are blocks of two, whatever the number of threads.
+#[test]
+fn a_tree_asks_about_its_blocks_first(rt: HostRuntime) {
+    for threads in THREADS {
+        let (tops, len) = (threads.wrapping_mul(8), threads.wrapping_mul(16));
+        let blocks = asked(Call::body_with_multiplier(tops, 2));
+        for rooted in [Rooted::ByBlocks, Rooted::OfLeaves] {
+            let noting = noting(&rt, threads);
+            let of = Row::of(Way::Noting(threads), Act::Tree(rooted), len);
+            let made = does(&rt, &noting, of.act, len, Visitor::Passes);
+            let first = noting.log().lines(&rt).first().copied();
+            row(&rt, of, (made, first), (Ok(()), Some(blocks)));
+        }
     }
 }

@@ -252,6 +252,11 @@ fn a_thousand_calls_on_two_threads_leave_no_block(rt: HostRuntime) {
     calls_leave_none(&rt, Way::Pool(2, 2));
 }
 
+#[test]
+fn a_thousand_calls_on_three_threads_leave_no_block(rt: HostRuntime) {
+    calls_leave_none(&rt, Way::Pool(3, 3));
+}
+
 // Numbers of two parts, as fewer are sorted by the caller alone. Their blocks leave room for small
 // ones of the calls after them, which aren't seen there.
 #[test]

@@ -114,15 +114,8 @@ fn a_run_is_kept_by_its_length_and_its_work(rt: HostRuntime) {
     let policy = fresh(&rt);
     let clock = Stepping::new(rt.alloc(), STEP).expect(&rt, "a clock");
     let now = || clock.now();
-    let ran = policy.try_run(
-        &rt,
-        SITE,
-        16,
-        80,
-        4,
-        &now,
-        |path| -> Result<RunExecution, u32> { Ok(path) },
-    );
+    let takes = |path: RunExecution| -> Result<RunExecution, u32> { Ok(path) };
+    let ran = policy.try_run(&rt, SITE, 16, 80, 4, &now, takes);
     equal(&rt, "ran", ran, Ok(RunExecution::Parallel));
     for (len, work, kept) in [
         (16, 80, ONCE),

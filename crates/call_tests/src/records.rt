@@ -233,9 +233,8 @@ impl<S: Drop> Job<S, u64> for Reads {
 // What such a job returns, once it has ended.
 fn read_by_a_job(rt: &(impl Test + RandomSource), asked: &Asked) -> u64 {
     let readings = Arc::try_clone(&asked.readings).expect(rt, "a handle");
-    let spawned = asked
-        .pool
-        .spawn(rt, rt.alloc(), SITE, 1, Reads { readings });
+    let (pool, job) = (&asked.pool, Reads { readings });
+    let spawned = pool.spawn(rt, rt.alloc(), SITE, 1, job);
     block_on(rt, spawned.expect(rt, "a job")).expect(rt, "a queue")
 }
 
@@ -270,11 +269,7 @@ fn a_job_that_runs_inline_records_its_own_time_alone(rt: HostRuntime) {
     equal(&rt, "read before a job", read_by_a_job(&rt, &asked), 2);
     // Begun at 1 and ended at 9 milliseconds.
     let times = job_times(&rt, &asked.policy, key);
-    let known = [
-        Some(50 * MILLISECOND),
-        Some(10 * MILLISECOND),
-        Some(2 * MILLISECOND),
-    ];
+    let known = [Some(50_000_000), Some(10_000_000), Some(2_000_000)];
     equal(&rt, "times", times, Some(known));
     equal(&rt, "readings", asked.readings(), 4);
 }

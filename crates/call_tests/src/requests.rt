@@ -6,7 +6,7 @@ use crate::meets::closures;
 use crate::refusals::REFUSED;
 use commonware_parallel::mocks::{Explorer, Rule};
 use commonware_parallel::{Call, Strategy};
-use test_calls::calls::{CALLS, Called, Outcome, called_here};
+use test_calls::calls::{CALLS, Called, Outcome};
 use test_calls::every_call::{Act, does};
 use test_calls::noting::Noting;
 use test_calls::others::{Filling, Rooted};
@@ -15,7 +15,7 @@ use test_calls::sources::Given;
 use test_calls::steps::no_count;
 use test_calls::visits::{Times, Visitor};
 use test_calls::ways::{Row, Through, Way};
-use test_strategies::pool;
+use test_strategies::{SITE, pool};
 use test_support::no_memory::all_places;
 
 // How many items each call has: their results take more than 2 MiB. (One of less can be had where
@@ -173,22 +173,14 @@ fn forget_by_state(_state: &mut usize, _item: usize) {}
 fn a_serial_map_gathers_nothing(rt: HostRuntime) {
     let alloc = rt.alloc();
     let one = pool(&rt, alloc, 4, 1).expect(&rt, "a pool");
-    let strategy = &Explorer::by_rule(&one, Rule::Parallel).expect(&rt, "memory for a handle");
-    let on = called_here(&rt, strategy);
+    let strategy = Explorer::by_rule(&one, Rule::Parallel).expect(&rt, "memory for a handle");
     let held = all_places(alloc).expect(&rt, "places that have an end");
-    let plain = on
-        .strategy
-        .map_collect_vec(on.rt, on.alloc, on.site, 0..LEN, forget)
-        .is_ok();
-    let fallible = on
-        .strategy
-        .try_map_collect_vec(on.rt, on.alloc, on.site, 0..LEN, forget_or_fail)
-        .is_ok();
-    let by_state = on
-        .strategy
-        .map_init_collect_vec(on.rt, on.alloc, on.site, 0..LEN, no_count, forget_by_state)
-        .is_ok();
-    equal(&rt, "maps", [plain, fallible, by_state], [true; 3]);
+    let plain = strategy.map_collect_vec(&rt, alloc, SITE, 0..LEN, forget);
+    let fallible = strategy.try_map_collect_vec(&rt, alloc, SITE, 0..LEN, forget_or_fail);
+    let (init, op) = (no_count, forget_by_state);
+    let by_state = strategy.map_init_collect_vec(&rt, alloc, SITE, 0..LEN, init, op);
+    let made = [plain.is_ok(), fallible.is_ok(), by_state.is_ok()];
+    equal(&rt, "maps", made, [true; 3]);
     drop(held);
 }
 
